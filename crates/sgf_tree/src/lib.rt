@@ -1,13 +1,12 @@
-// A library with one function.
+//! The reader.
 #![tactic(auto)]
 
 ghost use Rattle.std.specs.Prelude.{◌≡◌};
-ghost use Rattle.sgf_tree.specs.Echo.{echo_of};
+ghost use Rattle.sgf_tree.specs.FirstFault.{IsFirstFault};
+ghost use Rattle.sgf_tree.specs.FileOrder.{rows_of};
 
-// The `ensures` clause is the contract: what `echo` returns is `echo_of` of its argument, a definition
-// in `specs/Echo.antt`, which a caller's clause can cite too.
 pub fn echo(x: usize) -> usize
-    ensures { result ≡ echo_of x }
+    ensures { result ≡ x }
 {
     x
 }
