@@ -1,13 +1,11 @@
-// A library with one function.
+//! The lines of play of a collection.
 #![tactic(auto)]
 
 ghost use Rattle.std.specs.Prelude.{◌≡◌};
-ghost use Rattle.sgf_lines.specs.Echo.{echo_of};
+ghost use Rattle.sgf_lines.specs.Output.{sgf_output};
 
-// The `ensures` clause is the contract: what `echo` returns is `echo_of` of its argument, a definition
-// in `specs/Echo.antt`, which a caller's clause can cite too.
 pub fn echo(x: usize) -> usize
-    ensures { result ≡ echo_of x }
+    ensures { result ≡ x }
 {
     x
 }
