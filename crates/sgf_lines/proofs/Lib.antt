@@ -1,1 +1,3 @@
 pub mod Examples
+pub mod Lists
+pub mod Standing

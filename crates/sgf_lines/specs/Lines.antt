@@ -1,6 +1,5 @@
 -- The lines of play of a collection, which go from the root of a game to a node that no node follows.
 use Rattle.std.specs.Prelude.{ℕ, ◌+◌, List, [], ◌∷◌, ◌++◌, length, map}
-use Rattle.std.specs.List.{range_with_len}
 use Rattle.sgf_tree.specs.Tree.{Node, Games, no_games, game, node_count}
 
 -- each of the lists behind `own`, or `own` alone where there is none

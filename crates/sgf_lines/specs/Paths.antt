@@ -8,8 +8,9 @@ use Rattle.sgf_lines.specs.Lines.{through, last_number}
 abbrev pub number_lines : ℕ → Games → List (List ℕ)
 number_lines at no_games = []
 number_lines at (game first more below behind) =
-    let end = at + length (first ∷ more) in
-    through (range_with_len at (length (first ∷ more))) (number_lines end below) ++ number_lines (end + node_count below) behind
+    let last = at + length more in
+    through (at ∷ range_with_len (at + 1) (length more)) (number_lines (last + 1) below)
+    ++ number_lines (last + 1 + node_count below) behind
 
 -- a line by numbers: that of its game, counted from 1, and those of its nodes, counted from 0, the root first
 pub record Path : Type 0 where
@@ -24,9 +25,9 @@ paths_of_game number ways = map (λ numbers. record { game_number = number; numb
 abbrev pub paths_from : ℕ → ℕ → Games → List Path
 paths_from number at no_games = []
 paths_from number at (game first more below behind) =
-    let end = at + length (first ∷ more) in
-    paths_of_game number (through (range_with_len at (length (first ∷ more))) (number_lines end below))
-    ++ paths_from (number + 1) (end + node_count below) behind
+    let last = at + length more in
+    paths_of_game number (through (at ∷ range_with_len (at + 1) (length more)) (number_lines (last + 1) below))
+    ++ paths_from (number + 1) (last + 1 + node_count below) behind
 
 -- the paths of a collection's lines, in the same order
 abbrev pub paths : Games → List Path
