@@ -1,3 +1,4 @@
 pub mod Examples
 pub mod Lists
 pub mod Standing
+pub mod Parents
