@@ -4,3 +4,8 @@ pub mod Standing
 pub mod Parents
 pub mod Climbing
 pub mod Ways
+pub mod Leaves
+pub mod GameNumbers
+pub mod Named
+pub mod Positions
+pub mod LinesRise
