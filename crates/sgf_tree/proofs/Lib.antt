@@ -1,0 +1,2 @@
+pub mod Shrinks
+pub mod PlacesRise
