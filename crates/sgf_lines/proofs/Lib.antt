@@ -9,3 +9,4 @@ pub mod GameNumbers
 pub mod Named
 pub mod Positions
 pub mod LinesRise
+pub mod Loops

@@ -8,7 +8,7 @@ use Rattle.sgf_tree.specs.FileOrder.{PlacesRise}
 use Rattle.sgf_lines.specs.Lines.{Line, lines, place_of}
 use Rattle.sgf_lines.specs.Paths.{Path, paths, leaf_of}
 use Rattle.sgf_lines.proofs.Lists.{each_get}
-use Rattle.sgf_lines.proofs.Ways.{IsWay, each_path}
+use Rattle.sgf_lines.proofs.Ways.{IsDescent, each_path}
 use Rattle.sgf_lines.proofs.Named.{line_at, place-line, length-paths}
 use Rattle.sgf_lines.proofs.Positions.{leaf_rises}
 
@@ -23,7 +23,7 @@ module _ (c : Games) where
       get_or_from_slice_get (map place_of (lines c)) k (place_of line) 0 (slice_get-map place_of (lines c) k ∙ ap (λ o. option_map place_of o) e)
 
   filled : (k : ℕ) (path : Path) → slice_get (paths c) k ≡ Some path → path.numbers ≢ []
-  filled k path e = let way : IsWay c None path.numbers = each_get (λ path. IsWay c None path.numbers) (paths c) k path (each_path c) e in way.filled
+  filled k path e = let way : IsDescent c None path.numbers = each_get (λ path. IsDescent c None path.numbers) (paths c) k path (each_path c) e in way.filled
 
   pub lines_rise : PlacesRise c → IsStrictlyIncreasing (map place_of (lines c))
   lines_rise rise k lt =

@@ -10,10 +10,11 @@ use Rattle.sgf_tree.specs.FileOrder.{IsLeaf}
 use Rattle.sgf_lines.specs.Lines.{last_number}
 use Rattle.sgf_lines.specs.Paths.{Path, paths, leaf_of}
 use Rattle.sgf_lines.specs.Position.{lines_before}
+use Rattle.sgf_lines.specs.Way.{IsWayTo, top}
 use Rattle.sgf_lines.proofs.Lists.{each_get}
 use Rattle.sgf_lines.proofs.Standing.{stands_whole}
-use Rattle.sgf_lines.proofs.Climbing.{Up, top, one_way}
-use Rattle.sgf_lines.proofs.Ways.{IsWay, each_path}
+use Rattle.sgf_lines.proofs.Climbing.{one_way}
+use Rattle.sgf_lines.proofs.Ways.{IsDescent, each_path}
 use Rattle.sgf_lines.proofs.Leaves.{Rises, leaves, leaves_rise, leaves_of_paths, covered}
 
 -- how many numbers at the front are below n
@@ -94,7 +95,7 @@ path_of_leaf c k i e = path_of (slice_get (paths c) k) i (sym e ∙ leaf_at c k)
 each_is_leaf : (c : Games) (k i : ℕ) → slice_get (leaves 0 c) k ≡ Some i → IsLeaf c i
 each_is_leaf c k i e =
     let f = path_of_leaf c k i e in
-    let way : IsWay c None f.0.numbers = each_get (λ path. IsWay c None path.numbers) (paths c) k f.0 (each_path c) f.1 in
+    let way : IsDescent c None f.0.numbers = each_get (λ path. IsDescent c None path.numbers) (paths c) k f.0 (each_path c) f.1 in
     subst (IsLeaf c) f.2 way.is_leaf
 
 pub before_none : (c : Games) → lines_before c 0 ≡ 0
@@ -105,7 +106,7 @@ pub record IsNextLine (c : Games) (n i : ℕ) (path : Path) : Type 0 where
   pub found : slice_get (paths c) (lines_before c n) ≡ Some path
   pub ends : leaf_of path ≡ i
   pub one_more : lines_before c (i + 1) ≡ lines_before c n + 1
-  pub up : Up c (Some i) path.numbers
+  pub up : IsWayTo c (Some i) path.numbers
 
 pub next_line : (c : Games) (n i : ℕ) → n ≤ i → i < node_count c → IsLeaf c i → ((j : ℕ) → n ≤ j → j < i → IsLeaf c j → ⊥) → (path : Path) × IsNextLine c n i path
 next_line c n i le lt leaf none =
@@ -114,7 +115,7 @@ next_line c n i le lt leaf none =
         elim (cases_lt x i) [ inl before ↦ absurd (none x ge before (each_is_leaf c j x got)) | inr ok ↦ ok ] in
     let count : lines_before c n ≡ here.0 = before_is c n ∙ below_at n 0 (0 + node_count c) (leaves 0 c) here.0 i (leaves_rise 0 c) here.1 le first in
     let f = path_of_leaf c here.0 i here.1 in
-    let way : IsWay c None f.0.numbers = each_get (λ path. IsWay c None path.numbers) (paths c) here.0 f.0 (each_path c) f.1 in
+    let way : IsDescent c None f.0.numbers = each_get (λ path. IsDescent c None path.numbers) (paths c) here.0 f.0 (each_path c) f.1 in
     (f.0, record {
       found = rw count f.1;
       ends = f.2;
@@ -133,7 +134,7 @@ no_line_left c n none =
     slice_get_past (paths c) (lines_before c n) (omega arith)
 
 -- the line that ends at a leaf, by the way to it
-pub given_line : (c : Games) (i : ℕ) (numbers : List ℕ) → i < node_count c → IsLeaf c i → Up c (Some i) numbers
+pub given_line : (c : Games) (i : ℕ) (numbers : List ℕ) → i < node_count c → IsLeaf c i → IsWayTo c (Some i) numbers
     → (path : Path) × (slice_get (paths c) (lines_before c (i + 1) - 1) ≡ Some path) × (path.numbers ≡ numbers) × (0 < lines_before c (i + 1))
 given_line c i numbers lt leaf up =
     let f = next_line c i i (omega arith) lt leaf (λ j le below l. omega arith) in

@@ -1,11 +1,16 @@
-//! The lines of play of a collection.
+//! The lines of play of a Smart Game Format (SGF FF[4]) collection.
+//! A line goes from the root of a game to a node that no node follows.
+//!
+//! - `line` has what is shown of a line.
+//! - `cursor` goes over the lines of a collection.
+//! - `record` writes the text of a line.
+//! - `split` turns a text into the records of its lines, and `fault` has the ways in which it may fail.
 #![tactic(auto)]
 
-ghost use Rattle.std.specs.Prelude.{◌≡◌};
-ghost use Rattle.sgf_lines.specs.Output.{sgf_output};
+mod cursor;
+mod fault;
+mod line;
 
-pub fn echo(x: usize) -> usize
-    ensures { result ≡ x }
-{
-    x
-}
+pub use cursor::Cursor;
+pub use fault::FirstFault;
+pub use line::LineRef;
