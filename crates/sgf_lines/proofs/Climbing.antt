@@ -18,8 +18,8 @@ last_number-append (n ∷ []) m ms = refl
 last_number-append (n ∷ k ∷ ks) m ms = last_number-append (k ∷ ks) m ms
 
 -- a node ends its way, and has but one
-pub last-up : {c : Games} {i : ℕ} {numbers : List ℕ} → IsWayTo c (Some i) numbers → last_number numbers ≡ i
-last-up {i = i} (step {above = above} e u same) = ap last_number same ∙ last_number-push above i
+pub last-way : {c : Games} {i : ℕ} {numbers : List ℕ} → IsWayTo c (Some i) numbers → last_number numbers ≡ i
+last-way {i = i} (step {above = above} e u same) = ap last_number same ∙ last_number-push above i
 
 pub one_way : {c : Games} {at : Option ℕ} {ns ms : List ℕ} → IsWayTo c at ns → IsWayTo c at ms → ns ≡ ms
 one_way top top = refl

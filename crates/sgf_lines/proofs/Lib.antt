@@ -10,3 +10,5 @@ pub mod Named
 pub mod Positions
 pub mod LinesRise
 pub mod Loops
+pub mod Standings
+pub mod Shows

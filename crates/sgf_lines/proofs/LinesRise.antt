@@ -7,15 +7,10 @@ use Rattle.sgf_tree.specs.Tree.{Games}
 use Rattle.sgf_tree.specs.FileOrder.{PlacesRise}
 use Rattle.sgf_lines.specs.Lines.{Line, lines, place_of}
 use Rattle.sgf_lines.specs.Paths.{Path, paths, leaf_of}
-use Rattle.sgf_lines.proofs.Lists.{each_get}
+use Rattle.sgf_lines.proofs.Lists.{element, each_get}
 use Rattle.sgf_lines.proofs.Ways.{IsDescent, each_path}
 use Rattle.sgf_lines.proofs.Named.{line_at, place-line, length-paths}
 use Rattle.sgf_lines.proofs.Positions.{leaf_rises}
-
-element : {A : Type 0} (xs : List A) (k : ℕ) → k < length xs → (x : A) × (slice_get xs k ≡ Some x)
-element [] k lt = absurd (omega arith)
-element (x ∷ xs) zero lt = (x, refl)
-element (x ∷ xs) (suc k) lt = element xs k (omega arith)
 
 module _ (c : Games) where
   place_at_line : (k : ℕ) (line : Line) → slice_get (lines c) k ≡ Some line → slice_index (map place_of (lines c)) k ≡ place_of line

@@ -47,3 +47,8 @@ pub each_through : {A : Type 0} (P Q : List A → Type 0) (own : List A) (ls : L
     → ((l : List A) → Q l → P (own ++ l)) → Each Q ls → Each P (through own ls)
 each_through P Q own [] alone before h = (alone refl, tt)
 each_through P Q own (l ∷ ls) alone before h = each_map P (λ rest. own ++ rest) (l ∷ ls) (each_weaker Q (λ rest. P (own ++ rest)) before (l ∷ ls) h)
+
+pub element : {A : Type 0} (xs : List A) (k : ℕ) → k < length xs → (x : A) × (slice_get xs k ≡ Some x)
+element [] k lt = absurd (omega arith)
+element (x ∷ xs) zero lt = (x, refl)
+element (x ∷ xs) (suc k) lt = element xs k (omega arith)
