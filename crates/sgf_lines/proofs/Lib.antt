@@ -12,3 +12,5 @@ pub mod LinesRise
 pub mod Loops
 pub mod Standings
 pub mod Shows
+pub mod Joins
+pub mod Records

@@ -17,7 +17,7 @@ use Rattle.sgf_lines.proofs.Named.{IsNamed, line_at, place-line, length-paths}
 use Rattle.sgf_lines.proofs.Positions.{before_none, IsNextLine, next_line, no_line_left, given_line}
 
 -- each node on a way is one of the collection
-within_way : {c : Games} {at : Option ℕ} {way : List ℕ} → IsWayTo c at way → Each (λ n. n < node_count c) way
+pub within_way : {c : Games} {at : Option ℕ} {way : List ℕ} → IsWayTo c at way → Each (λ n. n < node_count c) way
 within_way top = tt
 within_way {c = c} (step {i = i} {parent = p} {above = above} e up is) =
     subst (Each (λ n. n < node_count c)) (sym is) (each_append (λ n. n < node_count c) above (i ∷ []) (within_way up) (node_within c i p e, tt))

@@ -10,7 +10,10 @@
 mod cursor;
 mod fault;
 mod line;
+mod record;
+mod split;
 
 pub use cursor::Cursor;
 pub use fault::FirstFault;
 pub use line::LineRef;
+pub use split::first_split;
