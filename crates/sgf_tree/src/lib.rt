@@ -10,3 +10,7 @@ pub fn echo(x: usize) -> usize
 {
     x
 }
+
+pub mod fault;
+pub mod number;
+pub mod text;
