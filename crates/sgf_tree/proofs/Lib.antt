@@ -1,2 +1,3 @@
 pub mod Shrinks
 pub mod PlacesRise
+pub mod DecimalValue
