@@ -12,7 +12,7 @@ decimal_value-append_digit (x ∷ ds) d =
     let more = decimal_value-append_digit ds d in
     let one_more : length (ds ++ d ∷ []) ≡ suc (length ds) = omega (arith, length-append ds (d ∷ [])) in
     let size : 10 ^ length (ds ++ d ∷ []) ≡ 10 ^ length ds * 10 =
-        ap (λ n. 10 ^ n) one_more ∙ pow-suc 10 (length ds)
+    ap (λ n. 10 ^ n) one_more ∙ pow-suc 10 (length ds)
     in
     omega (arith, ap (λ p. (x - 48) * p) size)
 

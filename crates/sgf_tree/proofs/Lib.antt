@@ -1,3 +1,4 @@
 pub mod Shrinks
 pub mod PlacesRise
 pub mod DecimalValue
+pub mod Appending

@@ -12,5 +12,6 @@ pub fn echo(x: usize) -> usize
 }
 
 pub mod fault;
+pub mod laws;
 pub mod number;
 pub mod text;

@@ -30,9 +30,7 @@ pub fn push_text(raw: &[u8], out: &mut Vec<u8>) -> Result<(), MemoryFault>
 
 /// What the front of a raw value gives, and the rest; `None` where nothing is left that gives a byte.
 fn decode_front(raw: &[u8]) -> Option<(Option<u8>, &[u8])>
-    ensures decoded {
-        MatchOption result (text_of raw.now ≡ []) (λ v. text_of raw.now ≡ option_to_list v.0 ++ text_of v.1.now)
-    }
+    ensures decoded { MatchOption result (text_of raw.now ≡ []) (λ v. text_of raw.now ≡ option_to_list v.0 ++ text_of v.1.now) }
     ensures shorter { IfSome result (λ v. length v.1.now < length raw.now) }
 {
     match raw {
