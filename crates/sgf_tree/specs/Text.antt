@@ -13,9 +13,12 @@ is_pair a b = a == 13 && b == 10 || a == 10 && b == 13
 abbrev pub plain : ℕ → ℕ
 plain b = if b == 9 || b == 11 || b == 12 then 32 else b
 
--- The first of these cases that fits the front: nothing, or a `\` alone, gives nothing. A `\` before a line break goes
--- and takes along the LF that the break would give; before another byte it goes alone, and the byte is plain. A line
--- break, of two bytes or of one, gives an LF; every other byte is plain.
+-- The text, by the first of these cases that fits the front of the raw value:
+--   nothing, or a `\` as the last byte: nothing;
+--   a `\` and a line break: the text of the rest (that is the text from the break on, without the LF that the break gives);
+--   a `\` and a byte: that byte, plain, and the text of the rest;
+--   a line break: an LF and the text of the rest;
+--   a byte: that byte, plain, and the text of the rest.
 abbrev pub text_of : List ℕ → List ℕ
 text_of [] = []
 text_of (a ∷ []) = if a == 92 then [] else (if is_break a then 10 else plain a) ∷ []

@@ -53,3 +53,37 @@ fn plain(byte: u8) -> u8
         _ => byte,
     }
 }
+
+#[cfg(test)]
+mod tests {
+    use super::*;
+    use std::test::Fail;
+
+    #[test]
+    fn decodes(rt: HostRuntime) -> Result<(), Fail> {
+        for (raw, want) in [
+            ("a\\\nb", "ab"),
+            ("a\\\r\nb", "ab"),
+            ("a\tb\r\nc\\:d", "a b\nc:d"),
+            ("a\r\n\n\rb", "a\n\nb"),
+            ("\n\r\n", "\n\n"),
+            ("\\\\\\]", "\\]"),
+            ("\\\t", " "),
+            ("x\\", "x"),
+            ("", ""),
+        ] {
+            let mut out = Vec::new(rt.alloc());
+            push_text(raw.as_bytes(), &mut out)?;
+            assert_eq!(rt; out.as_slice(), want.as_bytes(), "of {raw:?}");
+        }
+        Ok(())
+    }
+
+    #[test]
+    fn appends(rt: HostRuntime) -> Result<(), Fail> {
+        let mut out = b"x".to_vec(rt.alloc())?;
+        push_text(b"\\\n", &mut out)?;
+        assert_eq!(rt; out.as_slice(), b"x".as_slice());
+        Ok(())
+    }
+}
