@@ -6,3 +6,5 @@ pub mod Rows
 pub mod Names
 pub mod Held
 pub mod HeldProperties
+pub mod DecimalValue
+pub mod Appending
