@@ -1,2 +1,5 @@
 pub mod Run
 pub mod Transitions
+pub mod Completion
+pub mod Prepending
+pub mod AcceptedSpelled
