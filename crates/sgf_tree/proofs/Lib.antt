@@ -3,3 +3,4 @@ pub mod Transitions
 pub mod Completion
 pub mod Prepending
 pub mod AcceptedSpelled
+pub mod Completable

@@ -15,6 +15,19 @@ pub followed_assoc : (a b c : Games) → followed_by (followed_by a b) c ≡ fol
 followed_assoc no_games b c = refl
 followed_assoc (game f m i h) b c = ap (game f m i) (followed_assoc h b c)
 
+pub closed-in : (closed : Games) (g : OpenGame) (gs : List OpenGame)
+    → close_in closed (g ∷ gs) ≡ Some (behind_game (add_games closed gs (whole_game g)))
+closed-in closed g [] = refl
+closed-in closed g (h ∷ gs) = refl
+
+nodes-none : (gs : List OpenGame) → add_nodes gs [] ≡ gs
+nodes-none [] = refl
+nodes-none (g ∷ gs) = rw append-nil
+
+nodes-more : (gs : List OpenGame) (n : Node) (ns : List Node) → add_nodes (add_node gs n) ns ≡ add_nodes gs (n ∷ ns)
+nodes-more [] n ns = refl
+nodes-more (g ∷ gs) n ns = rw append_assoc
+
 module _ (whole : ℕ) (c : Games) where
   rest-white : {closed : Games} {unclosed : List OpenGame} {b : ℕ} {t : List ℕ} → IsTrue (is_white b)
       → Rest whole c closed unclosed t → Rest whole c closed unclosed (b ∷ t)
@@ -22,14 +35,6 @@ module _ (whole : ℕ) (c : Games) where
   rest-white h (ends (games v first more below last behind) w e) = ends (games (white h v) first more below last behind) w e
   rest-white h (closes no_game w r) = closes no_game (white h w) r
   rest-white h (closes (games v first more below last behind) w r) = closes (games (white h v) first more below last behind) w r
-
-  nodes-none : (gs : List OpenGame) → add_nodes gs [] ≡ gs
-  nodes-none [] = refl
-  nodes-none (g ∷ gs) = rw append-nil
-
-  nodes-more : (gs : List OpenGame) (n : Node) (ns : List Node) → add_nodes (add_node gs n) ns ≡ add_nodes gs (n ∷ ns)
-  nodes-more [] n ns = refl
-  nodes-more (g ∷ gs) n ns = rw append_assoc
 
   behind_node-white : (k : Stack) (b : ℕ) (t : List ℕ) → IsTrue (is_white b) → Behind_node whole c k t → Behind_node whole c k (b ∷ t)
   behind_node-white k b t h (ns, u, no_node, r) = ([], b ∷ u, no_node, rest-white h r)
@@ -52,11 +57,6 @@ module _ (whole : ℕ) (c : Games) where
   opened-rest k t (place, u, w, e, (ps, v, are, (ns, x, more, closes below last r))) =
       join k.closed k.unclosed no_white (node w e are) more below last r
 
-  pub closed-in : (closed : Games) (g : OpenGame) (gs : List OpenGame)
-      → close_in closed (g ∷ gs) ≡ Some (behind_game (add_games closed gs (whole_game g)))
-  closed-in closed g [] = refl
-  closed-in closed g (h ∷ gs) = refl
-
   close-rest : (closed : Games) (unclosed : List OpenGame) (t : List ℕ) (y : State) → close_in closed unclosed ≡ Some y
       → Completes whole c y t → Rest whole c closed unclosed (41 ∷ t)
   close-rest closed [] t y e h = absurd (none-some y e)
@@ -70,7 +70,7 @@ module _ (whole : ℕ) (c : Games) where
   between k t opens_game r = opened-rest k t r
   between k t (closes_game {y} e) r = close-rest k.closed k.unclosed t y e r
 
-  bare : (k : Stack) (t : List ℕ) → Rest whole c k.closed k.unclosed t → Behind_node whole c k t
+  pub bare : (k : Stack) (t : List ℕ) → Rest whole c k.closed k.unclosed t → Behind_node whole c k t
   bare k t r = ([], t, no_node, rw nodes-none r)
 
   behind : (at : ℕ) (k : Stack) {b : ℕ} {y : State} (t : List ℕ) → at + length (b ∷ t) ≡ whole → Behind at k b y → Completes whole c y t
@@ -80,7 +80,7 @@ module _ (whole : ℕ) (c : Games) where
   behind at k t e opens_below r = bare k (40 ∷ t) (opened-rest k t r)
   behind at k t e (closes_nodes {y} h) r = bare k (41 ∷ t) (close-rest k.closed k.unclosed t y h r)
 
-  behind-bare : (n : Started) (t : List ℕ) → Behind_node whole c (ended n) t → In_node whole c n t
+  pub behind-bare : (n : Started) (t : List ℕ) → Behind_node whole c (ended n) t → In_node whole c n t
   behind-bare n t r = ([], t, no_property, rw append-nil r)
 
   named : (n : Started) (b : ℕ) (t : List ℕ) → IsTrue (is_upper b) → In_name whole c n (b ∷ []) t → In_node whole c n (b ∷ t)
@@ -88,7 +88,7 @@ module _ (whole : ℕ) (c : Games) where
       (record { name = b ∷ more; first = first; more = vs } ∷ ps, z,
        properties (property no_white h letters (prop_value w units) are) others, rw append_assoc at r)
 
-  value-bare : (n : Started) (p : Property) (t : List ℕ) → In_node whole c (with_property n p) t → Behind_value whole c n p t
+  pub value-bare : (n : Started) (p : Property) (t : List ℕ) → In_node whole c (with_property n p) t → Behind_value whole c n p t
   value-bare n p t r = ([], t, no_value, rw append-nil r)
 
   name-bare : (n : Started) (name : List ℕ) (t : List ℕ) → Behind_name whole c n name t → In_name whole c n name t
