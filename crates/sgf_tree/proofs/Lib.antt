@@ -4,3 +4,5 @@ pub mod Completion
 pub mod Prepending
 pub mod AcceptedSpelled
 pub mod Completable
+pub mod Classes
+pub mod Reading
