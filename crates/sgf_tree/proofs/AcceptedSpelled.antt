@@ -5,8 +5,8 @@ use Rattle.sgf_tree.specs.Tree.{Games, no_games, game}
 use Rattle.sgf_tree.specs.Spelling.{no_white, no_game, Spells, spells}
 use Rattle.sgf_tree.specs.Machine.{OpenGame, State, start, behind_game, whole_games, step, run, accepted, collection_of}
 use Rattle.sgf_tree.proofs.Transitions.{takes}
-use Rattle.sgf_tree.proofs.Completion.{Rest, ends, Completes}
-use Rattle.sgf_tree.proofs.Prepending.{followed-none, prepend}
+use Rattle.sgf_tree.proofs.Completion.{followed-none, Rest, ends, Completes}
+use Rattle.sgf_tree.proofs.Prepending.{prepend}
 
 module _ (whole : ℕ) (c : Games) where
   -- a text that is taken to a state, before one that completes that state

@@ -6,8 +6,8 @@ use Rattle.sgf_tree.specs.Tree.{Property, Node, Games, no_games, game}
 use Rattle.sgf_tree.specs.Spelling.{no_white, no_game}
 use Rattle.sgf_tree.specs.Machine.{OpenGame, Stack, Started, State, start, first_of_mark, second_of_mark, opened, in_node, in_name, behind_name, in_value, behind_escape, behind_value, behind_game, followed_by, property_of, with_property, add_node, begun, ended, close_in, whole_games, step, run}
 use Rattle.sgf_tree.proofs.Transitions.{Between, white_between, opens_game, closes_game, Behind, next_node, opens_below, closes_nodes, no_stack, Takes, mark_first, mark_second, mark_third, at_start, at_game, white_opened, first_node, white_node, first_name, ends_bare, upper_name, lower_name, white_name, first_value, white_behind_name, later_value, ends_value, escapes, plain_byte, escaped_byte, white_value, next_value, next_name, ends_node, takes}
-use Rattle.sgf_tree.proofs.Completion.{Rest, ends, closes, In_node, Completes}
-use Rattle.sgf_tree.proofs.Prepending.{followed-none, closed-in, bare, behind-bare, value-bare, prepend}
+use Rattle.sgf_tree.proofs.Completion.{followed-none, closed-in, Rest, ends, closes, In_node, Completes}
+use Rattle.sgf_tree.proofs.Prepending.{bare, behind-bare, value-bare, prepend}
 
 -- a node begins a game, or a game is open around it
 abbrev pub Within : Bool → List OpenGame → Type 0

@@ -1,8 +1,8 @@
 -- A text completes a state to a collection: what the state has read and what the text spells make the collection.
-use Rattle.std.proofs.Common.{◌≡◌, ℕ, ◌+◌, true, List, [], ◌∷◌, ◌++◌, length, Some}
+use Rattle.std.proofs.Common.{◌≡◌, ℕ, ◌+◌, true, List, [], ◌∷◌, ◌++◌, length, Some, refl, ap, append_assoc, append-nil}
 use Rattle.sgf_tree.specs.Tree.{Property, Node, Games, no_games, game}
 use Rattle.sgf_tree.specs.Spelling.{White, Letters, IsValue, ArePropValues, AreProperties, AreNodes, AreGames, Mark}
-use Rattle.sgf_tree.specs.Machine.{OpenGame, Stack, Started, State, start, first_of_mark, second_of_mark, opened, in_node, in_name, behind_name, in_value, behind_escape, behind_value, behind_game, followed_by, property_of, with_property, ended, whole_games}
+use Rattle.sgf_tree.specs.Machine.{OpenGame, Stack, Started, State, start, first_of_mark, second_of_mark, opened, in_node, in_name, behind_name, in_value, behind_escape, behind_value, behind_game, followed_by, property_of, with_property, add_node, ended, whole_game, close_in, whole_games}
 
 -- games at the end of the innermost open game, or of all
 abbrev pub add_games : Games → List OpenGame → Games → Stack
@@ -14,6 +14,27 @@ add_games closed (g ∷ gs) others =
 abbrev pub add_nodes : List OpenGame → List Node → List OpenGame
 add_nodes [] ns = []
 add_nodes (g ∷ gs) ns = record { first = g.first; more = g.more ++ ns; below = g.below } ∷ gs
+
+pub followed-none : (a : Games) → followed_by a no_games ≡ a
+followed-none no_games = refl
+followed-none (game f m b h) = ap (game f m b) (followed-none h)
+
+pub followed_assoc : (a b c : Games) → followed_by (followed_by a b) c ≡ followed_by a (followed_by b c)
+followed_assoc no_games b c = refl
+followed_assoc (game f m i h) b c = ap (game f m i) (followed_assoc h b c)
+
+pub closed-in : (closed : Games) (g : OpenGame) (gs : List OpenGame)
+    → close_in closed (g ∷ gs) ≡ Some (behind_game (add_games closed gs (whole_game g)))
+closed-in closed g [] = refl
+closed-in closed g (h ∷ gs) = refl
+
+pub nodes-none : (gs : List OpenGame) → add_nodes gs [] ≡ gs
+nodes-none [] = refl
+nodes-none (g ∷ gs) = rw append-nil
+
+pub nodes-more : (gs : List OpenGame) (n : Node) (ns : List Node) → add_nodes (add_node gs n) ns ≡ add_nodes gs (n ∷ ns)
+nodes-more [] n ns = refl
+nodes-more (g ∷ gs) n ns = rw append_assoc
 
 -- a property with more values
 abbrev pub with_values : Property → List (List ℕ) → Property

@@ -6,3 +6,5 @@ pub mod AcceptedSpelled
 pub mod Completable
 pub mod Classes
 pub mod Reading
+pub mod ReadingGames
+pub mod SpelledAccepted

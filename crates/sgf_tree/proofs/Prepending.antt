@@ -5,28 +5,7 @@ use Rattle.sgf_tree.specs.Tree.{Property, Node, Games, no_games, game, values}
 use Rattle.sgf_tree.specs.Spelling.{is_white, is_upper, White, no_white, white, no_letter, upper, lower, no_unit, plain, escaped, prop_value, no_value, value, property, no_property, properties, IsNode, node, AreNodes, no_node, nodes, AreGames, no_game, games, no_mark, mark}
 use Rattle.sgf_tree.specs.Machine.{OpenGame, Stack, Started, State, behind_escape, behind_game, followed_by, property_of, with_property, add_node, ended, whole_game, close_in}
 use Rattle.sgf_tree.proofs.Transitions.{Between, white_between, opens_game, closes_game, Behind, next_node, opens_below, closes_nodes, no_stack, Takes, mark_first, mark_second, mark_third, at_start, at_game, white_opened, first_node, white_node, first_name, ends_bare, upper_name, lower_name, white_name, first_value, white_behind_name, later_value, ends_value, escapes, plain_byte, escaped_byte, white_value, next_value, next_name, ends_node}
-use Rattle.sgf_tree.proofs.Completion.{add_games, add_nodes, with_values, with_properties, Rest, ends, closes, Behind_node, In_node, Opened, Behind_value, In_value, Behind_name, In_name, Completes}
-
-pub followed-none : (a : Games) → followed_by a no_games ≡ a
-followed-none no_games = refl
-followed-none (game f m b h) = ap (game f m b) (followed-none h)
-
-pub followed_assoc : (a b c : Games) → followed_by (followed_by a b) c ≡ followed_by a (followed_by b c)
-followed_assoc no_games b c = refl
-followed_assoc (game f m i h) b c = ap (game f m i) (followed_assoc h b c)
-
-pub closed-in : (closed : Games) (g : OpenGame) (gs : List OpenGame)
-    → close_in closed (g ∷ gs) ≡ Some (behind_game (add_games closed gs (whole_game g)))
-closed-in closed g [] = refl
-closed-in closed g (h ∷ gs) = refl
-
-nodes-none : (gs : List OpenGame) → add_nodes gs [] ≡ gs
-nodes-none [] = refl
-nodes-none (g ∷ gs) = rw append-nil
-
-nodes-more : (gs : List OpenGame) (n : Node) (ns : List Node) → add_nodes (add_node gs n) ns ≡ add_nodes gs (n ∷ ns)
-nodes-more [] n ns = refl
-nodes-more (g ∷ gs) n ns = rw append_assoc
+use Rattle.sgf_tree.proofs.Completion.{followed-none, followed_assoc, closed-in, nodes-none, nodes-more, add_games, add_nodes, with_values, with_properties, Rest, ends, closes, Behind_node, In_node, Opened, Behind_value, In_value, Behind_name, In_name, Completes}
 
 module _ (whole : ℕ) (c : Games) where
   rest-white : {closed : Games} {unclosed : List OpenGame} {b : ℕ} {t : List ℕ} → IsTrue (is_white b)

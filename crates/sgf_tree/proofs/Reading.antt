@@ -53,7 +53,7 @@ module _ (whole : ℕ) where
   unfolding step
   stays-behind_name n name b at h = rw h
 
-  stays-behind_value : (n : Started) (p : Property) → Stays (behind_value n p)
+  pub stays-behind_value : (n : Started) (p : Property) → Stays (behind_value n p)
   unfolding step
   stays-behind_value n p b at h = rw h
 
@@ -71,14 +71,14 @@ module _ (whole : ℕ) where
       ∙ rw append_assoc at (over-units n name before (so_far ++ 92 ∷ b ∷ []) u)
 
   -- a value behind its `[`, with its `]`
-  over-value : {v t r : List ℕ} (n : Started) (name : List ℕ) (before : List (List ℕ)) → IsValue v t (93 ∷ r)
+  pub over-value : {v t r : List ℕ} (n : Started) (name : List ℕ) (before : List (List ℕ)) → IsValue v t (93 ∷ r)
       → read whole (in_value n name before []) t ≡ read whole (behind_value n (property_of name before v)) r
   unfolding step
   over-value {v} {t} {r} n name before u =
       over-units n name before [] u
       ∙ one-byte (in_value n name before v) (behind_value n (property_of name before v)) 93 r (λ at. refl)
 
-  over-values : {vs : List (List ℕ)} {t r : List ℕ} (n : Started) (p : Property) → ArePropValues vs t r
+  pub over-values : {vs : List (List ℕ)} {t r : List ℕ} (n : Started) (p : Property) → ArePropValues vs t r
       → read whole (behind_value n p) t ≡ read whole (behind_value n (with_values p vs)) r
   unfolding step
   over-values n p no_value = rw append-nil
@@ -88,7 +88,7 @@ module _ (whole : ℕ) where
       ∙ over-value n p.name (values p) u
       ∙ rw append_assoc at (over-values n (property_of p.name (values p) v) are)
 
-  over-letters : {more t r : List ℕ} (n : Started) (name : List ℕ) → Letters more t r
+  pub over-letters : {more t r : List ℕ} (n : Started) (name : List ℕ) → Letters more t r
       → read whole (in_name n name) t ≡ read whole (in_name n (name ++ more)) r
   unfolding step
   over-letters n name no_letter = rw append-nil
@@ -99,7 +99,7 @@ module _ (whole : ℕ) where
       one-byte (in_name n name) (in_name n name) b s (λ at. rw (lower-not_upper b h, h)) ∙ over-letters n name l
 
   -- behind a name, up to the first value
-  to-value : {s t : List ℕ} (n : Started) (name : List ℕ) → White s (91 ∷ t)
+  pub to-value : {s t : List ℕ} (n : Started) (name : List ℕ) → White s (91 ∷ t)
       → read whole (in_name n name) s ≡ read whole (in_value n name [] []) t
   unfolding step
   to-value {s} {t} n name no_white = one-byte (in_name n name) (in_value n name [] []) 91 t (λ at. refl)
