@@ -88,10 +88,13 @@ Completable z =
 
 -- a byte, and then those that complete the state behind it
 via : (z : State) (b : ℕ) (y : State) → b < 256 → ((at : ℕ) → Takes at z b y) → Completable y → Completable z
-via z b y lt s (r, all, k) =
-    (b ∷ r, All-cons (λ x. x < 256) b r lt all, λ whole at e.
-     let (c, h) = k whole (at + 1) (omega arith) in
-     (c, prepend whole c at z b y r (s at) e h))
+via z b y lt s (r, all, k) = (
+  b ∷ r,
+  All-cons (λ x. x < 256) b r lt all,
+  λ whole at e.
+      let (c, h) = k whole (at + 1) (omega arith) in
+      (c, prepend whole c at z b y r (s at) e h),
+)
 
 -- a `)` for each open game
 brackets : List OpenGame → List ℕ
@@ -117,9 +120,10 @@ close-all : (whole : ℕ) (gs : List OpenGame) (closed : Games) (g : OpenGame)
     → (c : Games) × Rest whole c closed (g ∷ gs) (41 ∷ brackets gs)
 unfolding brackets
 close-all whole [] closed g =
-    let below : Games = followed_by g.below no_games in
-    (followed_by closed (game g.first g.more below no_games),
-     closes no_game no_white (no-more whole closed g.first g.more below))
+    let below : Games = followed_by g.below no_games in (
+      followed_by closed (game g.first g.more below no_games),
+      closes no_game no_white (no-more whole closed g.first g.more below),
+    )
 close-all whole (h ∷ gs) closed g =
     let below : Games = followed_by h.below (game g.first g.more (followed_by g.below no_games) no_games) in
     let (c, r) = close-all whole gs closed (record { first = h.first; more = h.more; below = below }) in
@@ -152,25 +156,30 @@ complete-value : (n : Started) (name : List ℕ) (before : List (List ℕ)) (val
     → Completable (in_value n name before value)
 complete-value n name before value h =
     via (in_value n name before value) 93 (behind_value n (property_of name before value)) (lit< tt) (λ at. ends_value)
-        (complete-property n (property_of name before value) h)
+    (complete-property n (property_of name before value) h)
 
 complete-opened : (k : Stack) → Completable (opened k)
 complete-opened k =
-    let t : List ℕ = 41 ∷ brackets k.unclosed in
-    (59 ∷ t, All-cons (λ b. b < 256) 59 t (lit< tt) (All-cons (λ b. b < 256) 41 (brackets k.unclosed) (lit< tt) (brackets-bytes k.unclosed)),
-     λ whole at e.
-     let n : Started = record { stack = k; opens = true; place = at; properties = [] } in
-     let (c, h) = close-node whole n (begun (record { place = at; properties = [] })) k.unclosed refl in
-     (c, (at, t, no_white, e, h)))
+    let t : List ℕ = 41 ∷ brackets k.unclosed in (
+      59 ∷ t,
+      All-cons (λ b. b < 256) 59 t (lit< tt) (All-cons (λ b. b < 256) 41 (brackets k.unclosed) (lit< tt) (brackets-bytes k.unclosed)),
+      λ whole at e.
+          let n : Started = record { stack = k; opens = true; place = at; properties = [] } in
+          let (c, h) = close-node whole n (begun (record { place = at; properties = [] })) k.unclosed refl in
+          (c, (at, t, no_white, e, h)),
+    )
 
 complete-game : (closed : Games) (gs : List OpenGame) → Completable (behind_game (record { closed = closed; unclosed = gs }))
 complete-game no_games [] =
     via (behind_game no_stack) 40 (opened no_stack) (lit< tt) (λ at. at_game opens_game) (complete-opened no_stack)
 complete-game (game f m b h) [] =
     ([], All-nil (λ b. b < 256), λ whole at _. (game f m b h, ends no_game no_white (rw (followed-none h) refl)))
-complete-game closed (g ∷ gs) =
-    (41 ∷ brackets gs, All-cons (λ b. b < 256) 41 (brackets gs) (lit< tt) (brackets-bytes gs), λ whole at _.
-     close-all whole gs closed g)
+complete-game closed (g ∷ gs) = (
+  41 ∷ brackets gs,
+  All-cons (λ b. b < 256) 41 (brackets gs) (lit< tt) (brackets-bytes gs),
+  λ whole at _.
+      close-all whole gs closed g,
+)
 
 complete-mark : Completable second_of_mark
 complete-mark = via second_of_mark 191 (behind_game no_stack) (lit< tt) (λ at. mark_third) (complete-game no_games [])
@@ -189,6 +198,6 @@ complete (behind_name n name) h =
 complete (in_value n name before value) h = complete-value n name before value h
 complete (behind_escape n name before value) h =
     via (behind_escape n name before value) 93 (in_value n name before (value ++ 92 ∷ 93 ∷ [])) (lit< tt) (λ at. escaped_byte)
-        (complete-value n name before (value ++ 92 ∷ 93 ∷ []) h)
+    (complete-value n name before (value ++ 92 ∷ 93 ∷ []) h)
 complete (behind_value n p) h = complete-property n p h
 complete (behind_game k) h = complete-game k.closed k.unclosed

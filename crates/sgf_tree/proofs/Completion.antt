@@ -50,7 +50,7 @@ pub data Rest (whole : ℕ) (c : Games) : Games → List OpenGame → List ℕ �
       → whole_games (followed_by closed others) [] ≡ Some c → Rest whole c closed [] t
   closes : {closed below : Games} {g : OpenGame} {gs : List OpenGame} {t r x : List ℕ} → AreGames whole below t r → White r (41 ∷ x)
       → Rest whole c (add_games closed gs (game g.first g.more (followed_by g.below below) no_games)).closed
-          (add_games closed gs (game g.first g.more (followed_by g.below below) no_games)).unclosed x
+      (add_games closed gs (game g.first g.more (followed_by g.below below) no_games)).unclosed x
       → Rest whole c closed (g ∷ gs) t
 
 module _ (whole : ℕ) (c : Games) where

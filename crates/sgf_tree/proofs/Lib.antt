@@ -8,3 +8,4 @@ pub mod Classes
 pub mod Reading
 pub mod ReadingGames
 pub mod SpelledAccepted
+pub mod Faults

@@ -3,9 +3,9 @@ use Rattle.std.proofs.Common.{◌≡◌, ◌≢◌, ℕ, ◌+◌, IsTrue, List, 
 use Rattle.std.proofs.lemmas.Option.{none-some, same_Some}
 use Rattle.sgf_tree.specs.Tree.{Property, Node, Games, no_games, game, values}
 use Rattle.sgf_tree.specs.Spelling.{is_white, is_upper, White, no_white, white, no_letter, upper, lower, no_unit, plain, escaped, prop_value, no_value, value, property, no_property, properties, IsNode, node, AreNodes, no_node, nodes, AreGames, no_game, games, no_mark, mark}
-use Rattle.sgf_tree.specs.Machine.{OpenGame, Stack, Started, State, behind_escape, behind_game, followed_by, property_of, with_property, add_node, ended, whole_game, close_in}
+use Rattle.sgf_tree.specs.Machine.{OpenGame, Stack, Started, State, behind_escape, behind_game, property_of, with_property, ended, whole_game, close_in}
 use Rattle.sgf_tree.proofs.Transitions.{Between, white_between, opens_game, closes_game, Behind, next_node, opens_below, closes_nodes, no_stack, Takes, mark_first, mark_second, mark_third, at_start, at_game, white_opened, first_node, white_node, first_name, ends_bare, upper_name, lower_name, white_name, first_value, white_behind_name, later_value, ends_value, escapes, plain_byte, escaped_byte, white_value, next_value, next_name, ends_node}
-use Rattle.sgf_tree.proofs.Completion.{followed-none, followed_assoc, closed-in, nodes-none, nodes-more, add_games, add_nodes, with_values, with_properties, Rest, ends, closes, Behind_node, In_node, Opened, Behind_value, In_value, Behind_name, In_name, Completes}
+use Rattle.sgf_tree.proofs.Completion.{followed-none, followed_assoc, closed-in, nodes-none, nodes-more, add_games, with_values, with_properties, Rest, ends, closes, Behind_node, In_node, Opened, Behind_value, In_value, Behind_name, In_name, Completes}
 
 module _ (whole : ℕ) (c : Games) where
   rest-white : {closed : Games} {unclosed : List OpenGame} {b : ℕ} {t : List ℕ} → IsTrue (is_white b)
@@ -41,7 +41,7 @@ module _ (whole : ℕ) (c : Games) where
   close-rest closed [] t y e h = absurd (none-some y e)
   close-rest closed (g ∷ gs) t y e h =
       let r : Completes whole c (behind_game (add_games closed gs (whole_game g))) t =
-          subst (λ z. Completes whole c z t) (same_Some y _ (sym e ∙ closed-in closed g gs)) h in
+      subst (λ z. Completes whole c z t) (same_Some y _ (sym e ∙ closed-in closed g gs)) h in
       closes no_game no_white (rw followed-none r)
 
   between : (k : Stack) {b : ℕ} {y : State} (t : List ℕ) → Between k b y → Completes whole c y t → Rest whole c k.closed k.unclosed (b ∷ t)
@@ -63,9 +63,12 @@ module _ (whole : ℕ) (c : Games) where
   behind-bare n t r = ([], t, no_property, rw append-nil r)
 
   named : (n : Started) (b : ℕ) (t : List ℕ) → IsTrue (is_upper b) → In_name whole c n (b ∷ []) t → In_node whole c n (b ∷ t)
-  named n b t h (more, u, letters, (v, w, (first, x, units, (vs, y, are, (ps, z, others, r))))) =
-      (record { name = b ∷ more; first = first; more = vs } ∷ ps, z,
-       properties (property no_white h letters (prop_value w units) are) others, rw append_assoc at r)
+  named n b t h (more, u, letters, (v, w, (first, x, units, (vs, y, are, (ps, z, others, r))))) = (
+    record { name = b ∷ more; first = first; more = vs } ∷ ps,
+    z,
+    properties (property no_white h letters (prop_value w units) are) others,
+    rw append_assoc at r,
+  )
 
   pub value-bare : (n : Started) (p : Property) (t : List ℕ) → In_node whole c (with_property n p) t → Behind_value whole c n p t
   value-bare n p t r = ([], t, no_value, rw append-nil r)

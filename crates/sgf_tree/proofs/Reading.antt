@@ -63,7 +63,7 @@ module _ (whole : ℕ) where
   over-units n name before so_far no_unit = rw append-nil
   over-units n name before so_far (plain {b} {s} x y u) =
       one-byte (in_value n name before so_far) (in_value n name before (so_far ++ b ∷ [])) b s
-        (λ at. rw (ne_eqb b 93 x, ne_eqb b 92 y))
+      (λ at. rw (ne_eqb b 93 x, ne_eqb b 92 y))
       ∙ rw append_assoc at (over-units n name before (so_far ++ b ∷ []) u)
   over-units n name before so_far (escaped {b} {s} u) =
       one-byte (in_value n name before so_far) (behind_escape n name before so_far) 92 (b ∷ s) (λ at. refl)

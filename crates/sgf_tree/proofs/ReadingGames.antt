@@ -1,11 +1,10 @@
 -- How the machine reads properties, nodes and games.
-use Rattle.std.proofs.Common.{◌≡◌, ℕ, ◌+◌, ◌==◌, Bool, false, true, IsTrue, List, [], ◌∷◌, ◌++◌, length, Option, Some, None, refl, sym, ap, ◌∙◌, subst, append_assoc, append-nil}
+use Rattle.std.proofs.Common.{◌≡◌, ℕ, Bool, false, true, IsTrue, List, [], ◌∷◌, Some, refl, sym, ap, ◌∙◌, append_assoc, append-nil}
 use Rattle.sgf_tree.specs.Tree.{Property, Node, Games, no_games, game}
-use Rattle.sgf_tree.specs.Spelling.{is_white, is_upper, White, no_white, white, prop_value, IsProperty, property, AreProperties, no_property, properties, IsNode, node, AreNodes, no_node, nodes, AreGames, no_game, games}
-use Rattle.sgf_tree.specs.Machine.{OpenGame, Stack, Started, State, opened, in_node, in_name, in_value, behind_value, behind_game, followed_by, property_of, with_property, add_node, begun, ended, whole_game, close, close_in, new_node, step}
+use Rattle.sgf_tree.specs.Spelling.{is_upper, White, prop_value, IsProperty, property, AreProperties, no_property, properties, IsNode, node, AreNodes, no_node, nodes, AreGames, no_game, games}
+use Rattle.sgf_tree.specs.Machine.{OpenGame, Stack, Started, State, opened, in_node, in_name, behind_value, behind_game, followed_by, property_of, with_property, add_node, begun, ended, whole_game, close, new_node, step}
 use Rattle.sgf_tree.proofs.Classes.{upper-not_white, upper-not_bracket}
-use Rattle.sgf_tree.proofs.Completion.{followed-none, followed_assoc, nodes-none, nodes-more, closed-in, add_games, add_nodes, with_values, with_properties}
-
+use Rattle.sgf_tree.proofs.Completion.{followed-none, followed_assoc, nodes-none, nodes-more, closed-in, add_games, add_nodes, with_properties}
 use Rattle.sgf_tree.proofs.Reading.{read, one-byte, one-node, Stays, over-white, over-value, over-values, over-letters, to-value}
 
 -- the states in which a node may end
@@ -74,7 +73,7 @@ module _ (whole : ℕ) where
   over-node : {m : Node} {s r : List ℕ} (z : State) (k : Stack) (opens : Bool) → Stays whole z
       → ((at : ℕ) → step at z 59 ≡ Some (new_node k opens at)) → IsNode whole m s r
       → (y : State) × EndsAs (ended (record { stack = k; opens = opens; place = m.place; properties = m.properties })) y
-        × (read whole z s ≡ read whole y r)
+      × (read whole z s ≡ read whole y r)
   over-node z k opens stays e (node {place} {ps} {t = t} w f are) =
       let n : Started = record { stack = k; opens = opens; place = place; properties = [] } in
       let (y, a, g) = over-properties n (in_node n) bare_end are in
@@ -112,7 +111,7 @@ module _ (whole : ℕ) where
   -- a `)` behind a game, or behind a node
   to-closed : {s t : List ℕ} (closed : Games) (g : OpenGame) (gs : List OpenGame) → White s (41 ∷ t)
       → read whole (behind_game (record { closed = closed; unclosed = g ∷ gs })) s
-        ≡ read whole (behind_game (add_games closed gs (whole_game g))) t
+      ≡ read whole (behind_game (add_games closed gs (whole_game g))) t
   unfolding step
   to-closed {s} {t} closed g gs w =
       let k : Stack = record { closed = closed; unclosed = g ∷ gs } in
@@ -125,13 +124,13 @@ module _ (whole : ℕ) where
   end-closed {s} {t} closed g gs z (n, a, e) w =
       over-white whole z (stays-end a) w
       ∙ one-byte whole z (behind_game (add_games closed gs (whole_game g))) 41 t
-          (λ at. end-closes a at ∙ ap close e ∙ closed-in closed g gs)
+      (λ at. end-closes a at ∙ ap close e ∙ closed-in closed g gs)
 
   -- the games below a node, and the `)` behind them
   over-below : {below : Games} {s t r : List ℕ} (closed : Games) (g : OpenGame) (gs : List OpenGame) (z : State)
       → EndsAs (record { closed = closed; unclosed = g ∷ gs }) z → AreGames whole below s r
       → read whole (behind_game (record { closed = closed; unclosed = g ∷ gs })) s
-        ≡ read whole (behind_game (add_games closed (g ∷ gs) below)) r
+      ≡ read whole (behind_game (add_games closed (g ∷ gs) below)) r
       → White r (41 ∷ t)
       → read whole z s ≡ read whole (behind_game (add_games closed gs (game g.first g.more (followed_by g.below below) no_games))) t
   over-below closed g gs z h no_game ih last = rw followed-none (end-closed closed g gs z h last)
@@ -142,7 +141,7 @@ module _ (whole : ℕ) where
 
   pub over-games : {others : Games} {s r : List ℕ} (closed : Games) (unclosed : List OpenGame) → AreGames whole others s r
       → read whole (behind_game (record { closed = closed; unclosed = unclosed })) s
-        ≡ read whole (behind_game (add_games closed unclosed others)) r
+      ≡ read whole (behind_game (add_games closed unclosed others)) r
   unfolding step
   over-games closed unclosed no_game = rw games-none
   over-games closed unclosed (games {first} {more} {below} {behind} w n ns bs last hs) =

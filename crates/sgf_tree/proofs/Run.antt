@@ -9,7 +9,7 @@ then_run : (at : ℕ) (x : ℕ) (a b : List ℕ)
     → ((y : State) → run (at + 1) y (a ++ b) ≡ option_and_then (λ next. run (at + 1 + length a) next b) (run (at + 1) y a))
     → (o : Option State)
     → option_and_then (λ next. run (at + 1) next (a ++ b)) o
-      ≡ option_and_then (λ next. run (at + length (x ∷ a)) next b) (option_and_then (λ next. run (at + 1) next a) o)
+    ≡ option_and_then (λ next. run (at + length (x ∷ a)) next b) (option_and_then (λ next. run (at + 1) next a) o)
 then_run at x a b ih None = refl
 then_run at x a b ih (Some y) =
     let e : at + 1 + length a ≡ at + length (x ∷ a) = omega arith in
@@ -74,7 +74,7 @@ refused-front n t h = run-cut n t ∙ ap (option_and_then (λ next. run (0 + len
 pub run-front : (n : ℕ) (t : List ℕ) (z : State) → run 0 start t ≡ Some z → (y : State) × (run 0 start (take n t) ≡ Some y)
 run-front n t z h =
     option_and_then_some (λ next. run (0 + length (take n t)) next (drop n t)) (run 0 start (take n t)) z
-        (sym (run-cut n t) ∙ h) (λ y e f. (y, e))
+    (sym (run-cut n t) ∙ h) (λ y e f. (y, e))
 
 -- the collection of a text that is taken to a state
 pub collection-run : (t : List ℕ) (z : State) → run 0 start t ≡ Some z → collection_of t ≡ accepted z

@@ -1,9 +1,9 @@
 -- What a text spells, the machine accepts; so a text spells one collection at most.
-use Rattle.std.proofs.Common.{◌≡◌, ℕ, List, [], ◌∷◌, ◌++◌, length, Option, Some, None, option_and_then, IsTrue, refl, sym, ap, ◌∙◌}
+use Rattle.std.proofs.Common.{◌≡◌, ℕ, List, [], ◌∷◌, length, Some, option_and_then, refl, sym, ap, ◌∙◌}
 use Rattle.std.proofs.lemmas.Option.{same_Some}
 use Rattle.sgf_tree.specs.Tree.{Games, no_games, game}
-use Rattle.sgf_tree.specs.Spelling.{is_white, White, no_white, white, AreGames, games, Mark, no_mark, mark, Spells, spells}
-use Rattle.sgf_tree.specs.Machine.{State, start, first_of_mark, second_of_mark, opened, behind_game, step, run, accepted, collection_of}
+use Rattle.sgf_tree.specs.Spelling.{White, no_white, white, games, Mark, no_mark, mark, Spells, spells}
+use Rattle.sgf_tree.specs.Machine.{start, first_of_mark, second_of_mark, opened, behind_game, step, accepted, collection_of}
 use Rattle.sgf_tree.proofs.Classes.{white-not_mark}
 use Rattle.sgf_tree.proofs.Transitions.{no_stack}
 use Rattle.sgf_tree.proofs.Reading.{read, run-whole, one-byte, over-white}
