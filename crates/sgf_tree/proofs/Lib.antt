@@ -9,3 +9,5 @@ pub mod Reading
 pub mod ReadingGames
 pub mod SpelledAccepted
 pub mod Faults
+pub mod Skipping
+pub mod Spans

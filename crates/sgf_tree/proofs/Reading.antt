@@ -1,9 +1,10 @@
 -- How the machine reads the parts of a text, up to the properties of a node.
-use Rattle.std.proofs.Common.{◌≡◌, ℕ, ◌+◌, ◌-◌, Bool, IsTrue, List, [], ◌∷◌, ◌++◌, length, Option, Some, None, option_and_then, refl, ap, ◌∙◌, append_assoc, append-nil, arith, ne_eqb}
+use Rattle.std.proofs.Common.{◌≡◌, ℕ, ◌+◌, ◌-◌, Bool, List, [], ◌∷◌, ◌++◌, length, Option, Some, None, option_and_then, refl, ap, ◌∙◌, append_assoc, append-nil, arith, ne_eqb}
 use Rattle.sgf_tree.specs.Tree.{Property, values}
-use Rattle.sgf_tree.specs.Spelling.{is_white, White, no_white, white, Letters, no_letter, upper, lower, IsValue, no_unit, plain, escaped, prop_value, ArePropValues, no_value, value}
+use Rattle.sgf_tree.specs.Spelling.{White, no_white, white, Letters, no_letter, upper, lower, IsValue, no_unit, plain, escaped, prop_value, ArePropValues, no_value, value}
 use Rattle.sgf_tree.specs.Machine.{Stack, Started, State, start, in_name, behind_name, in_value, behind_escape, behind_value, property_of, new_node, step, run}
 use Rattle.sgf_tree.proofs.Classes.{white-not_upper, white-not_lower, lower-not_upper}
+use Rattle.sgf_tree.proofs.Skipping.{Stays, stays-behind_name, stays-behind_value}
 use Rattle.sgf_tree.proofs.Completion.{with_values}
 
 -- the machine over what is left of a text of `whole` bytes
@@ -42,20 +43,9 @@ module _ (whole : ℕ) where
       rw g (ap (option_and_then (λ x. read whole x t)) (e place))
 
   -- white space, where the state stays
-  abbrev pub Stays : State → Type 0
-  Stays z = (b at : ℕ) → IsTrue (is_white b) → step at z b ≡ Some z
-
   pub over-white : {s r : List ℕ} (z : State) → Stays z → White s r → read whole z s ≡ read whole z r
   over-white z h no_white = refl
   over-white z h (white {b} {s} i w) = one-byte z z b s (λ at. h b at i) ∙ over-white z h w
-
-  stays-behind_name : (n : Started) (name : List ℕ) → Stays (behind_name n name)
-  unfolding step
-  stays-behind_name n name b at h = rw h
-
-  pub stays-behind_value : (n : Started) (p : Property) → Stays (behind_value n p)
-  unfolding step
-  stays-behind_value n p b at h = rw h
 
   over-units : {v t r : List ℕ} (n : Started) (name : List ℕ) (before : List (List ℕ)) (so_far : List ℕ) → IsValue v t r
       → read whole (in_value n name before so_far) t ≡ read whole (in_value n name before (so_far ++ v)) r

@@ -5,7 +5,8 @@ use Rattle.sgf_tree.specs.Spelling.{is_upper, White, prop_value, IsProperty, pro
 use Rattle.sgf_tree.specs.Machine.{OpenGame, Stack, Started, State, opened, in_node, in_name, behind_value, behind_game, followed_by, property_of, with_property, add_node, begun, ended, whole_game, close, new_node, step}
 use Rattle.sgf_tree.proofs.Classes.{upper-not_white, upper-not_bracket}
 use Rattle.sgf_tree.proofs.Completion.{followed-none, followed_assoc, nodes-none, nodes-more, closed-in, add_games, add_nodes, with_properties}
-use Rattle.sgf_tree.proofs.Reading.{read, one-byte, one-node, Stays, over-white, over-value, over-values, over-letters, to-value}
+use Rattle.sgf_tree.proofs.Skipping.{Stays, stays-opened, stays-behind_game}
+use Rattle.sgf_tree.proofs.Reading.{read, one-byte, one-node, over-white, over-value, over-values, over-letters, to-value}
 
 -- the states in which a node may end
 data AtEnd : Started → State → Type 0 where
@@ -26,7 +27,7 @@ games-more closed [] a b = rw followed_assoc
 games-more closed (g ∷ gs) a b = rw followed_assoc
 
 module _ (whole : ℕ) where
-  stays-end : {n : Started} {z : State} → AtEnd n z → Stays whole z
+  stays-end : {n : Started} {z : State} → AtEnd n z → Stays z
   unfolding step
   stays-end bare_end b at h = rw h
   stays-end value_end b at h = rw h
@@ -70,7 +71,7 @@ module _ (whole : ℕ) where
       (y, rw append_assoc at e, over-property a is ∙ f)
 
   -- a node, from a state that takes its `;`
-  over-node : {m : Node} {s r : List ℕ} (z : State) (k : Stack) (opens : Bool) → Stays whole z
+  over-node : {m : Node} {s r : List ℕ} (z : State) (k : Stack) (opens : Bool) → Stays z
       → ((at : ℕ) → step at z 59 ≡ Some (new_node k opens at)) → IsNode whole m s r
       → (y : State) × EndsAs (ended (record { stack = k; opens = opens; place = m.place; properties = m.properties })) y
       × (read whole z s ≡ read whole y r)
@@ -87,19 +88,10 @@ module _ (whole : ℕ) where
       let (y, h, i) = over-nodes (record { closed = k.closed; unclosed = add_node k.unclosed m }) x f are in
       (y, rw nodes-more at h, g ∙ i)
 
-  -- behind a game
-  pub stays-game : (k : Stack) → Stays whole (behind_game k)
-  unfolding step
-  stays-game k b at h = rw h
-
-  stays-opened : (k : Stack) → Stays whole (opened k)
-  unfolding step
-  stays-opened k b at h = rw h
-
   -- a `(` behind a game
   to-opened : {s t : List ℕ} (k : Stack) → White s (40 ∷ t) → read whole (behind_game k) s ≡ read whole (opened k) t
   unfolding step
-  to-opened {s} {t} k w = over-white whole (behind_game k) (stays-game k) w ∙ one-byte whole (behind_game k) (opened k) 40 t (λ at. refl)
+  to-opened {s} {t} k w = over-white whole (behind_game k) (stays-behind_game k) w ∙ one-byte whole (behind_game k) (opened k) 40 t (λ at. refl)
 
   -- where a `(` follows, the end of a node is like that of a game
   to-game : {s t : List ℕ} (k : Stack) (z : State) → EndsAs k z → White s (40 ∷ t) → read whole z s ≡ read whole (behind_game k) s
@@ -115,7 +107,7 @@ module _ (whole : ℕ) where
   unfolding step
   to-closed {s} {t} closed g gs w =
       let k : Stack = record { closed = closed; unclosed = g ∷ gs } in
-      over-white whole (behind_game k) (stays-game k) w
+      over-white whole (behind_game k) (stays-behind_game k) w
       ∙ one-byte whole (behind_game k) (behind_game (add_games closed gs (whole_game g))) 41 t (λ at. closed-in closed g gs)
 
   end-closed : {s t : List ℕ} (closed : Games) (g : OpenGame) (gs : List OpenGame) (z : State)

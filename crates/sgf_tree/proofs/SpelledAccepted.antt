@@ -7,7 +7,8 @@ use Rattle.sgf_tree.specs.Machine.{start, first_of_mark, second_of_mark, opened,
 use Rattle.sgf_tree.proofs.Classes.{white-not_mark}
 use Rattle.sgf_tree.proofs.Transitions.{no_stack}
 use Rattle.sgf_tree.proofs.Reading.{read, run-whole, one-byte, over-white}
-use Rattle.sgf_tree.proofs.ReadingGames.{stays-game, over-games}
+use Rattle.sgf_tree.proofs.ReadingGames.{over-games}
+use Rattle.sgf_tree.proofs.Skipping.{stays-behind_game}
 
 -- where no byte order mark stands, the start is like the end of a game
 from-start : (whole : ℕ) {s t : List ℕ} → White s (40 ∷ t) → read whole start s ≡ read whole (behind_game no_stack) s
@@ -34,7 +35,7 @@ spelled-read c t (spells {first} {more} {below} {behind} m (games w n ns bs last
     let k = record no_stack { closed = game first more below behind } in
     over-mark (length t) m w
     ∙ over-games (length t) no_games [] (games w n ns bs last hs)
-    ∙ over-white (length t) (behind_game k) (stays-game (length t) k) end
+    ∙ over-white (length t) (behind_game k) (stays-behind_game k) end
 
 pub spelled-accepted : (c : Games) (t : List ℕ) → Spells c t → collection_of t ≡ Some c
 unfolding collection_of accepted
