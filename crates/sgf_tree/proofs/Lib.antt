@@ -8,3 +8,16 @@ pub mod Held
 pub mod HeldProperties
 pub mod DecimalValue
 pub mod Appending
+pub mod Run
+pub mod Transitions
+pub mod Completion
+pub mod Prepending
+pub mod AcceptedSpelled
+pub mod Completable
+pub mod Classes
+pub mod Reading
+pub mod ReadingGames
+pub mod SpelledAccepted
+pub mod Faults
+pub mod Skipping
+pub mod Spans

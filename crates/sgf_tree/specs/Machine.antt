@@ -1,6 +1,6 @@
 -- A machine that reads a text byte by byte and keeps the games so far as trees. It stands between the code and the
 -- grammar: the code follows it, and the laws in proofs/ say that it ends with exactly the collection that the text spells.
-use Rattle.std.specs.Prelude.{◌≡◌, ℕ, ◌+◌, Bool, true, false, if◌then◌else◌, ◌==◌, List, [], ◌∷◌, ◌++◌, Option, Some, None, option_and_then, unwrap_or}
+use Rattle.std.specs.Prelude.{ℕ, ◌+◌, Bool, true, false, if◌then◌else◌, ◌==◌, List, [], ◌∷◌, ◌++◌, Option, Some, None, option_and_then}
 use Rattle.sgf_tree.specs.Tree.{Property, Node, Games, no_games, game, values}
 pub use Rattle.sgf_tree.specs.Tree.{followed_by}
 use Rattle.sgf_tree.specs.Spelling.{is_white, is_upper, is_lower}

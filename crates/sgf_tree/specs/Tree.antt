@@ -1,5 +1,5 @@
 -- What a Smart Game Format text holds: a collection of game trees (SGF FF[4], EBNF).
-use Rattle.std.specs.Prelude.{ℕ, ◌+◌, List, [], ◌∷◌, length}
+use Rattle.std.specs.Prelude.{ℕ, ◌+◌, List, ◌∷◌, length}
 
 -- a property: its name and its raw values, of which there is at least one
 pub record Property : Type 0 where
