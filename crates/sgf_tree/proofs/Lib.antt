@@ -4,6 +4,7 @@ pub mod Ends
 pub mod Flat
 pub mod Rows
 pub mod Names
+pub mod ValueEnds
 pub mod Held
 pub mod HeldProperties
 pub mod DecimalValue
