@@ -114,16 +114,16 @@ rises-games {whole} a b (games {first} {more} {below} {behind} {t = t} {u = u} {
     let el = shrinks-White e in
     let own = rises-node a (whole - length u) n (omega arith) (omega arith) in
     let rest : Rises (whole - length u) (map place_of more) (whole - length v) =
-        rises-nodes (whole - length u) (whole - length v) ns (omega arith) (omega arith)
+    rises-nodes (whole - length u) (whole - length v) ns (omega arith) (omega arith)
     in
     let all : Rises a (map place_of (first ∷ more)) (whole - length v) =
-        (own.0, rises-low (first.place + 1) (whole - length u) _ _ (omega arith) rest)
+    (own.0, rises-low (first.place + 1) (whole - length u) _ _ (omega arith) rest)
     in
     let inner : Rises (whole - length v) (places below) (whole - length x) =
-        rises-games (whole - length v) (whole - length x) g (omega arith) (omega arith)
+    rises-games (whole - length v) (whole - length x) g (omega arith) (omega arith)
     in
     let later : Rises (whole - length x) (places behind) b =
-        rises-games (whole - length x) b f (omega arith) (omega arith)
+    rises-games (whole - length x) b f (omega arith) (omega arith)
     in
     let own_list = map place_of (first ∷ more) in
     rises-append a (whole - length x) b (own_list ++ places below) (places behind) (rises-append a (whole - length v) (whole - length x) own_list (places below) all inner) later

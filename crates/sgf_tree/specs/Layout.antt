@@ -1,6 +1,6 @@
 -- How three flat vectors hold the collection that a text spells.
-use Rattle.std.specs.Prelude.{◌≡◌, ◌≢◌, ℕ, zero, suc, ◌+◌, ◌-◌, ◌<◌, ◌≤◌, Bool, true, false, List, [], ◌∷◌, length, map, filter, All, slice_get, slice_range, Option, Some, None, unwrap_or}
-use Rattle.sgf_tree.specs.Tree.{Property, Node, Games, no_games, game_count}
+use Rattle.std.specs.Prelude.{◌≡◌, ℕ, ◌+◌, ◌-◌, ◌<◌, ◌≤◌, Bool, true, false, List, [], ◌∷◌, length, map, filter, All, slice_get, slice_range, Option, Some, None, unwrap_or}
+use Rattle.sgf_tree.specs.Tree.{Property, Games, no_games, game_count}
 use Rattle.sgf_tree.specs.Spelling.{is_upper}
 use Rattle.sgf_tree.specs.Ends.{EndsRise}
 use Rattle.sgf_tree.specs.FileOrder.{Row, rows_of, game_of, IsLastBelow, PlacesRise}
@@ -44,16 +44,19 @@ opens_by (Root game) = true
 opens_by (Branch parent) = true
 opens_by Next = false
 
--- the rows of entries, of which the first one is node i and its properties begin at the property `from`
-abbrev pub rows_by : List Property → ℕ → ℕ → List NodeEntry → List Row
-rows_by properties i from [] = []
-rows_by properties i from (n ∷ ns) =
+-- the row of entry n, which is node i and whose properties begin at the property `from`
+abbrev pub row_by : List Property → ℕ → ℕ → NodeEntry → Row
+row_by properties i from n =
     record {
       node = record { place = n.place; properties = slice_range properties from n.properties_end };
       parent = parent_by n.link i;
       opens = opens_by n.link;
     }
-    ∷ rows_by properties (i + 1) n.properties_end ns
+
+-- the rows of entries, of which the first one is node i and its properties begin at the property `from`
+abbrev pub rows_by : List Property → ℕ → ℕ → List NodeEntry → List Row
+rows_by properties i from [] = []
+rows_by properties i from (n ∷ ns) = row_by properties i from n ∷ rows_by properties (i + 1) n.properties_end ns
 
 -- a part of a text of n bytes
 pub record IsSpan (n start end : ℕ) : Type 0 where

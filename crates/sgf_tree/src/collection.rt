@@ -6,7 +6,7 @@ ghost use Rattle.sgf_tree.specs.Tree.{game_count, node_count};
 ghost use Rattle.sgf_tree.specs.Ends.{end_before};
 ghost use Rattle.sgf_tree.specs.FileOrder.{node_at, place_at, parent_at, IsLeaf, game_of, IsLastBelow, PlacesRise};
 
-use crate::layout::{Link, NodeEntry, PropertyEntry, ValueEntry};
+use crate::layout::{Link, NodeEntry, PropertyEntry, ValueEntry, part};
 use crate::node::{NodeRef, values_start};
 use std::marker::Model;
 
@@ -61,13 +61,12 @@ impl<'a> Collection<'a> {
         ensures { node_at self.now i ≡ Some result }
     {
         let entry = self.nodes[i];
-        let start = properties_start(&self.nodes, i) as usize;
-        let properties = &self.properties[start..entry.properties_end as usize];
+        let start = properties_start(&self.nodes, i);
         NodeRef {
             text: self.text,
             place: entry.place,
-            values_start: values_start(&self.properties, 0, start),
-            properties,
+            values_start: values_start(&self.properties, 0, start as usize),
+            properties: part(&self.properties, start, entry.properties_end),
             values: &self.values,
         }
     }
@@ -90,7 +89,8 @@ impl<'a> Collection<'a> {
         requires { i < node_count self.now }
         ensures { IsTrue result ↔ IsLeaf self.now i }
     {
-        i + 1 == self.nodes.len() || self.parent(i + 1) != Some(i)
+        let count = self.nodes.len();
+        i + 1 == count || self.parent(i + 1) != Some(i)
     }
 
     /// The place of node `i`: the offset of its `;` in the text.
@@ -107,7 +107,7 @@ impl<'a> Collection<'a> {
         ensures { result ≡ game_of self.now i }
     {
         let mut at = i;
-        loop {
+        'climb: loop {
             match self.nodes[at].link {
                 Link::Root(game) => return game as usize,
                 Link::Branch(parent) => at = parent as usize,
@@ -130,5 +130,9 @@ fn properties_start(nodes: &[NodeEntry], i: usize) -> u32
     requires { i < length nodes.now }
     ensures { result ≡ end_before (λ n. n.properties_end) 0 nodes.now i }
 {
-    if i == 0 { 0 } else { nodes[i - 1].properties_end }
+    if i == 0 {
+        0
+    } else {
+        nodes[i - 1].properties_end
+    }
 }

@@ -1,5 +1,7 @@
 //! The entries of the flat vectors that hold a collection: offsets into the text, and ends in the next vector.
 
+ghost use Rattle.std.specs.Prelude.{◌≡◌, ◌≤◌, length, slice_range};
+
 /// How a node follows the nodes before it.
 #[derive(Clone, Copy)]
 pub(crate) enum Link {
@@ -36,4 +38,13 @@ pub(crate) struct PropertyEntry {
 pub(crate) struct ValueEntry {
     pub start: u32,
     pub end: u32,
+}
+
+/// The items from `start` to `end`.
+pub(crate) fn part<T>(items: &[T], start: u32, end: u32) -> &[T]
+    requires rises { start ≤ end }
+    requires within { end ≤ length items.now }
+    ensures { result.now ≡ slice_range items.now start end }
+{
+    &items[start as usize..end as usize]
 }

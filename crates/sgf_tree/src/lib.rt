@@ -4,6 +4,8 @@
 //! - `layout` has the entries of the flat vectors that hold a collection.
 //! - `collection`, `node` and `property` look into a collection that was read.
 //! - `reader` reads one.
+//! - `text` and `number` decode values.
+//! - `laws` has what holds of all texts.
 #![tactic(auto)]
 
 mod collection;
@@ -12,6 +14,10 @@ mod layout;
 mod node;
 mod property;
 mod reader;
+
+pub mod laws;
+pub mod number;
+pub mod text;
 
 pub use collection::Collection;
 pub use fault::{MAX_LENGTH, MemoryFault, ReadFault};

@@ -4,7 +4,7 @@ ghost use Rattle.std.specs.Prelude.{◌≡◌, ◌<◌, ◌≤◌, ◌+◌, leng
 ghost use Rattle.std.specs.Str.{bytes_eq};
 ghost use Rattle.sgf_tree.specs.Ends.{end_before};
 
-use crate::layout::{PropertyEntry, ValueEntry};
+use crate::layout::{PropertyEntry, ValueEntry, part};
 use crate::property::PropRef;
 use std::marker::Model;
 
@@ -47,12 +47,13 @@ impl<'c, 'a> NodeRef<'c, 'a> {
         requires { i < length self.now.properties }
         ensures { slice_get self.now.properties i ≡ Some result }
     {
-        let entry = self.properties[i];
-        let start = values_start(self.properties, self.values_start, i) as usize;
+        let properties = self.properties;
+        let entry = properties[i];
+        let start = values_start(properties, self.values_start, i);
         PropRef {
             text: self.text,
-            identifier: &self.text[entry.name_start as usize..entry.name_end as usize],
-            values: &self.values[start..entry.values_end as usize],
+            identifier: part(self.text, entry.name_start, entry.name_end),
+            values: part(self.values, start, entry.values_end),
         }
     }
 
@@ -61,7 +62,7 @@ impl<'c, 'a> NodeRef<'c, 'a> {
     pub fn first(&self, name: &[u8]) -> Option<PropRef<'c, 'a>>
         ensures { result ≡ find (λ p. bytes_eq p.name name.now) self.now.properties }
     {
-        for i in 0..self.properties.len() {
+        for i in 0..self.props() {
             let property = self.prop(i);
             if property.is(name) {
                 return Some(property);

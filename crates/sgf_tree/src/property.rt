@@ -4,7 +4,7 @@ ghost use Rattle.std.specs.Prelude.{◌≡◌, ◌<◌, ◌≤◌, ◌↔◌, �
 ghost use Rattle.sgf_tree.specs.Tree.{values};
 
 use crate::fault::MemoryFault;
-use crate::layout::ValueEntry;
+use crate::layout::{ValueEntry, part};
 use std::marker::Model;
 
 /// A property, seen as its name and its raw values.
@@ -37,8 +37,9 @@ impl<'c, 'a> PropRef<'c, 'a> {
     pub fn is(&self, name: &[u8]) -> bool
         ensures { IsTrue result ↔ (self.now.name ≡ name.now) }
     {
+        let identifier = self.identifier;
         let mut matched = 0;
-        for letter in self.identifier {
+        for letter in identifier {
             if letter.is_ascii_uppercase() {
                 if matched == name.len() || name[matched] != *letter {
                     return false;
@@ -55,10 +56,11 @@ impl<'c, 'a> PropRef<'c, 'a> {
         ensures appended { OnOk result (out.new.items ≡ out.old.items ++ self.now.name) }
         ensures unchanged { OnErr result (out.new.items ≡ out.old.items) }
     {
-        if out.reserve(self.identifier.len()).is_err() {
+        let identifier = self.identifier;
+        if out.reserve(identifier.len()).is_err() {
             return Err(MemoryFault);
         }
-        for letter in self.identifier {
+        for letter in identifier {
             if letter.is_ascii_uppercase() {
                 out.push(*letter).unwrap();
             }
@@ -79,7 +81,8 @@ impl<'c, 'a> PropRef<'c, 'a> {
         requires { i < length (values self.now) }
         ensures { slice_get (values self.now) i ≡ Some result.now }
     {
-        let entry = self.values[i];
-        &self.text[entry.start as usize..entry.end as usize]
+        let values = self.values;
+        let entry = values[i];
+        part(self.text, entry.start, entry.end)
     }
 }

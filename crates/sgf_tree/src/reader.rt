@@ -4,6 +4,9 @@ ghost use Rattle.std.specs.Prelude.{◌≡◌, ◌<◌, ◌↔◌, length, Err, 
 ghost use Rattle.sgf_tree.specs.Spelling.{Spells};
 ghost use Rattle.sgf_tree.specs.Refusal.{IsFaultyWhereNotSgf};
 
+mod fault;
+mod scan;
+
 use crate::collection::Collection;
 use crate::fault::{MAX_LENGTH, ReadFault};
 use std::alloc::Global;
