@@ -4,14 +4,18 @@
 //! - `line` has what is shown of a line.
 //! - `cursor` goes over the lines of a collection.
 //! - `record` writes the text of a line.
+//! - `laws` has a law of the definitions.
 //! - `split` turns a text into the records of its lines, and `fault` has the ways in which it may fail.
 #![tactic(auto)]
 
 mod cursor;
 mod fault;
+pub mod laws;
 mod line;
 mod record;
 mod split;
+#[cfg(test)]
+mod tests;
 
 pub use cursor::Cursor;
 pub use fault::FirstFault;
