@@ -1,5 +1,7 @@
 -- The status and the line on standard error of a run that does not write the whole answer.
-use Rattle.std.specs.Prelude.{ℕ, ◌++◌, List, codes, decimal, if◌then◌else◌, ◌==◌}
+use Rattle.std.specs.Prelude.{◌≡◌, ℕ, length, Option, ◌++◌, List, codes, decimal, if◌then◌else◌, ◌==◌}
+use Rattle.sgf_lines.specs.Faults.{IsFaultyAt}
+use Rattle.sgfsplit.specs.Input.{IsWhole, HasMore}
 use Rattle.sgfsplit.specs.declared.fault.RunFault.{RunFault}
 use Rattle.sgfsplit.specs.declared.fault.RunFault.TheVariants.{Read, TooLong, NotSgf, Write, Memory}
 
@@ -19,3 +21,13 @@ line_of (NotSgf at len) =
     codes "byte " ++ decimal at ++ (if at == len then codes ": input ends too early" else codes ": not SGF")
 line_of Write = codes "write failed"
 line_of Memory = codes "out of memory"
+
+-- What a fault says of the bytes that the reader had, where it tells these: that there were more than the limit, or
+-- that they are no SGF from their first fault on.
+abbrev pub IsInputFault : Option (List ℕ) → RunFault → Type 0
+IsInputFault left Read = Unit {0}
+IsInputFault left TooLong = HasMore left 67108864
+IsInputFault left (NotSgf at len) =
+    (text : List ℕ) × IsWhole left text × IsFaultyAt text at × (len ≡ length text)
+IsInputFault left Write = Unit {0}
+IsInputFault left Memory = Unit {0}

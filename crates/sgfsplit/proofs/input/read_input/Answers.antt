@@ -9,8 +9,8 @@ returns-then-count-eq0-clause-whole g c =
     let read = c.in-Ok.ensures in
     whole_at_end _ _ _ _ _ c.loop.invariant.read read.bytes.0 (ap (λ n. take n c.read.new.buf) c.if-count-eq0.true) (read.bytes.1 c.if-count-eq0.true (omega (arith, c.loop.invariant.room, c.read.auto.buf)))
 
-pub returns-then-len-count-clause-too_long : goal.returns-then-len-count-clause-too_long
-returns-then-len-count-clause-too_long g c = λ _.
+pub returns-then-len-count-clause-fault : goal.returns-then-len-count-clause-fault
+returns-then-len-count-clause-fault g c =
     let read = c.in-Ok.ensures in
     longer_than_read _ _ _ _ _ _ c.loop.invariant.read read.bytes.0 (omega (arith, length-take-le c.in-Ok.count c.read.new.buf (omega (arith, read.bound.0)), c.len.ensures, c.if-len-count.true))
 
