@@ -1,5 +1,5 @@
 -- The loops that climb from a leaf to the root of its game.
-use Rattle.std.proofs.Common.{◌≡◌, ℕ, zero, suc, ◌+◌, ◌-◌, ◌<◌, ◌≤◌, List, [], ◌∷◌, ◌++◌, length, set, drop, Option, Some, None, refl, sym, ap, ◌∙◌, arith, append_assoc, length-append, length-set, append-nil}
+use Rattle.std.proofs.Common.{◌≡◌, ℕ, ◌+◌, ◌-◌, ◌<◌, ◌≤◌, List, [], ◌∷◌, ◌++◌, length, set, drop, Option, Some, None, refl, sym, ap, ◌∙◌, arith, append_assoc, length-append, length-set, append-nil}
 use Rattle.std.proofs.lemmas.List.{drop_all}
 use Rattle.std.proofs.lemmas.Grind.{drop-set_at}
 use Rattle.sgf_tree.specs.Tree.{Games, node_count}
@@ -115,7 +115,7 @@ fills_one c leaf n room path parent h e =
     let shorter = ap length split ∙ length-append further.above (n ∷ []) in
     let back : room - 1 + 1 ≡ room = omega (arith, fits.0) in
     let tail : drop (room - 1) (set path (room - 1) n) ≡ n ∷ drop room path =
-        drop-set_at path (room - 1) (room - 1) n refl (omega (arith, fits.0, fits.1)) ∙ ap (λ k. n ∷ drop k path) back in
+    drop-set_at path (room - 1) (room - 1) n refl (omega (arith, fits.0, fits.1)) ∙ ap (λ k. n ∷ drop k path) back in
     record {
       climb = further;
       room_is = omega (arith, h.room_is, shorter);

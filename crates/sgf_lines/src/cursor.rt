@@ -106,7 +106,11 @@ fn next_leaf(collection: &Collection<'_>, from: usize) -> Option<usize>
 
 /// Replaces the numbers in `path` by those of the nodes from the root to a leaf.
 /// After a refusal of memory `path` is unchanged.
-fn write_way(collection: &Collection<'_>, leaf: usize, path: &mut Vec<usize>) -> Result<(), MemoryFault>
+fn write_way(
+    collection: &Collection<'_>,
+    leaf: usize,
+    path: &mut Vec<usize>,
+) -> Result<(), MemoryFault>
     requires within { leaf < node_count collection.now }
     requires small { leaf < usize.MAX }
     requires is_leaf { IsLeaf collection.now leaf }
