@@ -1,12 +1,12 @@
 -- The paths name the nodes of the lines: a line and the path at its position have one game, and the path's numbers are those of the line's nodes.
 use Rattle.std.proofs.Common.{◌≡◌, ◌≢◌, ℕ, ◌+◌, List, [], ◌∷◌, ◌++◌, length, map, slice_get, Option, Some, None, option_map, false, refl, sym, ap, ◌∙◌, arith}
-use Rattle.std.specs.List.{range_with_len}
+use Rattle.std.specs.List.{range_with_len, AllZip}
 use Rattle.std.proofs.lemmas.List.{map-append, length-map}
 use Rattle.std.proofs.lemmas.Option.{slice_get-map}
 use Rattle.sgf_tree.specs.Tree.{Node, Games, no_games, game, node_count}
 use Rattle.sgf_tree.specs.FileOrder.{Row, further_rows, rows_of, node_at, place_at}
 use Rattle.sgf_lines.specs.Lines.{Line, through, node_lines, lines_of_game, lines_from, lines, last_number, place_of}
-use Rattle.sgf_lines.specs.Paths.{Path, number_lines, paths_of_game, paths_from, paths, leaf_of}
+use Rattle.sgf_lines.specs.Paths.{Path, number_lines, paths_of_game, paths_from, paths, leaf_of, IsPathOf}
 use Rattle.sgf_lines.proofs.Standing.{StandsAt, Stands, stands_whole, stands_get, stands_right, stands_own, stands_below, stands_behind, first_row}
 
 -- what goes through images of the nodes is the image of what goes through them
@@ -97,6 +97,19 @@ named_from c number (game first more below behind) at h =
 
 named_all : (c : Games) → map (shown_path c) (paths c) ≡ map shown_line (lines c)
 named_all c = named_from c 1 c 0 (stands_whole c)
+
+zipped : (c : Games) (ls : List Line) (ps : List Path) → map (shown_path c) ps ≡ map shown_line ls → AllZip (IsPathOf c) ls ps
+zipped c [] [] e = tt
+zipped c [] (p ∷ ps) e = absurd cc
+zipped c (l ∷ ls) [] e = absurd cc
+zipped c (l ∷ ls) (p ∷ ps) e =
+    let first : shown_path c p ≡ shown_line l = cc in
+    let rest : map (shown_path c) ps ≡ map shown_line ls = cc in
+    (record { game_number = ap (λ s. s.0) first; nodes = ap (λ s. s.1) first }, zipped c ls ps rest)
+
+-- each line has its path
+pub each_named : (c : Games) → AllZip (IsPathOf c) (lines c) (paths c)
+each_named c = zipped c (lines c) (paths c) (named_all c)
 
 -- the line at the position of a path
 pub record IsNamed (c : Games) (k : ℕ) (path : Path) (line : Line) : Type 0 where
