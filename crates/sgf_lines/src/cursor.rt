@@ -1,11 +1,11 @@
 //! Goes over the lines of play of a collection.
 
-ghost use Rattle.std.specs.Prelude.{◌≡◌, ◌<◌, ◌≤◌, ◌-◌, ◌+◌, Some, None, List, ℕ, length, slice_get, OnOk, OnErr, IfOk, IfSome, MatchResult, MatchBool};
+ghost use Rattle.std.specs.Prelude.{◌≡◌, ◌<◌, ◌-◌, Some, None, List, length, slice_get, OnOk, OnErr, IfOk, IfSome, MatchBool, ℕ};
 ghost use Rattle.sgf_tree.specs.Tree.{node_count};
 ghost use Rattle.sgf_tree.specs.FileOrder.{IsLeaf};
 ghost use Rattle.sgf_lines.specs.Lines.{lines};
 ghost use Rattle.sgf_lines.specs.Way.{IsWayTo, IsLeafSearch};
-ghost use Rattle.sgf_lines.specs.Position.{Position, advanced};
+ghost use Rattle.sgf_lines.specs.Position.{advanced};
 ghost use Rattle.sgf_lines.specs.Shown.{IsLine};
 
 use crate::line::LineRef;
@@ -18,7 +18,11 @@ use std::marker::Model;
 #[derive(Drop)]
 pub struct Cursor<'c, 'a> {
     collection: &'c Collection<'a>,
+
+    // the node from which on it looks for the next leaf
     next: usize,
+
+    // the nodes from the root to the leaf before that one
     path: Vec<usize>,
 }
 
