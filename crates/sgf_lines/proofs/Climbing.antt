@@ -1,8 +1,8 @@
 -- The way from the root of a game down to a node, found by parents.
-use Rattle.std.proofs.Common.{◌≡◌, ℕ, zero, suc, ◌+◌, ◌<◌, ◌≤◌, List, [], ◌∷◌, ◌++◌, length, slice_get, Option, Some, None, option_map, false, refl, sym, ap, ◌∙◌, arith, add-zero, append-nil, append_assoc, length-append}
+use Rattle.std.proofs.Common.{◌≡◌, ℕ, suc, ◌+◌, List, [], ◌∷◌, ◌++◌, length, slice_get, Option, Some, option_map, false, refl, sym, ap, ◌∙◌, arith, add-zero, append-nil, append_assoc}
 use Rattle.std.specs.List.{range_with_len}
-use Rattle.sgf_tree.specs.Tree.{Node, Games, no_games, game, node_count}
-use Rattle.sgf_tree.specs.FileOrder.{Row, further_rows, rows, rows_of, parent_at}
+use Rattle.sgf_tree.specs.Tree.{Node, Games, game}
+use Rattle.sgf_tree.specs.FileOrder.{Row, further_rows, rows_of}
 use Rattle.sgf_lines.specs.Lines.{last_number}
 use Rattle.sgf_lines.specs.Way.{IsWayTo, top, step}
 use Rattle.sgf_lines.proofs.Standing.{StandsAt, Stands, stands_get, stands_right, stands_own, first_row}
@@ -46,7 +46,7 @@ pub up_own : (c : Games) (at : ℕ) (parent : Option ℕ) (first : Node) (more :
 up_own c at parent first more below behind h above u =
     let own = stands_own c at parent first more below behind h in
     let here : slice_get (rows_of c) at ≡ Some (first_row parent first) =
-        stands_get (first_row parent first ∷ further_rows at more) 0 at (first_row parent first) own (omega arith) refl in
+    stands_get (first_row parent first ∷ further_rows at more) 0 at (first_row parent first) own (omega arith) refl in
     let root : IsWayTo c (Some at) (above ++ at ∷ []) = step (ap (λ o. option_map (λ r. r.parent) o) here) u refl in
     let rest : StandsAt (rows_of c) (at + 1) (further_rows at more) = stands_right (at + 1) (first_row parent first ∷ []) (further_rows at more) own refl in
     rw (append_assoc above (at ∷ []) (range_with_len (at + 1) (length more))) at (up_further c at more (above ++ at ∷ []) rest root)

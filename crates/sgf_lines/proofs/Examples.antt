@@ -2,8 +2,8 @@
 use Rattle.std.proofs.Common.{◌≡◌, ℕ, List, [], ◌∷◌, map, refl}
 use Rattle.std.specs.Prelude.{codes}
 use Rattle.sgf_tree.specs.Tree.{Property, Node, Games, no_games, game}
-use Rattle.sgf_lines.specs.Lines.{Line, lines, place_of}
-use Rattle.sgf_lines.specs.Paths.{Path, paths}
+use Rattle.sgf_lines.specs.Lines.{lines, place_of}
+use Rattle.sgf_lines.specs.Paths.{paths}
 use Rattle.sgf_lines.specs.Output.{sgf_output}
 
 abbrev one : List ℕ → List ℕ → Property
@@ -16,9 +16,9 @@ node_with place ps = record { place = place; properties = ps }
 abbrev variations : Games
 variations =
     game (node_with 1 (one (codes "SZ") (codes "3") ∷ [])) []
-      (game (node_with 8 (one (codes "B") (codes "aa") ∷ [])) [] no_games
-      (game (node_with 16 (one (codes "B") (codes "bb") ∷ [])) (node_with 22 (one (codes "W") (codes "aa") ∷ []) ∷ []) no_games
-      no_games))
+    (game (node_with 8 (one (codes "B") (codes "aa") ∷ [])) [] no_games
+    (game (node_with 16 (one (codes "B") (codes "bb") ∷ [])) (node_with 22 (one (codes "W") (codes "aa") ∷ []) ∷ []) no_games
+    no_games))
     no_games
 
 variations-paths : map (λ p. p.numbers) (paths variations) ≡ (0 ∷ 1 ∷ []) ∷ (0 ∷ 2 ∷ 3 ∷ []) ∷ []

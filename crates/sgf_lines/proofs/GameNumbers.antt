@@ -1,5 +1,5 @@
 -- The game of each node on a path is the path's.
-use Rattle.std.proofs.Common.{◌≡◌, ℕ, zero, suc, ◌+◌, ◌-◌, ◌<◌, ◌≤◌, List, [], ◌∷◌, ◌++◌, length, map, Option, Some, None, refl, sym, ap, ◌∙◌, arith}
+use Rattle.std.proofs.Common.{◌≡◌, ℕ, zero, suc, ◌+◌, ◌-◌, ◌<◌, ◌≤◌, List, ◌∷◌, length, refl, arith}
 use Rattle.std.specs.List.{range_with_len}
 use Rattle.std.proofs.lemmas.Bool.{lt-ltb, le-ltb}
 use Rattle.sgf_tree.specs.Tree.{Node, Games, no_games, game, node_count}
@@ -41,7 +41,7 @@ within_games at (game first more below behind) =
     each_append (Within at to) here (number_lines next behind)
     (each_weaker (Within at next) (Within at to) (λ l w. within_wider at next at to l (omega arith) (omega arith) w) here (within_game at more below (within_games (last + 1) below)))
     (each_weaker (Within next (next + node_count behind)) (Within at to) (λ l w. within_wider next (next + node_count behind) at to l (omega arith) (omega arith) w)
-        (number_lines next behind) (within_games next behind))
+    (number_lines next behind) (within_games next behind))
 
 -- the game of node n is that of this number, if games from node `at` on begin with the game of the number `from`
 abbrev IsOfGame : ℕ → ℕ → Games → ℕ → ℕ → Type 0
@@ -72,13 +72,13 @@ games_of_paths from at (game first more below behind) =
     let P : Path → Type 0 = λ path. Each (IsOfGame from at g path.game_number) path.numbers in
     each_append P (paths_of_game from here) (paths_from (from + 1) next behind)
     (each_map P (λ numbers. record { game_number = from; numbers = numbers }) here
-        (each_weaker (Within at next) (λ l. Each (IsOfGame from at g from) l)
-            (λ l w. each_weaker (λ n. (at ≤ n) × (n < next)) (IsOfGame from at g from) (in_first from at first more below behind) l w) here
-            (within_game at more below (within_games (last + 1) below))))
+    (each_weaker (Within at next) (λ l. Each (IsOfGame from at g from) l)
+    (λ l w. each_weaker (λ n. (at ≤ n) × (n < next)) (IsOfGame from at g from) (in_first from at first more below behind) l w) here
+    (within_game at more below (within_games (last + 1) below))))
     (each_weaker (λ (path : Path). Each (IsOfGame (from + 1) next behind path.game_number) path.numbers) P
-        (λ path w. each_weaker (IsOfGame (from + 1) next behind path.game_number) (IsOfGame from at g path.game_number) (in_later from at first more below behind path.game_number)
-            path.numbers w)
-        (paths_from (from + 1) next behind) (games_of_paths (from + 1) next behind))
+    (λ path w. each_weaker (IsOfGame (from + 1) next behind path.game_number) (IsOfGame from at g path.game_number) (in_later from at first more below behind path.game_number)
+    path.numbers w)
+    (paths_from (from + 1) next behind) (games_of_paths (from + 1) next behind))
 
 -- each node on a path is of the path's game
 pub game_of_path : (c : Games) → Each (λ path. Each (λ n. game_of c n ≡ path.game_number) path.numbers) (paths c)

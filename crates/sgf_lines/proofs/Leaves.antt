@@ -1,16 +1,16 @@
 -- The lines end at the leaves in file order: at each of them, and at ever greater numbers.
-use Rattle.std.proofs.Common.{◌≡◌, ◌≢◌, ℕ, zero, suc, ◌+◌, ◌<◌, ◌≤◌, List, [], ◌∷◌, ◌++◌, length, map, slice_get, Option, Some, None, option_map, ◌⊎◌, inl, inr, false, ◌-◌, refl, sym, ap, ◌∙◌, arith, add-zero, append_assoc, append-nil}
+use Rattle.std.proofs.Common.{◌≡◌, ◌≢◌, ℕ, zero, suc, ◌+◌, ◌<◌, ◌≤◌, List, [], ◌∷◌, ◌++◌, length, map, slice_get, Option, Some, option_map, inl, inr, false, ◌-◌, refl, sym, ap, ◌∙◌, arith, add-zero}
 use Rattle.std.specs.List.{range_with_len}
 use Rattle.std.proofs.lemmas.Bool.{cases_lt, cases_eq}
 use Rattle.std.proofs.lemmas.List.{map-append}
 use Rattle.sgf_tree.specs.Tree.{Node, Games, no_games, game, node_count}
-use Rattle.sgf_tree.specs.FileOrder.{Row, further_rows, rows, rows_of, parent_at, IsLeaf}
+use Rattle.sgf_tree.specs.FileOrder.{Row, further_rows, IsLeaf}
 use Rattle.sgf_lines.specs.Lines.{through, last_number}
-use Rattle.sgf_lines.specs.Paths.{Path, number_lines, paths_of_game, paths_from, paths, leaf_of}
+use Rattle.sgf_lines.specs.Paths.{number_lines, paths_of_game, paths_from, leaf_of}
 use Rattle.sgf_lines.proofs.Lists.{Each, each_append, each_through, get_left, get_right}
-use Rattle.sgf_lines.proofs.Standing.{StandsAt, Stands, stands_get, stands_right, stands_own, stands_below, stands_behind, first_row}
+use Rattle.sgf_lines.proofs.Standing.{StandsAt, Stands, stands_get, stands_own, stands_below, stands_behind, first_row}
 use Rattle.sgf_lines.proofs.Climbing.{last_number-append}
-use Rattle.sgf_lines.proofs.Ways.{IsDescent, last_number-range}
+use Rattle.sgf_lines.proofs.Ways.{last_number-range}
 
 -- the leaves below a game's last node, or that node where there are none
 abbrev pub leaves_or : ℕ → List ℕ → List ℕ
@@ -48,8 +48,8 @@ leaves_rise at (game first more below behind) =
     let next = last + 1 + node_count below in
     let sums : next + node_count behind ≡ at + node_count (game first more below behind) = omega arith in
     let all : Rises at (leaves_or last (leaves (last + 1) below) ++ leaves next behind) (next + node_count behind) =
-        rises_append at next (next + node_count behind) (leaves_or last (leaves (last + 1) below)) (leaves next behind)
-        (rises_or at last next (leaves (last + 1) below) (omega arith) (leaves_rise (last + 1) below)) (leaves_rise next behind) in
+    rises_append at next (next + node_count behind) (leaves_or last (leaves (last + 1) below)) (leaves next behind)
+    (rises_or at last next (leaves (last + 1) below) (omega arith) (leaves_rise (last + 1) below)) (leaves_rise next behind) in
     rw sums at all
 
 ways_filled : (at : ℕ) (g : Games) → Each (λ l. l ≢ []) (number_lines at g)
@@ -145,19 +145,19 @@ covered c (game first more below behind) at parent h i le lt leaf =
     let in_front : (k : ℕ) × (slice_get front k ≡ Some i) → (k : ℕ) × (slice_get (front ++ back) k ≡ Some i) = λ f. (f.0, get_left front back f.0 i f.1) in
     elim (cases_lt i last) [
       | inl before ↦
-        let row = further_follows at more (i - at) (omega arith) in
-        let here = follows_in (first_row parent first) (further_rows at more) (i - at) (i + 1) row.0 own (omega arith) row.1 in
-        let same : at + (i - at) ≡ i = omega arith in
-        absurd (leaf (i + 1) (ap (λ o. option_map (λ r. r.parent) o) here ∙ ap Some (row.2 ∙ ap Some same)))
+          let row = further_follows at more (i - at) (omega arith) in
+          let here = follows_in (first_row parent first) (further_rows at more) (i - at) (i + 1) row.0 own (omega arith) row.1 in
+          let same : at + (i - at) ≡ i = omega arith in
+          absurd (leaf (i + 1) (ap (λ o. option_map (λ r. r.parent) o) here ∙ ap Some (row.2 ∙ ap Some same)))
       | inr after ↦ elim (cases_eq i last) [
         | inl same ↦ in_front (rw same (last_covered c last below under (rw same at leaf)))
         | inr beyond ↦ elim (cases_lt i next) [
           | inl inside ↦
-            let f = covered c below (last + 1) (Some last) under i (omega arith) inside leaf in
-            in_front (f.0, get_or_leaves last (leaves (last + 1) below) f.0 i f.1)
+              let f = covered c below (last + 1) (Some last) under i (omega arith) inside leaf in
+              in_front (f.0, get_or_leaves last (leaves (last + 1) below) f.0 i f.1)
           | inr past ↦
-            let f = covered c behind next parent (stands_behind c at parent first more below behind h) i past (omega arith) leaf in
-            (length front + f.0, get_right front back (length front + f.0) f.0 refl ∙ f.1)
+              let f = covered c behind next parent (stands_behind c at parent first more below behind h) i past (omega arith) leaf in
+              (length front + f.0, get_right front back (length front + f.0) f.0 refl ∙ f.1)
         ]
       ]
     ]

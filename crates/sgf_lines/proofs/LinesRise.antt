@@ -1,5 +1,5 @@
 -- The places of lines rise where those of the nodes do.
-use Rattle.std.proofs.Common.{◌≡◌, ◌≢◌, ℕ, zero, suc, ◌+◌, ◌<◌, ◌≤◌, List, [], ◌∷◌, length, map, slice_get, Option, Some, None, option_map, refl, sym, ap, subst, ◌∙◌, slice_index, add-one, arith}
+use Rattle.std.proofs.Common.{◌≡◌, ◌≢◌, ℕ, suc, [], length, map, slice_get, Some, None, option_map, sym, ap, ◌∙◌, slice_index, add-one, arith}
 use Rattle.std.specs.List.Sorted.{IsStrictlyIncreasing}
 use Rattle.std.proofs.lemmas.List.{length-map}
 use Rattle.std.proofs.lemmas.Option.{slice_get-map, get_or_from_slice_get}
@@ -28,5 +28,5 @@ module _ (c : Games) where
       let l = line_at c k p.0 p.1 in
       let m = line_at c (suc k) q.0 q.1 in
       let below = rise (leaf_of p.0) (leaf_of q.0) (place_of l.0) (place_of m.0) (leaf_rises c k p.0 q.0 p.1 q.1)
-          (place-line c k p.0 l.0 l.1 (filled k p.0 p.1)) (place-line c (suc k) q.0 m.0 m.1 (filled (suc k) q.0 q.1)) in
+      (place-line c k p.0 l.0 l.1 (filled k p.0 p.1)) (place-line c (suc k) q.0 m.0 m.1 (filled (suc k) q.0 q.1)) in
       rw (add-one, place_at_line k l.0 l.1.found, place_at_line (suc k) m.0 m.1.found) below

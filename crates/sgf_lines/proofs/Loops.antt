@@ -1,5 +1,5 @@
 -- The loops that climb from a leaf to the root of its game.
-use Rattle.std.proofs.Common.{◌≡◌, ℕ, zero, suc, ◌+◌, ◌-◌, ◌<◌, ◌≤◌, List, [], ◌∷◌, ◌++◌, length, set, drop, Option, Some, None, refl, sym, ap, ◌∙◌, arith, append_assoc, length-append, length-set, append-nil}
+use Rattle.std.proofs.Common.{◌≡◌, ℕ, ◌+◌, ◌-◌, ◌<◌, ◌≤◌, List, [], ◌∷◌, ◌++◌, length, set, drop, Option, Some, None, refl, sym, ap, ◌∙◌, arith, append_assoc, length-append, length-set, append-nil}
 use Rattle.std.proofs.lemmas.List.{drop_all}
 use Rattle.std.proofs.lemmas.Grind.{drop-set_at}
 use Rattle.sgf_tree.specs.Tree.{Games, node_count}
@@ -15,12 +15,12 @@ height None = 0
 height (Some n) = n + 1
 
 -- the way to a leaf, and the part of it that leads to the node that the loop is at
-pub record IsClimb (c : Games) (leaf : ℕ) (node : Option ℕ) : Type 0 where
+pub record IsClimb (c : Games) (leaf : ℕ) (current : Option ℕ) : Type 0 where
   pub numbers : List ℕ
   pub above : List ℕ
   pub whole : IsWayTo c (Some leaf) numbers
-  pub way : IsWayTo c node above
-  pub within : height node ≤ node_count c
+  pub way : IsWayTo c current above
+  pub within : height current ≤ node_count c
 
 abbrev pub begins : (c : Games) (leaf : ℕ) → leaf < node_count c → IsLeaf c leaf → IsClimb c leaf (Some leaf)
 begins c leaf lt is_leaf =
@@ -49,10 +49,10 @@ module _ (c : Games) (leaf n : ℕ) (parent : Option ℕ) (h : IsClimb c leaf (S
   shortens = (above_of h.way e).2
 
 -- the nodes of the way that the loop has left are counted
-pub record IsCounted (c : Games) (leaf : ℕ) (node : Option ℕ) (depth : ℕ) : Type 0 where
-  pub climb : IsClimb c leaf node
+pub record IsCounted (c : Games) (leaf : ℕ) (current : Option ℕ) (depth : ℕ) : Type 0 where
+  pub climb : IsClimb c leaf current
   pub counted : length climb.numbers ≡ length climb.above + depth
-  pub small : height node + depth ≤ leaf + 1
+  pub small : height current + depth ≤ leaf + 1
 
 pub count_begins : (c : Games) (leaf : ℕ) → leaf < node_count c → IsLeaf c leaf → IsCounted c leaf (Some leaf) 0
 count_begins c leaf lt is_leaf = record { climb = begins c leaf lt is_leaf; counted = omega arith; small = omega arith }
@@ -66,28 +66,28 @@ counts_one c leaf n depth parent h e =
       small = omega (arith, h.small, height_falls c leaf n parent h.climb e);
     }
 
-pub counts : (c : Games) (leaf n depth : ℕ) (node parent : Option ℕ) → IsCounted c leaf node depth → node ≡ Some n → parent_at c n ≡ Some parent
+pub counts : (c : Games) (leaf n depth : ℕ) (current parent : Option ℕ) → IsCounted c leaf current depth → current ≡ Some n → parent_at c n ≡ Some parent
     → IsCounted c leaf parent (depth + 1)
-counts c leaf n depth node parent h is e = counts_one c leaf n depth parent (rw is at h) e
+counts c leaf n depth current parent h is e = counts_one c leaf n depth parent (rw is at h) e
 
-pub count_fits : (c : Games) (leaf n depth : ℕ) (node : Option ℕ) → IsCounted c leaf node depth → node ≡ Some n → depth ≤ leaf
-count_fits c leaf n depth node h is = omega (arith, h.small, ap height is)
+pub count_fits : (c : Games) (leaf n depth : ℕ) (current : Option ℕ) → IsCounted c leaf current depth → current ≡ Some n → depth ≤ leaf
+count_fits c leaf n depth current h is = omega (arith, h.small, ap height is)
 
 -- the loop's measure
-pub height_goes_down : (c : Games) (n : ℕ) (node parent : Option ℕ) → node ≡ Some n → parent_at c n ≡ Some parent → height parent < height node
-height_goes_down c n node parent is e = rw is (lower c n parent e)
+pub height_goes_down : (c : Games) (n : ℕ) (current parent : Option ℕ) → current ≡ Some n → parent_at c n ≡ Some parent → height parent < height current
+height_goes_down c n current parent is e = rw is (lower c n parent e)
 
 -- above the root no node of the way is left
 none_above : {c : Games} {way : List ℕ} → IsWayTo c None way → way ≡ []
 none_above top = refl
 
-pub counted_all : (c : Games) (leaf depth : ℕ) (node : Option ℕ) → IsCounted c leaf node depth → node ≡ None → (numbers : List ℕ) → IsWayTo c (Some leaf) numbers → depth ≡ length numbers
-counted_all c leaf depth node h is numbers way =
+pub counted_all : (c : Games) (leaf depth : ℕ) (current : Option ℕ) → IsCounted c leaf current depth → current ≡ None → (numbers : List ℕ) → IsWayTo c (Some leaf) numbers → depth ≡ length numbers
+counted_all c leaf depth current h is numbers way =
     omega (arith, h.counted, ap length (none_above (rw is at h.climb.way)), ap length (one_way h.climb.whole way))
 
 -- the nodes of the way that the loop has left are written
-pub record IsFilled (c : Games) (leaf : ℕ) (node : Option ℕ) (room : ℕ) (path : List ℕ) : Type 0 where
-  pub climb : IsClimb c leaf node
+pub record IsFilled (c : Games) (leaf : ℕ) (current : Option ℕ) (room : ℕ) (path : List ℕ) : Type 0 where
+  pub climb : IsClimb c leaf current
   pub room_is : room ≡ length climb.above
   pub long : length path ≡ length climb.numbers
   pub filled : climb.numbers ≡ climb.above ++ drop room path
@@ -115,7 +115,7 @@ fills_one c leaf n room path parent h e =
     let shorter = ap length split ∙ length-append further.above (n ∷ []) in
     let back : room - 1 + 1 ≡ room = omega (arith, fits.0) in
     let tail : drop (room - 1) (set path (room - 1) n) ≡ n ∷ drop room path =
-        drop-set_at path (room - 1) (room - 1) n refl (omega (arith, fits.0, fits.1)) ∙ ap (λ k. n ∷ drop k path) back in
+    drop-set_at path (room - 1) (room - 1) n refl (omega (arith, fits.0, fits.1)) ∙ ap (λ k. n ∷ drop k path) back in
     record {
       climb = further;
       room_is = omega (arith, h.room_is, shorter);
@@ -123,13 +123,13 @@ fills_one c leaf n room path parent h e =
       filled = h.filled ∙ ap (λ ns. ns ++ drop room path) split ∙ append_assoc further.above (n ∷ []) (drop room path) ∙ ap (λ ns. further.above ++ ns) (sym tail);
     }
 
-pub fills : (c : Games) (leaf n room : ℕ) (path : List ℕ) (node parent : Option ℕ) → IsFilled c leaf node room path → node ≡ Some n → parent_at c n ≡ Some parent
+pub fills : (c : Games) (leaf n room : ℕ) (path : List ℕ) (current parent : Option ℕ) → IsFilled c leaf current room path → current ≡ Some n → parent_at c n ≡ Some parent
     → IsFilled c leaf parent (room - 1) (set path (room - 1) n)
-fills c leaf n room path node parent h is e = fills_one c leaf n room path parent (rw is at h) e
+fills c leaf n room path current parent h is e = fills_one c leaf n room path parent (rw is at h) e
 
 -- there is room for each node of the way that is left
-pub has_place : (c : Games) (leaf n room : ℕ) (path : List ℕ) (node : Option ℕ) → IsFilled c leaf node room path → node ≡ Some n → (0 < room) × (room ≤ length path)
-has_place c leaf n room path node h is =
+pub has_place : (c : Games) (leaf n room : ℕ) (path : List ℕ) (current : Option ℕ) → IsFilled c leaf current room path → current ≡ Some n → (0 < room) × (room ≤ length path)
+has_place c leaf n room path current h is =
     let more : 0 < length h.climb.above = not_empty (rw is at h.climb.way) in
     let longer = ap length h.filled ∙ length-append h.climb.above (drop room path) in
     (omega (arith, h.room_is), omega (arith, h.room_is, h.long, longer))
@@ -137,8 +137,8 @@ has_place c leaf n room path node h is =
     not_empty : {c : Games} {n : ℕ} {way : List ℕ} → IsWayTo c (Some n) way → 0 < length way
     not_empty {n = n} (step {above = above} e up same) = omega (arith, ap length same, length-append above (n ∷ []))
 
-pub filled_all : (c : Games) (leaf room : ℕ) (path : List ℕ) (node : Option ℕ) → IsFilled c leaf node room path → node ≡ None → IsWayTo c (Some leaf) path
-filled_all c leaf room path node h is =
+pub filled_all : (c : Games) (leaf room : ℕ) (path : List ℕ) (current : Option ℕ) → IsFilled c leaf current room path → current ≡ None → IsWayTo c (Some leaf) path
+filled_all c leaf room path current h is =
     let none = none_above (rw is at h.climb.way) in
     let start : room ≡ 0 = h.room_is ∙ ap length none in
     let same : h.climb.numbers ≡ path = h.filled ∙ ap (λ ns. ns ++ drop room path) none ∙ ap (λ k. drop k path) start in

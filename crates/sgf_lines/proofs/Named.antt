@@ -1,12 +1,12 @@
 -- The paths name the nodes of the lines: a line and the path at its position have one game, and the path's numbers are those of the line's nodes.
-use Rattle.std.proofs.Common.{◌≡◌, ◌≢◌, ℕ, zero, suc, ◌+◌, ◌<◌, ◌≤◌, List, [], ◌∷◌, ◌++◌, length, map, slice_get, Option, Some, None, option_map, false, refl, sym, ap, ◌∙◌, arith}
-use Rattle.std.specs.List.{range_with_len}
+use Rattle.std.proofs.Common.{◌≡◌, ◌≢◌, ℕ, ◌+◌, List, [], ◌∷◌, ◌++◌, length, map, slice_get, Option, Some, None, option_map, false, refl, sym, ap, ◌∙◌, arith}
+use Rattle.std.specs.List.{range_with_len, AllZip}
 use Rattle.std.proofs.lemmas.List.{map-append, length-map}
 use Rattle.std.proofs.lemmas.Option.{slice_get-map}
 use Rattle.sgf_tree.specs.Tree.{Node, Games, no_games, game, node_count}
-use Rattle.sgf_tree.specs.FileOrder.{Row, further_rows, rows, rows_of, node_at, place_at}
+use Rattle.sgf_tree.specs.FileOrder.{Row, further_rows, rows_of, node_at, place_at}
 use Rattle.sgf_lines.specs.Lines.{Line, through, node_lines, lines_of_game, lines_from, lines, last_number, place_of}
-use Rattle.sgf_lines.specs.Paths.{Path, number_lines, paths_of_game, paths_from, paths, leaf_of}
+use Rattle.sgf_lines.specs.Paths.{Path, number_lines, paths_of_game, paths_from, paths, leaf_of, IsPathOf}
 use Rattle.sgf_lines.proofs.Standing.{StandsAt, Stands, stands_whole, stands_get, stands_right, stands_own, stands_below, stands_behind, first_row}
 
 -- what goes through images of the nodes is the image of what goes through them
@@ -32,7 +32,7 @@ named_own : (c : Games) (at : ℕ) (parent : Option ℕ) (first : Node) (more : 
 named_own c at parent first more below behind h =
     let own = stands_own c at parent first more below behind h in
     let here : slice_get (rows_of c) at ≡ Some (first_row parent first) =
-        stands_get (first_row parent first ∷ further_rows at more) 0 at (first_row parent first) own (omega arith) refl in
+    stands_get (first_row parent first ∷ further_rows at more) 0 at (first_row parent first) own (omega arith) refl in
     let root : node_at c at ≡ Some first = ap (λ o. option_map (λ r. r.node) o) here in
     let rest = named_further c at more (stands_right (at + 1) (first_row parent first ∷ []) (further_rows at more) own refl) in
     cc
@@ -88,7 +88,7 @@ named_from c number (game first more below behind) at h =
     let nodes = through (first ∷ more) (node_lines below) in
     let down = named_ways c below (last + 1) (Some last) (stands_below c at None first more below behind h) in
     let here : map (shown_path c) (paths_of_game number numbers) ≡ map shown_line (lines_of_game number nodes) =
-        shown_paths c number numbers ∙ ap (map (λ ns. (number, ns))) (named_game c at None first more below behind h down) ∙ sym (shown_lines number nodes) in
+    shown_paths c number numbers ∙ ap (map (λ ns. (number, ns))) (named_game c at None first more below behind h down) ∙ sym (shown_lines number nodes) in
     let beside = named_from c (number + 1) behind next (stands_behind c at None first more below behind h) in
     map-append (shown_path c) (paths_of_game number numbers) (paths_from (number + 1) next behind)
     ∙ ap (λ ls. ls ++ map (shown_path c) (paths_from (number + 1) next behind)) here
@@ -97,6 +97,19 @@ named_from c number (game first more below behind) at h =
 
 named_all : (c : Games) → map (shown_path c) (paths c) ≡ map shown_line (lines c)
 named_all c = named_from c 1 c 0 (stands_whole c)
+
+zipped : (c : Games) (ls : List Line) (ps : List Path) → map (shown_path c) ps ≡ map shown_line ls → AllZip (IsPathOf c) ls ps
+zipped c [] [] e = tt
+zipped c [] (p ∷ ps) e = absurd cc
+zipped c (l ∷ ls) [] e = absurd cc
+zipped c (l ∷ ls) (p ∷ ps) e =
+    let first : shown_path c p ≡ shown_line l = cc in
+    let rest : map (shown_path c) ps ≡ map shown_line ls = cc in
+    (record { game_number = ap (λ s. s.0) first; nodes = ap (λ s. s.1) first }, zipped c ls ps rest)
+
+-- each line has its path
+pub each_named : (c : Games) → AllZip (IsPathOf c) (lines c) (paths c)
+each_named c = zipped c (lines c) (paths c) (named_all c)
 
 -- the line at the position of a path
 pub record IsNamed (c : Games) (k : ℕ) (path : Path) (line : Line) : Type 0 where
@@ -114,7 +127,7 @@ line_from c (Some line) path e =
 pub line_at : (c : Games) (k : ℕ) (path : Path) → slice_get (paths c) k ≡ Some path → (line : Line) × IsNamed c k path line
 line_at c k path e =
     let both : option_map (shown_path c) (slice_get (paths c) k) ≡ option_map shown_line (slice_get (lines c) k) =
-        sym (slice_get-map (shown_path c) (paths c) k) ∙ ap (λ ls. slice_get ls k) (named_all c) ∙ slice_get-map shown_line (lines c) k in
+    sym (slice_get-map (shown_path c) (paths c) k) ∙ ap (λ ls. slice_get ls k) (named_all c) ∙ slice_get-map shown_line (lines c) k in
     let f = line_from c (slice_get (lines c) k) path (ap (λ o. option_map (shown_path c) o) (sym e) ∙ both) in
     (f.0, record { found = f.1; game_number = f.2; nodes = f.3 })
 

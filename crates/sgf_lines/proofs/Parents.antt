@@ -1,11 +1,11 @@
 -- Where the parents of nodes stand: a node's parent comes before it, and a last node without games below it is a leaf.
-use Rattle.std.proofs.Common.{◌≡◌, ℕ, zero, suc, ◌+◌, ◌<◌, ◌≤◌, List, [], ◌∷◌, ◌++◌, length, slice_get, Option, Some, None, option_map, ◌⊎◌, inl, inr, true, false, ◌-◌, refl, sym, ap, ◌∙◌, arith, length-append, add-zero}
+use Rattle.std.proofs.Common.{◌≡◌, ℕ, zero, suc, ◌+◌, ◌<◌, ◌≤◌, List, [], ◌∷◌, ◌++◌, length, slice_get, Option, Some, None, option_map, ◌⊎◌, inl, inr, false, ◌-◌, refl, sym, ap, ◌∙◌, arith, length-append, add-zero}
 use Rattle.std.proofs.lemmas.Bool.{cases_lt}
 use Rattle.std.proofs.lemmas.Option.{slice_get_within}
 use Rattle.sgf_tree.specs.Tree.{Node, Games, no_games, game, node_count}
 use Rattle.sgf_tree.specs.FileOrder.{Row, further_rows, rows, rows_of, parent_at, IsLeaf}
 use Rattle.sgf_lines.proofs.Lists.{split_get, get_right}
-use Rattle.sgf_lines.proofs.Standing.{StandsAt, Stands, stands_get, stands_whole, stands_own, stands_below, stands_behind, first_row, length-further_rows, length-rows}
+use Rattle.sgf_lines.proofs.Standing.{Stands, stands_whole, stands_below, stands_behind, first_row, length-further_rows, length-rows}
 
 -- the parent of a node at the index k among games that begin at the index `at` and follow `parent`
 abbrev pub IsParentIn : ℕ → Option ℕ → ℕ → Option ℕ → Type 0
@@ -44,22 +44,22 @@ parent-rows (game first more below behind) at parent k r e =
     let under = rows (last + 1) (Some last) below in
     let own_count : length own ≡ suc (length more) = omega (arith, length-further_rows at more) in
     let count : length (own ++ under) ≡ suc (length more) + node_count below =
-        length-append own under ∙ omega (arith, own_count, length-rows (last + 1) (Some last) below) in
+    length-append own under ∙ omega (arith, own_count, length-rows (last + 1) (Some last) below) in
     let in_front : slice_get (own ++ under) k ≡ Some r → IsParentIn at parent (at + k) r.parent = λ f.
-        elim (split_get own under k r f) [
-          | inl h ↦ parent_of_own at parent first more k r h
-          | inr h ↦
-            let sums : last + 1 + h.0 ≡ at + k = omega (arith, h.1) in
-            let inside : IsParentIn (last + 1) (Some last) (last + 1 + h.0) r.parent = parent-rows below (last + 1) (Some last) h.0 r h.2 in
-            lower at last parent (at + k) r.parent (omega arith) (omega (arith, h.1)) (rw sums at inside)
-        ] in
+    elim (split_get own under k r f) [
+      | inl h ↦ parent_of_own at parent first more k r h
+      | inr h ↦
+          let sums : last + 1 + h.0 ≡ at + k = omega (arith, h.1) in
+          let inside : IsParentIn (last + 1) (Some last) (last + 1 + h.0) r.parent = parent-rows below (last + 1) (Some last) h.0 r h.2 in
+          lower at last parent (at + k) r.parent (omega arith) (omega (arith, h.1)) (rw sums at inside)
+    ] in
     elim (split_get (own ++ under) (rows (last + 1 + node_count below) parent behind) k r e) [
       | inl h ↦ in_front h
       | inr h ↦
-        let sums : last + 1 + node_count below + h.0 ≡ at + k = omega (arith, h.1) in
-        let inside : IsParentIn (last + 1 + node_count below) parent (last + 1 + node_count below + h.0) r.parent =
-            parent-rows behind (last + 1 + node_count below) parent h.0 r h.2 in
-        later at (last + 1 + node_count below) parent (at + k) r.parent (omega arith) (rw sums at inside)
+          let sums : last + 1 + node_count below + h.0 ≡ at + k = omega (arith, h.1) in
+          let inside : IsParentIn (last + 1 + node_count below) parent (last + 1 + node_count below + h.0) r.parent =
+          parent-rows behind (last + 1 + node_count below) parent h.0 r h.2 in
+          later at (last + 1 + node_count below) parent (at + k) r.parent (omega arith) (rw sums at inside)
     ]
 
 -- the row of a node whose parent is known
@@ -78,11 +78,11 @@ parent_in c at parent g h j p le lt e =
     let k = j - at in
     let sums : at + k ≡ j = omega arith in
     let here : slice_get (xs ++ h.behind) k ≡ Some found.0 =
-        sym (get_right h.before (xs ++ h.behind) j k (omega (arith, h.length_is))) ∙ ap (λ zs. slice_get zs j) (sym h.is) ∙ found.1 in
+    sym (get_right h.before (xs ++ h.behind) j k (omega (arith, h.length_is))) ∙ ap (λ zs. slice_get zs j) (sym h.is) ∙ found.1 in
     elim (split_get xs h.behind k found.0 here) [
       | inl inside ↦
-        let of_row : IsParentIn at parent (at + k) found.0.parent = parent-rows g at parent k found.0 inside in
-        rw (sums, found.2) at of_row
+          let of_row : IsParentIn at parent (at + k) found.0.parent = parent-rows g at parent k found.0 inside in
+          rw (sums, found.2) at of_row
       | inr past ↦ absurd (omega (arith, past.1, length-rows at parent g))
     ]
 

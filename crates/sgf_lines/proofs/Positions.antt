@@ -1,13 +1,12 @@
 -- How many lines end before a node, and which line ends at it.
-use Rattle.std.proofs.Common.{◌≡◌, ◌≢◌, ℕ, zero, suc, ◌+◌, ◌-◌, ◌<◌, ◌≤◌, Bool, true, false, cond, List, [], ◌∷◌, ◌++◌, length, map, slice_get, Option, Some, None, option_map, refl, sym, ap, subst, ◌∙◌, inl, inr, arith}
+use Rattle.std.proofs.Common.{◌≡◌, ℕ, zero, suc, ◌+◌, ◌-◌, ◌<◌, ◌≤◌, cond, List, [], ◌∷◌, length, map, slice_get, Option, Some, None, option_map, refl, sym, ap, subst, ◌∙◌, inl, inr, arith}
 use Rattle.std.specs.Prelude.{nat_lt}
 use Rattle.std.specs.List.{prefix_len}
 use Rattle.std.proofs.lemmas.Bool.{lt-ltb, le-ltb, cases_lt}
 use Rattle.std.proofs.lemmas.List.{length-map}
-use Rattle.std.proofs.lemmas.Option.{slice_get-map, slice_get_past, slice_get_within}
+use Rattle.std.proofs.lemmas.Option.{slice_get-map, slice_get_past}
 use Rattle.sgf_tree.specs.Tree.{Games, node_count}
 use Rattle.sgf_tree.specs.FileOrder.{IsLeaf}
-use Rattle.sgf_lines.specs.Lines.{last_number}
 use Rattle.sgf_lines.specs.Paths.{Path, paths, leaf_of}
 use Rattle.sgf_lines.specs.Position.{lines_before}
 use Rattle.sgf_lines.specs.Way.{IsWayTo, top}
@@ -56,8 +55,8 @@ below_at n low high (m ∷ ms) (suc k) i r e le first =
     let above = rises_above (m + 1) high ms k i r.1 e in
     elim (cases_lt m n) [
       | inl lt ↦
-        let rest = below_at n (m + 1) high ms k i r.1 e le (λ j x got ge. first (suc j) x got ge) in
-        below_next n low high m ms lt ∙ omega arith
+          let rest = below_at n (m + 1) high ms k i r.1 e le (λ j x got ge. first (suc j) x got ge) in
+          below_next n low high m ms lt ∙ omega arith
       | inr ge ↦ absurd (omega (arith, first 0 m refl ge, above))
     ]
 
@@ -112,23 +111,25 @@ pub next_line : (c : Games) (n i : ℕ) → n ≤ i → i < node_count c → IsL
 next_line c n i le lt leaf none =
     let here = covered c c 0 None (stands_whole c) i (omega arith) (omega arith) leaf in
     let first : (j x : ℕ) → slice_get (leaves 0 c) j ≡ Some x → n ≤ x → i ≤ x = λ j x got ge.
-        elim (cases_lt x i) [ inl before ↦ absurd (none x ge before (each_is_leaf c j x got)) | inr ok ↦ ok ] in
+    elim (cases_lt x i) [ inl before ↦ absurd (none x ge before (each_is_leaf c j x got)) | inr ok ↦ ok ] in
     let count : lines_before c n ≡ here.0 = before_is c n ∙ below_at n 0 (0 + node_count c) (leaves 0 c) here.0 i (leaves_rise 0 c) here.1 le first in
     let f = path_of_leaf c here.0 i here.1 in
-    let way : IsDescent c None f.0.numbers = each_get (λ path. IsDescent c None path.numbers) (paths c) here.0 f.0 (each_path c) f.1 in
-    (f.0, record {
-      found = rw count f.1;
-      ends = f.2;
-      one_more = before_is c (i + 1) ∙ below_after 0 (0 + node_count c) (leaves 0 c) here.0 i (leaves_rise 0 c) here.1 ∙ ap (λ k. k + 1) (sym count);
-      up = rw f.2 at (way.up [] top);
-    })
+    let way : IsDescent c None f.0.numbers = each_get (λ path. IsDescent c None path.numbers) (paths c) here.0 f.0 (each_path c) f.1 in (
+      f.0,
+      record {
+        found = rw count f.1;
+        ends = f.2;
+        one_more = before_is c (i + 1) ∙ below_after 0 (0 + node_count c) (leaves 0 c) here.0 i (leaves_rise 0 c) here.1 ∙ ap (λ k. k + 1) (sym count);
+        up = rw f.2 at (way.up [] top);
+      },
+    )
 
 -- no line is left where no leaf is
 pub no_line_left : (c : Games) (n : ℕ) → ((j : ℕ) → n ≤ j → j < node_count c → IsLeaf c j → ⊥) → slice_get (paths c) (lines_before c n) ≡ None
 no_line_left c n none =
     let before : (j x : ℕ) → slice_get (leaves 0 c) j ≡ Some x → x < n = λ j x got.
-        let within = rises_under 0 (0 + node_count c) (leaves 0 c) j x (leaves_rise 0 c) got in
-        elim (cases_lt x n) [ inl lt ↦ lt | inr ge ↦ absurd (none x ge (omega arith) (each_is_leaf c j x got)) ] in
+    let within = rises_under 0 (0 + node_count c) (leaves 0 c) j x (leaves_rise 0 c) got in
+    elim (cases_lt x n) [ inl lt ↦ lt | inr ge ↦ absurd (none x ge (omega arith) (each_is_leaf c j x got)) ] in
     let same : length (leaves 0 c) ≡ length (paths c) = ap length (sym (leaves_of_paths 1 0 c)) ∙ length-map (paths c) leaf_of in
     let count : lines_before c n ≡ length (paths c) = before_is c n ∙ below_all n (leaves 0 c) before ∙ same in
     slice_get_past (paths c) (lines_before c n) (omega arith)

@@ -1,5 +1,5 @@
 -- The records of lines, written one behind the other.
-use Rattle.std.proofs.Common.{◌≡◌, ℕ, zero, suc, ◌+◌, ◌-◌, ◌<◌, ◌≤◌, List, [], ◌∷◌, ◌++◌, length, take, map, slice_get, Option, Some, None, option_map, Result, Ok, Err, All, refl, sym, ap, subst, ◌∙◌, inl, inr, arith}
+use Rattle.std.proofs.Common.{◌≡◌, ℕ, ◌+◌, ◌-◌, ◌<◌, List, [], ◌++◌, length, take, map, slice_get, Option, Some, None, Result, Ok, All, ap, ◌∙◌, inl, inr, arith}
 use Rattle.std.specs.List.{flat_map}
 use Rattle.std.proofs.lemmas.Bool.{cases_lt}
 use Rattle.std.proofs.lemmas.List.{take_all}
@@ -8,16 +8,16 @@ use Rattle.std.proofs.lemmas.Option.{slice_get_within}
 use Rattle.sgf_tree.specs.Tree.{Node, Games, node_count}
 use Rattle.sgf_tree.specs.FileOrder.{node_at}
 use Rattle.sgf_tree.specs.declared.fault.MemoryFault.{MemoryFault}
-use Rattle.sgf_lines.specs.Lines.{Line, lines, last_number}
-use Rattle.sgf_lines.specs.Paths.{Path, paths, leaf_of}
+use Rattle.sgf_lines.specs.Lines.{Line, lines}
+use Rattle.sgf_lines.specs.Paths.{paths}
 use Rattle.sgf_lines.specs.Record.{sgf_record}
 use Rattle.sgf_lines.specs.Output.{sgf_output}
-use Rattle.sgf_lines.specs.Way.{IsWayTo, top}
+use Rattle.sgf_lines.specs.Way.{top}
 use Rattle.sgf_lines.specs.Position.{Position, advanced}
 use Rattle.sgf_lines.specs.Shown.{shown, IsLine}
 use Rattle.sgf_lines.specs.Steps.{Gives, Leaves}
 use Rattle.sgf_lines.specs.declared.line.LineRef.{LineRef}
-use Rattle.sgf_lines.proofs.Lists.{Each, each_get, element}
+use Rattle.sgf_lines.proofs.Lists.{each_get, element}
 use Rattle.sgf_lines.proofs.Ways.{IsDescent, each_path}
 use Rattle.sgf_lines.proofs.Named.{line_at, length-paths}
 use Rattle.sgf_lines.proofs.Standings.{within_way}

@@ -1,9 +1,8 @@
 -- The cursor's answers, in terms of its position.
-use Rattle.std.proofs.Common.{◌≡◌, ℕ, ◌+◌, ◌-◌, ◌<◌, ◌≤◌, List, [], ◌∷◌, length, get_or, slice_get, Option, Some, None, option_map, refl, sym, ap, ◌∙◌, subst, arith}
+use Rattle.std.proofs.Common.{◌≡◌, ℕ, ◌+◌, ◌-◌, ◌<◌, List, get_or, slice_get, Some, None, ap}
 use Rattle.sgf_tree.specs.Tree.{Games, node_count}
 use Rattle.sgf_tree.specs.FileOrder.{place_at, game_of}
 use Rattle.sgf_lines.specs.Lines.{lines}
-use Rattle.sgf_lines.specs.Paths.{paths}
 use Rattle.sgf_lines.specs.Way.{HasNoLeaf, IsNextLeaf, IsBehindLeaf}
 use Rattle.sgf_lines.specs.Position.{Position, advanced, lines_before}
 use Rattle.sgf_lines.specs.Shown.{IsLine}

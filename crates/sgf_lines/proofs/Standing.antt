@@ -1,5 +1,5 @@
 -- Rows that stand in a longer list of rows: those of the games below and behind a game stand in those of the game.
-use Rattle.std.proofs.Common.{◌≡◌, ℕ, zero, suc, ◌+◌, ◌<◌, ◌≤◌, List, [], ◌∷◌, ◌++◌, length, slice_get, Option, Some, None, true, refl, sym, ap, ◌∙◌, arith, append_assoc, length-append, add-zero, append-nil}
+use Rattle.std.proofs.Common.{◌≡◌, ℕ, suc, ◌+◌, List, [], ◌∷◌, ◌++◌, length, slice_get, Option, Some, None, true, refl, sym, ap, ◌∙◌, arith, append_assoc, length-append, append-nil}
 use Rattle.sgf_tree.specs.Tree.{Node, Games, no_games, game, node_count}
 use Rattle.sgf_tree.specs.FileOrder.{Row, further_rows, rows, rows_of}
 use Rattle.sgf_lines.proofs.Lists.{get_left, get_right}
@@ -72,6 +72,6 @@ module _ (c : Games) (at : ℕ) (parent : Option ℕ) (first : Node) (more : Lis
   stands_behind =
       let up_to : List Row = first_row parent first ∷ further_rows at more ++ rows (at + length more + 1) (Some (at + length more)) below in
       let count : length up_to ≡ suc (length more) + node_count below =
-          length-append (first_row parent first ∷ further_rows at more) (rows (at + length more + 1) (Some (at + length more)) below)
-          ∙ omega (arith, length-further_rows at more, length-rows (at + length more + 1) (Some (at + length more)) below) in
+      length-append (first_row parent first ∷ further_rows at more) (rows (at + length more + 1) (Some (at + length more)) below)
+      ∙ omega (arith, length-further_rows at more, length-rows (at + length more + 1) (Some (at + length more)) below) in
       stands_right (at + length more + 1 + node_count below) up_to (rows (at + length more + 1 + node_count below) parent behind) h (omega arith)

@@ -1,10 +1,10 @@
 -- What a cursor that stands behind a leaf shows, and how it goes on.
-use Rattle.std.proofs.Common.{◌≡◌, ℕ, zero, suc, ◌+◌, ◌-◌, ◌<◌, ◌≤◌, List, [], ◌∷◌, ◌++◌, length, get_or, slice_get, Option, Some, None, option_map, refl, sym, ap, ◌∙◌, subst, inl, inr, arith, length-append}
-use Rattle.std.proofs.lemmas.Option.{slice_get_past, slice_get_within}
+use Rattle.std.proofs.Common.{◌≡◌, ℕ, zero, suc, ◌+◌, ◌-◌, ◌<◌, List, [], ◌∷◌, length, get_or, slice_get, Option, Some, None, option_map, sym, ap, ◌∙◌, subst, inl, inr, arith, length-append}
+use Rattle.std.proofs.lemmas.Option.{slice_get_past}
 use Rattle.std.proofs.lemmas.Bool.{cases_lt}
 use Rattle.sgf_tree.specs.Tree.{Games, node_count}
-use Rattle.sgf_tree.specs.FileOrder.{parent_at, place_at, game_of, IsLeaf}
-use Rattle.sgf_lines.specs.Lines.{Line, lines, place_of, last_number}
+use Rattle.sgf_tree.specs.FileOrder.{place_at, game_of, IsLeaf}
+use Rattle.sgf_lines.specs.Lines.{lines, place_of, last_number}
 use Rattle.sgf_lines.specs.Paths.{Path, paths, leaf_of}
 use Rattle.sgf_lines.specs.Way.{IsWayTo, top, step, HasNoLeaf, IsNextLeaf, IsBehindLeaf}
 use Rattle.sgf_lines.specs.Position.{lines_before}
@@ -13,8 +13,8 @@ use Rattle.sgf_lines.proofs.Parents.{node_within}
 use Rattle.sgf_lines.proofs.Climbing.{last-way}
 use Rattle.sgf_lines.proofs.Ways.{IsDescent, each_path}
 use Rattle.sgf_lines.proofs.GameNumbers.{game_of_path}
-use Rattle.sgf_lines.proofs.Named.{IsNamed, line_at, place-line, length-paths}
-use Rattle.sgf_lines.proofs.Positions.{before_none, IsNextLine, next_line, no_line_left, given_line}
+use Rattle.sgf_lines.proofs.Named.{line_at, place-line, length-paths}
+use Rattle.sgf_lines.proofs.Positions.{before_none, next_line, no_line_left, given_line}
 
 -- each node on a way is one of the collection
 pub within_way : {c : Games} {at : Option ℕ} {way : List ℕ} → IsWayTo c at way → Each (λ n. n < node_count c) way
@@ -56,7 +56,7 @@ shown_at c i numbers lt leaf way =
       last_within = omega (arith, lt);
       path_is = λ d.
           let of_game : Each (λ n. game_of c n ≡ f.0.game_number) numbers =
-              subst (Each (λ n. game_of c n ≡ f.0.game_number)) f.2 (each_get (λ path. Each (λ n. game_of c n ≡ path.game_number) path.numbers) (paths c) k f.0 (game_of_path c) found) in
+          subst (Each (λ n. game_of c n ≡ f.0.game_number)) f.2 (each_get (λ path. Each (λ n. game_of c n ≡ path.game_number) path.numbers) (paths c) k f.0 (game_of_path c) found) in
           let root = each_head (λ n. game_of c n ≡ f.0.game_number) numbers d some_node of_game in
           found ∙ ap Some (same_path f.0 (game_of c (get_or numbers 0 d)) numbers (sym root) f.2);
       place_is = λ place e.

@@ -1,12 +1,12 @@
 -- The ways through games: each goes down by parents to a leaf.
-use Rattle.std.proofs.Common.{◌≡◌, ◌≢◌, ℕ, zero, suc, ◌+◌, ◌<◌, ◌≤◌, List, [], ◌∷◌, ◌++◌, length, map, Option, Some, None, refl, sym, ap, ◌∙◌, arith, add-zero, append_assoc}
+use Rattle.std.proofs.Common.{◌≡◌, ◌≢◌, ℕ, zero, suc, ◌+◌, List, [], ◌∷◌, ◌++◌, length, Option, Some, None, refl, sym, ◌∙◌, arith, add-zero, append_assoc}
 use Rattle.std.specs.List.{range_with_len}
 use Rattle.sgf_tree.specs.Tree.{Node, Games, no_games, game, node_count}
-use Rattle.sgf_tree.specs.FileOrder.{parent_at, IsLeaf}
+use Rattle.sgf_tree.specs.FileOrder.{IsLeaf}
 use Rattle.sgf_lines.specs.Lines.{through, last_number}
-use Rattle.sgf_lines.specs.Paths.{Path, number_lines, paths_of_game, paths_from, paths, leaf_of}
+use Rattle.sgf_lines.specs.Paths.{number_lines, paths_of_game, paths_from, paths}
 use Rattle.sgf_lines.specs.Way.{IsWayTo}
-use Rattle.sgf_lines.proofs.Lists.{Each, each_append, each_weaker, each_through, each_map}
+use Rattle.sgf_lines.proofs.Lists.{Each, each_append, each_through, each_map}
 use Rattle.sgf_lines.proofs.Parents.{Among, among_whole, among_below, among_behind, last_is_leaf}
 use Rattle.sgf_lines.proofs.Climbing.{up_own, last_number-append}
 
@@ -36,7 +36,7 @@ no_ways : (at : ℕ) (g : Games) → number_lines at g ≡ [] → g ≡ no_games
 no_ways at no_games e = refl
 no_ways at (game first more below behind) e =
     absurd (not_none (at ∷ range_with_len (at + 1) (length more)) (number_lines (at + length more + 1) below)
-        (number_lines (at + length more + 1 + node_count below) behind) e)
+    (number_lines (at + length more + 1 + node_count below) behind) e)
   where
     not_none : (own : List ℕ) (ls ms : List (List ℕ)) → through own ls ++ ms ≡ [] → ⊥
     not_none own [] ms e = cc
@@ -73,7 +73,7 @@ paths_are_ways c number (game first more below behind) at h =
     let here = through (at ∷ range_with_len (at + 1) (length more)) (number_lines (last + 1) below) in
     each_append (λ path. IsDescent c None path.numbers) (paths_of_game number here) (paths_from (number + 1) (last + 1 + node_count below) behind)
     (each_map (λ path. IsDescent c None path.numbers) (λ numbers. record { game_number = number; numbers = numbers }) here
-        (ways_of_game c at None first more below behind h (ways c below (last + 1) (Some last) (among_below c at None first more below behind h))))
+    (ways_of_game c at None first more below behind h (ways c below (last + 1) (Some last) (among_below c at None first more below behind h))))
     (paths_are_ways c (number + 1) behind (last + 1 + node_count below) (among_behind c at None first more below behind h))
 
 -- each path of a collection leads from a root to a leaf

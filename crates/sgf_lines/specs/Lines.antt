@@ -1,6 +1,6 @@
 -- The lines of play of a collection, which go from the root of a game to a node that no node follows.
-use Rattle.std.specs.Prelude.{ℕ, ◌+◌, List, [], ◌∷◌, ◌++◌, length, map}
-use Rattle.sgf_tree.specs.Tree.{Node, Games, no_games, game, node_count}
+use Rattle.std.specs.Prelude.{ℕ, ◌+◌, List, [], ◌∷◌, ◌++◌, map}
+use Rattle.sgf_tree.specs.Tree.{Node, Games, no_games, game}
 
 -- each of the lists behind `own`, or `own` alone where there is none
 abbrev pub through : {A : Type 0} → List A → List (List A) → List (List A)

@@ -1,8 +1,9 @@
 -- The lines of play again, with the nodes' numbers in file order in place of the nodes.
-use Rattle.std.specs.Prelude.{ℕ, ◌+◌, List, [], ◌∷◌, ◌++◌, length, map}
+use Rattle.std.specs.Prelude.{◌≡◌, ℕ, ◌+◌, List, [], ◌∷◌, ◌++◌, length, map, Some}
 use Rattle.std.specs.List.{range_with_len}
 use Rattle.sgf_tree.specs.Tree.{Games, no_games, game, node_count}
-use Rattle.sgf_lines.specs.Lines.{through, last_number}
+use Rattle.sgf_tree.specs.FileOrder.{node_at}
+use Rattle.sgf_lines.specs.Lines.{Line, through, last_number}
 
 -- the ways through games whose first node has the number `at`
 abbrev pub number_lines : ℕ → Games → List (List ℕ)
@@ -36,3 +37,8 @@ paths c = paths_from 1 0 c
 -- the number of a path's last node
 abbrev pub leaf_of : Path → ℕ
 leaf_of path = last_number path.numbers
+
+-- the path names the nodes of the line, in the same game
+pub record IsPathOf (c : Games) (line : Line) (path : Path) : Type 0 where
+  pub game_number : path.game_number ≡ line.game_number
+  pub nodes : map (node_at c) path.numbers ≡ map Some line.nodes

@@ -1,10 +1,10 @@
 -- Where a cursor stands among the lines of a collection.
-use Rattle.std.specs.Prelude.{ℕ, ◌+◌, nat_lt, List, refl}
+use Rattle.std.specs.Prelude.{ℕ, ◌+◌, nat_lt, refl}
 use Rattle.std.specs.List.{prefix_len}
 use Rattle.std.specs.Coded.{Coded, code_by, coded×, coded_ℕ}
 use Rattle.sgf_tree.specs.Tree.{Games}
 use Rattle.sgf_tree.specs.TreeCode.{games_code}
-use Rattle.sgf_lines.specs.Paths.{Path, paths, leaf_of}
+use Rattle.sgf_lines.specs.Paths.{paths, leaf_of}
 
 -- a collection, and how many of its lines have been given
 pub record Position : Type 0 where

@@ -1,5 +1,5 @@
 -- What is shown of a line.
-use Rattle.std.specs.Prelude.{◌≡◌, ℕ, Option, Some, option_map, slice_get}
+use Rattle.std.specs.Prelude.{◌≡◌, ℕ, Some, option_map, slice_get}
 use Rattle.sgf_tree.specs.Tree.{Games}
 use Rattle.sgf_lines.specs.Lines.{lines, place_of}
 use Rattle.sgf_lines.specs.Paths.{Path, paths}

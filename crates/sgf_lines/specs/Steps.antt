@@ -4,7 +4,6 @@ use Rattle.std.specs.Borrow.{Fml, MutBor}
 use Rattle.std.specs.Io.BufRead.{Rests}
 use mir.Syntax.{named}
 use Rattle.sgf_tree.specs.declared.fault.MemoryFault.{MemoryFault}
-use Rattle.sgf_lines.specs.Paths.{paths}
 use Rattle.sgf_lines.specs.Lines.{lines}
 use Rattle.sgf_lines.specs.Position.{Position, advanced}
 use Rattle.sgf_lines.specs.Shown.{IsLine}

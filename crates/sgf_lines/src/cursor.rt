@@ -1,11 +1,11 @@
 //! Goes over the lines of play of a collection.
 
-ghost use Rattle.std.specs.Prelude.{◌≡◌, ◌<◌, ◌≤◌, ◌-◌, ◌+◌, Some, None, List, ℕ, length, slice_get, OnOk, OnErr, IfOk, IfSome, MatchResult, MatchBool};
+ghost use Rattle.std.specs.Prelude.{◌≡◌, ◌<◌, ◌-◌, Some, None, List, length, slice_get, OnOk, OnErr, IfOk, IfSome, MatchBool, ℕ};
 ghost use Rattle.sgf_tree.specs.Tree.{node_count};
 ghost use Rattle.sgf_tree.specs.FileOrder.{IsLeaf};
 ghost use Rattle.sgf_lines.specs.Lines.{lines};
 ghost use Rattle.sgf_lines.specs.Way.{IsWayTo, IsLeafSearch};
-ghost use Rattle.sgf_lines.specs.Position.{Position, advanced};
+ghost use Rattle.sgf_lines.specs.Position.{advanced};
 ghost use Rattle.sgf_lines.specs.Shown.{IsLine};
 
 use crate::line::LineRef;
@@ -18,7 +18,11 @@ use std::marker::Model;
 #[derive(Drop)]
 pub struct Cursor<'c, 'a> {
     collection: &'c Collection<'a>,
+
+    // the node from which on it looks for the next leaf
     next: usize,
+
+    // the nodes from the root to the leaf before that one
     path: Vec<usize>,
 }
 
@@ -106,7 +110,11 @@ fn next_leaf(collection: &Collection<'_>, from: usize) -> Option<usize>
 
 /// Replaces the numbers in `path` by those of the nodes from the root to a leaf.
 /// After a refusal of memory `path` is unchanged.
-fn write_way(collection: &Collection<'_>, leaf: usize, path: &mut Vec<usize>) -> Result<(), MemoryFault>
+fn write_way(
+    collection: &Collection<'_>,
+    leaf: usize,
+    path: &mut Vec<usize>,
+) -> Result<(), MemoryFault>
     requires within { leaf < node_count collection.now }
     requires small { leaf < usize.MAX }
     requires is_leaf { IsLeaf collection.now leaf }

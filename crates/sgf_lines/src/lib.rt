@@ -4,7 +4,7 @@
 //! - `line` has what is shown of a line.
 //! - `cursor` goes over the lines of a collection.
 //! - `record` writes the text of a line.
-//! - `laws` has a law of the definitions.
+//! - `laws` has laws of the definitions.
 //! - `split` turns a text into the records of its lines, and `fault` has the ways in which it may fail.
 #![tactic(auto)]
 

@@ -1,6 +1,6 @@
 //! The text of a line in sgf form.
 
-ghost use Rattle.std.specs.Prelude.{◌≡◌, ◌++◌, ◌∷◌, [], ◌<◌, List, Some, map, length, All, OnOk, OnErr};
+ghost use Rattle.std.specs.Prelude.{◌≡◌, ◌++◌, ◌<◌, List, Some, map, All, OnOk};
 ghost use Rattle.sgf_tree.specs.Tree.{Node, node_count};
 ghost use Rattle.sgf_tree.specs.FileOrder.{node_at};
 ghost use Rattle.sgf_lines.specs.Record.{value_text, property_text, node_text, sgf_record};
@@ -8,12 +8,14 @@ ghost use Rattle.sgf_lines.specs.Record.{value_text, property_text, node_text, s
 use sgf_tree::{Collection, MemoryFault, NodeRef, PropRef};
 
 /// Appends the nodes of a path between parentheses, and a line feed.
-pub(crate) fn push_record(collection: &Collection<'_>, path: &[usize], output: &mut Vec<u8>) -> Result<(), MemoryFault>
+pub(crate) fn push_record(
+    collection: &Collection<'_>,
+    path: &[usize],
+    output: &mut Vec<u8>,
+) -> Result<(), MemoryFault>
     requires { All (λ i. i < node_count collection.now) path.now }
-    ensures {
-        (nodes : List Node) → map Some nodes ≡ map (node_at collection.now) path.now
-            → OnOk result (output.new.items ≡ output.old.items ++ sgf_record nodes)
-    }
+    ensures { (nodes : List Node) → map Some nodes ≡ map (node_at collection.now) path.now
+        → OnOk result (output.new.items ≡ output.old.items ++ sgf_record nodes) }
 {
     push_bytes(b"(", output)?;
     for number in path {

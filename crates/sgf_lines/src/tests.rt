@@ -5,7 +5,10 @@ use std::test::Fail;
 
 // Each text, and the lines that it is split into.
 const SPLIT: [(&[u8], &[u8]); 4] = [
-    (b"(;SZ[3](;B[aa])(;B[bb];W[aa]))", b"(;SZ[3];B[aa])\n(;SZ[3];B[bb];W[aa])\n"),
+    (
+        b"(;SZ[3](;B[aa])(;B[bb];W[aa]))",
+        b"(;SZ[3];B[aa])\n(;SZ[3];B[bb];W[aa])\n",
+    ),
     (b"(;GaMe[1]C[a\\]b] ;B[aa])", b"(;GM[1]C[a\\]b];B[aa])\n"),
     (b"(;SZ[1])(;SZ[2])", b"(;SZ[1])\n(;SZ[2])\n"),
     (b"(;)", b"(;)\n"),

@@ -1,5 +1,5 @@
 -- One step up the way counts one node more.
-use Rattle.std.proofs.Common.{◌≤◌, arith, rules}
+use Rattle.std.proofs.Common.{rules}
 use Rattle.sgf_lines.proofs.Loops.{count_begins, counts, count_fits, counted_all, height_goes_down}
 use Rattle.sgf_lines.proofs.cursor.depth.Goals as goal
 

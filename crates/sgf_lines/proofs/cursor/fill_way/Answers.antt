@@ -1,6 +1,5 @@
 -- One step up the way writes one node more.
-use Rattle.std.proofs.Common.{◌≤◌, arith, rules}
-use Rattle.sgf_lines.proofs.Loops.{fill_begins, fills, has_place, filled_all, height_goes_down}
+use Rattle.sgf_lines.proofs.Loops.{fill_begins, fills, height_goes_down}
 use Rattle.sgf_lines.proofs.cursor.fill_way.Goals as goal
 
 pub loop-node-init : goal.loop-node-init

@@ -1,5 +1,5 @@
 -- One node more is appended.
-use Rattle.std.proofs.Common.{◌∷◌, [], ◌≤◌, length, ◌≡◌, arith}
+use Rattle.std.proofs.Common.{◌∷◌, [], length, ◌≡◌, arith}
 use Rattle.sgf_tree.specs.FileOrder.{node_at}
 use Rattle.sgf_lines.specs.Record.{node_text}
 use Rattle.sgf_lines.proofs.Joins.{joins, node_named, as_many, ends}

@@ -1,6 +1,4 @@
 -- One line's record more is appended.
-use Rattle.std.proofs.Common.{All, ◌<◌}
-use Rattle.sgf_tree.specs.Tree.{node_count}
 use Rattle.sgf_lines.proofs.Records.{gives_line, goes_on, path_within, is_line_of, fewer_left, writes, all_written}
 use Rattle.sgf_lines.proofs.split.records.Goals as goal
 

@@ -1,7 +1,5 @@
 -- The vector is the path of the line that was given last.
-use Rattle.std.proofs.Common.{◌<◌, ◌≡◌, get_or, arith, rules}
-use Rattle.sgf_tree.specs.Tree.{node_count}
-use Rattle.sgf_lines.proofs.Standings.{IsShown}
+use Rattle.std.proofs.Common.{rules}
 use Rattle.sgf_lines.proofs.Shows.{shows_line, line_is}
 use Rattle.sgf_lines.proofs.cursor.Cursor.line.Goals as goal
 
