@@ -2,9 +2,13 @@ pub mod Shrinks
 pub mod PlacesRise
 pub mod Ends
 pub mod Flat
+pub mod Growth
 pub mod Rows
 pub mod Names
 pub mod ValueEnds
+pub mod ValuesRead
+pub mod NameEnds
+pub mod NodeEnds
 pub mod Held
 pub mod HeldProperties
 pub mod DecimalValue
