@@ -9,6 +9,9 @@ pub mod ValueEnds
 pub mod ValuesRead
 pub mod NameEnds
 pub mod NodeEnds
+pub mod Stacks
+pub mod OwnRuns
+pub mod Marking
 pub mod Held
 pub mod HeldProperties
 pub mod DecimalValue

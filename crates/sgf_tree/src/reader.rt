@@ -5,6 +5,7 @@ ghost use Rattle.sgf_tree.specs.Spelling.{Spells};
 ghost use Rattle.sgf_tree.specs.Refusal.{IsFaultyWhereNotSgf};
 
 mod fault;
+mod games;
 mod properties;
 mod scan;
 
