@@ -12,6 +12,10 @@ pub mod NodeEnds
 pub mod Stacks
 pub mod OwnRuns
 pub mod Marking
+pub mod NodesRead
+pub mod SequencesRead
+pub mod GameEnds
+pub mod LastBelow
 pub mod Held
 pub mod HeldProperties
 pub mod DecimalValue

@@ -12,7 +12,7 @@ use Rattle.sgf_tree.specs.declared.layout.NodeEntry.{NodeEntry}
 abbrev pub mark_of : NodeEntry → ℕ
 mark_of n = n.last_below
 
-get_or-map : {A B : Type 0} (f : A → B) (xs : List A) (i : ℕ) (d : A) → get_or (map f xs) i (f d) ≡ f (get_or xs i d)
+pub get_or-map : {A B : Type 0} (f : A → B) (xs : List A) (i : ℕ) (d : A) → get_or (map f xs) i (f d) ≡ f (get_or xs i d)
 get_or-map f [] i d = refl
 get_or-map f (x ∷ xs) zero d = refl
 get_or-map f (x ∷ xs) (suc i) d = get_or-map f xs i d

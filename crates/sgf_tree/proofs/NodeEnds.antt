@@ -175,5 +175,6 @@ module _ (t : List ℕ) where
         counted = so_far.counted;
         values_counted = so_far.values_counted;
         within = so_far.within;
+        not_white = so_far.not_white;
         reached = λ n none h. node-done end _ (so_far.reached n none h) so_far.not_white upper;
       }

@@ -66,5 +66,6 @@ pub record ArePropertiesRead (t : List ℕ) (at end : ℕ) (ps ps' : List Proper
   pub counted : at + length entries ≤ end
   pub values_counted : at + length added ≤ end
   pub within : end ≤ length t
+  pub not_white : end < length t → is_white (slice_index t end) ≡ false
   pub reached : (n : Started) → n.properties ≡ [] → Reaches t at (in_node n)
       → StandsBehindNode t end (with_properties n (properties_of t vs' (length vs) entries))

@@ -51,7 +51,8 @@ fn read_sequence(
         → IsOpening k link → IsSequenceRead text.now end k entries.new.nodes.items entries.new.properties.items entries.new.values.items) }
     ensures room { IfOk result (λ end. AreAtMost end entries.new.nodes.items entries.new.properties.items entries.new.values.items) }
     ensures within { IfOk result (λ end. end ≤ length text.now) }
-    ensures fault { IfErr result (λ fault. (k : Stack) → Reaches text.now at (opened k) → IsTrueFault text.now fault) }
+    ensures fault { IfErr result (λ fault. (k : Stack) → Reaches text.now at (opened k) → HoldStack text.now k entries.old.nodes.items entries.old.properties.items entries.old.values.items
+        → IsOpening k link → IsTrueFault text.now fault) }
 {
     let place = skip_white(text, at);
     if place == text.len() || text[place] != b';' {
