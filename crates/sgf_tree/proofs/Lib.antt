@@ -16,6 +16,7 @@ pub mod NodesRead
 pub mod SequencesRead
 pub mod GameEnds
 pub mod LastBelow
+pub mod GamesLoop
 pub mod Held
 pub mod HeldProperties
 pub mod DecimalValue

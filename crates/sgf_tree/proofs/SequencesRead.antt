@@ -33,7 +33,7 @@ unfolding accepted
 opened-unaccepted k = refl
 
 -- games that are open are no collection
-open-unaccepted : (closed : Games) (g : OpenGame) (gs : List OpenGame) → accepted (behind_game (record { closed = closed; unclosed = g ∷ gs })) ≡ None
+pub open-unaccepted : (closed : Games) (g : OpenGame) (gs : List OpenGame) → accepted (behind_game (record { closed = closed; unclosed = g ∷ gs })) ≡ None
 unfolding accepted
 open-unaccepted no_games g gs = refl
 open-unaccepted (game first more below behind) g gs = refl

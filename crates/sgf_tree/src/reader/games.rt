@@ -4,7 +4,7 @@ ghost use Rattle.std.specs.Prelude.{◌≡◌, ◌<◌, ◌≤◌, ◌+◌, ℕ,
 ghost use Rattle.sgf_tree.specs.Tree.{Games, no_games, game_count};
 ghost use Rattle.sgf_tree.specs.Machine.{Stack, Started, in_node, opened};
 ghost use Rattle.sgf_tree.specs.Progress.{Reaches, IsTrueFault};
-ghost use Rattle.sgf_tree.specs.GamesRead.{HoldStack, AreAtMost, IsOpening, StandsBetween, IsNodeRead, IsSequenceRead, IsOwnRun, ClosesRun, IsRead};
+ghost use Rattle.sgf_tree.specs.GamesRead.{tip, HoldStack, AreAtMost, IsOpening, StandsBetween, IsNodeRead, IsSequenceRead, IsOwnRun, ClosesRun, IsRead};
 
 use crate::fault::MAX_LENGTH;
 use crate::layout::{Entries, Link, NodeEntry};
@@ -50,6 +50,7 @@ fn read_sequence(
     ensures read { IfOk result (λ end. (k : Stack) → Reaches text.now at (opened k) → HoldStack text.now k entries.old.nodes.items entries.old.properties.items entries.old.values.items
         → IsOpening k link → IsSequenceRead text.now end k entries.new.nodes.items entries.new.properties.items entries.new.values.items) }
     ensures room { IfOk result (λ end. AreAtMost end entries.new.nodes.items entries.new.properties.items entries.new.values.items) }
+    ensures rises { IfOk result (λ end. at ≤ end) }
     ensures within { IfOk result (λ end. end ≤ length text.now) }
     ensures fault { IfErr result (λ fault. (k : Stack) → Reaches text.now at (opened k) → HoldStack text.now k entries.old.nodes.items entries.old.properties.items entries.old.values.items
         → IsOpening k link → IsTrueFault text.now fault) }
@@ -86,6 +87,17 @@ fn close_game(nodes: &mut Vec<NodeEntry>, tip: u32) -> Option<u32>
     }
 }
 
+/// The link of a game's first node, where that many games are whole and the innermost open one has that last node.
+fn opening_link(games: u32, innermost: Option<u32>) -> Link
+    requires { games < MAX_LENGTH }
+    ensures { (k : Stack) → tip k.closed k.unclosed ≡ innermost → game_count k.closed ≡ games → IsOpening k result }
+{
+    match innermost {
+        None => Link::Root(games + 1),
+        Some(parent) => Link::Branch(parent),
+    }
+}
+
 /// Reads all games, of which the first `(` may stand at `at`.
 /// The result is their number.
 pub(crate) fn read_games(
@@ -108,11 +120,7 @@ pub(crate) fn read_games(
     'games: while at < text.len() {
         match text[at] {
             b'(' => {
-                let link = match tip {
-                    None => Link::Root(games + 1),
-                    Some(parent) => Link::Branch(parent),
-                };
-                at = read_sequence(text, at + 1, link, entries)?;
+                at = read_sequence(text, at + 1, opening_link(games, tip), entries)?;
                 tip = Some((entries.nodes.len() - 1) as u32);
             }
             b')' => {

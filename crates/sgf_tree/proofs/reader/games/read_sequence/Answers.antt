@@ -1,8 +1,7 @@
 use Rattle.std.proofs.Common.{◌≡◌, ◌≢◌, ◌<◌, ◌∙◌, ◌++◌, length, get_or, refl, sym, ap, arith}
 use Rattle.std.proofs.lemmas.Result.{err_from_is_err_and}
 use Rattle.sgf_tree.proofs.SequencesRead.{place-faulty, place-node, sequence-first, sequence-next, sequence-done, sequence-node, node-room}
-use Rattle.sgf_tree.proofs.GameEnds.{game-closed}
-use Rattle.sgf_tree.proofs.LastBelow.{IsSpanBelow}
+use Rattle.sgf_tree.proofs.GamesLoop.{games-open}
 use Rattle.sgf_tree.proofs.reader.games.read_sequence.Goals as goal
 use Rattle.sgf_tree.proofs.reader.games.read_sequence.Goals.{then-place-text-via-then-place-text, then-place-text-via-else-place-text+then-text-place-ne59}
 
@@ -33,6 +32,7 @@ nodes-init c =
     let lt : place < length t = omega (arith, c.skip_white-place.ensures.within) in
     let read = c.in_ok-end.ensures.read in
     record {
+      rises = omega (arith, c.skip_white-place.ensures.rises, read.properties.counted);
       within = read.properties.within;
       room = node-room t place c.in_ok-end.end c.args.link _ _ _ _ _ _ (record {
       nodes_at_most = omega (arith, c.requires.room.nodes_at_most, c.skip_white-place.ensures.rises);
@@ -56,6 +56,7 @@ nodes-preserved c =
     let t = c.args.text.now in
     let read = c.in_ok-end-2.ensures.read in
     record {
+      rises = omega (arith, c.nodes.invariant.rises, read.properties.counted);
       within = read.properties.within;
       room = node-room t c.nodes.end c.in_ok-end-2.end _ _ _ _ _ _ _ c.nodes.invariant.room read;
       so_far = λ k behind held opening.

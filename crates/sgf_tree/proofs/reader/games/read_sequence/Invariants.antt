@@ -7,6 +7,7 @@ use Rattle.sgf_tree.proofs.reader.games.read_sequence.Given as goal
 
 abbrev pub invariant-nodes : goal.invariant-nodes
 invariant-nodes l = record {
+  rises : l.at ≤ l.end;
   within : l.end ≤ length l.text;
   room : AreAtMost l.end l.entries.nodes.items l.entries.properties.items l.entries.values.items;
   so_far : (k : Stack) → Reaches l.text l.at (opened k) → HoldStack l.text k l.fn.entries.nodes.items l.fn.entries.properties.items l.fn.entries.values.items → IsOpening k l.fn.link
