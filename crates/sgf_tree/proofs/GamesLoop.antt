@@ -24,7 +24,7 @@ use Rattle.sgf_tree.proofs.Spans.{run-white}
 use Rattle.sgf_tree.proofs.Stacks.{game_count-followed}
 use Rattle.sgf_tree.proofs.ValueEnds.{ends-faulty, refused-faulty}
 
-game-next : (at : ℕ) (k : Stack) (b : ℕ) → step at (behind_game k) b ≡ between_games k b
+pub game-next : (at : ℕ) (k : Stack) (b : ℕ) → step at (behind_game k) b ≡ between_games k b
 unfolding step
 game-next at k b = refl
 

@@ -17,6 +17,8 @@ pub mod SequencesRead
 pub mod GameEnds
 pub mod LastBelow
 pub mod GamesLoop
+pub mod Marks
+pub mod WholeRead
 pub mod Held
 pub mod HeldProperties
 pub mod DecimalValue

@@ -123,3 +123,12 @@ pub record IsRead (t : List ℕ) (c : Games) (ns : List NodeEntry) (ps : List Pr
   pub whole : Reaches t (length t) reached
   pub accepts : accepted reached ≡ Some c
   pub held : HoldStack t (record { closed = c; unclosed = [] }) ns ps vs
+
+-- what may stand before the first game was read: the byte order mark, or nothing
+pub record IsMarkRead (t : List ℕ) (at : ℕ) : Type 0 where
+  pub within : at ≤ length t
+  pub state : State
+  pub reached : Reaches t at state
+  pub next : at < length t
+      → step at state (slice_index t at) ≡ between_games (record { closed = no_games; unclosed = [] }) (slice_index t at)
+  pub end : accepted state ≡ accepted (behind_game (record { closed = no_games; unclosed = [] }))
