@@ -1,5 +1,5 @@
 -- Facts on lists cut by ends.
-use Rattle.std.proofs.Common.{◌≡◌, ℕ, zero, suc, ◌+◌, ◌-◌, ◌<◌, ◌≤◌, List, [], ◌∷◌, ◌++◌, length, get_or, take, drop, refl, sym, ◌∙◌, arith}
+use Rattle.std.proofs.Common.{◌≡◌, ℕ, zero, suc, ◌+◌, ◌-◌, ◌<◌, ◌≤◌, List, [], ◌∷◌, ◌++◌, length, get_or, take, drop, refl, sym, subst, ◌∙◌, arith}
 use Rattle.sgf_tree.specs.Ends.{EndsRise, end_before}
 
 module _ {A : Type 0} (end : A → ℕ) where
@@ -60,3 +60,8 @@ module _ {A : Type 0} (end : A → ℕ) where
     pub ends-push : (from : ℕ) (xs : List A) (to : ℕ) (x : A) → EndsRise end gap from xs to → to + gap ≤ end x → EndsRise end gap from (xs ++ x ∷ []) (end x)
     ends-push from [] to x h le = (omega arith, refl)
     ends-push from (y ∷ xs) to x h le = (h.0, ends-push (end y) xs to x h.1 le)
+
+    -- more elements, whose parts begin where theirs end
+    pub ends-append : (from : ℕ) (xs ys : List A) (mid to : ℕ) → EndsRise end gap from xs mid → EndsRise end gap mid ys to → EndsRise end gap from (xs ++ ys) to
+    ends-append from [] ys mid to h k = subst (λ i. EndsRise end gap i ys to) (sym h) k
+    ends-append from (x ∷ xs) ys mid to h k = (h.0, ends-append (end x) xs ys mid to h.1 k)

@@ -1,8 +1,9 @@
 -- What the flat vectors show, element by element.
 use Rattle.std.proofs.Common.{◌≡◌, ℕ, zero, suc, ◌+◌, ◌-◌, ◌<◌, ◌≤◌, List, [], ◌∷◌, length, get_or, take, drop, slice_get, slice_range, Some, refl, ap, ◌∙◌, arith}
+use Rattle.sgf_tree.specs.Tree as tree
 use Rattle.sgf_tree.specs.Tree.{Property}
 use Rattle.sgf_tree.specs.Ends.{EndsRise, end_before}
-use Rattle.sgf_tree.specs.Layout.{property_from, raw_values, properties_of, row_by, rows_by}
+use Rattle.sgf_tree.specs.Layout.{property_from, name_in, raw_values, properties_of, row_by, rows_by}
 use Rattle.sgf_tree.specs.declared.layout.NodeEntry.{NodeEntry}
 use Rattle.sgf_tree.specs.declared.layout.PropertyEntry.{PropertyEntry}
 use Rattle.sgf_tree.specs.declared.layout.ValueEntry.{ValueEntry}
@@ -16,6 +17,16 @@ values_before from ps i = end_before (λ (p : PropertyEntry). p.values_end) from
 abbrev pub properties_before : List NodeEntry → ℕ → ℕ
 properties_before ns i = end_before (λ (n : NodeEntry). n.properties_end) 0 ns i
 
+-- a property has its values
+pub values-property_from : (name : List ℕ) (vs : List (List ℕ)) → 0 < length vs → tree.values (property_from name vs) ≡ vs
+values-property_from name [] h = absurd (omega arith)
+values-property_from name (v ∷ vs) h = refl
+
+-- and its name
+pub name-property_from : (name : List ℕ) (vs : List (List ℕ)) → (property_from name vs).name ≡ name
+name-property_from name [] = refl
+name-property_from name (v ∷ vs) = refl
+
 module _ (text : List ℕ) (values : List ValueEntry) where
   pub length-properties_of : (from : ℕ) (ps : List PropertyEntry) → length (properties_of text values from ps) ≡ length ps
   length-properties_of from [] = refl
@@ -23,7 +34,7 @@ module _ (text : List ℕ) (values : List ValueEntry) where
 
   -- the property of the entry p whose values begin at `from`
   abbrev pub property_by : ℕ → PropertyEntry → Property
-  property_by from p = property_from (slice_range text p.name_start p.name_end) (raw_values text (slice_range values from p.values_end))
+  property_by from p = property_from (name_in (slice_range text p.name_start p.name_end)) (raw_values text (slice_range values from p.values_end))
 
   pub properties_of-at : (from : ℕ) (ps : List PropertyEntry) (i : ℕ) (d : PropertyEntry) → i < length ps → slice_get (properties_of text values from ps) i ≡ Some (property_by (values_before from ps i) (get_or ps i d))
   properties_of-at from [] i d h = absurd (omega arith)

@@ -6,13 +6,13 @@ use Rattle.std.proofs.lemmas.Option.{slice_get-get_or, slice_get-map}
 use Rattle.sgf_tree.specs.Tree as tree
 use Rattle.sgf_tree.specs.Tree.{Property, Node}
 use Rattle.sgf_tree.specs.Spelling.{is_upper}
-use Rattle.sgf_tree.specs.Layout.{property_from, raw_values, properties_of, IsNodeHeld, IsPropertyHeld, IsSpan}
+use Rattle.sgf_tree.specs.Layout.{property_from, name_in, raw_values, properties_of, IsNodeHeld, IsPropertyHeld, IsSpan}
 use Rattle.sgf_tree.specs.declared.node.NodeRef.TheInside as node
 use Rattle.sgf_tree.specs.declared.property.PropRef.TheInside as property
 use Rattle.sgf_tree.specs.declared.layout.PropertyEntry.{PropertyEntry}
 use Rattle.sgf_tree.specs.declared.layout.ValueEntry.{ValueEntry}
 use Rattle.sgf_tree.proofs.Ends.{end-rises}
-use Rattle.sgf_tree.proofs.Flat.{values_before, property_by, length-properties_of, properties_of-at}
+use Rattle.sgf_tree.proofs.Flat.{values_before, property_by, values-property_from, name-property_from, length-properties_of, properties_of-at}
 
 -- the properties that the fields show
 abbrev properties_shown : node.Inside → List Property
@@ -47,25 +47,15 @@ module _ (s : node.Inside) (held : IsNodeHeld s.text.now s.properties.now s.valu
             All-take (λ (v : ValueEntry). IsSpan (length s.text.now) v.start v.end) (b - a) (drop a s.values.now) (All-drop (λ (v : ValueEntry). IsSpan (length s.text.now) v.start v.end) a s.values.now held.values_within);
       }
 
--- a property has its values
-values-property_from : (identifier : List ℕ) (vs : List (List ℕ)) → 0 < length vs → tree.values (property_from identifier vs) ≡ vs
-values-property_from identifier [] h = absurd (omega arith)
-values-property_from identifier (v ∷ vs) h = refl
-
--- and is named by its identifier
-pub name-property_from : (identifier : List ℕ) (vs : List (List ℕ)) → (property_from identifier vs).name ≡ filter is_upper identifier
-name-property_from identifier [] = refl
-name-property_from identifier (v ∷ vs) = refl
-
-module _ (s : property.Inside) (held : IsPropertyHeld s.text.now s.values.now) (p : Property) (is : property_from s.identifier.now (raw_values s.text.now s.values.now) ≡ p) where
+module _ (s : property.Inside) (held : IsPropertyHeld s.text.now s.values.now) (p : Property) (is : property_from (name_in s.identifier.now) (raw_values s.text.now s.values.now) ≡ p) where
   pub name-held : p.name ≡ filter is_upper s.identifier.now
   name-held =
-      ap (λ (q : Property). q.name) (sym is) ∙ name-property_from s.identifier.now (raw_values s.text.now s.values.now)
+      ap (λ (q : Property). q.name) (sym is) ∙ name-property_from (name_in s.identifier.now) (raw_values s.text.now s.values.now)
 
   raw-held : tree.values p ≡ raw_values s.text.now s.values.now
   raw-held =
       ap tree.values (sym is)
-      ∙ values-property_from s.identifier.now (raw_values s.text.now s.values.now) (omega (arith, held.some_value, length-map s.values.now (λ (v : ValueEntry). slice_range s.text.now v.start v.end)))
+      ∙ values-property_from (name_in s.identifier.now) (raw_values s.text.now s.values.now) (omega (arith, held.some_value, length-map s.values.now (λ (v : ValueEntry). slice_range s.text.now v.start v.end)))
 
   pub count-values-held : length s.values.now ≡ length (tree.values p)
   count-values-held =

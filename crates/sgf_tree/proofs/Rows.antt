@@ -56,10 +56,10 @@ parent_in-first at parent no_games h = absurd (omega arith)
 parent_in-first at parent (game first more below behind) h = refl
 
 -- node i is one of these rows, stands before place j, and the node behind it has it as its parent
-record IsParentWithin (at : ℕ) (rs : List Row) (j i : ℕ) : Type 0 where
-  from : at ≤ i
-  before : i < at + j
-  next : parent_in rs (suc i - at) ≡ Some (Some i)
+pub record IsParentWithin (at : ℕ) (rs : List Row) (j i : ℕ) : Type 0 where
+  pub from : at ≤ i
+  pub before : i < at + j
+  pub next : parent_in rs (suc i - at) ≡ Some (Some i)
 
 within-left : (at : ℕ) (xs ys : List Row) (j i : ℕ) → IsParentWithin at xs j i → IsParentWithin at (xs ++ ys) j i
 within-left at xs ys j i w =
@@ -113,7 +113,7 @@ joined-within at start xs ys j i P e h left right =
     ]
 
 -- a node that has the parent i has the parent of all these games, or i is one of their nodes
-parent-within : (at : ℕ) (parent : Option ℕ) (g : Games) (j i : ℕ) → parent_in (rows at parent g) j ≡ Some (Some i) → (parent ≡ Some i) ⊎ IsParentWithin at (rows at parent g) j i
+pub parent-within : (at : ℕ) (parent : Option ℕ) (g : Games) (j i : ℕ) → parent_in (rows at parent g) j ≡ Some (Some i) → (parent ≡ Some i) ⊎ IsParentWithin at (rows at parent g) j i
 parent-within at parent no_games j i h = absurd (cc)
 parent-within at parent (game first more below behind) j i h =
     let last : ℕ = at + length more in

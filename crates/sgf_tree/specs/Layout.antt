@@ -16,10 +16,14 @@ use Rattle.sgf_tree.specs.declared.layout.ValueEntry.{ValueEntry}
 abbrev pub games_in : List ℕ → Games
 games_in text = unwrap_or (collection_of text) no_games
 
--- a property of its identifier and its raw values
+-- the property of a name and raw values, of which there is one at least
 abbrev pub property_from : List ℕ → List (List ℕ) → Property
-property_from identifier [] = record { name = filter is_upper identifier; first = []; more = [] }
-property_from identifier (v ∷ vs) = record { name = filter is_upper identifier; first = v; more = vs }
+property_from name [] = record { name = name; first = []; more = [] }
+property_from name (v ∷ vs) = record { name = name; first = v; more = vs }
+
+-- the name that an identifier spells
+abbrev pub name_in : List ℕ → List ℕ
+name_in identifier = filter is_upper identifier
 
 -- the raw values of entries
 abbrev pub raw_values : List ℕ → List ValueEntry → List (List ℕ)
@@ -29,7 +33,7 @@ raw_values text values = map (λ v. slice_range text v.start v.end) values
 abbrev pub properties_of : List ℕ → List ValueEntry → ℕ → List PropertyEntry → List Property
 properties_of text values from [] = []
 properties_of text values from (p ∷ ps) =
-    property_from (slice_range text p.name_start p.name_end) (raw_values text (slice_range values from p.values_end))
+    property_from (name_in (slice_range text p.name_start p.name_end)) (raw_values text (slice_range values from p.values_end))
     ∷ properties_of text values p.values_end ps
 
 -- the parent that a link gives to node i

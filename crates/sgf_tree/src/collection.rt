@@ -6,7 +6,7 @@ ghost use Rattle.sgf_tree.specs.Tree.{game_count, node_count};
 ghost use Rattle.sgf_tree.specs.Ends.{end_before};
 ghost use Rattle.sgf_tree.specs.FileOrder.{node_at, place_at, parent_at, IsLeaf, game_of, IsLastBelow, PlacesRise};
 
-use crate::layout::{Link, NodeEntry, PropertyEntry, ValueEntry, part};
+use crate::layout::{Entries, Link, NodeEntry, PropertyEntry, ValueEntry, part};
 use crate::node::{NodeRef, values_start};
 use std::marker::Model;
 
@@ -38,6 +38,27 @@ impl<'a> Model for Collection<'a> {
 }
 
 impl<'a> Collection<'a> {
+    ghost use Rattle.sgf_tree.specs.Layout.{games_in, IsLaidOut};
+
+    /// The collection of the text, which the entries hold.
+    pub(crate) fn new(text: &'a [u8], games: u32, entries: Entries) -> Collection<'a>
+        requires { IsLaidOut text.now games entries.nodes.items entries.properties.items entries.values.items }
+        ensures { result ≡ games_in text.now }
+    {
+        let Entries {
+            nodes,
+            properties,
+            values,
+        } = entries;
+        Collection {
+            text,
+            games,
+            nodes,
+            properties,
+            values,
+        }
+    }
+
     /// The number of games.
     pub fn games(&self) -> usize
         ensures { result ≡ game_count self.now }

@@ -48,3 +48,11 @@ pub(crate) fn part<T>(items: &[T], start: u32, end: u32) -> &[T]
 {
     &items[start as usize..end as usize]
 }
+
+/// The three vectors.
+#[derive(Drop)]
+pub(crate) struct Entries {
+    pub nodes: Vec<NodeEntry>,
+    pub properties: Vec<PropertyEntry>,
+    pub values: Vec<ValueEntry>,
+}

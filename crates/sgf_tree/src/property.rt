@@ -24,9 +24,9 @@ impl<'c, 'a> Model for PropRef<'c, 'a> {
 
     ghost coded = { property_code };
 
-    ghost use Rattle.sgf_tree.specs.Layout.{property_from, raw_values, IsPropertyHeld};
+    ghost use Rattle.sgf_tree.specs.Layout.{property_from, name_in, raw_values, IsPropertyHeld};
 
-    ghost view = { λ p. property_from p.identifier.now (raw_values p.text.now p.values.now) };
+    ghost view = { λ p. property_from (name_in p.identifier.now) (raw_values p.text.now p.values.now) };
 
     ghost invariant = { λ p. IsPropertyHeld p.text.now p.values.now };
 }
