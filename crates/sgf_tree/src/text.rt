@@ -5,7 +5,7 @@ ghost use Rattle.sgf_tree.specs.Text.{text_of, plain as plain_lem};
 
 use crate::fault::MemoryFault;
 
-/// Appends the decoded text of a raw value to `out` (SGF FF[4], SimpleText and Text).
+/// Appends the decoded text of a raw value to `out` (SGF FF[4], Text).
 ///
 /// A `\` before a line break goes with it, and before another byte it goes alone. A line break is CR LF, LF CR, LF or
 /// CR and gives an LF. The bytes 9, 11 and 12 give a space, behind a `\` too, and every other byte gives itself. (That
