@@ -36,3 +36,4 @@ pub mod SpelledAccepted
 pub mod Faults
 pub mod Skipping
 pub mod Spans
+pub mod Literal
