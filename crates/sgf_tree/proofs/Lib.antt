@@ -11,3 +11,4 @@ pub mod SpelledAccepted
 pub mod Faults
 pub mod Skipping
 pub mod Spans
+pub mod Steps
