@@ -12,3 +12,4 @@ pub mod Faults
 pub mod Skipping
 pub mod Spans
 pub mod Steps
+pub mod Examples
