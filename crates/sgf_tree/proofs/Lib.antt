@@ -37,3 +37,5 @@ pub mod Faults
 pub mod Skipping
 pub mod Spans
 pub mod Literal
+pub mod Steps
+pub mod Examples

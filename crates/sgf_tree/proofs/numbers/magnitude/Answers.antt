@@ -1,7 +1,7 @@
 use Rattle.std.proofs.Common.{arith}
 use Rattle.std.proofs.lemmas.Grind.{common_steps}
 use Rattle.sgf_tree.proofs.DecimalValue.{decimal_value-more, digits-more, decimal_value-take}
-use Rattle.sgf_tree.proofs.number.magnitude.Goals as goal
+use Rattle.sgf_tree.proofs.numbers.magnitude.Goals as goal
 
 pub overflow_mul-value : goal.overflow_mul-value
 overflow_mul-value c =
