@@ -12,7 +12,9 @@ ghost use Rattle.sgf_lines.specs.Paths.{paths, IsPathOf};
 /// So no line comes twice, and each is known by its place.
 pub fn rise()
     ensures { (c : Games) (t : List ℕ) → Spells c t → IsStrictlyIncreasing (map place_of (lines c)) }
-{}
+{
+    sgf_tree::laws::places_rise();
+}
 
 /// The paths of a collection name the nodes of its lines, one path for each line, in the same order.
 pub fn named()
