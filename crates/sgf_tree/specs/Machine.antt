@@ -1,7 +1,8 @@
 -- A machine that reads a text byte by byte and keeps the games so far as trees. It stands between the code and the
 -- grammar: the code follows it, and the laws in proofs/ say that it ends with exactly the collection that the text spells.
-use Rattle.std.specs.Prelude.{◌≡◌, ℕ, ◌+◌, Bool, true, false, if◌then◌else◌, ◌==◌, List, [], ◌∷◌, ◌++◌, Option, Some, None, option_and_then, unwrap_or}
+use Rattle.std.specs.Prelude.{ℕ, ◌+◌, Bool, true, false, if◌then◌else◌, ◌==◌, List, [], ◌∷◌, ◌++◌, Option, Some, None, option_and_then}
 use Rattle.sgf_tree.specs.Tree.{Property, Node, Games, no_games, game, values}
+pub use Rattle.sgf_tree.specs.Tree.{followed_by}
 use Rattle.sgf_tree.specs.Spelling.{is_white, is_upper, is_lower}
 
 -- a game whose `)` has not come: its nodes so far, and the games below them so far
@@ -34,11 +35,6 @@ pub data State : Type 0 where
   behind_escape : (node : Started) (name : List ℕ) (before : List (List ℕ)) (value : List ℕ) → State
   behind_value : (node : Started) (property : Property) → State
   behind_game : (stack : Stack) → State
-
--- games, and one more list of games behind them
-abbrev pub followed_by : Games → Games → Games
-followed_by no_games others = others
-followed_by (game first more below behind) others = game first more below (followed_by behind others)
 
 -- a property of the values before and one more
 abbrev pub property_of : List ℕ → List (List ℕ) → List ℕ → Property

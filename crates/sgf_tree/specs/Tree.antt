@@ -1,5 +1,5 @@
 -- What a Smart Game Format text holds: a collection of game trees (SGF FF[4], EBNF).
-use Rattle.std.specs.Prelude.{ℕ, ◌+◌, List, [], ◌∷◌, length}
+use Rattle.std.specs.Prelude.{ℕ, ◌+◌, List, ◌∷◌, length}
 
 -- a property: its name and its raw values, of which there is at least one
 pub record Property : Type 0 where
@@ -32,3 +32,8 @@ abbrev pub node_count : Games → ℕ
 node_count no_games = 0
 node_count (game first more below behind) =
     1 + length more + node_count below + node_count behind
+
+-- games, and further games behind them
+abbrev pub followed_by : Games → Games → Games
+followed_by no_games others = others
+followed_by (game first more below behind) others = game first more below (followed_by behind others)

@@ -1,12 +1,28 @@
-//! The reader.
+//! Reads Smart Game Format (SGF FF[4]) texts.
+//!
+//! - `fault` has the ways in which a call may fail.
+//! - `layout` has the entries of the flat vectors that hold a collection.
+//! - `collection`, `node` and `property` look into a collection that was read.
+//! - `reader` reads one.
+//! - `text` decodes the text of a value, and `numbers` has the value of a number.
+//! - `laws` has what holds of all texts.
 #![tactic(auto)]
 
-ghost use Rattle.std.specs.Prelude.{◌≡◌};
-ghost use Rattle.sgf_tree.specs.FirstFault.{IsFirstFault};
-ghost use Rattle.sgf_tree.specs.FileOrder.{rows_of};
+mod collection;
+mod fault;
+mod layout;
+mod node;
+mod property;
+mod reader;
 
-pub fn echo(x: usize) -> usize
-    ensures { result ≡ x }
-{
-    x
-}
+pub mod laws;
+mod numbers;
+mod text;
+
+pub use collection::Collection;
+pub use fault::{MAX_LENGTH, MemoryFault, ReadFault};
+pub use node::NodeRef;
+pub use numbers::number;
+pub use property::PropRef;
+pub use reader::read;
+pub use text::push_text;

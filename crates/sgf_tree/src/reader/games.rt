@@ -1,0 +1,143 @@
+//! Reading nodes and games.
+
+ghost use Rattle.std.specs.Prelude.{◌≡◌, ◌<◌, ◌≤◌, ◌+◌, ℕ, List, [], ◌∷◌, length, slice_index, IfOk, IfErr, None};
+ghost use Rattle.sgf_tree.specs.Tree.{Games, no_games, game_count};
+ghost use Rattle.sgf_tree.specs.Machine.{Stack, Started, in_node, opened};
+ghost use Rattle.sgf_tree.specs.Progress.{Reaches, IsTrueFault};
+ghost use Rattle.sgf_tree.specs.GamesRead.{tip, HoldStack, AreAtMost, IsOpening, StandsBetween, IsNodeRead, IsSequenceRead, IsOwnRun, ClosesRun, IsRead};
+
+use crate::fault::MAX_LENGTH;
+use crate::layout::{Entries, Link, NodeEntry};
+use crate::reader::fault::Fault;
+use crate::reader::properties::read_properties;
+use crate::reader::scan::skip_white;
+
+/// Reads the node whose `;` stands at `place`.
+/// The result is the offset of the byte behind it and the white space there.
+fn read_node(
+    text: &[u8],
+    place: usize,
+    link: Link,
+    entries: &mut Entries,
+) -> Result<usize, Fault>
+    requires short { length text.now ≤ MAX_LENGTH }
+    requires within { place < length text.now }
+    requires room { AreAtMost place entries.old.nodes.items entries.old.properties.items entries.old.values.items }
+    ensures read { IfOk result (λ end. IsNodeRead text.now place end link entries.old.nodes.items entries.new.nodes.items entries.old.properties.items entries.new.properties.items entries.old.values.items entries.new.values.items) }
+    ensures fault { IfErr result (λ fault. (n : Started) → n.properties ≡ [] → Reaches text.now (place + 1) (in_node n) → IsTrueFault text.now fault) }
+{
+    let end = read_properties(text, place + 1, entries)?;
+    entries.nodes.push(NodeEntry {
+        place: place as u32,
+        properties_end: entries.properties.len() as u32,
+        link,
+        last_below: 0,
+    })?;
+    Ok(end)
+}
+
+/// Reads the own nodes of the game whose `(` stands before `at`. The first one gets that link.
+/// The result is the offset of the byte behind them and the white space there.
+fn read_sequence(
+    text: &[u8],
+    at: usize,
+    link: Link,
+    entries: &mut Entries,
+) -> Result<usize, Fault>
+    requires short { length text.now ≤ MAX_LENGTH }
+    requires within { at ≤ length text.now }
+    requires room { AreAtMost at entries.old.nodes.items entries.old.properties.items entries.old.values.items }
+    ensures read { IfOk result (λ end. (k : Stack) → Reaches text.now at (opened k) → HoldStack text.now k entries.old.nodes.items entries.old.properties.items entries.old.values.items
+        → IsOpening k link → IsSequenceRead text.now end k entries.new.nodes.items entries.new.properties.items entries.new.values.items) }
+    ensures room { IfOk result (λ end. AreAtMost end entries.new.nodes.items entries.new.properties.items entries.new.values.items) }
+    ensures rises { IfOk result (λ end. at ≤ end) }
+    ensures within { IfOk result (λ end. end ≤ length text.now) }
+    ensures fault { IfErr result (λ fault. (k : Stack) → Reaches text.now at (opened k) → HoldStack text.now k entries.old.nodes.items entries.old.properties.items entries.old.values.items
+        → IsOpening k link → IsTrueFault text.now fault) }
+{
+    let place = skip_white(text, at);
+    if place == text.len() || text[place] != b';' {
+        return Err(Fault::NotSgf(place));
+    }
+    let mut end = read_node(text, place, link, entries)?;
+    'nodes: while end < text.len() && text[end] == b';' {
+        end = read_node(text, end, Link::Next, entries)?;
+    }
+    Ok(end)
+}
+
+/// Notes in the own nodes of a game that the last node of all is the last one below them.
+/// `tip` is the last own node. The result is the parent of the first one.
+fn close_game(nodes: &mut Vec<NodeEntry>, tip: u32) -> Option<u32>
+    requires few { length nodes.old.items ≤ MAX_LENGTH }
+    requires within { tip < length nodes.old.items }
+    requires own { (first : ℕ) × IsOwnRun nodes.old.items first tip }
+    ensures { (first : ℕ) → IsOwnRun nodes.old.items first tip → ClosesRun nodes.old.items nodes.new.items first tip result }
+{
+    let last = (nodes.len() - 1) as u32;
+    let mut at = tip as usize;
+    'own: loop {
+        let node = &mut nodes[at];
+        node.last_below = last;
+        match node.link {
+            Link::Root(_) => return None,
+            Link::Branch(parent) => return Some(parent),
+            Link::Next => at -= 1,
+        }
+    }
+}
+
+/// The link of a game's first node, where that many games are whole and the innermost open one has that last node.
+fn opening_link(games: u32, innermost: Option<u32>) -> Link
+    requires { games < MAX_LENGTH }
+    ensures { (k : Stack) → tip k.closed k.unclosed ≡ innermost → game_count k.closed ≡ games → IsOpening k result }
+{
+    match innermost {
+        None => Link::Root(games + 1),
+        Some(parent) => Link::Branch(parent),
+    }
+}
+
+/// Reads all games, of which the first `(` may stand at `at`.
+/// The result is their number.
+pub(crate) fn read_games(
+    text: &[u8],
+    at: usize,
+    entries: &mut Entries,
+) -> Result<u32, Fault>
+    requires short { length text.now ≤ MAX_LENGTH }
+    requires within { at ≤ length text.now }
+    requires begins { StandsBetween text.now at (record { closed = no_games; unclosed = [] }) }
+    requires no_nodes { entries.old.nodes.items ≡ [] }
+    requires no_properties { entries.old.properties.items ≡ [] }
+    requires no_values { entries.old.values.items ≡ [] }
+    ensures read { IfOk result (λ games. (c : Games) × (games ≡ game_count c) × IsRead text.now c entries.new.nodes.items entries.new.properties.items entries.new.values.items) }
+    ensures fault { IfErr result (λ fault. IsTrueFault text.now fault) }
+{
+    let mut at = at;
+    let mut games = 0;
+    let mut tip = None;
+    'games: while at < text.len() {
+        match text[at] {
+            b'(' => {
+                at = read_sequence(text, at + 1, opening_link(games, tip), entries)?;
+                tip = Some((entries.nodes.len() - 1) as u32);
+            }
+            b')' => {
+                let Some(last) = tip else {
+                    return Err(Fault::NotSgf(at));
+                };
+                tip = close_game(&mut entries.nodes, last);
+                if tip.is_none() {
+                    games += 1;
+                }
+                at = skip_white(text, at + 1);
+            }
+            _ => return Err(Fault::NotSgf(at)),
+        }
+    }
+    if tip.is_some() || games == 0 {
+        return Err(Fault::NotSgf(at));
+    }
+    Ok(games)
+}
