@@ -1,5 +1,7 @@
 //! The board: reading and setting points, moves and the score (Tromp-Taylor).
 
+mod areas;
+
 use crate::marks::Marks;
 use crate::points::Point;
 use crate::search::Search;

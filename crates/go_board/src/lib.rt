@@ -20,9 +20,15 @@
 #![tactic(auto)]
 
 mod board;
+mod fault;
 pub mod laws;
+mod list_past;
 mod marks;
+mod past;
 mod points;
+mod reason;
+mod record;
+mod referee;
 mod search;
 mod size;
 mod steps;
@@ -31,8 +37,13 @@ mod values;
 mod vertices;
 
 pub use board::Board;
+pub use fault::{MemoryFault, TurnFault};
+pub use list_past::ListPast;
 pub use marks::Marks;
+pub use past::Past;
 pub use points::{Play, Point, Rect, SetupOp, Vertex};
+pub use reason::Reason;
+pub use referee::Referee;
 pub use size::{MAX_POINTS, MAX_SIDE, Size};
 pub use steps::Steps;
 pub use stones::{Cell, Colour};

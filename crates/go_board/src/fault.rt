@@ -1,0 +1,40 @@
+//! The errors of the crate.
+
+ghost use Rattle.std.specs.Prelude.{◌≡◌};
+ghost use Rattle.go_board.specs.declared.fault.TurnFault.TheVariants.{Memory};
+
+use crate::reason::Reason;
+use std::alloc::{AllocError, AllocFailed};
+
+/// A call wanted memory and was refused it.
+#[derive(Clone, Copy, Debug, PartialEq, Eq)]
+pub struct MemoryFault;
+
+impl From<AllocError> for MemoryFault {
+    fn from(_refused: AllocError) -> MemoryFault {
+        MemoryFault
+    }
+}
+
+impl<T: Drop> From<AllocFailed<T>> for MemoryFault {
+    fn from(_refused: AllocFailed<T>) -> MemoryFault {
+        MemoryFault
+    }
+}
+
+/// Why a turn wasn't taken.
+#[derive(Clone, Copy, Debug, PartialEq, Eq)]
+pub enum TurnFault {
+    /// The turn isn't allowed.
+    Illegal(Reason),
+    /// The turn is allowed, and memory for it was refused.
+    Memory,
+}
+
+impl From<MemoryFault> for TurnFault {
+    ghost from_gives = { λ _ fault. fault ≡ Memory };
+
+    fn from(_refused: MemoryFault) -> TurnFault {
+        TurnFault::Memory
+    }
+}
