@@ -1,1 +1,5 @@
 mod Examples
+pub mod PointLemmas
+pub mod GridLemmas
+pub mod ReachingLemmas
+pub mod RuleLemmas

@@ -11,7 +11,7 @@ ghost use Rattle.go_board.specs.Colour.{stone_of};
 ghost use Rattle.go_board.specs.Point.{IsOn};
 ghost use Rattle.go_board.specs.Grid.{Grid, cell_at, with_cell};
 ghost use Rattle.go_board.specs.Reaching.{Reaches, reaches};
-ghost use Rattle.go_board.specs.Clearing.{clear, has_unreaching};
+ghost use Rattle.go_board.specs.Clearing.{clear, HasUnreaching, has_unreaching};
 ghost use Rattle.go_board.specs.Score.{CountsFor, counts_for};
 
 pub use turns::{areas, reasons};
@@ -50,6 +50,5 @@ pub fn scoring()
 
 /// Some stone doesn't reach empty exactly where a point of the grid has a stone and no path to an empty point.
 pub fn unreaching()
-    ensures { (g : Grid) → (IsTrue (has_unreaching g)
-        ↔ ((p : Point) × (IsOn g.side p × (cell_at g p ≢ Empty) × (¬ (Reaches g Empty p))))) }
+    ensures { (g : Grid) → (IsTrue (has_unreaching g) ↔ HasUnreaching g) }
 {}

@@ -1,0 +1,44 @@
+-- proofs/GridLemmas.antt
+-- Reading the grids and markings that functions of the points make, and grids after a point was set.
+use Rattle.std.proofs.Common.{◌≡◌, ◌≢◌, ℕ, ◌+◌, ◌*◌, ◌<◌, Bool, true, false, List, map, set, length, get_or, refl, sym, ap, ◌∙◌, arith, Decides}
+use Rattle.std.proofs.lemmas.List.{ext_get_or, length-map, get_or-set_same, get_or-set_other, length-set}
+use Rattle.go_board.specs.declared.stones.Cell.{Cell}
+use Rattle.go_board.specs.declared.stones.Cell.TheVariants.{Black, White, Empty}
+use Rattle.go_board.specs.declared.points.Point.{Point}
+use Rattle.go_board.specs.Colour.{same_cell}
+use Rattle.go_board.specs.Point.{IsOn, place_of, point_at, points}
+use Rattle.go_board.specs.Grid.{Grid, cell_at, with_cell, grid_of}
+use Rattle.go_board.specs.Marking.{Marking, is_marked, marking_of}
+use Rattle.go_board.proofs.PointLemmas.{place_below, place_of-injective, length-points, get_or-map-points}
+
+pub Decides-same_cell : (a b : Cell) → Decides (same_cell a b) (a ≡ b)
+Decides-same_cell Black Black = (λ _. refl, λ _. refl)
+Decides-same_cell White White = (λ _. refl, λ _. refl)
+Decides-same_cell Empty Empty = (λ _. refl, λ _. refl)
+Decides-same_cell Black White = (λ h. cc, λ h. cc)
+Decides-same_cell Black Empty = (λ h. cc, λ h. cc)
+Decides-same_cell White Black = (λ h. cc, λ h. cc)
+Decides-same_cell White Empty = (λ h. cc, λ h. cc)
+Decides-same_cell Empty Black = (λ h. cc, λ h. cc)
+Decides-same_cell Empty White = (λ h. cc, λ h. cc)
+
+pub cell_at-grid_of : (side : ℕ) (colour : Point → Cell) (p : Point) → IsOn side p → cell_at (grid_of side colour) p ≡ colour p
+cell_at-grid_of side colour p h = get_or-map-points colour side p Empty h
+
+pub length-grid_of : (side : ℕ) (colour : Point → Cell) → length (grid_of side colour).cells ≡ side * side
+length-grid_of side colour = length-map (points side) colour ∙ length-points side
+
+pub is_marked-marking_of : (side : ℕ) (test : Point → Bool) (p : Point) → IsOn side p → is_marked (marking_of side test) p ≡ test p
+is_marked-marking_of side test p h = get_or-map-points test side p false h
+
+pub length-marking_of : (side : ℕ) (test : Point → Bool) → length (marking_of side test).marks ≡ side * side
+length-marking_of side test = length-map (points side) test ∙ length-points side
+
+pub cell_at-with_cell : (g : Grid) (p : Point) (c : Cell) → IsOn g.side p → length g.cells ≡ g.side * g.side → cell_at (with_cell g p c) p ≡ c
+cell_at-with_cell g p c h all =
+    let below : place_of g.side p < length g.cells = rw all (place_below g.side p h) in
+    get_or-set_same g.cells (place_of g.side p) c Empty below
+
+pub cell_at-with_cell_elsewhere : (g : Grid) (p q : Point) (c : Cell) → IsOn g.side p → IsOn g.side q → q ≢ p → cell_at (with_cell g p c) q ≡ cell_at g q
+cell_at-with_cell_elsewhere g p q c hp hq other =
+    get_or-set_other g.cells (place_of g.side p) (place_of g.side q) c Empty (λ e. other (place_of-injective g.side q p hq hp e))
