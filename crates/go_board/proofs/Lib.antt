@@ -3,5 +3,6 @@ pub mod PointLemmas
 pub mod GridLemmas
 pub mod ReachingLemmas
 pub mod RuleLemmas
-pub mod SameCells
 pub mod EntryLemmas
+pub mod FrontLemmas
+pub mod SearchLemmas

@@ -1,7 +1,8 @@
 -- proofs/list_past/stretch_has/Answers.antt
 use Rattle.std.proofs.Common.{◌≡◌, ◌-◌, suc, arith, refl, sym, ◌∙◌, true, false}
 use Rattle.std.proofs.lemmas.Bool.{false≢true}
-use Rattle.go_board.proofs.SameCells.{Decides-cells}
+use Rattle.std.proofs.lemmas.Slice.Eq.{slice_eq-Decides}
+use Rattle.go_board.proofs.GridLemmas.{Decides-cell_eq}
 use Rattle.go_board.proofs.EntryLemmas.{Has-none, Has-found, Has-more, Has-cases}
 use Rattle.go_board.proofs.list_past.stretch_has.Goals as goal
 
@@ -11,21 +12,21 @@ loop-i-init c = (λ h. h, λ h. h)
 pub returns-then-eq : goal.returns-then-eq
 returns-then-eq c =
     let e : c.loop-i.i ≡ suc (c.loop-i.i - 1) = omega arith in
-    let same = (Decides-cells _ _ c.eq.result c.eq.ensures).0 c.if-eq.true in
+    let same = (slice_eq-Decides Decides-cell_eq _ _ c.eq.result c.eq.ensures).0 c.if-eq.true in
     (λ _. c.loop-i.invariant.1 (Has-found _ _ c.points-points.ensures.value _ _ _ _ _ e same), λ _. refl)
 
 pub returns-then-marks-i : goal.returns-then-marks-i
 returns-then-marks-i c =
     let e : c.loop-i.i ≡ suc (c.loop-i.i - 1) = omega arith in
     (λ t. absurd (false≢true t), λ h.
-      let later = Has-cases _ _ c.points-points.ensures.value _ _ _ _ _ e (λ same. false≢true (sym c.if-eq.false ∙ (Decides-cells _ _ c.eq.result c.eq.ensures).1 same)) (c.loop-i.invariant.0 h) in
+      let later = Has-cases _ _ c.points-points.ensures.value _ _ _ _ _ e (λ same. false≢true (sym c.if-eq.false ∙ (slice_eq-Decides Decides-cell_eq _ _ c.eq.result c.eq.ensures).1 same)) (c.loop-i.invariant.0 h) in
       sym later.0 ∙ c.if-marks-i.true)
 
 pub loop-i-preserved : goal.loop-i-preserved
 loop-i-preserved c =
     let e : c.loop-i.i ≡ suc (c.loop-i.i - 1) = omega arith in
     (λ h.
-      (Has-cases _ _ c.points-points.ensures.value _ _ _ _ _ e (λ same. false≢true (sym c.if-eq.false ∙ (Decides-cells _ _ c.eq.result c.eq.ensures).1 same)) (c.loop-i.invariant.0 h)).1, λ h. c.loop-i.invariant.1 (Has-more _ _ c.points-points.ensures.value _ _ _ _ _ e c.if-marks-i.false h))
+      (Has-cases _ _ c.points-points.ensures.value _ _ _ _ _ e (λ same. false≢true (sym c.if-eq.false ∙ (slice_eq-Decides Decides-cell_eq _ _ c.eq.result c.eq.ensures).1 same)) (c.loop-i.invariant.0 h)).1, λ h. c.loop-i.invariant.1 (Has-more _ _ c.points-points.ensures.value _ _ _ _ _ e c.if-marks-i.false h))
 
 pub returns : goal.returns
 returns c =
