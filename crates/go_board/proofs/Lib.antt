@@ -6,3 +6,5 @@ pub mod RuleLemmas
 pub mod EntryLemmas
 pub mod FrontLemmas
 pub mod SearchLemmas
+pub mod RecordLemmas
+pub mod AreaLemmas

@@ -28,8 +28,8 @@ impl Board {
         let side = usize::from(self.size.side());
         let first = usize::from(op.area.first.col);
         let last = usize::from(op.area.last.col);
-        for row in op.area.first.row..=op.area.last.row {
-            let start = usize::from(row) * side;
+        for row in usize::from(op.area.first.row)..usize::from(op.area.last.row) + 1 {
+            let start = row * side;
             self.cells[start + first..start + last + 1].fill(op.cell);
         }
     }
