@@ -5,3 +5,5 @@ pub mod ReachingLemmas
 pub mod RuleLemmas
 pub mod FrontLemmas
 pub mod SearchLemmas
+pub mod NeighbourLemmas
+pub mod FloodLemmas
