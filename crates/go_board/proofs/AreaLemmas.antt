@@ -2,6 +2,7 @@
 -- An area coloured row by row.
 use Rattle.std.proofs.Common.{◌≡◌, ◌≢◌, ℕ, suc, ◌+◌, ◌-◌, ◌*◌, ◌<◌, ◌≤◌, ◌⊎◌, inl, inr, Bool, true, false, ◌&&◌, nat_le, List, [], ◌∷◌, ◌++◌, fold, length, get_or, take, drop, replicate, map, refl, sym, ap, ◌∙◌, arith, rules, cond, Decides}
 use Rattle.std.proofs.lemmas.List.{places, get_or-take, length-take, get_or-replicate, length-replicate}
+use Rattle.std.proofs.lemmas.List.Sums.{fold_more}
 use Rattle.std.proofs.lemmas.Bool.{cases_order, cases_lt, cases_Bool, cond-true, cond-false, false≢true}
 use Rattle.std.proofs.lemmas.Bool.Decides.{Decides-and, leb_tells, not_from_Decides}
 use Rattle.std.proofs.Math.Nat.{mul-le-mul_right}
@@ -187,3 +188,8 @@ side-with_area g op = refl
 pub side-with_areas : (g : Grid) (ops : List SetupOp) → (fold with_area g ops).side ≡ g.side
 side-with_areas g [] = refl
 side-with_areas g (op ∷ ops) = side-with_areas (with_area g op) ops ∙ side-with_area g op
+
+-- one area more
+pub areas_more : (g before after : Grid) (ops : List SetupOp) (i : ℕ) (d : SetupOp) → i < length ops → after ≡ with_area before (get_or ops i d) → before.side ≡ g.side → before ≡ fold with_area g (take i ops) → (after.side ≡ g.side) × (after ≡ fold with_area g (take (i + 1) ops))
+areas_more g before after ops i d within step same so_far =
+    (ap (λ (h : Grid). h.side) step ∙ side-with_area before (get_or ops i d) ∙ same, step ∙ ap (λ h. with_area h (get_or ops i d)) so_far ∙ sym (fold_more with_area g ops i d within))

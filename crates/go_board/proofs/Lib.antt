@@ -8,3 +8,5 @@ pub mod FrontLemmas
 pub mod SearchLemmas
 pub mod RecordLemmas
 pub mod AreaLemmas
+pub mod NeighbourLemmas
+pub mod FloodLemmas
