@@ -190,6 +190,6 @@ side-with_areas g [] = refl
 side-with_areas g (op ∷ ops) = side-with_areas (with_area g op) ops ∙ side-with_area g op
 
 -- one area more
-pub areas_more : (g before after : Grid) (ops : List SetupOp) (i : ℕ) (d : SetupOp) → i < length ops → after ≡ with_area before (get_or ops i d) → before.side ≡ g.side → before ≡ fold with_area g (take i ops) → (after.side ≡ g.side) × (after ≡ fold with_area g (take (i + 1) ops))
-areas_more g before after ops i d within step same so_far =
+pub areas_more : (g before coloured : Grid) (ops : List SetupOp) (i : ℕ) (d : SetupOp) → i < length ops → coloured ≡ with_area before (get_or ops i d) → before.side ≡ g.side → before ≡ fold with_area g (take i ops) → (coloured.side ≡ g.side) × (coloured ≡ fold with_area g (take (i + 1) ops))
+areas_more g before coloured ops i d within step same so_far =
     (ap (λ (h : Grid). h.side) step ∙ side-with_area before (get_or ops i d) ∙ same, step ∙ ap (λ h. with_area h (get_or ops i d)) so_far ∙ sym (fold_more with_area g ops i d within))

@@ -10,3 +10,4 @@ pub mod RecordLemmas
 pub mod AreaLemmas
 pub mod NeighbourLemmas
 pub mod FloodLemmas
+pub mod TurnLemmas

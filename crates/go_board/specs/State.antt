@@ -99,13 +99,10 @@ pub record IsFirstReason (s : State) (k : Colour) (x : Play) (r : Reason) : Type
 abbrev pub is_over : State → Bool
 is_over s = s.passes == 2
 
--- whether that player must move
-abbrev pub must_move : State → Colour → Bool
-must_move s k = is_player s.player k
-  where
-    is_player : Option Colour → Colour → Bool
-    is_player None k = false
-    is_player (Some l) k = same_cell (stone_of l) (stone_of k)
+-- whether that player, k, must move
+abbrev pub must_move : Option Colour → Colour → Bool
+must_move None k = false
+must_move (Some l) k = same_cell (stone_of l) (stone_of k)
 
 -- whether the two colourings are the same
 abbrev pub same_grid : Grid → Grid → Bool
@@ -125,7 +122,7 @@ is_repeat s k (Stone p) = list_any (same_grid (play s.colouring k p)) s.seen
 abbrev pub reason_of : State → Colour → Play → Option Reason
 reason_of s k x =
     if is_over s then Some Over
-    else (if must_move s (opponent k) then Some Turn
+    else (if must_move s.player (opponent k) then Some Turn
     else (if is_occupied s x then Some Occupied
     else (if is_repeat s k x then Some Repeat else None)))
 
