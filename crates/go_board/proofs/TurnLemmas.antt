@@ -8,6 +8,7 @@ use Rattle.std.proofs.lemmas.Slice.Eq.{slice_eq-Decides}
 use Rattle.go_board.specs.declared.stones.Colour.{Colour}
 use Rattle.go_board.specs.declared.points.Point.{Point}
 use Rattle.go_board.specs.declared.points.Play.{Play}
+use Rattle.go_board.specs.declared.points.SetupOp.{SetupOp}
 use Rattle.go_board.specs.declared.points.Play.TheVariants.{Pass, Stone}
 use Rattle.go_board.specs.declared.reason.Reason.{Reason}
 use Rattle.go_board.specs.declared.reason.Reason.TheVariants.{Mixed, TwoMoves, BadSetup, BadPoint, Over, Turn, Occupied, Repeat}
@@ -16,10 +17,11 @@ use Rattle.go_board.specs.declared.stones.Colour.TheVariants.{Black, White}
 use Rattle.go_board.specs.Colour.{opponent, same_cell}
 use Rattle.go_board.specs.Grid.{Grid, cell_at}
 use Rattle.go_board.specs.Clearing.{play}
-use Rattle.go_board.specs.State.{State, is_over, must_move, is_occupied, is_repeat, same_grid, reason_of, Forbids, IsFirstReason, place_in_order}
+use Rattle.go_board.specs.State.{State, is_over, must_move, is_occupied, is_repeat, same_grid, reason_of, Forbids, IsFirstReason, place_in_order, set_up, turned}
 use Rattle.go_board.specs.Records.{made_by}
 use Rattle.go_board.proofs.GridLemmas.{Decides-same_cell}
 use Rattle.go_board.proofs.RuleLemmas.{side-clear, false_from_Decides}
+use Rattle.go_board.proofs.AreaLemmas.{side-with_areas}
 use Rattle.go_board.proofs.EntryLemmas.{Contains-none, Contains-later, Contains-cases}
 
 -- a list has the element that some test finds
@@ -167,3 +169,12 @@ first_reason s k x r =
     let occupied = Decides-occupied s k x in
     let repeat = Decides-repeat s k x in
     (first_by_tests s k x _ _ _ _ over turn occupied repeat r, named_by_tests s k x _ _ _ _ over turn occupied repeat r)
+
+-- setups and turns leave the side
+pub side-set_up : (s : State) (ops : List SetupOp) (player : Option Colour) → (set_up s ops player).colouring.side ≡ s.colouring.side
+side-set_up s [] player = refl
+side-set_up s (op ∷ ops) player = side-with_areas s.colouring (op ∷ ops)
+
+pub side-turned : (s : State) (k : Colour) (x : Play) → (turned s k x).colouring.side ≡ s.colouring.side
+side-turned s k Pass = refl
+side-turned s k (Stone p) = side-play s.colouring k p

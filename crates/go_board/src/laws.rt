@@ -14,7 +14,7 @@ ghost use Rattle.go_board.specs.Reaching.{Reaches, reaches};
 ghost use Rattle.go_board.specs.Clearing.{clear, HasUnreaching, has_unreaching};
 ghost use Rattle.go_board.specs.Score.{CountsFor, counts_for};
 
-pub use turns::{areas, reasons};
+pub use turns::{areas, reasons, sides};
 
 /// The function `reaches` tells exactly the points of the grid that reach a colour by a path.
 pub fn reaching()
