@@ -7,3 +7,4 @@ pub mod FrontLemmas
 pub mod SearchLemmas
 pub mod NeighbourLemmas
 pub mod FloodLemmas
+pub mod SweepLemmas

@@ -13,6 +13,7 @@
 //! | `search` | the worklist of a flood |
 //! | `board` | the board: reading, setting, moves, score |
 //! | `flood` | which points reach a colour |
+//! | `sweep` | passes over all points: clearing, counting |
 //! | `laws` | what the words of the contracts mean |
 //!
 //! A point *reaches* a colour where a path of adjacent points of the point's own colour leads from it to a point of
@@ -29,6 +30,7 @@ mod search;
 mod size;
 mod steps;
 mod stones;
+mod sweep;
 mod values;
 mod vertices;
 
