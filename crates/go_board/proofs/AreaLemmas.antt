@@ -81,10 +81,10 @@ module _ (side : ℕ) (op : SetupOp) (row a k : ℕ) (old new : List Cell) (so_f
   inside_more : (p : Point) → IsOn side p → IsAbove op.area (row + 1) p → get_or after (place_of side p) Empty ≡ op.cell
   inside_more p on h =
       elim (cases_order p.row row) [
-        inl e ↦ (let same : p.row * side ≡ row * side = ap (λ r. r * side) e in
-          cell_within p (omega (arith, h.right_of)) (omega (arith, h.left_of)))
+        | inl e ↦ (let same : p.row * side ≡ row * side = ap (λ r. r * side) e in
+            cell_within p (omega (arith, h.right_of)) (omega (arith, h.left_of)))
         | inr (inl less) ↦ (let above = place_above side p row on.0 less in
-          cell_before p (omega arith) ∙ so_far.inside p on (record { right_of = h.right_of; left_of = h.left_of; below = h.below; above = less }))
+            cell_before p (omega arith) ∙ so_far.inside p on (record { right_of = h.right_of; left_of = h.left_of; below = h.below; above = less }))
         | inr (inr more) ↦ absurd (omega (arith, h.above))
       ]
 
@@ -92,18 +92,18 @@ module _ (side : ℕ) (op : SetupOp) (row a k : ℕ) (old new : List Cell) (so_f
   outside_more p on not =
       let not_above : ¬ IsAbove op.area row p = λ h. not (record { right_of = h.right_of; left_of = h.left_of; below = h.below; above = omega (arith, h.above) }) in
       elim (cases_order p.row row) [
-        inl e ↦ (let same : p.row * side ≡ row * side = ap (λ r. r * side) e in
-          elim (cases_lt p.col op.area.first.col) [
-            inl left ↦ (cell_before p (omega arith) ∙ so_far.outside p on not_above)
-            | inr within ↦ elim (cases_lt op.area.last.col p.col) [
-              inl right ↦ (cell_behind p (omega arith) ∙ so_far.outside p on not_above)
-              | inr inner ↦ absurd (not (record { right_of = within; left_of = inner; below = omega arith; above = omega arith }))
-            ]
-          ])
+        | inl e ↦ (let same : p.row * side ≡ row * side = ap (λ r. r * side) e in
+            elim (cases_lt p.col op.area.first.col) [
+              | inl left ↦ (cell_before p (omega arith) ∙ so_far.outside p on not_above)
+              | inr within ↦ elim (cases_lt op.area.last.col p.col) [
+                | inl right ↦ (cell_behind p (omega arith) ∙ so_far.outside p on not_above)
+                | inr inner ↦ absurd (not (record { right_of = within; left_of = inner; below = omega arith; above = omega arith }))
+              ]
+            ])
         | inr (inl less) ↦ (let above = place_above side p row on.0 less in
-          cell_before p (omega arith) ∙ so_far.outside p on not_above)
+            cell_before p (omega arith) ∙ so_far.outside p on not_above)
         | inr (inr more) ↦ (let behind = place_below_row side p row more in
-          cell_behind p (omega (arith, on_board.1.0)) ∙ so_far.outside p on not_above)
+            cell_behind p (omega (arith, on_board.1.0)) ∙ so_far.outside p on not_above)
       ]
 
   pub coloured_more : IsColouredTo side op (row + 1) old (put_mid a k new (replicate k op.cell))
@@ -122,7 +122,7 @@ IsIn r p = ((r.first.col ≤ p.col) × (p.col ≤ r.last.col)) × ((r.first.row 
 Decides-leb : (a b : ℕ) → Decides (nat_le a b) (a ≤ b)
 Decides-leb a b =
     elim (leb_tells a b) [
-      inl h ↦ (λ _. h.1, λ _. h.0)
+      | inl h ↦ (λ _. h.1, λ _. h.0)
       | inr h ↦ (λ t. absurd (false≢true (sym h.0 ∙ t)), λ l. absurd (omega (arith, h.1)))
     ]
 
@@ -146,11 +146,11 @@ module _ (side : ℕ) (op : SetupOp) (row : ℕ) (old new : List Cell) (done : I
   unfolding cell_of
   each_cell p on =
       elim (cases_Bool (is_in op.area p)) [
-        inl in_it ↦ (let h = (Decides-is_in op.area p).0 in_it in
-          done.inside p on (record { right_of = h.0.0; left_of = h.0.1; below = h.1.0; above = omega (arith, h.1.1) }) ∙ sym (cond-true _ _ _ in_it))
+        | inl in_it ↦ (let h = (Decides-is_in op.area p).0 in_it in
+            done.inside p on (record { right_of = h.0.0; left_of = h.0.1; below = h.1.0; above = omega (arith, h.1.1) }) ∙ sym (cond-true _ _ _ in_it))
         | inr out ↦ (
-          done.outside p on (λ h. not_from_Decides _ (Decides-is_in op.area p) out ((h.right_of, h.left_of), (h.below, omega (arith, h.above))))
-          ∙ sym (cell_at-front p on) ∙ sym (cond-false _ _ _ out))
+            done.outside p on (λ h. not_from_Decides _ (Decides-is_in op.area p) out ((h.right_of, h.left_of), (h.below, omega (arith, h.above))))
+            ∙ sym (cell_at-front p on) ∙ sym (cond-false _ _ _ out))
       ]
 
   pub coloured_all : record { side = side; cells = take (side * side) new } ≡ with_area (record { side = side; cells = take (side * side) old }) op
@@ -158,11 +158,11 @@ module _ (side : ℕ) (op : SetupOp) (row : ℕ) (old new : List Cell) (done : I
   coloured_all =
       let long : length (take (side * side) new) ≡ side * side = length-take (side * side) new ∙ omega (arith, done.same_length) in
       let cells : take (side * side) new ≡ map cell_of (points side) =
-        is_map-points cell_of side (take (side * side) new) Empty long
-        (λ i h.
-          get_or-take (side * side) new i Empty h
-          ∙ ap (λ j. get_or new j Empty) (sym (place_of-point_at side i h))
-          ∙ each_cell (point_at side i) (IsOn-point_at side i h)) in
+      is_map-points cell_of side (take (side * side) new) Empty long
+      (λ i h.
+      get_or-take (side * side) new i Empty h
+      ∙ ap (λ j. get_or new j Empty) (sym (place_of-point_at side i h))
+      ∙ each_cell (point_at side i) (IsOn-point_at side i h)) in
       ap (λ (cs : List Cell). record { side = side; cells = cs }) cells
 
 -- one row more, as the code writes it

@@ -112,7 +112,7 @@ held-pop side kept mark cells cells' marks marks' fits is_kept less_cells less_m
     let joined : cells ≡ cells' ++ drop kept cells = rw less_cells (sym (take-append-drop kept cells)) in
     rw last
     (sym (subst (λ (cs : List Cell). entries side cs marks (length marks) ≡ record { colouring = record { side = side; cells = drop kept cells }; begins = mark } ∷ entries side cells' marks' (length marks')) (sym joined)
-      (rw less_marks (entries-push side cells' (drop kept cells) marks' mark front back))))
+    (rw less_marks (entries-push side cells' (drop kept cells) marks' mark front back))))
 
 -- the stretch has a colouring that isn't the newest exactly where it goes on and the others have it
 pub held-has : (r : Bool) (newest grid : Grid) (begins : Bool) (cells : List Cell) (marks : List Bool) → newest.side ≡ grid.side → begins ≡ false → newest ≢ grid → (IsTrue r ↔ Has newest.side cells marks grid.cells (length marks)) → IsTrue r ↔ Contains (present_stretch (record { colouring = newest; begins = begins } ∷ entries newest.side cells marks (length marks))) grid

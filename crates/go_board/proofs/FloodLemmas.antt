@@ -49,7 +49,7 @@ Grows-refl s = record {
   keeps = λ p h. h;
   longer = omega arith;
   same_found = λ i h. refl;
-  same_taken = refl
+  same_taken = refl;
 }
 
 pub Grows-trans : (s t u : Searched) → Grows s t → Grows t u → Grows s u
@@ -58,7 +58,7 @@ Grows-trans s t u a b = record {
   keeps = λ p h. b.keeps p (a.keeps p h);
   longer = omega (arith, a.longer, b.longer);
   same_found = λ i h. b.same_found i (omega (arith, h, a.longer)) ∙ a.same_found i h;
-  same_taken = b.same_taken ∙ a.same_taken
+  same_taken = b.same_taken ∙ a.same_taken;
 }
 
 pub IsClosed-grows : (g : Grid) (k : Cell) (s t : Searched) (n : ℕ) → Grows s t → n ≤ length s.found → IsClosed g k s n → IsClosed g k t n
@@ -110,11 +110,11 @@ module _ (g : Grid) (k : Cell) (s : Searched) (p : Point) (flood : IsFlood g k s
     same_side = flood.same_side;
     all_marks = length-set s.marking.marks (place_of s.marking.side p) true ∙ flood.all_marks;
     reaching = λ q at h.
-      elim (marked_next q at h)
-      [ inl e ↦ subst (λ x. Reaches g k x) e way | inr before ↦ flood.reaching q at before ];
+        elim (marked_next q at h)
+        [ inl e ↦ subst (λ x. Reaches g k x) e way | inr before ↦ flood.reaching q at before ];
     listed = λ q at h.
-      elim (marked_next q at h)
-      [ inl e ↦ subst (λ x. Listed next x) e listed_new | inr before ↦ listed_next q (flood.listed q at before) ]
+        elim (marked_next q at h)
+        [ inl e ↦ subst (λ x. Listed next x) e listed_new | inr before ↦ listed_next q (flood.listed q at before) ];
   }
 
   Grows-next : Grows s next
@@ -123,7 +123,7 @@ module _ (g : Grid) (k : Cell) (s : Searched) (p : Point) (flood : IsFlood g k s
     keeps = λ q h. is_marked-with_mark_keeps s.marking p q h;
     longer = omega (arith, length_push s.found p);
     same_found = λ i h. get_or_append_left s.found (p ∷ []) origin i h;
-    same_taken = refl
+    same_taken = refl;
   }
 
   marked-next : IsTrue (is_marked next.marking p)
@@ -151,7 +151,7 @@ Decides-reaches_through g k p q = Decides-or _ _ (Decides-same_cell _ _) (Decide
 reached_through : (g : Grid) (k : Cell) (p q : Point) → IsOn g.side p → IsOn g.side q → AreAdjacent p q → Reaches g k p → IsTrue (reaches_through g k p q) → Reaches g k q
 reached_through g k p q on at beside way through =
     let kind : (cell_at g p ≡ cell_at g q) ⊎ (cell_at g p ≡ k) =
-      elim ((Decides-reaches_through g k p q).0 through) [ inl there ↦ inr there | inr same ↦ inl (sym same) ] in
+    elim ((Decides-reaches_through g k p q).0 through) [ inl there ↦ inr there | inr same ↦ inl (sym same) ] in
     path_by_step g k q p at (AreAdjacent-sym p q beside) on kind way
 
 -- what holds once a neighbour of p was dealt with
@@ -168,13 +168,13 @@ module _ (g : Grid) (k : Cell) (p : Point) (on : IsOn g.side p) (way : Reaches g
       record {
         flood = done.0;
         grows = done.1;
-        marked = λ r same _. let e' : q ≡ r = cc in subst (λ x. IsTrue (is_marked (with_found s q).marking x)) e' done.2
+        marked = λ r same _. let e' : q ≡ r = cc in subst (λ x. IsTrue (is_marked (with_found s q).marking x)) e' done.2;
       }
   found_by q s false e flood at beside = record {
     flood = flood;
     grows = Grows-refl s;
     marked = λ r same through. let e' : q ≡ r = cc in
-      absurd (false≢true (sym e ∙ subst (λ x. IsTrue (reaches_through g k p x)) (sym e') through))
+        absurd (false≢true (sym e ∙ subst (λ x. IsTrue (reaches_through g k p x)) (sym e') through));
   }
 
   neighbour_done : (to : Option Point) (s : Searched) → AllNeighbour g.side p to → IsFlood g k s → NeighbourDone g k p to s (with_neighbour g k p to s)
@@ -200,17 +200,17 @@ module _ (g : Grid) (k : Cell) (p : Point) (on : IsOn g.side p) (way : Reaches g
       let left = neighbour_done (left_of p) s (left-neighbour g.side p on) flood in
       let right = neighbour_done (right_of g.side p) a (right-neighbour g.side p on) left.flood in
       let up = neighbour_done (above p) b (above-neighbour g.side p on) right.flood in
-      let down = neighbour_done (below g.side p) c (below-neighbour g.side p on) up.flood in
-      ( down.flood
-      , Grows-trans s a d left.grows
-          (Grows-trans a b d right.grows (Grows-trans b c d up.grows down.grows))
-      , λ q at beside through.
-          elim (IsNeighbour-adjacent g.side p q at beside)
-          [ inl e ↦ down.grows.keeps q (up.grows.keeps q (right.grows.keeps q (left.marked q e through)))
-          | inr (inl e) ↦ down.grows.keeps q (up.grows.keeps q (right.marked q e through))
-          | inr (inr (inl e)) ↦ down.grows.keeps q (up.marked q e through)
-          | inr (inr (inr e)) ↦ down.marked q e through
-          ]
+      let down = neighbour_done (below g.side p) c (below-neighbour g.side p on) up.flood in (
+        down.flood,
+        Grows-trans s a d left.grows
+            (Grows-trans a b d right.grows (Grows-trans b c d up.grows down.grows)),
+        λ q at beside through.
+            elim (IsNeighbour-adjacent g.side p q at beside) [
+              | inl e ↦ down.grows.keeps q (up.grows.keeps q (right.grows.keeps q (left.marked q e through)))
+              | inr (inl e) ↦ down.grows.keeps q (up.grows.keeps q (right.marked q e through))
+              | inr (inr (inl e)) ↦ down.grows.keeps q (up.marked q e through)
+              | inr (inr (inr e)) ↦ down.marked q e through
+            ],
       )
 
 -- the points of the colour are marked
@@ -229,7 +229,7 @@ IsFlood-taken g k s n flood = record {
   same_side = flood.same_side;
   all_marks = flood.all_marks;
   reaching = flood.reaching;
-  listed = flood.listed
+  listed = flood.listed;
 }
 
 -- one point more is taken and dealt with
@@ -242,17 +242,17 @@ IsUnderWay-step g k s p way more here on marked =
     let taken : t.taken ≡ s.taken + 1 = done.1.same_taken in
     let same : get_or t.found s.taken origin ≡ p = done.1.same_found s.taken more ∙ here in
     let closed : IsClosed g k t (s.taken + 1) =
-      below_more _ _ (IsClosed-grows g k next t s.taken done.1 way.in_turn way.closed)
-      (λ q at beside through.
-        done.2 q at (subst (λ x. AreAdjacent x q) same beside)
-        (subst (λ x. IsTrue (reaches_through g k x q)) same through)) in
-    ( record {
+    below_more _ _ (IsClosed-grows g k next t s.taken done.1 way.in_turn way.closed)
+    (λ q at beside through.
+    done.2 q at (subst (λ x. AreAdjacent x q) same beside)
+    (subst (λ x. IsTrue (reaches_through g k x q)) same through)) in (
+      record {
         flood = done.0;
         seeded = λ q at colour. done.1.keeps q (way.seeded q at colour);
         closed = subst (IsClosed g k t) (sym taken) closed;
-        in_turn = omega (arith, taken, more, done.1.longer)
-      }
-    , taken
+        in_turn = omega (arith, taken, more, done.1.longer);
+      },
+      taken,
     )
 
 -- once all points found were taken, all that reaches the colour is marked
@@ -263,8 +263,8 @@ complete g k s way all own p (q ∷ path) leads =
     let at = Leads-on g own k q path leads.3 in
     let listed = way.flood.listed q at (complete g k s way all own q path leads.3) in
     let through : IsTrue (reaches_through g k q p) =
-      (Decides-reaches_through g k q p).1
-      (elim (step_kind g own k p q path leads) [ inl same ↦ inr (sym same) | inr there ↦ inl there ]) in
+    (Decides-reaches_through g k q p).1
+    (elim (step_kind g own k p q path leads) [ inl same ↦ inr (sym same) | inr there ↦ inl there ]) in
     way.closed listed.0 (omega (arith, all, listed.1)) p leads.0
     (subst (λ x. AreAdjacent x p) (sym listed.2) (AreAdjacent-sym p q leads.2))
     (subst (λ x. IsTrue (reaches_through g k x p)) (sym listed.2) through)
@@ -294,10 +294,10 @@ points_done g k (p ∷ ps) s all flood =
     let on = All-head (IsOn g.side) p ps all in
     let first = point_done g k p s (same_cell (cell_at g p) k) refl flood on in
     let here = cond (same_cell (cell_at g p) k) (with_found s p) s in
-    let rest = points_done g k ps here (All-tail (IsOn g.side) p ps all) first.0 in
-    ( rest.0
-    , Grows-trans _ _ _ first.1 rest.1
-    , IsMarkedAlong-cons g k p ps (with_points g k ps here) (λ c. rest.1.keeps p (first.2 c)) rest.2
+    let rest = points_done g k ps here (All-tail (IsOn g.side) p ps all) first.0 in (
+      rest.0,
+      Grows-trans _ _ _ first.1 rest.1,
+      IsMarkedAlong-cons g k p ps (with_points g k ps here) (λ c. rest.1.keeps p (first.2 c)) rest.2,
     )
 
 not_marked : (n i : ℕ) → get_or (replicate n false) i false ≡ false
@@ -310,34 +310,34 @@ IsFlood-nothing_found g k = record {
   same_side = refl;
   all_marks = length-replicate (g.side * g.side) false;
   reaching = λ p on h. absurd (false≢true (sym (not_marked (g.side * g.side) (place_of g.side p)) ∙ h));
-  listed = λ p on h. absurd (false≢true (sym (not_marked (g.side * g.side) (place_of g.side p)) ∙ h))
+  listed = λ p on h. absurd (false≢true (sym (not_marked (g.side * g.side) (place_of g.side p)) ∙ h));
 }
 
 All-on-points : (side : ℕ) → All (IsOn side) (points side)
 All-on-points side =
     All-from_get_or (IsOn side) (points side) origin
     (λ i h.
-      let within : i < side * side = rw (← length-points side) h in
-      rw (get_or-points side i within) (IsOn-point_at side i within))
+    let within : i < side * side = rw (← length-points side) h in
+    rw (get_or-points side i within) (IsOn-point_at side i within))
 
 -- before the first point is taken
 pub IsUnderWay-with_colour : (g : Grid) (k : Cell) → IsUnderWay g k (with_colour g k) × ((with_colour g k).taken ≡ 0)
 unfolding with_colour IsMarkedAlong IsSeeded IsClosed
 IsUnderWay-with_colour g k =
     let done = points_done g k (points g.side) (nothing_found g.side) (All-on-points g.side) (IsFlood-nothing_found g k) in
-    let taken : (with_colour g k).taken ≡ 0 = done.1.same_taken in
-    ( record {
+    let taken : (with_colour g k).taken ≡ 0 = done.1.same_taken in (
+      record {
         flood = done.0;
         seeded = λ p on c.
-          let below = place_below g.side p on in
-          let within : place_of g.side p < length (points g.side) = rw length-points below in
-          let same : get_or (points g.side) (place_of g.side p) origin ≡ p = get_or-points g.side (place_of g.side p) below ∙ point_at-place_of g.side p on in
-          subst (λ x. IsTrue (is_marked (with_colour g k).marking x)) same
-          (done.2 (place_of g.side p) within (ap (cell_at g) same ∙ c));
+            let below = place_below g.side p on in
+            let within : place_of g.side p < length (points g.side) = rw length-points below in
+            let same : get_or (points g.side) (place_of g.side p) origin ≡ p = get_or-points g.side (place_of g.side p) below ∙ point_at-place_of g.side p on in
+            subst (λ x. IsTrue (is_marked (with_colour g k).marking x)) same
+            (done.2 (place_of g.side p) within (ap (cell_at g) same ∙ c));
         closed = λ i h. absurd (omega (arith, taken, h));
-        in_turn = omega (arith, taken)
-      }
-    , taken
+        in_turn = omega (arith, taken);
+      },
+      taken,
     )
 
 side-with_found : (b : Bool) (s : Searched) (p : Point) → is_marked s.marking p ≡ b → (with_found s p).marking.side ≡ s.marking.side
@@ -362,7 +362,6 @@ with_points-next g k i p s t below at col is =
 pub with_points-step : (g : Grid) (k : Cell) (i : ℕ) (p : Point) (s t : Searched) → i < g.side * g.side → place_of g.side p ≡ i → p.col < g.side → t ≡ cond (same_cell (cell_at g p) k) (with_found s p) s → (with_points g k (drop (i + 1) (points g.side)) t ≡ with_points g k (drop i (points g.side)) s) × (t.marking.side ≡ s.marking.side)
 unfolding with_points
 with_points-step g k i p s t below at col is = (sym (with_points-next g k i p s t below at col is), ap (λ u. u.marking.side) is ∙ side-cond_found _ s p)
-
 
 -- once all points of the grid were looked at
 pub with_points-all : (g : Grid) (k : Cell) (i : ℕ) (s : Searched) → g.side * g.side ≤ i → s ≡ with_points g k (drop i (points g.side)) s

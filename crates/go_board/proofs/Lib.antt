@@ -11,3 +11,4 @@ pub mod AreaLemmas
 pub mod NeighbourLemmas
 pub mod FloodLemmas
 pub mod TurnLemmas
+pub mod SweepLemmas

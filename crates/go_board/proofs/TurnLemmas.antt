@@ -112,9 +112,9 @@ module _ (s : State) (k : Colour) (x : Play) where
   none_up_to : (n : ℕ) → (¬ Forbids s k x (reason_at n)) → ((q : Reason) → place_in_order q < n → ¬ Forbids s k x q) → (q : Reason) → place_in_order q < n + 1 → ¬ Forbids s k x q
   none_up_to n here before q h f =
       elim (cases_lt (place_in_order q) n) [
-        inl less ↦ before q less f
+        | inl less ↦ before q less f
         | inr more ↦ (let at_n : place_in_order q ≡ n = omega arith in
-          here (subst (Forbids s k x) (sym (at_its_place q) ∙ ap reason_at at_n) f))
+            here (subst (Forbids s k x) (sym (at_its_place q) ∙ ap reason_at at_n) f))
       ]
 
   module _ (b1 b2 b3 b4 : Bool) (over : Decides b1 (Forbids s k x Over)) (turn : Decides b2 (Forbids s k x Turn)) (occupied : Decides b3 (Forbids s k x Occupied)) (repeat : Decides b4 (Forbids s k x Repeat)) where
@@ -143,13 +143,13 @@ module _ (s : State) (k : Colour) (x : Play) where
     first_by_tests : (r : Reason) → cond b1 (Some Over) (cond b2 (Some Turn) (cond b3 (Some Occupied) (cond b4 (Some Repeat) None))) ≡ Some r → IsFirstReason s k x r
     first_by_tests r e =
         elim (cases_Bool b1) [
-          inl t1 ↦ named Over (rw t1 at e) (record { holds = over.0 t1; first = never_before s k x })
+          | inl t1 ↦ named Over (rw t1 at e) (record { holds = over.0 t1; first = never_before s k x })
           | inr f1 ↦ elim (cases_Bool b2) [
-            inl t2 ↦ named Turn (rw (f1, t2) at e) (record { holds = turn.0 t2; first = none_before_turn f1 })
+            | inl t2 ↦ named Turn (rw (f1, t2) at e) (record { holds = turn.0 t2; first = none_before_turn f1 })
             | inr f2 ↦ elim (cases_Bool b3) [
-              inl t3 ↦ named Occupied (rw (f1, f2, t3) at e) (record { holds = occupied.0 t3; first = none_before_occupied f1 f2 })
+              | inl t3 ↦ named Occupied (rw (f1, f2, t3) at e) (record { holds = occupied.0 t3; first = none_before_occupied f1 f2 })
               | inr f3 ↦ elim (cases_Bool b4) [
-                inl t4 ↦ named Repeat (rw (f1, f2, f3, t4) at e) (record { holds = repeat.0 t4; first = none_before_repeat f1 f2 f3 })
+                | inl t4 ↦ named Repeat (rw (f1, f2, f3, t4) at e) (record { holds = repeat.0 t4; first = none_before_repeat f1 f2 f3 })
                 | inr f4 ↦ absurd (none_is_some (rw (f1, f2, f3, f4) at e))
               ]
             ]
@@ -158,6 +158,7 @@ module _ (s : State) (k : Colour) (x : Play) where
       where
         named : (q : Reason) → Some q ≡ Some r → IsFirstReason s k x q → IsFirstReason s k x r
         named q same h = subst (IsFirstReason s k x) (ap (λ o. unwrap_or o q) same) h
+
         none_is_some : None ≡ Some r → ⊥
         none_is_some h = absurd (cc)
 

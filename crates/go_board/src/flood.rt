@@ -12,6 +12,7 @@ use crate::board::Board;
 use crate::marks::Marks;
 use crate::points::Point;
 use crate::search::Search;
+use crate::size::MAX_POINTS;
 use crate::steps::Steps;
 use crate::stones::Cell;
 
@@ -31,6 +32,16 @@ impl Board {
             self.spread(target, point, &mut search);
         }
         search.into_marks()
+    }
+
+    /// The points that reach a colour, where nobody counts the steps.
+    pub(crate) fn reached(&self, target: Cell) -> Marks
+        ensures side { result.side ≡ self.now.side }
+        ensures marks { (p : Point) → IsOn self.now.side p
+            → (IsTrue (is_marked result p) ↔ Reaches self.now target p) }
+    {
+        prove!(self.size().points() <= MAX_POINTS);
+        self.reaching(target, &mut Steps::new())
     }
 
     /// A search that found the points of a colour.

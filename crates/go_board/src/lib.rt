@@ -13,11 +13,23 @@
 //! | `search` | the worklist of a flood |
 //! | `board` | the board: reading, setting, moves, score |
 //! | `flood` | which points reach a colour |
+//! | `sweep` | passes over all points: clearing, counting |
+//! | `past` | the colourings that a game has been through |
+//! | `list_past` | the plain past: all colourings, compared point by point |
+//! | `reason` | why a turn, or a node of a record, isn't allowed |
+//! | `fault` | the errors |
+//! | `record` | what a referee keeps of a state that it left |
+//! | `referee` | setups, turns and undo by the rules |
 //! | `laws` | what the words of the contracts mean |
 //!
 //! A point *reaches* a colour where a path of adjacent points of the point's own colour leads from it to a point of
 //! that colour. Clearing a colour empties its points that don't reach empty. A player has the points of her colour, and
-//! the empty points that reach her colour and not the other's. No call takes memory.
+//! the empty points that reach her colour and not the other's.
+//!
+//! A referee is seen as the list of the states that a game went through. A setup or a turn adds the state that the rules
+//! say or changes nothing, and undo takes the last one back. It works over any past that keeps the contract of `Past`.
+//!
+//! Only a past's `new`, `push` and `restart` and a referee's `new`, `setup` and `turn` take memory.
 #![tactic(auto)]
 
 mod board;
@@ -35,6 +47,7 @@ mod search;
 mod size;
 mod steps;
 mod stones;
+mod sweep;
 mod values;
 mod vertices;
 
@@ -51,3 +64,6 @@ pub use steps::Steps;
 pub use stones::{Cell, Colour};
 pub use values::{point, rect};
 pub use vertices::vertex;
+
+#[cfg(test)]
+mod referee_tests;

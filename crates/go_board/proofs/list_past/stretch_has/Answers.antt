@@ -17,16 +17,20 @@ returns-then-eq c =
 
 pub returns-then-marks-i : goal.returns-then-marks-i
 returns-then-marks-i c =
-    let e : c.loop-i.i ≡ suc (c.loop-i.i - 1) = omega arith in
-    (λ t. absurd (false≢true t), λ h.
-      let later = Has-cases _ _ c.points-points.ensures.value _ _ _ _ _ e (λ same. false≢true (sym c.if-eq.false ∙ (slice_eq-Decides Decides-cell_eq _ _ c.eq.result c.eq.ensures).1 same)) (c.loop-i.invariant.0 h) in
-      sym later.0 ∙ c.if-marks-i.true)
+    let e : c.loop-i.i ≡ suc (c.loop-i.i - 1) = omega arith in (
+      λ t. absurd (false≢true t),
+      λ h.
+          let later = Has-cases _ _ c.points-points.ensures.value _ _ _ _ _ e (λ same. false≢true (sym c.if-eq.false ∙ (slice_eq-Decides Decides-cell_eq _ _ c.eq.result c.eq.ensures).1 same)) (c.loop-i.invariant.0 h) in
+          sym later.0 ∙ c.if-marks-i.true,
+    )
 
 pub loop-i-preserved : goal.loop-i-preserved
 loop-i-preserved c =
-    let e : c.loop-i.i ≡ suc (c.loop-i.i - 1) = omega arith in
-    (λ h.
-      (Has-cases _ _ c.points-points.ensures.value _ _ _ _ _ e (λ same. false≢true (sym c.if-eq.false ∙ (slice_eq-Decides Decides-cell_eq _ _ c.eq.result c.eq.ensures).1 same)) (c.loop-i.invariant.0 h)).1, λ h. c.loop-i.invariant.1 (Has-more _ _ c.points-points.ensures.value _ _ _ _ _ e c.if-marks-i.false h))
+    let e : c.loop-i.i ≡ suc (c.loop-i.i - 1) = omega arith in (
+      λ h.
+          (Has-cases _ _ c.points-points.ensures.value _ _ _ _ _ e (λ same. false≢true (sym c.if-eq.false ∙ (slice_eq-Decides Decides-cell_eq _ _ c.eq.result c.eq.ensures).1 same)) (c.loop-i.invariant.0 h)).1,
+      λ h. c.loop-i.invariant.1 (Has-more _ _ c.points-points.ensures.value _ _ _ _ _ e c.if-marks-i.false h),
+    )
 
 pub returns : goal.returns
 returns c =

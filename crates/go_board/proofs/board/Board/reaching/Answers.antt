@@ -15,7 +15,7 @@ loop-point-init c =
     let begun = IsUnderWay-with_colour g c.args.target in
     record {
       way = subst (IsUnderWay g c.args.target) (sym c.search_from-search.ensures) begun.0;
-      counted = omega (arith, ap (λ s. s.taken) c.search_from-search.ensures, begun.1)
+      counted = omega (arith, ap (λ s. s.taken) c.search_from-search.ensures, begun.1);
     }
 
 -- the search once the point that was taken is dealt with
@@ -29,8 +29,8 @@ after_spread c =
     let took = c.in-Some.ensures in
     let on : IsOn g.side p = rw way.flood.same_side at took.on_grid in
     let step =
-      IsUnderWay-step g k s p way (slice_get_within s.found s.taken p took.next)
-      (get_or_from_slice_get s.found s.taken p origin took.next) on took.marked in
+    IsUnderWay-step g k s p way (slice_get_within s.found s.taken p took.next)
+    (get_or_from_slice_get s.found s.taken p origin took.next) on took.marked in
     let spread = c.spread.ensures ∙ ap (λ t. with_neighbours g k p t) took.taken in
     subst (λ t. IsUnderWay g k t × (t.taken ≡ s.taken + 1)) (sym spread) step
 
@@ -45,7 +45,7 @@ loop-point-preserved c =
     let next = after_spread c in
     record {
       way = next.0;
-      counted = omega (arith, c.tick.ensures, c.loop-point.invariant.counted, next.1)
+      counted = omega (arith, c.tick.ensures, c.loop-point.invariant.counted, next.1);
     }
 
 pub returns-clause-marks : goal.returns-clause-marks
@@ -55,7 +55,7 @@ returns-clause-marks c = λ p on.
     let s = c.loop-point.search in
     let way = c.loop-point.invariant.way in
     let ended = c.in_default.ensures in
-    let same : c.into_marks.result ≡ s.marking = c.into_marks.ensures.marks ∙ ap (λ t. t.marking) ended.unchanged in
-    ( λ h. way.flood.reaching p on (subst (λ m. IsTrue (is_marked m p)) same h)
-    , λ path. subst (λ m. IsTrue (is_marked m p)) (sym same) (complete g k s way ended.all_taken (cell_at g p) p path.0 path.1)
+    let same : c.into_marks.result ≡ s.marking = c.into_marks.ensures.marks ∙ ap (λ t. t.marking) ended.unchanged in (
+      λ h. way.flood.reaching p on (subst (λ m. IsTrue (is_marked m p)) same h),
+      λ path. subst (λ m. IsTrue (is_marked m p)) (sym same) (complete g k s way ended.all_taken (cell_at g p) p path.0 path.1),
     )

@@ -6,7 +6,7 @@ use Rattle.go_board.proofs.board.Board.reaching.Given as goal
 abbrev pub invariant-loop-point : goal.invariant-loop-point
 invariant-loop-point l = record {
   way : IsUnderWay l.self l.target l.search;
-  counted : l.steps ≡ l.initial.steps + l.search.taken
+  counted : l.steps ≡ l.initial.steps + l.search.taken;
 }
 
 abbrev pub decreases-loop-point : goal.decreases-loop-point

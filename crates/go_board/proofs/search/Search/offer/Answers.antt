@@ -22,11 +22,11 @@ invariant_of-self c =
     let not_yet : is_marked i.marks c.args.point ≡ false = sym c.has.ensures ∙ c.if-not-has.true in
     let within : i.filled ≤ length i.points = omega (arith, c.self.invariant) in
     let fits : i.marks.side * i.marks.side ≤ length i.points = omega (arith, c.self.invariant) in
-    let free = room_in i.marks i.points i.filled i.taken c.args.point within c.self.invariant.3 on not_yet in
-    ( length-set i.points i.filled c.args.point ∙ c.self.invariant.0
-    , omega (arith, free, c.self.invariant)
-    , rw c.mark.ensures c.self.invariant.2
-    , IsSound-searched_in i.marks i.points i.filled i.taken c.args.point within c.self.invariant.3 on not_yet c.mark.new.self c.mark.ensures fits
+    let free = room_in i.marks i.points i.filled i.taken c.args.point within c.self.invariant.3 on not_yet in (
+      length-set i.points i.filled c.args.point ∙ c.self.invariant.0,
+      omega (arith, free, c.self.invariant),
+      rw c.mark.ensures c.self.invariant.2,
+      IsSound-searched_in i.marks i.points i.filled i.taken c.args.point within c.self.invariant.3 on not_yet c.mark.new.self c.mark.ensures fits,
     )
 
 pub returns-then-not-has : goal.returns-then-not-has
