@@ -42,3 +42,6 @@ pub use steps::Steps;
 pub use stones::{Cell, Colour};
 pub use values::{point, rect};
 pub use vertices::vertex;
+
+#[cfg(test)]
+mod tests;
