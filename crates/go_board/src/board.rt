@@ -126,7 +126,8 @@ impl Board {
 
     /// Empties all points of a colour that don't reach empty, each tested on the board as it was.
     pub fn clear(&mut self, colour: Colour)
-        ensures { self.new ≡ clear self.old colour }
+        ensures value { self.new ≡ clear self.old colour }
+        ensures side { self.new.side ≡ self.old.side }
     {
         let points = self.size.points();
         let reaching = self.reached(Cell::Empty);
@@ -142,7 +143,8 @@ impl Board {
     pub fn place(&mut self, colour: Colour, point: Point)
         requires on_board { IsOn self.old.side point }
         requires empty { cell_at self.old point ≡ Empty }
-        ensures { self.new ≡ play self.old colour point }
+        ensures value { self.new ≡ play self.old colour point }
+        ensures side { self.new.side ≡ self.old.side }
     {
         self.set(point, colour.stone());
         self.clear(colour.opponent());

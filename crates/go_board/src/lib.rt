@@ -67,3 +67,6 @@ pub use vertices::vertex;
 
 #[cfg(test)]
 mod referee_tests;
+
+#[cfg(test)]
+mod tests;

@@ -1,7 +1,9 @@
-//! Why a node or a turn isn't allowed, and the errors of the crate.
+//! Why a node or a turn isn't allowed.
 
 ghost use Rattle.std.specs.Prelude.{◌≡◌};
 ghost use Rattle.go_board.specs.Reason.{word_of};
+
+use std::fmt;
 
 /// Why a turn, or a node of a game record, isn't allowed; in the order of checking (this project's choice). A referee
 /// answers the last four alone. The others are faults of a record, found before a referee is asked.
@@ -40,5 +42,11 @@ impl Reason {
             Reason::Occupied => "occupied",
             Reason::Repeat => "repeat",
         }
+    }
+}
+
+impl fmt::Display for Reason {
+    fn fmt<W: fmt::Write>(&self, f: &mut fmt::Formatter<W>) -> fmt::Result {
+        f.write_str(self.word())
     }
 }

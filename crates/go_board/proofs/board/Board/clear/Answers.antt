@@ -5,9 +5,9 @@ use Rattle.go_board.specs.Sweep.{all_cleared}
 use Rattle.go_board.proofs.SweepLemmas.{Marks, grid_in-clear}
 use Rattle.go_board.proofs.board.Board.clear.Goals as goal
 
-pub returns : goal.returns
+pub returns-clause-value : goal.returns-clause-value
 unfolding Marks
-returns c =
+returns-clause-value c =
     let i = c.self.inside in
     let marking = c.reached-reaching.result in
     let fits : i.size * i.size ≤ length i.cells = omega (arith, c.self.invariant) in

@@ -10,7 +10,7 @@ use Rattle.go_board.proofs.referee.Referee.judge.Goals as goal
 
 pub holds-requires : goal.holds-requires
 holds-requires g c =
-    rw (c.place.ensures, side-play, c.copy-board.ensures, c.board-2.ensures, ← c.self.view_is) c.self.invariant.one_side
+    rw (c.place.ensures.value, side-play, c.copy-board.ensures, c.board-2.ensures, ← c.self.view_is) c.self.invariant.one_side
 
 pub returns-then-holds-clause-refused : goal.returns-then-holds-clause-refused
 returns-then-holds-clause-refused g c =
@@ -18,7 +18,7 @@ returns-then-holds-clause-refused g c =
     let on : is_over s ≡ false = search rules in
     let turn : must_move s.player (opponent c.args.colour) ≡ false = search rules in
     let free : is_occupied s (Stone c.in-Stone.point) ≡ false = search rules in
-    let made : c.place.new.self ≡ play s.colouring c.args.colour c.in-Stone.point = rw (c.place.ensures, c.copy-board.ensures, c.board-2.ensures) refl in
+    let made : c.place.new.self ≡ play s.colouring c.args.colour c.in-Stone.point = rw (c.place.ensures.value, c.copy-board.ensures, c.board-2.ensures) refl in
     rw c.in-Stone.is
     (reason_by_past s c.args.colour c.in-Stone.point c.holds.result _ _ (ap (λ (states : States). states.present.seen) c.self.view_is) made on turn free c.holds.ensures
     ∙ ap (λ b. cond b (Some Repeat) None) c.if-holds.true)
@@ -29,7 +29,7 @@ returns-clause-allowed g c =
     let on : is_over s ≡ false = search rules in
     let turn : must_move s.player (opponent c.args.colour) ≡ false = search rules in
     let free : is_occupied s (Stone c.in-Stone.point) ≡ false = search rules in
-    let made : c.place.new.self ≡ play s.colouring c.args.colour c.in-Stone.point = rw (c.place.ensures, c.copy-board.ensures, c.board-2.ensures) refl in
+    let made : c.place.new.self ≡ play s.colouring c.args.colour c.in-Stone.point = rw (c.place.ensures.value, c.copy-board.ensures, c.board-2.ensures) refl in
     rw c.in-Stone.is
     (reason_by_past s c.args.colour c.in-Stone.point c.holds.result _ _ (ap (λ (states : States). states.present.seen) c.self.view_is) made on turn free c.holds.ensures
     ∙ ap (λ b. cond b (Some Repeat) None) c.if-holds.false)
