@@ -67,6 +67,5 @@ pub use vertices::vertex;
 
 #[cfg(test)]
 mod referee_tests;
-
 #[cfg(test)]
 mod tests;

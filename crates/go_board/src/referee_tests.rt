@@ -183,7 +183,7 @@ fn referee_over_list_past(rt: HostRuntime) -> Result<(), Fail> {
 }
 
 #[test]
-fn words(rt: HostRuntime) {
+fn words(rt: HostRuntime) -> Result<(), Fail> {
     let printed = [
         (Reason::Mixed, "mixed"),
         (Reason::TwoMoves, "two-moves"),
@@ -195,6 +195,14 @@ fn words(rt: HostRuntime) {
         (Reason::Repeat, "repeat"),
     ];
     for (reason, word) in printed {
-        assert_eq!(rt; reason.word(), word);
+        let text = format!(in rt.alloc(); "{reason}")?;
+        assert_eq!(rt; text.as_str(), word);
     }
+    let fault = format!(in rt.alloc();
+        "{}, {}",
+        TurnFault::Illegal(Reason::Turn),
+        TurnFault::Memory
+    )?;
+    assert_eq!(rt; fault.as_str(), "illegal turn: turn, out of memory");
+    Ok(())
 }
