@@ -1,6 +1,6 @@
 -- proofs/AreaLemmas.antt
 -- An area coloured row by row.
-use Rattle.std.proofs.Common.{◌≡◌, ◌≢◌, ℕ, suc, ◌+◌, ◌-◌, ◌*◌, ◌<◌, ◌≤◌, ◌⊎◌, inl, inr, Bool, true, false, ◌&&◌, nat_le, List, [], ◌∷◌, ◌++◌, fold, length, get_or, take, drop, replicate, map, refl, sym, ap, ◌∙◌, arith, rules, cond, Decides}
+use Rattle.std.proofs.Common.{◌≡◌, ℕ, ◌+◌, ◌-◌, ◌*◌, ◌<◌, ◌≤◌, inl, inr, nat_le, List, [], ◌∷◌, fold, length, get_or, take, replicate, map, refl, sym, ap, ◌∙◌, arith, rules, cond, Decides}
 use Rattle.std.proofs.lemmas.List.{places, get_or-take, length-take, get_or-replicate, length-replicate}
 use Rattle.std.proofs.lemmas.List.Sums.{fold_more}
 use Rattle.std.proofs.lemmas.Bool.{cases_order, cases_lt, cases_Bool, cond-true, cond-false, false≢true}

@@ -1,6 +1,6 @@
 -- proofs/RecordLemmas.antt
 -- A referee's states are as many as its records, and one more.
-use Rattle.std.proofs.Common.{◌≡◌, ℕ, suc, List, [], ◌∷◌, length, reverse, refl, sym, ap, ◌∙◌}
+use Rattle.std.proofs.Common.{◌≡◌, suc, List, [], ◌∷◌, length, reverse, refl, ap, ◌∙◌}
 use Rattle.std.proofs.lemmas.List.{length-reverse}
 use Rattle.go_board.specs.declared.record.Record.{Record}
 use Rattle.go_board.specs.Past.{Held}

@@ -1,6 +1,6 @@
 -- proofs/TurnLemmas.antt
 -- What the tests on turns say.
-use Rattle.std.proofs.Common.{◌≡◌, ◌≢◌, ℕ, Bool, true, false, ◌||◌, ◌⊎◌, inl, inr, ◌↔◌, List, [], ◌∷◌, Option, Some, None, Contains, IsTrue, refl, sym, ap, ◌∙◌, cond, arith, unwrap_or, ◌<◌, ◌+◌, slice_index_or, subst, Decides}
+use Rattle.std.proofs.Common.{◌≡◌, ℕ, Bool, false, inl, inr, ◌↔◌, List, [], ◌∷◌, Option, Some, None, Contains, IsTrue, refl, sym, ap, ◌∙◌, cond, arith, unwrap_or, ◌<◌, ◌+◌, slice_index_or, subst, Decides}
 use Rattle.std.specs.List.{list_any}
 use Rattle.std.proofs.lemmas.Bool.{false≢true, cases_lt, cases_Bool}
 use Rattle.std.proofs.lemmas.Bool.Decides.{Decides-or, Decides-and, Decides-not, Decides-like, Decides-eqb, same_from_decides, not_from_Decides}
@@ -14,7 +14,7 @@ use Rattle.go_board.specs.declared.reason.Reason.{Reason}
 use Rattle.go_board.specs.declared.reason.Reason.TheVariants.{Mixed, TwoMoves, BadSetup, BadPoint, Over, Turn, Occupied, Repeat}
 use Rattle.go_board.specs.declared.stones.Cell.TheVariants.{Empty}
 use Rattle.go_board.specs.declared.stones.Colour.TheVariants.{Black, White}
-use Rattle.go_board.specs.Colour.{opponent, same_cell}
+use Rattle.go_board.specs.Colour.{opponent}
 use Rattle.go_board.specs.Grid.{Grid, cell_at}
 use Rattle.go_board.specs.Clearing.{play}
 use Rattle.go_board.specs.State.{State, is_over, must_move, is_occupied, is_repeat, same_grid, reason_of, Forbids, IsFirstReason, place_in_order, set_up, turned}

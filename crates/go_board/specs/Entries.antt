@@ -2,7 +2,6 @@
 -- Past colourings whose cells stand one behind the other in one list.
 use Rattle.std.specs.Prelude.{ℕ, zero, suc, ◌+◌, ◌*◌, Bool, false, List, [], ◌∷◌, slice_range, slice_index_or}
 use Rattle.go_board.specs.declared.stones.Cell.{Cell}
-use Rattle.go_board.specs.Grid.{Grid}
 use Rattle.go_board.specs.Past.{Held}
 
 -- the colouring at a place of the list, counted from 0

@@ -1,6 +1,6 @@
 -- specs/Records.antt
 -- A referee's states, from a past and from records of what the past doesn't keep.
-use Rattle.std.specs.Prelude.{◌≡◌, ℕ, zero, suc, ◌+◌, ◌≤◌, ◌<◌, Bool, Option, List, [], ◌∷◌, if◌then◌else◌, unwrap_or, length, reverse, drop, Some, None}
+use Rattle.std.specs.Prelude.{ℕ, ◌+◌, ◌≤◌, ◌<◌, Option, List, [], ◌∷◌, if◌then◌else◌, unwrap_or, length, reverse, drop, Some, None}
 use Rattle.go_board.specs.declared.stones.Colour.{Colour}
 use Rattle.go_board.specs.declared.points.Play.{Play}
 use Rattle.go_board.specs.declared.points.Play.TheVariants.{Pass, Stone}

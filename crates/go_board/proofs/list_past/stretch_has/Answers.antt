@@ -1,5 +1,5 @@
 -- proofs/list_past/stretch_has/Answers.antt
-use Rattle.std.proofs.Common.{◌≡◌, ◌-◌, suc, arith, refl, sym, ◌∙◌, true, false}
+use Rattle.std.proofs.Common.{◌≡◌, ◌-◌, suc, arith, refl, sym, ◌∙◌}
 use Rattle.std.proofs.lemmas.Bool.{false≢true}
 use Rattle.std.proofs.lemmas.Slice.Eq.{slice_eq-Decides}
 use Rattle.go_board.proofs.GridLemmas.{Decides-cell_eq}

@@ -1,5 +1,5 @@
 -- proofs/list_past/ListPastPast/pop/Answers.antt
-use Rattle.std.proofs.Common.{◌≡◌, ◌-◌, ◌*◌, ◌++◌, [], ◌∷◌, length, take, rules}
+use Rattle.std.proofs.Common.{◌≡◌, ◌-◌, ◌*◌, ◌++◌, [], ◌∷◌, length, rules}
 use Rattle.go_board.proofs.EntryLemmas.{held-pop}
 use Rattle.go_board.proofs.list_past.ListPastPast.pop.Goals as goal
 

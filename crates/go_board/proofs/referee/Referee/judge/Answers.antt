@@ -1,5 +1,5 @@
 -- proofs/referee/Referee/judge/Answers.antt
-use Rattle.std.proofs.Common.{◌≡◌, refl, Some, None, true, false, cond, ap, ◌∙◌, rules}
+use Rattle.std.proofs.Common.{◌≡◌, refl, Some, None, false, cond, ap, ◌∙◌, rules}
 use Rattle.go_board.specs.declared.points.Play.TheVariants.{Stone}
 use Rattle.go_board.specs.declared.reason.Reason.TheVariants.{Repeat}
 use Rattle.go_board.specs.Colour.{opponent}

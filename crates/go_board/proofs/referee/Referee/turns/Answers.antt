@@ -1,5 +1,5 @@
 -- proofs/referee/Referee/turns/Answers.antt
-use Rattle.std.proofs.Common.{◌≡◌, ◌≤◌, length, reverse, sym, arith}
+use Rattle.std.proofs.Common.{◌≤◌, length, reverse}
 use Rattle.std.proofs.lemmas.List.{length-reverse}
 use Rattle.go_board.proofs.RecordLemmas.{length-earlier}
 use Rattle.go_board.proofs.referee.Referee.turns.Goals as goal
