@@ -103,7 +103,7 @@ impl Board {
     pub fn same(&self, other: &Board) -> bool
         ensures { IsTrue result ↔ (self.now ≡ other.now) }
     {
-        self.size == other.size && self.cells() == other.cells()
+        self.cells() == other.cells() && self.size == other.size
     }
 
     /// A board with the same side and the same colouring.
@@ -140,6 +140,7 @@ impl Board {
 
     /// The whole move: the point takes the player's colour, then the opponent's colour is cleared, then the player's
     /// own.
+    #[tactic(auto, unfolding(crate::specs::Clearing::play))]
     pub fn place(&mut self, colour: Colour, point: Point)
         requires on_board { IsOn self.old.side point }
         requires empty { cell_at self.old point ≡ Empty }
@@ -175,7 +176,7 @@ impl Board {
         )
     }
 
-    /// Whether some stone doesn't reach empty. After a move none does; a setup can leave one.
+    /// Whether some stone doesn't reach empty, as a setup can leave one.
     pub fn has_unreaching(&self) -> bool
         ensures { result ≡ has_unreaching self.now }
     {

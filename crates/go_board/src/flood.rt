@@ -60,6 +60,7 @@ impl Board {
     }
 
     /// Adds the neighbours of a point that reach a colour through it.
+    #[tactic(auto, unfolding(crate::specs::Flood::with_neighbours))]
     fn spread(&self, target: Cell, from: Point, search: &mut Search)
         requires on_board { IsOn self.now.side from }
         requires same_side { search.old.marking.side ≡ self.now.side }
@@ -73,6 +74,7 @@ impl Board {
     }
 
     /// Adds a neighbour of a point, if there is one and it reaches a colour through the point.
+    #[tactic(auto, unfolding(crate::specs::Flood::with_neighbour))]
     fn offer(&self, target: Cell, from: Point, to: Option<Point>, search: &mut Search)
         requires from_on_board { IsOn self.now.side from }
         requires to_on_board { ForSome to (IsOn self.now.side) }
