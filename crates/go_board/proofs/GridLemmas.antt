@@ -1,0 +1,84 @@
+-- proofs/GridLemmas.antt
+-- Reading the grids and markings that functions of the points make, and grids after a point was set.
+use Rattle.std.proofs.Common.{◌≡◌, ◌≢◌, ◌==◌, ℕ, ◌+◌, ◌*◌, ◌<◌, Bool, true, false, List, map, set, length, get_or, refl, sym, ap, ◌∙◌, arith, Decides}
+use Rattle.std.proofs.lemmas.List.{get_or_default, length-map, get_or-set_same, get_or-set_other, length-set}
+use Rattle.std.proofs.lemmas.Bool.{false≢true}
+use Rattle.std.proofs.lemmas.Bool.Decides.{Decides-eqb, same_from_decides}
+use denote.Enum.Bare.{sameb}
+use Rattle.go_board.specs.contracts.stones.Cell.{the_type}
+use Rattle.go_board.specs.declared.stones.Cell.{Cell}
+use Rattle.go_board.specs.declared.stones.Cell.TheVariants.{Black, White, Empty}
+use Rattle.go_board.specs.declared.points.Point.{Point}
+use Rattle.go_board.specs.Colour.{same_cell}
+use Rattle.go_board.specs.Point.{IsOn, place_of, point_at, points}
+use Rattle.go_board.specs.Grid.{Grid, cell_at, with_cell, grid_of}
+use Rattle.go_board.specs.Marking.{Marking, is_marked, marking_of}
+use Rattle.go_board.proofs.PointLemmas.{place_below, place_of-injective, length-points, get_or-map-points}
+
+pub Decides-same_cell : (a b : Cell) → Decides (same_cell a b) (a ≡ b)
+Decides-same_cell Black Black = (λ _. refl, λ _. refl)
+Decides-same_cell White White = (λ _. refl, λ _. refl)
+Decides-same_cell Empty Empty = (λ _. refl, λ _. refl)
+Decides-same_cell Black White = (λ h. cc, λ h. cc)
+Decides-same_cell Black Empty = (λ h. cc, λ h. cc)
+Decides-same_cell White Black = (λ h. cc, λ h. cc)
+Decides-same_cell White Empty = (λ h. cc, λ h. cc)
+Decides-same_cell Empty Black = (λ h. cc, λ h. cc)
+Decides-same_cell Empty White = (λ h. cc, λ h. cc)
+
+-- what `==` says of two cells
+pub Decides-cell_eq : (a b : Cell) → Decides (sameb the_type a b) (a ≡ b)
+Decides-cell_eq Black Black = (λ _. refl, λ _. refl)
+Decides-cell_eq White White = (λ _. refl, λ _. refl)
+Decides-cell_eq Empty Empty = (λ _. refl, λ _. refl)
+Decides-cell_eq Black White = (λ h. cc, λ h. cc)
+Decides-cell_eq Black Empty = (λ h. cc, λ h. cc)
+Decides-cell_eq White Black = (λ h. cc, λ h. cc)
+Decides-cell_eq White Empty = (λ h. cc, λ h. cc)
+Decides-cell_eq Empty Black = (λ h. cc, λ h. cc)
+Decides-cell_eq Empty White = (λ h. cc, λ h. cc)
+
+-- a cell of a list as long as the grid, read with any default
+pub cell_at-place : (g : Grid) (cells : List Cell) (i : ℕ) (d : Cell) (p : Point) → cells ≡ g.cells → i < length cells → place_of g.side p ≡ i → get_or cells i d ≡ cell_at g p
+cell_at-place g cells i d p same within at =
+    get_or_default cells i d Empty within ∙ ap (λ l. get_or l i Empty) same ∙ ap (λ j. get_or g.cells j Empty) (sym at)
+
+-- `==` on two cells is the test of the definitions
+pub same_cell-eq : (a b : Cell) → sameb the_type a b ≡ same_cell a b
+same_cell-eq a b = same_from_decides _ _ (Decides-cell_eq a b) (Decides-same_cell a b)
+
+pub same_grid : (a b : Grid) → a.side ≡ b.side → a.cells ≡ b.cells → a ≡ b
+same_grid a b e f = ap (λ s. record { side = s; cells = a.cells }) e ∙ ap (λ l. record { side = b.side; cells = l }) f
+
+-- two grids with the same cells are one where a test finds their sides equal
+pub Decides-same_side : (a b : Grid) (m n : ℕ) (r : Bool) → m ≡ a.side → n ≡ b.side → a.cells ≡ b.cells → r ≡ (m == n) → Decides r (a ≡ b)
+Decides-same_side a b m n r is_a is_b cells is =
+    ( λ e. same_grid a b (sym is_a ∙ (Decides-eqb m n).0 (sym is ∙ e) ∙ is_b) cells
+    , λ e. is ∙ (Decides-eqb m n).1 (is_a ∙ ap (λ g. g.side) e ∙ sym is_b)
+    )
+
+-- two grids with other cells are two
+pub Decides-other_cells : (a b : Grid) (xs ys : List Cell) (r : Bool) → xs ≡ a.cells → ys ≡ b.cells → r ≡ false → Decides r (xs ≡ ys) → Decides r (a ≡ b)
+Decides-other_cells a b xs ys r is_a is_b other d =
+    (λ e. absurd (false≢true (sym other ∙ e)), λ e. d.1 (is_a ∙ ap (λ g. g.cells) e ∙ sym is_b))
+
+pub cell_at-grid_of : (side : ℕ) (colour : Point → Cell) (p : Point) → IsOn side p → cell_at (grid_of side colour) p ≡ colour p
+cell_at-grid_of side colour p h = get_or-map-points colour side p Empty h
+
+pub length-grid_of : (side : ℕ) (colour : Point → Cell) → length (grid_of side colour).cells ≡ side * side
+length-grid_of side colour = length-map (points side) colour ∙ length-points side
+
+pub is_marked-marking_of : (side : ℕ) (test : Point → Bool) (p : Point) → IsOn side p → is_marked (marking_of side test) p ≡ test p
+is_marked-marking_of side test p h = get_or-map-points test side p false h
+
+pub length-marking_of : (side : ℕ) (test : Point → Bool) → length (marking_of side test).marks ≡ side * side
+length-marking_of side test = length-map (points side) test ∙ length-points side
+
+pub cell_at-with_cell : (g : Grid) (p : Point) (c : Cell) → IsOn g.side p → length g.cells ≡ g.side * g.side → cell_at (with_cell g p c) p ≡ c
+cell_at-with_cell g p c h all =
+    let below : place_of g.side p < length g.cells = rw all (place_below g.side p h) in
+    get_or-set_same g.cells (place_of g.side p) c Empty below
+
+pub cell_at-with_cell_elsewhere : (g : Grid) (p q : Point) (c : Cell) → IsOn g.side p → IsOn g.side q → q ≢ p → cell_at (with_cell g p c) q ≡ cell_at g q
+cell_at-with_cell_elsewhere g p q c hp hq other =
+    get_or-set_other g.cells (place_of g.side p) (place_of g.side q) c Empty (λ e. other (place_of-injective g.side q p hq hp e))

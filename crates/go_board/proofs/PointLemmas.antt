@@ -1,0 +1,108 @@
+-- proofs/PointLemmas.antt
+-- Points, their places in a list that goes row by row, and tests on the points of a grid.
+use Rattle.std.proofs.Common.{◌≡◌, ◌≢◌, ℕ, zero, suc, ◌+◌, ◌*◌, ◌/◌, ◌%◌, ◌<◌, ◌≤◌, Bool, true, false, ◌||◌, List, [], ◌∷◌, map, length, get_or, refl, sym, ap, ◌∙◌, arith, Decides, inl, inr}
+use Rattle.std.specs.List.{range_with_len, list_any}
+use Rattle.std.proofs.lemmas.Nat.{mul-add-lt, mod-mul-add, div-mul-add, rows}
+use Rattle.std.proofs.lemmas.List.{get_or-map, ext_get_or, length-map}
+use Rattle.std.proofs.lemmas.List.FromFn.{length-map-range_with_len, get_or-map-range_with_len}
+use Rattle.std.proofs.lemmas.List.Folds.{list_any_at}
+use Rattle.std.proofs.lemmas.Bool.{false≢true}
+use Rattle.std.proofs.lemmas.Bool.Decides.{Decides-eqb, Decides-and, Decides-or}
+use Rattle.go_board.specs.declared.points.Point.{Point}
+use Rattle.go_board.specs.Point.{IsOn, AreAdjacent, are_adjacent, DifferByOne, place_of, point_at, points}
+
+-- the upper left corner
+abbrev pub origin : Point
+origin = record { col = 0; row = 0 }
+
+pub place_below : (side : ℕ) (p : Point) → IsOn side p → place_of side p < side * side
+place_below side p h = mul-add-lt p.row side p.col side h.1 h.0
+
+same_point : (a b c d : ℕ) → a ≡ c → b ≡ d → ◌≡◌ {A = Point} (record { col = a; row = b }) (record { col = c; row = d })
+same_point a b c d e f = cc
+
+-- the point at a point's place is that point
+pub point_at-place_of : (side : ℕ) (p : Point) → IsOn side p → point_at side (place_of side p) ≡ p
+point_at-place_of side p h =
+    same_point _ _ p.col p.row (mod-mul-add p.row side p.col h.0) (div-mul-add p.row side p.col h.0)
+
+-- two points of the grid with one place are one
+pub place_of-injective : (side : ℕ) (p q : Point) → IsOn side p → IsOn side q → place_of side p ≡ place_of side q → p ≡ q
+place_of-injective side p q hp hq e =
+    sym (point_at-place_of side p hp) ∙ ap (point_at side) e ∙ point_at-place_of side q hq
+
+pub above_zero : (side i : ℕ) → i < side * side → 0 < side
+above_zero zero i h = absurd (omega arith)
+above_zero (suc n) i h = omega arith
+
+-- each place below the square of the side is that of a point of the grid
+pub IsOn-point_at : (side i : ℕ) → i < side * side → IsOn side (point_at side i)
+IsOn-point_at side i h = let positive = above_zero side i h in (omega arith, grind (arith, rows))
+
+pub place_of-point_at : (side i : ℕ) → i < side * side → place_of side (point_at side i) ≡ i
+place_of-point_at side i h = let positive = above_zero side i h in omega arith
+
+-- a point whose column and place are on the grid is on it
+pub IsOn-place_below : (side : ℕ) (p : Point) → p.col < side → place_of side p < side * side → IsOn side p
+IsOn-place_below side p col below =
+    let in_row = (IsOn-point_at side (place_of side p) below).1 in
+    let same = div-mul-add p.row side p.col col in
+    (col, omega (arith, in_row, same))
+
+pub length-points : (side : ℕ) → length (points side) ≡ side * side
+unfolding points
+length-points side = length-map-range_with_len (point_at side) 0 (side * side)
+
+pub get_or-points : (side i : ℕ) → i < side * side → get_or (points side) i origin ≡ point_at side i
+unfolding points
+get_or-points side i h = get_or-map-range_with_len (point_at side) 0 (side * side) i i origin h (omega arith)
+
+-- a function of the points, in a list, read at a point's place
+pub get_or-map-points : {X : Type 0} (f : Point → X) (side : ℕ) (p : Point) (d : X) → IsOn side p → get_or (map f (points side)) (place_of side p) d ≡ f p
+get_or-map-points f side p d h =
+    let below : place_of side p < length (points side) = rw length-points (place_below side p h) in
+    get_or-map f (points side) (place_of side p) origin d below
+    ∙ ap f (get_or-points side (place_of side p) (place_below side p h) ∙ point_at-place_of side p h)
+
+-- a list as long as the grid is that of a function of the points which it is at each place
+pub is_map-points : {X : Type 0} (f : Point → X) (side : ℕ) (xs : List X) (d : X) → length xs ≡ side * side → ((i : ℕ) → i < side * side → get_or xs i d ≡ f (point_at side i)) → xs ≡ map f (points side)
+is_map-points f side xs d same each =
+    ext_get_or d xs (map f (points side)) (same ∙ sym (length-map (points side) f ∙ length-points side))
+    (λ i h.
+    let below : i < side * side = rw (← same) h in
+    let within : i < length (points side) = rw length-points below in
+    each i below ∙ ap f (sym (get_or-points side i below)) ∙ sym (get_or-map f (points side) i origin d within))
+
+-- the index of an element that passes a test
+FoundAt : {X : Type 0} → (X → Bool) → X → List X → Type 0
+FoundAt test d xs = (i : ℕ) × (i < length xs) × (test (get_or xs i d) ≡ true)
+
+found_at-cons : {X : Type 0} (test : X → Bool) (d x : X) (xs : List X) (b : Bool) → test x ≡ b → (b || list_any test xs) ≡ true → (list_any test xs ≡ true → FoundAt test d xs) → FoundAt test d (x ∷ xs)
+unfolding FoundAt
+found_at-cons test d x xs true e h rest = (0, omega arith, e)
+found_at-cons test d x xs false e h rest = let r = rest h in (suc r.0, omega (arith, r.1), r.2)
+
+found_at : {X : Type 0} (test : X → Bool) (d : X) (xs : List X) → list_any test xs ≡ true → FoundAt test d xs
+found_at test d [] h = absurd (false≢true h)
+found_at test d (x ∷ xs) h = found_at-cons test d x xs (test x) refl h (found_at test d xs)
+
+-- a test of some point, where the test of each point decides a fact
+pub Decides-some_point : (side : ℕ) (test : Point → Bool) (P : Point → Type 0) → ((q : Point) → IsOn side q → Decides (test q) (P q)) → Decides (list_any test (points side)) ((q : Point) × IsOn side q × P q)
+unfolding FoundAt
+Decides-some_point side test P each = (
+  λ h.
+      let found = found_at test origin (points side) h in
+      let below : found.0 < side * side = rw (← length-points side) found.1 in
+      let on = IsOn-point_at side found.0 below in
+      (point_at side found.0, on, (each _ on).0 (ap test (sym (get_or-points side found.0 below)) ∙ found.2)),
+  λ w.
+      let below = place_below side w.0 w.1 in
+      let within : place_of side w.0 < length (points side) = rw length-points below in
+      list_any_at test (points side) (place_of side w.0) origin within
+      (ap test (get_or-points side _ below ∙ point_at-place_of side w.0 w.1) ∙ (each w.0 w.1).1 w.2),
+)
+
+pub Decides-are_adjacent : (p q : Point) → Decides (are_adjacent p q) (AreAdjacent p q)
+Decides-are_adjacent p q =
+    Decides-or _ _ (Decides-and _ _ (Decides-eqb _ _) (Decides-or _ _ (Decides-eqb _ _) (Decides-eqb _ _)))
+    (Decides-and _ _ (Decides-eqb _ _) (Decides-or _ _ (Decides-eqb _ _) (Decides-eqb _ _)))

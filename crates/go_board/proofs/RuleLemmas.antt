@@ -1,0 +1,76 @@
+-- proofs/RuleLemmas.antt
+-- Clearing, stones that don't reach empty, and the points that count for a player, by paths.
+use Rattle.std.proofs.Common.{◌≡◌, ◌≢◌, ◌⊎◌, ℕ, ◌*◌, Bool, true, false, not, ◌&&◌, cond, length, refl, ap, ◌∙◌, Decides}
+use Rattle.std.proofs.lemmas.Bool.Decides.{Decides-and, Decides-or, Decides-not, Decides-like}
+use Rattle.go_board.specs.declared.stones.Cell.{Cell}
+use Rattle.go_board.specs.declared.stones.Cell.TheVariants.{Empty}
+use Rattle.go_board.specs.declared.stones.Colour.{Colour}
+use Rattle.go_board.specs.declared.points.Point.{Point}
+use Rattle.go_board.specs.Colour.{opponent, stone_of, same_cell}
+use Rattle.go_board.specs.Point.{IsOn, points}
+use Rattle.go_board.specs.Grid.{Grid, cell_at}
+use Rattle.go_board.specs.Reaching.{Reaches, reaches}
+use Rattle.go_board.specs.Clearing.{cleared_cell, clear, HasUnreaching, has_unreaching}
+use Rattle.go_board.specs.Score.{CountsFor, counts_for}
+use Rattle.go_board.proofs.PointLemmas.{Decides-some_point}
+use Rattle.go_board.proofs.GridLemmas.{Decides-same_cell, cell_at-grid_of, length-grid_of}
+use Rattle.go_board.proofs.ReachingLemmas.{Decides-reaches}
+
+pub side-clear : (g : Grid) (k : Colour) → (clear g k).side ≡ g.side
+unfolding clear
+side-clear g k = refl
+
+pub length-clear : (g : Grid) (k : Colour) → length (clear g k).cells ≡ g.side * g.side
+unfolding clear
+length-clear g k = length-grid_of g.side (cleared_cell g k)
+
+pub cell_at-clear : (g : Grid) (k : Colour) (p : Point) → IsOn g.side p → cell_at (clear g k) p ≡ cleared_cell g k p
+unfolding clear
+cell_at-clear g k p on = cell_at-grid_of g.side (cleared_cell g k) p on
+
+-- a point is emptied where both tests say so
+emptied_by : (a b : Bool) (c : Cell) → a ≡ true → b ≡ false → cond (a && not b) Empty c ≡ Empty
+emptied_by a b c e f = rw (e, f)
+
+kept_by_second : (a b : Bool) (c : Cell) → b ≡ true → cond (a && not b) Empty c ≡ c
+kept_by_second true b c f = rw f
+kept_by_second false b c f = refl
+
+kept_by_first : (a b : Bool) (c : Cell) → a ≡ false → cond (a && not b) Empty c ≡ c
+kept_by_first a b c e = rw e
+
+-- a test of what does not hold is false
+pub false_from_Decides : {P : Type 0} (b : Bool) → Decides b P → (¬ P) → b ≡ false
+false_from_Decides true d against = absurd (against (d.0 refl))
+false_from_Decides false d against = refl
+
+pub emptied : (g : Grid) (k : Colour) (p : Point) → IsOn g.side p → cell_at g p ≡ stone_of k → (¬ (Reaches g Empty p)) → cleared_cell g k p ≡ Empty
+unfolding cleared_cell
+emptied g k p on stone shut =
+    emptied_by _ _ _ ((Decides-same_cell _ _).1 stone) (false_from_Decides _ (Decides-reaches g Empty p on) shut)
+
+pub kept : (g : Grid) (k : Colour) (p : Point) → IsOn g.side p → Reaches g Empty p → cleared_cell g k p ≡ cell_at g p
+unfolding cleared_cell
+kept g k p on way = kept_by_second _ _ _ ((Decides-reaches g Empty p on).1 way)
+
+pub others_kept : (g : Grid) (k : Colour) (p : Point) → cell_at g p ≢ stone_of k → cleared_cell g k p ≡ cell_at g p
+unfolding cleared_cell
+others_kept g k p other = kept_by_first _ _ _ (false_from_Decides _ (Decides-same_cell _ _) other)
+
+pub Decides-has_unreaching : (g : Grid) → Decides (has_unreaching g) (HasUnreaching g)
+unfolding has_unreaching
+Decides-has_unreaching g =
+    Decides-like _ (λ w. (w.0, w.1, w.2.0, w.2.1)) (λ w. (w.0, w.1, (w.2, w.3)))
+    (Decides-some_point g.side _ _
+    (λ p on. Decides-and _ _ (Decides-not _ (Decides-same_cell _ _)) (Decides-not _ (Decides-reaches g Empty p on))))
+
+Decides-all_three : {P Q R : Type 0} (x y z : Bool) → Decides x P → Decides y Q → Decides z R → Decides (x && (y && z)) (P × Q × R)
+Decides-all_three x y z p q r =
+    Decides-like _ (λ w. (w.0, w.1.0, w.1.1)) (λ w. (w.0, (w.1, w.2))) (Decides-and _ _ p (Decides-and _ _ q r))
+
+pub Decides-counts_for : (g : Grid) (k : Colour) (p : Point) → IsOn g.side p → Decides (counts_for g k p) (CountsFor g k p)
+unfolding counts_for
+Decides-counts_for g k p on =
+    Decides-or _ _ (Decides-same_cell _ _)
+    (Decides-all_three _ _ _ (Decides-same_cell _ _) (Decides-reaches g (stone_of k) p on)
+    (Decides-not _ (Decides-reaches g (stone_of (opponent k)) p on)))

@@ -1,0 +1,22 @@
+-- specs/Marking.antt
+-- A set of points of a square grid.
+use Rattle.std.specs.Prelude.{ℕ, Bool, false, List, map, count_by, slice_index_or}
+use Rattle.go_board.specs.declared.points.Point.{Point}
+use Rattle.go_board.specs.Point.{place_of, points}
+
+-- the side, and a mark or none for each point, row by row from the top, from left to right
+pub record Marking : Type 0 where
+  pub side : ℕ
+  pub marks : List Bool
+
+-- whether a point is marked
+abbrev pub is_marked : Marking → Point → Bool
+is_marked m p = slice_index_or m.marks (place_of m.side p) false
+
+-- how many points are marked
+abbrev pub marked_count : Marking → ℕ
+marked_count m = count_by (λ b. b) m.marks
+
+-- the marking of the points that pass a test
+abbrev pub marking_of : ℕ → (Point → Bool) → Marking
+marking_of side test = record { side = side; marks = map test (points side) }

@@ -1,0 +1,186 @@
+//! The board: reading and setting points, moves and the score (Tromp-Taylor).
+
+mod areas;
+
+ghost use Rattle.std.specs.Prelude.{◌≡◌, replicate};
+ghost use Rattle.go_board.specs.declared.stones.Cell.TheVariants.{Empty};
+
+use crate::points::Point;
+use crate::size::{MAX_POINTS, Size};
+use crate::stones::{Cell, Colour};
+use crate::sweep;
+use std::marker::Model;
+
+/// A square board and what stands on its points.
+#[derive(Drop)]
+pub struct Board {
+    size: Size,
+    cells: [Cell; MAX_POINTS],
+}
+
+impl Model for Board {
+    ghost use Rattle.std.specs.Prelude.{◌≡◌, ◌*◌, ◌≤◌, length, take};
+    ghost use Rattle.go_board.specs.declared.size.TheConstants.{MAX_POINTS};
+    ghost use Rattle.go_board.specs.Grid.{Grid};
+
+    ghost Value = { Grid };
+
+    ghost view = { λ b. record { side = b.size; cells = take (b.size * b.size) b.cells } };
+
+    ghost invariant = { λ b. (length b.cells ≡ MAX_POINTS) × (b.size * b.size ≤ MAX_POINTS) };
+}
+
+// The cells of the greatest board, on which nothing stands.
+fn nothing() -> [Cell; MAX_POINTS]
+    ensures { result ≡ replicate MAX_POINTS Empty }
+{
+    [Cell::Empty; MAX_POINTS]
+}
+
+impl Board {
+    ghost use Rattle.std.specs.Prelude.{◌≡◌, ◌*◌, ◌+◌, ◌≤◌, ◌↔◌, IsTrue, length};
+    ghost use Rattle.go_board.specs.declared.stones.Cell.TheVariants.{Empty};
+    ghost use Rattle.go_board.specs.declared.stones.Colour.TheVariants.{Black, White};
+    ghost use Rattle.go_board.specs.declared.points.Point.{Point};
+    ghost use Rattle.go_board.specs.Point.{IsOn};
+    ghost use Rattle.go_board.specs.Grid.{cell_at, with_cell, empty_grid};
+    ghost use Rattle.go_board.specs.Marking.{is_marked, marked_count};
+    ghost use Rattle.go_board.specs.Reaching.{Reaches};
+    ghost use Rattle.go_board.specs.Clearing.{clear, play, has_unreaching};
+    ghost use Rattle.go_board.specs.Score.{score_of};
+
+    /// The board of that size on which nothing stands.
+    pub fn empty(size: Size) -> Board
+        ensures { result ≡ empty_grid size }
+    {
+        prove!(size.points() <= MAX_POINTS);
+        Board {
+            size,
+            cells: nothing(),
+        }
+    }
+
+    /// The board's size.
+    pub fn size(&self) -> Size
+        ensures { result ≡ self.now.side }
+    {
+        self.size
+    }
+
+    /// What stands on each point, row by row from the top, from left to right.
+    pub fn cells(&self) -> &[Cell]
+        ensures cells { result.now ≡ self.now.cells }
+        ensures all { length result.now ≡ self.now.side * self.now.side }
+    {
+        &self.cells[..self.size.points()]
+    }
+
+    /// What stands on a point.
+    pub fn at(&self, point: Point) -> Cell
+        requires { IsOn self.now.side point }
+        ensures { result ≡ cell_at self.now point }
+    {
+        self.cells[point.place(self.size)]
+    }
+
+    /// Colours one point, and no other. Nothing is cleared.
+    pub fn set(&mut self, point: Point, cell: Cell)
+        requires { IsOn self.old.side point }
+        ensures { self.new ≡ with_cell self.old point cell }
+    {
+        self.cells[point.place(self.size)] = cell;
+    }
+
+    /// Colours every point: cells are the points row by row from the top, from left to right.
+    pub fn set_cells(&mut self, cells: &[Cell])
+        requires { length cells.now ≡ self.old.side * self.old.side }
+        ensures { self.new ≡ record self.old { cells = cells.now } }
+    {
+        self.cells[..cells.len()].copy_from_slice(cells);
+    }
+
+    /// Whether two boards have the same side and the same colouring.
+    pub fn same(&self, other: &Board) -> bool
+        ensures { IsTrue result ↔ (self.now ≡ other.now) }
+    {
+        self.cells() == other.cells() && self.size == other.size
+    }
+
+    /// A board with the same side and the same colouring.
+    pub fn copy(&self) -> Board
+        ensures { result ≡ self.now }
+    {
+        Board {
+            size: self.size,
+            cells: self.cells,
+        }
+    }
+
+    /// Gives this board the colouring of another one of the same size.
+    pub fn copy_from(&mut self, other: &Board)
+        requires { self.old.side ≡ other.now.side }
+        ensures { self.new ≡ other.now }
+    {
+        self.set_cells(other.cells());
+    }
+
+    /// Empties all points of a colour that don't reach empty, each tested on the board as it was.
+    pub fn clear(&mut self, colour: Colour)
+        ensures value { self.new ≡ clear self.old colour }
+        ensures side { self.new.side ≡ self.old.side }
+    {
+        let points = self.size.points();
+        let reaching = self.reached(Cell::Empty);
+        sweep::clear_all(
+            &mut self.cells[..points],
+            colour.stone(),
+            reaching.as_slice(),
+        );
+    }
+
+    /// The whole move: the point takes the player's colour, then the opponent's colour is cleared, then the player's
+    /// own.
+    #[tactic(auto, unfolding(crate::specs::Clearing::play))]
+    pub fn place(&mut self, colour: Colour, point: Point)
+        requires on_board { IsOn self.old.side point }
+        requires empty { cell_at self.old point ≡ Empty }
+        ensures value { self.new ≡ play self.old colour point }
+        ensures side { self.new.side ≡ self.old.side }
+    {
+        self.set(point, colour.stone());
+        self.clear(colour.opponent());
+        self.clear(colour);
+    }
+
+    /// The area scores of Black and of White: a player's points, and the empty points that reach her colour and not the
+    /// other's. An empty point that reaches both or neither counts for nobody.
+    pub fn score(&self) -> (u32, u32)
+        ensures black { result.0 ≡ score_of self.now Black }
+        ensures white { result.1 ≡ score_of self.now White }
+    {
+        let black = self.reached(Cell::Black);
+        let white = self.reached(Cell::White);
+        (
+            sweep::count(
+                self.cells(),
+                Cell::Black,
+                black.as_slice(),
+                white.as_slice(),
+            ),
+            sweep::count(
+                self.cells(),
+                Cell::White,
+                white.as_slice(),
+                black.as_slice(),
+            ),
+        )
+    }
+
+    /// Whether some stone doesn't reach empty, as a setup can leave one.
+    pub fn has_unreaching(&self) -> bool
+        ensures { result ≡ has_unreaching self.now }
+    {
+        let reaching = self.reached(Cell::Empty);
+        sweep::any_unreaching(self.cells(), reaching.as_slice())
+    }
+}

@@ -1,0 +1,61 @@
+//! The side of a board.
+
+ghost use Rattle.std.specs.Prelude.{◌≡◌, ◌<◌, ◌≤◌, ◌*◌, ◌↔◌, IsSome, IfSome};
+
+use std::marker::Model;
+
+/// The greatest side of a board: SGF FF[4] has letters for 52 columns and rows.
+pub const MAX_SIDE: u8 = 52;
+
+/// The number of points of the greatest board.
+pub const MAX_POINTS: usize = 2704;
+
+/// The side of a square board, in points: 1 to `MAX_SIDE`.
+#[derive(Clone, Copy, Debug, PartialEq, Eq)]
+pub struct Size {
+    side: u8,
+}
+
+impl Model for Size {
+    ghost use Rattle.std.specs.Prelude.{ℕ, ◌≤◌};
+    ghost use Rattle.go_board.specs.declared.size.TheConstants.{MAX_SIDE};
+
+    ghost Value = { ℕ };
+
+    ghost view = { λ s. s.side };
+
+    ghost invariant = { λ s. (1 ≤ s.side) × (s.side ≤ MAX_SIDE) };
+
+    ghost inverse = { λ side. record { side = side } };
+}
+
+impl Size {
+    /// The board of that side; none where there is no such board.
+    pub fn new(n: u8) -> Option<Size>
+        ensures exists { IsSome result ↔ ((1 ≤ n) × (n ≤ MAX_SIDE)) }
+        ensures value { IfSome result (λ size. size ≡ n) }
+    {
+        if 1 <= n && n <= MAX_SIDE {
+            Some(Size { side: n })
+        } else {
+            None
+        }
+    }
+
+    /// How many points a row or a column has.
+    pub fn side(self) -> u8
+        ensures value { result ≡ self }
+        ensures at_least_one { 1 ≤ result }
+        ensures at_most { result ≤ MAX_SIDE }
+    {
+        self.side
+    }
+
+    /// How many points the board has.
+    pub fn points(self) -> usize
+        ensures value { result ≡ self * self }
+        ensures at_most { result ≤ MAX_POINTS }
+    {
+        usize::from(self.side) * usize::from(self.side)
+    }
+}

@@ -1,0 +1,43 @@
+//! A count of work.
+
+ghost use Rattle.std.specs.Prelude.{◌≡◌, ◌+◌, ◌<◌};
+
+use std::marker::Model;
+
+/// How many steps were taken. A step of a flood is one point taken off its worklist.
+#[derive(Drop)]
+pub struct Steps {
+    count: u64,
+}
+
+impl Model for Steps {
+    ghost use Rattle.std.specs.Prelude.{ℕ};
+
+    ghost Value = { ℕ };
+
+    ghost view = { λ s. s.count };
+}
+
+impl Steps {
+    /// No step yet.
+    pub fn new() -> Steps
+        ensures { result ≡ 0 }
+    {
+        Steps { count: 0 }
+    }
+
+    /// One step more.
+    pub fn tick(&mut self)
+        requires { self.old < u64.MAX }
+        ensures { self.new ≡ self.old + 1 }
+    {
+        self.count += 1;
+    }
+
+    /// How many steps there were.
+    pub fn count(&self) -> u64
+        ensures { result ≡ self.now }
+    {
+        self.count
+    }
+}

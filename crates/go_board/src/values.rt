@@ -1,0 +1,68 @@
+//! The points and rectangles that property values name (SGF FF[4], "Point" and "compressed point lists").
+
+ghost use Rattle.std.specs.Prelude.{◌≡◌, IfSome};
+ghost use Rattle.go_board.specs.Point.{IsOn, IsRectOn};
+ghost use Rattle.go_board.specs.Values.{coordinate, rect_of, point_value, rect_value};
+
+use crate::points::{Point, Rect};
+use crate::size::Size;
+
+/// The column or row, from 0, that a letter names on a board of that size: `a` to `z` are the first 26, `A` to `Z` the
+/// next 26.
+fn coordinate_of(letter: u8, size: Size) -> Option<u8>
+    ensures { result ≡ coordinate size letter }
+{
+    let index = match letter {
+        b'a'..=b'z' => letter - b'a',
+        b'A'..=b'Z' => letter - b'A' + 26,
+        _ => return None,
+    };
+    if index < size.side() {
+        Some(index)
+    } else {
+        None
+    }
+}
+
+/// The point of the board that a raw value names: two letters, the column's and then the row's, and nothing else. None
+/// for everything else.
+pub fn point(raw: &[u8], size: Size) -> Option<Point>
+    ensures value { result ≡ point_value raw.now size }
+    ensures on_board { IfSome result (λ p. IsOn size p) }
+{
+    let [col, row] = raw else {
+        return None;
+    };
+    Some(Point {
+        col: coordinate_of(*col, size)?,
+        row: coordinate_of(*row, size)?,
+    })
+}
+
+/// The rectangle with these corners, where the first is the upper left one.
+fn ordered(first: Point, last: Point) -> Option<Rect>
+    ensures { result ≡ rect_of first last }
+{
+    if first.col <= last.col && first.row <= last.row {
+        Some(Rect { first, last })
+    } else {
+        None
+    }
+}
+
+/// The rectangle of the board that a raw value names: a point alone, which is both corners, or the upper left corner, a
+/// `:` and the lower right corner. None for everything else. That equal corners are taken and other orders are not is
+/// this project's choice.
+pub fn rect(raw: &[u8], size: Size) -> Option<Rect>
+    ensures value { result ≡ rect_value raw.now size }
+    ensures on_board { IfSome result (λ r. IsRectOn size r) }
+{
+    match raw {
+        [_, _] => {
+            let only = point(raw, size)?;
+            ordered(only, only)
+        }
+        [_, _, b':', _, _] => ordered(point(&raw[..2], size)?, point(&raw[3..], size)?),
+        _ => None,
+    }
+}
