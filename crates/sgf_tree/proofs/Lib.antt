@@ -36,3 +36,6 @@ pub mod SpelledAccepted
 pub mod Faults
 pub mod Skipping
 pub mod Spans
+pub mod Literal
+pub mod Steps
+pub mod Examples

@@ -1,6 +1,7 @@
 //! Laws of the definitions. A function here does nothing: what it ensures is a law that is proved.
 
 ghost use Rattle.std.specs.Prelude.{◌≡◌, ℕ, List, ◌++◌, length};
+ghost use Rattle.sgf_tree.specs.FileOrder.{PlacesRise};
 ghost use Rattle.sgf_tree.specs.Appending.{raised, BeginsWithMark};
 ghost use Rattle.sgf_tree.specs.Spelling.{Spells};
 ghost use Rattle.sgf_tree.specs.Tree.{Games, followed_by};
@@ -16,4 +17,9 @@ pub fn append()
 /// also in the place of each node, in its properties and in their raw values.
 pub fn one()
     ensures { (c d : Games) (t : List ℕ) → Spells c t → Spells d t → c ≡ d }
+{}
+
+/// The places of the nodes of a collection that some text spells rise strictly in file order.
+pub fn places_rise()
+    ensures { (c : Games) (t : List ℕ) → Spells c t → PlacesRise c }
 {}

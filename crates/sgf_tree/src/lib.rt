@@ -4,7 +4,7 @@
 //! - `layout` has the entries of the flat vectors that hold a collection.
 //! - `collection`, `node` and `property` look into a collection that was read.
 //! - `reader` reads one.
-//! - `text` and `number` decode values.
+//! - `text` decodes the text of a value, and `numbers` has the value of a number.
 //! - `laws` has what holds of all texts.
 #![tactic(auto)]
 
@@ -16,11 +16,13 @@ mod property;
 mod reader;
 
 pub mod laws;
-pub mod number;
-pub mod text;
+mod numbers;
+mod text;
 
 pub use collection::Collection;
 pub use fault::{MAX_LENGTH, MemoryFault, ReadFault};
 pub use node::NodeRef;
+pub use numbers::number;
 pub use property::PropRef;
 pub use reader::read;
+pub use text::push_text;

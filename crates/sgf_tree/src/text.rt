@@ -1,11 +1,11 @@
 //! The decoded text of a raw value.
 
-ghost use Rattle.std.specs.Prelude.{◌≡◌, ◌<◌, ◌++◌, [], OnOk, OnErr, IfSome, MatchOption, length, option_to_list};
+ghost use Rattle.std.specs.Prelude.{◌≡◌, ◌<◌, ◌≤◌, ◌+◌, ◌++◌, OnOk, OnErr, length, take, drop, option_to_list};
 ghost use Rattle.sgf_tree.specs.Text.{text_of, plain as plain_lem};
 
 use crate::fault::MemoryFault;
 
-/// Appends the decoded text of a raw value to `out` (SGF FF[4], SimpleText and Text).
+/// Appends the decoded text of a raw value to `out` (SGF FF[4], Text).
 ///
 /// A `\` before a line break goes with it, and before another byte it goes alone. A line break is CR LF, LF CR, LF or
 /// CR and gives an LF. The bytes 9, 11 and 12 give a space, behind a `\` too, and every other byte gives itself. (That
@@ -19,7 +19,10 @@ pub fn push_text(raw: &[u8], out: &mut Vec<u8>) -> Result<(), MemoryFault>
 {
     out.reserve(raw.len()).map_err(|_| MemoryFault)?;
     let mut rest = raw;
-    while let Some((byte, behind)) = decode_front(rest) {
+    while !rest.is_empty() {
+        let (literal, special) = rest.split_at(literal_length(rest));
+        out.extend_from_slice(literal).unwrap();
+        let (byte, behind) = decode_front(special);
         if let Some(byte) = byte {
             out.push(byte).unwrap();
         }
@@ -28,19 +31,33 @@ pub fn push_text(raw: &[u8], out: &mut Vec<u8>) -> Result<(), MemoryFault>
     Ok(())
 }
 
-/// What the front of a raw value gives, and the rest; `None` where nothing is left that gives a byte.
-fn decode_front(raw: &[u8]) -> Option<(Option<u8>, &[u8])>
-    ensures decoded { MatchOption result (text_of raw.now ≡ []) (λ v. text_of raw.now ≡ option_to_list v.0 ++ text_of v.1.now) }
-    ensures shorter { IfSome result (λ v. length v.1.now < length raw.now) }
+/// How many bytes at the front stand for themselves, whatever follows.
+fn literal_length(raw: &[u8]) -> usize
+    ensures within { result ≤ length raw.now }
+    ensures literal { text_of raw.now ≡ take result raw.now ++ text_of (drop result raw.now) }
+{
+    for (i, byte) in raw.iter().enumerate() {
+        if matches!(byte, b'\\' | b'\t'..=b'\r') {
+            return i;
+        }
+    }
+    raw.len()
+}
+
+/// The byte that the front of a raw value gives, if it gives one, and the rest.
+fn decode_front(raw: &[u8]) -> (Option<u8>, &[u8])
+    ensures decoded { text_of raw.now ≡ option_to_list result.0 ++ text_of result.1.now }
+    ensures room { length (option_to_list result.0) + length result.1.now ≤ length raw.now }
+    ensures shorter { 0 < length raw.now → length result.1.now < length raw.now }
 {
     match raw {
-        [] | [b'\\'] => None,
-        [b'\\', b'\r', b'\n', rest @ ..] | [b'\\', b'\n', b'\r', rest @ ..] => Some((None, rest)),
-        [b'\\', b'\r' | b'\n', rest @ ..] => Some((None, rest)),
-        [b'\\', byte, rest @ ..] => Some((Some(plain(*byte)), rest)),
-        [b'\r', b'\n', rest @ ..] | [b'\n', b'\r', rest @ ..] => Some((Some(b'\n'), rest)),
-        [b'\r' | b'\n', rest @ ..] => Some((Some(b'\n'), rest)),
-        [byte, rest @ ..] => Some((Some(plain(*byte)), rest)),
+        [] | [b'\\'] => (None, &[]),
+        [b'\\', b'\r', b'\n', rest @ ..] | [b'\\', b'\n', b'\r', rest @ ..] => (None, rest),
+        [b'\\', b'\r' | b'\n', rest @ ..] => (None, rest),
+        [b'\\', byte, rest @ ..] => (Some(plain(*byte)), rest),
+        [b'\r', b'\n', rest @ ..] | [b'\n', b'\r', rest @ ..] => (Some(b'\n'), rest),
+        [b'\r' | b'\n', rest @ ..] => (Some(b'\n'), rest),
+        [byte, rest @ ..] => (Some(plain(*byte)), rest),
     }
 }
 
