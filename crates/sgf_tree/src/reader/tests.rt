@@ -29,7 +29,11 @@ fn refuses_at_the_first_fault(rt: HostRuntime) {
         (")", 0),
         (" ", 1),
     ] {
-        assert_eq!(rt; fault_of(rt.alloc(), text.as_bytes()), Some(at), "of {text:?}");
+        assert_eq!(rt;
+            fault_of(rt.alloc(), text.as_bytes()),
+            Some(at),
+            "of {text:?}"
+        );
     }
     for (text, at) in [
         (b"\xEF\xBB".as_slice(), 2),
@@ -141,7 +145,9 @@ fn finds_the_first_property_of_a_name(rt: HostRuntime) -> Result<(), Fail> {
         ("A", None),
         ("", None),
     ] {
-        let value = node.first(name.as_bytes()).map(|property| property.value(0));
+        let value = node
+            .first(name.as_bytes())
+            .map(|property| property.value(0));
         assert_eq!(rt; value, want.map(|text| text.as_bytes()), "of {name:?}");
     }
     Ok(())
