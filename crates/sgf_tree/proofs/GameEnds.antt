@@ -1,16 +1,14 @@
 -- The end of a game, in the flat vectors.
-use Rattle.std.proofs.Common.{◌≡◌, ◌≢◌, ℕ, zero, suc, ◌+◌, ◌-◌, ◌<◌, ◌≤◌, ◌⊎◌, Bool, true, false, if◌then◌else◌, nat_lt, inl, inr, List, [], ◌∷◌, ◌++◌, length, get_or, take, drop, map, replicate, All, slice_get, Option, Some, None, option_map, refl, sym, ap, subst, ◌∙◌, arith, append_assoc, length-append}
+use Rattle.std.proofs.Common.{◌≡◌, ℕ, ◌+◌, ◌-◌, ◌<◌, ◌≤◌, inl, inr, List, [], ◌∷◌, ◌++◌, length, get_or, take, drop, map, replicate, slice_get, Option, Some, None, option_map, refl, sym, ap, subst, ◌∙◌, arith, append_assoc, length-append}
 use Rattle.std.proofs.lemmas.Bool.{cases_lt, lt-ltb, le-ltb}
 use Rattle.std.proofs.lemmas.List.{length-map, length-replicate, take_at, drop_at}
 use Rattle.std.proofs.lemmas.Option.{slice_get-map}
-use Rattle.sgf_tree.specs.Tree.{Property, Node, Games, no_games, game, followed_by, game_count, node_count}
-use Rattle.sgf_tree.specs.FileOrder.{Row, game_of}
-use Rattle.sgf_tree.specs.Machine.{OpenGame, Stack, whole_game}
+use Rattle.sgf_tree.specs.Tree.{Property, Games, no_games, game, followed_by, game_count, node_count}
+use Rattle.sgf_tree.specs.FileOrder.{game_of}
+use Rattle.sgf_tree.specs.Machine.{OpenGame, whole_game}
 use Rattle.sgf_tree.specs.Ends.{EndsRise}
-use Rattle.sgf_tree.specs.Layout.{IsSpan, properties_of, row_by, rows_by}
-use Rattle.sgf_tree.specs.GamesRead.{open_count, tip, open_rows, lasts, open_lasts, IsRootOf, HoldStack, unmarked, ClosesRun}
-use Rattle.sgf_tree.specs.declared.layout.Link.{Link}
-use Rattle.sgf_tree.specs.declared.layout.Link.TheVariants.{Root}
+use Rattle.sgf_tree.specs.Layout.{properties_of, row_by, rows_by}
+use Rattle.sgf_tree.specs.GamesRead.{open_count, lasts, open_lasts, IsRootOf, HoldStack, unmarked, ClosesRun}
 use Rattle.sgf_tree.specs.declared.layout.NodeEntry.{NodeEntry}
 use Rattle.sgf_tree.specs.declared.layout.PropertyEntry.{PropertyEntry}
 use Rattle.sgf_tree.specs.declared.layout.ValueEntry.{ValueEntry}
@@ -45,8 +43,8 @@ game_of-before no_games b i h = absurd (omega arith)
 game_of-before (game first more below behind) b i h =
     let size : ℕ = 1 + length more + node_count below in
     elim (cases_lt i size) [
-      inl lt ↦ rw (lt-ltb i size lt)
-    | inr le ↦ rw (le-ltb i size le) (ap (λ k. 1 + k) (game_of-before behind b (i - size) (omega arith)))
+      | inl lt ↦ rw (lt-ltb i size lt)
+      | inr le ↦ rw (le-ltb i size le) (ap (λ k. 1 + k) (game_of-before behind b (i - size) (omega arith)))
     ]
 
 -- and of the root of a game behind them
@@ -95,21 +93,21 @@ module _ (t : List ℕ) (closed : Games) (g : OpenGame) (gs : List OpenGame) whe
       let props : List Property = properties_of t vs 0 ps in
       record {
         same_rows =
-          open_rows-closed closed g gs ∙ held.same_rows ∙ sym (rows_by-unmarked props 0 0 ns) ∙ ap (rows_by props 0 0) (sym closes.same) ∙ rows_by-unmarked props 0 0 ns';
+            open_rows-closed closed g gs ∙ held.same_rows ∙ sym (rows_by-unmarked props 0 0 ns) ∙ ap (rows_by props 0 0) (sym closes.same) ∙ rows_by-unmarked props 0 0 ns';
         same_lasts =
-          lasts-marked closed g gs (map mark_of ns) (length ns) (sym held.same_lasts) (nodes-held t (record { closed = closed; unclosed = g ∷ gs }) ns ps vs held) ∙ sym closes.marked;
+            lasts-marked closed g gs (map mark_of ns) (length ns) (sym held.same_lasts) (nodes-held t (record { closed = closed; unclosed = g ∷ gs }) ns ps vs held) ∙ sym closes.marked;
         properties_end =
-          ends-of_unmarked 0 ns' (length ps) (subst (λ ms. EndsRise (λ (n : NodeEntry). n.properties_end) 0 0 ms (length ps)) (sym closes.same) (ends-to_unmarked 0 ns (length ps) held.properties_end));
+            ends-of_unmarked 0 ns' (length ps) (subst (λ ms. EndsRise (λ (n : NodeEntry). n.properties_end) 0 0 ms (length ps)) (sym closes.same) (ends-to_unmarked 0 ns (length ps) held.properties_end));
         values_end = held.values_end;
         identifiers_within = held.identifiers_within;
         values_within = held.values_within;
         places_within = λ k d lt.
-          let same : (get_or ns' k d).place ≡ (get_or ns k d).place =
+            let same : (get_or ns' k d).place ≡ (get_or ns k d).place =
             ap (λ (n : NodeEntry). n.place) (sym (get_or-map unmarked ns' k d) ∙ ap (λ xs. get_or xs k (unmarked d)) closes.same ∙ get_or-map unmarked ns k d) in
-          let count : length ns' ≡ length ns =
+            let count : length ns' ≡ length ns =
             sym (length-map ns' unmarked) ∙ ap length closes.same ∙ length-map ns unmarked in
-          subst (λ p. p < length t) (sym same) (held.places_within k d (omega arith));
+            subst (λ p. p < length t) (sym same) (held.places_within k d (omega arith));
         roots = λ i n r here is.
-          let old = mapped unmarked (slice_get ns i) (unmarked n) (sym (slice_get-map unmarked ns i) ∙ ap (λ xs. slice_get xs i) (sym closes.same) ∙ slice_get-map unmarked ns' i ∙ ap (option_map unmarked) here) in
-          root-closed closed g gs i r (held.roots i old.0 r old.1 (ap (λ (m : NodeEntry). m.link) old.2 ∙ is));
+            let old = mapped unmarked (slice_get ns i) (unmarked n) (sym (slice_get-map unmarked ns i) ∙ ap (λ xs. slice_get xs i) (sym closes.same) ∙ slice_get-map unmarked ns' i ∙ ap (option_map unmarked) here) in
+            root-closed closed g gs i r (held.roots i old.0 r old.1 (ap (λ (m : NodeEntry). m.link) old.2 ∙ is));
       }

@@ -1,15 +1,14 @@
 -- How the machine goes from game to game.
-use Rattle.std.proofs.Common.{◌≡◌, ◌≢◌, ℕ, zero, suc, ◌+◌, ◌-◌, ◌<◌, ◌≤◌, ◌==◌, ◌⊎◌, Bool, true, false, inl, inr, List, [], ◌∷◌, ◌++◌, length, get_or, map, Option, Some, None, is_some, refl, sym, ap, subst, ◌∙◌, arith, length-append, ne_eqb}
-use Rattle.std.proofs.lemmas.Bool.{cases_lt, false≢true, true≢false}
+use Rattle.std.proofs.Common.{◌≡◌, ◌≢◌, ℕ, ◌+◌, ◌-◌, ◌<◌, ◌⊎◌, true, false, inl, inr, List, [], ◌∷◌, length, get_or, Option, Some, None, is_some, refl, sym, ap, subst, ◌∙◌, arith, ne_eqb}
+use Rattle.std.proofs.lemmas.Bool.{false≢true, true≢false}
 use Rattle.std.proofs.lemmas.List.{length-map}
 use Rattle.sgf_tree.specs.Tree.{Games, no_games, game, game_count, node_count}
 use Rattle.sgf_tree.specs.Spelling.{is_white}
-use Rattle.sgf_tree.specs.Machine.{OpenGame, Stack, State, opened, behind_game, between_games, close_in, whole_game, step, accepted, whole_games}
+use Rattle.sgf_tree.specs.Machine.{OpenGame, Stack, opened, behind_game, between_games, close_in, whole_game, step, accepted}
 use Rattle.sgf_tree.specs.Refusal.{IsFaultyAt}
 use Rattle.sgf_tree.specs.Progress.{Reaches, IsRun}
 use Rattle.sgf_tree.specs.GamesRead.{open_count, tip, HoldStack, IsOpening, StandsBetween, IsSequenceRead, IsOwnRun, unmarked, ClosesRun, IsRead}
-use Rattle.sgf_tree.specs.declared.layout.Link.{Link}
-use Rattle.sgf_tree.specs.declared.layout.Link.TheVariants.{Root, Branch}
+use Rattle.sgf_tree.specs.declared.layout.Link.TheVariants.{Root}
 use Rattle.sgf_tree.specs.declared.layout.NodeEntry.{NodeEntry}
 use Rattle.sgf_tree.specs.declared.layout.PropertyEntry.{PropertyEntry}
 use Rattle.sgf_tree.specs.declared.layout.ValueEntry.{ValueEntry}
@@ -178,9 +177,9 @@ module _ (t : List ℕ) where
     games-close next games' ns' parent lt e h white if_none if_some =
         let done = closes ns' parent h in
         let up : tip so_far.stack.closed inmost.outer ≡ parent =
-          some-same (sym (own-parent so_far.stack.closed inmost.inner inmost.outer _ ns held-inner.same_rows) ∙ done.parent_is) in
+        some-same (sym (own-parent so_far.stack.closed inmost.inner inmost.outer _ ns held-inner.same_rows) ∙ done.parent_is) in
         let step_is : step at so_far.stands.state (get_or t at 0) ≡ Some (behind_game closed_stack) =
-          so_far.stands.next lt ∙ ap (between_games so_far.stack) e ∙ ap (close_in so_far.stack.closed) inmost.is ∙ closed-in so_far.stack.closed inmost.inner inmost.outer in
+        so_far.stands.next lt ∙ ap (between_games so_far.stack) e ∙ ap (close_in so_far.stack.closed) inmost.is ∙ closed-in so_far.stack.closed inmost.inner inmost.outer in
         record {
           stack = closed_stack;
           stands = record {
@@ -212,8 +211,8 @@ module _ (t : List ℕ) where
             reached = so_far.stands.state;
             whole = subst (λ i. Reaches t i so_far.stands.state) ends so_far.stands.reached;
             accepts =
-              so_far.stands.end ∙ ap (λ gs. accepted (behind_game (record { closed = so_far.stack.closed; unclosed = gs }))) all ∙ some-accepted so_far.stack.closed (omega (arith, so_far.games_are));
+                so_far.stands.end ∙ ap (λ gs. accepted (behind_game (record { closed = so_far.stack.closed; unclosed = gs }))) all ∙ some-accepted so_far.stack.closed (omega (arith, so_far.games_are));
             held =
-              subst (λ gs. HoldStack t (record { closed = so_far.stack.closed; unclosed = gs }) ns ps vs) all so_far.held;
+                subst (λ gs. HoldStack t (record { closed = so_far.stack.closed; unclosed = gs }) ns ps vs) all so_far.held;
           },
         )

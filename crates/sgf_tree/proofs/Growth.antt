@@ -1,5 +1,5 @@
 -- What the vectors show stays as they grow.
-use Rattle.std.proofs.Common.{◌≡◌, ℕ, zero, suc, ◌+◌, ◌-◌, ◌<◌, ◌≤◌, List, [], ◌∷◌, ◌++◌, length, take, drop, map, slice_range, refl, sym, ap, ◌∙◌, arith, length-drop}
+use Rattle.std.proofs.Common.{◌≡◌, ℕ, suc, ◌+◌, ◌-◌, ◌≤◌, List, [], ◌∷◌, ◌++◌, length, take, drop, slice_range, refl, ap, ◌∙◌, arith, length-drop}
 use Rattle.std.proofs.lemmas.List.{drop-append-le, take-append-le, drop_at, take_all}
 use Rattle.sgf_tree.specs.Tree.{Property}
 use Rattle.sgf_tree.specs.FileOrder.{Row}
@@ -47,7 +47,7 @@ rows_by-more props more i from (n ∷ ns) to h within =
     let rest : n.properties_end ≤ to = ends-rise (λ (m : NodeEntry). m.properties_end) 0 n.properties_end ns to h.1 in
     let with : List Property → Row = λ ps. record { node = record { place = n.place; properties = ps }; parent = parent_by n.link i; opens = opens_by n.link } in
     let same : row_by (props ++ more) i from n ≡ row_by props i from n =
-      ap with (slice_range-more props more from n.properties_end (omega (arith, h.0)) (omega arith)) in
+    ap with (slice_range-more props more from n.properties_end (omega (arith, h.0)) (omega arith)) in
     ap (λ r. r ∷ rows_by (props ++ more) (i + 1) n.properties_end ns) same
     ∙ ap (λ rs. row_by props i from n ∷ rs) (rows_by-more props more (i + 1) n.properties_end ns to h.1 within)
 

@@ -1,9 +1,9 @@
 -- The last node below each node, in file order.
-use Rattle.std.proofs.Common.{◌≡◌, ◌≢◌, ℕ, zero, suc, ◌+◌, ◌-◌, ◌<◌, ◌≤◌, ◌⊎◌, inl, inr, Bool, true, false, List, [], ◌∷◌, ◌++◌, length, replicate, slice_get, Option, Some, None, option_map, refl, sym, ap, subst, ◌∙◌, arith, append_assoc, append-nil, length-append}
+use Rattle.std.proofs.Common.{◌≡◌, ℕ, zero, suc, ◌+◌, ◌-◌, ◌<◌, ◌≤◌, ◌⊎◌, inl, inr, true, List, [], ◌∷◌, ◌++◌, length, replicate, slice_get, Option, Some, None, refl, sym, ap, subst, ◌∙◌, arith, append_assoc, append-nil, length-append}
 use Rattle.std.proofs.lemmas.Bool.{cases_lt}
 use Rattle.std.proofs.lemmas.List.{length-replicate}
 use Rattle.sgf_tree.specs.Tree.{Node, Games, no_games, game, node_count}
-use Rattle.sgf_tree.specs.FileOrder.{Row, further_rows, rows, rows_of, parent_at, IsUnder, itself, below, IsLastBelow}
+use Rattle.sgf_tree.specs.FileOrder.{Row, further_rows, rows, rows_of, IsUnder, itself, below, IsLastBelow}
 use Rattle.sgf_tree.specs.GamesRead.{lasts}
 use Rattle.sgf_tree.proofs.Rows.{slice_get-left, slice_get-right, parent_in, parent_in-left, parent_in-right, parent_in-further, length-further_rows, length-rows, length-rows_of, parent-within, parent_at-lt, parent_at-within}
 use Rattle.sgf_tree.proofs.Stacks.{length-lasts}
@@ -33,31 +33,31 @@ has-parent at p (game first more low high) (suc k) lt h =
     let unders : length under ≡ node_count low = length-rows (last + 1) (Some last) low in
     let both : length (own ++ under) ≡ suc (length more) + node_count low = omega (arith, length-append own under) in
     elim (cases_lt (suc k) (suc (length more))) [
-      inl in_own ↦ (
+      | inl in_own ↦ (
         at + k,
         parent_in-left (own ++ under) next (suc k) (omega arith) ∙ parent_in-left own under (suc k) (omega arith) ∙ parent_in-further at more k (omega arith),
         omega arith,
         omega arith,
       )
-    | inr past ↦
-        elim (cases_lt (suc k) (suc (length more) + node_count low)) [
-          inl in_under ↦
-            let j : ℕ = suc k - suc (length more) in
-            let there = has-parent (last + 1) last low j (omega arith) (omega arith) in (
-              there.0,
-              parent_in-left (own ++ under) next (suc k) (omega arith) ∙ parent_in-right own under (suc k) j (omega arith) ∙ there.1,
-              omega (arith, there.2),
-              omega (arith, there.3),
-            )
-        | inr in_next ↦
-            let j : ℕ = suc k - (suc (length more) + node_count low) in
-            let there = has-parent start p high j (omega arith) (omega arith) in (
-              there.0,
-              parent_in-right (own ++ under) next (suc k) j (omega arith) ∙ there.1,
-              omega (arith, there.2),
-              omega (arith, there.3),
-            )
-        ]
+      | inr past ↦
+          elim (cases_lt (suc k) (suc (length more) + node_count low)) [
+            | inl in_under ↦
+                let j : ℕ = suc k - suc (length more) in
+                let there = has-parent (last + 1) last low j (omega arith) (omega arith) in (
+                  there.0,
+                  parent_in-left (own ++ under) next (suc k) (omega arith) ∙ parent_in-right own under (suc k) j (omega arith) ∙ there.1,
+                  omega (arith, there.2),
+                  omega (arith, there.3),
+                )
+            | inr in_next ↦
+                let j : ℕ = suc k - (suc (length more) + node_count low) in
+                let there = has-parent start p high j (omega arith) (omega arith) in (
+                  there.0,
+                  parent_in-right (own ++ under) next (suc k) j (omega arith) ∙ there.1,
+                  omega (arith, there.2),
+                  omega (arith, there.3),
+                )
+          ]
     ]
 
 module _ (flat : List Row) where
@@ -75,8 +75,8 @@ module _ (flat : List Row) where
   segment-parent : (at : ℕ) (p : Option ℕ) (g : Games) (j q : ℕ) → Stands at p g → at ≤ j → j < at + node_count g → parent_in flat j ≡ Some (Some q) → (p ≡ Some q) ⊎ ((at ≤ q) × (q < j))
   segment-parent at p g j q stands low high h =
       elim (parent-within at p g (j - at) q (sym (segment at p g j stands low high) ∙ h)) [
-        inl same ↦ inl same
-      | inr w ↦ let lo : at ≤ q = w.from in let hi : q < at + (j - at) = w.before in inr (omega arith, omega arith)
+        | inl same ↦ inl same
+        | inr w ↦ let lo : at ≤ q = w.from in let hi : q < at + (j - at) = w.before in inr (omega arith, omega arith)
       ]
 
   -- no node behind the games is below them
@@ -115,12 +115,12 @@ module _ (flat : List Row) where
       apart-first : Apart at (at + length more + 1 + node_count low)
       apart-first j q le h =
           elim (cases_lt j (at + node_count (game first more low high))) [
-            inl lt ↦
-              elim (segment-parent (at + length more + 1 + node_count low) p high j q stands-behind le (omega arith) h) [
-                inl same ↦ inl (before q same)
-              | inr there ↦ inr there.0
-              ]
-          | inr ge ↦ elim (apart j q ge h) [ inl lt ↦ inl lt | inr past ↦ inr (omega arith) ]
+            | inl lt ↦
+                elim (segment-parent (at + length more + 1 + node_count low) p high j q stands-behind le (omega arith) h) [
+                  | inl same ↦ inl (before q same)
+                  | inr there ↦ inr there.0
+                ]
+            | inr ge ↦ elim (apart j q ge h) [ inl lt ↦ inl lt | inr past ↦ inr (omega arith) ]
           ]
 
       -- an own node of the game
@@ -133,30 +133,30 @@ module _ (flat : List Row) where
           record {
             rises = omega arith;
             inside = λ j lo hi.
-              elim (cases_lt j (last + 1)) [
-                inl in_own ↦
-                  let e : j - at ≡ suc (j - at - 1) = omega arith in
-                  let f : at + (j - at - 1) ≡ j - 1 = omega arith in (
-                    j - 1,
-                    segment at p (game first more low high) j stands (omega arith) (omega arith)
-                    ∙ parent_in-left (own ++ under) next (j - at) (omega (arith, length-append own under, length-further_rows at more))
-                    ∙ parent_in-left own under (j - at) (omega (arith, length-further_rows at more))
-                    ∙ ap (parent_in own) e
-                    ∙ parent_in-further at more (j - at - 1) (omega arith)
-                    ∙ ap (λ k. Some (Some k)) f,
-                    omega arith,
-                    omega arith,
-                  )
-              | inr past ↦
-                  let there = has-parent (last + 1) last low (j - (last + 1)) (omega arith) (omega arith) in (
-                    there.0,
-                    segment (last + 1) (Some last) low j stands-below (omega arith) (omega arith) ∙ there.1,
-                    omega (arith, there.2),
-                    omega (arith, there.3),
-                  )
-              ];
+                elim (cases_lt j (last + 1)) [
+                  | inl in_own ↦
+                      let e : j - at ≡ suc (j - at - 1) = omega arith in
+                      let f : at + (j - at - 1) ≡ j - 1 = omega arith in (
+                        j - 1,
+                        segment at p (game first more low high) j stands (omega arith) (omega arith)
+                            ∙ parent_in-left (own ++ under) next (j - at) (omega (arith, length-append own under, length-further_rows at more))
+                            ∙ parent_in-left own under (j - at) (omega (arith, length-further_rows at more))
+                            ∙ ap (parent_in own) e
+                            ∙ parent_in-further at more (j - at - 1) (omega arith)
+                            ∙ ap (λ k. Some (Some k)) f,
+                        omega arith,
+                        omega arith,
+                      )
+                  | inr past ↦
+                      let there = has-parent (last + 1) last low (j - (last + 1)) (omega arith) (omega arith) in (
+                        there.0,
+                        segment (last + 1) (Some last) low j stands-below (omega arith) (omega arith) ∙ there.1,
+                        omega (arith, there.2),
+                        omega (arith, there.3),
+                      )
+                ];
             outside = λ j q lt h.
-              elim (apart-first j q (omega arith) h) [ inl lo ↦ inl (omega arith) | inr hi ↦ inr (omega arith) ];
+                elim (apart-first j q (omega arith) h) [ inl lo ↦ inl (omega arith) | inr hi ↦ inr (omega arith) ];
           }
 
       -- behind the games below the game none is below one of them
@@ -182,22 +182,22 @@ module _ (flat : List Row) where
       let f : at + 1 + m ≡ at + m + 1 = omega arith in
       let g : at + 1 + m + node_count low ≡ at + m + 1 + node_count low = omega arith in
       elim (cases_lt i (1 + m)) [
-        inl in_own ↦
-          let is : Some (at + m + node_count low) ≡ Some l =
+        | inl in_own ↦
+            let is : Some (at + m + node_count low) ≡ Some l =
             sym (slice_get-left (own ++ under) next i (omega arith) ∙ slice_get-left own under i (omega arith) ∙ slice_get-replicate (1 + m) (at + m + node_count low) i in_own) ∙ h in
-          let same : at + m + node_count low ≡ l = cc in
-          subst (IsSpanBelow flat n) same (own-span at p first more low high stands before apart n (omega arith) (omega arith))
-      | inr past ↦
-          elim (cases_lt i (1 + m + node_count low)) [
-            inl in_under ↦
-              let j : ℕ = i - (1 + m) in
-              lasts-span (at + m + 1) (Some (at + m)) low (stands-below at p first more low high stands) (λ q same. let is : at + m ≡ q = cc in omega arith) (apart-below at p first more low high stands before apart) j l n (omega arith)
-              (ap (λ k. slice_get (lasts k low) j) (sym f) ∙ sym (slice_get-left (own ++ under) next i (omega arith) ∙ slice_get-right own under i j (omega arith)) ∙ h)
-          | inr in_next ↦
-              let j : ℕ = i - (1 + m + node_count low) in
-              lasts-span (at + m + 1 + node_count low) p high (stands-behind at p first more low high stands) (λ q same. omega (arith, before q same)) (apart-behind at p first more low high stands before apart) j l n (omega arith)
-              (ap (λ k. slice_get (lasts k high) j) (sym g) ∙ sym (slice_get-right (own ++ under) next i j (omega arith)) ∙ h)
-          ]
+            let same : at + m + node_count low ≡ l = cc in
+            subst (IsSpanBelow flat n) same (own-span at p first more low high stands before apart n (omega arith) (omega arith))
+        | inr past ↦
+            elim (cases_lt i (1 + m + node_count low)) [
+              | inl in_under ↦
+                  let j : ℕ = i - (1 + m) in
+                  lasts-span (at + m + 1) (Some (at + m)) low (stands-below at p first more low high stands) (λ q same. let is : at + m ≡ q = cc in omega arith) (apart-below at p first more low high stands before apart) j l n (omega arith)
+                  (ap (λ k. slice_get (lasts k low) j) (sym f) ∙ sym (slice_get-left (own ++ under) next i (omega arith) ∙ slice_get-right own under i j (omega arith)) ∙ h)
+              | inr in_next ↦
+                  let j : ℕ = i - (1 + m + node_count low) in
+                  lasts-span (at + m + 1 + node_count low) p high (stands-behind at p first more low high stands) (λ q same. omega (arith, before q same)) (apart-behind at p first more low high stands before apart) j l n (omega arith)
+                  (ap (λ k. slice_get (lasts k high) j) (sym g) ∙ sym (slice_get-right (own ++ under) next i j (omega arith)) ∙ h)
+            ]
       ]
 
 -- the nodes of a span are under the first one
@@ -205,10 +205,10 @@ span-under : (c : Games) (n last : ℕ) → IsSpanBelow (rows_of c) n last → (
 span-under c n last span zero j few lo hi = let same : n ≡ j = omega arith in subst (IsUnder c n) same itself
 span-under c n last span (suc steps) j few lo hi =
     elim (cases_lt n j) [
-      inl lt ↦
-        let up = span.inside j lt hi in
-        below up.1 (span-under c n last span steps up.0 (omega (arith, up.3)) up.2 (omega (arith, up.3)))
-    | inr le ↦ let same : n ≡ j = omega arith in subst (IsUnder c n) same itself
+      | inl lt ↦
+          let up = span.inside j lt hi in
+          below up.1 (span-under c n last span steps up.0 (omega (arith, up.3)) up.2 (omega (arith, up.3)))
+      | inr le ↦ let same : n ≡ j = omega arith in subst (IsUnder c n) same itself
     ]
 
 -- and no others are
@@ -218,8 +218,8 @@ span-greatest c n last j span (below {j = q} h under) =
     let up = span-greatest c n last q span under in
     let lt : q < j = parent_at-lt c j q h in
     elim (cases_lt last j) [
-      inl past ↦ elim (span.outside j q past h) [ inl lo ↦ absurd (omega (arith, up.0)) | inr hi ↦ absurd (omega (arith, up.1)) ]
-    | inr le ↦ (omega (arith, up.0), le)
+      | inl past ↦ elim (span.outside j q past h) [ inl lo ↦ absurd (omega (arith, up.0)) | inr hi ↦ absurd (omega (arith, up.1)) ]
+      | inr le ↦ (omega (arith, up.0), le)
     ]
 
 stands-whole : (c : Games) → Stands (rows_of c) 0 None c

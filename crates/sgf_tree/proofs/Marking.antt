@@ -1,12 +1,11 @@
 -- Marking the own nodes of a game, from its last one back to its first.
-use Rattle.std.proofs.Common.{◌≡◌, ◌≢◌, ℕ, zero, suc, ◌+◌, ◌-◌, ◌<◌, ◌≤◌, Bool, true, false, inl, inr, List, [], ◌∷◌, ◌++◌, length, get_or, set, take, drop, map, replicate, slice_get, Option, Some, None, option_map, refl, sym, ap, subst, ◌∙◌, arith, append_assoc, append-nil, length-append}
-use Rattle.std.proofs.lemmas.Bool.{cases_lt, false≢true}
-use Rattle.std.proofs.lemmas.List.{length-map, length-take-le, map-set, set-get_or, set_at, take_more, take-append-drop, get_or_default}
+use Rattle.std.proofs.Common.{◌≡◌, ℕ, zero, suc, ◌+◌, ◌-◌, ◌<◌, ◌≤◌, true, false, inl, inr, List, [], ◌∷◌, ◌++◌, length, get_or, set, take, drop, map, replicate, slice_get, Option, Some, option_map, refl, sym, ap, subst, ◌∙◌, arith, append_assoc, append-nil}
+use Rattle.std.proofs.lemmas.Bool.{cases_lt}
+use Rattle.std.proofs.lemmas.List.{length-map, length-take-le, map-set, set-get_or, set_at, take_more, take-append-drop}
 use Rattle.std.proofs.lemmas.Option.{slice_get-get_or}
 use Rattle.sgf_tree.specs.Layout.{parent_by, opens_by}
 use Rattle.sgf_tree.specs.GamesRead.{opens_at, IsOwnRun, unmarked, ClosesRun}
 use Rattle.sgf_tree.specs.declared.layout.Link.{Link}
-use Rattle.sgf_tree.specs.declared.layout.Link.TheVariants.{Root, Branch, Next}
 use Rattle.sgf_tree.specs.declared.layout.NodeEntry.{NodeEntry}
 
 abbrev pub mark_of : NodeEntry → ℕ
@@ -25,7 +24,7 @@ mark-one ls at m last rest h =
     let x : ℕ = get_or ls at 0 in
     let fronts : length front ≡ at = length-take-le at ls (omega arith) in
     let parts : take (at + 1) ls ++ marks ++ rest ≡ front ++ x ∷ (marks ++ rest) =
-      ap (λ s. s ++ marks ++ rest) (take_more ls at 0 h) ∙ append_assoc (front ++ x ∷ []) marks rest ∙ append_assoc front (x ∷ []) (marks ++ rest) in
+    ap (λ s. s ++ marks ++ rest) (take_more ls at 0 h) ∙ append_assoc (front ++ x ∷ []) marks rest ∙ append_assoc front (x ∷ []) (marks ++ rest) in
     ap (λ s. set s at last) parts ∙ set_at front x (marks ++ rest) last at fronts ∙ sym (append_assoc front (last ∷ marks) rest)
 
 -- the nodes from `from` to `tip` are marked, and nothing else changed
@@ -49,30 +48,30 @@ module _ (old new : List NodeEntry) (tip : ℕ) where
       let count : tip + 1 - at ≡ suc (tip + 1 - (at + 1)) = omega arith in
       record {
         same =
-          map-set unmarked new at y ∙ ap (λ (z : NodeEntry). set (map unmarked new) at z) (ap unmarked e ∙ sym (get_or-map unmarked new at x))
-          ∙ set-get_or (map unmarked new) at (unmarked x) ∙ m.same;
+            map-set unmarked new at y ∙ ap (λ (z : NodeEntry). set (map unmarked new) at z) (ap unmarked e ∙ sym (get_or-map unmarked new at x))
+            ∙ set-get_or (map unmarked new) at (unmarked x) ∙ m.same;
         marked =
-          map-set mark_of new at y ∙ ap (λ ls. set ls at (length old - 1)) m.marked
-          ∙ mark-one (map mark_of old) at (tip + 1 - (at + 1)) (length old - 1) (drop (tip + 1) (map mark_of old)) (omega (arith, length-map old mark_of))
-          ∙ ap (λ k. take at (map mark_of old) ++ replicate k (length old - 1) ++ drop (tip + 1) (map mark_of old)) (sym count);
+            map-set mark_of new at y ∙ ap (λ ls. set ls at (length old - 1)) m.marked
+            ∙ mark-one (map mark_of old) at (tip + 1 - (at + 1)) (length old - 1) (drop (tip + 1) (map mark_of old)) (omega (arith, length-map old mark_of))
+            ∙ ap (λ k. take at (map mark_of old) ++ replicate k (length old - 1) ++ drop (tip + 1) (map mark_of old)) (sym count);
       }
 
   -- the own nodes begin at a node that a `(` opens
   pub run-begins : (first at : ℕ) → IsOwnRun old first tip → first ≤ at → at ≤ tip → opens_at old at ≡ Some true → first ≡ at
   run-begins first at run low high opens =
       elim (cases_lt first at) [
-        inl lt ↦ let h : Some false ≡ Some true = sym (run.goes_on at lt high) ∙ opens in absurd (cc)
-      | inr le ↦ omega arith
+        | inl lt ↦ let h : Some false ≡ Some true = sym (run.goes_on at lt high) ∙ opens in absurd (cc)
+        | inr le ↦ omega arith
       ]
 
   -- and not at another
   pub run-before : (first at : ℕ) → IsOwnRun old first tip → first ≤ at → opens_at old at ≡ Some false → first < at
   run-before first at run low opens =
       elim (cases_lt first at) [
-        inl lt ↦ lt
-      | inr le ↦
-          let same : first ≡ at = omega arith in
-          let h : Some true ≡ Some false = sym run.begins ∙ ap (opens_at old) same ∙ opens in absurd (cc)
+        | inl lt ↦ lt
+        | inr le ↦
+            let same : first ≡ at = omega arith in
+            let h : Some true ≡ Some false = sym run.begins ∙ ap (opens_at old) same ∙ opens in absurd (cc)
       ]
 
 -- whether a node opens a game, by its link
@@ -93,8 +92,8 @@ marks-none old tip =
     record {
       same = refl;
       marked =
-        sym (ap (λ k. take (tip + 1) (map mark_of old) ++ replicate k (length old - 1) ++ drop (tip + 1) (map mark_of old)) e ∙ ap (λ ls. ls ++ drop (tip + 1) (map mark_of old)) (append-nil (take (tip + 1) (map mark_of old)))
-        ∙ take-append-drop (tip + 1) (map mark_of old));
+          sym (ap (λ k. take (tip + 1) (map mark_of old) ++ replicate k (length old - 1) ++ drop (tip + 1) (map mark_of old)) e ∙ ap (λ ls. ls ++ drop (tip + 1) (map mark_of old)) (append-nil (take (tip + 1) (map mark_of old)))
+          ∙ take-append-drop (tip + 1) (map mark_of old));
     }
 
 -- the game is closed once its first node is marked

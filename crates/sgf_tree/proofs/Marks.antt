@@ -1,7 +1,7 @@
 -- The byte order mark, by the machine, and the white space behind it.
-use Rattle.std.proofs.Common.{◌≡◌, ◌≢◌, ℕ, zero, suc, ◌+◌, ◌<◌, ◌≤◌, inl, inr, true, false, List, [], ◌∷◌, length, get_or, Some, None, refl, sym, ap, subst, ◌∙◌, arith, ne_eqb}
+use Rattle.std.proofs.Common.{◌≡◌, ◌≢◌, ℕ, ◌+◌, ◌<◌, ◌≤◌, inl, inr, true, List, [], length, get_or, Some, None, refl, sym, subst, ◌∙◌, arith, ne_eqb}
 use Rattle.std.proofs.lemmas.Bool.{cases_lt}
-use Rattle.sgf_tree.specs.Tree.{Games, no_games}
+use Rattle.sgf_tree.specs.Tree.{no_games}
 use Rattle.sgf_tree.specs.Spelling.{is_white}
 use Rattle.sgf_tree.specs.Machine.{Stack, State, start, first_of_mark, second_of_mark, behind_game, between_games, step, accepted}
 use Rattle.sgf_tree.specs.Refusal.{IsFaultyAt}
@@ -90,10 +90,10 @@ module _ (t : List ℕ) where
   part-faulty : (at : ℕ) (z : State) → at ≤ length t → Reaches t at z → accepted z ≡ None → (at < length t → step at z (get_or t at 0) ≡ None) → IsFaultyAt t at
   part-faulty at z le reached a refused =
       elim (cases_lt at (length t)) [
-        inl lt ↦ refused-faulty t at z lt reached (refused lt)
-      | inr ge ↦
-          let same : length t ≡ at = omega arith in
-          subst (IsFaultyAt t) same (ends-faulty t z (subst (λ i. Reaches t i z) (sym same) reached) a)
+        | inl lt ↦ refused-faulty t at z lt reached (refused lt)
+        | inr ge ↦
+            let same : length t ≡ at = omega arith in
+            subst (IsFaultyAt t) same (ends-faulty t z (subst (λ i. Reaches t i z) (sym same) reached) a)
       ]
 
   pub first-faulty : 0 < length t → get_or t 0 0 ≡ 239 → (1 < length t → get_or t 1 0 ≢ 187) → IsFaultyAt t 1
@@ -109,25 +109,25 @@ module _ (t : List ℕ) where
   games-begin mark at read white =
       let low : mark ≤ at = white.rises in
       elim (cases_lt mark at) [
-        inl lt ↦
-          let short : mark < length t = omega (arith, white.within) in
-          let first : Reaches t (mark + 1) (behind_game nothing) =
+        | inl lt ↦
+            let short : mark < length t = omega (arith, white.within) in
+            let first : Reaches t (mark + 1) (behind_game nothing) =
             run-take-step t mark read.state (behind_game nothing) read.reached short (read.next short ∙ between-white (get_or t mark 0) (white.passing mark (omega arith) lt)) in
-          record {
-            state = behind_game nothing;
-            reached = run-white t (mark + 1) at (behind_game nothing) (stays-behind_game nothing) (omega arith) white.within (λ i lo hi. white.passing i (omega arith) hi) first;
-            next = λ _. game-next at nothing (get_or t at 0);
-            end = refl;
-            not_white = white.stops;
-          }
-      | inr ge ↦
-          let same : mark ≡ at = omega arith in
-          record {
-            state = read.state;
-            reached = subst (λ i. Reaches t i read.state) same read.reached;
-            next =
-              subst (λ i. i < length t → step i read.state (get_or t i 0) ≡ between_games nothing (get_or t i 0)) same read.next;
-            end = read.end;
-            not_white = white.stops;
-          }
+            record {
+              state = behind_game nothing;
+              reached = run-white t (mark + 1) at (behind_game nothing) (stays-behind_game nothing) (omega arith) white.within (λ i lo hi. white.passing i (omega arith) hi) first;
+              next = λ _. game-next at nothing (get_or t at 0);
+              end = refl;
+              not_white = white.stops;
+            }
+        | inr ge ↦
+            let same : mark ≡ at = omega arith in
+            record {
+              state = read.state;
+              reached = subst (λ i. Reaches t i read.state) same read.reached;
+              next =
+                  subst (λ i. i < length t → step i read.state (get_or t i 0) ≡ between_games nothing (get_or t i 0)) same read.next;
+              end = read.end;
+              not_white = white.stops;
+            }
       ]

@@ -1,5 +1,5 @@
 -- How the name of a property is read, up to the `[` behind it.
-use Rattle.std.proofs.Common.{◌≡◌, ◌≢◌, ℕ, zero, suc, ◌+◌, ◌-◌, ◌<◌, ◌≤◌, Bool, true, false, ◌||◌, ◌==◌, ◌⊎◌, inl, inr, IsTrue, List, [], ◌∷◌, ◌++◌, length, get_or, take, drop, slice_range, filter, Some, None, refl, sym, ap, subst, ◌∙◌, arith, if◌then◌else◌, ne_eqb, get_or-drop, length-drop}
+use Rattle.std.proofs.Common.{◌≡◌, ◌≢◌, ℕ, ◌+◌, ◌-◌, ◌<◌, ◌≤◌, false, inl, inr, IsTrue, List, [], ◌∷◌, ◌++◌, length, get_or, drop, slice_range, Some, None, refl, sym, ap, subst, ◌∙◌, arith, if◌then◌else◌, ne_eqb, get_or-drop, length-drop}
 use Rattle.std.proofs.lemmas.Bool.{cases_lt, or_cases, or_parts, or_left, false≢true}
 use Rattle.std.proofs.lemmas.List.{take_more}
 use Rattle.std.proofs.lemmas.List.Elements.{filter-append}
@@ -27,11 +27,11 @@ name-longer : (t : List ℕ) (start end : ℕ) → start < length t → IsTrue (
 name-longer t start end lt capital letters =
     let low : start ≤ end = letters.rises in
     elim (cases_lt start end) [
-      inl longer ↦ longer
-    | inr short ↦
-        let same : end ≡ start = omega arith in
-        let here : is_letter (get_or t start 0) ≡ false = subst (λ i. is_letter (get_or t i 0) ≡ false) same (letters.stops (omega arith)) in
-        absurd (false≢true (sym here ∙ or_left (is_upper (get_or t start 0)) (is_lower (get_or t start 0)) capital))
+      | inl longer ↦ longer
+      | inr short ↦
+          let same : end ≡ start = omega arith in
+          let here : is_letter (get_or t start 0) ≡ false = subst (λ i. is_letter (get_or t i 0) ≡ false) same (letters.stops (omega arith)) in
+          absurd (false≢true (sym here ∙ or_left (is_upper (get_or t start 0)) (is_lower (get_or t start 0)) capital))
     ]
 
 pub name-reached : (t : List ℕ) (start end : ℕ) (n : Started) → start < length t → IsTrue (is_upper (get_or t start 0)) → IsRun is_letter t start end
@@ -40,10 +40,10 @@ name-reached t start end n lt capital letters h =
     let b : ℕ = get_or t start 0 in
     let longer : start < end = name-longer t start end lt capital letters in
     let parts : slice_range t start end ≡ (b ∷ []) ++ slice_range t (start + 1) end =
-      sym (span-join t start (start + 1) end (omega arith) (omega arith)) ∙ ap (λ s. s ++ slice_range t (start + 1) end) (span-one t start lt) in
+    sym (span-join t start (start + 1) end (omega arith) (omega arith)) ∙ ap (λ s. s ++ slice_range t (start + 1) end) (span-one t start lt) in
     let name : name_in (slice_range t start end) ≡ (b ∷ []) ++ name_in (slice_range t (start + 1) end) =
-      ap name_in parts ∙ filter-append is_upper (b ∷ []) (slice_range t (start + 1) end)
-      ∙ ap (λ c. (if c then b ∷ [] else []) ++ name_in (slice_range t (start + 1) end)) capital in
+    ap name_in parts ∙ filter-append is_upper (b ∷ []) (slice_range t (start + 1) end)
+    ∙ ap (λ c. (if c then b ∷ [] else []) ++ name_in (slice_range t (start + 1) end)) capital in
     rw name
     (run-letters t (start + 1) end n (b ∷ []) (omega arith) letters.within
     (λ i low high. or_cases (is_upper (get_or t i 0)) (is_lower (get_or t i 0)) (letters.passing i (omega arith) high)) h)
@@ -91,34 +91,34 @@ name-behind t start end at n name letters white h =
     let low : end ≤ at = white.rises in
     let within : at ≤ length t = white.within in
     elim (cases_lt end at) [
-      inl lt ↦
-        let first : Reaches t (end + 1) (behind_name n name) = run-take-step t end (in_name n name) (behind_name n name) h (omega arith) (name-white end n name (get_or t end 0) (white.passing end (omega arith) lt)) in
-        record {
-          state = behind_name n name;
-          reached = run-white t (end + 1) at (behind_name n name) (stays-behind_name n name) (omega arith) white.within (λ i low high. white.passing i (omega arith) high) first;
-          bracket = behind-bracket at n name;
-          refused = λ lt' ne. behind-refused at n name (get_or t at 0) (white.stops lt') ne;
-          unaccepted = behind-unaccepted n name;
-        }
-    | inr le ↦
-        let same : end ≡ at = omega arith in
-        record {
-          state = in_name n name;
-          reached = subst (λ i. Reaches t i (in_name n name)) same h;
-          bracket = name-bracket at n name;
-          refused = λ lt' ne. name-refused at n name (get_or t at 0) (subst (λ i. is_letter (get_or t i 0) ≡ false) same (letters.stops (omega arith))) (white.stops lt') ne;
-          unaccepted = name-unaccepted n name;
-        }
+      | inl lt ↦
+          let first : Reaches t (end + 1) (behind_name n name) = run-take-step t end (in_name n name) (behind_name n name) h (omega arith) (name-white end n name (get_or t end 0) (white.passing end (omega arith) lt)) in
+          record {
+            state = behind_name n name;
+            reached = run-white t (end + 1) at (behind_name n name) (stays-behind_name n name) (omega arith) white.within (λ i low high. white.passing i (omega arith) high) first;
+            bracket = behind-bracket at n name;
+            refused = λ lt' ne. behind-refused at n name (get_or t at 0) (white.stops lt') ne;
+            unaccepted = behind-unaccepted n name;
+          }
+      | inr le ↦
+          let same : end ≡ at = omega arith in
+          record {
+            state = in_name n name;
+            reached = subst (λ i. Reaches t i (in_name n name)) same h;
+            bracket = name-bracket at n name;
+            refused = λ lt' ne. name-refused at n name (get_or t at 0) (subst (λ i. is_letter (get_or t i 0) ≡ false) same (letters.stops (omega arith))) (white.stops lt') ne;
+            unaccepted = name-unaccepted n name;
+          }
     ]
 
 -- a name without a `[` behind it
 pub name-faulty : (t : List ℕ) (at : ℕ) (n : Started) (name : List ℕ) → StandsBehindName t at n name → at ≤ length t → (at < length t → get_or t at 0 ≢ 91) → IsFaultyAt t at
 name-faulty t at n name behind le other =
     elim (cases_lt at (length t)) [
-      inl lt ↦ refused-faulty t at behind.state lt behind.reached (behind.refused lt (other lt))
-    | inr ge ↦
-        let same : length t ≡ at = omega arith in
-        subst (IsFaultyAt t) same (ends-faulty t behind.state (subst (λ i. Reaches t i behind.state) (sym same) behind.reached) behind.unaccepted)
+      | inl lt ↦ refused-faulty t at behind.state lt behind.reached (behind.refused lt (other lt))
+      | inr ge ↦
+          let same : length t ≡ at = omega arith in
+          subst (IsFaultyAt t) same (ends-faulty t behind.state (subst (λ i. Reaches t i behind.state) (sym same) behind.reached) behind.unaccepted)
     ]
 
 -- the `[`

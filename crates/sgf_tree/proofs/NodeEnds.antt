@@ -1,13 +1,13 @@
 -- How the properties of a node are read, one after another.
-use Rattle.std.proofs.Common.{◌≡◌, ◌≢◌, ℕ, zero, suc, ◌+◌, ◌-◌, ◌<◌, ◌≤◌, Bool, true, false, ◌==◌, IsTrue, List, [], ◌∷◌, ◌++◌, length, get_or, slice_range, All, Option, Some, None, refl, sym, ap, subst, ◌∙◌, arith, append_assoc, append-nil, length-append, ne_eqb}
+use Rattle.std.proofs.Common.{◌≡◌, ◌≢◌, ℕ, ◌+◌, ◌<◌, ◌≤◌, false, IsTrue, List, [], ◌∷◌, ◌++◌, length, get_or, slice_range, All, Option, Some, None, refl, sym, ap, subst, ◌∙◌, arith, append_assoc, append-nil, length-append, ne_eqb}
 use Rattle.std.proofs.lemmas.List.Elements.{All-append}
-use Rattle.sgf_tree.specs.Tree.{Property, values}
+use Rattle.sgf_tree.specs.Tree.{Property}
 use Rattle.sgf_tree.specs.Spelling.{is_white, is_upper}
 use Rattle.sgf_tree.specs.Machine.{Started, State, in_node, in_name, behind_value, behind_node, with_property, ended, step, accepted}
 use Rattle.sgf_tree.specs.Ends.{EndsRise}
 use Rattle.sgf_tree.specs.Layout.{IsSpan, property_from, name_in, raw_values, properties_of}
 use Rattle.sgf_tree.specs.Progress.{Reaches, IsRun}
-use Rattle.sgf_tree.specs.PropertiesRead.{EndsValues, ArePushed, IsPropertyRead, StandsBehindNode, with_properties, ArePropertiesRead}
+use Rattle.sgf_tree.specs.PropertiesRead.{ArePushed, IsPropertyRead, StandsBehindNode, with_properties, ArePropertiesRead}
 use Rattle.sgf_tree.specs.declared.layout.PropertyEntry.{PropertyEntry}
 use Rattle.sgf_tree.specs.declared.layout.ValueEntry.{ValueEntry}
 use Rattle.sgf_tree.proofs.Classes.{upper-not_white, upper-not_bracket}
@@ -101,13 +101,13 @@ module _ (t : List ℕ) where
         within = white.within;
         not_white = white.stops;
         reached = λ n none h.
-          record {
-            done = n;
-            last = None;
-            reached = run-white t at end (in_node n) (stays-in_node n) white.rises white.within white.passing h;
-            whole_is = ap (with_properties n) none;
-            other = λ lt. tt;
-          };
+            record {
+              done = n;
+              last = None;
+              reached = run-white t at end (in_node n) (stays-in_node n) white.rises white.within white.passing h;
+              whole_is = ap (with_properties n) none;
+              other = λ lt. tt;
+            };
       }
 
   -- the properties with one more entry
@@ -118,7 +118,7 @@ module _ (t : List ℕ) where
   one-more vs vs' vs'' entries entry added ends pushed end =
       let name : List ℕ = name_in (slice_range t entry.name_start entry.name_end) in
       let part : slice_range (vs' ++ added) (length vs') entry.values_end ≡ added =
-        slice_range-pushed vs' added entry.values_end (omega (arith, end, ap length pushed, length-append vs' added)) in
+      slice_range-pushed vs' added entry.values_end (omega (arith, end, ap length pushed, length-append vs' added)) in
       rw pushed
       (sym (
       properties_of-append t (vs' ++ added) (length vs) entries (entry ∷ []) (length vs') ends
@@ -141,26 +141,26 @@ module _ (t : List ℕ) where
           spans = All-append VSpan so_far.added read.added so_far.values_pushed.spans read.values_pushed.spans;
         };
         values_end =
-          subst (EndsRise (λ (p : PropertyEntry). p.values_end) 1 (length vs) (so_far.entries ++ read.entry ∷ [])) read.values_end
-          (ends-push (λ (p : PropertyEntry). p.values_end) 1 (length vs) so_far.entries (length vs') read.entry so_far.values_end (omega (arith, read.values_end, read.some_value)));
+            subst (EndsRise (λ (p : PropertyEntry). p.values_end) 1 (length vs) (so_far.entries ++ read.entry ∷ [])) read.values_end
+            (ends-push (λ (p : PropertyEntry). p.values_end) 1 (length vs) so_far.entries (length vs') read.entry so_far.values_end (omega (arith, read.values_end, read.some_value)));
         identifiers = All-append Span so_far.entries (read.entry ∷ []) so_far.identifiers (all-one Span read.entry read.identifier);
         counted =
-          omega (arith, so_far.counted, read.counted, read.some_value, length-append so_far.entries (read.entry ∷ []));
+            omega (arith, so_far.counted, read.counted, read.some_value, length-append so_far.entries (read.entry ∷ []));
         values_counted =
-          omega (arith, so_far.values_counted, read.counted, length-append so_far.added read.added);
+            omega (arith, so_far.values_counted, read.counted, length-append so_far.added read.added);
         within = read.within;
         not_white = λ lt'. (read.stops lt').0;
         reached = λ n none h.
-          let before : List Property = properties_of t vs' (length vs) so_far.entries in
-          let p : Property = property_from (name_in (slice_range t read.entry.name_start read.entry.name_end)) (raw_values t read.added) in
-          let name : Reaches t (mid + 1) (in_name (with_properties n before) (get_or t mid 0 ∷ [])) = node-name mid (with_properties n before) (so_far.reached n none h) lt capital in
-          record {
-            done = with_properties n before;
-            last = Some p;
-            reached = read.reached (with_properties n before) name;
-            whole_is = ap (with_properties n) (one-more vs vs' vs'' so_far.entries read.entry read.added so_far.values_end read.values_pushed.pushed read.values_end);
-            other = λ lt'. (read.stops lt').1;
-          };
+            let before : List Property = properties_of t vs' (length vs) so_far.entries in
+            let p : Property = property_from (name_in (slice_range t read.entry.name_start read.entry.name_end)) (raw_values t read.added) in
+            let name : Reaches t (mid + 1) (in_name (with_properties n before) (get_or t mid 0 ∷ [])) = node-name mid (with_properties n before) (so_far.reached n none h) lt capital in
+            record {
+              done = with_properties n before;
+              last = Some p;
+              reached = read.reached (with_properties n before) name;
+              whole_is = ap (with_properties n) (one-more vs vs' vs'' so_far.entries read.entry read.added so_far.values_end read.values_pushed.pushed read.values_end);
+              other = λ lt'. (read.stops lt').1;
+            };
       }
 
   pub properties-done : (at end : ℕ) (ps ps' : List PropertyEntry) (vs vs' : List ValueEntry) → PropertiesSoFar at end ps ps' vs vs' → (end < length t → is_upper (get_or t end 0) ≡ false) → ArePropertiesRead t at end ps ps' vs vs'

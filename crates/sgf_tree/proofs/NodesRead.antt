@@ -1,18 +1,13 @@
 -- How the nodes of a game are read, one after another.
-use Rattle.std.proofs.Common.{◌≡◌, ◌≢◌, ℕ, zero, suc, ◌+◌, ◌-◌, ◌<◌, ◌≤◌, ◌==◌, ◌⊎◌, Bool, true, false, inl, inr, List, [], ◌∷◌, ◌++◌, length, get_or, map, All, slice_get, slice_range, Option, Some, None, refl, sym, ap, subst, ◌∙◌, arith, append_assoc, length-append, ne_eqb}
-use Rattle.std.proofs.lemmas.Bool.{cases_lt}
-use Rattle.std.proofs.lemmas.List.{map-append, length-map}
+use Rattle.std.proofs.Common.{◌≡◌, ℕ, zero, suc, ◌+◌, ◌-◌, ◌<◌, ◌⊎◌, true, false, inl, inr, List, [], ◌∷◌, ◌++◌, length, map, All, slice_get, slice_range, Some, refl, sym, ap, subst, ◌∙◌, arith, length-append}
+use Rattle.std.proofs.lemmas.List.{map-append}
 use Rattle.std.proofs.lemmas.List.Elements.{All-append}
-use Rattle.sgf_tree.specs.Tree.{Property, Node, Games, no_games, game, game_count, node_count}
-use Rattle.sgf_tree.specs.Spelling.{is_white}
+use Rattle.sgf_tree.specs.Tree.{Property, Node, Games, no_games, node_count}
 use Rattle.sgf_tree.specs.FileOrder.{Row}
-use Rattle.sgf_tree.specs.Machine.{OpenGame, Stack, Started, State, opened, in_node, behind_game, behind_node, between_games, ended, begun, new_node, step, accepted, whole_games}
-use Rattle.sgf_tree.specs.Refusal.{IsFaultyAt}
+use Rattle.sgf_tree.specs.Machine.{OpenGame, Stack, ended, begun}
 use Rattle.sgf_tree.specs.Ends.{EndsRise}
 use Rattle.sgf_tree.specs.Layout.{IsSpan, properties_of, parent_by, opens_by, rows_by}
-use Rattle.sgf_tree.specs.Progress.{Reaches, IsRun}
-use Rattle.sgf_tree.specs.PropertiesRead.{StandsBehindNode, with_properties}
-use Rattle.sgf_tree.specs.GamesRead.{open_count, tip, open_rows, open_lasts, IsRootOf, HoldStack, AreAtMost, IsOpening, StandsBetween, IsNodeRead, IsSequenceRead}
+use Rattle.sgf_tree.specs.GamesRead.{open_count, tip, open_rows, open_lasts, IsRootOf, HoldStack, IsOpening, IsNodeRead}
 use Rattle.sgf_tree.specs.declared.layout.Link.{Link}
 use Rattle.sgf_tree.specs.declared.layout.Link.TheVariants.{Root, Branch, Next}
 use Rattle.sgf_tree.specs.declared.layout.NodeEntry.{NodeEntry}
@@ -21,11 +16,7 @@ use Rattle.sgf_tree.specs.declared.layout.ValueEntry.{ValueEntry}
 use Rattle.sgf_tree.proofs.Ends.{ends-push, ends-append}
 use Rattle.sgf_tree.proofs.Flat.{length-properties_of, length-rows_by}
 use Rattle.sgf_tree.proofs.Growth.{slice_range-pushed, properties_of-more, properties_of-append, rows_by-more, rows_by-push}
-use Rattle.sgf_tree.proofs.Run.{run-take-step}
-use Rattle.sgf_tree.proofs.Skipping.{stays-opened}
-use Rattle.sgf_tree.proofs.Spans.{run-white}
 use Rattle.sgf_tree.proofs.Stacks.{length-open_rows, open_lasts-begun, open_rows-more, open_lasts-more}
-use Rattle.sgf_tree.proofs.ValueEnds.{ends-faulty, refused-faulty}
 use Rattle.sgf_tree.proofs.ValuesRead.{all-one}
 
 -- an element of a list with one more is one of the list, or the last one
@@ -43,7 +34,7 @@ opening-link k (Root r) count e h = (
   ap (tip k.closed) h.0,
   refl,
   λ g same.
-    let r_is : r ≡ g = cc in inr (e ∙ ap (open_count k.closed) h.0, sym r_is ∙ h.1),
+      let r_is : r ≡ g = cc in inr (e ∙ ap (open_count k.closed) h.0, sym r_is ∙ h.1),
 )
 opening-link k (Branch p) count e h = (h, refl, λ g same. absurd (cc))
 opening-link k Next count e h = absurd h
@@ -64,12 +55,12 @@ module _ (t : List ℕ) where
       let old : List Property = properties_of t vs 0 ps in
       let new : List Property = properties_of t (vs ++ added) (length vs) entries in
       let all : properties_of t (vs ++ added) 0 (ps ++ entries) ≡ old ++ new =
-        properties_of-append t (vs ++ added) 0 ps entries (length vs) values_end
-        ∙ ap (λ qs. qs ++ new) (properties_of-more t vs added 0 ps (length vs) values_end (omega arith)) in
+      properties_of-append t (vs ++ added) 0 ps entries (length vs) values_end
+      ∙ ap (λ qs. qs ++ new) (properties_of-more t vs added 0 ps (length vs) values_end (omega arith)) in
       let olds : length old ≡ length ps = length-properties_of t vs 0 ps in
       let news : length new ≡ length entries = length-properties_of t (vs ++ added) (length vs) entries in
       let part : slice_range (old ++ new) (length ps) n.properties_end ≡ new =
-        ap (λ a. slice_range (old ++ new) a n.properties_end) (sym olds) ∙ slice_range-pushed old new n.properties_end (omega (arith, length-append ps entries)) in
+      ap (λ a. slice_range (old ++ new) a n.properties_end) (sym olds) ∙ slice_range-pushed old new n.properties_end (omega (arith, length-append ps entries)) in
       let with : List Property → List Row = λ qs. rows_by old 0 0 ns ++ record { node = record { place = n.place; properties = qs }; parent = parent_by n.link (length ns); opens = opens_by n.link } ∷ [] in
       let place : 0 + length ns ≡ length ns = omega arith in
       ap (λ qs. rows_by qs 0 0 (ns ++ n ∷ [])) all
@@ -95,33 +86,33 @@ module _ (t : List ℕ) where
       let row : List ValueEntry → Row = λ ws. record { node = record { place = place; properties = properties_of t ws (length vs) props.entries }; parent = parent_by link (length ns); opens = opens_by link } in
       record {
         same_rows =
-          rows ∙ ap (λ rs. rs ++ row vs' ∷ []) held.same_rows
-          ∙ ap (λ ws. rows_by (properties_of t vs 0 ps) 0 0 ns ++ row ws ∷ []) props.values_pushed.pushed
-          ∙ sym (rows-pushed ns ps props.entries vs props.added n held.properties_end held.values_end (ap length props.pushed))
-          ∙ ap (λ ws. rows_by (properties_of t ws 0 (ps ++ props.entries)) 0 0 (ns ++ n ∷ [])) (sym props.values_pushed.pushed)
-          ∙ ap (λ qs. rows_by (properties_of t vs' 0 qs) 0 0 (ns ++ n ∷ [])) (sym props.pushed)
-          ∙ ap (λ ms. rows_by (properties_of t vs' 0 ps') 0 0 ms) (sym read.pushed);
+            rows ∙ ap (λ rs. rs ++ row vs' ∷ []) held.same_rows
+            ∙ ap (λ ws. rows_by (properties_of t vs 0 ps) 0 0 ns ++ row ws ∷ []) props.values_pushed.pushed
+            ∙ sym (rows-pushed ns ps props.entries vs props.added n held.properties_end held.values_end (ap length props.pushed))
+            ∙ ap (λ ws. rows_by (properties_of t ws 0 (ps ++ props.entries)) 0 0 (ns ++ n ∷ [])) (sym props.values_pushed.pushed)
+            ∙ ap (λ qs. rows_by (properties_of t vs' 0 qs) 0 0 (ns ++ n ∷ [])) (sym props.pushed)
+            ∙ ap (λ ms. rows_by (properties_of t vs' 0 ps') 0 0 ms) (sym read.pushed);
         same_lasts =
-          lasts ∙ ap (λ ls. ls ++ 0 ∷ []) held.same_lasts ∙ sym (map-append (λ (m : NodeEntry). m.last_below) ns (n ∷ []))
-          ∙ ap (map (λ (m : NodeEntry). m.last_below)) (sym read.pushed);
+            lasts ∙ ap (λ ls. ls ++ 0 ∷ []) held.same_lasts ∙ sym (map-append (λ (m : NodeEntry). m.last_below) ns (n ∷ []))
+            ∙ ap (map (λ (m : NodeEntry). m.last_below)) (sym read.pushed);
         properties_end =
-          subst (λ ms. EndsRise (λ (m : NodeEntry). m.properties_end) 0 0 ms (length ps')) (sym read.pushed)
-          (ends-push (λ (m : NodeEntry). m.properties_end) 0 0 ns (length ps) n held.properties_end (omega (arith, ap length props.pushed, length-append ps props.entries)));
+            subst (λ ms. EndsRise (λ (m : NodeEntry). m.properties_end) 0 0 ms (length ps')) (sym read.pushed)
+            (ends-push (λ (m : NodeEntry). m.properties_end) 0 0 ns (length ps) n held.properties_end (omega (arith, ap length props.pushed, length-append ps props.entries)));
         values_end =
-          subst (λ qs. EndsRise (λ (p : PropertyEntry). p.values_end) 1 0 qs (length vs')) (sym props.pushed)
-          (ends-append (λ (p : PropertyEntry). p.values_end) 1 0 ps props.entries (length vs) (length vs') held.values_end props.values_end);
+            subst (λ qs. EndsRise (λ (p : PropertyEntry). p.values_end) 1 0 qs (length vs')) (sym props.pushed)
+            (ends-append (λ (p : PropertyEntry). p.values_end) 1 0 ps props.entries (length vs) (length vs') held.values_end props.values_end);
         identifiers_within =
-          subst (All PSpan) (sym props.pushed) (All-append PSpan ps props.entries held.identifiers_within props.identifiers);
+            subst (All PSpan) (sym props.pushed) (All-append PSpan ps props.entries held.identifiers_within props.identifiers);
         values_within =
-          subst (All VSpan) (sym props.values_pushed.pushed) (All-append VSpan vs props.added held.values_within props.values_pushed.spans);
+            subst (All VSpan) (sym props.values_pushed.pushed) (All-append VSpan vs props.added held.values_within props.values_pushed.spans);
         places_within =
-          subst (All Place) (sym read.pushed) (All-append Place ns (n ∷ []) held.places_within (all-one Place n lt));
+            subst (All Place) (sym read.pushed) (All-append Place ns (n ∷ []) held.places_within (all-one Place n lt));
         roots = λ i m g here is.
-          elim (slice_get-pushed ns n m i (sym (ap (λ ms. slice_get ms i) read.pushed) ∙ here)) [
-            inl before ↦ subst (λ c. IsRootOf c i g) (sym closed) (held.roots i m g before is)
-          | inr at_end ↦
-              subst (λ c. IsRootOf c i g) (sym closed) (subst (λ j. IsRootOf k.closed j g) (sym at_end.0) (root g (ap (λ (x : NodeEntry). x.link) at_end.1 ∙ is)))
-          ];
+            elim (slice_get-pushed ns n m i (sym (ap (λ ms. slice_get ms i) read.pushed) ∙ here)) [
+              | inl before ↦ subst (λ c. IsRootOf c i g) (sym closed) (held.roots i m g before is)
+              | inr at_end ↦
+                  subst (λ c. IsRootOf c i g) (sym closed) (subst (λ j. IsRootOf k.closed j g) (sym at_end.0) (root g (ap (λ (x : NodeEntry). x.link) at_end.1 ∙ is)))
+            ];
       }
 
   -- the node of a game's `(`

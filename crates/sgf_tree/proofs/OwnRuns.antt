@@ -1,9 +1,9 @@
 -- The own nodes of the innermost open game, in the flat vectors.
-use Rattle.std.proofs.Common.{◌≡◌, ℕ, zero, suc, ◌+◌, ◌-◌, ◌<◌, ◌≤◌, Bool, true, false, List, [], ◌∷◌, ◌++◌, length, slice_get, Option, Some, None, option_map, refl, sym, ap, subst, ◌∙◌, arith, length-append}
-use Rattle.sgf_tree.specs.Tree.{Property, Node, Games, node_count}
+use Rattle.std.proofs.Common.{◌≡◌, ℕ, zero, suc, ◌+◌, ◌-◌, ◌<◌, false, List, [], ◌∷◌, length, slice_get, Some, option_map, refl, sym, ap, ◌∙◌, arith}
+use Rattle.sgf_tree.specs.Tree.{Property, Node, Games}
 use Rattle.sgf_tree.specs.FileOrder.{Row, further_rows, rows}
-use Rattle.sgf_tree.specs.Machine.{OpenGame, Stack}
-use Rattle.sgf_tree.specs.Layout.{parent_by, opens_by, rows_by}
+use Rattle.sgf_tree.specs.Machine.{OpenGame}
+use Rattle.sgf_tree.specs.Layout.{parent_by, rows_by}
 use Rattle.sgf_tree.specs.GamesRead.{open_count, tip, own_rows, open_rows, opens_at, IsOwnRun}
 use Rattle.sgf_tree.specs.declared.layout.NodeEntry.{NodeEntry}
 use Rattle.sgf_tree.proofs.Rows.{slice_get-left, slice_get-right, length-further_rows}
@@ -41,10 +41,10 @@ module _ (closed : Games) (g : OpenGame) (gs : List OpenGame) (props : List Prop
         rises = omega arith;
         begins = sym (opens-rows_by props 0 0 nodes at) ∙ ap (option_map (λ (r : Row). r.opens)) (row-at at 0 (omega arith));
         goes_on = λ i low high.
-          let e : i ≡ at + suc (i - at - 1) = omega arith in
-          sym (opens-rows_by props 0 0 nodes i) ∙ ap (option_map (λ (r : Row). r.opens)) (row-at i (suc (i - at - 1)) e
-          ∙ slice_get-left (further_rows at g.more) (rows (at + length g.more + 1) (Some (at + length g.more)) g.below) (i - at - 1) (omega (arith, length-further_rows at g.more)))
-          ∙ further-opens at g.more (i - at - 1) (omega arith);
+            let e : i ≡ at + suc (i - at - 1) = omega arith in
+            sym (opens-rows_by props 0 0 nodes i) ∙ ap (option_map (λ (r : Row). r.opens)) (row-at i (suc (i - at - 1)) e
+            ∙ slice_get-left (further_rows at g.more) (rows (at + length g.more + 1) (Some (at + length g.more)) g.below) (i - at - 1) (omega (arith, length-further_rows at g.more)))
+            ∙ further-opens at g.more (i - at - 1) (omega arith);
       }
 
   -- the first one has the parent of the game

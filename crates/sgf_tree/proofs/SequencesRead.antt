@@ -1,16 +1,16 @@
 -- How the machine goes over the own nodes of a game.
-use Rattle.std.proofs.Common.{◌≡◌, ◌≢◌, ℕ, zero, suc, ◌+◌, ◌-◌, ◌<◌, ◌≤◌, ◌==◌, ◌⊎◌, Bool, true, false, inl, inr, List, [], ◌∷◌, ◌++◌, length, get_or, Option, Some, None, refl, sym, ap, subst, ◌∙◌, arith, length-append, ne_eqb}
+use Rattle.std.proofs.Common.{◌≡◌, ◌≢◌, ℕ, ◌+◌, ◌<◌, ◌≤◌, true, false, inl, inr, List, [], ◌∷◌, ◌++◌, length, get_or, Some, None, refl, sym, ap, subst, ◌∙◌, arith, length-append, ne_eqb}
 use Rattle.std.proofs.lemmas.Bool.{cases_lt}
 use Rattle.sgf_tree.specs.Tree.{Games, no_games, game}
 use Rattle.sgf_tree.specs.Spelling.{is_white}
-use Rattle.sgf_tree.specs.Machine.{OpenGame, Stack, Started, State, opened, in_node, behind_game, behind_node, between_games, ended, begun, new_node, step, accepted, whole_games}
+use Rattle.sgf_tree.specs.Machine.{OpenGame, Stack, Started, opened, in_node, behind_game, behind_node, between_games, ended, begun, new_node, step, accepted}
 use Rattle.sgf_tree.specs.Refusal.{IsFaultyAt}
 use Rattle.sgf_tree.specs.Layout.{properties_of}
 use Rattle.sgf_tree.specs.Progress.{Reaches, IsRun}
 use Rattle.sgf_tree.specs.PropertiesRead.{StandsBehindNode, with_properties}
-use Rattle.sgf_tree.specs.GamesRead.{HoldStack, AreAtMost, IsOpening, StandsBetween, IsNodeRead, IsSequenceRead}
+use Rattle.sgf_tree.specs.GamesRead.{HoldStack, AreAtMost, IsOpening, IsNodeRead, IsSequenceRead}
 use Rattle.sgf_tree.specs.declared.layout.Link.{Link}
-use Rattle.sgf_tree.specs.declared.layout.Link.TheVariants.{Root, Branch, Next}
+use Rattle.sgf_tree.specs.declared.layout.Link.TheVariants.{Next}
 use Rattle.sgf_tree.specs.declared.layout.NodeEntry.{NodeEntry}
 use Rattle.sgf_tree.specs.declared.layout.PropertyEntry.{PropertyEntry}
 use Rattle.sgf_tree.specs.declared.layout.ValueEntry.{ValueEntry}
@@ -52,10 +52,10 @@ module _ (t : List ℕ) where
     place-faulty other =
         let within : place ≤ length t = white.within in
         elim (cases_lt place (length t)) [
-          inl lt ↦ refused-faulty t place (opened k) lt place-reached (opened-refused place k (get_or t place 0) (white.stops lt) (other lt))
-        | inr ge ↦
-            let same : length t ≡ place = omega arith in
-            subst (IsFaultyAt t) same (ends-faulty t (opened k) (subst (λ i. Reaches t i (opened k)) (sym same) place-reached) (opened-unaccepted k))
+          | inl lt ↦ refused-faulty t place (opened k) lt place-reached (opened-refused place k (get_or t place 0) (white.stops lt) (other lt))
+          | inr ge ↦
+              let same : length t ≡ place = omega arith in
+              subst (IsFaultyAt t) same (ends-faulty t (opened k) (subst (λ i. Reaches t i (opened k)) (sym same) place-reached) (opened-unaccepted k))
         ]
 
     -- the first node
@@ -98,7 +98,7 @@ module _ (t : List ℕ) where
       let k' : Stack = record { closed = k.closed; unclosed = so_far.last ∷ k.unclosed } in
       let n : Started = record { stack = k'; opens = false; place = place; properties = [] } in
       let begins : Reaches t (place + 1) (in_node n) =
-        subst (λ s. Reaches t (place + 1) (new_node s false place)) so_far.stack_is (next-node place so_far.whole so_far.stands lt e) in
+      subst (λ s. Reaches t (place + 1) (new_node s false place)) so_far.stack_is (next-node place so_far.whole so_far.stands lt e) in
       record {
         whole = with_properties n (properties_of t vs' (length vs) read.properties.entries);
         last = record { first = so_far.last.first; more = so_far.last.more ++ record { place = place; properties = properties_of t vs' (length vs) read.properties.entries } ∷ []; below = so_far.last.below };
@@ -141,9 +141,9 @@ module _ (t : List ℕ) where
       let props = read.properties in
       record {
         nodes_at_most =
-          omega (arith, room.nodes_at_most, props.counted, ap length read.pushed, length-append ns (n ∷ []));
+            omega (arith, room.nodes_at_most, props.counted, ap length read.pushed, length-append ns (n ∷ []));
         properties_at_most =
-          omega (arith, room.properties_at_most, props.counted, ap length props.pushed, length-append ps props.entries);
+            omega (arith, room.properties_at_most, props.counted, ap length props.pushed, length-append ps props.entries);
         values_at_most =
-          omega (arith, room.values_at_most, props.values_counted, ap length props.values_pushed.pushed, length-append vs props.added);
+            omega (arith, room.values_at_most, props.values_counted, ap length props.values_pushed.pushed, length-append vs props.added);
       }

@@ -1,9 +1,9 @@
 -- The rows of whole and open games: games side by side, one more node, and a game that ends.
-use Rattle.std.proofs.Common.{◌≡◌, ℕ, zero, suc, ◌+◌, ◌-◌, ◌<◌, ◌≤◌, Bool, true, false, List, [], ◌∷◌, ◌++◌, length, replicate, Option, Some, None, refl, sym, ap, subst, ◌∙◌, arith, append_assoc, append-nil, length-append}
+use Rattle.std.proofs.Common.{◌≡◌, ℕ, ◌+◌, true, false, List, [], ◌∷◌, ◌++◌, length, replicate, Option, Some, None, refl, sym, ap, ◌∙◌, arith, append_assoc, append-nil, length-append}
 use Rattle.std.proofs.lemmas.List.{length-replicate, replicate_more}
 use Rattle.sgf_tree.specs.Tree.{Node, Games, no_games, game, followed_by, game_count, node_count}
 use Rattle.sgf_tree.specs.FileOrder.{Row, further_rows, rows}
-use Rattle.sgf_tree.specs.Machine.{OpenGame, Stack, begun, whole_game}
+use Rattle.sgf_tree.specs.Machine.{OpenGame, begun, whole_game}
 use Rattle.sgf_tree.specs.GamesRead.{open_count, tip, own_rows, open_rows, lasts, open_lasts}
 use Rattle.sgf_tree.proofs.Completion.{add_games}
 use Rattle.sgf_tree.proofs.Rows.{length-further_rows, length-rows}

@@ -1,12 +1,12 @@
 -- Where a raw value ends, by the machine.
-use Rattle.std.proofs.Common.{◌≡◌, ◌≢◌, ℕ, zero, suc, ◌+◌, ◌-◌, ◌<◌, ◌≤◌, Bool, true, false, not, ◌||◌, ◌&&◌, ◌==◌, List, [], ◌∷◌, ◌++◌, length, get_or, take, drop, slice_range, Some, None, refl, sym, ap, subst, ◌∙◌, arith, eqb-true, add-zero, append-nil, get_or-take, get_or-drop}
+use Rattle.std.proofs.Common.{◌≡◌, ◌≢◌, ℕ, zero, suc, ◌+◌, ◌-◌, ◌<◌, ◌≤◌, Bool, true, false, not, ◌||◌, ◌&&◌, ◌==◌, List, [], ◌∷◌, ◌++◌, length, get_or, take, drop, slice_range, Some, None, refl, sym, ap, subst, ◌∙◌, arith, eqb-true, get_or-take, get_or-drop}
 use Rattle.std.proofs.Common.{inl, inr, length-take, length-drop}
 use Rattle.std.proofs.lemmas.Bool.{and_parts, and_cases, not-true, not-false, cases_lt, eqb-false, false≢true}
 use Rattle.memchr.specs.Find.{IsFirstByte, is_byte2}
 use Rattle.std.proofs.lemmas.List.{drop-drop, take_all}
 use Rattle.sgf_tree.specs.Machine.{Started, State, start, in_value, behind_escape, step, run, accepted}
 use Rattle.sgf_tree.specs.Refusal.{IsFaultyAt}
-use Rattle.sgf_tree.specs.Progress.{Reaches, IsRun, is_plain, IsValueEnd, IsUnended}
+use Rattle.sgf_tree.specs.Progress.{Reaches, IsRun, is_plain, IsUnended}
 use Rattle.sgf_tree.proofs.Faults.{ended-fault, refused-fault}
 use Rattle.sgf_tree.proofs.Run.{run-take-step}
 use Rattle.sgf_tree.proofs.Spans.{run-plain, run-escape}
@@ -51,8 +51,8 @@ plain-other b h =
 escape-other : (b : ℕ) → is_plain b ≡ false → b ≢ 93 → b ≡ 92
 escape-other b h ne =
     elim (and_cases (not (b == 93)) (not (b == 92)) h) [
-      inl p ↦ absurd (ne (eqb-true b 93 (not-false (b == 93) p)))
-    | inr p ↦ eqb-true b 92 (not-false (b == 92) p)
+      | inl p ↦ absurd (ne (eqb-true b 93 (not-false (b == 93) p)))
+      | inr p ↦ eqb-true b 92 (not-false (b == 92) p)
     ]
 
 both-not : (x y : Bool) → ((x || y) ≡ true → ⊥) → (not x && not y) ≡ true
@@ -82,15 +82,15 @@ plain-found t at end further le le' passing found =
       rises = omega arith;
       within = omega arith;
       passing = λ i low lt. elim (cases_lt i end) [
-        inl before ↦ passing i low before
-      | inr after ↦
-          let here : get_or hay (i - end) 0 ≡ get_or t i 0 = span-at t end i after (omega arith) in
-          subst (λ b. is_plain b ≡ true) here (both-not (get_or hay (i - end) 0 == 93) (get_or hay (i - end) 0 == 92) (found.0.before (i - end) (omega arith) (omega arith)))
+        | inl before ↦ passing i low before
+        | inr after ↦
+            let here : get_or hay (i - end) 0 ≡ get_or t i 0 = span-at t end i after (omega arith) in
+            subst (λ b. is_plain b ≡ true) here (both-not (get_or hay (i - end) 0 == 93) (get_or hay (i - end) 0 == 92) (found.0.before (i - end) (omega arith) (omega arith)))
       ];
       stops = λ lt.
-        let here : get_or hay (end + further - end) 0 ≡ get_or t (end + further) 0 = span-at t end (end + further) (omega arith) lt in
-        let same : end + further - end ≡ further = omega arith in
-        subst (λ b. is_plain b ≡ false) (ap (λ k. get_or hay k 0) (sym same) ∙ here) (some-not (get_or hay further 0 == 93) (get_or hay further 0 == 92) found.1);
+          let here : get_or hay (end + further - end) 0 ≡ get_or t (end + further) 0 = span-at t end (end + further) (omega arith) lt in
+          let same : end + further - end ≡ further = omega arith in
+          subst (λ b. is_plain b ≡ false) (ap (λ k. get_or hay k 0) (sym same) ∙ here) (some-not (get_or hay further 0 == 93) (get_or hay further 0 == 92) found.1);
     }
 
 pub plain-none : (t : List ℕ) (at end : ℕ) → at ≤ end → end ≤ length t → ((i : ℕ) → at ≤ i → i < end → is_plain (get_or t i 0) ≡ true)
@@ -102,10 +102,10 @@ plain-none t at end le le' passing none =
       rises = omega arith;
       within = omega arith;
       passing = λ i low lt. elim (cases_lt i end) [
-        inl before ↦ passing i low before
-      | inr after ↦
-          let here : get_or hay (i - end) 0 ≡ get_or t i 0 = span-at t end i after lt in
-          subst (λ b. is_plain b ≡ true) here (both-not (get_or hay (i - end) 0 == 93) (get_or hay (i - end) 0 == 92) (none (i - end) (omega arith) (omega arith)))
+        | inl before ↦ passing i low before
+        | inr after ↦
+            let here : get_or hay (i - end) 0 ≡ get_or t i 0 = span-at t end i after lt in
+            subst (λ b. is_plain b ≡ true) here (both-not (get_or hay (i - end) 0 == 93) (get_or hay (i - end) 0 == 92) (none (i - end) (omega arith) (omega arith)))
       ];
       stops = λ lt. absurd (omega arith);
     }

@@ -1,13 +1,13 @@
 -- How the values of a property are read, one after another.
-use Rattle.std.proofs.Common.{◌≡◌, ◌≢◌, ℕ, zero, suc, ◌+◌, ◌-◌, ◌<◌, ◌≤◌, Bool, true, false, List, [], ◌∷◌, ◌++◌, length, get_or, slice_range, map, All, Some, None, refl, sym, ap, subst, ◌∙◌, arith, append_assoc, append-nil, length-append}
+use Rattle.std.proofs.Common.{◌≡◌, ◌≢◌, ℕ, zero, suc, ◌+◌, ◌<◌, ◌≤◌, false, List, [], ◌∷◌, ◌++◌, length, get_or, slice_range, All, Some, refl, sym, ap, subst, ◌∙◌, arith, append_assoc, append-nil, length-append}
 use Rattle.std.proofs.lemmas.List.{map-append, length-map}
 use Rattle.std.proofs.lemmas.List.Elements.{All-append}
 use Rattle.sgf_tree.specs.Tree.{Property, values}
 use Rattle.sgf_tree.specs.Spelling.{is_white}
-use Rattle.sgf_tree.specs.Machine.{Started, State, in_value, behind_value, property_of, step}
+use Rattle.sgf_tree.specs.Machine.{Started, in_value, behind_value, property_of, step}
 use Rattle.sgf_tree.specs.Layout.{IsSpan, property_from, raw_values}
 use Rattle.sgf_tree.specs.Progress.{Reaches, IsRun, IsValueEnd}
-use Rattle.sgf_tree.specs.PropertiesRead.{EndsValues, ArePushed, AreValuesRead}
+use Rattle.sgf_tree.specs.PropertiesRead.{ArePushed, AreValuesRead}
 use Rattle.sgf_tree.specs.declared.layout.ValueEntry.{ValueEntry}
 use Rattle.sgf_tree.proofs.Flat.{values-property_from, name-property_from}
 use Rattle.sgf_tree.proofs.Run.{run-take-step}
@@ -82,12 +82,12 @@ module _ (t : List ℕ) where
         within = white.within;
         not_white = white.stops;
         reached = λ n name h.
-          let before : List (List ℕ) = raw_values t so_far.added in
-          let raw : List ℕ = slice_range t (at + 1) end in
-          let value : Reaches t end (in_value n name before raw) = is_end.value n name before (so_far.reached n name h) in
-          let closed : Reaches t (end + 1) (behind_value n (property_of name before raw)) = run-take-step t end (in_value n name before raw) (behind_value n (property_of name before raw)) value is_end.within (rw is_end.bracket (step-close end n name before raw)) in
-          let skip : Reaches t next (behind_value n (property_of name before raw)) = run-white t (end + 1) next (behind_value n (property_of name before raw)) (stays-behind_value n (property_of name before raw)) white.rises white.within white.passing closed in
-          subst (λ p. Reaches t next (behind_value n p)) (property_of-from name before raw ∙ ap (property_from name) (sym (map-append (λ (w : ValueEntry). slice_range t w.start w.end) so_far.added (v ∷ [])))) skip;
+            let before : List (List ℕ) = raw_values t so_far.added in
+            let raw : List ℕ = slice_range t (at + 1) end in
+            let value : Reaches t end (in_value n name before raw) = is_end.value n name before (so_far.reached n name h) in
+            let closed : Reaches t (end + 1) (behind_value n (property_of name before raw)) = run-take-step t end (in_value n name before raw) (behind_value n (property_of name before raw)) value is_end.within (rw is_end.bracket (step-close end n name before raw)) in
+            let skip : Reaches t next (behind_value n (property_of name before raw)) = run-white t (end + 1) next (behind_value n (property_of name before raw)) (stays-behind_value n (property_of name before raw)) white.rises white.within white.passing closed in
+            subst (λ p. Reaches t next (behind_value n p)) (property_of-from name before raw ∙ ap (property_from name) (sym (map-append (λ (w : ValueEntry). slice_range t w.start w.end) so_far.added (v ∷ [])))) skip;
       }
 
   -- one more value follows
@@ -98,12 +98,12 @@ module _ (t : List ℕ) where
         pushed = before.pushed;
         counted = before.counted;
         reached = λ n name h.
-          let raw : List (List ℕ) = raw_values t before.added in
-          let p : Property = property_from name raw in
-          let some : 0 < length raw = omega (arith, before.some_value, length-map before.added (λ (w : ValueEntry). slice_range t w.start w.end)) in
-          let next : Reaches t (at + 1) (in_value n p.name (values p) []) = run-take-step t at (behind_value n p) (in_value n p.name (values p) []) (before.reached n name h) lt (rw e (step-again at n p)) in
-          subst (λ vs. Reaches t (at + 1) (in_value n name vs [])) (values-property_from name raw some)
-          (subst (λ m. Reaches t (at + 1) (in_value n m (values p) [])) (name-property_from name raw) next);
+            let raw : List (List ℕ) = raw_values t before.added in
+            let p : Property = property_from name raw in
+            let some : 0 < length raw = omega (arith, before.some_value, length-map before.added (λ (w : ValueEntry). slice_range t w.start w.end)) in
+            let next : Reaches t (at + 1) (in_value n p.name (values p) []) = run-take-step t at (behind_value n p) (in_value n p.name (values p) []) (before.reached n name h) lt (rw e (step-again at n p)) in
+            subst (λ vs. Reaches t (at + 1) (in_value n name vs [])) (values-property_from name raw some)
+            (subst (λ m. Reaches t (at + 1) (in_value n m (values p) [])) (name-property_from name raw) next);
       }
 
   -- none does

@@ -1,13 +1,13 @@
 -- What holds once a whole text was read.
-use Rattle.std.proofs.Common.{◌≡◌, ℕ, zero, suc, ◌+◌, ◌<◌, ◌≤◌, inl, inr, List, [], ◌∷◌, length, map, slice_get, Option, Some, None, option_map, unwrap_or, refl, sym, ap, subst, ◌∙◌, arith}
+use Rattle.std.proofs.Common.{◌≡◌, ℕ, ◌<◌, ◌≤◌, inl, inr, List, [], length, slice_get, Some, option_map, unwrap_or, sym, ap, subst, ◌∙◌, arith}
 use Rattle.std.proofs.lemmas.Option.{slice_get-map, slice_get_within}
 use Rattle.sgf_tree.specs.declared.fault.TheConstants.{MAX_LENGTH}
 use Rattle.sgf_tree.specs.Tree.{Games, no_games, game_count, node_count}
 use Rattle.sgf_tree.specs.Spelling.{Spells}
 use Rattle.sgf_tree.specs.FileOrder.{game_of, rows_of, IsLastBelow, PlacesRise}
-use Rattle.sgf_tree.specs.Machine.{Stack, collection_of}
-use Rattle.sgf_tree.specs.Layout.{games_in, properties_of, rows_by, IsLaidOut}
-use Rattle.sgf_tree.specs.GamesRead.{IsRootOf, HoldStack, IsRead}
+use Rattle.sgf_tree.specs.Machine.{collection_of}
+use Rattle.sgf_tree.specs.Layout.{games_in, IsLaidOut}
+use Rattle.sgf_tree.specs.GamesRead.{IsRootOf, IsRead}
 use Rattle.sgf_tree.specs.declared.layout.NodeEntry.{NodeEntry}
 use Rattle.sgf_tree.specs.declared.layout.PropertyEntry.{PropertyEntry}
 use Rattle.sgf_tree.specs.declared.layout.ValueEntry.{ValueEntry}
@@ -45,11 +45,11 @@ module _ (t : List ℕ) (c : Games) (ns : List NodeEntry) (ps : List PropertyEnt
         identifiers_within = read.held.identifiers_within;
         values_within = read.held.values_within;
         games_numbered = λ i n k here is.
-          ap (λ g. game_of g i) whole-games
-          ∙ whole-root i k (omega (arith, slice_get_within ns i n here)) (read.held.roots i n k here is);
+            ap (λ g. game_of g i) whole-games
+            ∙ whole-root i k (omega (arith, slice_get_within ns i n here)) (read.held.roots i n k here is);
         last_known = λ i n here.
-          subst (λ g. IsLastBelow g i n.last_below) (sym whole-games)
-          (lasts-below c i n.last_below (ap (λ ls. slice_get ls i) read.held.same_lasts ∙ slice_get-map mark_of ns i ∙ ap (option_map mark_of) here));
+            subst (λ g. IsLastBelow g i n.last_below) (sym whole-games)
+            (lasts-below c i n.last_below (ap (λ ls. slice_get ls i) read.held.same_lasts ∙ slice_get-map mark_of ns i ∙ ap (option_map mark_of) here));
         places_within = read.held.places_within;
         places_rise = subst PlacesRise (sym whole-games) (places-rise c t whole-spelled);
       }

@@ -1,9 +1,9 @@
 -- How the nodes and games of a text were read: the words of the contracts in `reader::games`.
-use Rattle.std.specs.Prelude.{◌≡◌, ◌≢◌, ℕ, ◌+◌, ◌-◌, ◌<◌, ◌≤◌, ◌⊎◌, Bool, true, false, List, [], ◌∷◌, ◌++◌, length, map, take, drop, replicate, All, slice_get, slice_index, Option, Some, None, option_map}
-use Rattle.sgf_tree.specs.Tree.{Node, Games, no_games, game, game_count, node_count}
+use Rattle.std.specs.Prelude.{◌≡◌, ℕ, ◌+◌, ◌-◌, ◌<◌, ◌≤◌, ◌⊎◌, Bool, true, false, List, [], ◌∷◌, ◌++◌, length, map, take, drop, replicate, All, slice_get, slice_index, Option, Some, None, option_map}
+use Rattle.sgf_tree.specs.Tree.{Games, no_games, game, game_count, node_count}
 use Rattle.sgf_tree.specs.Spelling.{is_white}
 use Rattle.sgf_tree.specs.FileOrder.{Row, further_rows, rows, game_of}
-use Rattle.sgf_tree.specs.Machine.{OpenGame, Stack, Started, State, behind_game, between_games, step, accepted}
+use Rattle.sgf_tree.specs.Machine.{OpenGame, Stack, State, behind_game, between_games, step, accepted}
 use Rattle.sgf_tree.specs.Ends.{EndsRise}
 use Rattle.sgf_tree.specs.Layout.{IsSpan, properties_of, parent_by, opens_by, rows_by}
 use Rattle.sgf_tree.specs.Progress.{Reaches}

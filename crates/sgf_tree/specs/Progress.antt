@@ -1,7 +1,7 @@
 -- How far a text was read: the words of the contracts inside `reader`.
-use Rattle.std.specs.Prelude.{◌≡◌, ◌≢◌, ℕ, ◌+◌, ◌<◌, ◌≤◌, Bool, true, false, not, ◌||◌, ◌&&◌, ◌==◌, List, [], ◌∷◌, length, slice_index, slice_range, take, Some, None, IsTrue}
+use Rattle.std.specs.Prelude.{◌≡◌, ℕ, ◌<◌, ◌≤◌, Bool, false, not, ◌||◌, ◌&&◌, ◌==◌, List, [], length, slice_index, slice_range, take, Some, IsTrue}
 use Rattle.sgf_tree.specs.Spelling.{is_upper, is_lower}
-use Rattle.sgf_tree.specs.Machine.{Started, State, start, in_value, run, accepted}
+use Rattle.sgf_tree.specs.Machine.{Started, State, start, in_value, run}
 use Rattle.sgf_tree.specs.Refusal.{IsFaultyAt}
 use Rattle.sgf_tree.specs.declared.reader.fault.Fault.{Fault}
 use Rattle.sgf_tree.specs.declared.reader.fault.Fault.TheVariants.{NotSgf, Memory}

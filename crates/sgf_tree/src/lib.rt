@@ -10,13 +10,12 @@
 
 mod collection;
 mod fault;
+pub mod laws;
 mod layout;
 mod node;
+mod numbers;
 mod property;
 mod reader;
-
-pub mod laws;
-mod numbers;
 mod text;
 
 pub use collection::Collection;

@@ -63,3 +63,6 @@ fn read_whole(text: &[u8], entries: &mut Entries) -> Result<u32, Fault>
     let mark = mark_end(text)?;
     read_games(text, skip_white(text, mark), entries)
 }
+
+#[cfg(test)]
+mod tests;

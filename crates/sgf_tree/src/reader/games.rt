@@ -14,12 +14,7 @@ use crate::reader::scan::skip_white;
 
 /// Reads the node whose `;` stands at `place`.
 /// The result is the offset of the byte behind it and the white space there.
-fn read_node(
-    text: &[u8],
-    place: usize,
-    link: Link,
-    entries: &mut Entries,
-) -> Result<usize, Fault>
+fn read_node(text: &[u8], place: usize, link: Link, entries: &mut Entries) -> Result<usize, Fault>
     requires short { length text.now ≤ MAX_LENGTH }
     requires within { place < length text.now }
     requires room { AreAtMost place entries.old.nodes.items entries.old.properties.items entries.old.values.items }
@@ -38,12 +33,7 @@ fn read_node(
 
 /// Reads the own nodes of the game whose `(` stands before `at`. The first one gets that link.
 /// The result is the offset of the byte behind them and the white space there.
-fn read_sequence(
-    text: &[u8],
-    at: usize,
-    link: Link,
-    entries: &mut Entries,
-) -> Result<usize, Fault>
+fn read_sequence(text: &[u8], at: usize, link: Link, entries: &mut Entries) -> Result<usize, Fault>
     requires short { length text.now ≤ MAX_LENGTH }
     requires within { at ≤ length text.now }
     requires room { AreAtMost at entries.old.nodes.items entries.old.properties.items entries.old.values.items }
@@ -100,11 +90,7 @@ fn opening_link(games: u32, innermost: Option<u32>) -> Link
 
 /// Reads all games, of which the first `(` may stand at `at`.
 /// The result is their number.
-pub(crate) fn read_games(
-    text: &[u8],
-    at: usize,
-    entries: &mut Entries,
-) -> Result<u32, Fault>
+pub(crate) fn read_games(text: &[u8], at: usize, entries: &mut Entries) -> Result<u32, Fault>
     requires short { length text.now ≤ MAX_LENGTH }
     requires within { at ≤ length text.now }
     requires begins { StandsBetween text.now at (record { closed = no_games; unclosed = [] }) }

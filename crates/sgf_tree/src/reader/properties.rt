@@ -65,11 +65,7 @@ fn read_property(text: &[u8], start: usize, entries: &mut Entries) -> Result<usi
 
 /// Reads the properties of a node, which begin at `at` or behind white space there.
 /// The result is the offset of the byte behind them and the white space there.
-pub(crate) fn read_properties(
-    text: &[u8],
-    at: usize,
-    entries: &mut Entries,
-) -> Result<usize, Fault>
+pub(crate) fn read_properties(text: &[u8], at: usize, entries: &mut Entries) -> Result<usize, Fault>
     requires short { length text.now ≤ MAX_LENGTH }
     requires within { at ≤ length text.now }
     requires room { length entries.old.values.items ≤ at }

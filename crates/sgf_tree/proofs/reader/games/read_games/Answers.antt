@@ -1,9 +1,8 @@
-use Rattle.std.proofs.Common.{◌-◌, ◌∷◌, ◌≡◌, ◌≢◌, ◌⊎◌, ◌<◌, ◌≤◌, ◌∙◌, ◌++◌, ◌+◌, inl, inr, true, false, is_some, not, length, get_or, Some, None, refl, sym, ap, subst, arith}
+use Rattle.std.proofs.Common.{◌-◌, ◌∷◌, ◌≡◌, ◌⊎◌, ◌≤◌, ◌∙◌, ◌+◌, inl, inr, true, false, is_some, not, length, Some, sym, ap, subst, arith}
 use Rattle.std.proofs.lemmas.Bool.{true≢false, false≢true}
 use Rattle.std.proofs.lemmas.Result.{err_from_is_err_and}
-use Rattle.sgf_tree.specs.Machine.{Stack}
 use Rattle.sgf_tree.specs.GamesRead.{IsSequenceRead}
-use Rattle.sgf_tree.proofs.GamesLoop.{GamesSoFar, games-open, games-faulty, close-faulty, games-sequence, inmost, close-own, close-within, close-count, games-close, games-unfinished, games-finished}
+use Rattle.sgf_tree.proofs.GamesLoop.{GamesSoFar, games-open, games-faulty, close-faulty, games-sequence, close-own, close-within, close-count, games-close, games-unfinished, games-finished}
 use Rattle.sgf_tree.proofs.NodesRead.{nodes-held}
 use Rattle.sgf_tree.proofs.reader.games.read_games.Goals as goal
 use Rattle.sgf_tree.proofs.reader.games.read_games.Goals.{In_ok-at-in-40, then-is_none, else-is_none, then-is_some-via-then-is_some, then-is_some-via-else-is_some+then-games-eq0}
@@ -36,8 +35,8 @@ games-preserved-in-40 c =
       few = omega (arith, c.games.invariant.few, c.in_ok-at-in-40.ensures.rises);
       room = c.in_ok-at-in-40.ensures.room;
       so_far =
-        subst (λ n. GamesSoFar c.args.text.now c.in_ok-at-in-40.at c.games.games (Some (n - 1)) c.read_sequence.new.entries.nodes.items c.read_sequence.new.entries.properties.items c.read_sequence.new.entries.values.items) count
-        (games-sequence c.args.text.now c.in_ok-at-in-40.at c.games.games so_far.stack _ _ _ (sequence (goal.at.games-preserved-in-40 c).In_ok-at-in-40) so_far.games_are);
+          subst (λ n. GamesSoFar c.args.text.now c.in_ok-at-in-40.at c.games.games (Some (n - 1)) c.read_sequence.new.entries.nodes.items c.read_sequence.new.entries.properties.items c.read_sequence.new.entries.values.items) count
+          (games-sequence c.args.text.now c.in_ok-at-in-40.at c.games.games so_far.stack _ _ _ (sequence (goal.at.games-preserved-in-40 c).In_ok-at-in-40) so_far.games_are);
     }
 
 pub returns-in_default-tip-clause-fault : goal.returns-in_default-tip-clause-fault
@@ -54,16 +53,16 @@ games-preserved c =
     let so_far = rw c.in-Some.is at c.games.invariant.so_far in
     let next = c.skip_white-at.result in
     let if_none : is_some c.close_game-tip.result ≡ false → c.if-is_none.games ≡ c.games.games + 1 = elim c.if-is_none.branch [
-      then-is_none w ↦ λ e. w.games-is
-    | else-is_none w ↦ λ e. absurd (false≢true (sym e ∙ c.is_none.ensures ∙ ap not w.if-is_none.false))
+      | then-is_none w ↦ λ e. w.games-is
+      | else-is_none w ↦ λ e. absurd (false≢true (sym e ∙ c.is_none.ensures ∙ ap not w.if-is_none.false))
     ] in
     let if_some : is_some c.close_game-tip.result ≡ true → c.if-is_none.games ≡ c.games.games = elim c.if-is_none.branch [
-      then-is_none w ↦ λ e. absurd (true≢false (sym e ∙ c.is_none.ensures ∙ ap not w.if-is_none.true))
-    | else-is_none w ↦ λ e. w.games-is
+      | then-is_none w ↦ λ e. absurd (true≢false (sym e ∙ c.is_none.ensures ∙ ap not w.if-is_none.true))
+      | else-is_none w ↦ λ e. w.games-is
     ] in
     let at_most : c.if-is_none.games ≤ c.games.games + 1 = elim c.if-is_none.branch [
-      then-is_none w ↦ omega (arith, w.games-is)
-    | else-is_none w ↦ omega (arith, w.games-is)
+      | then-is_none w ↦ omega (arith, w.games-is)
+      | else-is_none w ↦ omega (arith, w.games-is)
     ] in
     let same : length c.close_game-tip.new.nodes.items ≡ length c.games.entries.nodes.items = close-count c.args.text.now c.games.at c.games.games c.in-Some.last _ _ _ so_far _ _ c.close_game-tip.ensures in
     record {
@@ -83,8 +82,8 @@ returns-in_default-clause-fault c = games-faulty c.args.text.now c.games.at c.ga
 pub returns-then-is_some-clause-fault : goal.returns-then-is_some-clause-fault
 returns-then-is_some-clause-fault c =
     let h : (is_some c.games.tip ≡ true) ⊎ (c.games.games ≡ 0) = elim c.then-is_some.branch [
-      then-is_some-via-then-is_some w ↦ inl (sym c.is_some.ensures ∙ w.if-is_some.true)
-    | then-is_some-via-else-is_some+then-games-eq0 w ↦ inr w.if-games-eq0.true
+      | then-is_some-via-then-is_some w ↦ inl (sym c.is_some.ensures ∙ w.if-is_some.true)
+      | then-is_some-via-else-is_some+then-games-eq0 w ↦ inr w.if-games-eq0.true
     ] in
     games-unfinished c.args.text.now c.games.at c.games.games c.games.tip _ _ _ c.games.invariant.so_far (omega (arith, c.games.invariant.within)) h
 

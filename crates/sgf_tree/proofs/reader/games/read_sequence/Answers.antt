@@ -1,7 +1,6 @@
-use Rattle.std.proofs.Common.{◌≡◌, ◌≢◌, ◌<◌, ◌∙◌, ◌++◌, length, get_or, refl, sym, ap, arith}
+use Rattle.std.proofs.Common.{◌≢◌, ◌<◌, length, get_or, refl, arith}
 use Rattle.std.proofs.lemmas.Result.{err_from_is_err_and}
 use Rattle.sgf_tree.proofs.SequencesRead.{place-faulty, place-node, sequence-first, sequence-next, sequence-done, sequence-node, node-room}
-use Rattle.sgf_tree.proofs.GamesLoop.{games-open}
 use Rattle.sgf_tree.proofs.reader.games.read_sequence.Goals as goal
 use Rattle.sgf_tree.proofs.reader.games.read_sequence.Goals.{then-place-text-via-then-place-text, then-place-text-via-else-place-text+then-text-place-ne59}
 
@@ -10,8 +9,8 @@ returns-then-place-text-clause-fault c k behind held opening =
     let t = c.args.text.now in
     let place = c.skip_white-place.result in
     let other : place < length t → get_or t place 0 ≢ 59 = elim c.then-place-text.branch [
-      then-place-text-via-then-place-text w ↦ λ lt. absurd (omega (arith, w.if-place-text.true))
-    | then-place-text-via-else-place-text+then-text-place-ne59 w ↦ λ _. w.if-text-place-ne59.true
+      | then-place-text-via-then-place-text w ↦ λ lt. absurd (omega (arith, w.if-place-text.true))
+      | then-place-text-via-else-place-text+then-text-place-ne59 w ↦ λ _. w.if-text-place-ne59.true
     ] in
     place-faulty t c.args.at place k c.skip_white-place.ensures behind other
 
@@ -35,12 +34,12 @@ nodes-init c =
       rises = omega (arith, c.skip_white-place.ensures.rises, read.properties.counted);
       within = read.properties.within;
       room = node-room t place c.in_ok-end.end c.args.link _ _ _ _ _ _ (record {
-      nodes_at_most = omega (arith, c.requires.room.nodes_at_most, c.skip_white-place.ensures.rises);
-      properties_at_most = omega (arith, c.requires.room.properties_at_most, c.skip_white-place.ensures.rises);
-      values_at_most = omega (arith, c.requires.room.values_at_most, c.skip_white-place.ensures.rises);
-    }) read;
+        nodes_at_most = omega (arith, c.requires.room.nodes_at_most, c.skip_white-place.ensures.rises);
+        properties_at_most = omega (arith, c.requires.room.properties_at_most, c.skip_white-place.ensures.rises);
+        values_at_most = omega (arith, c.requires.room.values_at_most, c.skip_white-place.ensures.rises);
+      }) read;
       so_far = λ k behind held opening.
-        sequence-first t c.args.at place c.in_ok-end.end k c.args.link _ _ _ _ _ _ c.skip_white-place.ensures behind held opening lt c.if-text-place-ne59.false read;
+          sequence-first t c.args.at place c.in_ok-end.end k c.args.link _ _ _ _ _ _ c.skip_white-place.ensures behind held opening lt c.if-text-place-ne59.false read;
     }
 
 pub returns-in_err-end-2-clause-fault : goal.returns-in_err-end-2-clause-fault
@@ -60,7 +59,7 @@ nodes-preserved c =
       within = read.properties.within;
       room = node-room t c.nodes.end c.in_ok-end-2.end _ _ _ _ _ _ _ c.nodes.invariant.room read;
       so_far = λ k behind held opening.
-        sequence-next t c.nodes.end c.in_ok-end-2.end k _ _ _ _ _ _ (c.nodes.invariant.so_far k behind held opening) c.nodes-test.true c.if-text-end-eq59.true read;
+          sequence-next t c.nodes.end c.in_ok-end-2.end k _ _ _ _ _ _ (c.nodes.invariant.so_far k behind held opening) c.nodes-test.true c.if-text-end-eq59.true read;
     }
 
 pub returns-else-text-end-eq59-clause-read : goal.returns-else-text-end-eq59-clause-read

@@ -11,7 +11,7 @@ invariant-nodes l = record {
   within : l.end ≤ length l.text;
   room : AreAtMost l.end l.entries.nodes.items l.entries.properties.items l.entries.values.items;
   so_far : (k : Stack) → Reaches l.text l.at (opened k) → HoldStack l.text k l.fn.entries.nodes.items l.fn.entries.properties.items l.fn.entries.values.items → IsOpening k l.fn.link
-    → SequenceSoFar l.text l.end k l.entries.nodes.items l.entries.properties.items l.entries.values.items;
+      → SequenceSoFar l.text l.end k l.entries.nodes.items l.entries.properties.items l.entries.values.items;
 }
 
 abbrev pub decreases-nodes : goal.decreases-nodes

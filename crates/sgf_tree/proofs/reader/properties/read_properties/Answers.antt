@@ -1,6 +1,5 @@
-use Rattle.std.proofs.Common.{◌≡◌, ◌≢◌, ◌<◌, ◌∙◌, ◌++◌, length, get_or, refl, sym, arith}
+use Rattle.std.proofs.Common.{◌∙◌, refl, sym, arith}
 use Rattle.std.proofs.lemmas.Result.{err_from_is_err_and}
-use Rattle.sgf_tree.specs.PropertiesRead.{with_properties}
 use Rattle.sgf_tree.proofs.NodeEnds.{node-name, properties-begin, properties-more, properties-done}
 use Rattle.sgf_tree.proofs.reader.properties.read_properties.Goals as goal
 

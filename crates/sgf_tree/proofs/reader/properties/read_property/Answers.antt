@@ -1,11 +1,10 @@
-use Rattle.std.proofs.Common.{◌≡◌, ◌≢◌, ◌<◌, ◌∙◌, ◌++◌, length, get_or, slice_range, arith}
+use Rattle.std.proofs.Common.{◌≢◌, ◌<◌, length, get_or, slice_range, arith}
 use Rattle.std.proofs.lemmas.Result.{err_from_is_err_and}
-use Rattle.std.proofs.Common.{ℕ, ◌+◌, List, [], ◌∷◌, slice_index}
+use Rattle.std.proofs.Common.{◌+◌, [], ◌∷◌, slice_index}
 use Rattle.sgf_tree.specs.Machine.{Started, in_name}
 use Rattle.sgf_tree.specs.Progress.{Reaches}
 use Rattle.sgf_tree.specs.Layout.{name_in}
 use Rattle.sgf_tree.proofs.NameEnds.{StandsBehindName, name-reached, name-behind, name-faulty, name-value}
-use Rattle.sgf_tree.proofs.Growth.{slice_range-more}
 use Rattle.sgf_tree.proofs.reader.properties.read_property.Goals as goal
 use Rattle.sgf_tree.proofs.reader.properties.read_property.Goals.{After-skip_white-bracket, then-bracket-text-via-then-bracket-text, then-bracket-text-via-else-bracket-text+then-text-bracket-ne91}
 
@@ -23,8 +22,8 @@ returns-then-bracket-text-clause-fault c n h =
     let t = c.args.text.now in
     let at = c.skip_white-bracket.result in
     let other : at < length t → get_or t at 0 ≢ 91 = elim c.then-bracket-text.branch [
-      then-bracket-text-via-then-bracket-text w ↦ λ lt. absurd (omega (arith, w.if-bracket-text.true))
-    | then-bracket-text-via-else-bracket-text+then-text-bracket-ne91 w ↦ λ _. w.if-text-bracket-ne91.true
+      | then-bracket-text-via-then-bracket-text w ↦ λ lt. absurd (omega (arith, w.if-bracket-text.true))
+      | then-bracket-text-via-else-bracket-text+then-text-bracket-ne91 w ↦ λ _. w.if-text-bracket-ne91.true
     ] in
     name-faulty t at n _ (behind (goal.at.returns-then-bracket-text-clause-fault c).After-skip_white-bracket n h) c.skip_white-bracket.ensures.within other
 

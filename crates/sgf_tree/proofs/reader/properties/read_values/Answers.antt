@@ -1,4 +1,4 @@
-use Rattle.std.proofs.Common.{◌≡◌, ◌≢◌, ◌<◌, ◌∙◌, ◌++◌, length, get_or, arith}
+use Rattle.std.proofs.Common.{◌≢◌, ◌<◌, length, get_or, arith}
 use Rattle.sgf_tree.proofs.ValuesRead.{ValuesBefore, values-step, values-more, values-done}
 use Rattle.sgf_tree.proofs.reader.properties.read_values.Goals as goal
 use Rattle.sgf_tree.proofs.reader.properties.read_values.Goals.{After-skip_white-at, then-at-text-via-then-at-text, then-at-text-via-else-at-text+then-text-at-ne91}
@@ -13,8 +13,8 @@ returns-then-at-text-clause-read c =
     let at = c.skip_white-at.result in
     let t = c.args.text.now in
     let other : at < length t → get_or t at 0 ≢ 91 = elim c.then-at-text.branch [
-      then-at-text-via-then-at-text w ↦ λ lt. absurd (omega (arith, w.if-at-text.true))
-    | then-at-text-via-else-at-text+then-text-at-ne91 w ↦ λ _. w.if-text-at-ne91.true
+      | then-at-text-via-then-at-text w ↦ λ lt. absurd (omega (arith, w.if-at-text.true))
+      | then-at-text-via-else-at-text+then-text-at-ne91 w ↦ λ _. w.if-text-at-ne91.true
     ] in
     values-done t c.args.bracket at c.args.values.now.items c.push.new.self.items (pushed (goal.at.returns-then-at-text-clause-read c).After-skip_white-at) other
 

@@ -1,4 +1,3 @@
-use Rattle.std.proofs.Common.{arith}
 use Rattle.sgf_tree.proofs.ValueEnds.{plain-found, plain-none}
 use Rattle.sgf_tree.proofs.reader.scan.plain_end.Goals as goal
 

@@ -1,4 +1,4 @@
-use Rattle.std.proofs.Common.{◌≡◌, ◌≢◌, ◌∙◌, get_or, sym, subst, arith}
+use Rattle.std.proofs.Common.{subst, arith}
 use Rattle.sgf_tree.proofs.ValueEnds.{AreUnits, units-plain, units-escape, units-end, escape-end, stop-escape}
 use Rattle.sgf_tree.proofs.reader.scan.value_end.Goals as goal
 use Rattle.sgf_tree.proofs.reader.scan.value_end.Goals.{After-plain_end-end}
@@ -32,7 +32,7 @@ units-preserved c =
       rises = omega (arith, c.plain_end-end.ensures.rises);
       within = omega (arith, c.plain_end-end.ensures.within);
       units =
-        units-escape c.args.text.now c.args.at c.plain_end-end.result (omega (arith, c.plain_end-end.ensures.rises)) (omega (arith, c.plain_end-end.ensures.within))
-        (stop-escape c.args.text.now c.args.at c.units.end c.plain_end-end.result c.plain_end-end.ensures (omega (arith, c.plain_end-end.ensures.within)) c.if-text-end-eq93.false)
-        (more-units (goal.at.units-preserved c).After-plain_end-end);
+          units-escape c.args.text.now c.args.at c.plain_end-end.result (omega (arith, c.plain_end-end.ensures.rises)) (omega (arith, c.plain_end-end.ensures.within))
+          (stop-escape c.args.text.now c.args.at c.units.end c.plain_end-end.result c.plain_end-end.ensures (omega (arith, c.plain_end-end.ensures.within)) c.if-text-end-eq93.false)
+          (more-units (goal.at.units-preserved c).After-plain_end-end);
     }
