@@ -52,10 +52,10 @@ same_grid a b e f = ap (λ s. record { side = s; cells = a.cells }) e ∙ ap (λ
 
 -- two grids with the same cells are one where a test finds their sides equal
 pub Decides-same_side : (a b : Grid) (m n : ℕ) (r : Bool) → m ≡ a.side → n ≡ b.side → a.cells ≡ b.cells → r ≡ (m == n) → Decides r (a ≡ b)
-Decides-same_side a b m n r is_a is_b cells is =
-    ( λ e. same_grid a b (sym is_a ∙ (Decides-eqb m n).0 (sym is ∙ e) ∙ is_b) cells
-    , λ e. is ∙ (Decides-eqb m n).1 (is_a ∙ ap (λ g. g.side) e ∙ sym is_b)
-    )
+Decides-same_side a b m n r is_a is_b cells is = (
+  λ e. same_grid a b (sym is_a ∙ (Decides-eqb m n).0 (sym is ∙ e) ∙ is_b) cells,
+  λ e. is ∙ (Decides-eqb m n).1 (is_a ∙ ap (λ g. g.side) e ∙ sym is_b),
+)
 
 -- two grids with other cells are two
 pub Decides-other_cells : (a b : Grid) (xs ys : List Cell) (r : Bool) → xs ≡ a.cells → ys ≡ b.cells → r ≡ false → Decides r (xs ≡ ys) → Decides r (a ≡ b)
