@@ -3,16 +3,18 @@ use Rattle.std.specs.Prelude.{◌≡◌, ℕ, ◌+◌, ◌-◌, ◌<◌, ◌≤�
 use Rattle.sgf_tree.specs.Tree.{Games, no_games, game, game_count, node_count}
 use Rattle.sgf_tree.specs.Spelling.{is_white}
 use Rattle.sgf_tree.specs.FileOrder.{Row, further_rows, rows, game_of}
-use Rattle.sgf_tree.specs.Machine.{OpenGame, Stack, State, behind_game, between_games, step, accepted}
+use Rattle.sgf_tree.specs.Machine.{OpenGame, Stack, State, opened, behind_game, between_games, step, accepted}
 use Rattle.sgf_tree.specs.Ends.{EndsRise}
 use Rattle.sgf_tree.specs.Layout.{IsSpan, properties_of, parent_by, opens_by, rows_by}
-use Rattle.sgf_tree.specs.Progress.{Reaches}
+use Rattle.sgf_tree.specs.Progress.{Reaches, IsTrueFault}
 use Rattle.sgf_tree.specs.PropertiesRead.{ArePropertiesRead}
+use Rattle.sgf_tree.specs.declared.layout.Entries.{Entries}
 use Rattle.sgf_tree.specs.declared.layout.Link.{Link}
 use Rattle.sgf_tree.specs.declared.layout.Link.TheVariants.{Root, Branch, Next}
 use Rattle.sgf_tree.specs.declared.layout.NodeEntry.{NodeEntry}
 use Rattle.sgf_tree.specs.declared.layout.PropertyEntry.{PropertyEntry}
 use Rattle.sgf_tree.specs.declared.layout.ValueEntry.{ValueEntry}
+use Rattle.sgf_tree.specs.declared.reader.fault.Fault.{Fault}
 
 -- how many nodes whole and open games have
 abbrev pub open_count : Games → List OpenGame → ℕ
@@ -132,3 +134,36 @@ pub record IsMarkRead (t : List ℕ) (at : ℕ) : Type 0 where
   pub next : at < length t
       → step at state (slice_index t at) ≡ between_games (record { closed = no_games; unclosed = [] }) (slice_index t at)
   pub end : accepted state ≡ accepted (behind_game (record { closed = no_games; unclosed = [] }))
+
+-- the same, of all entries
+abbrev pub HasRoom : ℕ → Entries → Type 0
+HasRoom count entries = AreAtMost count entries.nodes.items entries.properties.items entries.values.items
+
+abbrev pub HoldsStack : List ℕ → Stack → Entries → Type 0
+HoldsStack t k entries = HoldStack t k entries.nodes.items entries.properties.items entries.values.items
+
+abbrev pub ReadsNode : List ℕ → ℕ → ℕ → Link → Entries → Entries → Type 0
+ReadsNode t place end link old new =
+    IsNodeRead t place end link old.nodes.items new.nodes.items old.properties.items new.properties.items old.values.items new.values.items
+
+-- where the machine has the games of a stack and stands behind a `(` at `at`, the game's own nodes were read up to `end`
+abbrev pub ReadsSequence : List ℕ → ℕ → ℕ → Link → Entries → Entries → Type 0
+ReadsSequence t at end link old new =
+    (k : Stack) → Reaches t at (opened k) → HoldsStack t k old → IsOpening k link
+    → IsSequenceRead t end k new.nodes.items new.properties.items new.values.items
+
+-- there a fault is the first one of the text
+abbrev pub IsFaultInSequence : List ℕ → ℕ → Link → Entries → Fault → Type 0
+IsFaultInSequence t at link old fault =
+    (k : Stack) → Reaches t at (opened k) → HoldsStack t k old → IsOpening k link → IsTrueFault t fault
+
+-- a whole text was read, and has so many games
+abbrev pub ReadsWhole : List ℕ → Entries → ℕ → Type 0
+ReadsWhole t new games =
+    (c : Games) × (games ≡ game_count c) × IsRead t c new.nodes.items new.properties.items new.values.items
+
+-- nothing was read yet
+pub record AreEmpty (entries : Entries) : Type 0 where
+  pub no_nodes : entries.nodes.items ≡ []
+  pub no_properties : entries.properties.items ≡ []
+  pub no_values : entries.values.items ≡ []

@@ -5,9 +5,11 @@ use Rattle.sgf_tree.specs.Spelling.{is_white}
 use Rattle.sgf_tree.specs.Machine.{Started, State, in_node, in_name, in_value, behind_value, behind_node, ended, step, accepted}
 use Rattle.sgf_tree.specs.Ends.{EndsRise}
 use Rattle.sgf_tree.specs.Layout.{IsSpan, property_from, name_in, raw_values, properties_of}
-use Rattle.sgf_tree.specs.Progress.{Reaches}
+use Rattle.sgf_tree.specs.Progress.{Reaches, IsTrueFault}
+use Rattle.sgf_tree.specs.declared.layout.Entries.{Entries}
 use Rattle.sgf_tree.specs.declared.layout.PropertyEntry.{PropertyEntry}
 use Rattle.sgf_tree.specs.declared.layout.ValueEntry.{ValueEntry}
+use Rattle.sgf_tree.specs.declared.reader.fault.Fault.{Fault}
 
 -- the byte at `end`, if there is one, is neither white space nor `[`
 abbrev pub EndsValues : List ℕ → ℕ → Type 0
@@ -69,3 +71,26 @@ pub record ArePropertiesRead (t : List ℕ) (at end : ℕ) (ps ps' : List Proper
   pub not_white : end < length t → is_white (slice_index t end) ≡ false
   pub reached : (n : Started) → n.properties ≡ [] → Reaches t at (in_node n)
       → StandsBehindNode t end (with_properties n (properties_of t vs' (length vs) entries))
+
+-- the same, of all entries before and after
+abbrev pub ReadsProperty : List ℕ → ℕ → ℕ → Entries → Entries → Type 0
+ReadsProperty t start end old new =
+    IsPropertyRead t start end old.properties.items new.properties.items old.values.items new.values.items
+
+abbrev pub ReadsProperties : List ℕ → ℕ → ℕ → Entries → Entries → Type 0
+ReadsProperties t at end old new =
+    ArePropertiesRead t at end old.properties.items new.properties.items old.values.items new.values.items
+
+-- a fault is the first one of the text, if the machine stood behind the `[` at `bracket`
+abbrev pub IsFaultInValues : List ℕ → ℕ → Fault → Type 0
+IsFaultInValues t bracket fault =
+    (n : Started) (name : List ℕ) → Reaches t (bracket + 1) (in_value n name [] []) → IsTrueFault t fault
+
+-- or behind the letter at `start`, which began a name
+abbrev pub IsFaultInProperty : List ℕ → ℕ → Fault → Type 0
+IsFaultInProperty t start fault =
+    (n : Started) → Reaches t (start + 1) (in_name n (slice_index t start ∷ [])) → IsTrueFault t fault
+
+-- or in a node without properties at `at`
+abbrev pub IsFaultInNode : List ℕ → ℕ → Fault → Type 0
+IsFaultInNode t at fault = (n : Started) → n.properties ≡ [] → Reaches t at (in_node n) → IsTrueFault t fault

@@ -34,7 +34,8 @@ impl<'a> Model for Collection<'a> {
 
     ghost view = { λ c. games_in c.text.now };
 
-    ghost invariant = { λ c. IsLaidOut c.text.now c.games c.nodes.items c.properties.items c.values.items };
+    ghost invariant = { λ c.
+        IsLaidOut c.text.now c.games c.nodes.items c.properties.items c.values.items };
 }
 
 impl<'a> Collection<'a> {
@@ -42,7 +43,8 @@ impl<'a> Collection<'a> {
 
     /// The collection of the text, which the entries hold.
     pub(crate) fn new(text: &'a [u8], games: u32, entries: Entries) -> Collection<'a>
-        requires { IsLaidOut text.now games entries.nodes.items entries.properties.items entries.values.items }
+        requires { IsLaidOut text.now games
+            entries.nodes.items entries.properties.items entries.values.items }
         ensures { result ≡ games_in text.now }
     {
         let Entries {

@@ -29,7 +29,10 @@ impl<'c, 'a> Model for NodeRef<'c, 'a> {
 
     ghost use Rattle.sgf_tree.specs.Layout.{properties_of, IsNodeHeld};
 
-    ghost view = { λ n. record { place = n.place; properties = properties_of n.text.now n.values.now n.values_start n.properties.now } };
+    ghost view = { λ n. record {
+      place = n.place;
+      properties = properties_of n.text.now n.values.now n.values_start n.properties.now;
+    } };
 
     ghost invariant = { λ n. IsNodeHeld n.text.now n.properties.now n.values.now n.values_start };
 }

@@ -3,12 +3,11 @@
 //! The text is gone over once. Each node, property and value that ends is pushed to a vector, and a fault is
 //! reported at the first byte that no text of the grammar goes on with.
 
-ghost use Rattle.std.specs.Prelude.{◌≡◌, ◌<◌, ◌≤◌, ◌↔◌, [], length, Err, IfOk, IfErr};
-ghost use Rattle.sgf_tree.specs.Tree.{Games, game_count};
+ghost use Rattle.std.specs.Prelude.{◌≡◌, ◌<◌, ◌≤◌, ◌↔◌, length, Err, IfOk, IfErr};
 ghost use Rattle.sgf_tree.specs.Spelling.{Spells};
 ghost use Rattle.sgf_tree.specs.Refusal.{IsFaultyWhereNotSgf};
 ghost use Rattle.sgf_tree.specs.Progress.{IsTrueFault};
-ghost use Rattle.sgf_tree.specs.GamesRead.{IsRead};
+ghost use Rattle.sgf_tree.specs.GamesRead.{AreEmpty, ReadsWhole};
 
 mod fault;
 mod games;
@@ -34,7 +33,7 @@ use std::alloc::Global;
 pub fn read<'a>(alloc: Global, text: &'a [u8]) -> Result<Collection<'a>, ReadFault>
     ensures too_long { (result ≡ Err ReadFault.TooLong) ↔ (MAX_LENGTH < length text.now) }
     ensures spelled { IfOk result (λ c. Spells c text.now) }
-    ensures not_sgf { IfErr result (λ fault. IsFaultyWhereNotSgf text.now fault) }
+    ensures not_sgf { IfErr result (IsFaultyWhereNotSgf text.now) }
 {
     if text.len() > MAX_LENGTH {
         return Err(ReadFault::TooLong);
@@ -54,11 +53,9 @@ pub fn read<'a>(alloc: Global, text: &'a [u8]) -> Result<Collection<'a>, ReadFau
 /// Reads a whole text. The result is the number of its games.
 fn read_whole(text: &[u8], entries: &mut Entries) -> Result<u32, Fault>
     requires short { length text.now ≤ MAX_LENGTH }
-    requires no_nodes { entries.old.nodes.items ≡ [] }
-    requires no_properties { entries.old.properties.items ≡ [] }
-    requires no_values { entries.old.values.items ≡ [] }
-    ensures read { IfOk result (λ games. (c : Games) × (games ≡ game_count c) × IsRead text.now c entries.new.nodes.items entries.new.properties.items entries.new.values.items) }
-    ensures fault { IfErr result (λ fault. IsTrueFault text.now fault) }
+    requires nothing_read { AreEmpty entries.old }
+    ensures read { IfOk result (ReadsWhole text.now entries.new) }
+    ensures fault { IfErr result (IsTrueFault text.now) }
 {
     let mark = mark_end(text)?;
     read_games(text, skip_white(text, mark), entries)

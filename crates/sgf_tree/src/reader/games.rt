@@ -1,10 +1,12 @@
 //! Reading nodes and games.
 
-ghost use Rattle.std.specs.Prelude.{◌≡◌, ◌<◌, ◌≤◌, ◌+◌, ℕ, List, [], ◌∷◌, length, slice_index, IfOk, IfErr, None};
-ghost use Rattle.sgf_tree.specs.Tree.{Games, no_games, game_count};
-ghost use Rattle.sgf_tree.specs.Machine.{Stack, Started, in_node, opened};
-ghost use Rattle.sgf_tree.specs.Progress.{Reaches, IsTrueFault};
-ghost use Rattle.sgf_tree.specs.GamesRead.{tip, HoldStack, AreAtMost, IsOpening, StandsBetween, IsNodeRead, IsSequenceRead, IsOwnRun, ClosesRun, IsRead};
+ghost use Rattle.std.specs.Prelude.{◌≡◌, ◌<◌, ◌≤◌, ◌+◌, ℕ, [], length, IfOk, IfErr};
+ghost use Rattle.sgf_tree.specs.Tree.{no_games, game_count};
+ghost use Rattle.sgf_tree.specs.Machine.{Stack};
+ghost use Rattle.sgf_tree.specs.Progress.{IsTrueFault};
+ghost use Rattle.sgf_tree.specs.PropertiesRead.{IsFaultInNode};
+ghost use Rattle.sgf_tree.specs.GamesRead.{tip, HasRoom, IsOpening, IsOwnRun, ClosesRun};
+ghost use Rattle.sgf_tree.specs.GamesRead.{StandsBetween, AreEmpty, ReadsNode, ReadsSequence, ReadsWhole, IsFaultInSequence};
 
 use crate::fault::MAX_LENGTH;
 use crate::layout::{Entries, Link, NodeEntry};
@@ -17,9 +19,9 @@ use crate::reader::scan::skip_white;
 fn read_node(text: &[u8], place: usize, link: Link, entries: &mut Entries) -> Result<usize, Fault>
     requires short { length text.now ≤ MAX_LENGTH }
     requires within { place < length text.now }
-    requires room { AreAtMost place entries.old.nodes.items entries.old.properties.items entries.old.values.items }
-    ensures read { IfOk result (λ end. IsNodeRead text.now place end link entries.old.nodes.items entries.new.nodes.items entries.old.properties.items entries.new.properties.items entries.old.values.items entries.new.values.items) }
-    ensures fault { IfErr result (λ fault. (n : Started) → n.properties ≡ [] → Reaches text.now (place + 1) (in_node n) → IsTrueFault text.now fault) }
+    requires room { HasRoom place entries.old }
+    ensures read { IfOk result (λ end. ReadsNode text.now place end link entries.old entries.new) }
+    ensures fault { IfErr result (IsFaultInNode text.now (place + 1)) }
 {
     let end = read_properties(text, place + 1, entries)?;
     entries.nodes.push(NodeEntry {
@@ -36,14 +38,12 @@ fn read_node(text: &[u8], place: usize, link: Link, entries: &mut Entries) -> Re
 fn read_sequence(text: &[u8], at: usize, link: Link, entries: &mut Entries) -> Result<usize, Fault>
     requires short { length text.now ≤ MAX_LENGTH }
     requires within { at ≤ length text.now }
-    requires room { AreAtMost at entries.old.nodes.items entries.old.properties.items entries.old.values.items }
-    ensures read { IfOk result (λ end. (k : Stack) → Reaches text.now at (opened k) → HoldStack text.now k entries.old.nodes.items entries.old.properties.items entries.old.values.items
-        → IsOpening k link → IsSequenceRead text.now end k entries.new.nodes.items entries.new.properties.items entries.new.values.items) }
-    ensures room { IfOk result (λ end. AreAtMost end entries.new.nodes.items entries.new.properties.items entries.new.values.items) }
+    requires room { HasRoom at entries.old }
+    ensures read { IfOk result (λ end. ReadsSequence text.now at end link entries.old entries.new) }
+    ensures room { IfOk result (λ end. HasRoom end entries.new) }
     ensures rises { IfOk result (λ end. at ≤ end) }
     ensures within { IfOk result (λ end. end ≤ length text.now) }
-    ensures fault { IfErr result (λ fault. (k : Stack) → Reaches text.now at (opened k) → HoldStack text.now k entries.old.nodes.items entries.old.properties.items entries.old.values.items
-        → IsOpening k link → IsTrueFault text.now fault) }
+    ensures fault { IfErr result (IsFaultInSequence text.now at link entries.old) }
 {
     let place = skip_white(text, at);
     if place == text.len() || text[place] != b';' {
@@ -62,7 +62,8 @@ fn close_game(nodes: &mut Vec<NodeEntry>, tip: u32) -> Option<u32>
     requires few { length nodes.old.items ≤ MAX_LENGTH }
     requires within { tip < length nodes.old.items }
     requires own { (first : ℕ) × IsOwnRun nodes.old.items first tip }
-    ensures { (first : ℕ) → IsOwnRun nodes.old.items first tip → ClosesRun nodes.old.items nodes.new.items first tip result }
+    ensures { (first : ℕ) → IsOwnRun nodes.old.items first tip
+        → ClosesRun nodes.old.items nodes.new.items first tip result }
 {
     let last = (nodes.len() - 1) as u32;
     let mut at = tip as usize;
@@ -80,7 +81,8 @@ fn close_game(nodes: &mut Vec<NodeEntry>, tip: u32) -> Option<u32>
 /// The link of a game's first node, where that many games are whole and the innermost open one has that last node.
 fn opening_link(games: u32, innermost: Option<u32>) -> Link
     requires { games < MAX_LENGTH }
-    ensures { (k : Stack) → tip k.closed k.unclosed ≡ innermost → game_count k.closed ≡ games → IsOpening k result }
+    ensures { (k : Stack) → tip k.closed k.unclosed ≡ innermost → game_count k.closed ≡ games
+        → IsOpening k result }
 {
     match innermost {
         None => Link::Root(games + 1),
@@ -94,11 +96,9 @@ pub(crate) fn read_games(text: &[u8], at: usize, entries: &mut Entries) -> Resul
     requires short { length text.now ≤ MAX_LENGTH }
     requires within { at ≤ length text.now }
     requires begins { StandsBetween text.now at (record { closed = no_games; unclosed = [] }) }
-    requires no_nodes { entries.old.nodes.items ≡ [] }
-    requires no_properties { entries.old.properties.items ≡ [] }
-    requires no_values { entries.old.values.items ≡ [] }
-    ensures read { IfOk result (λ games. (c : Games) × (games ≡ game_count c) × IsRead text.now c entries.new.nodes.items entries.new.properties.items entries.new.values.items) }
-    ensures fault { IfErr result (λ fault. IsTrueFault text.now fault) }
+    requires nothing_read { AreEmpty entries.old }
+    ensures read { IfOk result (ReadsWhole text.now entries.new) }
+    ensures fault { IfErr result (IsTrueFault text.now) }
 {
     let mut at = at;
     let mut games = 0;

@@ -8,8 +8,8 @@ use crate::reader::fault::Fault;
 
 /// The end of the UTF-8 byte order mark, EF BB BF, which may stand at the start of the text.
 pub(crate) fn mark_end(text: &[u8]) -> Result<usize, Fault>
-    ensures read { IfOk result (λ at. IsMarkRead text.now at) }
-    ensures fault { IfErr result (λ fault. IsTrueFault text.now fault) }
+    ensures read { IfOk result (IsMarkRead text.now) }
+    ensures fault { IfErr result (IsTrueFault text.now) }
 {
     if text.is_empty() || text[0] != 0xEF {
         return Ok(0);

@@ -1,10 +1,9 @@
 //! Reading the properties of a node.
 
-ghost use Rattle.std.specs.Prelude.{◌≡◌, ◌<◌, ◌≤◌, ◌+◌, ℕ, List, [], ◌∷◌, length, slice_index, IsTrue, IfOk, IfErr};
+ghost use Rattle.std.specs.Prelude.{◌≡◌, ◌<◌, ◌≤◌, length, slice_index, IsTrue, IfOk, IfErr};
 ghost use Rattle.sgf_tree.specs.Spelling.{is_upper};
-ghost use Rattle.sgf_tree.specs.Machine.{Started, in_node, in_name, in_value};
-ghost use Rattle.sgf_tree.specs.Progress.{Reaches, IsTrueFault};
-ghost use Rattle.sgf_tree.specs.PropertiesRead.{AreValuesRead, IsPropertyRead, ArePropertiesRead};
+ghost use Rattle.sgf_tree.specs.PropertiesRead.{AreValuesRead, ReadsProperty, ReadsProperties};
+ghost use Rattle.sgf_tree.specs.PropertiesRead.{IsFaultInValues, IsFaultInProperty, IsFaultInNode};
 
 use crate::fault::MAX_LENGTH;
 use crate::layout::{Entries, PropertyEntry, ValueEntry};
@@ -16,9 +15,9 @@ use crate::reader::scan::{letters_end, skip_white, value_end};
 fn read_values(text: &[u8], bracket: usize, values: &mut Vec<ValueEntry>) -> Result<usize, Fault>
     requires short { length text.now ≤ MAX_LENGTH }
     requires within { bracket < length text.now }
-    ensures read { IfOk result (λ end. AreValuesRead text.now bracket end values.old.items values.new.items) }
-    ensures fault { IfErr result (λ fault. (n : Started) (name : List ℕ) → Reaches text.now (bracket + 1) (in_value n name [] [])
-        → IsTrueFault text.now fault) }
+    ensures read { IfOk result (λ end.
+        AreValuesRead text.now bracket end values.old.items values.new.items) }
+    ensures fault { IfErr result (IsFaultInValues text.now bracket) }
 {
     let mut at = bracket;
     'values: loop {
@@ -44,10 +43,9 @@ fn read_property(text: &[u8], start: usize, entries: &mut Entries) -> Result<usi
     requires within { start < length text.now }
     requires capital { IsTrue (is_upper (slice_index text.now start)) }
     requires room { length entries.old.values.items ≤ start }
-    ensures read { IfOk result (λ end. IsPropertyRead text.now start end entries.old.properties.items entries.new.properties.items entries.old.values.items entries.new.values.items) }
+    ensures read { IfOk result (λ end. ReadsProperty text.now start end entries.old entries.new) }
     ensures nodes { entries.new.nodes ≡ entries.old.nodes }
-    ensures fault { IfErr result (λ fault. (n : Started) → Reaches text.now (start + 1) (in_name n (slice_index text.now start ∷ []))
-        → IsTrueFault text.now fault) }
+    ensures fault { IfErr result (IsFaultInProperty text.now start) }
 {
     let name_end = letters_end(text, start);
     let bracket = skip_white(text, name_end);
@@ -69,9 +67,9 @@ pub(crate) fn read_properties(text: &[u8], at: usize, entries: &mut Entries) -> 
     requires short { length text.now ≤ MAX_LENGTH }
     requires within { at ≤ length text.now }
     requires room { length entries.old.values.items ≤ at }
-    ensures read { IfOk result (λ end. ArePropertiesRead text.now at end entries.old.properties.items entries.new.properties.items entries.old.values.items entries.new.values.items) }
+    ensures read { IfOk result (λ end. ReadsProperties text.now at end entries.old entries.new) }
     ensures nodes { entries.new.nodes ≡ entries.old.nodes }
-    ensures fault { IfErr result (λ fault. (n : Started) → n.properties ≡ [] → Reaches text.now at (in_node n) → IsTrueFault text.now fault) }
+    ensures fault { IfErr result (IsFaultInNode text.now at) }
 {
     let mut end = skip_white(text, at);
     'properties: while end < text.len() && text[end].is_ascii_uppercase() {
