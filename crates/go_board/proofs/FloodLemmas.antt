@@ -1,6 +1,6 @@
 -- proofs/FloodLemmas.antt
 -- A flood: what is marked reaches the colour, and once each point found has been dealt with, what reaches it is marked.
-use Rattle.std.proofs.Common.{◌≡◌, ◌⊎◌, inl, inr, ℕ, zero, suc, ◌+◌, ◌*◌, ◌<◌, ◌≤◌, Bool, true, false, cond, ◌||◌, Option, Some, None, List, [], ◌∷◌, ◌++◌, length, get_or, drop, drop_of_length-le, set, replicate, refl, sym, ap, ◌∙◌, subst, arith, below_more, IsTrue, Decides}
+use Rattle.std.proofs.Common.{◌≡◌, ◌⊎◌, inl, inr, ℕ, zero, suc, ◌+◌, ◌*◌, ◌<◌, ◌≤◌, Bool, true, false, cond, Option, Some, None, List, [], ◌∷◌, ◌++◌, length, get_or, drop, drop_of_length-le, set, replicate, refl, sym, ap, ◌∙◌, subst, arith, below_more, IsTrue, Decides}
 use Rattle.std.specs.List.{All}
 use Rattle.std.proofs.lemmas.List.Elements.{All-head, All-tail, All-from_get_or}
 use Rattle.std.proofs.lemmas.List.{length-set, length-replicate, length_push, get_or_push, get_or_append_left}
@@ -13,9 +13,9 @@ use Rattle.go_board.specs.declared.points.Point.{Point}
 use Rattle.go_board.specs.Colour.{same_cell}
 use Rattle.go_board.specs.Point.{IsOn, AreAdjacent, place_of, points}
 use Rattle.go_board.specs.Grid.{Grid, cell_at}
-use Rattle.go_board.specs.Marking.{Marking, is_marked}
+use Rattle.go_board.specs.Marking.{is_marked}
 use Rattle.go_board.specs.Reaching.{Leads, Reaches}
-use Rattle.go_board.specs.Search.{Searched, no_marks, nothing_found, with_mark, with_found}
+use Rattle.go_board.specs.Search.{Searched, nothing_found, with_mark, with_found}
 use Rattle.go_board.specs.Flood.{left_of, right_of, above, below, reaches_through, with_neighbour, with_neighbours, with_points, with_colour}
 use Rattle.go_board.proofs.PointLemmas.{origin, place_below, place_of-injective, point_at-place_of, IsOn-point_at, IsOn-place_below, length-points, get_or-points}
 use Rattle.go_board.proofs.GridLemmas.{Decides-same_cell}

@@ -1,6 +1,6 @@
 -- proofs/FrontLemmas.antt
 -- A grid and a marking as the front of an array, and what a write to the array does to them.
-use Rattle.std.proofs.Common.{◌≡◌, ℕ, ◌*◌, ◌<◌, ◌≤◌, Bool, true, false, List, take, set, replicate, sym, ap, ◌∙◌}
+use Rattle.std.proofs.Common.{◌≡◌, ℕ, ◌*◌, ◌<◌, ◌≤◌, Bool, true, false, List, take, set, replicate, ap, ◌∙◌}
 use Rattle.std.proofs.Math.Seq.{take-set-lt}
 use Rattle.std.proofs.lemmas.List.{take-replicate}
 use Rattle.go_board.specs.declared.stones.Cell.{Cell}

@@ -1,7 +1,7 @@
 -- proofs/GridLemmas.antt
 -- Reading the grids and markings that functions of the points make, and grids after a point was set.
-use Rattle.std.proofs.Common.{◌≡◌, ◌≢◌, ◌==◌, ℕ, ◌+◌, ◌*◌, ◌<◌, Bool, true, false, List, map, set, length, get_or, refl, sym, ap, ◌∙◌, arith, Decides}
-use Rattle.std.proofs.lemmas.List.{get_or_default, length-map, get_or-set_same, get_or-set_other, length-set}
+use Rattle.std.proofs.Common.{◌≡◌, ◌≢◌, ◌==◌, ℕ, ◌*◌, ◌<◌, Bool, false, List, length, get_or, refl, sym, ap, ◌∙◌, Decides}
+use Rattle.std.proofs.lemmas.List.{get_or_default, length-map, get_or-set_same, get_or-set_other}
 use Rattle.std.proofs.lemmas.Bool.{false≢true}
 use Rattle.std.proofs.lemmas.Bool.Decides.{Decides-eqb, same_from_decides}
 use denote.Enum.Bare.{sameb}
@@ -10,9 +10,9 @@ use Rattle.go_board.specs.declared.stones.Cell.{Cell}
 use Rattle.go_board.specs.declared.stones.Cell.TheVariants.{Black, White, Empty}
 use Rattle.go_board.specs.declared.points.Point.{Point}
 use Rattle.go_board.specs.Colour.{same_cell}
-use Rattle.go_board.specs.Point.{IsOn, place_of, point_at, points}
+use Rattle.go_board.specs.Point.{IsOn, place_of, points}
 use Rattle.go_board.specs.Grid.{Grid, cell_at, with_cell, grid_of}
-use Rattle.go_board.specs.Marking.{Marking, is_marked, marking_of}
+use Rattle.go_board.specs.Marking.{is_marked, marking_of}
 use Rattle.go_board.proofs.PointLemmas.{place_below, place_of-injective, length-points, get_or-map-points}
 
 pub Decides-same_cell : (a b : Cell) → Decides (same_cell a b) (a ≡ b)

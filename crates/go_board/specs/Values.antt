@@ -1,6 +1,6 @@
 -- specs/Values.antt
 -- The property values of SGF FF[4] that name points, and the vertices of GTP 2.
-use Rattle.std.specs.Prelude.{ℕ, ◌-◌, ◌+◌, Bool, ◌&&◌, ◌==◌, nat_lt, nat_le, if◌then◌else◌, Option, Some, None, option_and_then, List, [], ◌∷◌, slice_index, codes}
+use Rattle.std.specs.Prelude.{ℕ, ◌-◌, ◌+◌, ◌&&◌, ◌==◌, nat_lt, nat_le, if◌then◌else◌, Option, Some, None, option_and_then, List, [], ◌∷◌, slice_index, codes}
 use Rattle.go_board.specs.declared.points.Point.{Point}
 use Rattle.go_board.specs.declared.points.Rect.{Rect}
 use Rattle.go_board.specs.declared.points.Vertex.{Vertex}
@@ -27,12 +27,12 @@ rect_of ul lr =
     if nat_le ul.col lr.col && nat_le ul.row lr.row then Some (record { first = ul; last = lr }) else None
 
 -- the point of the board that a raw value names: two letters and nothing else
-abbrev pub point_value : List ℕ → ℕ → Option Point
+unfoldable pub point_value : List ℕ → ℕ → Option Point
 point_value (c ∷ r ∷ []) side = point_of side c r
 point_value _ side = None
 
 -- the rectangle of the board that a raw value names: a point alone, or two points with a `:` between them
-abbrev pub rect_value : List ℕ → ℕ → Option Rect
+unfoldable pub rect_value : List ℕ → ℕ → Option Rect
 rect_value (c ∷ r ∷ []) side = option_and_then (λ p. rect_of p p) (point_of side c r)
 rect_value (c ∷ r ∷ colon ∷ d ∷ s ∷ []) side =
     if colon == 58
@@ -45,5 +45,5 @@ abbrev pub column_letters : List ℕ
 column_letters = codes "ABCDEFGHJKLMNOPQRSTUVWXYZ"
 
 -- a point in GTP: the letter of its column, and its row counted from 1 from the bottom
-abbrev pub vertex_of : Point → ℕ → Vertex
+unfoldable pub vertex_of : Point → ℕ → Vertex
 vertex_of p side = record { letter = slice_index column_letters p.col; row = side - p.row }

@@ -1,5 +1,5 @@
 -- proofs/board/Board/clear/Answers.antt
-use Rattle.std.proofs.Common.{◌≡◌, ◌*◌, ◌≤◌, take, length, sym, ap, ◌∙◌, arith}
+use Rattle.std.proofs.Common.{◌*◌, ◌≤◌, take, length, ap, ◌∙◌, arith}
 use Rattle.go_board.specs.Colour.{stone_of}
 use Rattle.go_board.specs.Sweep.{all_cleared}
 use Rattle.go_board.proofs.SweepLemmas.{Marks, grid_in-clear}

@@ -1,9 +1,9 @@
 -- proofs/board/Board/reaching/Answers.antt
-use Rattle.std.proofs.Common.{◌≡◌, ℕ, ◌+◌, ◌*◌, ◌-◌, ◌<◌, IsTrue, sym, ap, ◌∙◌, subst, arith}
+use Rattle.std.proofs.Common.{◌≡◌, ◌+◌, ◌*◌, IsTrue, sym, ap, ◌∙◌, subst, arith}
 use Rattle.std.proofs.lemmas.Option.{get_or_from_slice_get, slice_get_within}
 use Rattle.go_board.specs.Point.{IsOn}
 use Rattle.go_board.specs.Grid.{cell_at}
-use Rattle.go_board.specs.Marking.{Marking, is_marked}
+use Rattle.go_board.specs.Marking.{is_marked}
 use Rattle.go_board.specs.Flood.{with_neighbours}
 use Rattle.go_board.proofs.PointLemmas.{origin}
 use Rattle.go_board.proofs.FloodLemmas.{IsUnderWay, IsUnderWay-with_colour, IsUnderWay-step, complete}

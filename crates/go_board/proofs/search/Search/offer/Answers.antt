@@ -1,5 +1,5 @@
 -- proofs/search/Search/offer/Answers.antt
-use Rattle.std.proofs.Common.{◌≡◌, ◌≤◌, ◌*◌, Bool, false, length, set, sym, ap, ◌∙◌, arith}
+use Rattle.std.proofs.Common.{◌≡◌, ◌≤◌, ◌*◌, false, length, sym, ap, ◌∙◌, arith}
 use Rattle.std.proofs.lemmas.List.{length-set}
 use Rattle.go_board.specs.Point.{IsOn}
 use Rattle.go_board.specs.Marking.{is_marked}
