@@ -3,3 +3,5 @@ pub mod PointLemmas
 pub mod GridLemmas
 pub mod ReachingLemmas
 pub mod RuleLemmas
+pub mod GroupLemmas
+pub mod SettledLemmas

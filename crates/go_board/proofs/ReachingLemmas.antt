@@ -36,7 +36,7 @@ Decides-reaching_within g k (suc n) p on =
             (Decides-or _ _ (Decides-same_cell _ _) (Decides-same_cell _ _))))))
 
 -- a step before a path that leads to k, from a point of the path's colour
-path_by_step : (g : Grid) (k : Cell) (p q : Point) → IsOn g.side p → AreAdjacent p q → IsOn g.side q → (cell_at g q ≡ cell_at g p) ⊎ (cell_at g q ≡ k) → Reaches g k q → Reaches g k p
+pub path_by_step : (g : Grid) (k : Cell) (p q : Point) → IsOn g.side p → AreAdjacent p q → IsOn g.side q → (cell_at g q ≡ cell_at g p) ⊎ (cell_at g q ≡ k) → Reaches g k q → Reaches g k p
 path_by_step g k p q on beside at (inl same) way =
     (q ∷ way.0, (on, refl, beside, subst (λ own. Leads g own k q way.0) same way.1))
 path_by_step g k p q on beside at (inr there) way = (q ∷ [], (on, refl, beside, (at, there)))
@@ -48,12 +48,12 @@ Reaches-Within g k (suc n) p on (inl before) = Reaches-Within g k n p on before
 Reaches-Within g k (suc n) p on (inr step) =
     path_by_step g k p step.0 on step.2.0 step.1 step.2.1.1 (Reaches-Within g k n step.0 step.1 step.2.1.0)
 
-Leads-on : (g : Grid) (own k : Cell) (p : Point) (path : List Point) → Leads g own k p path → IsOn g.side p
+pub Leads-on : (g : Grid) (own k : Cell) (p : Point) (path : List Point) → Leads g own k p path → IsOn g.side p
 Leads-on g own k p [] way = way.0
 Leads-on g own k p (q ∷ path) way = way.0
 
 -- the second point of a path has the path's colour or ends it
-Leads-next : (g : Grid) (own k : Cell) (q : Point) (path : List Point) → Leads g own k q path → (cell_at g q ≡ own) ⊎ (cell_at g q ≡ k)
+pub Leads-next : (g : Grid) (own k : Cell) (q : Point) (path : List Point) → Leads g own k q path → (cell_at g q ≡ own) ⊎ (cell_at g q ≡ k)
 Leads-next g own k q [] way = inr way.1
 Leads-next g own k q (r ∷ path) way = inl way.1
 
