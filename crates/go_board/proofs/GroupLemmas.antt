@@ -14,7 +14,7 @@ use Rattle.go_board.specs.Point.{IsOn, AreAdjacent, points, point_at}
 use Rattle.go_board.specs.Grid.{Grid, cell_at, grid_of}
 use Rattle.go_board.specs.Reaching.{Leads, Reaches, reaches}
 use Rattle.go_board.specs.Clearing.{cleared_cell, clear}
-use Rattle.go_board.specs.Groups.{IsDead}
+use Rattle.go_board.specs.Groups.{IsDead, LosesDead}
 use Rattle.go_board.proofs.PointLemmas.{is_map-points, length-points, get_or-map-points, place_of-point_at, IsOn-point_at}
 use Rattle.go_board.proofs.GridLemmas.{Decides-same_cell, cell_at-grid_of}
 use Rattle.go_board.proofs.ReachingLemmas.{Leads-on, Leads-next, Decides-reaches}
@@ -159,3 +159,15 @@ module _ (g : Grid) (k : Colour) (dead : Point → Bool) (group : IsDead g k dea
     pub clear-without : clear (record g { cells = cells }) k ≡ clear g k
     unfolding h clear
     clear-without = grid_of-same g.side (cleared_cell h k) (cleared_cell g k) cleared_same
+
+-- a grid that has lost a group without a liberty
+pub LosesDead-group : (g : Grid) (k : Colour) (dead : Point → Bool) → IsDead g k dead → (cells : List Cell) → length cells ≡ length g.cells → ((p : Point) → IsOn g.side p → IsTrue (dead p) → cell_at (record g { cells = cells }) p ≡ Empty) → ((p : Point) → IsOn g.side p → dead p ≡ false → cell_at (record g { cells = cells }) p ≡ cell_at g p) → LosesDead g (record g { cells = cells }) k
+LosesDead-group g k dead group cells all gone rest = record {
+  same_side = refl;
+  all = all;
+  taken = λ p on.
+    elim (cases_Bool (dead p))
+    [ inl there ↦ inr (gone p on there, group.stones p on there) | inr other ↦ inl (rest p on other) ];
+  still = λ p on way. reaches_still g k dead group cells gone rest p way;
+  cleared = clear-without g k dead group cells gone rest
+}

@@ -5,3 +5,4 @@ pub mod ReachingLemmas
 pub mod RuleLemmas
 pub mod GroupLemmas
 pub mod SettledLemmas
+pub mod MoveLemmas

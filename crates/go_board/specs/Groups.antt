@@ -1,6 +1,6 @@
 -- specs/Groups.antt
 -- Groups without liberties, and grids on which every stone reaches empty.
-use Rattle.std.specs.Prelude.{◌≡◌, ◌≢◌, ◌⊎◌, Bool, IsTrue}
+use Rattle.std.specs.Prelude.{◌≡◌, ◌≢◌, ◌⊎◌, Bool, IsTrue, length}
 use Rattle.go_board.specs.declared.stones.Cell.TheVariants.{Empty}
 use Rattle.go_board.specs.declared.stones.Colour.{Colour}
 use Rattle.go_board.specs.declared.points.Point.{Point}
@@ -22,3 +22,12 @@ pub record IsDead (g : Grid) (k : Colour) (dead : Point → Bool) : Type 0 where
 -- all stones of a colour reach empty
 abbrev pub AllReach : Grid → Colour → Type 0
 AllReach g k = (p : Point) → IsOn g.side p → cell_at g p ≡ stone_of k → Reaches g Empty p
+
+-- h is g without some stones of a colour: what reached empty still does, and clearing the colour gives the same grid
+pub record LosesDead (g h : Grid) (k : Colour) : Type 0 where
+  pub same_side : h.side ≡ g.side
+  pub all : length h.cells ≡ length g.cells
+  pub taken : (p : Point) → IsOn g.side p
+    → (cell_at h p ≡ cell_at g p) ⊎ ((cell_at h p ≡ Empty) × (cell_at g p ≡ stone_of k))
+  pub still : (p : Point) → IsOn g.side p → Reaches g Empty p → Reaches h Empty p
+  pub cleared : clear h k ≡ clear g k
