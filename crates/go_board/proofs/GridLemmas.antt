@@ -1,7 +1,10 @@
 -- proofs/GridLemmas.antt
 -- Reading the grids and markings that functions of the points make, and grids after a point was set.
 use Rattle.std.proofs.Common.{◌≡◌, ◌≢◌, ℕ, ◌+◌, ◌*◌, ◌<◌, Bool, true, false, List, map, set, length, get_or, refl, sym, ap, ◌∙◌, arith, Decides}
-use Rattle.std.proofs.lemmas.List.{ext_get_or, length-map, get_or-set_same, get_or-set_other, length-set}
+use Rattle.std.proofs.lemmas.List.{get_or_default, length-map, get_or-set_same, get_or-set_other, length-set}
+use Rattle.std.proofs.lemmas.Bool.Decides.{Decides-like, same_from_decides}
+use denote.Enum.Bare.{sameb}
+use Rattle.go_board.specs.contracts.stones.Cell.{the_type}
 use Rattle.go_board.specs.declared.stones.Cell.{Cell}
 use Rattle.go_board.specs.declared.stones.Cell.TheVariants.{Black, White, Empty}
 use Rattle.go_board.specs.declared.points.Point.{Point}
@@ -21,6 +24,34 @@ Decides-same_cell White Black = (λ h. cc, λ h. cc)
 Decides-same_cell White Empty = (λ h. cc, λ h. cc)
 Decides-same_cell Empty Black = (λ h. cc, λ h. cc)
 Decides-same_cell Empty White = (λ h. cc, λ h. cc)
+
+-- what `==` says of two cells
+pub Decides-cell_eq : (a b : Cell) → Decides (sameb the_type a b) (a ≡ b)
+Decides-cell_eq Black Black = (λ _. refl, λ _. refl)
+Decides-cell_eq White White = (λ _. refl, λ _. refl)
+Decides-cell_eq Empty Empty = (λ _. refl, λ _. refl)
+Decides-cell_eq Black White = (λ h. cc, λ h. cc)
+Decides-cell_eq Black Empty = (λ h. cc, λ h. cc)
+Decides-cell_eq White Black = (λ h. cc, λ h. cc)
+Decides-cell_eq White Empty = (λ h. cc, λ h. cc)
+Decides-cell_eq Empty Black = (λ h. cc, λ h. cc)
+Decides-cell_eq Empty White = (λ h. cc, λ h. cc)
+
+-- a cell of a list as long as the grid, read with any default
+pub cell_at-place : (g : Grid) (cells : List Cell) (i : ℕ) (d : Cell) (p : Point) → cells ≡ g.cells → i < length cells → place_of g.side p ≡ i → get_or cells i d ≡ cell_at g p
+cell_at-place g cells i d p same within at =
+    get_or_default cells i d Empty within ∙ ap (λ l. get_or l i Empty) same ∙ ap (λ j. get_or g.cells j Empty) (sym at)
+
+-- `==` on two cells is the test of the definitions
+pub same_cell-eq : (a b : Cell) → sameb the_type a b ≡ same_cell a b
+same_cell-eq a b = same_from_decides _ _ (Decides-cell_eq a b) (Decides-same_cell a b)
+
+same_grid : (a b : Grid) → a.side ≡ b.side → a.cells ≡ b.cells → a ≡ b
+same_grid a b e f = ap (λ s. record { side = s; cells = a.cells }) e ∙ ap (λ l. record { side = b.side; cells = l }) f
+
+-- two grids of one side are one where a test finds their cells to be
+pub Decides-same_grid : (a b : Grid) (r : Bool) → a.side ≡ b.side → Decides r (a.cells ≡ b.cells) → Decides r (a ≡ b)
+Decides-same_grid a b r e d = Decides-like r (same_grid a b e) (λ h. ap (λ g. g.cells) h) d
 
 pub cell_at-grid_of : (side : ℕ) (colour : Point → Cell) (p : Point) → IsOn side p → cell_at (grid_of side colour) p ≡ colour p
 cell_at-grid_of side colour p h = get_or-map-points colour side p Empty h

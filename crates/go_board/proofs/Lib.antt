@@ -6,3 +6,7 @@ pub mod RuleLemmas
 pub mod GroupLemmas
 pub mod SettledLemmas
 pub mod MoveLemmas
+pub mod FrontLemmas
+pub mod SearchLemmas
+pub mod NeighbourLemmas
+pub mod FloodLemmas

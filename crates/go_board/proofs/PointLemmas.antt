@@ -31,7 +31,7 @@ pub place_of-injective : (side : ℕ) (p q : Point) → IsOn side p → IsOn sid
 place_of-injective side p q hp hq e =
     sym (point_at-place_of side p hp) ∙ ap (point_at side) e ∙ point_at-place_of side q hq
 
-above_zero : (side i : ℕ) → i < side * side → 0 < side
+pub above_zero : (side i : ℕ) → i < side * side → 0 < side
 above_zero zero i h = absurd (omega arith)
 above_zero (suc n) i h = omega arith
 
@@ -41,6 +41,13 @@ IsOn-point_at side i h = let positive = above_zero side i h in (omega arith, gri
 
 pub place_of-point_at : (side i : ℕ) → i < side * side → place_of side (point_at side i) ≡ i
 place_of-point_at side i h = let positive = above_zero side i h in omega arith
+
+-- a point whose column and place are on the grid is on it
+pub IsOn-place_below : (side : ℕ) (p : Point) → p.col < side → place_of side p < side * side → IsOn side p
+IsOn-place_below side p col below =
+    let in_row = (IsOn-point_at side (place_of side p) below).1 in
+    let same = div-mul-add p.row side p.col col in
+    (col, omega (arith, in_row, same))
 
 pub length-points : (side : ℕ) → length (points side) ≡ side * side
 unfolding points

@@ -57,7 +57,7 @@ pub Leads-next : (g : Grid) (own k : Cell) (q : Point) (path : List Point) → L
 Leads-next g own k q [] way = inr way.1
 Leads-next g own k q (r ∷ path) way = inl way.1
 
-step_kind : (g : Grid) (own k : Cell) (p q : Point) (path : List Point) → Leads g own k p (q ∷ path) → (cell_at g q ≡ cell_at g p) ⊎ (cell_at g q ≡ k)
+pub step_kind : (g : Grid) (own k : Cell) (p q : Point) (path : List Point) → Leads g own k p (q ∷ path) → (cell_at g q ≡ cell_at g p) ⊎ (cell_at g q ≡ k)
 step_kind g own k p q path way =
     elim (Leads-next g own k q path way.3) [ inl same ↦ inl (same ∙ sym way.1) | inr there ↦ inr there ]
 

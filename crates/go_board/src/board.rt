@@ -6,6 +6,9 @@ use crate::search::Search;
 use crate::size::{MAX_POINTS, Size};
 use crate::steps::Steps;
 use crate::stones::{Cell, Colour};
+ghost use Rattle.std.specs.Prelude.{◌≡◌, replicate};
+ghost use Rattle.go_board.specs.declared.stones.Cell.TheVariants.{Empty};
+
 use std::marker::Model;
 
 /// A square board and what stands on its points.
@@ -27,6 +30,13 @@ impl Model for Board {
     ghost invariant = { λ b. (length b.cells ≡ MAX_POINTS) × (b.size * b.size ≤ MAX_POINTS) };
 }
 
+// The cells of the greatest board, on which nothing stands.
+fn nothing() -> [Cell; MAX_POINTS]
+    ensures { result ≡ replicate MAX_POINTS Empty }
+{
+    [Cell::Empty; MAX_POINTS]
+}
+
 impl Board {
     ghost use Rattle.std.specs.Prelude.{◌≡◌, ◌*◌, ◌+◌, ◌≤◌, ◌↔◌, IsTrue, length};
     ghost use Rattle.go_board.specs.declared.stones.Cell.TheVariants.{Empty};
@@ -43,9 +53,10 @@ impl Board {
     pub fn empty(size: Size) -> Board
         ensures { result ≡ empty_grid size }
     {
+        prove!(size.points() <= MAX_POINTS);
         Board {
             size,
-            cells: [Cell::Empty; MAX_POINTS],
+            cells: nothing(),
         }
     }
 
@@ -111,18 +122,6 @@ impl Board {
         ensures { self.new ≡ other.now }
     {
         self.set_cells(other.cells());
-    }
-
-    /// The points that reach a colour; points of that colour are among them. Adds one step for each point that is
-    /// marked, so at most the square of the side.
-    pub fn reaching(&self, target: Cell, steps: &mut Steps) -> Marks
-        requires { steps.old + self.now.side * self.now.side ≤ u64.MAX }
-        ensures side { result.side ≡ self.now.side }
-        ensures marks { (p : Point) → IsOn self.now.side p
-            → (IsTrue (is_marked result p) ↔ Reaches self.now target p) }
-        ensures steps { steps.new ≡ steps.old + marked_count result }
-    {
-        Marks::none(self.size)
     }
 
     /// Empties all points of a colour that don't reach empty, each tested on the board as it was.

@@ -12,6 +12,7 @@
 //! | `steps` | a count of work |
 //! | `search` | the worklist of a flood |
 //! | `board` | the board: reading, setting, moves, score |
+//! | `flood` | which points reach a colour |
 //! | `laws` | what the words of the contracts mean |
 //!
 //! A point *reaches* a colour where a path of adjacent points of the point's own colour leads from it to a point of
@@ -20,6 +21,7 @@
 #![tactic(auto)]
 
 mod board;
+mod flood;
 pub mod laws;
 mod marks;
 mod points;

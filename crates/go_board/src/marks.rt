@@ -1,6 +1,6 @@
 //! A set of points of a board.
 
-ghost use Rattle.std.specs.Prelude.{◌≡◌, ◌<◌, ◌≤◌, ◌*◌};
+ghost use Rattle.std.specs.Prelude.{◌≡◌, false, replicate};
 
 use crate::points::Point;
 use crate::size::{MAX_POINTS, Size};
@@ -25,6 +25,13 @@ impl Model for Marks {
     ghost invariant = { λ m. (length m.marked ≡ MAX_POINTS) × (m.size * m.size ≤ MAX_POINTS) };
 }
 
+// The marks of the greatest board, none of them set.
+fn unmarked() -> [bool; MAX_POINTS]
+    ensures { result ≡ replicate MAX_POINTS false }
+{
+    [false; MAX_POINTS]
+}
+
 impl Marks {
     ghost use Rattle.go_board.specs.Point.{IsOn};
     ghost use Rattle.go_board.specs.Marking.{is_marked};
@@ -34,9 +41,10 @@ impl Marks {
     pub(crate) fn none(size: Size) -> Marks
         ensures { result ≡ no_marks size }
     {
+        prove!(size.points() <= MAX_POINTS);
         Marks {
             size,
-            marked: [false; MAX_POINTS],
+            marked: unmarked(),
         }
     }
 

@@ -1,7 +1,8 @@
 //! Points, rectangles, vertices, moves and setup operations, as plain data.
 
-ghost use Rattle.std.specs.Prelude.{◌≡◌, ◌<◌, ◌*◌, MatchOption};
+ghost use Rattle.std.specs.Prelude.{◌≡◌, ◌<◌, ◌*◌, ◌+◌, ℕ, IfSome};
 ghost use Rattle.go_board.specs.Point.{IsOn, place_of};
+ghost use Rattle.go_board.specs.Flood.{left_of, right_of, above, below};
 
 use crate::size::Size;
 use crate::stones::Cell;
@@ -22,6 +23,88 @@ impl Point {
         ensures within { result < size * size }
     {
         usize::from(self.row) * usize::from(size.side()) + usize::from(self.col)
+    }
+
+    /// The next point in a list that goes row by row from the top, from left to right; after the last point of the board
+    /// the first of the row behind it.
+    pub(crate) fn following(self, size: Size) -> Point
+        requires { (self.col < size) × (self.row < size) }
+        ensures value { place_of size result ≡ place_of size self + 1 }
+        ensures in_columns { result.col < size }
+    {
+        if self.col + 1 < size.side() {
+            Point {
+                col: self.col + 1,
+                row: self.row,
+            }
+        } else {
+            Point {
+                col: 0,
+                row: self.row + 1,
+            }
+        }
+    }
+
+    /// The point to the left.
+    pub(crate) fn left(self) -> Option<Point>
+        ensures value { result ≡ left_of self }
+        ensures on_board { (side : ℕ) → IsOn side self → IfSome result (IsOn side) }
+    {
+        if self.col > 0 {
+            Some(Point {
+                col: self.col - 1,
+                row: self.row,
+            })
+        } else {
+            None
+        }
+    }
+
+    /// The point to the right, on a board of that size.
+    pub(crate) fn right(self, size: Size) -> Option<Point>
+        requires { IsOn size self }
+        ensures value { result ≡ right_of size self }
+        ensures on_board { IfSome result (IsOn size) }
+    {
+        if self.col + 1 < size.side() {
+            Some(Point {
+                col: self.col + 1,
+                row: self.row,
+            })
+        } else {
+            None
+        }
+    }
+
+    /// The point above.
+    pub(crate) fn above(self) -> Option<Point>
+        ensures value { result ≡ above self }
+        ensures on_board { (side : ℕ) → IsOn side self → IfSome result (IsOn side) }
+    {
+        if self.row > 0 {
+            Some(Point {
+                col: self.col,
+                row: self.row - 1,
+            })
+        } else {
+            None
+        }
+    }
+
+    /// The point below, on a board of that size.
+    pub(crate) fn below(self, size: Size) -> Option<Point>
+        requires { IsOn size self }
+        ensures value { result ≡ below size self }
+        ensures on_board { IfSome result (IsOn size) }
+    {
+        if self.row + 1 < size.side() {
+            Some(Point {
+                col: self.col,
+                row: self.row + 1,
+            })
+        } else {
+            None
+        }
     }
 }
 

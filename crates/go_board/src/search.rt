@@ -63,6 +63,7 @@ impl Search {
     pub fn take_one(&mut self) -> Option<Point>
         ensures next { IfSome result (λ p. slice_get self.old.found self.old.taken ≡ Some p) }
         ensures on_grid { IfSome result (λ p. IsOn self.old.marking.side p) }
+        ensures marked { IfSome result (λ p. IsTrue (is_marked self.old.marking p)) }
         ensures taken { IfSome result (λ _. self.new ≡ record self.old { taken = self.old.taken + 1 }) }
         ensures within { IfSome result (λ _. self.old.taken < self.old.marking.side * self.old.marking.side) }
         ensures all_taken { IfNone result (length self.old.found ≡ self.old.taken) }

@@ -1,0 +1,40 @@
+-- proofs/FrontLemmas.antt
+-- A grid and a marking as the front of an array, and what a write to the array does to them.
+use Rattle.std.proofs.Common.{◌≡◌, ℕ, ◌*◌, ◌<◌, ◌≤◌, Bool, true, false, List, take, set, replicate, sym, ap, ◌∙◌}
+use Rattle.std.proofs.Math.Seq.{take-set-lt}
+use Rattle.std.proofs.lemmas.List.{take-replicate}
+use Rattle.go_board.specs.declared.stones.Cell.{Cell}
+use Rattle.go_board.specs.declared.points.Point.{Point}
+use Rattle.go_board.specs.Point.{place_of}
+use Rattle.go_board.specs.Grid.{Grid, with_cell, empty_grid}
+use Rattle.go_board.specs.Marking.{Marking}
+use Rattle.go_board.specs.Search.{no_marks, with_mark}
+use Rattle.go_board.specs.declared.stones.Cell.TheVariants.{Empty}
+
+-- the grid that the front of an array holds
+abbrev pub grid_in : ℕ → List Cell → Grid
+grid_in side cells = record { side = side; cells = take (side * side) cells }
+
+pub grid_in-set : (side : ℕ) (cells : List Cell) (g : Grid) (p : Point) (c : Cell) (i : ℕ) → grid_in side cells ≡ g → i ≡ place_of side p → i < side * side → grid_in side (set cells i c) ≡ with_cell g p c
+grid_in-set side cells g p c i is at below =
+    ap (λ l. record { side = side; cells = l }) (take-set-lt (side * side) cells i c below)
+    ∙ ap (λ j. record { side = side; cells = set (take (side * side) cells) j c }) at
+    ∙ ap (λ h. with_cell h p c) is
+
+pub grid_in-replicate : (side n : ℕ) (cells : List Cell) → cells ≡ replicate n Empty → side * side ≤ n → grid_in side cells ≡ empty_grid side
+grid_in-replicate side n cells is fits =
+    ap (grid_in side) is ∙ ap (λ l. record { side = side; cells = l }) (take-replicate (side * side) n Empty fits)
+
+-- the marking that the front of an array holds
+abbrev pub marking_in : ℕ → List Bool → Marking
+marking_in side marks = record { side = side; marks = take (side * side) marks }
+
+pub marking_in-set : (side : ℕ) (marks : List Bool) (m : Marking) (p : Point) (i : ℕ) → marking_in side marks ≡ m → i ≡ place_of side p → i < side * side → marking_in side (set marks i true) ≡ with_mark m p
+marking_in-set side marks m p i is at below =
+    ap (λ l. record { side = side; marks = l }) (take-set-lt (side * side) marks i true below)
+    ∙ ap (λ j. record { side = side; marks = set (take (side * side) marks) j true }) at
+    ∙ ap (λ h. with_mark h p) is
+
+pub marking_in-replicate : (side n : ℕ) (marks : List Bool) → marks ≡ replicate n false → side * side ≤ n → marking_in side marks ≡ no_marks side
+marking_in-replicate side n marks is fits =
+    ap (marking_in side) is ∙ ap (λ l. record { side = side; marks = l }) (take-replicate (side * side) n false fits)
