@@ -1,4 +1,4 @@
--- proofs/board/Board/reaching/Answers.antt
+-- proofs/board/Board/flood/Answers.antt
 use Rattle.std.proofs.Common.{◌≡◌, ℕ, ◌+◌, ◌*◌, ◌-◌, ◌<◌, IsTrue, sym, ap, ◌∙◌, subst, arith}
 use Rattle.std.proofs.lemmas.Option.{get_or_from_slice_get, slice_get_within}
 use Rattle.go_board.specs.Point.{IsOn}
@@ -7,10 +7,11 @@ use Rattle.go_board.specs.Marking.{Marking, is_marked}
 use Rattle.go_board.specs.Flood.{with_neighbours}
 use Rattle.go_board.proofs.PointLemmas.{origin}
 use Rattle.go_board.proofs.FloodLemmas.{IsUnderWay, IsUnderWay-with_colour, IsUnderWay-step, complete}
-use Rattle.go_board.proofs.board.Board.reaching.Goals as goal
+use Rattle.go_board.proofs.board.Board.flood.Given.{Over}
+use Rattle.go_board.proofs.board.Board.flood.Goals as goal
 
 pub loop-point-init : goal.loop-point-init
-loop-point-init c =
+loop-point-init r c =
     let g = c.args.self.now in
     let begun = IsUnderWay-with_colour g c.args.target in
     record {
@@ -19,8 +20,8 @@ loop-point-init c =
     }
 
 -- the search once the point that was taken is dealt with
-after_spread : (c : goal.After-spread) → IsUnderWay c.args.self.now c.args.target c.spread.new.search × (c.spread.new.search.taken ≡ c.loop-point.search.taken + 1)
-after_spread c =
+after_spread : (r : Over) (c : goal.After-spread r) → IsUnderWay c.args.self.now c.args.target c.spread.new.search × (c.spread.new.search.taken ≡ c.loop-point.search.taken + 1)
+after_spread r c =
     let g = c.args.self.now in
     let k = c.args.target in
     let s = c.loop-point.search in
@@ -35,21 +36,21 @@ after_spread c =
     subst (λ t. IsUnderWay g k t × (t.taken ≡ s.taken + 1)) (sym spread) step
 
 pub loop-point-smaller : goal.loop-point-smaller
-loop-point-smaller c =
+loop-point-smaller r c =
     let s = c.loop-point.search in
     let sides = ap (λ n. n * n) c.loop-point.invariant.way.flood.same_side in
-    omega (arith, (after_spread c).1, c.in-Some.ensures.within, sides)
+    omega (arith, (after_spread r c).1, c.in-Some.ensures.within, sides)
 
 pub loop-point-preserved : goal.loop-point-preserved
-loop-point-preserved c =
-    let next = after_spread c in
+loop-point-preserved r c =
+    let next = after_spread r c in
     record {
       way = next.0;
       counted = omega (arith, c.tick.ensures, c.loop-point.invariant.counted, next.1)
     }
 
 pub returns-clause-marks : goal.returns-clause-marks
-returns-clause-marks c = λ p on.
+returns-clause-marks r c = λ p on.
     let g = c.args.self.now in
     let k = c.args.target in
     let s = c.loop-point.search in
