@@ -10,3 +10,4 @@ pub mod FrontLemmas
 pub mod SearchLemmas
 pub mod NeighbourLemmas
 pub mod FloodLemmas
+pub mod ColourFloodLemmas

@@ -10,7 +10,7 @@ use Rattle.go_board.specs.Search.{nothing_found, with_found}
 use Rattle.go_board.specs.Flood.{with_points, with_colour}
 use Rattle.go_board.proofs.PointLemmas.{above_zero}
 use Rattle.go_board.proofs.GridLemmas.{cell_at-place, same_cell-eq}
-use Rattle.go_board.proofs.FloodLemmas.{with_points-step, with_points-all}
+use Rattle.go_board.proofs.ColourFloodLemmas.{with_points-step, with_points-all}
 use Rattle.go_board.proofs.board.Board.search_from.Goals as goal
 use Rattle.go_board.proofs.board.Board.search_from.Goals.{then-eq, else-eq}
 
