@@ -17,6 +17,7 @@ use Rattle.go_board.specs.Clearing.{cleared_cell, clear}
 use Rattle.go_board.specs.Groups.{IsDead, LosesDead}
 use Rattle.go_board.proofs.PointLemmas.{is_map-points, length-points, get_or-map-points, place_of-point_at, IsOn-point_at}
 use Rattle.go_board.proofs.GridLemmas.{Decides-same_cell, cell_at-grid_of}
+use Rattle.go_board.proofs.NeighbourLemmas.{AreAdjacent-sym}
 use Rattle.go_board.proofs.ReachingLemmas.{Leads-on, Leads-next, Decides-reaches}
 use Rattle.go_board.proofs.RuleLemmas.{emptied, kept, others_kept}
 
@@ -34,12 +35,6 @@ stone_of≢Empty White = λ e. cc
 pub Reaches-Leads : (g : Grid) (own k : Cell) (p : Point) (path : List Point) → Leads g own k p path → Reaches g k p
 Reaches-Leads g own k p [] way = ([], way)
 Reaches-Leads g own k p (q ∷ path) way = (q ∷ path, subst (λ c. Leads g c k p (q ∷ path)) (sym way.1) way)
-
-pub adjacent_back : (p q : Point) → AreAdjacent p q → AreAdjacent q p
-adjacent_back p q (inl (c, inl r)) = inl (sym c, inr r)
-adjacent_back p q (inl (c, inr r)) = inl (sym c, inl r)
-adjacent_back p q (inr (c, inl r)) = inr (sym c, inr r)
-adjacent_back p q (inr (c, inr r)) = inr (sym c, inl r)
 
 -- grids made by functions that agree on the points of the grid are one
 pub grid_of-same : (side : ℕ) (f h : Point → Cell) → ((p : Point) → IsOn side p → f p ≡ h p) → grid_of side f ≡ grid_of side h
@@ -110,7 +105,7 @@ module _ (g : Grid) (k : Colour) (dead : Point → Bool) (group : IsDead g k dea
         (way.0, own, way.2,
           path_was path q
           (elim (cases_Bool (dead q))
-            [ inl there ↦ absurd (true≢false (sym (group.whole q p next way.0 (adjacent_back p q way.2) there own) ∙ other))
+            [ inl there ↦ absurd (true≢false (sym (group.whole q p next way.0 (AreAdjacent-sym p q way.2) there own) ∙ other))
             | inr not_there ↦ not_there
             ])
           way.3)

@@ -14,10 +14,11 @@ use Rattle.go_board.specs.Point.{IsOn, AreAdjacent, place_of}
 use Rattle.go_board.specs.Grid.{Grid, cell_at, with_cell}
 use Rattle.go_board.specs.Reaching.{Leads, Reaches}
 use Rattle.go_board.specs.Clearing.{clear, play, has_unreaching}
-use Rattle.go_board.specs.Groups.{IsDead, AllReach, LosesDead}
+use Rattle.go_board.specs.Groups.{AllReach, ReachBeside, ReachesIfStone, LosesDead}
 use Rattle.go_board.proofs.GridLemmas.{cell_at-with_cell, cell_at-with_cell_elsewhere}
 use Rattle.go_board.proofs.ReachingLemmas.{Leads-on, Leads-next, path_by_step}
-use Rattle.go_board.proofs.GroupLemmas.{stone_of≢Empty, adjacent_back, clear-without, reaches_still}
+use Rattle.go_board.proofs.NeighbourLemmas.{AreAdjacent-sym}
+use Rattle.go_board.proofs.GroupLemmas.{stone_of≢Empty}
 use Rattle.go_board.proofs.SettledLemmas.{clear-AllReach, AllReach-settled}
 
 opponent_differs : (k : Colour) → stone_of k ≢ stone_of (opponent k)
@@ -91,7 +92,7 @@ module _ (g : Grid) (cells : List Cell) (p : Point) (k : Colour) (fewer : (r : P
   follow (r ∷ path) q way own =
       let at : IsOn g.side r = Leads-on g (stone_of k) Empty r path way.3 in
       elim (same_or_not r p)
-      [ inl same ↦ beside q way.0 (adjacent_back q p (subst (λ s. AreAdjacent q s) same way.2)) own
+      [ inl same ↦ beside q way.0 (AreAdjacent-sym q p (subst (λ s. AreAdjacent q s) same way.2)) own
       | inr other ↦
         elim (fewer r at other)
         [ inl free ↦ step_to_empty q r way.0 way.2 at free
@@ -118,13 +119,6 @@ module _ (g : Grid) (cells : List Cell) (p : Point) (k : Colour) (fewer : (r : P
             follow way.0 q (subst (λ c. Leads g c Empty q way.0) stone way.1) own
           ]
         ]
-
--- all stones of a colour that are beside p, or on it, reach empty
-abbrev pub ReachBeside : Grid → Colour → Point → Type 0
-ReachBeside h k p = (q : Point) → IsOn h.side q → AreAdjacent p q → cell_at h q ≡ stone_of k → Reaches h Empty q
-
-abbrev pub ReachesIfStone : Grid → Colour → Point → Type 0
-ReachesIfStone h k p = cell_at h p ≡ stone_of k → Reaches h Empty p
 
 -- A stone is played on a grid where every stone reaches empty; then the opponent's dead groups are taken, and the own one.
 module _ (g : Grid) (p : Point) (k : Colour) (on : IsOn g.side p) (all : length g.cells ≡ g.side * g.side) (settled : has_unreaching g ≡ false) where
@@ -178,8 +172,8 @@ module _ (g : Grid) (p : Point) (k : Colour) (on : IsOn g.side p) (all : length 
       own_beside = λ q at next stone.
           elim (second.taken p on)
           [ inl same ↦
-            path_by_step left Empty q p at (adjacent_back p q next) on (inl (same ∙ stone_stays ∙ sym stone)) (own (same ∙ stone_stays))
-          | inr gone ↦ (p ∷ [], (at, refl, adjacent_back p q next, (on, gone.0)))
+            path_by_step left Empty q p at (AreAdjacent-sym p q next) on (inl (same ∙ stone_stays ∙ sym stone)) (own (same ∙ stone_stays))
+          | inr gone ↦ (p ∷ [], (at, refl, AreAdjacent-sym p q next, (on, gone.0)))
           ]
 
       pub is_play : record g { cells = rest } ≡ play g k p

@@ -13,6 +13,7 @@
 //! | `search` | the worklist of a flood |
 //! | `board` | the board: reading, setting, moves, score |
 //! | `flood` | which points reach a colour |
+//! | `capture` | taking groups without a liberty, one at a time |
 //! | `laws` | what the words of the contracts mean |
 //!
 //! A point *reaches* a colour where a path of adjacent points of the point's own colour leads from it to a point of
@@ -21,6 +22,7 @@
 #![tactic(auto)]
 
 mod board;
+mod capture;
 mod flood;
 pub mod laws;
 mod marks;

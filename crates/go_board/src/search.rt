@@ -29,7 +29,7 @@ impl<const N: usize> Model for Search<N> {
 }
 
 impl<const N: usize> Search<N> {
-    ghost use Rattle.std.specs.Prelude.{◌≡◌, ◌*◌, ◌<◌, ◌≤◌, ◌+◌, ◌↔◌, IsTrue, IfSome, IfNone, Some, slice_get, length};
+    ghost use Rattle.std.specs.Prelude.{◌≡◌, ◌*◌, ◌<◌, ◌≤◌, ◌+◌, ◌↔◌, IsTrue, IfSome, IfNone, Some, All, slice_get, length};
     ghost use Rattle.go_board.specs.Point.{IsOn};
     ghost use Rattle.go_board.specs.Marking.{is_marked, marked_count};
     ghost use Rattle.go_board.specs.Search.{nothing_found, with_found, HasRoom};
@@ -84,6 +84,15 @@ impl<const N: usize> Search<N> {
         let point = self.points[self.taken];
         self.taken += 1;
         Some(point)
+    }
+
+    /// The points found, in the order they were found.
+    pub fn found(&self) -> &[Point]
+        ensures points { result.now ≡ self.now.found }
+        ensures on_grid { All (IsOn self.now.marking.side) result.now }
+        ensures marked { All (λ p. IsTrue (is_marked self.now.marking p)) result.now }
+    {
+        &self.points[..self.filled]
     }
 
     /// The points found, as a set.
