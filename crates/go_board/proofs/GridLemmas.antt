@@ -46,7 +46,7 @@ cell_at-place g cells i d p same within at =
 pub same_cell-eq : (a b : Cell) → sameb the_type a b ≡ same_cell a b
 same_cell-eq a b = same_from_decides _ _ (Decides-cell_eq a b) (Decides-same_cell a b)
 
-same_grid : (a b : Grid) → a.side ≡ b.side → a.cells ≡ b.cells → a ≡ b
+pub same_grid : (a b : Grid) → a.side ≡ b.side → a.cells ≡ b.cells → a ≡ b
 same_grid a b e f = ap (λ s. record { side = s; cells = a.cells }) e ∙ ap (λ l. record { side = b.side; cells = l }) f
 
 -- two grids of one side are one where a test finds their cells to be

@@ -11,3 +11,4 @@ pub mod SearchLemmas
 pub mod NeighbourLemmas
 pub mod FloodLemmas
 pub mod ColourFloodLemmas
+pub mod SweepLemmas

@@ -69,9 +69,9 @@ pub is_map-points : {X : Type 0} (f : Point → X) (side : ℕ) (xs : List X) (d
 is_map-points f side xs d same each =
     ext_get_or d xs (map f (points side)) (same ∙ sym (length-map (points side) f ∙ length-points side))
     (λ i h.
-      let below : i < side * side = rw (← same) h in
-      let within : i < length (points side) = rw length-points below in
-      each i below ∙ ap f (sym (get_or-points side i below)) ∙ sym (get_or-map f (points side) i origin d within))
+    let below : i < side * side = rw (← same) h in
+    let within : i < length (points side) = rw length-points below in
+    each i below ∙ ap f (sym (get_or-points side i below)) ∙ sym (get_or-map f (points side) i origin d within))
 
 -- the index of an element that passes a test
 FoundAt : {X : Type 0} → (X → Bool) → X → List X → Type 0
@@ -89,18 +89,18 @@ found_at test d (x ∷ xs) h = found_at-cons test d x xs (test x) refl h (found_
 -- a test of some point, where the test of each point decides a fact
 pub Decides-some_point : (side : ℕ) (test : Point → Bool) (P : Point → Type 0) → ((q : Point) → IsOn side q → Decides (test q) (P q)) → Decides (list_any test (points side)) ((q : Point) × IsOn side q × P q)
 unfolding FoundAt
-Decides-some_point side test P each =
-    ( λ h.
-        let found = found_at test origin (points side) h in
-        let below : found.0 < side * side = rw (← length-points side) found.1 in
-        let on = IsOn-point_at side found.0 below in
-        (point_at side found.0, on, (each _ on).0 (ap test (sym (get_or-points side found.0 below)) ∙ found.2))
-    , λ w.
-        let below = place_below side w.0 w.1 in
-        let within : place_of side w.0 < length (points side) = rw length-points below in
-        list_any_at test (points side) (place_of side w.0) origin within
-        (ap test (get_or-points side _ below ∙ point_at-place_of side w.0 w.1) ∙ (each w.0 w.1).1 w.2)
-    )
+Decides-some_point side test P each = (
+  λ h.
+      let found = found_at test origin (points side) h in
+      let below : found.0 < side * side = rw (← length-points side) found.1 in
+      let on = IsOn-point_at side found.0 below in
+      (point_at side found.0, on, (each _ on).0 (ap test (sym (get_or-points side found.0 below)) ∙ found.2)),
+  λ w.
+      let below = place_below side w.0 w.1 in
+      let within : place_of side w.0 < length (points side) = rw length-points below in
+      list_any_at test (points side) (place_of side w.0) origin within
+      (ap test (get_or-points side _ below ∙ point_at-place_of side w.0 w.1) ∙ (each w.0 w.1).1 w.2),
+)
 
 pub Decides-are_adjacent : (p q : Point) → Decides (are_adjacent p q) (AreAdjacent p q)
 Decides-are_adjacent p q =

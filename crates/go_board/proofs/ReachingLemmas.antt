@@ -29,11 +29,11 @@ Decides-reaching_within g k (suc n) p on =
     let m = reaching_within g k n in
     Decides-at _ _ (is_marked-marking_of g.side _ p on)
     (Decides-or _ _ (Decides-reaching_within g k n p on)
-      (Decides-some_point g.side (leads_on g k m p) _
-        (λ q at.
-          Decides-and _ _ (Decides-are_adjacent p q)
-          (Decides-and _ _ (Decides-reaching_within g k n q at)
-            (Decides-or _ _ (Decides-same_cell _ _) (Decides-same_cell _ _))))))
+    (Decides-some_point g.side (leads_on g k m p) _
+    (λ q at.
+    Decides-and _ _ (Decides-are_adjacent p q)
+    (Decides-and _ _ (Decides-reaching_within g k n q at)
+    (Decides-or _ _ (Decides-same_cell _ _) (Decides-same_cell _ _))))))
 
 -- a step before a path that leads to k, from a point of the path's colour
 pub path_by_step : (g : Grid) (k : Cell) (p q : Point) → IsOn g.side p → AreAdjacent p q → IsOn g.side q → (cell_at g q ≡ cell_at g p) ⊎ (cell_at g q ≡ k) → Reaches g k q → Reaches g k p
@@ -130,7 +130,7 @@ module _ (g : Grid) (k : Cell) where
       let p = point_at g.side i in
       sym (at_place (suc n) i below)
       ∙ (Decides-reaching_within g k (suc n) p on).1
-        (inl ((Decides-reaching_within g k n p on).0 (at_place n i below ∙ h)))
+      (inl ((Decides-reaching_within g k n p on).0 (at_place n i below ∙ h)))
 
   -- a round that adds nothing, or more marks than rounds
   Settles : ℕ → Type 0
@@ -148,18 +148,18 @@ module _ (g : Grid) (k : Cell) where
   unfolding Settles reaching_within
   settles zero = elim (compared zero) [ inl same ↦ inl (settled_by zero same) | inr more ↦ inr (omega arith) ]
   settles (suc n) =
-      elim (settles n)
-      [ inl done ↦ inl (ap (spread g k) done)
-      | inr many ↦ elim (compared (suc n)) [ inl same ↦ inl (settled_by (suc n) same) | inr more ↦ inr (omega arith) ]
+      elim (settles n) [
+        | inl done ↦ inl (ap (spread g k) done)
+        | inr many ↦ elim (compared (suc n)) [ inl same ↦ inl (settled_by (suc n) same) | inr more ↦ inr (omega arith) ]
       ]
 
   settled : reaching_within g k (suc (g.side * g.side)) ≡ reaching_within g k (g.side * g.side)
   unfolding Settles
   settled =
       let all = g.side * g.side in
-      elim (settles all)
-      [ inl done ↦ done
-      | inr many ↦ absurd (omega (arith, count_by-le-length (λ b. b) (marks_after (suc all)), length-marks_after (suc all)))
+      elim (settles all) [
+        | inl done ↦ done
+        | inr many ↦ absurd (omega (arith, count_by-le-length (λ b. b) (marks_after (suc all)), length-marks_after (suc all)))
       ]
 
   from_colour : (n : ℕ) (p : Point) → cell_at g p ≡ k → Within g k n p

@@ -62,7 +62,7 @@ unfolding has_unreaching
 Decides-has_unreaching g =
     Decides-like _ (λ w. (w.0, w.1, w.2.0, w.2.1)) (λ w. (w.0, w.1, (w.2, w.3)))
     (Decides-some_point g.side _ _
-      (λ p on. Decides-and _ _ (Decides-not _ (Decides-same_cell _ _)) (Decides-not _ (Decides-reaches g Empty p on))))
+    (λ p on. Decides-and _ _ (Decides-not _ (Decides-same_cell _ _)) (Decides-not _ (Decides-reaches g Empty p on))))
 
 Decides-all_three : {P Q R : Type 0} (x y z : Bool) → Decides x P → Decides y Q → Decides z R → Decides (x && (y && z)) (P × Q × R)
 Decides-all_three x y z p q r =
@@ -73,4 +73,4 @@ unfolding counts_for
 Decides-counts_for g k p on =
     Decides-or _ _ (Decides-same_cell _ _)
     (Decides-all_three _ _ _ (Decides-same_cell _ _) (Decides-reaches g (stone_of k) p on)
-      (Decides-not _ (Decides-reaches g (stone_of (opponent k)) p on)))
+    (Decides-not _ (Decides-reaches g (stone_of (opponent k)) p on)))

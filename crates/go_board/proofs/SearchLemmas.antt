@@ -40,25 +40,30 @@ pub IsSound-with_mark : (s : Searched) (p : Point) → IsSound s → IsOn s.mark
 IsSound-with_mark s p sound on not_yet = record {
   all_marks = length-set s.marking.marks (place_of s.marking.side p) true ∙ sound.all_marks;
   counted =
-    marked_count-with_mark s.marking p sound.all_marks on not_yet
-    ∙ ap (λ n. n + 1) sound.counted ∙ sym (length_push s.found p);
+      marked_count-with_mark s.marking p sound.all_marks on not_yet
+      ∙ ap (λ n. n + 1) sound.counted ∙ sym (length_push s.found p);
   in_turn = omega (arith, sound.in_turn, length_push s.found p);
   on_grid = All-push (IsOn s.marking.side) s.found p sound.on_grid on;
   marked =
-    All-push (λ q. IsTrue (is_marked (with_mark s.marking p) q)) s.found p
-    (All-from_get_or (λ q. IsTrue (is_marked (with_mark s.marking p) q)) s.found origin
+      All-push (λ q. IsTrue (is_marked (with_mark s.marking p) q)) s.found p
+      (All-from_get_or (λ q. IsTrue (is_marked (with_mark s.marking p) q)) s.found origin
       (λ i h.
-        is_marked-with_mark_keeps s.marking p _
-        (All-get_or (λ q. IsTrue (is_marked s.marking q)) s.found i origin h sound.marked)))
-    (is_marked-with_mark s.marking p sound.all_marks on)
+      is_marked-with_mark_keeps s.marking p _
+      (All-get_or (λ q. IsTrue (is_marked s.marking q)) s.found i origin h sound.marked)))
+      (is_marked-with_mark s.marking p sound.all_marks on);
 }
 
 -- a point that isn't marked leaves room for one more
 pub room : (s : Searched) (p : Point) → IsSound s → IsOn s.marking.side p → is_marked s.marking p ≡ false → length s.found < s.marking.side * s.marking.side
 room s p sound on not_yet =
-    omega (arith, marked_count-with_mark s.marking p sound.all_marks on not_yet, sound.counted, sound.all_marks,
+    omega (
+      arith,
+      marked_count-with_mark s.marking p sound.all_marks on not_yet,
+      sound.counted,
+      sound.all_marks,
       length-set s.marking.marks (place_of s.marking.side p) true,
-      count_by-le-length (λ b. b) (with_mark s.marking p).marks)
+      count_by-le-length (λ b. b) (with_mark s.marking p).marks,
+    )
 
 -- the search that the front of an array holds
 abbrev pub searched_in : Marking → List Point → ℕ → ℕ → Searched

@@ -1,14 +1,12 @@
 //! The board: reading and setting points, moves and the score (Tromp-Taylor).
 
-use crate::marks::Marks;
-use crate::points::Point;
-use crate::search::Search;
-use crate::size::{MAX_POINTS, Size};
-use crate::steps::Steps;
-use crate::stones::{Cell, Colour};
 ghost use Rattle.std.specs.Prelude.{◌≡◌, replicate};
 ghost use Rattle.go_board.specs.declared.stones.Cell.TheVariants.{Empty};
 
+use crate::points::Point;
+use crate::size::{MAX_POINTS, Size};
+use crate::stones::{Cell, Colour};
+use crate::sweep;
 use std::marker::Model;
 
 /// A square board and what stands on its points.
@@ -126,9 +124,16 @@ impl Board {
 
     /// Empties all points of a colour that don't reach empty, each tested on the board as it was.
     pub fn clear(&mut self, colour: Colour)
-        ensures { self.new ≡ clear self.old colour }
+        ensures value { self.new ≡ clear self.old colour }
+        ensures side { self.new.side ≡ self.old.side }
     {
-        let _ = self.reaching(colour.stone(), &mut Steps::new());
+        let points = self.size.points();
+        let reaching = self.reached(Cell::Empty);
+        sweep::clear_all(
+            &mut self.cells[..points],
+            colour.stone(),
+            reaching.as_slice(),
+        );
     }
 
     /// The whole move: the point takes the player's colour, then the opponent's colour is cleared, then the player's
@@ -136,7 +141,8 @@ impl Board {
     pub fn place(&mut self, colour: Colour, point: Point)
         requires on_board { IsOn self.old.side point }
         requires empty { cell_at self.old point ≡ Empty }
-        ensures { self.new ≡ play self.old colour point }
+        ensures value { self.new ≡ play self.old colour point }
+        ensures side { self.new.side ≡ self.old.side }
     {
         self.set(point, colour.stone());
         self.clear(colour.opponent());
@@ -149,13 +155,29 @@ impl Board {
         ensures black { result.0 ≡ score_of self.now Black }
         ensures white { result.1 ≡ score_of self.now White }
     {
-        (0, 0)
+        let black = self.reached(Cell::Black);
+        let white = self.reached(Cell::White);
+        (
+            sweep::count(
+                self.cells(),
+                Cell::Black,
+                black.as_slice(),
+                white.as_slice(),
+            ),
+            sweep::count(
+                self.cells(),
+                Cell::White,
+                white.as_slice(),
+                black.as_slice(),
+            ),
+        )
     }
 
     /// Whether some stone doesn't reach empty. After a move none does; a setup can leave one.
     pub fn has_unreaching(&self) -> bool
         ensures { result ≡ has_unreaching self.now }
     {
-        false
+        let reaching = self.reached(Cell::Empty);
+        sweep::any_unreaching(self.cells(), reaching.as_slice())
     }
 }

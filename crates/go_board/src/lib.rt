@@ -14,6 +14,7 @@
 //! | `board` | the board: reading, setting, moves, score |
 //! | `flood` | which points reach a colour |
 //! | `capture` | taking groups without a liberty, one at a time |
+//! | `sweep` | passes over all points: clearing, counting |
 //! | `laws` | what the words of the contracts mean |
 //!
 //! A point *reaches* a colour where a path of adjacent points of the point's own colour leads from it to a point of
@@ -31,6 +32,7 @@ mod search;
 mod size;
 mod steps;
 mod stones;
+mod sweep;
 mod values;
 mod vertices;
 
@@ -42,3 +44,6 @@ pub use steps::Steps;
 pub use stones::{Cell, Colour};
 pub use values::{point, rect};
 pub use vertices::vertex;
+
+#[cfg(test)]
+mod tests;

@@ -33,6 +33,7 @@ fn unmarked() -> [bool; MAX_POINTS]
 }
 
 impl Marks {
+    ghost use Rattle.std.specs.Prelude.{◌*◌, length};
     ghost use Rattle.go_board.specs.Point.{IsOn};
     ghost use Rattle.go_board.specs.Marking.{is_marked};
     ghost use Rattle.go_board.specs.Search.{no_marks, with_mark};
@@ -61,6 +62,14 @@ impl Marks {
         ensures { self.new ≡ with_mark self.old point }
     {
         self.marked[point.place(self.size)] = true;
+    }
+
+    /// Whether each point is marked, row by row from the top, from left to right.
+    pub(crate) fn as_slice(&self) -> &[bool]
+        ensures marks { result.now ≡ self.now.marks }
+        ensures all { length result.now ≡ self.now.side * self.now.side }
+    {
+        &self.marked[..self.size.points()]
     }
 
     /// Whether a point of the board is marked.

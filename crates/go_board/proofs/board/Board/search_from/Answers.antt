@@ -23,7 +23,7 @@ loop-cell-init r c =
       remaining = ap (λ s. with_points g c.args.target (points g.side) s) found;
       at_place = omega arith;
       in_columns = λ h. above_zero g.side 0 h;
-      same_side = ap (λ s. s.marking.side) found
+      same_side = ap (λ s. s.marking.side) found;
     }
 
 pub loop-cell-preserved : goal.loop-cell-preserved
@@ -34,21 +34,21 @@ loop-cell-preserved r c =
     let within : l.cell-index < length items.result.now = c.loop-cell-test.true in
     let below : l.cell-index < g.side * g.side = omega (arith, within, items.ensures.all) in
     let tested =
-      ap (λ x. sameb the_type x c.args.target)
-      (cell_at-place g items.result.now l.cell-index Black l.point items.ensures.cells within l.invariant.at_place)
-      ∙ same_cell-eq (cell_at g l.point) c.args.target in
+    ap (λ x. sameb the_type x c.args.target)
+    (cell_at-place g items.result.now l.cell-index Black l.point items.ensures.cells within l.invariant.at_place)
+    ∙ same_cell-eq (cell_at g l.point) c.args.target in
     let found : c.if-eq.search ≡ cond (same_cell (cell_at g l.point) c.args.target) (with_found l.search l.point) l.search =
-      elim c.if-eq.branch
-      [ then-eq w ↦ w.search-is ∙ w.offer.ensures ∙ ap (λ b. cond b (with_found l.search l.point) l.search) (w.if-eq.ensures ∙ tested)
+    elim c.if-eq.branch [
+      | then-eq w ↦ w.search-is ∙ w.offer.ensures ∙ ap (λ b. cond b (with_found l.search l.point) l.search) (w.if-eq.ensures ∙ tested)
       | else-eq w ↦ w.search-is ∙ ap (λ b. cond b (with_found l.search l.point) l.search) (w.if-eq.ensures ∙ tested)
-      ] in
+    ] in
     let step = with_points-step g c.args.target l.cell-index l.point l.search c.if-eq.search below l.invariant.at_place (l.invariant.in_columns below) found in
     let next = c.following-point in
     record {
       remaining = step.0 ∙ l.invariant.remaining;
       at_place = rw c.size-in-loop-cell.ensures at next.ensures.value ∙ ap (λ n. n + 1) l.invariant.at_place;
       in_columns = λ _. rw c.size-in-loop-cell.ensures at next.ensures.in_columns;
-      same_side = step.1 ∙ l.invariant.same_side
+      same_side = step.1 ∙ l.invariant.same_side;
     }
 
 pub returns : goal.returns

@@ -9,5 +9,5 @@ invariant-loop-cell g l = record {
   remaining : with_points l.self l.target (drop l.cell-index (points l.self.side)) l.search ≡ with_colour l.self l.target;
   at_place : place_of l.self.side l.point ≡ l.cell-index;
   in_columns : l.cell-index < l.self.side * l.self.side → l.point.col < l.self.side;
-  same_side : l.search.marking.side ≡ l.self.side
+  same_side : l.search.marking.side ≡ l.self.side;
 }

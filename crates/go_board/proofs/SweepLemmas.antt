@@ -1,0 +1,154 @@
+-- proofs/SweepLemmas.antt
+-- Passes over the cells, as the rules' own words on points.
+use Rattle.std.proofs.Common.{◌≡◌, ℕ, ◌+◌, ◌*◌, ◌<◌, ◌≤◌, Bool, true, false, not, ◌&&◌, ◌||◌, cond, List, [], ◌∷◌, ◌++◌, map, length, get_or, take, set, subst, count_by, refl, sym, ap, ◌∙◌, arith, below_more, IsTrue, ◌↔◌}
+use Rattle.std.specs.List.{range_with_len, list_any}
+use Rattle.std.proofs.lemmas.List.{length-take-le, get_or_default, get_or-set_same, get_or-set_other}
+use Rattle.std.proofs.Math.Seq.{take-append_seam}
+use Rattle.std.proofs.lemmas.List.Elements.{All-from_get_or}
+use Rattle.std.proofs.lemmas.List.Folds.{list_any_at, list_any_none}
+use Rattle.std.proofs.lemmas.List.FromFn.{length-range_with_len, get_or-range_with_len, length-map-range_with_len, get_or-map-range_with_len, fill_by_all, sum_by-map-range_with_len_more}
+use Rattle.std.proofs.lemmas.List.Sums.{count_by-le-length, sum_by-cons}
+use Rattle.std.proofs.lemmas.Bool.Decides.{same_from_decides}
+use Rattle.go_board.specs.declared.stones.Cell.{Cell}
+use Rattle.go_board.specs.declared.stones.Cell.TheVariants.{Black, Empty}
+use Rattle.go_board.specs.declared.stones.Colour.{Colour}
+use Rattle.go_board.specs.declared.points.Point.{Point}
+use Rattle.go_board.specs.Colour.{opponent, stone_of, same_cell}
+use Rattle.go_board.specs.Point.{IsOn, place_of, point_at, points}
+use Rattle.go_board.specs.Grid.{Grid, cell_at}
+use Rattle.go_board.specs.Marking.{Marking, is_marked}
+use Rattle.go_board.specs.Reaching.{Reaches, reaches}
+use Rattle.go_board.specs.Clearing.{cleared_cell, clear, has_unreaching}
+use Rattle.go_board.specs.Score.{counts_for, score_of}
+use Rattle.go_board.specs.Sweep.{cleared, is_unreaching, counts, cell_in, mark_in, all_cleared, any_unreaching, count_of}
+use Rattle.go_board.proofs.PointLemmas.{IsOn-point_at, place_of-point_at, is_map-points}
+use Rattle.go_board.proofs.GridLemmas.{same_grid}
+use Rattle.go_board.proofs.FrontLemmas.{grid_in}
+use Rattle.go_board.proofs.RuleLemmas.{side-clear, length-clear}
+use Rattle.go_board.proofs.ReachingLemmas.{Decides-reaches}
+
+-- a cell more is cleared
+module _ (old now : List Cell) (stone : Cell) (marks : List Bool) (i : ℕ) (c : Cell) (within : i < length now) where
+  pub cleared_more : ((k : ℕ) → k < i → cell_in now k ≡ cleared (cell_in old k) stone (mark_in marks k)) → ((k : ℕ) → i ≤ k → cell_in now k ≡ cell_in old k) → c ≡ cleared (get_or now i Black) stone (mark_in marks i) → (k : ℕ) → k < i + 1 → cell_in (set now i c) k ≡ cleared (cell_in old k) stone (mark_in marks k)
+  cleared_more done left is =
+      below_more _ _
+      (λ k h. get_or-set_other now i k c Empty (omega arith) ∙ done k h)
+      (get_or-set_same now i c Empty within ∙ is
+      ∙ ap (λ x. cleared x stone (mark_in marks i)) (get_or_default now i Black Empty within ∙ left i (omega arith)))
+
+  pub left_more : ((k : ℕ) → i ≤ k → cell_in now k ≡ cell_in old k) → (k : ℕ) → i + 1 ≤ k → cell_in (set now i c) k ≡ cell_in old k
+  left_more left k h = get_or-set_other now i k c Empty (omega arith) ∙ left k (omega arith)
+
+pub is_all_cleared : (old now : List Cell) (stone : Cell) (marks : List Bool) → length now ≡ length old → ((k : ℕ) → k < length old → cell_in now k ≡ cleared (cell_in old k) stone (mark_in marks k)) → now ≡ all_cleared old stone marks
+unfolding all_cleared
+is_all_cleared old now stone marks same done = fill_by_all _ now (length old) Empty same done
+
+pub any_unreaching-at : (cells : List Cell) (marks : List Bool) (i : ℕ) → i < length cells → is_unreaching (cell_in cells i) (mark_in marks i) ≡ true → true ≡ any_unreaching cells marks
+unfolding any_unreaching
+any_unreaching-at cells marks i within e =
+    sym
+    (list_any_at _ (range_with_len 0 (length cells)) i 0 (rw length-range_with_len within)
+    (ap (λ j. is_unreaching (cell_in cells j) (mark_in marks j)) (get_or-range_with_len 0 (length cells) i 0 within ∙ omega arith) ∙ e))
+
+pub any_unreaching-none : (cells : List Cell) (marks : List Bool) → ((k : ℕ) → k < length cells → is_unreaching (cell_in cells k) (mark_in marks k) ≡ false) → false ≡ any_unreaching cells marks
+unfolding any_unreaching
+any_unreaching-none cells marks none =
+    sym
+    (list_any_none _ (range_with_len 0 (length cells))
+    (All-from_get_or (λ j. is_unreaching (cell_in cells j) (mark_in marks j) ≡ false) (range_with_len 0 (length cells)) 0
+    (λ k h.
+    let within : k < length cells = rw (← length-range_with_len 0 (length cells)) h in
+    ap (λ j. is_unreaching (cell_in cells j) (mark_in marks j)) (get_or-range_with_len 0 (length cells) k 0 within ∙ omega arith)
+    ∙ none k within)))
+
+-- one place more is counted
+pub count-more : (test : ℕ → Bool) (n a b : ℕ) → a ≡ count_by (λ x. x) (map test (range_with_len 0 n)) → b ≡ a + cond (test n) 1 0 → b ≡ count_by (λ x. x) (map test (range_with_len 0 (n + 1)))
+count-more test n a b counted is =
+    omega (arith, counted, is, sum_by-map-range_with_len_more (λ x. cond {A = ℕ} x 1 0) test 0 n n (omega arith))
+
+pub count-le : (test : ℕ → Bool) (n a : ℕ) → a ≡ count_by (λ x. x) (map test (range_with_len 0 n)) → a ≤ n
+count-le test n a counted =
+    omega (arith, counted, count_by-le-length (λ x. x) (map test (range_with_len 0 n)), length-map-range_with_len test 0 n)
+
+list_any-map : {X : Type 0} (p : X → Bool) (xs : List X) → list_any p xs ≡ list_any (λ b. b) (map p xs)
+list_any-map p [] = refl
+list_any-map p (x ∷ xs) = ap (λ b. p x || b) (list_any-map p xs)
+
+count_by-map : {X : Type 0} (p : X → Bool) (xs : List X) → count_by p xs ≡ count_by (λ b. b) (map p xs)
+count_by-map p [] = refl
+count_by-map p (x ∷ xs) =
+    sum_by-cons (λ y. cond (p y) 1 0) x xs ∙ ap (λ n. cond (p x) 1 0 + n) (count_by-map p xs)
+    ∙ sym (sum_by-cons (λ b. cond b 1 0) (p x) (map p xs))
+
+-- what a flood's marking says
+unfoldable pub Marks : Grid → Cell → Marking → Type 0
+Marks g k m = (p : Point) → IsOn g.side p → (IsTrue (is_marked m p) ↔ Reaches g k p)
+
+module _ (g : Grid) (all : length g.cells ≡ g.side * g.side) where
+  -- the mark at a place tells whether the point there reaches the colour
+  mark_in-reaches : (k : Cell) (m : Marking) (i : ℕ) → m.side ≡ g.side → Marks g k m → i < g.side * g.side → mark_in m.marks i ≡ reaches g k (point_at g.side i)
+  unfolding Marks
+  mark_in-reaches k m i side marks below =
+      let p = point_at g.side i in
+      let on = IsOn-point_at g.side i below in
+      let at : place_of m.side p ≡ i = ap (λ s. place_of s p) side ∙ place_of-point_at g.side i below in
+      sym (ap (mark_in m.marks) at)
+      ∙ same_from_decides (is_marked m p) (reaches g k p) (marks p on) (Decides-reaches g k p on)
+
+  cell_in-cell_at : (i : ℕ) → i < g.side * g.side → cell_in g.cells i ≡ cell_at g (point_at g.side i)
+  cell_in-cell_at i below = ap (cell_in g.cells) (sym (place_of-point_at g.side i below))
+
+  -- a function of the places of all cells, as one of the points
+  as_points : {X : Type 0} (f : ℕ → X) (h : Point → X) → X → ((i : ℕ) → i < g.side * g.side → f i ≡ h (point_at g.side i)) → map f (range_with_len 0 (length g.cells)) ≡ map h (points g.side)
+  as_points f h d each =
+      is_map-points h g.side (map f (range_with_len 0 (length g.cells))) d
+      (length-map-range_with_len f 0 (length g.cells) ∙ all)
+      (λ i below.
+      let within : i < length g.cells = rw all below in
+      get_or-map-range_with_len f 0 (length g.cells) i i d within (omega arith) ∙ each i below)
+
+  pub all_cleared-clear : (k : Colour) (m : Marking) → m.side ≡ g.side → Marks g Empty m → all_cleared g.cells (stone_of k) m.marks ≡ (clear g k).cells
+  unfolding all_cleared clear cleared_cell
+  all_cleared-clear k m side marks =
+      as_points _ (cleared_cell g k) Empty
+      (λ i below.
+      ap (λ c. cleared c (stone_of k) (mark_in m.marks i)) (cell_in-cell_at i below)
+      ∙ ap (cleared (cell_at g (point_at g.side i)) (stone_of k)) (mark_in-reaches Empty m i side marks below))
+
+  pub any_unreaching-has_unreaching : (m : Marking) → m.side ≡ g.side → Marks g Empty m → any_unreaching g.cells m.marks ≡ has_unreaching g
+  unfolding any_unreaching has_unreaching
+  any_unreaching-has_unreaching m side marks =
+      list_any-map _ (range_with_len 0 (length g.cells))
+      ∙ ap (list_any (λ b. b))
+      (as_points _ _ false
+      (λ i below.
+      ap (λ c. is_unreaching c (mark_in m.marks i)) (cell_in-cell_at i below)
+      ∙ ap (is_unreaching (cell_at g (point_at g.side i))) (mark_in-reaches Empty m i side marks below)))
+      ∙ sym (list_any-map _ (points g.side))
+
+  pub count_of-score_of : (k : Colour) (m n : Marking) → m.side ≡ g.side → n.side ≡ g.side → Marks g (stone_of k) m → Marks g (stone_of (opponent k)) n → count_of g.cells (stone_of k) m.marks n.marks ≡ score_of g k
+  unfolding count_of score_of counts_for
+  count_of-score_of k m n m_side n_side own other =
+      ap (count_by (λ b. b))
+      (as_points _ (counts_for g k) false
+      (λ i below.
+      ap (λ c. counts c (stone_of k) (mark_in m.marks i) (mark_in n.marks i)) (cell_in-cell_at i below)
+      ∙ ap (λ b. counts (cell_at g (point_at g.side i)) (stone_of k) b (mark_in n.marks i))
+      (mark_in-reaches (stone_of k) m i m_side own below)
+      ∙ ap (counts (cell_at g (point_at g.side i)) (stone_of k) (reaches g (stone_of k) (point_at g.side i)))
+      (mark_in-reaches (stone_of (opponent k)) n i n_side other below)))
+      ∙ sym (count_by-map (counts_for g k) (points g.side))
+
+-- the grid that the front of an array holds, once that front was cleared
+grid_in-cleared : (side : ℕ) (cells new rest : List Cell) (k : Colour) (m : Marking) → side * side ≤ length cells → m.side ≡ side → Marks (grid_in side cells) Empty m → new ≡ all_cleared (take (side * side) cells) (stone_of k) m.marks → grid_in side (new ++ rest) ≡ clear (grid_in side cells) k
+grid_in-cleared side cells new rest k m fits sides marks is =
+    let g = grid_in side cells in
+    let all : length g.cells ≡ side * side = length-take-le (side * side) cells fits in
+    let same : new ≡ (clear g k).cells = is ∙ all_cleared-clear g all k m sides marks in
+    let front : take (side * side) (new ++ rest) ≡ new = ap (λ n. take n (new ++ rest)) (sym (ap length same ∙ length-clear g k)) ∙ take-append_seam new rest in
+    same_grid (grid_in side (new ++ rest)) (clear g k) (sym (side-clear g k)) (front ∙ same)
+
+pub grid_in-clear : (side : ℕ) (cells new rest : List Cell) (g : Grid) (k : Colour) (m : Marking) → grid_in side cells ≡ g → side * side ≤ length cells → m.side ≡ g.side → Marks g Empty m → new ≡ all_cleared (take (side * side) cells) (stone_of k) m.marks → grid_in side (new ++ rest) ≡ clear g k
+grid_in-clear side cells new rest g k m e fits sides marks is =
+    grid_in-cleared side cells new rest k m fits (sides ∙ sym (ap (λ h. h.side) e)) (subst (λ h. Marks h Empty m) (sym e) marks) is
+    ∙ ap (λ h. clear h k) e

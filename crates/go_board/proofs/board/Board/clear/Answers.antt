@@ -1,0 +1,19 @@
+-- proofs/board/Board/clear/Answers.antt
+use Rattle.std.proofs.Common.{◌≡◌, ◌*◌, ◌≤◌, take, length, sym, ap, ◌∙◌, arith}
+use Rattle.go_board.specs.Colour.{stone_of}
+use Rattle.go_board.specs.Sweep.{all_cleared}
+use Rattle.go_board.proofs.SweepLemmas.{Marks, grid_in-clear}
+use Rattle.go_board.proofs.board.Board.clear.Goals as goal
+
+pub returns-clause-value : goal.returns-clause-value
+unfolding Marks
+returns-clause-value c =
+    let i = c.self.inside in
+    let marking = c.reached-reaching.result in
+    let fits : i.size * i.size ≤ length i.cells = omega (arith, c.self.invariant) in
+    let cleared =
+    c.clear_all.ensures
+    ∙ ap (λ n. all_cleared (take n i.cells) c.stone.result c.as_slice.result.now) c.points-points.ensures.value
+    ∙ ap (λ s. all_cleared (take (i.size * i.size) i.cells) s c.as_slice.result.now) c.stone.ensures
+    ∙ ap (all_cleared (take (i.size * i.size) i.cells) (stone_of c.args.colour)) c.as_slice.ensures.marks in
+    grid_in-clear i.size i.cells c.clear_all.new.cells _ c.args.self.now c.args.colour marking c.self.view_is fits c.reached-reaching.ensures.side c.reached-reaching.ensures.marks cleared
