@@ -22,7 +22,7 @@ use Rattle.go_board.proofs.GridLemmas.{Decides-same_cell}
 use Rattle.go_board.proofs.ReachingLemmas.{Leads-on, step_kind, path_by_step}
 use Rattle.go_board.proofs.SearchLemmas.{is_marked-with_mark, is_marked-with_mark_keeps, with_found-new, with_found-old}
 use Rattle.go_board.proofs.NeighbourLemmas.{AreAdjacent-sym, IsNeighbour, IsNeighbour-adjacent, AllNeighbour, left-neighbour, right-neighbour, above-neighbour, below-neighbour}
-use Rattle.go_board.proofs.FloodLemmas.{IsFlood, Grows, Grows-refl, Grows-trans, IsClosed, IsFlood-found, Decides-reaches_through, Carries, IsUnderWay}
+use Rattle.go_board.proofs.FloodLemmas.{IsFlood, Grows, Grows-refl, Grows-trans, IsClosed, IsFlood-found, IsFlood-nothing_found, Decides-reaches_through, Carries, IsUnderWay}
 
 -- a neighbour that reaches the colour through a point that reaches it
 pub reached_through : (g : Grid) (k : Cell) → Carries g k (Reaches g k)
@@ -81,19 +81,6 @@ points_done g k (p ∷ ps) s all flood =
     , IsMarkedAlong-cons g k p ps (with_points g k ps here) (λ c. rest.1.keeps p (first.2 c)) rest.2
     )
 
-not_marked : (n i : ℕ) → get_or (replicate n false) i false ≡ false
-not_marked zero i = refl
-not_marked (suc n) zero = refl
-not_marked (suc n) (suc i) = not_marked n i
-
-IsFlood-nothing_found : (g : Grid) (k : Cell) → IsFlood g (Reaches g k) (nothing_found g.side)
-IsFlood-nothing_found g k = record {
-  same_side = refl;
-  all_marks = length-replicate (g.side * g.side) false;
-  holds = λ p on h. absurd (false≢true (sym (not_marked (g.side * g.side) (place_of g.side p)) ∙ h));
-  listed = λ p on h. absurd (false≢true (sym (not_marked (g.side * g.side) (place_of g.side p)) ∙ h))
-}
-
 All-on-points : (side : ℕ) → All (IsOn side) (points side)
 All-on-points side =
     All-from_get_or (IsOn side) (points side) origin
@@ -105,7 +92,7 @@ All-on-points side =
 pub IsUnderWay-with_colour : (g : Grid) (k : Cell) → IsUnderWay g k (Reaches g k) (with_colour g k) × IsSeeded g k (with_colour g k) × ((with_colour g k).taken ≡ 0)
 unfolding with_colour IsMarkedAlong IsSeeded IsClosed
 IsUnderWay-with_colour g k =
-    let done = points_done g k (points g.side) (nothing_found g.side) (All-on-points g.side) (IsFlood-nothing_found g k) in
+    let done = points_done g k (points g.side) (nothing_found g.side) (All-on-points g.side) (IsFlood-nothing_found g (Reaches g k)) in
     let taken : (with_colour g k).taken ≡ 0 = done.1.same_taken in
     ( record {
         flood = done.0;

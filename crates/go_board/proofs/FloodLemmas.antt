@@ -144,6 +144,20 @@ module _ (g : Grid) (What : Point → Type 0) (s : Searched) (p : Point) (flood 
   pub IsFlood-found : What p → IsFlood g What (with_found s p) × Grows s (with_found s p) × IsTrue (is_marked (with_found s p).marking p)
   IsFlood-found way = IsFlood-found_by (is_marked s.marking p) refl way
 
+-- at first nothing is marked
+not_marked : (n i : ℕ) → get_or (replicate n false) i false ≡ false
+not_marked zero i = refl
+not_marked (suc n) zero = refl
+not_marked (suc n) (suc i) = not_marked n i
+
+pub IsFlood-nothing_found : (g : Grid) (What : Point → Type 0) → IsFlood g What (nothing_found g.side)
+IsFlood-nothing_found g What = record {
+  same_side = refl;
+  all_marks = length-replicate (g.side * g.side) false;
+  holds = λ p on h. absurd (false≢true (sym (not_marked (g.side * g.side) (place_of g.side p)) ∙ h));
+  listed = λ p on h. absurd (false≢true (sym (not_marked (g.side * g.side) (place_of g.side p)) ∙ h))
+}
+
 pub Decides-reaches_through : (g : Grid) (k : Cell) (p q : Point) → Decides (reaches_through g k p q) ((cell_at g p ≡ k) ⊎ (cell_at g q ≡ cell_at g p))
 Decides-reaches_through g k p q = Decides-or _ _ (Decides-same_cell _ _) (Decides-same_cell _ _)
 

@@ -6,6 +6,8 @@ pub mod RuleLemmas
 pub mod GroupLemmas
 pub mod SettledLemmas
 pub mod MoveLemmas
+pub mod EmptiedLemmas
+pub mod CaptureLemmas
 pub mod FrontLemmas
 pub mod SearchLemmas
 pub mod NeighbourLemmas

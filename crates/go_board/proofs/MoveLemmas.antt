@@ -2,7 +2,7 @@
 -- A move on a grid where every stone reaches empty: taking the dead groups beside the stone, and then its own, is the
 -- whole move.
 use Rattle.std.proofs.Common.{◌≡◌, ◌≢◌, ◌⊎◌, inl, inr, ◌*◌, Bool, true, false, List, [], ◌∷◌, length, refl, sym, ap, subst, ◌∙◌, IsTrue}
-use Rattle.std.proofs.lemmas.Bool.{cases_eq}
+use Rattle.std.specs.Option.{ForSome}
 use Rattle.std.proofs.lemmas.List.{length-set}
 use Rattle.go_board.specs.declared.stones.Cell.{Cell}
 use Rattle.go_board.specs.declared.stones.Cell.TheVariants.{Empty}
@@ -14,27 +14,18 @@ use Rattle.go_board.specs.Point.{IsOn, AreAdjacent, place_of}
 use Rattle.go_board.specs.Grid.{Grid, cell_at, with_cell}
 use Rattle.go_board.specs.Reaching.{Leads, Reaches}
 use Rattle.go_board.specs.Clearing.{clear, play, has_unreaching}
+use Rattle.go_board.specs.Flood.{left_of, right_of, above, below}
 use Rattle.go_board.specs.Groups.{AllReach, ReachBeside, ReachesIfStone, LosesDead}
+use Rattle.go_board.proofs.PointLemmas.{same_or_not}
 use Rattle.go_board.proofs.GridLemmas.{cell_at-with_cell, cell_at-with_cell_elsewhere}
 use Rattle.go_board.proofs.ReachingLemmas.{Leads-on, Leads-next, path_by_step}
-use Rattle.go_board.proofs.NeighbourLemmas.{AreAdjacent-sym}
-use Rattle.go_board.proofs.GroupLemmas.{stone_of≢Empty}
+use Rattle.go_board.proofs.NeighbourLemmas.{AreAdjacent-sym, IsNeighbour, IsNeighbour-adjacent}
+use Rattle.go_board.proofs.GroupLemmas.{stone_of≢Empty, same_grid}
 use Rattle.go_board.proofs.SettledLemmas.{clear-AllReach, AllReach-settled}
 
 opponent_differs : (k : Colour) → stone_of k ≢ stone_of (opponent k)
 opponent_differs Black = λ e. cc
 opponent_differs White = λ e. cc
-
-same_or_not : (p q : Point) → (p ≡ q) ⊎ (p ≢ q)
-same_or_not p q =
-    elim (cases_eq p.col q.col)
-    [ inl col ↦
-      elim (cases_eq p.row q.row)
-      [ inl row ↦ inl (ap (λ a. record { col = a; row = p.row }) col ∙ ap (λ b. record { col = q.col; row = b }) row)
-      | inr other ↦ inr (λ e. other (ap (λ r. r.row) e))
-      ]
-    | inr other ↦ inr (λ e. other (ap (λ r. r.col) e))
-    ]
 
 -- taking nothing, and taking twice
 
@@ -185,10 +176,6 @@ module _ (g : Grid) (p : Point) (k : Colour) (on : IsOn g.side p) (all : length 
             ∙ clear-AllReach left k (second.all ∙ length-after)
               (AllReach-after g rest p k fewer_left own_beside own (AllReach-settled g k settled)))
 
--- a grid is known by its side and its cells
-same_grid : (g h : Grid) → h.side ≡ g.side → record g { cells = h.cells } ≡ h
-same_grid g h e = ap (λ s. record { side = s; cells = h.cells }) (sym e)
-
 -- the move, where every stone reaches empty: the opponent's dead groups beside the point are taken, and then its own
 pub captured_is_play : (g h i : Grid) (p : Point) (k : Colour) → IsOn g.side p → length g.cells ≡ g.side * g.side → has_unreaching g ≡ false → LosesDead (with_cell g p (stone_of k)) h (opponent k) → ReachBeside h (opponent k) p → LosesDead h i k → ReachesIfStone i k p → i ≡ play g k p
 captured_is_play g h i p k on all settled first around second own =
@@ -201,3 +188,25 @@ captured_is_play g h i p k on all settled first around second own =
       i.cells
       (subst (λ x. LosesDead (record g { cells = h.cells }) x k) (sym ei) (subst (λ x. LosesDead x i k) (sym eh) second))
       (subst (λ x. ReachesIfStone x k p) (sym ei) own)
+
+-- a stone that reaches empty, if it is one, does so after a group was taken
+still_settled : (g h : Grid) (k : Colour) (q : Point) → LosesDead g h k → IsOn g.side q → ReachesIfStone g k q → ReachesIfStone h k q
+still_settled g h k q loses on settled = λ stone. loses.still q on (settled (left_over g h k k q loses on stone))
+
+on_next : (g h : Grid) (k : Colour) (q : Point) → LosesDead g h k → IsOn g.side q → IsOn h.side q
+on_next g h k q loses on = subst (λ s. IsOn s q) (sym loses.same_side) on
+
+-- the dead groups of the four neighbours are taken in turn
+pub ReachBeside-four : (a b c d e : Grid) (k : Colour) (p : Point) → LosesDead a b k → LosesDead b c k → LosesDead c d k → LosesDead d e k → ForSome (left_of p) (ReachesIfStone b k) → ForSome (right_of a.side p) (ReachesIfStone c k) → ForSome (above p) (ReachesIfStone d k) → ForSome (below a.side p) (ReachesIfStone e k) → ReachBeside e k p
+unfolding IsNeighbour
+ReachBeside-four a b c d e k p ab bc cd de left right up down = λ q at beside.
+    let on : IsOn a.side q = subst (λ s. IsOn s q) (de.same_side ∙ cd.same_side ∙ bc.same_side ∙ ab.same_side) at in
+    let in_b = on_next a b k q ab on in
+    let in_c = on_next b c k q bc in_b in
+    let in_d = on_next c d k q cd in_c in
+    elim (IsNeighbour-adjacent a.side p q on beside)
+    [ inl is ↦ still_settled d e k q de in_d (still_settled c d k q cd in_c (still_settled b c k q bc in_b (left q is)))
+    | inr (inl is) ↦ still_settled d e k q de in_d (still_settled c d k q cd in_c (right q is))
+    | inr (inr (inl is)) ↦ still_settled d e k q de in_d (up q is)
+    | inr (inr (inr is)) ↦ down q is
+    ]

@@ -32,7 +32,7 @@ is_free g (Some q) = same_cell (cell_at g q) Empty
 -- whether one of the four neighbours of a point is empty
 unfoldable pub has_liberty : Grid → Point → Bool
 has_liberty g p =
-    ((is_free g (left_of p) || is_free g (right_of g.side p)) || is_free g (above p)) || is_free g (below g.side p)
+    (is_free g (left_of p) || is_free g (right_of g.side p)) || (is_free g (above p) || is_free g (below g.side p))
 
 -- the grid with the points of a list emptied
 unfoldable pub emptied : Grid → List Point → Grid

@@ -1,6 +1,6 @@
 //! Taking groups without a liberty off a board, one at a time.
 
-ghost use Rattle.std.specs.Prelude.{◌≡◌, ◌≢◌, ◌*◌, ◌<◌, ◌≤◌, All, IsFalse, IsTrue};
+ghost use Rattle.std.specs.Prelude.{◌≡◌, ◌≢◌, ◌<◌, ◌≤◌, ◌||◌, All, IsFalse, IsTrue};
 ghost use Rattle.std.specs.Option.{ForSome};
 ghost use Rattle.go_board.specs.declared.capture.Group.{Group};
 ghost use Rattle.go_board.specs.declared.stones.Cell.TheVariants.{Empty};
@@ -9,7 +9,7 @@ ghost use Rattle.go_board.specs.Point.{IsOn};
 ghost use Rattle.go_board.specs.Grid.{cell_at};
 ghost use Rattle.go_board.specs.Marking.{is_marked};
 ghost use Rattle.go_board.specs.Reaching.{Reaches};
-ghost use Rattle.go_board.specs.Search.{nothing_found};
+ghost use Rattle.go_board.specs.Search.{nothing_found, AllListed};
 ghost use Rattle.go_board.specs.Groups.{IsDead, is_free, has_liberty, emptied, ReachesIfStone, ReachBeside, LosesDead};
 
 use crate::board::Board;
@@ -52,12 +52,23 @@ impl Board {
         ensures settled { ForSome at (ReachesIfStone self.new colour) }
     {
         if let Some(point) = at {
-            if self.at(point) == colour.stone()
-                && !self.capture_group::<FEW_POINTS>(colour, point)
-            {
-                let _ = self.capture_group::<MAX_POINTS>(colour, point);
+            if self.at(point) == colour.stone() {
+                self.capture_stone(colour, point);
             }
         }
+    }
+
+    /// Takes off the group of a stone if it has no liberty.
+    fn capture_stone(&mut self, colour: Colour, from: Point)
+        requires on_board { IsOn self.old.side from }
+        requires stone { cell_at self.old from ≡ stone_of colour }
+        ensures taken { LosesDead self.old self.new colour }
+        ensures settled { ReachesIfStone self.new colour from }
+    {
+        if self.capture_group::<FEW_POINTS>(colour, from) {
+            return;
+        }
+        let _ = self.capture_group::<MAX_POINTS>(colour, from);
     }
 
     /// Takes off the group of a stone if it has no liberty. Tells whether the search had room for the group; if not,
@@ -70,7 +81,7 @@ impl Board {
         ensures taken { LosesDead self.old self.new colour }
         ensures settled { IsTrue result → ReachesIfStone self.new colour from }
         ensures nothing_done { IsFalse result → self.new ≡ self.old }
-        ensures room { IsFalse result → N < self.old.side * self.old.side }
+        ensures room { IsFalse result → N < MAX_POINTS }
     {
         let mut search = Search::<N>::new(self.size());
         match self.look_at_group(colour, from, &mut search) {
@@ -97,9 +108,10 @@ impl Board {
         requires at_most { N ≤ MAX_POINTS }
         ensures lives { result ≡ Group.HasLiberty → Reaches self.now Empty from }
         ensures dead { result ≡ Group.Dead → IsDead self.now colour (is_marked search.new.marking) }
-        ensures start { IsTrue (is_marked search.new.marking from) }
+        ensures listed { result ≡ Group.Dead → AllListed search.new }
+        ensures start { result ≡ Group.Dead → IsTrue (is_marked search.new.marking from) }
         ensures same_side { search.new.marking.side ≡ self.now.side }
-        ensures room { result ≡ Group.TooLarge → N < self.now.side * self.now.side }
+        ensures room { result ≡ Group.TooLarge → N < MAX_POINTS }
     {
         search.offer(from);
         while let Some(point) = search.take_one() {
@@ -115,15 +127,23 @@ impl Board {
     }
 
     /// Whether a point has an empty neighbour.
+    #[tactic(auto, unfolding(crate::specs::Groups::has_liberty))]
     fn has_liberty(&self, point: Point) -> bool
         requires { IsOn self.now.side point }
         ensures { result ≡ has_liberty self.now point }
     {
         let size = self.size();
-        self.is_free(point.left())
-            || self.is_free(point.right(size))
-            || self.is_free(point.above())
-            || self.is_free(point.below(size))
+        self.one_is_free(point.left(), point.right(size))
+            || self.one_is_free(point.above(), point.below(size))
+    }
+
+    /// Whether one of two neighbours of a point is there and empty.
+    fn one_is_free(&self, one: Option<Point>, other: Option<Point>) -> bool
+        requires one { ForSome one (IsOn self.now.side) }
+        requires other { ForSome other (IsOn self.now.side) }
+        ensures { result ≡ (is_free self.now one || is_free self.now other) }
+    {
+        self.is_free(one) || self.is_free(other)
     }
 
     /// Whether there is a point, and it is empty.

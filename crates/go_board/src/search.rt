@@ -2,7 +2,7 @@
 
 use crate::marks::Marks;
 use crate::points::Point;
-use crate::size::Size;
+use crate::size::{MAX_POINTS, Size};
 use std::marker::Model;
 
 /// The points that a search found, in the order it found them, and how many of them were taken for a closer look. It has
@@ -49,8 +49,8 @@ impl<const N: usize> Search<N> {
     /// Whether there is room for so many points more. There always is where N is no less than the number of the board's
     /// points.
     pub fn has_room(&self, more: usize) -> bool
-        requires { more ≤ 4 }
-        ensures { IsTrue result ↔ HasRoom N more self.now }
+        ensures room { IsTrue result ↔ HasRoom N more self.now }
+        ensures greatest { MAX_POINTS ≤ N → IsTrue result }
     {
         self.marks.size().points() <= N || more <= N - self.filled
     }
