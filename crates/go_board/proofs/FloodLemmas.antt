@@ -18,7 +18,7 @@ use Rattle.go_board.specs.Reaching.{Leads, Reaches}
 use Rattle.go_board.specs.Search.{Searched, no_marks, nothing_found, with_mark, with_found}
 use Rattle.go_board.specs.Flood.{left_of, right_of, above, below, reaches_through, with_neighbour, with_neighbours, with_points, with_colour}
 use Rattle.go_board.proofs.PointLemmas.{origin, place_below, place_of-injective, point_at-place_of, IsOn-point_at, IsOn-place_below, length-points, get_or-points}
-use Rattle.go_board.proofs.GridLemmas.{Decides-same_cell}
+use Rattle.go_board.proofs.GridLemmas.{get_or-replicate_default, Decides-same_cell}
 use Rattle.go_board.proofs.ReachingLemmas.{Leads-on, step_kind, path_by_step}
 use Rattle.go_board.proofs.SearchLemmas.{is_marked-with_mark, is_marked-with_mark_keeps, with_found-new, with_found-old}
 use Rattle.go_board.proofs.NeighbourLemmas.{AreAdjacent-sym, IsNeighbour, IsNeighbour-adjacent, AllNeighbour, left-neighbour, right-neighbour, above-neighbour, below-neighbour}
@@ -145,17 +145,12 @@ module _ (g : Grid) (What : Point → Type 0) (s : Searched) (p : Point) (flood 
   IsFlood-found way = IsFlood-found_by (is_marked s.marking p) refl way
 
 -- at first nothing is marked
-not_marked : (n i : ℕ) → get_or (replicate n false) i false ≡ false
-not_marked zero i = refl
-not_marked (suc n) zero = refl
-not_marked (suc n) (suc i) = not_marked n i
-
 pub IsFlood-nothing_found : (g : Grid) (What : Point → Type 0) → IsFlood g What (nothing_found g.side)
 IsFlood-nothing_found g What = record {
   same_side = refl;
   all_marks = length-replicate (g.side * g.side) false;
-  holds = λ p on h. absurd (false≢true (sym (not_marked (g.side * g.side) (place_of g.side p)) ∙ h));
-  listed = λ p on h. absurd (false≢true (sym (not_marked (g.side * g.side) (place_of g.side p)) ∙ h))
+  holds = λ p on h. absurd (false≢true (sym (get_or-replicate_default (g.side * g.side) (place_of g.side p) false) ∙ h));
+  listed = λ p on h. absurd (false≢true (sym (get_or-replicate_default (g.side * g.side) (place_of g.side p) false) ∙ h))
 }
 
 pub Decides-reaches_through : (g : Grid) (k : Cell) (p q : Point) → Decides (reaches_through g k p q) ((cell_at g p ≡ k) ⊎ (cell_at g q ≡ cell_at g p))

@@ -1,8 +1,8 @@
 -- proofs/FrontLemmas.antt
 -- A grid and a marking as the front of an array, and what a write to the array does to them.
-use Rattle.std.proofs.Common.{◌≡◌, ℕ, ◌*◌, ◌<◌, ◌≤◌, Bool, true, false, List, take, set, replicate, sym, ap, ◌∙◌}
+use Rattle.std.proofs.Common.{◌≡◌, ℕ, ◌*◌, ◌<◌, ◌≤◌, Bool, true, false, List, take, set, replicate, sym, ap, ◌∙◌, length}
 use Rattle.std.proofs.Math.Seq.{take-set-lt}
-use Rattle.std.proofs.lemmas.List.{take-replicate}
+use Rattle.std.proofs.lemmas.List.{take-replicate, length-take-le}
 use Rattle.go_board.specs.declared.stones.Cell.{Cell}
 use Rattle.go_board.specs.declared.points.Point.{Point}
 use Rattle.go_board.specs.Point.{place_of}
@@ -38,3 +38,7 @@ marking_in-set side marks m p i is at below =
 pub marking_in-replicate : (side n : ℕ) (marks : List Bool) → marks ≡ replicate n false → side * side ≤ n → marking_in side marks ≡ no_marks side
 marking_in-replicate side n marks is fits =
     ap (marking_in side) is ∙ ap (λ l. record { side = side; marks = l }) (take-replicate (side * side) n false fits)
+
+pub length-grid_in : (side : ℕ) (cells : List Cell) (g : Grid) → grid_in side cells ≡ g → side * side ≤ length cells → length g.cells ≡ g.side * g.side
+length-grid_in side cells g is fits =
+    sym (ap (λ h. length h.cells) is) ∙ length-take-le (side * side) cells fits ∙ ap (λ h. h.side * h.side) is

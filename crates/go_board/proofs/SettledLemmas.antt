@@ -1,6 +1,6 @@
 -- proofs/SettledLemmas.antt
 -- Grids on which stones reach empty: clearing them changes nothing, and after a move all do.
-use Rattle.std.proofs.Common.{◌≡◌, ◌≢◌, ◌⊎◌, inl, inr, ◌*◌, Bool, true, false, cond, List, [], ◌∷◌, length, refl, sym, ap, ◌∙◌}
+use Rattle.std.proofs.Common.{◌≡◌, ◌≢◌, ◌⊎◌, inl, inr, ◌*◌, Bool, true, false, cond, List, [], ◌∷◌, length, refl, sym, ap, ◌∙◌, ℕ}
 use Rattle.std.proofs.lemmas.Bool.{cases_Bool, true≢false}
 use Rattle.std.proofs.lemmas.Bool.Decides.{not_from_Decides}
 use Rattle.go_board.specs.declared.stones.Cell.{Cell}
@@ -9,11 +9,12 @@ use Rattle.go_board.specs.declared.stones.Colour.{Colour}
 use Rattle.go_board.specs.declared.stones.Colour.TheVariants.{Black, White}
 use Rattle.go_board.specs.declared.points.Point.{Point}
 use Rattle.go_board.specs.Colour.{opponent, stone_of}
-use Rattle.go_board.specs.Point.{IsOn}
-use Rattle.go_board.specs.Grid.{Grid, cell_at, with_cell}
+use Rattle.go_board.specs.Point.{IsOn, place_of}
+use Rattle.go_board.specs.Grid.{Grid, cell_at, with_cell, empty_grid}
 use Rattle.go_board.specs.Reaching.{Leads, Reaches, reaches}
 use Rattle.go_board.specs.Clearing.{cleared_cell, clear, play, HasUnreaching, has_unreaching}
 use Rattle.go_board.specs.Groups.{AllReach}
+use Rattle.go_board.proofs.GridLemmas.{get_or-replicate_default}
 use Rattle.go_board.proofs.ReachingLemmas.{Leads-on, Decides-reaches}
 use Rattle.go_board.proofs.RuleLemmas.{cell_at-clear, emptied, kept, others_kept, Decides-has_unreaching}
 use Rattle.go_board.proofs.GroupLemmas.{coloured_or_not, stone_of≢Empty, Reaches-Leads, grid_of-cells}
@@ -120,3 +121,13 @@ AllReach-settled g k settled =
 -- so clearing a colour changes nothing there
 pub clear-settled : (g : Grid) (k : Colour) → length g.cells ≡ g.side * g.side → has_unreaching g ≡ false → clear g k ≡ g
 clear-settled g k all settled = clear-AllReach g k all (AllReach-settled g k settled)
+
+-- nothing stands on an empty grid
+pub settled-empty_grid : (side : ℕ) → has_unreaching (empty_grid side) ≡ false
+settled-empty_grid side =
+    elim (cases_Bool (has_unreaching (empty_grid side)))
+    [ inl some ↦
+      let w = (Decides-has_unreaching (empty_grid side)).0 some in
+      absurd (w.2 (get_or-replicate_default (side * side) (place_of side w.0) Empty))
+    | inr none ↦ none
+    ]

@@ -14,10 +14,14 @@ use std::marker::Model;
 pub struct Board {
     size: Size,
     cells: [Cell; MAX_POINTS],
+    /// Whether it is known that every stone reaches empty. After a move it is; a colouring from outside can have a stone
+    /// that doesn't.
+    settled: bool,
 }
 
 impl Model for Board {
-    ghost use Rattle.std.specs.Prelude.{◌≡◌, ◌*◌, ◌≤◌, length, take};
+    ghost use Rattle.std.specs.Prelude.{◌≡◌, ◌*◌, ◌≤◌, IsTrue, false, length, take};
+    ghost use Rattle.go_board.specs.Clearing.{has_unreaching};
     ghost use Rattle.go_board.specs.declared.size.TheConstants.{MAX_POINTS};
     ghost use Rattle.go_board.specs.Grid.{Grid};
 
@@ -25,7 +29,10 @@ impl Model for Board {
 
     ghost view = { λ b. record { side = b.size; cells = take (b.size * b.size) b.cells } };
 
-    ghost invariant = { λ b. (length b.cells ≡ MAX_POINTS) × (b.size * b.size ≤ MAX_POINTS) };
+    ghost invariant = { λ b. (length b.cells ≡ MAX_POINTS)
+        × (b.size * b.size ≤ MAX_POINTS)
+        × (IsTrue b.settled
+            → has_unreaching (record { side = b.size; cells = take (b.size * b.size) b.cells }) ≡ false) };
 }
 
 // The cells of the greatest board, on which nothing stands.
@@ -55,6 +62,7 @@ impl Board {
         Board {
             size,
             cells: nothing(),
+            settled: true,
         }
     }
 
@@ -87,6 +95,7 @@ impl Board {
         ensures { self.new ≡ with_cell self.old point cell }
     {
         self.cells[point.place(self.size)] = cell;
+        self.settled = false;
     }
 
     /// Colours every point: cells are the points row by row from the top, from left to right.
@@ -95,6 +104,7 @@ impl Board {
         ensures { self.new ≡ record self.old { cells = cells.now } }
     {
         self.cells[..cells.len()].copy_from_slice(cells);
+        self.settled = false;
     }
 
     /// Whether two boards have the same side and the same colouring.
@@ -111,6 +121,7 @@ impl Board {
         Board {
             size: self.size,
             cells: self.cells,
+            settled: self.settled,
         }
     }
 
@@ -120,6 +131,7 @@ impl Board {
         ensures { self.new ≡ other.now }
     {
         self.set_cells(other.cells());
+        self.settled = other.settled;
     }
 
     /// Empties all points of a colour that don't reach empty, each tested on the board as it was.
@@ -127,6 +139,9 @@ impl Board {
         ensures value { self.new ≡ clear self.old colour }
         ensures side { self.new.side ≡ self.old.side }
     {
+        if self.settled {
+            return;
+        }
         let points = self.size.points();
         let reaching = self.reached(Cell::Empty);
         sweep::clear_all(
@@ -144,9 +159,16 @@ impl Board {
         ensures value { self.new ≡ play self.old colour point }
         ensures side { self.new.side ≡ self.old.side }
     {
+        let settled = self.settled;
         self.set(point, colour.stone());
-        self.clear(colour.opponent());
-        self.clear(colour);
+        if settled {
+            self.capture_around(colour.opponent(), point);
+            self.capture(colour, Some(point));
+        } else {
+            self.clear(colour.opponent());
+            self.clear(colour);
+        }
+        self.settled = true;
     }
 
     /// The area scores of Black and of White: a player's points, and the empty points that reach her colour and not the
@@ -177,6 +199,9 @@ impl Board {
     pub fn has_unreaching(&self) -> bool
         ensures { result ≡ has_unreaching self.now }
     {
+        if self.settled {
+            return false;
+        }
         let reaching = self.reached(Cell::Empty);
         sweep::any_unreaching(self.cells(), reaching.as_slice())
     }

@@ -2,6 +2,9 @@
 use Rattle.std.proofs.Common.{◌≡◌, ◌*◌, ◌≤◌, take, length, sym, ap, ◌∙◌, arith}
 use Rattle.go_board.specs.Colour.{stone_of}
 use Rattle.go_board.specs.Sweep.{all_cleared}
+use Rattle.go_board.specs.Clearing.{has_unreaching}
+use Rattle.go_board.proofs.FrontLemmas.{length-grid_in}
+use Rattle.go_board.proofs.SettledLemmas.{clear-settled}
 use Rattle.go_board.proofs.SweepLemmas.{Marks, grid_in-clear}
 use Rattle.go_board.proofs.board.Board.clear.Goals as goal
 
@@ -17,3 +20,11 @@ returns-clause-value c =
     ∙ ap (λ s. all_cleared (take (i.size * i.size) i.cells) s c.as_slice.result.now) c.stone.ensures
     ∙ ap (all_cleared (take (i.size * i.size) i.cells) (stone_of c.args.colour)) c.as_slice.ensures.marks in
     grid_in-clear i.size i.cells c.clear_all.new.cells _ c.args.self.now c.args.colour marking c.self.view_is fits c.reached-reaching.ensures.side c.reached-reaching.ensures.marks cleared
+
+-- where every stone reaches empty, nothing is to be cleared
+pub returns-then-self-clause-value : goal.returns-then-self-clause-value
+returns-then-self-clause-value c =
+    let i = c.self.inside in
+    let g = c.args.self.now in
+    let all = length-grid_in i.size i.cells g c.self.view_is (omega (arith, c.self.invariant)) in
+    sym (clear-settled g c.args.colour all (ap has_unreaching (sym c.self.view_is) ∙ c.self.invariant.2 c.if-self.true))
