@@ -10,6 +10,7 @@ pub mod EmptiedLemmas
 pub mod CaptureLemmas
 pub mod FrontLemmas
 pub mod SearchLemmas
+pub mod RowLemmas
 pub mod NeighbourLemmas
 pub mod FloodLemmas
 pub mod ColourFloodLemmas

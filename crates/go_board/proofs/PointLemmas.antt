@@ -118,3 +118,18 @@ same_or_not p q =
       ]
     | inr other ↦ inr (λ e. other (ap (λ r. r.col) e))
     ]
+
+-- a point at a place of a list that goes row by row; behind its end, only the place is known
+pub record IsAt (side place : ℕ) (p : Point) : Type 0 where
+  pub at_place : place_of side p ≡ place
+  pub in_columns : place < side * side → p.col < side
+
+pub IsAt-first : (side : ℕ) → IsAt side 0 origin
+IsAt-first side = record { at_place = omega arith; in_columns = λ h. above_zero side 0 h }
+
+pub IsAt-on : (side i : ℕ) (p : Point) → IsAt side i p → i < side * side → IsOn side p
+IsAt-on side i p at below = IsOn-place_below side p (at.in_columns below) (rw at.at_place below)
+
+pub IsAt-next : (side i : ℕ) (p q : Point) → IsAt side i p → place_of side q ≡ place_of side p + 1 → q.col < side → IsAt side (i + 1) q
+IsAt-next side i p q at next column =
+    record { at_place = next ∙ ap (λ n. n + 1) at.at_place; in_columns = λ _. column }

@@ -144,11 +144,7 @@ impl Board {
         }
         let points = self.size.points();
         let reaching = self.reached(Cell::Empty);
-        sweep::clear_all(
-            &mut self.cells[..points],
-            colour.stone(),
-            reaching.as_slice(),
-        );
+        sweep::clear_all(&mut self.cells[..points], colour.stone(), &reaching);
     }
 
     /// The whole move: the point takes the player's colour, then the opponent's colour is cleared, then the player's
@@ -180,18 +176,8 @@ impl Board {
         let black = self.reached(Cell::Black);
         let white = self.reached(Cell::White);
         (
-            sweep::count(
-                self.cells(),
-                Cell::Black,
-                black.as_slice(),
-                white.as_slice(),
-            ),
-            sweep::count(
-                self.cells(),
-                Cell::White,
-                white.as_slice(),
-                black.as_slice(),
-            ),
+            sweep::count(self.cells(), Cell::Black, &black, &white),
+            sweep::count(self.cells(), Cell::White, &white, &black),
         )
     }
 
@@ -203,6 +189,6 @@ impl Board {
             return false;
         }
         let reaching = self.reached(Cell::Empty);
-        sweep::any_unreaching(self.cells(), reaching.as_slice())
+        sweep::any_unreaching(self.cells(), &reaching)
     }
 }

@@ -11,7 +11,7 @@ ghost use Rattle.go_board.specs.Flood.{reaches_through, with_neighbour, with_nei
 
 use crate::board::Board;
 use crate::marks::Marks;
-use crate::points::Point;
+use crate::points::{FIRST, Point};
 use crate::search::Search;
 use crate::size::{MAX_POINTS, SMALL_POINTS, USUAL_POINTS};
 use crate::steps::Steps;
@@ -72,7 +72,7 @@ impl Board {
         ensures { result ≡ with_colour self.now target }
     {
         let mut search = Search::<N>::new(self.size());
-        let mut point = Point { col: 0, row: 0 };
+        let mut point = FIRST;
         for cell in self.cells() {
             if *cell == target {
                 search.offer(point);

@@ -1,7 +1,7 @@
 //! The worklist of a flood.
 
 use crate::marks::Marks;
-use crate::points::Point;
+use crate::points::{FIRST, Point};
 use crate::size::{MAX_POINTS, Size};
 use std::marker::Model;
 
@@ -40,7 +40,7 @@ impl<const N: usize> Search<N> {
     {
         Search {
             marks: Marks::none(size),
-            points: [Point { col: 0, row: 0 }; N],
+            points: [FIRST; N],
             filled: 0,
             taken: 0,
         }

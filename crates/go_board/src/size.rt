@@ -7,6 +7,9 @@ use std::marker::Model;
 /// The greatest side of a board: SGF FF[4] has letters for 52 columns and rows.
 pub const MAX_SIDE: u8 = 52;
 
+/// The number of rows of the greatest board.
+pub(crate) const MAX_ROWS: usize = 52;
+
 /// The number of points of the greatest board.
 pub const MAX_POINTS: usize = 2704;
 
