@@ -15,8 +15,8 @@ use Rattle.go_board.specs.Grid.{Grid, cell_at, with_cell}
 use Rattle.go_board.specs.Marking.{Marking, is_marked}
 use Rattle.go_board.specs.Groups.{IsDead, emptied, LosesDead}
 use Rattle.go_board.proofs.PointLemmas.{same_or_not}
-use Rattle.go_board.proofs.GridLemmas.{cell_at-with_cell_elsewhere}
-use Rattle.go_board.proofs.GroupLemmas.{LosesDead-group, same_grid}
+use Rattle.go_board.proofs.GridLemmas.{same_grid, cell_at-with_cell_elsewhere}
+use Rattle.go_board.proofs.GroupLemmas.{LosesDead-group}
 
 -- the next point of the list is emptied
 pub emptied-next : (g h : Grid) (ps : List Point) (i : ℕ) (d : Point) → i < length ps → h ≡ with_cell g (get_or ps i d) Empty → emptied h (drop (i + 1) ps) ≡ emptied g (drop i ps)
@@ -90,7 +90,7 @@ module _ (p : Point) where
 pub LosesDead-emptied : (g : Grid) (k : Colour) (m : Marking) (ps : List Point) → IsDead g k (λ p. is_marked m p) → All (IsOn g.side) ps → All (λ p. IsTrue (is_marked m p)) ps → ((p : Point) → IsOn g.side p → IsTrue (is_marked m p) → Contains ps p) → LosesDead g (emptied g ps) k
 LosesDead-emptied g k m ps dead there marked listed =
     let cells = (emptied g ps).cells in
-    let same : record g { cells = cells } ≡ emptied g ps = same_grid g (emptied g ps) (side-emptied g ps) in
+    let same : record g { cells = cells } ≡ emptied g ps = same_grid (record g { cells = cells }) (emptied g ps) (sym (side-emptied g ps)) refl in
     subst (λ h. LosesDead g h k) same
     (LosesDead-group g k (λ p. is_marked m p) dead cells (length-emptied g ps)
       (λ p on at.

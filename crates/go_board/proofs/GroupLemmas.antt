@@ -166,7 +166,3 @@ LosesDead-group g k dead group cells all gone rest = record {
   still = λ p on way. reaches_still g k dead group cells gone rest p way;
   cleared = clear-without g k dead group cells gone rest
 }
-
--- a grid is known by its side and its cells
-pub same_grid : (g h : Grid) → h.side ≡ g.side → record g { cells = h.cells } ≡ h
-same_grid g h e = ap (λ s. record { side = s; cells = h.cells }) (sym e)

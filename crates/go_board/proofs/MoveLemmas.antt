@@ -17,10 +17,10 @@ use Rattle.go_board.specs.Clearing.{clear, play, has_unreaching}
 use Rattle.go_board.specs.Flood.{left_of, right_of, above, below}
 use Rattle.go_board.specs.Groups.{AllReach, ReachBeside, ReachesIfStone, LosesDead}
 use Rattle.go_board.proofs.PointLemmas.{same_or_not}
-use Rattle.go_board.proofs.GridLemmas.{cell_at-with_cell, cell_at-with_cell_elsewhere}
+use Rattle.go_board.proofs.GridLemmas.{same_grid, cell_at-with_cell, cell_at-with_cell_elsewhere}
 use Rattle.go_board.proofs.ReachingLemmas.{Leads-on, Leads-next, path_by_step}
 use Rattle.go_board.proofs.NeighbourLemmas.{AreAdjacent-sym, IsNeighbour, IsNeighbour-adjacent}
-use Rattle.go_board.proofs.GroupLemmas.{stone_of≢Empty, same_grid}
+use Rattle.go_board.proofs.GroupLemmas.{stone_of≢Empty}
 use Rattle.go_board.proofs.SettledLemmas.{clear-AllReach, AllReach-settled}
 
 opponent_differs : (k : Colour) → stone_of k ≢ stone_of (opponent k)
@@ -179,8 +179,8 @@ module _ (g : Grid) (p : Point) (k : Colour) (on : IsOn g.side p) (all : length 
 -- the move, where every stone reaches empty: the opponent's dead groups beside the point are taken, and then its own
 pub captured_is_play : (g h i : Grid) (p : Point) (k : Colour) → IsOn g.side p → length g.cells ≡ g.side * g.side → has_unreaching g ≡ false → LosesDead (with_cell g p (stone_of k)) h (opponent k) → ReachBeside h (opponent k) p → LosesDead h i k → ReachesIfStone i k p → i ≡ play g k p
 captured_is_play g h i p k on all settled first around second own =
-    let eh = same_grid g h first.same_side in
-    let ei = same_grid g i (second.same_side ∙ first.same_side) in
+    let eh = same_grid (record g { cells = h.cells }) h (sym first.same_side) refl in
+    let ei = same_grid (record g { cells = i.cells }) i (sym (second.same_side ∙ first.same_side)) refl in
     sym ei
     ∙ is_play g p k on all settled h.cells
       (subst (λ x. LosesDead (with_cell g p (stone_of k)) x (opponent k)) (sym eh) first)

@@ -16,7 +16,7 @@ use Rattle.go_board.specs.Clearing.{cleared_cell, clear, play, HasUnreaching, ha
 use Rattle.go_board.specs.Groups.{AllReach}
 use Rattle.go_board.proofs.GridLemmas.{get_or-replicate_default}
 use Rattle.go_board.proofs.ReachingLemmas.{Leads-on, Decides-reaches}
-use Rattle.go_board.proofs.RuleLemmas.{cell_at-clear, emptied, kept, others_kept, Decides-has_unreaching}
+use Rattle.go_board.proofs.RuleLemmas.{side-clear, cell_at-clear, emptied, kept, others_kept, Decides-has_unreaching}
 use Rattle.go_board.proofs.GroupLemmas.{coloured_or_not, stone_of≢Empty, Reaches-Leads, grid_of-cells}
 
 -- a point reaches a colour or not
@@ -131,3 +131,7 @@ settled-empty_grid side =
       absurd (w.2 (get_or-replicate_default (side * side) (place_of side w.0) Empty))
     | inr none ↦ none
     ]
+
+pub side_play : (g : Grid) (k : Colour) (p : Point) → (play g k p).side ≡ g.side
+unfolding play
+side_play g k p = side-clear _ k ∙ side-clear _ (opponent k)

@@ -43,7 +43,7 @@ fn nothing() -> [Cell; MAX_POINTS]
 }
 
 impl Board {
-    ghost use Rattle.std.specs.Prelude.{◌≡◌, ◌*◌, ◌+◌, ◌≤◌, ◌↔◌, IsTrue, length};
+    ghost use Rattle.std.specs.Prelude.{◌≡◌, ◌*◌, ◌+◌, ◌≤◌, ◌↔◌, IsTrue, false, length};
     ghost use Rattle.go_board.specs.declared.stones.Cell.TheVariants.{Empty};
     ghost use Rattle.go_board.specs.declared.stones.Colour.TheVariants.{Black, White};
     ghost use Rattle.go_board.specs.declared.points.Point.{Point};
@@ -149,22 +149,42 @@ impl Board {
 
     /// The whole move: the point takes the player's colour, then the opponent's colour is cleared, then the player's
     /// own.
+    #[tactic(auto, using(crate::proofs::SettledLemmas::settled_by_play, crate::proofs::SettledLemmas::side_play))]
     pub fn place(&mut self, colour: Colour, point: Point)
         requires on_board { IsOn self.old.side point }
         requires empty { cell_at self.old point ≡ Empty }
         ensures value { self.new ≡ play self.old colour point }
         ensures side { self.new.side ≡ self.old.side }
     {
-        let settled = self.settled;
-        self.set(point, colour.stone());
-        if settled {
-            self.capture_around(colour.opponent(), point);
-            self.capture(colour, Some(point));
+        if self.settled {
+            self.place_settled(colour, point);
         } else {
-            self.clear(colour.opponent());
-            self.clear(colour);
+            self.place_unsettled(colour, point);
         }
         self.settled = true;
+    }
+
+    /// The whole move on a board where every stone reaches empty: then only the groups around the point can be without a
+    /// liberty.
+    fn place_settled(&mut self, colour: Colour, point: Point)
+        requires on_board { IsOn self.old.side point }
+        requires settled { has_unreaching self.old ≡ false }
+        ensures { self.new ≡ play self.old colour point }
+    {
+        let _ = &self.size;
+        self.set(point, colour.stone());
+        self.capture_around(colour.opponent(), point);
+        self.capture(colour, Some(point));
+    }
+
+    /// The whole move on any board.
+    fn place_unsettled(&mut self, colour: Colour, point: Point)
+        requires { IsOn self.old.side point }
+        ensures { self.new ≡ play self.old colour point }
+    {
+        self.set(point, colour.stone());
+        self.clear(colour.opponent());
+        self.clear(colour);
     }
 
     /// The area scores of Black and of White: a player's points, and the empty points that reach her colour and not the

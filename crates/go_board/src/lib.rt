@@ -46,4 +46,6 @@ pub use values::{point, rect};
 pub use vertices::vertex;
 
 #[cfg(test)]
+mod play_tests;
+#[cfg(test)]
 mod tests;
