@@ -1,82 +1,94 @@
--- scratch
-use Rattle.std.proofs.Common.{◌≡◌, ℕ, Bool, true, false, List, [], ◌∷◌, refl, map, Option, Some, None}
-use Rattle.go_board.specs.declared.stones.Cell.{Cell}
+-- proofs/Examples.antt
+-- The definitions, computed on worked examples: small boards, and texts that name points.
+use Rattle.std.proofs.Common.{◌≡◌, true, false, [], ◌∷◌, refl, Some, None}
 use Rattle.go_board.specs.declared.stones.Cell.TheVariants.{Black as B, White as W, Empty as E}
 use Rattle.go_board.specs.declared.stones.Colour.TheVariants.{Black, White}
-use Rattle.go_board.specs.declared.points.Point.{Point}
-use Rattle.go_board.specs.Point.{points, point_at}
+use Rattle.go_board.specs.Point.{points}
 use Rattle.go_board.specs.Grid.{Grid, empty_grid}
-use Rattle.go_board.specs.Marking.{Marking, marked_count}
 use Rattle.go_board.specs.Reaching.{reaches, reaching_within, spread}
 use Rattle.go_board.specs.Clearing.{clear, play, cleared_cell, has_unreaching}
 use Rattle.go_board.specs.Score.{score_of, counts_for}
 use Rattle.go_board.specs.Values.{point_value, rect_value, vertex_of}
 
-g1 : Grid
-g1 = record { side = 3; cells = B ∷ W ∷ E ∷ W ∷ E ∷ E ∷ E ∷ E ∷ E ∷ [] }
+-- a black stone in the corner between two white ones
+corner : Grid
+corner = record { side = 3; cells = B ∷ W ∷ E ∷ W ∷ E ∷ E ∷ E ∷ E ∷ E ∷ [] }
 
-r1 : (reaching_within g1 E 9).marks ≡ false ∷ true ∷ true ∷ true ∷ true ∷ true ∷ true ∷ true ∷ true ∷ []
-unfolding g1 reaching_within spread points
-r1 = refl
+all_but_the_corner_reach_empty : (reaching_within corner E 9).marks ≡ false ∷ true ∷ true ∷ true ∷ true ∷ true ∷ true ∷ true ∷ true ∷ []
+unfolding corner reaching_within spread points
+all_but_the_corner_reach_empty = refl
 
-r2 : (reaching_within g1 B 9).marks ≡ true ∷ true ∷ false ∷ true ∷ false ∷ false ∷ false ∷ false ∷ false ∷ []
-unfolding g1 reaching_within spread points
-r2 = refl
+its_neighbours_reach_black : (reaching_within corner B 9).marks ≡ true ∷ true ∷ false ∷ true ∷ false ∷ false ∷ false ∷ false ∷ false ∷ []
+unfolding corner reaching_within spread points
+its_neighbours_reach_black = refl
 
-c1 : (clear g1 Black).cells ≡ E ∷ W ∷ E ∷ W ∷ E ∷ E ∷ E ∷ E ∷ E ∷ []
-unfolding g1 reaching_within spread points reaches clear cleared_cell
-c1 = refl
+the_corner_is_cleared : (clear corner Black).cells ≡ E ∷ W ∷ E ∷ W ∷ E ∷ E ∷ E ∷ E ∷ E ∷ []
+unfolding corner reaching_within spread points reaches clear cleared_cell
+the_corner_is_cleared = refl
 
-u1 : has_unreaching g1 ≡ true
-unfolding g1 reaching_within spread points reaches has_unreaching
-u1 = refl
+the_corner_is_unreaching : has_unreaching corner ≡ true
+unfolding corner reaching_within spread points reaches has_unreaching
+the_corner_is_unreaching = refl
 
-s1 : score_of (clear g1 Black) White ≡ 9
-unfolding g1 reaching_within spread points reaches clear cleared_cell score_of counts_for
-s1 = refl
+white_owns_the_board : score_of (clear corner Black) White ≡ 9
+unfolding corner reaching_within spread points reaches clear cleared_cell score_of counts_for
+white_owns_the_board = refl
 
-s2 : score_of (empty_grid 3) White ≡ 0
-unfolding reaching_within spread points reaches clear cleared_cell score_of counts_for
-s2 = refl
+nobody_owns_the_empty_board : score_of (empty_grid 3) White ≡ 0
+unfolding reaching_within spread points reaches score_of counts_for
+nobody_owns_the_empty_board = refl
 
-g3 : Grid
-g3 = record { side = 3; cells = W ∷ E ∷ E ∷ E ∷ B ∷ E ∷ E ∷ E ∷ E ∷ [] }
+-- one stone each
+shared : Grid
+shared = record { side = 3; cells = W ∷ E ∷ E ∷ E ∷ B ∷ E ∷ E ∷ E ∷ E ∷ [] }
 
-s3 : score_of g3 White ≡ 1
-unfolding g3 reaching_within spread points reaches clear cleared_cell score_of counts_for
-s3 = refl
+shared_points_count_for_nobody : score_of shared White ≡ 1
+unfolding shared reaching_within spread points reaches score_of counts_for
+shared_points_count_for_nobody = refl
 
-g4 : Grid
-g4 = record { side = 3; cells = B ∷ E ∷ W ∷ W ∷ W ∷ E ∷ E ∷ E ∷ E ∷ [] }
+-- Black's second stone beside the first has no liberty
+before_suicide : Grid
+before_suicide = record { side = 3; cells = B ∷ E ∷ W ∷ W ∷ W ∷ E ∷ E ∷ E ∷ E ∷ [] }
 
-p4 : (play g4 Black (record { col = 1; row = 0 })).cells ≡ E ∷ E ∷ W ∷ W ∷ W ∷ E ∷ E ∷ E ∷ E ∷ []
-unfolding g4 reaching_within spread points reaches clear cleared_cell play
-p4 = refl
+suicide_of_two : (play before_suicide Black (record { col = 1; row = 0 })).cells ≡ E ∷ E ∷ W ∷ W ∷ W ∷ E ∷ E ∷ E ∷ E ∷ []
+unfolding before_suicide reaching_within spread points reaches clear cleared_cell play
+suicide_of_two = refl
 
-p5 : (play (empty_grid 1) White (record { col = 0; row = 0 })).cells ≡ E ∷ []
+suicide_of_one : (play (empty_grid 1) White (record { col = 0; row = 0 })).cells ≡ E ∷ []
 unfolding reaching_within spread points reaches clear cleared_cell play
-p5 = refl
+suicide_of_one = refl
 
-v1 : point_value (90 ∷ 90 ∷ []) 52 ≡ Some (record { col = 51; row = 51 })
-v1 = refl
+-- a stone that takes the last liberty of another lives by taking it: White is cleared before Black
+before_capture : Grid
+before_capture = record { side = 2; cells = E ∷ W ∷ W ∷ B ∷ [] }
 
-v2 : point_value (65 ∷ 97 ∷ []) 26 ≡ None
-v2 = refl
+capture_comes_first : (play before_capture Black (record { col = 0; row = 0 })).cells ≡ B ∷ E ∷ E ∷ B ∷ []
+unfolding before_capture reaching_within spread points reaches clear cleared_cell play
+capture_comes_first = refl
 
-v3 : point_value (65 ∷ 97 ∷ []) 27 ≡ Some (record { col = 26; row = 0 })
-v3 = refl
+-- `ZZ`, `Aa`, `aA`
+ZZ_on_52 : point_value (90 ∷ 90 ∷ []) 52 ≡ Some (record { col = 51; row = 51 })
+ZZ_on_52 = refl
 
-v4 : point_value (97 ∷ 65 ∷ []) 25 ≡ None
-v4 = refl
+Aa_on_26 : point_value (65 ∷ 97 ∷ []) 26 ≡ None
+Aa_on_26 = refl
 
-v5 : rect_value (97 ∷ 97 ∷ 58 ∷ 99 ∷ 97 ∷ []) 3 ≡ Some (record { first = record { col = 0; row = 0 }; last = record { col = 2; row = 0 } })
-v5 = refl
+Aa_on_27 : point_value (65 ∷ 97 ∷ []) 27 ≡ Some (record { col = 26; row = 0 })
+Aa_on_27 = refl
 
-v6 : rect_value (97 ∷ 98 ∷ 58 ∷ 98 ∷ 97 ∷ []) 3 ≡ None
-v6 = refl
+aA_on_25 : point_value (97 ∷ 65 ∷ []) 25 ≡ None
+aA_on_25 = refl
 
-v7 : vertex_of (record { col = 8; row = 8 }) 9 ≡ record { letter = 74; row = 1 }
-v7 = refl
+-- `aa:ca` is the top row, `ab:ba` has its corners the wrong way round
+top_row : rect_value (97 ∷ 97 ∷ 58 ∷ 99 ∷ 97 ∷ []) 3 ≡ Some (record { first = record { col = 0; row = 0 }; last = record { col = 2; row = 0 } })
+top_row = refl
 
-v8 : vertex_of (record { col = 24; row = 0 }) 25 ≡ record { letter = 90; row = 25 }
-v8 = refl
+other_corners : rect_value (97 ∷ 98 ∷ 58 ∷ 98 ∷ 97 ∷ []) 3 ≡ None
+other_corners = refl
+
+-- J1 and Z25
+J1_on_9 : vertex_of (record { col = 8; row = 8 }) 9 ≡ record { letter = 74; row = 1 }
+J1_on_9 = refl
+
+Z25_on_25 : vertex_of (record { col = 24; row = 0 }) 25 ≡ record { letter = 90; row = 25 }
+Z25_on_25 = refl

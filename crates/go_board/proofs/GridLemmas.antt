@@ -1,8 +1,9 @@
 -- proofs/GridLemmas.antt
 -- Reading the grids and markings that functions of the points make, and grids after a point was set.
-use Rattle.std.proofs.Common.{◌≡◌, ◌≢◌, ℕ, ◌+◌, ◌*◌, ◌<◌, Bool, true, false, List, map, set, length, get_or, refl, sym, ap, ◌∙◌, arith, Decides, replicate, zero, suc}
+use Rattle.std.proofs.Common.{◌≡◌, ◌≢◌, ◌==◌, ℕ, ◌+◌, ◌*◌, ◌<◌, Bool, true, false, List, map, set, length, get_or, refl, sym, ap, ◌∙◌, arith, Decides, replicate, zero, suc}
 use Rattle.std.proofs.lemmas.List.{get_or_default, length-map, get_or-set_same, get_or-set_other, length-set}
-use Rattle.std.proofs.lemmas.Bool.Decides.{Decides-like, same_from_decides}
+use Rattle.std.proofs.lemmas.Bool.{false≢true}
+use Rattle.std.proofs.lemmas.Bool.Decides.{Decides-eqb, same_from_decides}
 use denote.Enum.Bare.{sameb}
 use Rattle.go_board.specs.contracts.stones.Cell.{the_type}
 use Rattle.go_board.specs.declared.stones.Cell.{Cell}
@@ -49,9 +50,17 @@ same_cell-eq a b = same_from_decides _ _ (Decides-cell_eq a b) (Decides-same_cel
 pub same_grid : (a b : Grid) → a.side ≡ b.side → a.cells ≡ b.cells → a ≡ b
 same_grid a b e f = ap (λ s. record { side = s; cells = a.cells }) e ∙ ap (λ l. record { side = b.side; cells = l }) f
 
--- two grids of one side are one where a test finds their cells to be
-pub Decides-same_grid : (a b : Grid) (r : Bool) → a.side ≡ b.side → Decides r (a.cells ≡ b.cells) → Decides r (a ≡ b)
-Decides-same_grid a b r e d = Decides-like r (same_grid a b e) (λ h. ap (λ g. g.cells) h) d
+-- two grids with the same cells are one where a test finds their sides equal
+pub Decides-same_side : (a b : Grid) (m n : ℕ) (r : Bool) → m ≡ a.side → n ≡ b.side → a.cells ≡ b.cells → r ≡ (m == n) → Decides r (a ≡ b)
+Decides-same_side a b m n r is_a is_b cells is =
+    ( λ e. same_grid a b (sym is_a ∙ (Decides-eqb m n).0 (sym is ∙ e) ∙ is_b) cells
+    , λ e. is ∙ (Decides-eqb m n).1 (is_a ∙ ap (λ g. g.side) e ∙ sym is_b)
+    )
+
+-- two grids with other cells are two
+pub Decides-other_cells : (a b : Grid) (xs ys : List Cell) (r : Bool) → xs ≡ a.cells → ys ≡ b.cells → r ≡ false → Decides r (xs ≡ ys) → Decides r (a ≡ b)
+Decides-other_cells a b xs ys r is_a is_b other d =
+    (λ e. absurd (false≢true (sym other ∙ e)), λ e. d.1 (is_a ∙ ap (λ g. g.cells) e ∙ sym is_b))
 
 pub cell_at-grid_of : (side : ℕ) (colour : Point → Cell) (p : Point) → IsOn side p → cell_at (grid_of side colour) p ≡ colour p
 cell_at-grid_of side colour p h = get_or-map-points colour side p Empty h

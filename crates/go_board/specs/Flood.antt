@@ -1,5 +1,6 @@
 -- specs/Flood.antt
 -- The steps of a flood: a point's neighbours, each added to the points found where it reaches a colour through the point.
+-- Private contracts alone cite these words.
 use Rattle.std.specs.Prelude.{ℕ, ◌+◌, ◌-◌, Bool, ◌||◌, nat_lt, Option, Some, None, if◌then◌else◌, List, [], ◌∷◌}
 use Rattle.go_board.specs.declared.stones.Cell.{Cell}
 use Rattle.go_board.specs.declared.points.Point.{Point}

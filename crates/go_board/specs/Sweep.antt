@@ -1,5 +1,6 @@
 -- specs/Sweep.antt
--- Passes over the cells of a board, row by row, with the marks of the points that reach a colour.
+-- Passes over the cells of a board, row by row, with the marks of the points that reach a colour. Private contracts alone
+-- cite these words.
 use Rattle.std.specs.Prelude.{ℕ, Bool, false, not, ◌&&◌, ◌||◌, List, map, length, count_by, slice_index_or, if◌then◌else◌}
 use Rattle.std.specs.List.{range_with_len, list_any}
 use Rattle.go_board.specs.declared.stones.Cell.{Cell}

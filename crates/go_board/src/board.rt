@@ -111,7 +111,7 @@ impl Board {
     pub fn same(&self, other: &Board) -> bool
         ensures { IsTrue result ↔ (self.now ≡ other.now) }
     {
-        self.size == other.size && self.cells() == other.cells()
+        self.cells() == other.cells() && self.size == other.size
     }
 
     /// A board with the same side and the same colouring.
@@ -178,6 +178,7 @@ impl Board {
     }
 
     /// The whole move on any board.
+    #[tactic(auto, unfolding(crate::specs::Clearing::play))]
     fn place_unsettled(&mut self, colour: Colour, point: Point)
         requires { IsOn self.old.side point }
         ensures { self.new ≡ play self.old colour point }
@@ -201,7 +202,7 @@ impl Board {
         )
     }
 
-    /// Whether some stone doesn't reach empty. After a move none does; a setup can leave one.
+    /// Whether some stone doesn't reach empty, as a setup can leave one.
     pub fn has_unreaching(&self) -> bool
         ensures { result ≡ has_unreaching self.now }
     {

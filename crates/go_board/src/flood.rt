@@ -83,6 +83,7 @@ impl Board {
     }
 
     /// Adds the neighbours of a point that reach a colour through it.
+    #[tactic(auto, unfolding(crate::specs::Flood::with_neighbours))]
     pub(crate) fn spread<const N: usize>(&self, target: Cell, from: Point, search: &mut Search<N>)
         requires on_board { IsOn self.now.side from }
         requires same_side { search.old.marking.side ≡ self.now.side }
@@ -97,6 +98,7 @@ impl Board {
     }
 
     /// Adds a neighbour of a point, if there is one and it reaches a colour through the point.
+    #[tactic(auto, unfolding(crate::specs::Flood::with_neighbour))]
     fn offer<const N: usize>(
         &self,
         target: Cell,

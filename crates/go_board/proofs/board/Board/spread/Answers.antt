@@ -1,12 +1,7 @@
 -- proofs/board/Board/spread/Answers.antt
 use Rattle.std.proofs.Common.{rules}
-use Rattle.go_board.specs.Flood.{with_neighbours}
 use Rattle.go_board.proofs.SearchLemmas.{HasRoom-less}
 use Rattle.go_board.proofs.board.Board.spread.Goals as goal
-
-pub returns : goal.returns
-unfolding with_neighbours
-returns r c = search rules
 
 pub offer-requires-2 : goal.offer-requires-2
 offer-requires-2 r c =
