@@ -1,8 +1,8 @@
 -- proofs/FrontLemmas.antt
--- A grid and a marking as the front of an array, and what a write to the array does to them.
-use Rattle.std.proofs.Common.{◌≡◌, ℕ, ◌*◌, ◌<◌, ◌≤◌, Bool, true, false, List, take, set, replicate, ap, ◌∙◌}
+-- A grid as the front of an array, and what a write to the array does to it.
+use Rattle.std.proofs.Common.{◌≡◌, ℕ, ◌*◌, ◌<◌, ◌≤◌, Bool, true, false, List, take, set, replicate, sym, ap, ◌∙◌, length}
 use Rattle.std.proofs.Math.Seq.{take-set-lt}
-use Rattle.std.proofs.lemmas.List.{take-replicate}
+use Rattle.std.proofs.lemmas.List.{take-replicate, length-take-le}
 use Rattle.go_board.specs.declared.stones.Cell.{Cell}
 use Rattle.go_board.specs.declared.points.Point.{Point}
 use Rattle.go_board.specs.Point.{place_of}
@@ -25,16 +25,7 @@ pub grid_in-replicate : (side n : ℕ) (cells : List Cell) → cells ≡ replica
 grid_in-replicate side n cells is fits =
     ap (grid_in side) is ∙ ap (λ l. record { side = side; cells = l }) (take-replicate (side * side) n Empty fits)
 
--- the marking that the front of an array holds
-abbrev pub marking_in : ℕ → List Bool → Marking
-marking_in side marks = record { side = side; marks = take (side * side) marks }
-
-pub marking_in-set : (side : ℕ) (marks : List Bool) (m : Marking) (p : Point) (i : ℕ) → marking_in side marks ≡ m → i ≡ place_of side p → i < side * side → marking_in side (set marks i true) ≡ with_mark m p
-marking_in-set side marks m p i is at below =
-    ap (λ l. record { side = side; marks = l }) (take-set-lt (side * side) marks i true below)
-    ∙ ap (λ j. record { side = side; marks = set (take (side * side) marks) j true }) at
-    ∙ ap (λ h. with_mark h p) is
-
-pub marking_in-replicate : (side n : ℕ) (marks : List Bool) → marks ≡ replicate n false → side * side ≤ n → marking_in side marks ≡ no_marks side
-marking_in-replicate side n marks is fits =
-    ap (marking_in side) is ∙ ap (λ l. record { side = side; marks = l }) (take-replicate (side * side) n false fits)
+-- how many cells it has
+pub length-grid_in : (side : ℕ) (cells : List Cell) (g : Grid) → grid_in side cells ≡ g → side * side ≤ length cells → length g.cells ≡ g.side * g.side
+length-grid_in side cells g is fits =
+    sym (ap (λ h. length h.cells) is) ∙ length-take-le (side * side) cells fits ∙ ap (λ h. h.side * h.side) is

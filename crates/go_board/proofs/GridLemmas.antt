@@ -1,7 +1,7 @@
 -- proofs/GridLemmas.antt
 -- Reading the grids and markings that functions of the points make, and grids after a point was set.
-use Rattle.std.proofs.Common.{◌≡◌, ◌≢◌, ◌==◌, ℕ, ◌*◌, ◌<◌, Bool, false, List, length, get_or, refl, sym, ap, ◌∙◌, Decides}
-use Rattle.std.proofs.lemmas.List.{get_or_default, length-map, get_or-set_same, get_or-set_other}
+use Rattle.std.proofs.Common.{◌≡◌, ◌≢◌, ◌==◌, ℕ, ◌+◌, ◌*◌, ◌<◌, Bool, true, false, List, map, set, length, get_or, refl, sym, ap, ◌∙◌, arith, Decides, replicate, zero, suc}
+use Rattle.std.proofs.lemmas.List.{get_or_default, length-map, get_or-set_same, get_or-set_other, length-set}
 use Rattle.std.proofs.lemmas.Bool.{false≢true}
 use Rattle.std.proofs.lemmas.Bool.Decides.{Decides-eqb, same_from_decides}
 use denote.Enum.Bare.{sameb}
@@ -82,3 +82,9 @@ cell_at-with_cell g p c h all =
 pub cell_at-with_cell_elsewhere : (g : Grid) (p q : Point) (c : Cell) → IsOn g.side p → IsOn g.side q → q ≢ p → cell_at (with_cell g p c) q ≡ cell_at g q
 cell_at-with_cell_elsewhere g p q c hp hq other =
     get_or-set_other g.cells (place_of g.side p) (place_of g.side q) c Empty (λ e. other (place_of-injective g.side q p hq hp e))
+
+-- a list of one value, read with that value for what is behind its end
+pub get_or-replicate_default : {X : Type 0} (n i : ℕ) (d : X) → get_or (replicate n d) i d ≡ d
+get_or-replicate_default zero i d = refl
+get_or-replicate_default (suc n) zero d = refl
+get_or-replicate_default (suc n) (suc i) d = get_or-replicate_default n i d

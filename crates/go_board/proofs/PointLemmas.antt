@@ -1,12 +1,12 @@
 -- proofs/PointLemmas.antt
 -- Points, their places in a list that goes row by row, and tests on the points of a grid.
-use Rattle.std.proofs.Common.{◌≡◌, ℕ, zero, suc, ◌*◌, ◌<◌, Bool, true, false, ◌||◌, List, [], ◌∷◌, map, length, get_or, refl, sym, ap, ◌∙◌, arith, Decides}
-use Rattle.std.specs.List.{list_any}
+use Rattle.std.proofs.Common.{◌≡◌, ◌≢◌, ℕ, zero, suc, ◌+◌, ◌*◌, ◌/◌, ◌%◌, ◌<◌, ◌≤◌, ◌⊎◌, Bool, true, false, ◌||◌, List, [], ◌∷◌, map, length, get_or, refl, sym, ap, ◌∙◌, arith, Decides, inl, inr}
+use Rattle.std.specs.List.{range_with_len, list_any}
 use Rattle.std.proofs.lemmas.Nat.{mul-add-lt, mod-mul-add, div-mul-add, rows}
 use Rattle.std.proofs.lemmas.List.{get_or-map, ext_get_or, length-map}
 use Rattle.std.proofs.lemmas.List.FromFn.{length-map-range_with_len, get_or-map-range_with_len}
 use Rattle.std.proofs.lemmas.List.Folds.{list_any_at}
-use Rattle.std.proofs.lemmas.Bool.{false≢true}
+use Rattle.std.proofs.lemmas.Bool.{false≢true, cases_eq}
 use Rattle.std.proofs.lemmas.Bool.Decides.{Decides-eqb, Decides-and, Decides-or}
 use Rattle.go_board.specs.declared.points.Point.{Point}
 use Rattle.go_board.specs.Point.{IsOn, AreAdjacent, are_adjacent, place_of, point_at, points}
@@ -106,3 +106,30 @@ pub Decides-are_adjacent : (p q : Point) → Decides (are_adjacent p q) (AreAdja
 Decides-are_adjacent p q =
     Decides-or _ _ (Decides-and _ _ (Decides-eqb _ _) (Decides-or _ _ (Decides-eqb _ _) (Decides-eqb _ _)))
     (Decides-and _ _ (Decides-eqb _ _) (Decides-or _ _ (Decides-eqb _ _) (Decides-eqb _ _)))
+
+-- two points are one or not
+pub same_or_not : (p q : Point) → (p ≡ q) ⊎ (p ≢ q)
+same_or_not p q =
+    elim (cases_eq p.col q.col)
+    [ inl col ↦
+      elim (cases_eq p.row q.row)
+      [ inl row ↦ inl (ap (λ a. record { col = a; row = p.row }) col ∙ ap (λ b. record { col = q.col; row = b }) row)
+      | inr other ↦ inr (λ e. other (ap (λ r. r.row) e))
+      ]
+    | inr other ↦ inr (λ e. other (ap (λ r. r.col) e))
+    ]
+
+-- a point at a place of a list that goes row by row; behind its end, only the place is known
+pub record IsAt (side place : ℕ) (p : Point) : Type 0 where
+  pub at_place : place_of side p ≡ place
+  pub in_columns : place < side * side → p.col < side
+
+pub IsAt-first : (side : ℕ) → IsAt side 0 origin
+IsAt-first side = record { at_place = omega arith; in_columns = λ h. above_zero side 0 h }
+
+pub IsAt-on : (side i : ℕ) (p : Point) → IsAt side i p → i < side * side → IsOn side p
+IsAt-on side i p at below = IsOn-place_below side p (at.in_columns below) (rw at.at_place below)
+
+pub IsAt-next : (side i : ℕ) (p q : Point) → IsAt side i p → place_of side q ≡ place_of side p + 1 → q.col < side → IsAt side (i + 1) q
+IsAt-next side i p q at next column =
+    record { at_place = next ∙ ap (λ n. n + 1) at.at_place; in_columns = λ _. column }

@@ -52,7 +52,7 @@ Leads-on g own k p [] way = way.0
 Leads-on g own k p (q ∷ path) way = way.0
 
 -- the second point of a path has the path's colour or ends it
-Leads-next : (g : Grid) (own k : Cell) (q : Point) (path : List Point) → Leads g own k q path → (cell_at g q ≡ own) ⊎ (cell_at g q ≡ k)
+pub Leads-next : (g : Grid) (own k : Cell) (q : Point) (path : List Point) → Leads g own k q path → (cell_at g q ≡ own) ⊎ (cell_at g q ≡ k)
 Leads-next g own k q [] way = inr way.1
 Leads-next g own k q (r ∷ path) way = inl way.1
 

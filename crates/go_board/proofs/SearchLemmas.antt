@@ -1,13 +1,14 @@
 -- proofs/SearchLemmas.antt
 -- What a search keeps as points are found.
-use Rattle.std.proofs.Common.{◌≡◌, ℕ, zero, suc, ◌+◌, ◌*◌, ◌<◌, ◌≤◌, Bool, true, false, cond, List, [], ◌∷◌, ◌++◌, length, get_or, take, set, refl, sym, ap, ◌∙◌, subst, arith, IsTrue}
+use Rattle.std.proofs.Common.{◌≡◌, ℕ, zero, suc, ◌+◌, ◌*◌, ◌<◌, ◌≤◌, Bool, true, false, cond, not, List, [], ◌∷◌, ◌++◌, length, get_or, take, set, count_by, refl, sym, ap, ◌∙◌, subst, arith, IsTrue, inl, inr}
+use Rattle.std.specs.List.{All}
 use Rattle.std.proofs.lemmas.List.{get_or-set_same, length-set, length_push, take_more_set, length-take-le}
 use Rattle.std.proofs.lemmas.List.Elements.{All-push, All-get_or, All-from_get_or}
 use Rattle.std.proofs.lemmas.List.Sums.{sum_by-set, count_by-le-length}
 use Rattle.go_board.specs.declared.points.Point.{Point}
 use Rattle.go_board.specs.Point.{IsOn, place_of}
 use Rattle.go_board.specs.Marking.{Marking, is_marked, marked_count}
-use Rattle.go_board.specs.Search.{Searched, with_mark, with_found, IsSound}
+use Rattle.go_board.specs.Search.{Searched, with_mark, with_found, IsSound, HasRoom}
 use Rattle.go_board.proofs.PointLemmas.{origin, place_below}
 
 -- a mark that is set stays so
@@ -69,25 +70,40 @@ searched_in m ps filled taken = record { marking = m; found = take filled ps; ta
 
 -- finding a point that isn't marked, as writes to the arrays
 module _ (m : Marking) (ps : List Point) (filled taken : ℕ) (p : Point) (within : filled ≤ length ps) (sound : IsSound (searched_in m ps filled taken)) (on : IsOn m.side p) (not_yet : is_marked m p ≡ false) where
-  pub room_in : filled < m.side * m.side
-  room_in = omega (arith, room (searched_in m ps filled taken) p sound on not_yet, length-take-le filled ps within)
+  pub room_in : HasRoom (length ps) 1 (searched_in m ps filled taken) → filled < length ps
+  room_in (inl all) = omega (arith, room (searched_in m ps filled taken) p sound on not_yet, length-take-le filled ps within)
+  room_in (inr more) = omega (arith, length-take-le filled ps within)
 
   same_search : (a b : Marking) (f g : List Point) → a ≡ b → f ≡ g → ◌≡◌ {A = Searched} (record { marking = a; found = f; taken = taken }) (record { marking = b; found = g; taken = taken })
   same_search a b f g e h =
       ap (λ x. record { marking = x; found = f; taken = taken }) e ∙ ap (λ x. record { marking = b; found = x; taken = taken }) h
 
-  pub searched_in-set : (next : Marking) → next ≡ with_mark m p → m.side * m.side ≤ length ps → searched_in next (set ps filled p) (filled + 1) taken ≡ record { marking = with_mark m p; found = take filled ps ++ p ∷ []; taken = taken }
-  searched_in-set next e fits =
-      let below : filled < length ps = omega (arith, room_in) in
+  pub searched_in-set : (next : Marking) → next ≡ with_mark m p → filled < length ps → searched_in next (set ps filled p) (filled + 1) taken ≡ record { marking = with_mark m p; found = take filled ps ++ p ∷ []; taken = taken }
+  searched_in-set next e below =
       same_search next (with_mark m p) (take (filled + 1) (set ps filled p)) (take filled ps ++ p ∷ []) e
       (take_more_set ps filled p below)
 
-  pub IsSound-searched_in : (next : Marking) → next ≡ with_mark m p → m.side * m.side ≤ length ps → IsSound (searched_in next (set ps filled p) (filled + 1) taken)
-  IsSound-searched_in next e fits =
-      subst IsSound (sym (searched_in-set next e fits)) (IsSound-with_mark (searched_in m ps filled taken) p sound on not_yet)
+  pub IsSound-searched_in : (next : Marking) → next ≡ with_mark m p → filled < length ps → IsSound (searched_in next (set ps filled p) (filled + 1) taken)
+  IsSound-searched_in next e below =
+      subst IsSound (sym (searched_in-set next e below)) (IsSound-with_mark (searched_in m ps filled taken) p sound on not_yet)
 
 pub with_found-new : (s : Searched) (p : Point) → is_marked s.marking p ≡ false → with_found s p ≡ record { marking = with_mark s.marking p; found = s.found ++ p ∷ []; taken = s.taken }
 with_found-new s p not_yet = rw not_yet
 
 pub with_found-old : (s : Searched) (p : Point) → is_marked s.marking p ≡ true → with_found s p ≡ s
 with_found-old s p before = rw before
+
+-- a point found takes the room of one
+found_room : (room more : ℕ) (s : Searched) (p : Point) (b : Bool) → is_marked s.marking p ≡ b → HasRoom room (more + 1) s → HasRoom room more (with_found s p)
+found_room room more s p true e (inl all) = subst (λ t. HasRoom room more t) (sym (with_found-old s p e)) (inl all)
+found_room room more s p true e (inr left) = subst (λ t. HasRoom room more t) (sym (with_found-old s p e)) (inr (omega arith))
+found_room room more s p false e (inl all) = subst (λ t. HasRoom room more t) (sym (with_found-new s p e)) (inl all)
+found_room room more s p false e (inr left) =
+    subst (λ t. HasRoom room more t) (sym (with_found-new s p e)) (inr (omega (arith, length_push s.found p)))
+
+pub HasRoom-with_found : (room more : ℕ) (s : Searched) (p : Point) → HasRoom room (more + 1) s → HasRoom room more (with_found s p)
+HasRoom-with_found room more s p h = found_room room more s p (is_marked s.marking p) refl h
+
+pub HasRoom-less : (room more : ℕ) (s : Searched) → HasRoom room (more + 1) s → HasRoom room more s
+HasRoom-less room more s (inl all) = inl all
+HasRoom-less room more s (inr left) = inr (omega arith)

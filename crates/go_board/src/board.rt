@@ -16,10 +16,14 @@ use std::marker::Model;
 pub struct Board {
     size: Size,
     cells: [Cell; MAX_POINTS],
+    /// Whether it is known that every stone reaches empty. After a move it is; a colouring from outside can have a stone
+    /// that doesn't.
+    settled: bool,
 }
 
 impl Model for Board {
-    ghost use Rattle.std.specs.Prelude.{◌≡◌, ◌*◌, ◌≤◌, length, take};
+    ghost use Rattle.std.specs.Prelude.{◌≡◌, ◌*◌, ◌≤◌, IsTrue, false, length, take};
+    ghost use Rattle.go_board.specs.Clearing.{has_unreaching};
     ghost use Rattle.go_board.specs.declared.size.TheConstants.{MAX_POINTS};
     ghost use Rattle.go_board.specs.Grid.{Grid};
 
@@ -27,7 +31,10 @@ impl Model for Board {
 
     ghost view = { λ b. record { side = b.size; cells = take (b.size * b.size) b.cells } };
 
-    ghost invariant = { λ b. (length b.cells ≡ MAX_POINTS) × (b.size * b.size ≤ MAX_POINTS) };
+    ghost invariant = { λ b. (length b.cells ≡ MAX_POINTS)
+        × (b.size * b.size ≤ MAX_POINTS)
+        × (IsTrue b.settled
+            → has_unreaching (record { side = b.size; cells = take (b.size * b.size) b.cells }) ≡ false) };
 }
 
 // The cells of the greatest board, on which nothing stands.
@@ -38,7 +45,7 @@ fn nothing() -> [Cell; MAX_POINTS]
 }
 
 impl Board {
-    ghost use Rattle.std.specs.Prelude.{◌≡◌, ◌*◌, ◌+◌, ◌≤◌, ◌↔◌, IsTrue, length};
+    ghost use Rattle.std.specs.Prelude.{◌≡◌, ◌*◌, ◌+◌, ◌≤◌, ◌↔◌, IsTrue, false, length};
     ghost use Rattle.go_board.specs.declared.stones.Cell.TheVariants.{Empty};
     ghost use Rattle.go_board.specs.declared.stones.Colour.TheVariants.{Black, White};
     ghost use Rattle.go_board.specs.declared.points.Point.{Point};
@@ -57,6 +64,7 @@ impl Board {
         Board {
             size,
             cells: nothing(),
+            settled: true,
         }
     }
 
@@ -89,6 +97,7 @@ impl Board {
         ensures { self.new ≡ with_cell self.old point cell }
     {
         self.cells[point.place(self.size)] = cell;
+        self.settled = false;
     }
 
     /// Colours every point: cells are the points row by row from the top, from left to right.
@@ -97,6 +106,7 @@ impl Board {
         ensures { self.new ≡ record self.old { cells = cells.now } }
     {
         self.cells[..cells.len()].copy_from_slice(cells);
+        self.settled = false;
     }
 
     /// Whether two boards have the same side and the same colouring.
@@ -113,6 +123,7 @@ impl Board {
         Board {
             size: self.size,
             cells: self.cells,
+            settled: self.settled,
         }
     }
 
@@ -122,6 +133,7 @@ impl Board {
         ensures { self.new ≡ other.now }
     {
         self.set_cells(other.cells());
+        self.settled = other.settled;
     }
 
     /// Empties all points of a colour that don't reach empty, each tested on the board as it was.
@@ -129,23 +141,49 @@ impl Board {
         ensures value { self.new ≡ clear self.old colour }
         ensures side { self.new.side ≡ self.old.side }
     {
+        if self.settled {
+            return;
+        }
         let points = self.size.points();
         let reaching = self.reached(Cell::Empty);
-        sweep::clear_all(
-            &mut self.cells[..points],
-            colour.stone(),
-            reaching.as_slice(),
-        );
+        sweep::clear_all(&mut self.cells[..points], colour.stone(), &reaching);
     }
 
     /// The whole move: the point takes the player's colour, then the opponent's colour is cleared, then the player's
     /// own.
-    #[tactic(auto, unfolding(crate::specs::Clearing::play))]
+    #[tactic(auto, using(crate::proofs::SettledLemmas::settled_by_play, crate::proofs::SettledLemmas::side_play))]
     pub fn place(&mut self, colour: Colour, point: Point)
         requires on_board { IsOn self.old.side point }
         requires empty { cell_at self.old point ≡ Empty }
         ensures value { self.new ≡ play self.old colour point }
         ensures side { self.new.side ≡ self.old.side }
+    {
+        if self.settled {
+            self.place_settled(colour, point);
+        } else {
+            self.place_unsettled(colour, point);
+        }
+        self.settled = true;
+    }
+
+    /// The whole move on a board where every stone reaches empty: then only the groups around the point can be without a
+    /// liberty.
+    fn place_settled(&mut self, colour: Colour, point: Point)
+        requires on_board { IsOn self.old.side point }
+        requires settled { has_unreaching self.old ≡ false }
+        ensures { self.new ≡ play self.old colour point }
+    {
+        let _ = &self.size;
+        self.set(point, colour.stone());
+        self.capture_around(colour.opponent(), point);
+        self.capture(colour, Some(point));
+    }
+
+    /// The whole move on any board.
+    #[tactic(auto, unfolding(crate::specs::Clearing::play))]
+    fn place_unsettled(&mut self, colour: Colour, point: Point)
+        requires { IsOn self.old.side point }
+        ensures { self.new ≡ play self.old colour point }
     {
         self.set(point, colour.stone());
         self.clear(colour.opponent());
@@ -161,18 +199,8 @@ impl Board {
         let black = self.reached(Cell::Black);
         let white = self.reached(Cell::White);
         (
-            sweep::count(
-                self.cells(),
-                Cell::Black,
-                black.as_slice(),
-                white.as_slice(),
-            ),
-            sweep::count(
-                self.cells(),
-                Cell::White,
-                white.as_slice(),
-                black.as_slice(),
-            ),
+            sweep::count(self.cells(), Cell::Black, &black, &white),
+            sweep::count(self.cells(), Cell::White, &white, &black),
         )
     }
 
@@ -180,7 +208,10 @@ impl Board {
     pub fn has_unreaching(&self) -> bool
         ensures { result ≡ has_unreaching self.now }
     {
+        if self.settled {
+            return false;
+        }
         let reaching = self.reached(Cell::Empty);
-        sweep::any_unreaching(self.cells(), reaching.as_slice())
+        sweep::any_unreaching(self.cells(), &reaching)
     }
 }

@@ -13,6 +13,7 @@
 //! | `search` | the worklist of a flood |
 //! | `board` | the board: reading, setting, moves, score |
 //! | `flood` | which points reach a colour |
+//! | `capture` | taking groups without a liberty, one at a time |
 //! | `sweep` | passes over all points: clearing, counting |
 //! | `past` | the colourings that a game has been through |
 //! | `list_past` | the plain past: all colourings, compared point by point |
@@ -33,6 +34,7 @@
 #![tactic(auto)]
 
 mod board;
+mod capture;
 mod fault;
 mod flood;
 pub mod laws;
@@ -65,6 +67,8 @@ pub use stones::{Cell, Colour};
 pub use values::{point, rect};
 pub use vertices::vertex;
 
+#[cfg(test)]
+mod play_tests;
 #[cfg(test)]
 mod referee_tests;
 #[cfg(test)]

@@ -1,39 +1,39 @@
 //! A set of points of a board.
 
-ghost use Rattle.std.specs.Prelude.{◌≡◌, false, replicate};
+ghost use Rattle.std.specs.Prelude.{◌≡◌, replicate};
 
 use crate::points::Point;
-use crate::size::{MAX_POINTS, Size};
+use crate::size::{MAX_ROWS, Size};
 use std::marker::Model;
 
-/// A set of points of a board.
+/// A set of points of a board: a word for each row, with a bit for each column.
 #[derive(Drop)]
 pub struct Marks {
     size: Size,
-    marked: [bool; MAX_POINTS],
+    rows: [u64; MAX_ROWS],
 }
 
 impl Model for Marks {
-    ghost use Rattle.std.specs.Prelude.{◌≡◌, ◌*◌, ◌≤◌, length, take};
-    ghost use Rattle.go_board.specs.declared.size.TheConstants.{MAX_POINTS};
-    ghost use Rattle.go_board.specs.Marking.{Marking};
+    ghost use Rattle.std.specs.Prelude.{◌≡◌, ◌≤◌, length};
+    ghost use Rattle.go_board.specs.declared.size.TheConstants.{MAX_ROWS};
+    ghost use Rattle.go_board.specs.Marking.{Marking, marking_of};
+    ghost use Rattle.go_board.specs.Rows.{is_set};
 
     ghost Value = { Marking };
 
-    ghost view = { λ m. record { side = m.size; marks = take (m.size * m.size) m.marked } };
+    ghost view = { λ m. marking_of m.size (is_set m.rows) };
 
-    ghost invariant = { λ m. (length m.marked ≡ MAX_POINTS) × (m.size * m.size ≤ MAX_POINTS) };
+    ghost invariant = { λ m. (length m.rows ≡ MAX_ROWS) × (m.size ≤ MAX_ROWS) };
 }
 
-// The marks of the greatest board, none of them set.
-fn unmarked() -> [bool; MAX_POINTS]
-    ensures { result ≡ replicate MAX_POINTS false }
+// The rows of the greatest board, with no bit set.
+fn no_rows() -> [u64; MAX_ROWS]
+    ensures { result ≡ replicate MAX_ROWS 0 }
 {
-    [false; MAX_POINTS]
+    [0; MAX_ROWS]
 }
 
 impl Marks {
-    ghost use Rattle.std.specs.Prelude.{◌*◌, length};
     ghost use Rattle.go_board.specs.Point.{IsOn};
     ghost use Rattle.go_board.specs.Marking.{is_marked};
     ghost use Rattle.go_board.specs.Search.{no_marks, with_mark};
@@ -42,11 +42,18 @@ impl Marks {
     pub(crate) fn none(size: Size) -> Marks
         ensures { result ≡ no_marks size }
     {
-        prove!(size.points() <= MAX_POINTS);
+        prove!(usize::from(size.side()) <= MAX_ROWS);
         Marks {
             size,
-            marked: unmarked(),
+            rows: no_rows(),
         }
+    }
+
+    /// The size of the board.
+    pub(crate) fn size(&self) -> Size
+        ensures { result ≡ self.now.side }
+    {
+        self.size
     }
 
     /// Marks a point.
@@ -54,15 +61,8 @@ impl Marks {
         requires { IsOn self.old.side point }
         ensures { self.new ≡ with_mark self.old point }
     {
-        self.marked[point.place(self.size)] = true;
-    }
-
-    /// Whether each point is marked, row by row from the top, from left to right.
-    pub(crate) fn as_slice(&self) -> &[bool]
-        ensures marks { result.now ≡ self.now.marks }
-        ensures all { length result.now ≡ self.now.side * self.now.side }
-    {
-        &self.marked[..self.size.points()]
+        let row = &mut self.rows[usize::from(point.row)];
+        *row |= 1 << point.col;
     }
 
     /// Whether a point of the board is marked.
@@ -70,6 +70,6 @@ impl Marks {
         requires { IsOn self.now.side point }
         ensures { result ≡ is_marked self.now point }
     {
-        self.marked[point.place(self.size)]
+        self.rows[usize::from(point.row)] >> point.col & 1 == 1
     }
 }

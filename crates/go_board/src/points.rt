@@ -15,6 +15,9 @@ pub struct Point {
     pub row: u8,
 }
 
+/// The upper left corner: the first point of a list that goes row by row from the top, from left to right.
+pub(crate) const FIRST: Point = Point { col: 0, row: 0 };
+
 impl Point {
     /// The place of the point in a list that goes row by row from the top, from left to right.
     pub(crate) fn place(self, size: Size) -> usize

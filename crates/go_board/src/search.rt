@@ -1,55 +1,64 @@
 //! The worklist of a flood.
 
 use crate::marks::Marks;
-use crate::points::Point;
+use crate::points::{FIRST, Point};
 use crate::size::{MAX_POINTS, Size};
 use std::marker::Model;
 
-/// The points that a search found, in the order it found them, and how many of them were taken for a closer look.
+/// The points that a search found, in the order it found them, and how many of them were taken for a closer look. It has
+/// room for `N` points.
 #[derive(Drop)]
-pub(crate) struct Search {
+pub(crate) struct Search<const N: usize> {
     marks: Marks,
-    points: [Point; MAX_POINTS],
+    points: [Point; N],
     filled: usize,
     taken: usize,
 }
 
-impl Model for Search {
+impl<const N: usize> Model for Search<N> {
     ghost use Rattle.std.specs.Prelude.{◌≡◌, ◌*◌, ◌≤◌, length, take};
-    ghost use Rattle.go_board.specs.declared.size.TheConstants.{MAX_POINTS};
     ghost use Rattle.go_board.specs.Search.{Searched, IsSound};
 
     ghost Value = { Searched };
 
     ghost view = { λ s. record { marking = s.marks; found = take s.filled s.points; taken = s.taken } };
 
-    ghost invariant = { λ s. (length s.points ≡ MAX_POINTS)
-        × (s.filled ≤ MAX_POINTS)
-        × (s.marks.side * s.marks.side ≤ MAX_POINTS)
+    ghost invariant = { λ s. (length s.points ≡ N)
+        × (s.filled ≤ N)
         × IsSound (record { marking = s.marks; found = take s.filled s.points; taken = s.taken }) };
 }
 
-impl Search {
-    ghost use Rattle.std.specs.Prelude.{◌≡◌, ◌*◌, ◌<◌, ◌≤◌, ◌+◌, IsTrue, IfSome, IfNone, Some, slice_get, length};
+impl<const N: usize> Search<N> {
+    ghost use Rattle.std.specs.Prelude.{◌≡◌, ◌*◌, ◌<◌, ◌≤◌, ◌+◌, ◌↔◌, IsTrue, IfSome, IfNone, Some, All, slice_get, length};
     ghost use Rattle.go_board.specs.Point.{IsOn};
     ghost use Rattle.go_board.specs.Marking.{is_marked, marked_count};
-    ghost use Rattle.go_board.specs.Search.{nothing_found, with_found, IsSound};
+    ghost use Rattle.go_board.specs.Search.{nothing_found, with_found, HasRoom};
 
     /// A search that found nothing yet.
-    pub fn new(size: Size) -> Search
+    pub fn new(size: Size) -> Search<N>
         ensures { result ≡ nothing_found size }
     {
         Search {
             marks: Marks::none(size),
-            points: [Point { col: 0, row: 0 }; MAX_POINTS],
+            points: [FIRST; N],
             filled: 0,
             taken: 0,
         }
     }
 
+    /// Whether there is room for so many points more. There always is where N is no less than the number of the board's
+    /// points.
+    pub fn has_room(&self, more: usize) -> bool
+        ensures room { IsTrue result ↔ HasRoom N more self.now }
+        ensures greatest { MAX_POINTS ≤ N → IsTrue result }
+    {
+        self.marks.size().points() <= N || more <= N - self.filled
+    }
+
     /// Adds a point, unless it was found before.
     pub fn offer(&mut self, point: Point)
-        requires { IsOn self.old.marking.side point }
+        requires on_board { IsOn self.old.marking.side point }
+        requires room { HasRoom N 1 self.old }
         ensures { self.new ≡ with_found self.old point }
     {
         if !self.marks.has(point) {
@@ -77,10 +86,19 @@ impl Search {
         Some(point)
     }
 
+    /// The points found, in the order they were found.
+    pub fn found(&self) -> &[Point]
+        ensures points { result.now ≡ self.now.found }
+        ensures on_grid { All (IsOn self.now.marking.side) result.now }
+        ensures marked { All (λ p. IsTrue (is_marked self.now.marking p)) result.now }
+    {
+        &self.points[..self.filled]
+    }
+
     /// The points found, as a set.
     pub fn into_marks(self) -> Marks
-        ensures marks { result ≡ self.marking }
-        ensures counted { marked_count result ≡ length self.found }
+        ensures marks { result ≡ self.entry.marking }
+        ensures counted { marked_count result ≡ length self.entry.found }
     {
         let Search {
             marks,

@@ -7,8 +7,17 @@ use std::marker::Model;
 /// The greatest side of a board: SGF FF[4] has letters for 52 columns and rows.
 pub const MAX_SIDE: u8 = 52;
 
+/// The number of rows of the greatest board.
+pub(crate) const MAX_ROWS: usize = 52;
+
 /// The number of points of the greatest board.
 pub const MAX_POINTS: usize = 2704;
+
+/// The number of points of a board of side 9.
+pub(crate) const SMALL_POINTS: usize = 81;
+
+/// The number of points of a board of side 19.
+pub(crate) const USUAL_POINTS: usize = 361;
 
 /// The side of a square board, in points: 1 to `MAX_SIDE`.
 #[derive(Clone, Copy, Debug, PartialEq, Eq)]

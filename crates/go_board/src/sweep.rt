@@ -1,8 +1,10 @@
 //! Passes over the cells of a board, with the marks of the points that reach a colour.
 
-ghost use Rattle.std.specs.Prelude.{◌≡◌, ◌≤◌, length};
+ghost use Rattle.std.specs.Prelude.{◌≡◌, ◌*◌, ◌≤◌, length};
 ghost use Rattle.go_board.specs.Sweep.{cleared, is_unreaching, counts, all_cleared, any_unreaching, count_of};
 
+use crate::marks::Marks;
+use crate::points::FIRST;
 use crate::size::MAX_POINTS;
 use crate::stones::Cell;
 
@@ -31,41 +33,48 @@ fn counts(cell: Cell, stone: Cell, own: bool, other: bool) -> bool
     cell == stone || cell == Cell::Empty && own && !other
 }
 
-/// Clears a colour, where the marks say which cells reach empty.
-pub(crate) fn clear_all(cells: &mut [Cell], stone: Cell, marks: &[bool])
-    requires { length marks.now ≡ length cells.old }
-    ensures { cells.new ≡ all_cleared cells.old stone marks.now }
+/// Clears a colour, where the marks are the points that reach empty.
+pub(crate) fn clear_all(cells: &mut [Cell], stone: Cell, reaching: &Marks)
+    requires { length cells.old ≡ reaching.now.side * reaching.now.side }
+    ensures { cells.new ≡ all_cleared cells.old stone reaching.now.marks }
 {
+    let mut point = FIRST;
     for place in 0..cells.len() {
-        cells[place] = cleared(cells[place], stone, marks[place]);
+        cells[place] = cleared(cells[place], stone, reaching.has(point));
+        point = point.following(reaching.size());
     }
 }
 
-/// Whether some stone doesn't reach empty, where the marks say which cells do.
-pub(crate) fn any_unreaching(cells: &[Cell], marks: &[bool]) -> bool
-    requires { length marks.now ≡ length cells.now }
-    ensures { result ≡ any_unreaching cells.now marks.now }
+/// Whether some stone doesn't reach empty, where the marks are the points that do.
+pub(crate) fn any_unreaching(cells: &[Cell], reaching: &Marks) -> bool
+    requires { length cells.now ≡ reaching.now.side * reaching.now.side }
+    ensures { result ≡ any_unreaching cells.now reaching.now.marks }
 {
-    for place in 0..cells.len() {
-        if is_unreaching(cells[place], marks[place]) {
+    let mut point = FIRST;
+    for cell in cells {
+        if is_unreaching(*cell, reaching.has(point)) {
             return true;
         }
+        point = point.following(reaching.size());
     }
     false
 }
 
-/// How many cells count for a player, where the marks say which cells reach her colour and which the other's.
-pub(crate) fn count(cells: &[Cell], stone: Cell, own: &[bool], other: &[bool]) -> u32
+/// How many cells count for a player, where the marks are the points that reach her colour and those that reach the
+/// other's.
+pub(crate) fn count(cells: &[Cell], stone: Cell, own: &Marks, other: &Marks) -> u32
     requires few { length cells.now ≤ MAX_POINTS }
-    requires own_marks { length own.now ≡ length cells.now }
-    requires other_marks { length other.now ≡ length cells.now }
-    ensures { result ≡ count_of cells.now stone own.now other.now }
+    requires own_side { length cells.now ≡ own.now.side * own.now.side }
+    requires other_side { other.now.side ≡ own.now.side }
+    ensures { result ≡ count_of cells.now stone own.now.marks other.now.marks }
 {
+    let mut point = FIRST;
     let mut count = 0;
-    for place in 0..cells.len() {
-        if counts(cells[place], stone, own[place], other[place]) {
+    for cell in cells {
+        if counts(*cell, stone, own.has(point), other.has(point)) {
             count += 1;
         }
+        point = point.following(own.size());
     }
     count
 }

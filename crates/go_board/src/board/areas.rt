@@ -32,5 +32,6 @@ impl Board {
             let start = row * side;
             self.cells[start + first..start + last + 1].fill(op.cell);
         }
+        self.settled = false;
     }
 }

@@ -1,8 +1,23 @@
 -- proofs/board/Board/empty/Answers.antt
-use Rattle.std.proofs.Common.{arith}
+use Rattle.std.proofs.Common.{◌≡◌, arith, ap, ◌∙◌, length}
+use Rattle.std.proofs.lemmas.List.{length-replicate}
+use Rattle.go_board.specs.declared.stones.Cell.TheVariants.{Empty}
 use Rattle.go_board.specs.declared.size.TheConstants.{MAX_POINTS}
-use Rattle.go_board.proofs.FrontLemmas.{grid_in-replicate}
+use Rattle.go_board.specs.Grid.{empty_grid}
+use Rattle.go_board.specs.Clearing.{has_unreaching}
+use Rattle.go_board.proofs.FrontLemmas.{grid_in, grid_in-replicate}
+use Rattle.go_board.proofs.SettledLemmas.{settled-empty_grid}
 use Rattle.go_board.proofs.board.Board.empty.Goals as goal
 
+empty_front : (c : goal.After-nothing) → grid_in c.args.size c.nothing.result ≡ empty_grid c.args.size
+empty_front c = grid_in-replicate c.args.size MAX_POINTS c.nothing.result c.nothing.ensures (omega arith)
+
+pub invariant_of-result : goal.invariant_of-result
+invariant_of-result c =
+    ( ap length c.nothing.ensures ∙ length-replicate MAX_POINTS Empty
+    , omega arith
+    , λ _. ap has_unreaching (empty_front c) ∙ settled-empty_grid c.args.size
+    )
+
 pub returns : goal.returns
-returns c = grid_in-replicate c.args.size MAX_POINTS c.nothing.result c.nothing.ensures (omega arith)
+returns c = empty_front c

@@ -11,6 +11,5 @@ returns c =
     let reaching = c.reached-reaching in
     let all : length g.cells ≡ g.side * g.side = ap length (sym c.cells.ensures.cells) ∙ c.cells.ensures.all in
     c.any_unreaching.ensures
-    ∙ ap (λ l. any_unreaching l c.as_slice.result.now) c.cells.ensures.cells
-    ∙ ap (any_unreaching g.cells) c.as_slice.ensures.marks
+    ∙ ap (λ l. any_unreaching l reaching.result.marks) c.cells.ensures.cells
     ∙ any_unreaching-has_unreaching g all reaching.result reaching.ensures.side reaching.ensures.marks

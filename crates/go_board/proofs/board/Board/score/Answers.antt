@@ -14,9 +14,7 @@ returns-clause-black c =
     let white = c.reached-white in
     let all : length g.cells ≡ g.side * g.side = ap length (sym c.cells.ensures.cells) ∙ c.cells.ensures.all in
     c.count.ensures
-    ∙ ap (λ l. count_of l BlackCell c.as_slice.result.now c.as_slice-2.result.now) c.cells.ensures.cells
-    ∙ ap (λ l. count_of g.cells BlackCell l c.as_slice-2.result.now) c.as_slice.ensures.marks
-    ∙ ap (count_of g.cells BlackCell black.result.marks) c.as_slice-2.ensures.marks
+    ∙ ap (λ l. count_of l BlackCell black.result.marks white.result.marks) c.cells.ensures.cells
     ∙ count_of-score_of g all Black black.result white.result black.ensures.side white.ensures.side black.ensures.marks white.ensures.marks
 
 pub returns-clause-white : goal.returns-clause-white
@@ -27,7 +25,5 @@ returns-clause-white c =
     let white = c.reached-white in
     let all : length g.cells ≡ g.side * g.side = ap length (sym c.cells.ensures.cells) ∙ c.cells.ensures.all in
     c.count-2.ensures
-    ∙ ap (λ l. count_of l WhiteCell c.as_slice-3.result.now c.as_slice-4.result.now) c.cells-2.ensures.cells
-    ∙ ap (λ l. count_of g.cells WhiteCell l c.as_slice-4.result.now) c.as_slice-3.ensures.marks
-    ∙ ap (count_of g.cells WhiteCell white.result.marks) c.as_slice-4.ensures.marks
+    ∙ ap (λ l. count_of l WhiteCell white.result.marks black.result.marks) c.cells-2.ensures.cells
     ∙ count_of-score_of g all White white.result black.result white.ensures.side black.ensures.side white.ensures.marks black.ensures.marks

@@ -10,13 +10,13 @@ use Rattle.go_board.specs.Search.{nothing_found, with_found}
 use Rattle.go_board.specs.Flood.{with_points, with_colour}
 use Rattle.go_board.proofs.PointLemmas.{above_zero}
 use Rattle.go_board.proofs.GridLemmas.{cell_at-place, same_cell-eq}
-use Rattle.go_board.proofs.FloodLemmas.{with_points-step, with_points-all}
+use Rattle.go_board.proofs.ColourFloodLemmas.{with_points-step, with_points-all}
 use Rattle.go_board.proofs.board.Board.search_from.Goals as goal
 use Rattle.go_board.proofs.board.Board.search_from.Goals.{then-eq, else-eq}
 
 pub loop-cell-init : goal.loop-cell-init
 unfolding with_colour
-loop-cell-init c =
+loop-cell-init r c =
     let g = c.args.self.now in
     let found = c.new-search.ensures ∙ ap nothing_found c.size.ensures in
     record {
@@ -27,7 +27,7 @@ loop-cell-init c =
     }
 
 pub loop-cell-preserved : goal.loop-cell-preserved
-loop-cell-preserved c =
+loop-cell-preserved r c =
     let g = c.args.self.now in
     let l = c.loop-cell in
     let items = c.cells-cell-items in
@@ -52,5 +52,5 @@ loop-cell-preserved c =
     }
 
 pub returns : goal.returns
-returns c =
+returns r c =
     with_points-all c.args.self.now c.args.target c.loop-cell.cell-index c.loop-cell.search (omega (arith, c.loop-cell-test.false, c.cells-cell-items.ensures.all)) ∙ c.loop-cell.invariant.remaining

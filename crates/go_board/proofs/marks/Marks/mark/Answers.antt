@@ -1,7 +1,17 @@
 -- proofs/marks/Marks/mark/Answers.antt
-use Rattle.go_board.proofs.FrontLemmas.{marking_in-set}
+use Rattle.std.proofs.Common.{◌*◌, ◌%◌, ◌^◌, set, get_or, bit_or, arith, ap, sym, subst, ◌∙◌}
+use Rattle.go_board.specs.Point.{IsOn}
+use Rattle.go_board.specs.Marking.{marking_of}
+use Rattle.go_board.specs.Rows.{is_set}
+use Rattle.go_board.specs.Search.{with_mark}
+use Rattle.go_board.proofs.RowLemmas.{rows-with_bit}
 use Rattle.go_board.proofs.marks.Marks.mark.Goals as goal
 
 pub returns : goal.returns
 returns c =
-    marking_in-set c.self.inside.size c.self.inside.marked c.args.self.now c.args.point c.place.result c.self.view_is c.place.ensures.value c.place.ensures.within
+    let i = c.self.inside in
+    let p = c.args.point in
+    let on : IsOn i.size p = subst (λ m. IsOn m.side p) (sym c.self.view_is) c.requires in
+    ap (λ r. marking_of i.size (is_set (set i.rows r (bit_or (get_or i.rows r 0) (1 * 2 ^ p.col % 2 ^ 64))))) c.from.ensures
+    ∙ rows-with_bit i.size i.rows p (omega (arith, c.self.invariant)) (omega (arith, c.self.invariant)) on
+    ∙ ap (λ m. with_mark m p) c.self.view_is

@@ -1,8 +1,7 @@
 -- proofs/marks/Marks/none/Answers.antt
-use Rattle.std.proofs.Common.{arith}
-use Rattle.go_board.specs.declared.size.TheConstants.{MAX_POINTS}
-use Rattle.go_board.proofs.FrontLemmas.{marking_in-replicate}
+use Rattle.go_board.specs.declared.size.TheConstants.{MAX_ROWS}
+use Rattle.go_board.proofs.RowLemmas.{rows-none}
 use Rattle.go_board.proofs.marks.Marks.none.Goals as goal
 
 pub returns : goal.returns
-returns c = marking_in-replicate c.args.size MAX_POINTS c.unmarked.result c.unmarked.ensures (omega arith)
+returns c = rows-none c.args.size MAX_ROWS c.no_rows.result c.no_rows.ensures

@@ -1,0 +1,212 @@
+-- proofs/MoveLemmas.antt
+-- A move on a grid where every stone reaches empty: taking the dead groups beside the stone, and then its own, is the
+-- whole move.
+use Rattle.std.proofs.Common.{◌≡◌, ◌≢◌, ◌⊎◌, inl, inr, ◌*◌, Bool, true, false, List, [], ◌∷◌, length, refl, sym, ap, subst, ◌∙◌, IsTrue}
+use Rattle.std.specs.Option.{ForSome}
+use Rattle.std.proofs.lemmas.List.{length-set}
+use Rattle.go_board.specs.declared.stones.Cell.{Cell}
+use Rattle.go_board.specs.declared.stones.Cell.TheVariants.{Empty}
+use Rattle.go_board.specs.declared.stones.Colour.{Colour}
+use Rattle.go_board.specs.declared.stones.Colour.TheVariants.{Black, White}
+use Rattle.go_board.specs.declared.points.Point.{Point}
+use Rattle.go_board.specs.Colour.{opponent, stone_of}
+use Rattle.go_board.specs.Point.{IsOn, AreAdjacent, place_of}
+use Rattle.go_board.specs.Grid.{Grid, cell_at, with_cell}
+use Rattle.go_board.specs.Reaching.{Leads, Reaches}
+use Rattle.go_board.specs.Clearing.{clear, play, has_unreaching}
+use Rattle.go_board.specs.Flood.{left_of, right_of, above, below}
+use Rattle.go_board.specs.Groups.{AllReach, ReachBeside, ReachesIfStone, LosesDead}
+use Rattle.go_board.proofs.PointLemmas.{same_or_not}
+use Rattle.go_board.proofs.GridLemmas.{same_grid, cell_at-with_cell, cell_at-with_cell_elsewhere}
+use Rattle.go_board.proofs.ReachingLemmas.{Leads-on, Leads-next, path_by_step}
+use Rattle.go_board.proofs.NeighbourLemmas.{AreAdjacent-sym, IsNeighbour, IsNeighbour-adjacent}
+use Rattle.go_board.proofs.GroupLemmas.{stone_of≢Empty}
+use Rattle.go_board.proofs.SettledLemmas.{clear-AllReach, AllReach-settled}
+
+opponent_differs : (k : Colour) → stone_of k ≢ stone_of (opponent k)
+opponent_differs Black = λ e. cc
+opponent_differs White = λ e. cc
+
+-- taking nothing, and taking twice
+
+pub LosesDead-none : (g : Grid) (k : Colour) → LosesDead g g k
+LosesDead-none g k = record {
+  same_side = refl;
+  all = refl;
+  taken = λ p on. inl refl;
+  still = λ p on way. way;
+  cleared = refl
+}
+
+pub LosesDead-twice : (g h i : Grid) (k : Colour) → LosesDead g h k → LosesDead h i k → LosesDead g i k
+LosesDead-twice g h i k first second = record {
+  same_side = second.same_side ∙ first.same_side;
+  all = second.all ∙ first.all;
+  taken = λ p on.
+    elim (second.taken p (subst (λ s. IsOn s p) (sym first.same_side) on))
+    [ inl same ↦
+      elim (first.taken p on) [ inl was ↦ inl (same ∙ was) | inr gone ↦ inr (same ∙ gone.0, gone.1) ]
+    | inr gone ↦
+      elim (first.taken p on) [ inl was ↦ inr (gone.0, sym was ∙ gone.1) | inr before ↦ inr (gone.0, before.1) ]
+    ];
+  still = λ p on way. second.still p (subst (λ s. IsOn s p) (sym first.same_side) on) (first.still p on way);
+  cleared = second.cleared ∙ first.cleared
+}
+
+-- a stone of the colour that is left was there before
+pub left_over : (g h : Grid) (k d : Colour) (p : Point) → LosesDead g h k → IsOn g.side p → cell_at h p ≡ stone_of d → cell_at g p ≡ stone_of d
+left_over g h k d p loses on left =
+    elim (loses.taken p on)
+    [ inl same ↦ sym same ∙ left | inr gone ↦ absurd (stone_of≢Empty d (sym left ∙ gone.0)) ]
+
+-- After a point p of g was coloured and some points were emptied, which gives h: all stones of a colour still reach empty
+-- if those beside p do, and that on p.
+module _ (g : Grid) (cells : List Cell) (p : Point) (k : Colour) (fewer : (r : Point) → IsOn g.side r → r ≢ p → (cell_at (record g { cells = cells }) r ≡ Empty) ⊎ (cell_at (record g { cells = cells }) r ≡ cell_at g r)) (beside : (q : Point) → IsOn g.side q → AreAdjacent p q → cell_at (record g { cells = cells }) q ≡ stone_of k → Reaches (record g { cells = cells }) Empty q) (there : cell_at (record g { cells = cells }) p ≡ stone_of k → Reaches (record g { cells = cells }) Empty p) where
+  h : Grid
+  h = record g { cells = cells }
+
+  step_to_empty : (q r : Point) → IsOn g.side q → AreAdjacent q r → IsOn g.side r → cell_at h r ≡ Empty → Reaches h Empty q
+  unfolding h
+  step_to_empty q r on next at free = (r ∷ [], (on, refl, next, (at, free)))
+
+  follow : (path : List Point) (q : Point) → Leads g (stone_of k) Empty q path → cell_at h q ≡ stone_of k → Reaches h Empty q
+  unfolding h
+  follow [] q way own =
+      elim (same_or_not q p)
+      [ inl same ↦ subst (λ r. Reaches h Empty r) (sym same) (there (subst (λ r. cell_at h r ≡ stone_of k) same own))
+      | inr other ↦
+        elim (fewer q way.0 other)
+        [ inl free ↦ absurd (stone_of≢Empty k (sym own ∙ free))
+        | inr same ↦ absurd (stone_of≢Empty k (sym own ∙ same ∙ way.1))
+        ]
+      ]
+  follow (r ∷ path) q way own =
+      let at : IsOn g.side r = Leads-on g (stone_of k) Empty r path way.3 in
+      elim (same_or_not r p)
+      [ inl same ↦ beside q way.0 (AreAdjacent-sym q p (subst (λ s. AreAdjacent q s) same way.2)) own
+      | inr other ↦
+        elim (fewer r at other)
+        [ inl free ↦ step_to_empty q r way.0 way.2 at free
+        | inr kept ↦
+          elim (Leads-next g (stone_of k) Empty r path way.3)
+          [ inl stone ↦ path_by_step h Empty q r way.0 way.2 at (inl (kept ∙ stone ∙ sym own)) (follow path r way.3 (kept ∙ stone))
+          | inr free ↦ step_to_empty q r way.0 way.2 at (kept ∙ free)
+          ]
+        ]
+      ]
+
+  pub AllReach-after : AllReach g k → AllReach (record g { cells = cells }) k
+  unfolding h
+  AllReach-after before =
+      λ q on own.
+        elim (same_or_not q p)
+        [ inl same ↦ subst (λ r. Reaches h Empty r) (sym same) (there (subst (λ r. cell_at h r ≡ stone_of k) same own))
+        | inr other ↦
+          elim (fewer q on other)
+          [ inl free ↦ absurd (stone_of≢Empty k (sym own ∙ free))
+          | inr kept ↦
+            let stone = sym kept ∙ own in
+            let way = before q on stone in
+            follow way.0 q (subst (λ c. Leads g c Empty q way.0) stone way.1) own
+          ]
+        ]
+
+-- A stone is played on a grid where every stone reaches empty; then the opponent's dead groups are taken, and the own one.
+module _ (g : Grid) (p : Point) (k : Colour) (on : IsOn g.side p) (all : length g.cells ≡ g.side * g.side) (settled : has_unreaching g ≡ false) where
+  module _ (cells : List Cell) (first : LosesDead (with_cell g p (stone_of k)) (record g { cells = cells }) (opponent k)) (around : ReachBeside (record g { cells = cells }) (opponent k) p) where
+    after : Grid
+    after = record g { cells = cells }
+
+    length-after : length after.cells ≡ g.side * g.side
+    unfolding after
+    length-after = first.all ∙ length-set g.cells (place_of g.side p) (stone_of k) ∙ all
+
+    -- the stone is still there
+    stone_stays : cell_at after p ≡ stone_of k
+    unfolding after
+    stone_stays =
+        elim (first.taken p on)
+        [ inl same ↦ same ∙ cell_at-with_cell g p (stone_of k) on all
+        | inr gone ↦ absurd (opponent_differs k (sym (cell_at-with_cell g p (stone_of k) on all) ∙ gone.1))
+        ]
+
+    fewer : (r : Point) → IsOn g.side r → r ≢ p → (cell_at after r ≡ Empty) ⊎ (cell_at after r ≡ cell_at g r)
+    unfolding after
+    fewer r at other =
+        elim (first.taken r at)
+        [ inl same ↦ inr (same ∙ cell_at-with_cell_elsewhere g p r (stone_of k) on at other) | inr gone ↦ inl gone.0 ]
+
+    opponent_cleared : clear (with_cell g p (stone_of k)) (opponent k) ≡ after
+    unfolding after
+    opponent_cleared =
+        sym first.cleared
+        ∙ clear-AllReach after (opponent k) length-after
+          (AllReach-after g cells p (opponent k) fewer around
+            (λ e. absurd (opponent_differs k (sym stone_stays ∙ e)))
+            (AllReach-settled g (opponent k) settled))
+
+    module _ (rest : List Cell) (second : LosesDead (record g { cells = cells }) (record g { cells = rest }) k) (own : ReachesIfStone (record g { cells = rest }) k p) where
+      left : Grid
+      left = record g { cells = rest }
+
+      fewer_left : (r : Point) → IsOn g.side r → r ≢ p → (cell_at left r ≡ Empty) ⊎ (cell_at left r ≡ cell_at g r)
+      unfolding left after
+      fewer_left r at other =
+          elim (second.taken r at)
+          [ inl same ↦ elim (fewer r at other) [ inl free ↦ inl (same ∙ free) | inr was ↦ inr (same ∙ was) ]
+          | inr gone ↦ inl gone.0
+          ]
+
+      -- a neighbour of the stone's colour reaches empty by the stone, or by the point that it left
+      own_beside : ReachBeside left k p
+      unfolding left after
+      own_beside = λ q at next stone.
+          elim (second.taken p on)
+          [ inl same ↦
+            path_by_step left Empty q p at (AreAdjacent-sym p q next) on (inl (same ∙ stone_stays ∙ sym stone)) (own (same ∙ stone_stays))
+          | inr gone ↦ (p ∷ [], (at, refl, AreAdjacent-sym p q next, (on, gone.0)))
+          ]
+
+      pub is_play : record g { cells = rest } ≡ play g k p
+      unfolding left after play
+      is_play =
+          sym
+          (ap (λ x. clear x k) opponent_cleared
+            ∙ sym second.cleared
+            ∙ clear-AllReach left k (second.all ∙ length-after)
+              (AllReach-after g rest p k fewer_left own_beside own (AllReach-settled g k settled)))
+
+-- the move, where every stone reaches empty: the opponent's dead groups beside the point are taken, and then its own
+pub captured_is_play : (g h i : Grid) (p : Point) (k : Colour) → IsOn g.side p → length g.cells ≡ g.side * g.side → has_unreaching g ≡ false → LosesDead (with_cell g p (stone_of k)) h (opponent k) → ReachBeside h (opponent k) p → LosesDead h i k → ReachesIfStone i k p → i ≡ play g k p
+captured_is_play g h i p k on all settled first around second own =
+    let eh = same_grid (record g { cells = h.cells }) h (sym first.same_side) refl in
+    let ei = same_grid (record g { cells = i.cells }) i (sym (second.same_side ∙ first.same_side)) refl in
+    sym ei
+    ∙ is_play g p k on all settled h.cells
+      (subst (λ x. LosesDead (with_cell g p (stone_of k)) x (opponent k)) (sym eh) first)
+      (subst (λ x. ReachBeside x (opponent k) p) (sym eh) around)
+      i.cells
+      (subst (λ x. LosesDead (record g { cells = h.cells }) x k) (sym ei) (subst (λ x. LosesDead x i k) (sym eh) second))
+      (subst (λ x. ReachesIfStone x k p) (sym ei) own)
+
+-- a stone that reaches empty, if it is one, does so after a group was taken
+still_settled : (g h : Grid) (k : Colour) (q : Point) → LosesDead g h k → IsOn g.side q → ReachesIfStone g k q → ReachesIfStone h k q
+still_settled g h k q loses on settled = λ stone. loses.still q on (settled (left_over g h k k q loses on stone))
+
+on_next : (g h : Grid) (k : Colour) (q : Point) → LosesDead g h k → IsOn g.side q → IsOn h.side q
+on_next g h k q loses on = subst (λ s. IsOn s q) (sym loses.same_side) on
+
+-- the dead groups of the four neighbours are taken in turn
+pub ReachBeside-four : (a b c d e : Grid) (k : Colour) (p : Point) → LosesDead a b k → LosesDead b c k → LosesDead c d k → LosesDead d e k → ForSome (left_of p) (ReachesIfStone b k) → ForSome (right_of a.side p) (ReachesIfStone c k) → ForSome (above p) (ReachesIfStone d k) → ForSome (below a.side p) (ReachesIfStone e k) → ReachBeside e k p
+unfolding IsNeighbour
+ReachBeside-four a b c d e k p ab bc cd de left right up down = λ q at beside.
+    let on : IsOn a.side q = subst (λ s. IsOn s q) (de.same_side ∙ cd.same_side ∙ bc.same_side ∙ ab.same_side) at in
+    let in_b = on_next a b k q ab on in
+    let in_c = on_next b c k q bc in_b in
+    let in_d = on_next c d k q cd in_c in
+    elim (IsNeighbour-adjacent a.side p q on beside)
+    [ inl is ↦ still_settled d e k q de in_d (still_settled c d k q cd in_c (still_settled b c k q bc in_b (left q is)))
+    | inr (inl is) ↦ still_settled d e k q de in_d (still_settled c d k q cd in_c (right q is))
+    | inr (inr (inl is)) ↦ still_settled d e k q de in_d (up q is)
+    | inr (inr (inr is)) ↦ down q is
+    ]
