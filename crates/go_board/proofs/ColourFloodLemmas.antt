@@ -29,7 +29,7 @@ pub reached_through : (g : Grid) (k : Cell) → Carries g k (Reaches g k)
 unfolding Carries
 reached_through g k p q on at beside way through =
     let kind : (cell_at g p ≡ cell_at g q) ⊎ (cell_at g p ≡ k) =
-      elim ((Decides-reaches_through g k p q).0 through) [ inl there ↦ inr there | inr same ↦ inl (sym same) ] in
+    elim ((Decides-reaches_through g k p q).0 through) [ inl there ↦ inr there | inr same ↦ inl (sym same) ] in
     path_by_step g k q p at (AreAdjacent-sym p q beside) on kind way
 
 -- the points of the colour are marked
@@ -44,8 +44,8 @@ complete g k s way seeded all own p (q ∷ path) leads =
     let at = Leads-on g own k q path leads.3 in
     let listed = way.flood.listed q at (complete g k s way seeded all own q path leads.3) in
     let through : IsTrue (reaches_through g k q p) =
-      (Decides-reaches_through g k q p).1
-      (elim (step_kind g own k p q path leads) [ inl same ↦ inr (sym same) | inr there ↦ inl there ]) in
+    (Decides-reaches_through g k q p).1
+    (elim (step_kind g own k p q path leads) [ inl same ↦ inr (sym same) | inr there ↦ inl there ]) in
     way.closed listed.0 (omega (arith, all, listed.1)) p leads.0
     (subst (λ x. AreAdjacent x p) (sym listed.2) (AreAdjacent-sym p q leads.2))
     (subst (λ x. IsTrue (reaches_through g k x p)) (sym listed.2) through)
@@ -75,37 +75,37 @@ points_done g k (p ∷ ps) s all flood =
     let on = All-head (IsOn g.side) p ps all in
     let first = point_done g k p s (same_cell (cell_at g p) k) refl flood on in
     let here = cond (same_cell (cell_at g p) k) (with_found s p) s in
-    let rest = points_done g k ps here (All-tail (IsOn g.side) p ps all) first.0 in
-    ( rest.0
-    , Grows-trans _ _ _ first.1 rest.1
-    , IsMarkedAlong-cons g k p ps (with_points g k ps here) (λ c. rest.1.keeps p (first.2 c)) rest.2
+    let rest = points_done g k ps here (All-tail (IsOn g.side) p ps all) first.0 in (
+      rest.0,
+      Grows-trans _ _ _ first.1 rest.1,
+      IsMarkedAlong-cons g k p ps (with_points g k ps here) (λ c. rest.1.keeps p (first.2 c)) rest.2,
     )
 
 All-on-points : (side : ℕ) → All (IsOn side) (points side)
 All-on-points side =
     All-from_get_or (IsOn side) (points side) origin
     (λ i h.
-      let within : i < side * side = rw (← length-points side) h in
-      rw (get_or-points side i within) (IsOn-point_at side i within))
+    let within : i < side * side = rw (← length-points side) h in
+    rw (get_or-points side i within) (IsOn-point_at side i within))
 
 -- before the first point is taken
 pub IsUnderWay-with_colour : (g : Grid) (k : Cell) → IsUnderWay g k (Reaches g k) (with_colour g k) × IsSeeded g k (with_colour g k) × ((with_colour g k).taken ≡ 0)
 unfolding with_colour IsMarkedAlong IsSeeded IsClosed
 IsUnderWay-with_colour g k =
     let done = points_done g k (points g.side) (nothing_found g.side) (All-on-points g.side) (IsFlood-nothing_found g (Reaches g k)) in
-    let taken : (with_colour g k).taken ≡ 0 = done.1.same_taken in
-    ( record {
+    let taken : (with_colour g k).taken ≡ 0 = done.1.same_taken in (
+      record {
         flood = done.0;
         closed = λ i h. absurd (omega (arith, taken, h));
-        in_turn = omega (arith, taken)
-      }
-    , λ p on c.
-        let below = place_below g.side p on in
-        let within : place_of g.side p < length (points g.side) = rw length-points below in
-        let same : get_or (points g.side) (place_of g.side p) origin ≡ p = get_or-points g.side (place_of g.side p) below ∙ point_at-place_of g.side p on in
-        subst (λ x. IsTrue (is_marked (with_colour g k).marking x)) same
-        (done.2 (place_of g.side p) within (ap (cell_at g) same ∙ c))
-    , taken
+        in_turn = omega (arith, taken);
+      },
+      λ p on c.
+          let below = place_below g.side p on in
+          let within : place_of g.side p < length (points g.side) = rw length-points below in
+          let same : get_or (points g.side) (place_of g.side p) origin ≡ p = get_or-points g.side (place_of g.side p) below ∙ point_at-place_of g.side p on in
+          subst (λ x. IsTrue (is_marked (with_colour g k).marking x)) same
+          (done.2 (place_of g.side p) within (ap (cell_at g) same ∙ c)),
+      taken,
     )
 
 side-with_found : (b : Bool) (s : Searched) (p : Point) → is_marked s.marking p ≡ b → (with_found s p).marking.side ≡ s.marking.side
@@ -130,7 +130,6 @@ with_points-next g k i p s t below at col is =
 pub with_points-step : (g : Grid) (k : Cell) (i : ℕ) (p : Point) (s t : Searched) → i < g.side * g.side → place_of g.side p ≡ i → p.col < g.side → t ≡ cond (same_cell (cell_at g p) k) (with_found s p) s → (with_points g k (drop (i + 1) (points g.side)) t ≡ with_points g k (drop i (points g.side)) s) × (t.marking.side ≡ s.marking.side)
 unfolding with_points
 with_points-step g k i p s t below at col is = (sym (with_points-next g k i p s t below at col is), ap (λ u. u.marking.side) is ∙ side-cond_found _ s p)
-
 
 -- once all points of the grid were looked at
 pub with_points-all : (g : Grid) (k : Cell) (i : ℕ) (s : Searched) → g.side * g.side ≤ i → s ≡ with_points g k (drop i (points g.side)) s

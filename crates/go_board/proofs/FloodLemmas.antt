@@ -49,7 +49,7 @@ Grows-refl s = record {
   keeps = λ p h. h;
   longer = omega arith;
   same_found = λ i h. refl;
-  same_taken = refl
+  same_taken = refl;
 }
 
 pub Grows-trans : (s t u : Searched) → Grows s t → Grows t u → Grows s u
@@ -58,7 +58,7 @@ Grows-trans s t u a b = record {
   keeps = λ p h. b.keeps p (a.keeps p h);
   longer = omega (arith, a.longer, b.longer);
   same_found = λ i h. b.same_found i (omega (arith, h, a.longer)) ∙ a.same_found i h;
-  same_taken = b.same_taken ∙ a.same_taken
+  same_taken = b.same_taken ∙ a.same_taken;
 }
 
 pub IsClosed-grows : (g : Grid) (k : Cell) (s t : Searched) (n : ℕ) → Grows s t → n ≤ length s.found → IsClosed g k s n → IsClosed g k t n
@@ -110,11 +110,11 @@ module _ (g : Grid) (What : Point → Type 0) (s : Searched) (p : Point) (flood 
     same_side = flood.same_side;
     all_marks = length-set s.marking.marks (place_of s.marking.side p) true ∙ flood.all_marks;
     holds = λ q at h.
-      elim (marked_next q at h)
-      [ inl e ↦ subst What e way | inr before ↦ flood.holds q at before ];
+        elim (marked_next q at h)
+        [ inl e ↦ subst What e way | inr before ↦ flood.holds q at before ];
     listed = λ q at h.
-      elim (marked_next q at h)
-      [ inl e ↦ subst (λ x. Listed next x) e listed_new | inr before ↦ listed_next q (flood.listed q at before) ]
+        elim (marked_next q at h)
+        [ inl e ↦ subst (λ x. Listed next x) e listed_new | inr before ↦ listed_next q (flood.listed q at before) ];
   }
 
   Grows-next : Grows s next
@@ -123,7 +123,7 @@ module _ (g : Grid) (What : Point → Type 0) (s : Searched) (p : Point) (flood 
     keeps = λ q h. is_marked-with_mark_keeps s.marking p q h;
     longer = omega (arith, length_push s.found p);
     same_found = λ i h. get_or_append_left s.found (p ∷ []) origin i h;
-    same_taken = refl
+    same_taken = refl;
   }
 
   marked-next : IsTrue (is_marked next.marking p)
@@ -150,7 +150,7 @@ IsFlood-nothing_found g What = record {
   same_side = refl;
   all_marks = length-replicate (g.side * g.side) false;
   holds = λ p on h. absurd (false≢true (sym (get_or-replicate_default (g.side * g.side) (place_of g.side p) false) ∙ h));
-  listed = λ p on h. absurd (false≢true (sym (get_or-replicate_default (g.side * g.side) (place_of g.side p) false) ∙ h))
+  listed = λ p on h. absurd (false≢true (sym (get_or-replicate_default (g.side * g.side) (place_of g.side p) false) ∙ h));
 }
 
 pub Decides-reaches_through : (g : Grid) (k : Cell) (p q : Point) → Decides (reaches_through g k p q) ((cell_at g p ≡ k) ⊎ (cell_at g q ≡ cell_at g p))
@@ -176,13 +176,13 @@ module _ (g : Grid) (k : Cell) (What : Point → Type 0) (carries : Carries g k 
       record {
         flood = done.0;
         grows = done.1;
-        marked = λ r same _. let e' : q ≡ r = cc in subst (λ x. IsTrue (is_marked (with_found s q).marking x)) e' done.2
+        marked = λ r same _. let e' : q ≡ r = cc in subst (λ x. IsTrue (is_marked (with_found s q).marking x)) e' done.2;
       }
   found_by q s false e flood at beside = record {
     flood = flood;
     grows = Grows-refl s;
     marked = λ r same through. let e' : q ≡ r = cc in
-      absurd (false≢true (sym e ∙ subst (λ x. IsTrue (reaches_through g k p x)) (sym e') through))
+        absurd (false≢true (sym e ∙ subst (λ x. IsTrue (reaches_through g k p x)) (sym e') through));
   }
 
   neighbour_done : (to : Option Point) (s : Searched) → AllNeighbour g.side p to → IsFlood g What s → NeighbourDone g k What p to s (with_neighbour g k p to s)
@@ -208,17 +208,17 @@ module _ (g : Grid) (k : Cell) (What : Point → Type 0) (carries : Carries g k 
       let left = neighbour_done (left_of p) s (left-neighbour g.side p on) flood in
       let right = neighbour_done (right_of g.side p) a (right-neighbour g.side p on) left.flood in
       let up = neighbour_done (above p) b (above-neighbour g.side p on) right.flood in
-      let down = neighbour_done (below g.side p) c (below-neighbour g.side p on) up.flood in
-      ( down.flood
-      , Grows-trans s a d left.grows
-          (Grows-trans a b d right.grows (Grows-trans b c d up.grows down.grows))
-      , λ q at beside through.
-          elim (IsNeighbour-adjacent g.side p q at beside)
-          [ inl e ↦ down.grows.keeps q (up.grows.keeps q (right.grows.keeps q (left.marked q e through)))
-          | inr (inl e) ↦ down.grows.keeps q (up.grows.keeps q (right.marked q e through))
-          | inr (inr (inl e)) ↦ down.grows.keeps q (up.marked q e through)
-          | inr (inr (inr e)) ↦ down.marked q e through
-          ]
+      let down = neighbour_done (below g.side p) c (below-neighbour g.side p on) up.flood in (
+        down.flood,
+        Grows-trans s a d left.grows
+            (Grows-trans a b d right.grows (Grows-trans b c d up.grows down.grows)),
+        λ q at beside through.
+            elim (IsNeighbour-adjacent g.side p q at beside) [
+              | inl e ↦ down.grows.keeps q (up.grows.keeps q (right.grows.keeps q (left.marked q e through)))
+              | inr (inl e) ↦ down.grows.keeps q (up.grows.keeps q (right.marked q e through))
+              | inr (inr (inl e)) ↦ down.grows.keeps q (up.marked q e through)
+              | inr (inr (inr e)) ↦ down.marked q e through
+            ],
       )
 
 -- a flood under way: the points taken were dealt with
@@ -232,7 +232,7 @@ IsFlood-taken g What s n flood = record {
   same_side = flood.same_side;
   all_marks = flood.all_marks;
   holds = flood.holds;
-  listed = flood.listed
+  listed = flood.listed;
 }
 
 -- one point more is taken and dealt with
@@ -245,14 +245,14 @@ IsUnderWay-step g k What carries s p way more here on marked =
     let taken : t.taken ≡ s.taken + 1 = done.1.same_taken in
     let same : get_or t.found s.taken origin ≡ p = done.1.same_found s.taken more ∙ here in
     let closed : IsClosed g k t (s.taken + 1) =
-      below_more _ _ (IsClosed-grows g k next t s.taken done.1 way.in_turn way.closed)
-      (λ q at beside through.
-        done.2 q at (subst (λ x. AreAdjacent x q) same beside)
-        (subst (λ x. IsTrue (reaches_through g k x q)) same through)) in
-    ( record {
+    below_more _ _ (IsClosed-grows g k next t s.taken done.1 way.in_turn way.closed)
+    (λ q at beside through.
+    done.2 q at (subst (λ x. AreAdjacent x q) same beside)
+    (subst (λ x. IsTrue (reaches_through g k x q)) same through)) in (
+      record {
         flood = done.0;
         closed = subst (IsClosed g k t) (sym taken) closed;
-        in_turn = omega (arith, taken, more, done.1.longer)
-      }
-    , done.1
+        in_turn = omega (arith, taken, more, done.1.longer);
+      },
+      done.1,
     )

@@ -110,13 +110,13 @@ Decides-are_adjacent p q =
 -- two points are one or not
 pub same_or_not : (p q : Point) → (p ≡ q) ⊎ (p ≢ q)
 same_or_not p q =
-    elim (cases_eq p.col q.col)
-    [ inl col ↦
-      elim (cases_eq p.row q.row)
-      [ inl row ↦ inl (ap (λ a. record { col = a; row = p.row }) col ∙ ap (λ b. record { col = q.col; row = b }) row)
-      | inr other ↦ inr (λ e. other (ap (λ r. r.row) e))
-      ]
-    | inr other ↦ inr (λ e. other (ap (λ r. r.col) e))
+    elim (cases_eq p.col q.col) [
+      | inl col ↦
+          elim (cases_eq p.row q.row) [
+            | inl row ↦ inl (ap (λ a. record { col = a; row = p.row }) col ∙ ap (λ b. record { col = q.col; row = b }) row)
+            | inr other ↦ inr (λ e. other (ap (λ r. r.row) e))
+          ]
+      | inr other ↦ inr (λ e. other (ap (λ r. r.col) e))
     ]
 
 -- a point at a place of a list that goes row by row; behind its end, only the place is known

@@ -18,8 +18,9 @@ use Rattle.go_board.specs.Point.{IsOn}
 use Rattle.go_board.specs.Grid.{Grid, cell_at, empty_grid, grid_of}
 use Rattle.go_board.specs.Clearing.{play}
 
--- a state: the colouring; the colourings since the last setup, the present one among them, newest first; the player who
--- must move, or none where either may; how many passes in a row were made last; how many turns were made
+-- a state: the colouring; the colourings since the last setup of stones or since the beginning, the present one among
+-- them, newest first; the player who must move, or none where either may; how many passes in a row were made last; how
+-- many turns were made
 pub record State : Type 0 where
   pub colouring : Grid
   pub seen : List Grid
@@ -41,8 +42,8 @@ is_in r p =
 unfoldable pub with_area : Grid → SetupOp → Grid
 with_area g op = grid_of g.side (λ p. if is_in op.area p then op.cell else cell_at g p)
 
--- the state after a setup: its areas are coloured in order, nothing is cleared, and the colourings begin anew; a setup
--- of the player alone changes nothing else
+-- the state after a setup: its areas are coloured in order, nothing is cleared, the colourings begin anew, no passes
+-- count, and the player who must move is the one given, or none; with no areas the player is set and all else stays
 abbrev pub set_up : State → List SetupOp → Option Colour → State
 set_up s [] player = record s { player = player }
 set_up s (op ∷ ops) player =
@@ -64,7 +65,7 @@ turned s k (Stone p) =
 -- Why a turn isn't allowed, as facts.
 
 -- the reason holds of the turn: two passes in a row ended the game; it is the other player's turn; the point isn't
--- empty; the colouring that the stone makes was there since the last setup
+-- empty; the colouring that the stone makes was there since the last setup of stones
 abbrev pub Forbids : State → Colour → Play → Reason → Type 0
 Forbids s k x Over = s.passes ≡ 2
 Forbids s k x Turn = s.player ≡ Some (opponent k)
@@ -113,7 +114,7 @@ abbrev pub is_occupied : State → Play → Bool
 is_occupied s Pass = false
 is_occupied s (Stone p) = not (same_cell (cell_at s.colouring p) Empty)
 
--- whether the colouring that a turn's stone makes was there since the last setup
+-- whether the colouring that a turn's stone makes was there since the last setup of stones
 abbrev pub is_repeat : State → Colour → Play → Bool
 is_repeat s k Pass = false
 is_repeat s k (Stone p) = list_any (same_grid (play s.colouring k p)) s.seen

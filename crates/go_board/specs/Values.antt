@@ -44,6 +44,6 @@ rect_value _ side = None
 abbrev pub column_letters : List ℕ
 column_letters = codes "ABCDEFGHJKLMNOPQRSTUVWXYZ"
 
--- a point in GTP: the letter of its column, and its row counted from 1 from the bottom
+-- a point in GTP, on a side of 25 at most: the letter of its column, and its row counted from 1 from the bottom
 unfoldable pub vertex_of : Point → ℕ → Vertex
 vertex_of p side = record { letter = slice_index column_letters p.col; row = side - p.row }

@@ -23,7 +23,8 @@ pub enum Reason {
     Turn,
     /// The point isn't empty.
     Occupied,
-    /// The stone would make a colouring that was there since the last setup (positional superko).
+    /// The stone would make a colouring that was there since the last setup of stones (positional
+    /// superko).
     Repeat,
 }
 

@@ -1,4 +1,4 @@
--- The collection of one text behind another.
+-- A collection further on in a text, for the law of one text behind another.
 use Rattle.std.specs.Prelude.{◌≡◌, ℕ, ◌+◌, List, [], ◌∷◌, map, take}
 use Rattle.sgf_tree.specs.Tree.{Node, Games, no_games, game}
 

@@ -2,7 +2,8 @@
 use Rattle.std.specs.Prelude.{◌≡◌, ◌≢◌, ℕ, ◌+◌, ◌-◌, ◌<◌, ◌≤◌, Bool, true, false, if◌then◌else◌, nat_lt, List, [], ◌∷◌, ◌++◌, length, slice_get, Option, Some, None, option_map}
 use Rattle.sgf_tree.specs.Tree.{Node, Games, no_games, game, node_count}
 
--- a node, the number of the node before it on its line (none for the root of a game), and whether it is the first behind a `(`
+-- a node, the number of the node before it on its line (none for the root of a game of the collection), and whether it
+-- is the first behind a `(`
 pub record Row : Type 0 where
   pub node : Node
   pub parent : Option ℕ
@@ -37,7 +38,7 @@ place_at c i = option_map (λ r. r.node.place) (slice_get (rows_of c) i)
 abbrev pub parent_at : Games → ℕ → Option (Option ℕ)
 parent_at c i = option_map (λ r. r.parent) (slice_get (rows_of c) i)
 
--- no node follows it on a line
+-- no node follows node i on a line
 abbrev pub IsLeaf : Games → ℕ → Type 0
 IsLeaf c i = (j : ℕ) → parent_at c j ≢ Some (Some i)
 

@@ -1,5 +1,5 @@
--- Which texts spell a collection: the EBNF of SGF FF[4], one constructor for each production.
--- In each relation s is what is left of the text before a thing, and r what is left behind it.
+-- Which texts spell a collection: the EBNF of SGF FF[4] down to the brackets of a value; what stands in these is any
+-- bytes, with escapes. In each relation s is what is left of the text before a thing, and r what is left behind it.
 use Rattle.std.specs.Prelude.{◌≡◌, ◌≢◌, ℕ, ◌+◌, Bool, ◌||◌, ◌&&◌, ◌==◌, nat_le, IsTrue, List, [], ◌∷◌, length}
 use Rattle.sgf_tree.specs.Tree.{Property, Node, Games, no_games, game}
 

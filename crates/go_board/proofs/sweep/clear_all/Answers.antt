@@ -18,8 +18,8 @@ loop-place-preserved c =
       done = cleared_more c.args.cells.now l.cells c.args.stone marks l.place c.cleared.result within l.invariant.done l.invariant.left is;
       left = left_more c.args.cells.now l.cells c.args.stone marks l.place c.cleared.result within l.invariant.left;
       at =
-        IsAt-next c.args.reaching.now.side l.place l.point next.result l.invariant.at
-        (rw c.size.ensures at next.ensures.value) (rw c.size.ensures at next.ensures.in_columns);
+          IsAt-next c.args.reaching.now.side l.place l.point next.result l.invariant.at
+          (rw c.size.ensures at next.ensures.value) (rw c.size.ensures at next.ensures.in_columns);
     }
 
 pub returns : goal.returns

@@ -8,7 +8,7 @@ loop-point-preserved c =
     let l = c.loop-point in
     record {
       remaining = emptied-next l.self c.set.new.self c.args.points.now l.point-index _ c.loop-point-test.true c.set.ensures ∙ l.invariant.remaining;
-      same_side = ap (λ g. g.side) c.set.ensures ∙ l.invariant.same_side
+      same_side = ap (λ g. g.side) c.set.ensures ∙ l.invariant.same_side;
     }
 
 pub returns : goal.returns

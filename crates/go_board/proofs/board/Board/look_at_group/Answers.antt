@@ -39,8 +39,8 @@ after_spread r c =
     subst (λ t. IsLooking g k c.args.from t × (t.taken ≡ s.taken + 1))
     (sym (c.spread.ensures ∙ ap (λ t. with_neighbours g Empty p t) took.taken))
     (IsLooking-step g k c.args.from s p looking
-      (IsNext-taken g k c.args.from s p looking took.next took.on_grid took.marked)
-      (sym c.has_liberty.ensures ∙ c.if-has_liberty.false))
+    (IsNext-taken g k c.args.from s p looking took.next took.on_grid took.marked)
+    (sym c.has_liberty.ensures ∙ c.if-has_liberty.false))
 
 pub loop-point-smaller : goal.loop-point-smaller
 loop-point-smaller r c =

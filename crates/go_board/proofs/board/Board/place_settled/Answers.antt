@@ -18,7 +18,7 @@ returns c =
     let around = c.capture_around in
     captured_is_play g around.new.self c.capture.new.self p k c.requires.on_board all c.requires.settled
     (subst (λ o. LosesDead (with_cell g p (stone_of k)) around.new.self o) c.opponent.ensures
-      (subst (λ h. LosesDead h around.new.self c.opponent.result) here around.ensures.taken))
+    (subst (λ h. LosesDead h around.new.self c.opponent.result) here around.ensures.taken))
     (subst (λ o. ReachBeside around.new.self o p) c.opponent.ensures around.ensures.beside)
     c.capture.ensures.taken
     (c.capture.ensures.settled p refl)
