@@ -13,7 +13,7 @@ import time
 
 HERE = os.path.dirname(os.path.abspath(__file__))
 PROGRAM = os.path.join(HERE, "..", "crates", "sgfsplit", "out", "sgfsplit")
-INPUTS = [("library", 20_000_000), ("nested", 1_000_000), ("flat", 1_000_000)]
+INPUTS = [("library", 20_000_000), ("annotated", 20_000_000), ("nested", 1_000_000), ("flat", 1_000_000)]
 
 
 def run(words, source, target):
