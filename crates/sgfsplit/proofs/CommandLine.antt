@@ -1,12 +1,10 @@
 -- clap takes the words that ask for a split.
-use Rattle.std.proofs.Common.{◌≡◌, ℕ, true, Bool, List, [], ◌∷◌, map, codes, refl, ap, subst, sym, ◌∙◌, false, rules}
-use Rattle.std.specs.Prelude.{Some}
+use Rattle.std.proofs.Common.{◌≡◌, ℕ, true, List, [], ◌∷◌, map, codes, refl, false}
 use Rattle.std.specs.List.{list_any}
 use Rattle.std.specs.Borrow.{Bor}
+use Rattle.clap.specs.Faults.{is_simple_and_free}
 use Rattle.clap.specs.Takes.{takes}
-use Rattle.clap.specs.ValueTests.{accepts}
 use Rattle.clap.specs.Values.{same_text}
-use Rattle.clap.specs.declared.builder.value_parser.ValueParser.TheVariants.{Names}
 use Rattle.clap.proofs.OnLiterals.{clap_on_literals}
 use Rattle.sgfsplit.specs.CommandLine.{program_line, split_words}
 
@@ -22,3 +20,8 @@ form_accepted (form ∷ forms) values =
 pub split_taken : (name : List ℕ) (forms : Forms) → map (λ form. form.now) forms.now ≡ codes "sgf" ∷ [] → takes (program_line forms) (split_words name) ≡ true
 unfolding clap_on_literals
 split_taken name forms values = rw (form_accepted forms.now values) refl
+
+-- the command is of the kind whose faults clap tells
+pub line_is_simple : (forms : Forms) → is_simple_and_free (program_line forms) ≡ true
+unfolding clap_on_literals
+line_is_simple forms = refl

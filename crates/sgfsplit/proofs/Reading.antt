@@ -1,8 +1,7 @@
 -- What the bytes read so far say of all that a reader had.
-use Rattle.std.proofs.Common.{◌≡◌, ℕ, ◌+◌, ◌<◌, ◌≤◌, List, [], ◌++◌, length, take, refl, sym, ap, ◌∙◌, subst, arith, length-append, length-take-le, append-nil}
+use Rattle.std.proofs.Common.{◌≡◌, ℕ, ◌+◌, ◌<◌, List, [], ◌++◌, length, sym, ap, ◌∙◌, arith, length-append, append-nil}
 use Rattle.std.specs.Prelude.{Option, Some, None}
 use Rattle.std.specs.Io.KnownBytes.{Consumes, IsAtEnd}
-use Rattle.std.proofs.KnownBytes.{Consumes-trans, Consumes-whole}
 use Rattle.sgfsplit.specs.Input.{IsWhole, HasMore}
 
 -- a read that gives nothing, at the end, leaves the bytes read before as the whole

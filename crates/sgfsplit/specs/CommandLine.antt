@@ -1,7 +1,8 @@
 -- The command line, as clap reads it.
-use Rattle.std.specs.Prelude.{◌≡◌, ℕ, ◌++◌, true, List, [], ◌∷◌, map, Option, Some, None, codes}
+use Rattle.std.specs.Prelude.{◌≡◌, ℕ, true, List, [], ◌∷◌, map, Some, codes}
 use Rattle.std.specs.Borrow.{Bor}
-use Rattle.clap.specs.Walk.{Rule, Text}
+use Rattle.clap.specs.Faults.{fault_of}
+use Rattle.clap.specs.Walk.{Rule}
 use Rattle.clap.specs.Simple.{App, new_app, new_rule, on_top, with_rule, with_subcommand}
 use Rattle.clap.specs.declared.builder.value_parser.ValueParser.TheVariants.{Names}
 
@@ -22,3 +23,9 @@ program_line forms =
 -- the words that ask for a split: a name of the program, `split --form sgf`
 abbrev pub split_words : List ℕ → List (List ℕ)
 split_words name = name ∷ codes "split" ∷ codes "--form" ∷ codes "sgf" ∷ []
+
+-- clap finds no fault in the words, read as a command line of the program whose one form is `sgf`
+abbrev pub AreFaultless : List (List ℕ) → Type 0
+AreFaultless words =
+    (forms : Bor (List (Bor (List ℕ)))) × (map (λ form. form.now) forms.now ≡ codes "sgf" ∷ [])
+    × (fault_of (program_line forms) words ≡ [])

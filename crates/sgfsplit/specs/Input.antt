@@ -1,5 +1,5 @@
 -- What a reader gives up to its end.
-use Rattle.std.specs.Prelude.{◌≡◌, ℕ, ◌<◌, ◌≤◌, List, length, Option, ⊤, Some, None, IfSome}
+use Rattle.std.specs.Prelude.{◌≡◌, ℕ, ◌<◌, List, length, Option, IfSome}
 
 -- the bytes are all that the reader had left, where it tells that
 abbrev pub IsWhole : Option (List ℕ) → List ℕ → Type 0

@@ -1,10 +1,10 @@
 //! The command line: `sgfsplit split --form sgf`.
 
-ghost use Rattle.std.specs.Prelude.{◌≡◌, false, ◌⊎◌, ℕ, List, [], ◌∷◌, map, IfOk, Ok, Err, codes, string_bytes};
+ghost use Rattle.std.specs.Prelude.{◌≡◌, false, ◌⊎◌, ℕ, List, [], ◌∷◌, map, IfOk, OnOk, Ok, Err, codes, string_bytes};
 ghost use Rattle.std.specs.Borrow.{Bor};
 ghost use Rattle.clap.specs.Walk.{rule_of};
 ghost use Rattle.clap.specs.Simple.{app_of};
-ghost use Rattle.sgfsplit.specs.CommandLine.{form_rule, program_line, split_words};
+ghost use Rattle.sgfsplit.specs.CommandLine.{form_rule, program_line, split_words, AreFaultless};
 
 use crate::request::{Job, JobFault};
 use clap::error::ErrorKind;
@@ -47,6 +47,7 @@ fn command<'a>(alloc: Global) -> Result<Command<'a>, AllocError>
 pub fn job<'a>(alloc: Global, words: &'a [String]) -> Result<Job, JobFault>
     ensures split { (name : List ℕ) → map string_bytes words.now ≡ split_words name
         → (result ≡ Ok Job.Split) ⊎ (result ≡ Err JobFault.Memory) }
+    ensures faultless { OnOk result (AreFaultless (map string_bytes words.now)) }
 {
     let Ok(command) = command(alloc) else {
         return Err(JobFault::Memory);

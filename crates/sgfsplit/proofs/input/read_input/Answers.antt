@@ -1,4 +1,4 @@
-use Rattle.std.proofs.Common.{◌≡◌, ◌≤◌, ◌<◌, ◌+◌, length, take, refl, ap, arith, length-append, length-take-le, subst, ◌∙◌, sym}
+use Rattle.std.proofs.Common.{take, ap, arith, length-take-le, subst, sym}
 use Rattle.std.specs.Io.KnownBytes.{Consumes}
 use Rattle.std.proofs.KnownBytes.{Consumes-trans}
 use Rattle.sgfsplit.proofs.Reading.{whole_at_end, longer_than_read}

@@ -1,4 +1,4 @@
-use Rattle.std.proofs.Common.{refl, rules, codes, ◌≡◌, List, map, [], ◌∷◌}
+use Rattle.std.proofs.Common.{rules, codes, ◌≡◌, map, [], ◌∷◌}
 use Rattle.clap.specs.Walk.{rule_of}
 use Rattle.sgfsplit.specs.CommandLine.{form_rule}
 use Rattle.sgfsplit.proofs.words.form_option.Goals as goal
