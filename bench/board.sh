@@ -1,5 +1,6 @@
 #!/bin/sh
-# Times a flood of the empty board, and a move, on sides 9, 19 and 52, by bench/board/main.rt. The program is no crate of
+# Times a flood of the empty board, and moves in three ways, on sides 9, 19 and 52, by bench/board/main.rt: with the groups
+# around the point looked at, the same on a copy of the board, and with the whole grid cleared. The program is no crate of
 # this repository, so that the gate doesn't prove it: it is built in a folder of its own beside a copy of go_board, which
 # BENCH_FOLDER names. The first run proves both, which takes minutes; a later one in the same folder takes seconds.
 set -eu
