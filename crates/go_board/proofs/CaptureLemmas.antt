@@ -1,29 +1,28 @@
 -- proofs/CaptureLemmas.antt
 -- A search over the group of a stone: it finds a liberty, or the group has none.
-use Rattle.std.proofs.Common.{◌≡◌, ◌≢◌, ◌⊎◌, inl, inr, ℕ, ◌+◌, ◌<◌, ◌≤◌, Bool, true, false, ◌||◌, Option, Some, None, List, [], ◌∷◌, length, get_or, slice_get, refl, sym, ap, ◌∙◌, subst, arith, below_more, IsTrue, Decides}
-use Rattle.std.proofs.lemmas.Bool.{false≢true, or_cases}
+use Rattle.std.proofs.Common.{◌≡◌, ◌≢◌, inl, inr, ℕ, ◌+◌, ◌<◌, true, false, Option, Some, None, [], ◌∷◌, length, get_or, slice_get, refl, sym, ap, ◌∙◌, subst, arith, below_more, IsTrue, Decides}
+use Rattle.std.proofs.lemmas.Bool.{false≢true}
 use Rattle.std.specs.List.{Contains}
 use Rattle.std.proofs.lemmas.List.Elements.{Contains-get_or}
 use Rattle.std.proofs.lemmas.Option.{get_or_from_slice_get, slice_get_within}
 use Rattle.std.proofs.lemmas.Bool.Decides.{Decides-or, Decides-like, not_from_Decides}
-use Rattle.go_board.specs.declared.stones.Cell.{Cell}
 use Rattle.go_board.specs.declared.stones.Cell.TheVariants.{Empty}
 use Rattle.go_board.specs.declared.stones.Colour.{Colour}
 use Rattle.go_board.specs.declared.points.Point.{Point}
-use Rattle.go_board.specs.Colour.{stone_of, same_cell}
+use Rattle.go_board.specs.Colour.{stone_of}
 use Rattle.go_board.specs.Point.{IsOn, AreAdjacent}
 use Rattle.go_board.specs.Grid.{Grid, cell_at}
 use Rattle.go_board.specs.Marking.{is_marked}
-use Rattle.go_board.specs.Reaching.{Leads, Reaches}
+use Rattle.go_board.specs.Reaching.{Reaches}
 use Rattle.go_board.specs.Search.{Searched, nothing_found, with_found, AllListed}
 use Rattle.go_board.specs.Flood.{left_of, right_of, above, below, reaches_through, with_neighbours}
 use Rattle.go_board.specs.Groups.{IsDead, is_free, has_liberty}
 use Rattle.go_board.proofs.PointLemmas.{origin}
 use Rattle.go_board.proofs.GridLemmas.{Decides-same_cell}
 use Rattle.go_board.proofs.ReachingLemmas.{path_by_step}
-use Rattle.go_board.proofs.NeighbourLemmas.{AreAdjacent-sym, IsNeighbour, IsNeighbour-adjacent, AllNeighbour, left-neighbour, right-neighbour, above-neighbour, below-neighbour}
+use Rattle.go_board.proofs.NeighbourLemmas.{IsNeighbour, IsNeighbour-adjacent, AllNeighbour, left-neighbour, right-neighbour, above-neighbour, below-neighbour}
 use Rattle.go_board.proofs.GroupLemmas.{stone_of≢Empty}
-use Rattle.go_board.proofs.FloodLemmas.{IsFlood, IsFlood-found, IsFlood-nothing_found, Decides-reaches_through, Carries, Grows, IsClosed, IsUnderWay, IsUnderWay-step}
+use Rattle.go_board.proofs.FloodLemmas.{IsFlood-found, IsFlood-nothing_found, Decides-reaches_through, Carries, IsClosed, IsUnderWay, IsUnderWay-step}
 
 -- there is a neighbour, and it is empty
 FreeAt : Grid → Option Point → Type 0
@@ -32,10 +31,10 @@ FreeAt g to = (q : Point) × (to ≡ Some q) × (cell_at g q ≡ Empty)
 Decides-is_free : (g : Grid) (to : Option Point) → Decides (is_free g to) (FreeAt g to)
 unfolding FreeAt
 Decides-is_free g None = (λ h. absurd (false≢true h), λ w. let no = w.1 in cc)
-Decides-is_free g (Some q) =
-    ( λ h. (q, refl, (Decides-same_cell _ _).0 h)
-    , λ w. let same : q ≡ w.0 = let e = w.1 in cc in (Decides-same_cell _ _).1 (ap (cell_at g) same ∙ w.2)
-    )
+Decides-is_free g (Some q) = (
+  λ h. (q, refl, (Decides-same_cell _ _).0 h),
+  λ w. let same : q ≡ w.0 = let e = w.1 in cc in (Decides-same_cell _ _).1 (ap (cell_at g) same ∙ w.2),
+)
 
 -- a point beside p is empty
 abbrev pub HasLiberty : Grid → Point → Type 0
@@ -49,21 +48,21 @@ pub Decides-has_liberty : (g : Grid) (p : Point) → IsOn g.side p → Decides (
 unfolding has_liberty FreeAt IsNeighbour
 Decides-has_liberty g p on =
     Decides-like _
-    (λ w. elim w
-      [ inl (inl a) ↦ from_neighbour g p (left_of p) (left-neighbour g.side p on) a
+    (λ w. elim w [
+      | inl (inl a) ↦ from_neighbour g p (left_of p) (left-neighbour g.side p on) a
       | inl (inr a) ↦ from_neighbour g p (right_of g.side p) (right-neighbour g.side p on) a
       | inr (inl a) ↦ from_neighbour g p (above p) (above-neighbour g.side p on) a
       | inr (inr a) ↦ from_neighbour g p (below g.side p) (below-neighbour g.side p on) a
-      ])
-    (λ w. elim (IsNeighbour-adjacent g.side p w.0 w.1 w.2)
-      [ inl e ↦ inl (inl (w.0, e, w.3))
+    ])
+    (λ w. elim (IsNeighbour-adjacent g.side p w.0 w.1 w.2) [
+      | inl e ↦ inl (inl (w.0, e, w.3))
       | inr (inl e) ↦ inl (inr (w.0, e, w.3))
       | inr (inr (inl e)) ↦ inr (inl (w.0, e, w.3))
       | inr (inr (inr e)) ↦ inr (inr (w.0, e, w.3))
-      ])
+    ])
     (Decides-or _ _
-      (Decides-or _ _ (Decides-is_free g (left_of p)) (Decides-is_free g (right_of g.side p)))
-      (Decides-or _ _ (Decides-is_free g (above p)) (Decides-is_free g (below g.side p))))
+    (Decides-or _ _ (Decides-is_free g (left_of p)) (Decides-is_free g (right_of g.side p)))
+    (Decides-or _ _ (Decides-is_free g (above p)) (Decides-is_free g (below g.side p))))
 
 -- a stone of the colour, through which the stone on `from` reaches empty if it does
 abbrev pub InGroup : Grid → Colour → Point → Point → Type 0
@@ -72,9 +71,9 @@ InGroup g k from p = (cell_at g p ≡ stone_of k) × (Reaches g Empty p → Reac
 Carries-InGroup : (g : Grid) (k : Colour) (from : Point) → Carries g Empty (InGroup g k from)
 unfolding Carries
 Carries-InGroup g k from p q on at beside w through =
-    elim ((Decides-reaches_through g Empty p q).0 through)
-    [ inl free ↦ absurd (stone_of≢Empty k (sym w.0 ∙ free))
-    | inr same ↦ (same ∙ w.0, λ way. w.1 (path_by_step g Empty p q on beside at (inl same) way))
+    elim ((Decides-reaches_through g Empty p q).0 through) [
+      | inl free ↦ absurd (stone_of≢Empty k (sym w.0 ∙ free))
+      | inr same ↦ (same ∙ w.0, λ way. w.1 (path_by_step g Empty p q on beside at (inl same) way))
     ]
 
 -- no point beside the first n points found is empty
@@ -97,10 +96,10 @@ IsLooking-begun g k from on stone =
       way = record {
         flood = done.0;
         closed = λ i h. absurd (omega (arith, none, h));
-        in_turn = omega (arith, none)
+        in_turn = omega (arith, none);
       };
       start = done.2;
-      shut = λ i h. absurd (omega (arith, none, h))
+      shut = λ i h. absurd (omega (arith, none, h));
     }
 
 -- the next point of a search, with what is known of it
@@ -116,7 +115,7 @@ IsNext-taken g k from s p looking next on marked = record {
   more = slice_get_within s.found s.taken p next;
   here = get_or_from_slice_get s.found s.taken p origin next;
   on = rw looking.way.flood.same_side at on;
-  marked = marked
+  marked = marked;
 }
 
 -- one point more without a liberty
@@ -127,19 +126,19 @@ IsLooking-step g k from s p looking next none =
     let step = IsUnderWay-step g Empty (InGroup g k from) (Carries-InGroup g k from) s p looking.way next.more next.here next.on next.marked in
     let same : get_or t.found s.taken origin ≡ p = step.1.same_found s.taken next.more ∙ next.here in
     let shut : AreShut g t (s.taken + 1) =
-      below_more _ _
-      (λ i h q at beside.
-        looking.shut i h q at
-        (subst (λ x. AreAdjacent x q) (step.1.same_found i (omega (arith, h, looking.way.in_turn))) beside))
-      (λ q at beside free.
-        not_from_Decides _ (Decides-has_liberty g p next.on) none
-        (q, at, subst (λ x. AreAdjacent x q) same beside, free)) in
-    ( record {
+    below_more _ _
+    (λ i h q at beside.
+    looking.shut i h q at
+    (subst (λ x. AreAdjacent x q) (step.1.same_found i (omega (arith, h, looking.way.in_turn))) beside))
+    (λ q at beside free.
+    not_from_Decides _ (Decides-has_liberty g p next.on) none
+    (q, at, subst (λ x. AreAdjacent x q) same beside, free)) in (
+      record {
         way = step.0;
         start = step.1.keeps from looking.start;
-        shut = subst (AreShut g t) (sym step.1.same_taken) shut
-      }
-    , step.1.same_taken
+        shut = subst (AreShut g t) (sym step.1.same_taken) shut;
+      },
+      step.1.same_taken,
     )
 
 -- a liberty of a stone of the group is one of the group
@@ -154,15 +153,15 @@ unfolding IsClosed AreShut
 none_found g k from s looking all = record {
   stones = λ p on marked. (looking.way.flood.holds p on marked).0;
   shut = λ p q on at beside marked.
-    let listed = looking.way.flood.listed p on marked in
-    looking.shut listed.0 (omega (arith, all, listed.1)) q at (subst (λ x. AreAdjacent x q) (sym listed.2) beside);
+      let listed = looking.way.flood.listed p on marked in
+      looking.shut listed.0 (omega (arith, all, listed.1)) q at (subst (λ x. AreAdjacent x q) (sym listed.2) beside);
   whole = λ p q on at beside marked stone.
-    let listed = looking.way.flood.listed p on marked in
-    let own = (looking.way.flood.holds p on marked).0 in
-    looking.way.closed listed.0 (omega (arith, all, listed.1)) q at
-    (subst (λ x. AreAdjacent x q) (sym listed.2) beside)
-    (subst (λ x. IsTrue (reaches_through g Empty x q)) (sym listed.2)
-      ((Decides-reaches_through g Empty p q).1 (inr (stone ∙ sym own))))
+      let listed = looking.way.flood.listed p on marked in
+      let own = (looking.way.flood.holds p on marked).0 in
+      looking.way.closed listed.0 (omega (arith, all, listed.1)) q at
+      (subst (λ x. AreAdjacent x q) (sym listed.2) beside)
+      (subst (λ x. IsTrue (reaches_through g Empty x q)) (sym listed.2)
+      ((Decides-reaches_through g Empty p q).1 (inr (stone ∙ sym own))));
 }
 
 -- what is marked was found

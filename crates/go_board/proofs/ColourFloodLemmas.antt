@@ -1,27 +1,25 @@
 -- proofs/ColourFloodLemmas.antt
 -- The flood from the points of a colour: once each point found has been dealt with, exactly what reaches it is marked.
-use Rattle.std.proofs.Common.{◌≡◌, ◌⊎◌, inl, inr, ℕ, zero, suc, ◌+◌, ◌*◌, ◌<◌, ◌≤◌, Bool, true, false, cond, ◌||◌, Option, Some, None, List, [], ◌∷◌, ◌++◌, length, get_or, drop, drop_of_length-le, set, replicate, refl, sym, ap, ◌∙◌, subst, arith, below_more, IsTrue, Decides}
+use Rattle.std.proofs.Common.{◌≡◌, ◌⊎◌, inl, inr, ℕ, zero, suc, ◌+◌, ◌*◌, ◌<◌, ◌≤◌, Bool, true, false, cond, List, [], ◌∷◌, length, get_or, drop, drop_of_length-le, refl, sym, ap, ◌∙◌, subst, arith, IsTrue}
 use Rattle.std.specs.List.{All}
 use Rattle.std.proofs.lemmas.List.Elements.{All-head, All-tail, All-from_get_or}
-use Rattle.std.proofs.lemmas.List.{length-set, length-replicate, length_push, get_or_push, get_or_append_left}
 use Rattle.std.proofs.Math.Seq.{drop-cons}
 use Rattle.std.proofs.Math.Numerals.{add-one}
 use Rattle.std.proofs.lemmas.Bool.{false≢true}
-use Rattle.std.proofs.lemmas.Bool.Decides.{Decides-or}
 use Rattle.go_board.specs.declared.stones.Cell.{Cell}
 use Rattle.go_board.specs.declared.points.Point.{Point}
 use Rattle.go_board.specs.Colour.{same_cell}
 use Rattle.go_board.specs.Point.{IsOn, AreAdjacent, place_of, points}
 use Rattle.go_board.specs.Grid.{Grid, cell_at}
-use Rattle.go_board.specs.Marking.{Marking, is_marked}
+use Rattle.go_board.specs.Marking.{is_marked}
 use Rattle.go_board.specs.Reaching.{Leads, Reaches}
-use Rattle.go_board.specs.Search.{Searched, no_marks, nothing_found, with_mark, with_found}
-use Rattle.go_board.specs.Flood.{left_of, right_of, above, below, reaches_through, with_neighbour, with_neighbours, with_points, with_colour}
-use Rattle.go_board.proofs.PointLemmas.{origin, place_below, place_of-injective, point_at-place_of, IsOn-point_at, IsOn-place_below, length-points, get_or-points}
+use Rattle.go_board.specs.Search.{Searched, nothing_found, with_found}
+use Rattle.go_board.specs.Flood.{below, reaches_through, with_points, with_colour}
+use Rattle.go_board.proofs.PointLemmas.{origin, place_below, point_at-place_of, IsOn-point_at, IsOn-place_below, length-points, get_or-points}
 use Rattle.go_board.proofs.GridLemmas.{Decides-same_cell}
 use Rattle.go_board.proofs.ReachingLemmas.{Leads-on, step_kind, path_by_step}
-use Rattle.go_board.proofs.SearchLemmas.{is_marked-with_mark, is_marked-with_mark_keeps, with_found-new, with_found-old}
-use Rattle.go_board.proofs.NeighbourLemmas.{AreAdjacent-sym, IsNeighbour, IsNeighbour-adjacent, AllNeighbour, left-neighbour, right-neighbour, above-neighbour, below-neighbour}
+use Rattle.go_board.proofs.SearchLemmas.{with_found-new, with_found-old}
+use Rattle.go_board.proofs.NeighbourLemmas.{AreAdjacent-sym}
 use Rattle.go_board.proofs.FloodLemmas.{IsFlood, Grows, Grows-refl, Grows-trans, IsClosed, IsFlood-found, IsFlood-nothing_found, Decides-reaches_through, Carries, IsUnderWay}
 
 -- a neighbour that reaches the colour through a point that reaches it
@@ -29,7 +27,7 @@ pub reached_through : (g : Grid) (k : Cell) → Carries g k (Reaches g k)
 unfolding Carries
 reached_through g k p q on at beside way through =
     let kind : (cell_at g p ≡ cell_at g q) ⊎ (cell_at g p ≡ k) =
-      elim ((Decides-reaches_through g k p q).0 through) [ inl there ↦ inr there | inr same ↦ inl (sym same) ] in
+    elim ((Decides-reaches_through g k p q).0 through) [ inl there ↦ inr there | inr same ↦ inl (sym same) ] in
     path_by_step g k q p at (AreAdjacent-sym p q beside) on kind way
 
 -- the points of the colour are marked
@@ -44,8 +42,8 @@ complete g k s way seeded all own p (q ∷ path) leads =
     let at = Leads-on g own k q path leads.3 in
     let listed = way.flood.listed q at (complete g k s way seeded all own q path leads.3) in
     let through : IsTrue (reaches_through g k q p) =
-      (Decides-reaches_through g k q p).1
-      (elim (step_kind g own k p q path leads) [ inl same ↦ inr (sym same) | inr there ↦ inl there ]) in
+    (Decides-reaches_through g k q p).1
+    (elim (step_kind g own k p q path leads) [ inl same ↦ inr (sym same) | inr there ↦ inl there ]) in
     way.closed listed.0 (omega (arith, all, listed.1)) p leads.0
     (subst (λ x. AreAdjacent x p) (sym listed.2) (AreAdjacent-sym p q leads.2))
     (subst (λ x. IsTrue (reaches_through g k x p)) (sym listed.2) through)
@@ -75,37 +73,37 @@ points_done g k (p ∷ ps) s all flood =
     let on = All-head (IsOn g.side) p ps all in
     let first = point_done g k p s (same_cell (cell_at g p) k) refl flood on in
     let here = cond (same_cell (cell_at g p) k) (with_found s p) s in
-    let rest = points_done g k ps here (All-tail (IsOn g.side) p ps all) first.0 in
-    ( rest.0
-    , Grows-trans _ _ _ first.1 rest.1
-    , IsMarkedAlong-cons g k p ps (with_points g k ps here) (λ c. rest.1.keeps p (first.2 c)) rest.2
+    let rest = points_done g k ps here (All-tail (IsOn g.side) p ps all) first.0 in (
+      rest.0,
+      Grows-trans _ _ _ first.1 rest.1,
+      IsMarkedAlong-cons g k p ps (with_points g k ps here) (λ c. rest.1.keeps p (first.2 c)) rest.2,
     )
 
 All-on-points : (side : ℕ) → All (IsOn side) (points side)
 All-on-points side =
     All-from_get_or (IsOn side) (points side) origin
     (λ i h.
-      let within : i < side * side = rw (← length-points side) h in
-      rw (get_or-points side i within) (IsOn-point_at side i within))
+    let within : i < side * side = rw (← length-points side) h in
+    rw (get_or-points side i within) (IsOn-point_at side i within))
 
 -- before the first point is taken
 pub IsUnderWay-with_colour : (g : Grid) (k : Cell) → IsUnderWay g k (Reaches g k) (with_colour g k) × IsSeeded g k (with_colour g k) × ((with_colour g k).taken ≡ 0)
 unfolding with_colour IsMarkedAlong IsSeeded IsClosed
 IsUnderWay-with_colour g k =
     let done = points_done g k (points g.side) (nothing_found g.side) (All-on-points g.side) (IsFlood-nothing_found g (Reaches g k)) in
-    let taken : (with_colour g k).taken ≡ 0 = done.1.same_taken in
-    ( record {
+    let taken : (with_colour g k).taken ≡ 0 = done.1.same_taken in (
+      record {
         flood = done.0;
         closed = λ i h. absurd (omega (arith, taken, h));
-        in_turn = omega (arith, taken)
-      }
-    , λ p on c.
-        let below = place_below g.side p on in
-        let within : place_of g.side p < length (points g.side) = rw length-points below in
-        let same : get_or (points g.side) (place_of g.side p) origin ≡ p = get_or-points g.side (place_of g.side p) below ∙ point_at-place_of g.side p on in
-        subst (λ x. IsTrue (is_marked (with_colour g k).marking x)) same
-        (done.2 (place_of g.side p) within (ap (cell_at g) same ∙ c))
-    , taken
+        in_turn = omega (arith, taken);
+      },
+      λ p on c.
+          let below = place_below g.side p on in
+          let within : place_of g.side p < length (points g.side) = rw length-points below in
+          let same : get_or (points g.side) (place_of g.side p) origin ≡ p = get_or-points g.side (place_of g.side p) below ∙ point_at-place_of g.side p on in
+          subst (λ x. IsTrue (is_marked (with_colour g k).marking x)) same
+          (done.2 (place_of g.side p) within (ap (cell_at g) same ∙ c)),
+      taken,
     )
 
 side-with_found : (b : Bool) (s : Searched) (p : Point) → is_marked s.marking p ≡ b → (with_found s p).marking.side ≡ s.marking.side
@@ -130,7 +128,6 @@ with_points-next g k i p s t below at col is =
 pub with_points-step : (g : Grid) (k : Cell) (i : ℕ) (p : Point) (s t : Searched) → i < g.side * g.side → place_of g.side p ≡ i → p.col < g.side → t ≡ cond (same_cell (cell_at g p) k) (with_found s p) s → (with_points g k (drop (i + 1) (points g.side)) t ≡ with_points g k (drop i (points g.side)) s) × (t.marking.side ≡ s.marking.side)
 unfolding with_points
 with_points-step g k i p s t below at col is = (sym (with_points-next g k i p s t below at col is), ap (λ u. u.marking.side) is ∙ side-cond_found _ s p)
-
 
 -- once all points of the grid were looked at
 pub with_points-all : (g : Grid) (k : Cell) (i : ℕ) (s : Searched) → g.side * g.side ≤ i → s ≡ with_points g k (drop i (points g.side)) s

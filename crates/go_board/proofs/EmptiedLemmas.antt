@@ -1,6 +1,6 @@
 -- proofs/EmptiedLemmas.antt
 -- A grid with the points of a list emptied.
-use Rattle.std.proofs.Common.{◌≡◌, ◌≢◌, ℕ, zero, suc, ◌+◌, ◌*◌, ◌<◌, ◌≤◌, List, [], ◌∷◌, length, get_or, set, drop, drop_of_length-le, refl, sym, ap, subst, ◌∙◌, arith, inl, inr, IsTrue}
+use Rattle.std.proofs.Common.{◌≡◌, ◌≢◌, ℕ, zero, suc, ◌+◌, ◌<◌, ◌≤◌, List, [], ◌∷◌, length, get_or, set, drop, drop_of_length-le, refl, sym, ap, subst, ◌∙◌, arith, inl, inr, IsTrue}
 use Rattle.std.specs.List.{All, Contains}
 use Rattle.std.proofs.Math.Seq.{drop-cons}
 use Rattle.std.proofs.Math.Numerals.{add-one}
@@ -58,12 +58,12 @@ module _ (p : Point) where
   emptied_stays g (q ∷ ps) on there free =
       let at = All-head (IsOn g.side) q ps there in
       let rest = All-tail (IsOn g.side) q ps there in
-      elim (same_or_not p q)
-      [ inl same ↦
-        emptied_stays (with_cell g q Empty) ps on rest
-        (ap (λ r. cell_at (with_cell g q Empty) r) same ∙ cell_at-emptied g q)
-      | inr other ↦
-        emptied_stays (with_cell g q Empty) ps on rest (cell_at-with_cell_elsewhere g q p Empty at on other ∙ free)
+      elim (same_or_not p q) [
+        | inl same ↦
+            emptied_stays (with_cell g q Empty) ps on rest
+            (ap (λ r. cell_at (with_cell g q Empty) r) same ∙ cell_at-emptied g q)
+        | inr other ↦
+            emptied_stays (with_cell g q Empty) ps on rest (cell_at-with_cell_elsewhere g q p Empty at on other ∙ free)
       ]
 
   -- a point of the list is empty
@@ -93,11 +93,11 @@ LosesDead-emptied g k m ps dead there marked listed =
     let same : record g { cells = cells } ≡ emptied g ps = same_grid (record g { cells = cells }) (emptied g ps) (sym (side-emptied g ps)) refl in
     subst (λ h. LosesDead g h k) same
     (LosesDead-group g k (λ p. is_marked m p) dead cells (length-emptied g ps)
-      (λ p on at.
-        let where_at = listed p on at in
-        ap (λ h. cell_at h p) same ∙ emptied_there p g ps where_at.0 on there where_at.1 where_at.2)
-      (λ p on other.
-        ap (λ h. cell_at h p) same
-        ∙ emptied_elsewhere p g ps on there
-          (All-weaker (λ q. IsTrue (is_marked m q)) (λ q. p ≢ q)
-            (λ q marked_q e. true≢false (sym marked_q ∙ ap (is_marked m) (sym e) ∙ other)) ps marked)))
+    (λ p on at.
+    let where_at = listed p on at in
+    ap (λ h. cell_at h p) same ∙ emptied_there p g ps where_at.0 on there where_at.1 where_at.2)
+    (λ p on other.
+    ap (λ h. cell_at h p) same
+    ∙ emptied_elsewhere p g ps on there
+    (All-weaker (λ q. IsTrue (is_marked m q)) (λ q. p ≢ q)
+    (λ q marked_q e. true≢false (sym marked_q ∙ ap (is_marked m) (sym e) ∙ other)) ps marked)))

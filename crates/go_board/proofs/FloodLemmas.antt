@@ -1,27 +1,20 @@
 -- proofs/FloodLemmas.antt
 -- A flood: each point found has the property that the search is for, and each taken has had its neighbours dealt with.
-use Rattle.std.proofs.Common.{◌≡◌, ◌⊎◌, inl, inr, ℕ, zero, suc, ◌+◌, ◌*◌, ◌<◌, ◌≤◌, Bool, true, false, cond, ◌||◌, Option, Some, None, List, [], ◌∷◌, ◌++◌, length, get_or, drop, drop_of_length-le, set, replicate, refl, sym, ap, ◌∙◌, subst, arith, below_more, IsTrue, Decides}
-use Rattle.std.specs.List.{All}
-use Rattle.std.proofs.lemmas.List.Elements.{All-head, All-tail, All-from_get_or}
+use Rattle.std.proofs.Common.{◌≡◌, ◌⊎◌, inl, inr, ℕ, zero, suc, ◌+◌, ◌*◌, ◌<◌, ◌≤◌, Bool, true, false, cond, Option, Some, None, List, [], ◌∷◌, ◌++◌, length, get_or, set, refl, sym, ap, ◌∙◌, subst, arith, below_more, IsTrue, Decides}
 use Rattle.std.proofs.lemmas.List.{length-set, length-replicate, length_push, get_or_push, get_or_append_left}
-use Rattle.std.proofs.Math.Seq.{drop-cons}
-use Rattle.std.proofs.Math.Numerals.{add-one}
 use Rattle.std.proofs.lemmas.Bool.{false≢true}
 use Rattle.std.proofs.lemmas.Bool.Decides.{Decides-or}
 use Rattle.go_board.specs.declared.stones.Cell.{Cell}
 use Rattle.go_board.specs.declared.points.Point.{Point}
-use Rattle.go_board.specs.Colour.{same_cell}
-use Rattle.go_board.specs.Point.{IsOn, AreAdjacent, place_of, points}
+use Rattle.go_board.specs.Point.{IsOn, AreAdjacent, place_of}
 use Rattle.go_board.specs.Grid.{Grid, cell_at}
-use Rattle.go_board.specs.Marking.{Marking, is_marked}
-use Rattle.go_board.specs.Reaching.{Leads, Reaches}
-use Rattle.go_board.specs.Search.{Searched, no_marks, nothing_found, with_mark, with_found}
-use Rattle.go_board.specs.Flood.{left_of, right_of, above, below, reaches_through, with_neighbour, with_neighbours, with_points, with_colour}
-use Rattle.go_board.proofs.PointLemmas.{origin, place_below, place_of-injective, point_at-place_of, IsOn-point_at, IsOn-place_below, length-points, get_or-points}
+use Rattle.go_board.specs.Marking.{is_marked}
+use Rattle.go_board.specs.Search.{Searched, nothing_found, with_mark, with_found}
+use Rattle.go_board.specs.Flood.{left_of, right_of, above, below, reaches_through, with_neighbour, with_neighbours}
+use Rattle.go_board.proofs.PointLemmas.{origin, place_of-injective}
 use Rattle.go_board.proofs.GridLemmas.{get_or-replicate_default, Decides-same_cell}
-use Rattle.go_board.proofs.ReachingLemmas.{Leads-on, step_kind, path_by_step}
 use Rattle.go_board.proofs.SearchLemmas.{is_marked-with_mark, is_marked-with_mark_keeps, with_found-new, with_found-old}
-use Rattle.go_board.proofs.NeighbourLemmas.{AreAdjacent-sym, IsNeighbour, IsNeighbour-adjacent, AllNeighbour, left-neighbour, right-neighbour, above-neighbour, below-neighbour}
+use Rattle.go_board.proofs.NeighbourLemmas.{IsNeighbour, IsNeighbour-adjacent, AllNeighbour, left-neighbour, right-neighbour, above-neighbour, below-neighbour}
 
 -- what is marked has the property that the search is for, and stands among the points found
 pub record IsFlood (g : Grid) (What : Point → Type 0) (s : Searched) : Type 0 where
@@ -49,7 +42,7 @@ Grows-refl s = record {
   keeps = λ p h. h;
   longer = omega arith;
   same_found = λ i h. refl;
-  same_taken = refl
+  same_taken = refl;
 }
 
 pub Grows-trans : (s t u : Searched) → Grows s t → Grows t u → Grows s u
@@ -58,7 +51,7 @@ Grows-trans s t u a b = record {
   keeps = λ p h. b.keeps p (a.keeps p h);
   longer = omega (arith, a.longer, b.longer);
   same_found = λ i h. b.same_found i (omega (arith, h, a.longer)) ∙ a.same_found i h;
-  same_taken = b.same_taken ∙ a.same_taken
+  same_taken = b.same_taken ∙ a.same_taken;
 }
 
 pub IsClosed-grows : (g : Grid) (k : Cell) (s t : Searched) (n : ℕ) → Grows s t → n ≤ length s.found → IsClosed g k s n → IsClosed g k t n
@@ -110,11 +103,11 @@ module _ (g : Grid) (What : Point → Type 0) (s : Searched) (p : Point) (flood 
     same_side = flood.same_side;
     all_marks = length-set s.marking.marks (place_of s.marking.side p) true ∙ flood.all_marks;
     holds = λ q at h.
-      elim (marked_next q at h)
-      [ inl e ↦ subst What e way | inr before ↦ flood.holds q at before ];
+        elim (marked_next q at h)
+        [ inl e ↦ subst What e way | inr before ↦ flood.holds q at before ];
     listed = λ q at h.
-      elim (marked_next q at h)
-      [ inl e ↦ subst (λ x. Listed next x) e listed_new | inr before ↦ listed_next q (flood.listed q at before) ]
+        elim (marked_next q at h)
+        [ inl e ↦ subst (λ x. Listed next x) e listed_new | inr before ↦ listed_next q (flood.listed q at before) ];
   }
 
   Grows-next : Grows s next
@@ -123,7 +116,7 @@ module _ (g : Grid) (What : Point → Type 0) (s : Searched) (p : Point) (flood 
     keeps = λ q h. is_marked-with_mark_keeps s.marking p q h;
     longer = omega (arith, length_push s.found p);
     same_found = λ i h. get_or_append_left s.found (p ∷ []) origin i h;
-    same_taken = refl
+    same_taken = refl;
   }
 
   marked-next : IsTrue (is_marked next.marking p)
@@ -150,7 +143,7 @@ IsFlood-nothing_found g What = record {
   same_side = refl;
   all_marks = length-replicate (g.side * g.side) false;
   holds = λ p on h. absurd (false≢true (sym (get_or-replicate_default (g.side * g.side) (place_of g.side p) false) ∙ h));
-  listed = λ p on h. absurd (false≢true (sym (get_or-replicate_default (g.side * g.side) (place_of g.side p) false) ∙ h))
+  listed = λ p on h. absurd (false≢true (sym (get_or-replicate_default (g.side * g.side) (place_of g.side p) false) ∙ h));
 }
 
 pub Decides-reaches_through : (g : Grid) (k : Cell) (p q : Point) → Decides (reaches_through g k p q) ((cell_at g p ≡ k) ⊎ (cell_at g q ≡ cell_at g p))
@@ -176,13 +169,13 @@ module _ (g : Grid) (k : Cell) (What : Point → Type 0) (carries : Carries g k 
       record {
         flood = done.0;
         grows = done.1;
-        marked = λ r same _. let e' : q ≡ r = cc in subst (λ x. IsTrue (is_marked (with_found s q).marking x)) e' done.2
+        marked = λ r same _. let e' : q ≡ r = cc in subst (λ x. IsTrue (is_marked (with_found s q).marking x)) e' done.2;
       }
   found_by q s false e flood at beside = record {
     flood = flood;
     grows = Grows-refl s;
     marked = λ r same through. let e' : q ≡ r = cc in
-      absurd (false≢true (sym e ∙ subst (λ x. IsTrue (reaches_through g k p x)) (sym e') through))
+        absurd (false≢true (sym e ∙ subst (λ x. IsTrue (reaches_through g k p x)) (sym e') through));
   }
 
   neighbour_done : (to : Option Point) (s : Searched) → AllNeighbour g.side p to → IsFlood g What s → NeighbourDone g k What p to s (with_neighbour g k p to s)
@@ -208,17 +201,17 @@ module _ (g : Grid) (k : Cell) (What : Point → Type 0) (carries : Carries g k 
       let left = neighbour_done (left_of p) s (left-neighbour g.side p on) flood in
       let right = neighbour_done (right_of g.side p) a (right-neighbour g.side p on) left.flood in
       let up = neighbour_done (above p) b (above-neighbour g.side p on) right.flood in
-      let down = neighbour_done (below g.side p) c (below-neighbour g.side p on) up.flood in
-      ( down.flood
-      , Grows-trans s a d left.grows
-          (Grows-trans a b d right.grows (Grows-trans b c d up.grows down.grows))
-      , λ q at beside through.
-          elim (IsNeighbour-adjacent g.side p q at beside)
-          [ inl e ↦ down.grows.keeps q (up.grows.keeps q (right.grows.keeps q (left.marked q e through)))
-          | inr (inl e) ↦ down.grows.keeps q (up.grows.keeps q (right.marked q e through))
-          | inr (inr (inl e)) ↦ down.grows.keeps q (up.marked q e through)
-          | inr (inr (inr e)) ↦ down.marked q e through
-          ]
+      let down = neighbour_done (below g.side p) c (below-neighbour g.side p on) up.flood in (
+        down.flood,
+        Grows-trans s a d left.grows
+            (Grows-trans a b d right.grows (Grows-trans b c d up.grows down.grows)),
+        λ q at beside through.
+            elim (IsNeighbour-adjacent g.side p q at beside) [
+              | inl e ↦ down.grows.keeps q (up.grows.keeps q (right.grows.keeps q (left.marked q e through)))
+              | inr (inl e) ↦ down.grows.keeps q (up.grows.keeps q (right.marked q e through))
+              | inr (inr (inl e)) ↦ down.grows.keeps q (up.marked q e through)
+              | inr (inr (inr e)) ↦ down.marked q e through
+            ],
       )
 
 -- a flood under way: the points taken were dealt with
@@ -232,7 +225,7 @@ IsFlood-taken g What s n flood = record {
   same_side = flood.same_side;
   all_marks = flood.all_marks;
   holds = flood.holds;
-  listed = flood.listed
+  listed = flood.listed;
 }
 
 -- one point more is taken and dealt with
@@ -245,14 +238,14 @@ IsUnderWay-step g k What carries s p way more here on marked =
     let taken : t.taken ≡ s.taken + 1 = done.1.same_taken in
     let same : get_or t.found s.taken origin ≡ p = done.1.same_found s.taken more ∙ here in
     let closed : IsClosed g k t (s.taken + 1) =
-      below_more _ _ (IsClosed-grows g k next t s.taken done.1 way.in_turn way.closed)
-      (λ q at beside through.
-        done.2 q at (subst (λ x. AreAdjacent x q) same beside)
-        (subst (λ x. IsTrue (reaches_through g k x q)) same through)) in
-    ( record {
+    below_more _ _ (IsClosed-grows g k next t s.taken done.1 way.in_turn way.closed)
+    (λ q at beside through.
+    done.2 q at (subst (λ x. AreAdjacent x q) same beside)
+    (subst (λ x. IsTrue (reaches_through g k x q)) same through)) in (
+      record {
         flood = done.0;
         closed = subst (IsClosed g k t) (sym taken) closed;
-        in_turn = omega (arith, taken, more, done.1.longer)
-      }
-    , done.1
+        in_turn = omega (arith, taken, more, done.1.longer);
+      },
+      done.1,
     )

@@ -1,7 +1,7 @@
 -- proofs/GridLemmas.antt
 -- Reading the grids and markings that functions of the points make, and grids after a point was set.
-use Rattle.std.proofs.Common.{◌≡◌, ◌≢◌, ◌==◌, ℕ, ◌+◌, ◌*◌, ◌<◌, Bool, true, false, List, map, set, length, get_or, refl, sym, ap, ◌∙◌, arith, Decides, replicate, zero, suc}
-use Rattle.std.proofs.lemmas.List.{get_or_default, length-map, get_or-set_same, get_or-set_other, length-set}
+use Rattle.std.proofs.Common.{◌≡◌, ◌≢◌, ◌==◌, ℕ, ◌*◌, ◌<◌, Bool, false, List, length, get_or, refl, sym, ap, ◌∙◌, Decides, replicate, zero, suc}
+use Rattle.std.proofs.lemmas.List.{get_or_default, length-map, get_or-set_same, get_or-set_other}
 use Rattle.std.proofs.lemmas.Bool.{false≢true}
 use Rattle.std.proofs.lemmas.Bool.Decides.{Decides-eqb, same_from_decides}
 use denote.Enum.Bare.{sameb}
@@ -10,9 +10,9 @@ use Rattle.go_board.specs.declared.stones.Cell.{Cell}
 use Rattle.go_board.specs.declared.stones.Cell.TheVariants.{Black, White, Empty}
 use Rattle.go_board.specs.declared.points.Point.{Point}
 use Rattle.go_board.specs.Colour.{same_cell}
-use Rattle.go_board.specs.Point.{IsOn, place_of, point_at, points}
+use Rattle.go_board.specs.Point.{IsOn, place_of, points}
 use Rattle.go_board.specs.Grid.{Grid, cell_at, with_cell, grid_of}
-use Rattle.go_board.specs.Marking.{Marking, is_marked, marking_of}
+use Rattle.go_board.specs.Marking.{is_marked, marking_of}
 use Rattle.go_board.proofs.PointLemmas.{place_below, place_of-injective, length-points, get_or-map-points}
 
 pub Decides-same_cell : (a b : Cell) → Decides (same_cell a b) (a ≡ b)
@@ -52,10 +52,10 @@ same_grid a b e f = ap (λ s. record { side = s; cells = a.cells }) e ∙ ap (λ
 
 -- two grids with the same cells are one where a test finds their sides equal
 pub Decides-same_side : (a b : Grid) (m n : ℕ) (r : Bool) → m ≡ a.side → n ≡ b.side → a.cells ≡ b.cells → r ≡ (m == n) → Decides r (a ≡ b)
-Decides-same_side a b m n r is_a is_b cells is =
-    ( λ e. same_grid a b (sym is_a ∙ (Decides-eqb m n).0 (sym is ∙ e) ∙ is_b) cells
-    , λ e. is ∙ (Decides-eqb m n).1 (is_a ∙ ap (λ g. g.side) e ∙ sym is_b)
-    )
+Decides-same_side a b m n r is_a is_b cells is = (
+  λ e. same_grid a b (sym is_a ∙ (Decides-eqb m n).0 (sym is ∙ e) ∙ is_b) cells,
+  λ e. is ∙ (Decides-eqb m n).1 (is_a ∙ ap (λ g. g.side) e ∙ sym is_b),
+)
 
 -- two grids with other cells are two
 pub Decides-other_cells : (a b : Grid) (xs ys : List Cell) (r : Bool) → xs ≡ a.cells → ys ≡ b.cells → r ≡ false → Decides r (xs ≡ ys) → Decides r (a ≡ b)

@@ -1,6 +1,6 @@
 -- proofs/GroupLemmas.antt
 -- A group without a liberty can be taken off before its colour is cleared: the cleared grid is the same.
-use Rattle.std.proofs.Common.{◌≡◌, ◌≢◌, ◌⊎◌, inl, inr, ℕ, ◌*◌, ◌<◌, Bool, true, false, cond, List, [], ◌∷◌, map, length, get_or, refl, sym, ap, subst, ◌∙◌, arith, IsTrue}
+use Rattle.std.proofs.Common.{◌≡◌, ◌≢◌, ◌⊎◌, inl, inr, ℕ, ◌*◌, Bool, false, List, [], ◌∷◌, map, length, get_or, refl, sym, ap, subst, ◌∙◌, IsTrue}
 use Rattle.std.proofs.lemmas.Bool.{cases_Bool, true≢false}
 use Rattle.std.proofs.lemmas.Bool.Decides.{same_from_decides, not_from_Decides, Decides-like}
 use Rattle.std.proofs.lemmas.List.{length-map}
@@ -9,17 +9,17 @@ use Rattle.go_board.specs.declared.stones.Cell.TheVariants.{Empty}
 use Rattle.go_board.specs.declared.stones.Colour.{Colour}
 use Rattle.go_board.specs.declared.stones.Colour.TheVariants.{Black, White}
 use Rattle.go_board.specs.declared.points.Point.{Point}
-use Rattle.go_board.specs.Colour.{opponent, stone_of, same_cell}
-use Rattle.go_board.specs.Point.{IsOn, AreAdjacent, points, point_at}
+use Rattle.go_board.specs.Colour.{stone_of, same_cell}
+use Rattle.go_board.specs.Point.{IsOn, points, point_at}
 use Rattle.go_board.specs.Grid.{Grid, cell_at, grid_of}
 use Rattle.go_board.specs.Reaching.{Leads, Reaches, reaches}
 use Rattle.go_board.specs.Clearing.{cleared_cell, clear}
 use Rattle.go_board.specs.Groups.{IsDead, LosesDead}
 use Rattle.go_board.proofs.PointLemmas.{is_map-points, length-points, get_or-map-points, place_of-point_at, IsOn-point_at}
-use Rattle.go_board.proofs.GridLemmas.{Decides-same_cell, cell_at-grid_of}
+use Rattle.go_board.proofs.GridLemmas.{Decides-same_cell}
 use Rattle.go_board.proofs.NeighbourLemmas.{AreAdjacent-sym}
 use Rattle.go_board.proofs.ReachingLemmas.{Leads-on, Leads-next, Decides-reaches}
-use Rattle.go_board.proofs.RuleLemmas.{emptied, kept, others_kept}
+use Rattle.go_board.proofs.RuleLemmas.{emptied, others_kept}
 
 -- a point has that colour or not
 pub coloured_or_not : (a b : Cell) → (a ≡ b) ⊎ (a ≢ b)
@@ -41,19 +41,19 @@ pub grid_of-same : (side : ℕ) (f h : Point → Cell) → ((p : Point) → IsOn
 grid_of-same side f h each =
     ap (λ l. record { side = side; cells = l })
     (is_map-points h side (map f (points side)) Empty (length-map (points side) f ∙ length-points side)
-      (λ i below.
-        let on = IsOn-point_at side i below in
-        ap (λ j. get_or (map f (points side)) j Empty) (sym (place_of-point_at side i below))
-        ∙ get_or-map-points f side (point_at side i) Empty on ∙ each (point_at side i) on))
+    (λ i below.
+    let on = IsOn-point_at side i below in
+    ap (λ j. get_or (map f (points side)) j Empty) (sym (place_of-point_at side i below))
+    ∙ get_or-map-points f side (point_at side i) Empty on ∙ each (point_at side i) on))
 
 -- a grid made by a function that reads another grid is that grid
 pub grid_of-cells : (g : Grid) (f : Point → Cell) → length g.cells ≡ g.side * g.side → ((p : Point) → IsOn g.side p → f p ≡ cell_at g p) → grid_of g.side f ≡ g
 grid_of-cells g f all each =
     ap (λ l. record { side = g.side; cells = l })
     (sym (is_map-points f g.side g.cells Empty all
-      (λ i below.
-        let on = IsOn-point_at g.side i below in
-        ap (λ j. get_or g.cells j Empty) (sym (place_of-point_at g.side i below)) ∙ sym (each (point_at g.side i) on))))
+    (λ i below.
+    let on = IsOn-point_at g.side i below in
+    ap (λ j. get_or g.cells j Empty) (sym (place_of-point_at g.side i below)) ∙ sym (each (point_at g.side i) on))))
 
 module _ (g : Grid) (k : Colour) (dead : Point → Bool) (group : IsDead g k dead) where
   -- no path leads from a group without a liberty to an empty point
@@ -61,21 +61,21 @@ module _ (g : Grid) (k : Colour) (dead : Point → Bool) (group : IsDead g k dea
   dead_shut [] p on there way = stone_of≢Empty k (sym (group.stones p on there) ∙ way.1)
   dead_shut (q ∷ path) p on there way =
       let next = Leads-on g (stone_of k) Empty q path way.3 in
-      elim (Leads-next g (stone_of k) Empty q path way.3)
-      [ inl own ↦ dead_shut path q next (group.whole p q on next way.2 there own) way.3
-      | inr free ↦ group.shut p q on next way.2 there free
+      elim (Leads-next g (stone_of k) Empty q path way.3) [
+        | inl own ↦ dead_shut path q next (group.whole p q on next way.2 there own) way.3
+        | inr free ↦ group.shut p q on next way.2 there free
       ]
 
   -- a point with a path to an empty point is not of the group
   not_dead : (own : Cell) (path : List Point) (p : Point) → Leads g own Empty p path → dead p ≡ false
   not_dead own path p way =
-      elim (cases_Bool (dead p))
-      [ inl there ↦
-        let on = Leads-on g own Empty p path way in
-        let stone = group.stones p on there in
-        let open_way = Reaches-Leads g own Empty p path way in
-        absurd (dead_shut open_way.0 p on there (subst (λ c. Leads g c Empty p open_way.0) stone open_way.1))
-      | inr other ↦ other
+      elim (cases_Bool (dead p)) [
+        | inl there ↦
+            let on = Leads-on g own Empty p path way in
+            let stone = group.stones p on there in
+            let open_way = Reaches-Leads g own Empty p path way in
+            absurd (dead_shut open_way.0 p on there (subst (λ c. Leads g c Empty p open_way.0) stone open_way.1))
+        | inr other ↦ other
       ]
 
   -- the same colour, where the group is empty and nothing else changed
@@ -101,14 +101,17 @@ module _ (g : Grid) (k : Colour) (dead : Point → Bool) (group : IsDead g k dea
     path_was [] p other way = (way.0, sym (rest p way.0 other) ∙ way.1)
     path_was (q ∷ path) p other way =
         let own : cell_at g p ≡ stone_of k = sym (rest p way.0 other) ∙ way.1 in
-        let next : IsOn g.side q = Leads-on h (stone_of k) Empty q path way.3 in
-        (way.0, own, way.2,
+        let next : IsOn g.side q = Leads-on h (stone_of k) Empty q path way.3 in (
+          way.0,
+          own,
+          way.2,
           path_was path q
-          (elim (cases_Bool (dead q))
-            [ inl there ↦ absurd (true≢false (sym (group.whole q p next way.0 (AreAdjacent-sym p q way.2) there own) ∙ other))
-            | inr not_there ↦ not_there
-            ])
-          way.3)
+              (elim (cases_Bool (dead q)) [
+                | inl there ↦ absurd (true≢false (sym (group.whole q p next way.0 (AreAdjacent-sym p q way.2) there own) ∙ other))
+                | inr not_there ↦ not_there
+              ])
+              way.3,
+        )
 
     -- a point outside of the group reaches empty as before
     reaches_same : (p : Point) → IsOn g.side p → dead p ≡ false → cell_at g p ≡ stone_of k → reaches h Empty p ≡ reaches g Empty p
@@ -117,17 +120,17 @@ module _ (g : Grid) (k : Colour) (dead : Point → Bool) (group : IsDead g k dea
         let same : cell_at h p ≡ stone_of k = rest p on other ∙ own in
         same_from_decides {P = Reaches g Empty p} (reaches h Empty p) (reaches g Empty p)
         (Decides-like {P = Reaches h Empty p} {Q = Reaches g Empty p} (reaches h Empty p)
-          (λ way.
-            ( way.0
-            , subst (λ c. Leads g c Empty p way.0) (sym own)
-              (path_was way.0 p other (subst (λ c. Leads h c Empty p way.0) same way.1))
-            ))
-          (λ way.
-            ( way.0
-            , subst (λ c. Leads h c Empty p way.0) (sym same)
-              (path_stays (stone_of k) way.0 p (subst (λ c. Leads g c Empty p way.0) own way.1))
-            ))
-          (Decides-reaches h Empty p on))
+        (λ way. (
+          way.0,
+          subst (λ c. Leads g c Empty p way.0) (sym own)
+              (path_was way.0 p other (subst (λ c. Leads h c Empty p way.0) same way.1)),
+        ))
+        (λ way. (
+          way.0,
+          subst (λ c. Leads h c Empty p way.0) (sym same)
+              (path_stays (stone_of k) way.0 p (subst (λ c. Leads g c Empty p way.0) own way.1)),
+        ))
+        (Decides-reaches h Empty p on))
         (Decides-reaches g Empty p on)
 
     same_tests : (p : Point) → IsOn g.side p → dead p ≡ false → cell_at g p ≡ stone_of k → cleared_cell h k p ≡ cleared_cell g k p
@@ -137,18 +140,18 @@ module _ (g : Grid) (k : Colour) (dead : Point → Bool) (group : IsDead g k dea
     cleared_same : (p : Point) → IsOn g.side p → cleared_cell h k p ≡ cleared_cell g k p
     unfolding h
     cleared_same p on =
-        elim (cases_Bool (dead p))
-        [ inl there ↦
-          others_kept h k p (λ e. stone_of≢Empty k (sym e ∙ gone p on there))
-          ∙ gone p on there
-          ∙ sym (emptied g k p on (group.stones p on there)
-            (λ way. dead_shut way.0 p on there (subst (λ c. Leads g c Empty p way.0) (group.stones p on there) way.1)))
-        | inr other ↦
-          elim (coloured_or_not (cell_at g p) (stone_of k))
-          [ inl own ↦ same_tests p on other own
-          | inr not_own ↦
-            others_kept h k p (λ e. not_own (sym (rest p on other) ∙ e)) ∙ rest p on other ∙ sym (others_kept g k p not_own)
-          ]
+        elim (cases_Bool (dead p)) [
+          | inl there ↦
+              others_kept h k p (λ e. stone_of≢Empty k (sym e ∙ gone p on there))
+              ∙ gone p on there
+              ∙ sym (emptied g k p on (group.stones p on there)
+              (λ way. dead_shut way.0 p on there (subst (λ c. Leads g c Empty p way.0) (group.stones p on there) way.1)))
+          | inr other ↦
+              elim (coloured_or_not (cell_at g p) (stone_of k)) [
+                | inl own ↦ same_tests p on other own
+                | inr not_own ↦
+                    others_kept h k p (λ e. not_own (sym (rest p on other) ∙ e)) ∙ rest p on other ∙ sym (others_kept g k p not_own)
+              ]
         ]
 
     pub clear-without : clear (record g { cells = cells }) k ≡ clear g k
@@ -161,8 +164,8 @@ LosesDead-group g k dead group cells all gone rest = record {
   same_side = refl;
   all = all;
   taken = λ p on.
-    elim (cases_Bool (dead p))
-    [ inl there ↦ inr (gone p on there, group.stones p on there) | inr other ↦ inl (rest p on other) ];
+      elim (cases_Bool (dead p))
+      [ inl there ↦ inr (gone p on there, group.stones p on there) | inr other ↦ inl (rest p on other) ];
   still = λ p on way. reaches_still g k dead group cells gone rest p way;
-  cleared = clear-without g k dead group cells gone rest
+  cleared = clear-without g k dead group cells gone rest;
 }

@@ -1,7 +1,7 @@
 -- proofs/MoveLemmas.antt
 -- A move on a grid where every stone reaches empty: taking the dead groups beside the stone, and then its own, is the
 -- whole move.
-use Rattle.std.proofs.Common.{◌≡◌, ◌≢◌, ◌⊎◌, inl, inr, ◌*◌, Bool, true, false, List, [], ◌∷◌, length, refl, sym, ap, subst, ◌∙◌, IsTrue}
+use Rattle.std.proofs.Common.{◌≡◌, ◌≢◌, ◌⊎◌, inl, inr, ◌*◌, false, List, [], ◌∷◌, length, refl, sym, ap, subst, ◌∙◌}
 use Rattle.std.specs.Option.{ForSome}
 use Rattle.std.proofs.lemmas.List.{length-set}
 use Rattle.go_board.specs.declared.stones.Cell.{Cell}
@@ -35,7 +35,7 @@ LosesDead-none g k = record {
   all = refl;
   taken = λ p on. inl refl;
   still = λ p on way. way;
-  cleared = refl
+  cleared = refl;
 }
 
 pub LosesDead-twice : (g h i : Grid) (k : Colour) → LosesDead g h k → LosesDead h i k → LosesDead g i k
@@ -43,14 +43,14 @@ LosesDead-twice g h i k first second = record {
   same_side = second.same_side ∙ first.same_side;
   all = second.all ∙ first.all;
   taken = λ p on.
-    elim (second.taken p (subst (λ s. IsOn s p) (sym first.same_side) on))
-    [ inl same ↦
-      elim (first.taken p on) [ inl was ↦ inl (same ∙ was) | inr gone ↦ inr (same ∙ gone.0, gone.1) ]
-    | inr gone ↦
-      elim (first.taken p on) [ inl was ↦ inr (gone.0, sym was ∙ gone.1) | inr before ↦ inr (gone.0, before.1) ]
-    ];
+      elim (second.taken p (subst (λ s. IsOn s p) (sym first.same_side) on)) [
+        | inl same ↦
+            elim (first.taken p on) [ inl was ↦ inl (same ∙ was) | inr gone ↦ inr (same ∙ gone.0, gone.1) ]
+        | inr gone ↦
+            elim (first.taken p on) [ inl was ↦ inr (gone.0, sym was ∙ gone.1) | inr before ↦ inr (gone.0, before.1) ]
+      ];
   still = λ p on way. second.still p (subst (λ s. IsOn s p) (sym first.same_side) on) (first.still p on way);
-  cleared = second.cleared ∙ first.cleared
+  cleared = second.cleared ∙ first.cleared;
 }
 
 -- a stone of the colour that is left was there before
@@ -72,44 +72,44 @@ module _ (g : Grid) (cells : List Cell) (p : Point) (k : Colour) (fewer : (r : P
   follow : (path : List Point) (q : Point) → Leads g (stone_of k) Empty q path → cell_at h q ≡ stone_of k → Reaches h Empty q
   unfolding h
   follow [] q way own =
-      elim (same_or_not q p)
-      [ inl same ↦ subst (λ r. Reaches h Empty r) (sym same) (there (subst (λ r. cell_at h r ≡ stone_of k) same own))
-      | inr other ↦
-        elim (fewer q way.0 other)
-        [ inl free ↦ absurd (stone_of≢Empty k (sym own ∙ free))
-        | inr same ↦ absurd (stone_of≢Empty k (sym own ∙ same ∙ way.1))
-        ]
+      elim (same_or_not q p) [
+        | inl same ↦ subst (λ r. Reaches h Empty r) (sym same) (there (subst (λ r. cell_at h r ≡ stone_of k) same own))
+        | inr other ↦
+            elim (fewer q way.0 other) [
+              | inl free ↦ absurd (stone_of≢Empty k (sym own ∙ free))
+              | inr same ↦ absurd (stone_of≢Empty k (sym own ∙ same ∙ way.1))
+            ]
       ]
   follow (r ∷ path) q way own =
       let at : IsOn g.side r = Leads-on g (stone_of k) Empty r path way.3 in
-      elim (same_or_not r p)
-      [ inl same ↦ beside q way.0 (AreAdjacent-sym q p (subst (λ s. AreAdjacent q s) same way.2)) own
-      | inr other ↦
-        elim (fewer r at other)
-        [ inl free ↦ step_to_empty q r way.0 way.2 at free
-        | inr kept ↦
-          elim (Leads-next g (stone_of k) Empty r path way.3)
-          [ inl stone ↦ path_by_step h Empty q r way.0 way.2 at (inl (kept ∙ stone ∙ sym own)) (follow path r way.3 (kept ∙ stone))
-          | inr free ↦ step_to_empty q r way.0 way.2 at (kept ∙ free)
-          ]
-        ]
+      elim (same_or_not r p) [
+        | inl same ↦ beside q way.0 (AreAdjacent-sym q p (subst (λ s. AreAdjacent q s) same way.2)) own
+        | inr other ↦
+            elim (fewer r at other) [
+              | inl free ↦ step_to_empty q r way.0 way.2 at free
+              | inr kept ↦
+                  elim (Leads-next g (stone_of k) Empty r path way.3) [
+                    | inl stone ↦ path_by_step h Empty q r way.0 way.2 at (inl (kept ∙ stone ∙ sym own)) (follow path r way.3 (kept ∙ stone))
+                    | inr free ↦ step_to_empty q r way.0 way.2 at (kept ∙ free)
+                  ]
+            ]
       ]
 
   pub AllReach-after : AllReach g k → AllReach (record g { cells = cells }) k
   unfolding h
   AllReach-after before =
       λ q on own.
-        elim (same_or_not q p)
-        [ inl same ↦ subst (λ r. Reaches h Empty r) (sym same) (there (subst (λ r. cell_at h r ≡ stone_of k) same own))
+      elim (same_or_not q p) [
+        | inl same ↦ subst (λ r. Reaches h Empty r) (sym same) (there (subst (λ r. cell_at h r ≡ stone_of k) same own))
         | inr other ↦
-          elim (fewer q on other)
-          [ inl free ↦ absurd (stone_of≢Empty k (sym own ∙ free))
-          | inr kept ↦
-            let stone = sym kept ∙ own in
-            let way = before q on stone in
-            follow way.0 q (subst (λ c. Leads g c Empty q way.0) stone way.1) own
-          ]
-        ]
+            elim (fewer q on other) [
+              | inl free ↦ absurd (stone_of≢Empty k (sym own ∙ free))
+              | inr kept ↦
+                  let stone = sym kept ∙ own in
+                  let way = before q on stone in
+                  follow way.0 q (subst (λ c. Leads g c Empty q way.0) stone way.1) own
+            ]
+      ]
 
 -- A stone is played on a grid where every stone reaches empty; then the opponent's dead groups are taken, and the own one.
 module _ (g : Grid) (p : Point) (k : Colour) (on : IsOn g.side p) (all : length g.cells ≡ g.side * g.side) (settled : has_unreaching g ≡ false) where
@@ -125,9 +125,9 @@ module _ (g : Grid) (p : Point) (k : Colour) (on : IsOn g.side p) (all : length 
     stone_stays : cell_at after p ≡ stone_of k
     unfolding after
     stone_stays =
-        elim (first.taken p on)
-        [ inl same ↦ same ∙ cell_at-with_cell g p (stone_of k) on all
-        | inr gone ↦ absurd (opponent_differs k (sym (cell_at-with_cell g p (stone_of k) on all) ∙ gone.1))
+        elim (first.taken p on) [
+          | inl same ↦ same ∙ cell_at-with_cell g p (stone_of k) on all
+          | inr gone ↦ absurd (opponent_differs k (sym (cell_at-with_cell g p (stone_of k) on all) ∙ gone.1))
         ]
 
     fewer : (r : Point) → IsOn g.side r → r ≢ p → (cell_at after r ≡ Empty) ⊎ (cell_at after r ≡ cell_at g r)
@@ -141,9 +141,9 @@ module _ (g : Grid) (p : Point) (k : Colour) (on : IsOn g.side p) (all : length 
     opponent_cleared =
         sym first.cleared
         ∙ clear-AllReach after (opponent k) length-after
-          (AllReach-after g cells p (opponent k) fewer around
-            (λ e. absurd (opponent_differs k (sym stone_stays ∙ e)))
-            (AllReach-settled g (opponent k) settled))
+        (AllReach-after g cells p (opponent k) fewer around
+        (λ e. absurd (opponent_differs k (sym stone_stays ∙ e)))
+        (AllReach-settled g (opponent k) settled))
 
     module _ (rest : List Cell) (second : LosesDead (record g { cells = cells }) (record g { cells = rest }) k) (own : ReachesIfStone (record g { cells = rest }) k p) where
       left : Grid
@@ -152,19 +152,19 @@ module _ (g : Grid) (p : Point) (k : Colour) (on : IsOn g.side p) (all : length 
       fewer_left : (r : Point) → IsOn g.side r → r ≢ p → (cell_at left r ≡ Empty) ⊎ (cell_at left r ≡ cell_at g r)
       unfolding left after
       fewer_left r at other =
-          elim (second.taken r at)
-          [ inl same ↦ elim (fewer r at other) [ inl free ↦ inl (same ∙ free) | inr was ↦ inr (same ∙ was) ]
-          | inr gone ↦ inl gone.0
+          elim (second.taken r at) [
+            | inl same ↦ elim (fewer r at other) [ inl free ↦ inl (same ∙ free) | inr was ↦ inr (same ∙ was) ]
+            | inr gone ↦ inl gone.0
           ]
 
       -- a neighbour of the stone's colour reaches empty by the stone, or by the point that it left
       own_beside : ReachBeside left k p
       unfolding left after
       own_beside = λ q at next stone.
-          elim (second.taken p on)
-          [ inl same ↦
-            path_by_step left Empty q p at (AreAdjacent-sym p q next) on (inl (same ∙ stone_stays ∙ sym stone)) (own (same ∙ stone_stays))
-          | inr gone ↦ (p ∷ [], (at, refl, AreAdjacent-sym p q next, (on, gone.0)))
+          elim (second.taken p on) [
+            | inl same ↦
+                path_by_step left Empty q p at (AreAdjacent-sym p q next) on (inl (same ∙ stone_stays ∙ sym stone)) (own (same ∙ stone_stays))
+            | inr gone ↦ (p ∷ [], (at, refl, AreAdjacent-sym p q next, (on, gone.0)))
           ]
 
       pub is_play : record g { cells = rest } ≡ play g k p
@@ -172,9 +172,9 @@ module _ (g : Grid) (p : Point) (k : Colour) (on : IsOn g.side p) (all : length 
       is_play =
           sym
           (ap (λ x. clear x k) opponent_cleared
-            ∙ sym second.cleared
-            ∙ clear-AllReach left k (second.all ∙ length-after)
-              (AllReach-after g rest p k fewer_left own_beside own (AllReach-settled g k settled)))
+          ∙ sym second.cleared
+          ∙ clear-AllReach left k (second.all ∙ length-after)
+          (AllReach-after g rest p k fewer_left own_beside own (AllReach-settled g k settled)))
 
 -- the move, where every stone reaches empty: the opponent's dead groups beside the point are taken, and then its own
 pub captured_is_play : (g h i : Grid) (p : Point) (k : Colour) → IsOn g.side p → length g.cells ≡ g.side * g.side → has_unreaching g ≡ false → LosesDead (with_cell g p (stone_of k)) h (opponent k) → ReachBeside h (opponent k) p → LosesDead h i k → ReachesIfStone i k p → i ≡ play g k p
@@ -183,11 +183,11 @@ captured_is_play g h i p k on all settled first around second own =
     let ei = same_grid (record g { cells = i.cells }) i (sym (second.same_side ∙ first.same_side)) refl in
     sym ei
     ∙ is_play g p k on all settled h.cells
-      (subst (λ x. LosesDead (with_cell g p (stone_of k)) x (opponent k)) (sym eh) first)
-      (subst (λ x. ReachBeside x (opponent k) p) (sym eh) around)
-      i.cells
-      (subst (λ x. LosesDead (record g { cells = h.cells }) x k) (sym ei) (subst (λ x. LosesDead x i k) (sym eh) second))
-      (subst (λ x. ReachesIfStone x k p) (sym ei) own)
+    (subst (λ x. LosesDead (with_cell g p (stone_of k)) x (opponent k)) (sym eh) first)
+    (subst (λ x. ReachBeside x (opponent k) p) (sym eh) around)
+    i.cells
+    (subst (λ x. LosesDead (record g { cells = h.cells }) x k) (sym ei) (subst (λ x. LosesDead x i k) (sym eh) second))
+    (subst (λ x. ReachesIfStone x k p) (sym ei) own)
 
 -- a stone that reaches empty, if it is one, does so after a group was taken
 still_settled : (g h : Grid) (k : Colour) (q : Point) → LosesDead g h k → IsOn g.side q → ReachesIfStone g k q → ReachesIfStone h k q
@@ -204,9 +204,9 @@ ReachBeside-four a b c d e k p ab bc cd de left right up down = λ q at beside.
     let in_b = on_next a b k q ab on in
     let in_c = on_next b c k q bc in_b in
     let in_d = on_next c d k q cd in_c in
-    elim (IsNeighbour-adjacent a.side p q on beside)
-    [ inl is ↦ still_settled d e k q de in_d (still_settled c d k q cd in_c (still_settled b c k q bc in_b (left q is)))
-    | inr (inl is) ↦ still_settled d e k q de in_d (still_settled c d k q cd in_c (right q is))
-    | inr (inr (inl is)) ↦ still_settled d e k q de in_d (up q is)
-    | inr (inr (inr is)) ↦ down q is
+    elim (IsNeighbour-adjacent a.side p q on beside) [
+      | inl is ↦ still_settled d e k q de in_d (still_settled c d k q cd in_c (still_settled b c k q bc in_b (left q is)))
+      | inr (inl is) ↦ still_settled d e k q de in_d (still_settled c d k q cd in_c (right q is))
+      | inr (inr (inl is)) ↦ still_settled d e k q de in_d (up q is)
+      | inr (inr (inr is)) ↦ down q is
     ]

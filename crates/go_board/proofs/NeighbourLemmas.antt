@@ -1,9 +1,9 @@
 -- proofs/NeighbourLemmas.antt
 -- The four neighbours of a point are the points adjacent to it.
-use Rattle.std.proofs.Common.{◌≡◌, ◌⊎◌, inl, inr, ℕ, ◌+◌, ◌-◌, ◌<◌, ◌≤◌, Bool, true, false, cond, nat_lt, Option, Some, None, refl, sym, ap, subst, ◌∙◌, arith, Decides}
+use Rattle.std.proofs.Common.{◌≡◌, ◌⊎◌, inl, inr, ℕ, ◌+◌, ◌-◌, ◌<◌, Bool, true, false, cond, nat_lt, Option, Some, None, refl, sym, ap, subst, ◌∙◌, arith}
 use Rattle.std.proofs.lemmas.Bool.Decides.{Decides-ltb}
 use Rattle.go_board.specs.declared.points.Point.{Point}
-use Rattle.go_board.specs.Point.{IsOn, AreAdjacent, DifferByOne}
+use Rattle.go_board.specs.Point.{IsOn, AreAdjacent}
 use Rattle.go_board.specs.Flood.{left_of, right_of, above, below}
 
 pub AreAdjacent-sym : (p q : Point) → AreAdjacent p q → AreAdjacent q p

@@ -1,7 +1,7 @@
 -- proofs/PointLemmas.antt
 -- Points, their places in a list that goes row by row, and tests on the points of a grid.
-use Rattle.std.proofs.Common.{◌≡◌, ◌≢◌, ℕ, zero, suc, ◌+◌, ◌*◌, ◌/◌, ◌%◌, ◌<◌, ◌≤◌, ◌⊎◌, Bool, true, false, ◌||◌, List, [], ◌∷◌, map, length, get_or, refl, sym, ap, ◌∙◌, arith, Decides, inl, inr}
-use Rattle.std.specs.List.{range_with_len, list_any}
+use Rattle.std.proofs.Common.{◌≡◌, ◌≢◌, ℕ, zero, suc, ◌+◌, ◌*◌, ◌<◌, ◌⊎◌, Bool, true, false, ◌||◌, List, [], ◌∷◌, map, length, get_or, refl, sym, ap, ◌∙◌, arith, Decides, inl, inr}
+use Rattle.std.specs.List.{list_any}
 use Rattle.std.proofs.lemmas.Nat.{mul-add-lt, mod-mul-add, div-mul-add, rows}
 use Rattle.std.proofs.lemmas.List.{get_or-map, ext_get_or, length-map}
 use Rattle.std.proofs.lemmas.List.FromFn.{length-map-range_with_len, get_or-map-range_with_len}
@@ -9,7 +9,7 @@ use Rattle.std.proofs.lemmas.List.Folds.{list_any_at}
 use Rattle.std.proofs.lemmas.Bool.{false≢true, cases_eq}
 use Rattle.std.proofs.lemmas.Bool.Decides.{Decides-eqb, Decides-and, Decides-or}
 use Rattle.go_board.specs.declared.points.Point.{Point}
-use Rattle.go_board.specs.Point.{IsOn, AreAdjacent, are_adjacent, DifferByOne, place_of, point_at, points}
+use Rattle.go_board.specs.Point.{IsOn, AreAdjacent, are_adjacent, place_of, point_at, points}
 
 -- the upper left corner
 abbrev pub origin : Point
@@ -110,13 +110,13 @@ Decides-are_adjacent p q =
 -- two points are one or not
 pub same_or_not : (p q : Point) → (p ≡ q) ⊎ (p ≢ q)
 same_or_not p q =
-    elim (cases_eq p.col q.col)
-    [ inl col ↦
-      elim (cases_eq p.row q.row)
-      [ inl row ↦ inl (ap (λ a. record { col = a; row = p.row }) col ∙ ap (λ b. record { col = q.col; row = b }) row)
-      | inr other ↦ inr (λ e. other (ap (λ r. r.row) e))
-      ]
-    | inr other ↦ inr (λ e. other (ap (λ r. r.col) e))
+    elim (cases_eq p.col q.col) [
+      | inl col ↦
+          elim (cases_eq p.row q.row) [
+            | inl row ↦ inl (ap (λ a. record { col = a; row = p.row }) col ∙ ap (λ b. record { col = q.col; row = b }) row)
+            | inr other ↦ inr (λ e. other (ap (λ r. r.row) e))
+          ]
+      | inr other ↦ inr (λ e. other (ap (λ r. r.col) e))
     ]
 
 -- a point at a place of a list that goes row by row; behind its end, only the place is known

@@ -1,17 +1,16 @@
 -- proofs/ReachingLemmas.antt
 -- The function `reaches` and the paths: they agree at each point of the grid.
-use Rattle.std.proofs.Common.{◌≡◌, ◌⊎◌, inl, inr, ℕ, zero, suc, ◌+◌, ◌*◌, ◌<◌, ◌≤◌, Bool, true, false, ◌||◌, List, [], ◌∷◌, length, get_or, refl, sym, ap, subst, ◌∙◌, arith, Decides, count_by, cond}
-use Rattle.std.proofs.lemmas.List.{ext_get_or}
+use Rattle.std.proofs.Common.{◌≡◌, ◌⊎◌, inl, inr, ℕ, zero, suc, ◌+◌, ◌*◌, ◌<◌, Bool, true, false, List, [], ◌∷◌, length, get_or, refl, sym, ap, subst, ◌∙◌, arith, Decides, count_by, cond}
 use Rattle.std.proofs.lemmas.List.Sums.{count_by-le-length, sum_by-cons}
 use Rattle.std.proofs.lemmas.Bool.Decides.{Decides-and, Decides-or, Decides-at, Decides-like}
 use Rattle.go_board.specs.declared.stones.Cell.{Cell}
 use Rattle.go_board.specs.declared.points.Point.{Point}
 use Rattle.go_board.specs.Colour.{same_cell}
-use Rattle.go_board.specs.Point.{IsOn, AreAdjacent, are_adjacent, points, place_of, point_at}
+use Rattle.go_board.specs.Point.{IsOn, AreAdjacent, place_of, point_at}
 use Rattle.go_board.specs.Grid.{Grid, cell_at}
-use Rattle.go_board.specs.Marking.{Marking, is_marked, marking_of}
+use Rattle.go_board.specs.Marking.{Marking, is_marked}
 use Rattle.go_board.specs.Reaching.{Leads, Reaches, leads_on, spread, reaching_within, reaches}
-use Rattle.go_board.proofs.PointLemmas.{place_below, Decides-some_point, Decides-are_adjacent, length-points, place_of-point_at, IsOn-point_at}
+use Rattle.go_board.proofs.PointLemmas.{Decides-some_point, Decides-are_adjacent, place_of-point_at, IsOn-point_at}
 use Rattle.go_board.proofs.GridLemmas.{Decides-same_cell, is_marked-marking_of, length-marking_of}
 
 -- p reaches the colour k in at most n steps

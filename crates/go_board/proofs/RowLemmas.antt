@@ -1,16 +1,16 @@
 -- proofs/RowLemmas.antt
 -- A set of points as words of bits, one for each row, as a marking.
-use Rattle.std.proofs.Common.{◌≡◌, ◌≢◌, ◌⊎◌, inl, inr, ℕ, ◌+◌, ◌*◌, ◌/◌, ◌%◌, ◌^◌, ◌<◌, ◌≤◌, ◌==◌, Bool, true, false, List, map, set, replicate, length, get_or, bit_and, bit_or, w64, refl, sym, ap, ◌∙◌, arith}
+use Rattle.std.proofs.Common.{◌≡◌, ◌≢◌, inl, inr, ℕ, ◌*◌, ◌/◌, ◌%◌, ◌^◌, ◌<◌, ◌≤◌, ◌==◌, true, false, List, map, set, replicate, length, get_or, bit_and, bit_or, w64, sym, ap, ◌∙◌, arith}
 use Rattle.std.specs.Int.{bit_at}
 use Rattle.std.proofs.lemmas.Bool.{cases_eq}
 use Rattle.std.proofs.lemmas.Nat.Bits.{bit_at-zero, shr_and_one, bit_at_set_same, bit_at_set_other}
 use Rattle.std.proofs.lemmas.List.{length-map, length-set, length-replicate, get_or-set_same, get_or-set_other}
 use Rattle.go_board.specs.declared.points.Point.{Point}
 use Rattle.go_board.specs.Point.{IsOn, place_of, point_at, points}
-use Rattle.go_board.specs.Marking.{Marking, is_marked, marking_of}
+use Rattle.go_board.specs.Marking.{is_marked, marking_of}
 use Rattle.go_board.specs.Rows.{is_set}
 use Rattle.go_board.specs.Search.{no_marks, with_mark}
-use Rattle.go_board.proofs.PointLemmas.{length-points, get_or-map-points, is_map-points, IsOn-point_at, place_of-point_at, point_at-place_of, place_below, same_or_not}
+use Rattle.go_board.proofs.PointLemmas.{length-points, get_or-map-points, is_map-points, IsOn-point_at, place_of-point_at, point_at-place_of, place_below}
 use Rattle.go_board.proofs.GridLemmas.{get_or-replicate_default, is_marked-marking_of}
 
 -- with no bit set no point is marked
@@ -22,8 +22,8 @@ pub rows-none : (side n : ℕ) (rows : List ℕ) → rows ≡ replicate n 0 → 
 rows-none side n rows is =
     ap (λ l. marking_of side (is_set l)) is
     ∙ ap (λ l. record { side = side; marks = l })
-      (sym (is_map-points (is_set (replicate n 0)) side (replicate (side * side) false) false (length-replicate (side * side) false)
-        (λ i below. get_or-replicate_default (side * side) i false ∙ sym (is_set-none n (point_at side i)))))
+    (sym (is_map-points (is_set (replicate n 0)) side (replicate (side * side) false) false (length-replicate (side * side) false)
+    (λ i below. get_or-replicate_default (side * side) i false ∙ sym (is_set-none n (point_at side i)))))
 
 -- the rows with the bit of a point set
 abbrev pub with_bit : List ℕ → Point → List ℕ
@@ -36,14 +36,14 @@ is_set-same rows p within low =
 
 is_set-other : (rows : List ℕ) (p q : Point) → p.row < length rows → p.col < 64 → q ≢ p → is_set (with_bit rows p) q ≡ is_set rows q
 is_set-other rows p q within low other =
-    elim (cases_eq q.row p.row)
-    [ inl row ↦
-      let col : q.col ≢ p.col = λ e. other (ap (λ a. record { col = a; row = q.row }) e ∙ ap (λ b. record { col = p.col; row = b }) row) in
-      ap (λ r. bit_at (get_or (with_bit rows p) r 0) q.col == 1) row
-      ∙ ap (λ w. bit_at w q.col == 1) (get_or-set_same rows p.row _ 0 within)
-      ∙ ap (λ b. b == 1) (bit_at_set_other w64 (get_or rows p.row 0) p.col low q.col col)
-      ∙ ap (λ r. bit_at (get_or rows r 0) q.col == 1) (sym row)
-    | inr row ↦ ap (λ w. bit_at w q.col == 1) (get_or-set_other rows p.row q.row _ 0 row)
+    elim (cases_eq q.row p.row) [
+      | inl row ↦
+          let col : q.col ≢ p.col = λ e. other (ap (λ a. record { col = a; row = q.row }) e ∙ ap (λ b. record { col = p.col; row = b }) row) in
+          ap (λ r. bit_at (get_or (with_bit rows p) r 0) q.col == 1) row
+          ∙ ap (λ w. bit_at w q.col == 1) (get_or-set_same rows p.row _ 0 within)
+          ∙ ap (λ b. b == 1) (bit_at_set_other w64 (get_or rows p.row 0) p.col low q.col col)
+          ∙ ap (λ r. bit_at (get_or rows r 0) q.col == 1) (sym row)
+      | inr row ↦ ap (λ w. bit_at w q.col == 1) (get_or-set_other rows p.row q.row _ 0 row)
     ]
 
 pub rows-with_bit : (side : ℕ) (rows : List ℕ) (p : Point) → side ≤ length rows → side ≤ 64 → IsOn side p → marking_of side (is_set (with_bit rows p)) ≡ with_mark (marking_of side (is_set rows)) p
@@ -55,21 +55,21 @@ rows-with_bit side rows p fits low on =
     let column : p.col < 64 = omega (arith, on.0, low) in
     ap (λ l. record { side = side; marks = l })
     (sym (is_map-points (is_set (with_bit rows p)) side (set old (place_of side p) true) false (length-set old (place_of side p) true ∙ all)
-      (λ i h.
-        let q = point_at side i in
-        let at = IsOn-point_at side i h in
-        elim (cases_eq i (place_of side p))
-        [ inl same ↦
+    (λ i h.
+    let q = point_at side i in
+    let at = IsOn-point_at side i h in
+    elim (cases_eq i (place_of side p)) [
+      | inl same ↦
           ap (λ j. get_or (set old (place_of side p) true) j false) same
           ∙ get_or-set_same old (place_of side p) true false below
           ∙ sym (ap (λ j. is_set (with_bit rows p) (point_at side j)) same ∙ ap (is_set (with_bit rows p)) (point_at-place_of side p on)
-            ∙ is_set-same rows p within column)
-        | inr other ↦
+          ∙ is_set-same rows p within column)
+      | inr other ↦
           get_or-set_other old (place_of side p) i true false other
           ∙ ap (λ j. get_or old j false) (sym (place_of-point_at side i h))
           ∙ get_or-map-points (is_set rows) side q false at
           ∙ sym (is_set-other rows p q within column (λ e. other (sym (place_of-point_at side i h) ∙ ap (place_of side) e)))
-        ])))
+    ])))
 
 -- reading a bit
 pub rows-has : (side : ℕ) (rows : List ℕ) (p : Point) (row : ℕ) → row ≡ p.row → IsOn side p → (bit_and (get_or rows row 0 / 2 ^ p.col) 1 == 1) ≡ is_marked (marking_of side (is_set rows)) p

@@ -1,15 +1,15 @@
 -- proofs/RuleLemmas.antt
 -- Clearing, stones that don't reach empty, and the points that count for a player, by paths.
-use Rattle.std.proofs.Common.{◌≡◌, ◌≢◌, ◌⊎◌, ℕ, ◌*◌, Bool, true, false, not, ◌&&◌, cond, length, refl, ap, ◌∙◌, Decides}
+use Rattle.std.proofs.Common.{◌≡◌, ◌≢◌, ◌*◌, Bool, true, false, not, ◌&&◌, cond, length, refl, Decides}
 use Rattle.std.proofs.lemmas.Bool.Decides.{Decides-and, Decides-or, Decides-not, Decides-like}
 use Rattle.go_board.specs.declared.stones.Cell.{Cell}
 use Rattle.go_board.specs.declared.stones.Cell.TheVariants.{Empty}
 use Rattle.go_board.specs.declared.stones.Colour.{Colour}
 use Rattle.go_board.specs.declared.points.Point.{Point}
-use Rattle.go_board.specs.Colour.{opponent, stone_of, same_cell}
-use Rattle.go_board.specs.Point.{IsOn, points}
+use Rattle.go_board.specs.Colour.{opponent, stone_of}
+use Rattle.go_board.specs.Point.{IsOn}
 use Rattle.go_board.specs.Grid.{Grid, cell_at}
-use Rattle.go_board.specs.Reaching.{Reaches, reaches}
+use Rattle.go_board.specs.Reaching.{Reaches}
 use Rattle.go_board.specs.Clearing.{cleared_cell, clear, HasUnreaching, has_unreaching}
 use Rattle.go_board.specs.Score.{CountsFor, counts_for}
 use Rattle.go_board.proofs.PointLemmas.{Decides-some_point}

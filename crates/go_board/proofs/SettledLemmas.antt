@@ -1,6 +1,6 @@
 -- proofs/SettledLemmas.antt
 -- Grids on which stones reach empty: clearing them changes nothing, and after a move all do.
-use Rattle.std.proofs.Common.{◌≡◌, ◌≢◌, ◌⊎◌, inl, inr, ◌*◌, Bool, true, false, cond, List, [], ◌∷◌, length, refl, sym, ap, ◌∙◌, ℕ}
+use Rattle.std.proofs.Common.{◌≡◌, ◌≢◌, ◌⊎◌, inl, inr, ◌*◌, false, List, [], ◌∷◌, length, refl, sym, ◌∙◌, ℕ}
 use Rattle.std.proofs.lemmas.Bool.{cases_Bool, true≢false}
 use Rattle.std.proofs.lemmas.Bool.Decides.{not_from_Decides}
 use Rattle.go_board.specs.declared.stones.Cell.{Cell}
@@ -12,10 +12,10 @@ use Rattle.go_board.specs.Colour.{opponent, stone_of}
 use Rattle.go_board.specs.Point.{IsOn, place_of}
 use Rattle.go_board.specs.Grid.{Grid, cell_at, with_cell, empty_grid}
 use Rattle.go_board.specs.Reaching.{Leads, Reaches, reaches}
-use Rattle.go_board.specs.Clearing.{cleared_cell, clear, play, HasUnreaching, has_unreaching}
+use Rattle.go_board.specs.Clearing.{cleared_cell, clear, play, has_unreaching}
 use Rattle.go_board.specs.Groups.{AllReach}
 use Rattle.go_board.proofs.GridLemmas.{get_or-replicate_default}
-use Rattle.go_board.proofs.ReachingLemmas.{Leads-on, Decides-reaches}
+use Rattle.go_board.proofs.ReachingLemmas.{Decides-reaches}
 use Rattle.go_board.proofs.RuleLemmas.{side-clear, cell_at-clear, emptied, kept, others_kept, Decides-has_unreaching}
 use Rattle.go_board.proofs.GroupLemmas.{coloured_or_not, stone_of≢Empty, Reaches-Leads, grid_of-cells}
 
@@ -31,20 +31,20 @@ unfolding clear
 clear-AllReach g k all reach =
     grid_of-cells g (cleared_cell g k) all
     (λ p on.
-      elim (coloured_or_not (cell_at g p) (stone_of k))
-      [ inl own ↦ kept g k p on (reach p on own) | inr other ↦ others_kept g k p other ])
+    elim (coloured_or_not (cell_at g p) (stone_of k))
+    [ inl own ↦ kept g k p on (reach p on own) | inr other ↦ others_kept g k p other ])
 
 -- a path to an empty point is there after a clearing
 path_kept : (g : Grid) (k : Colour) (own : Cell) (p : Point) (path : List Point) → Leads g own Empty p path → Leads (clear g k) own Empty p path
 unfolding clear
 path_kept g k own p [] way =
     (way.0, cell_at-clear g k p way.0 ∙ kept g k p way.0 (Reaches-Leads g own Empty p [] way) ∙ way.1)
-path_kept g k own p (q ∷ path) way =
-    ( way.0
-    , cell_at-clear g k p way.0 ∙ kept g k p way.0 (Reaches-Leads g own Empty p (q ∷ path) way) ∙ way.1
-    , way.2
-    , path_kept g k own q path way.3
-    )
+path_kept g k own p (q ∷ path) way = (
+  way.0,
+  cell_at-clear g k p way.0 ∙ kept g k p way.0 (Reaches-Leads g own Empty p (q ∷ path) way) ∙ way.1,
+  way.2,
+  path_kept g k own q path way.3,
+)
 
 -- what reaches empty does so after a clearing
 pub reaches_after_clear : (g : Grid) (k : Colour) (p : Point) → Reaches g Empty p → Reaches (clear g k) Empty p
@@ -54,22 +54,22 @@ reaches_after_clear g k p way =
 -- a stone that clearing leaves was there before, and it reached empty if it has the colour
 left_stone : (g : Grid) (k d : Colour) (p : Point) → IsOn g.side p → cell_at (clear g k) p ≡ stone_of d → cell_at g p ≡ stone_of d
 left_stone g k d p on left =
-    elim (coloured_or_not (cell_at g p) (stone_of k))
-    [ inl own ↦
-      elim (reaches_or_not g Empty p on)
-      [ inl way ↦ sym (kept g k p on way) ∙ sym (cell_at-clear g k p on) ∙ left
-      | inr shut ↦ absurd (stone_of≢Empty d (sym left ∙ cell_at-clear g k p on ∙ emptied g k p on own shut))
-      ]
-    | inr other ↦ sym (others_kept g k p other) ∙ sym (cell_at-clear g k p on) ∙ left
+    elim (coloured_or_not (cell_at g p) (stone_of k)) [
+      | inl own ↦
+          elim (reaches_or_not g Empty p on) [
+            | inl way ↦ sym (kept g k p on way) ∙ sym (cell_at-clear g k p on) ∙ left
+            | inr shut ↦ absurd (stone_of≢Empty d (sym left ∙ cell_at-clear g k p on ∙ emptied g k p on own shut))
+          ]
+      | inr other ↦ sym (others_kept g k p other) ∙ sym (cell_at-clear g k p on) ∙ left
     ]
 
 left_reaches : (g : Grid) (k : Colour) (p : Point) → IsOn g.side p → cell_at (clear g k) p ≡ stone_of k → Reaches g Empty p
 left_reaches g k p on left =
-    elim (reaches_or_not g Empty p on)
-    [ inl way ↦ way
-    | inr shut ↦
-      absurd (stone_of≢Empty k
-        (sym left ∙ cell_at-clear g k p on ∙ emptied g k p on (left_stone g k k p on left) shut))
+    elim (reaches_or_not g Empty p on) [
+      | inl way ↦ way
+      | inr shut ↦
+          absurd (stone_of≢Empty k
+          (sym left ∙ cell_at-clear g k p on ∙ emptied g k p on (left_stone g k k p on left) shut))
     ]
 
 -- once a colour is cleared, all its stones reach empty
@@ -92,11 +92,11 @@ stone_reaches g k own others p on Empty is stone = absurd (stone refl)
 -- every stone reaches empty where those of a player and of her opponent do
 both_reach : (g : Grid) (k : Colour) → AllReach g k → AllReach g (opponent k) → has_unreaching g ≡ false
 both_reach g k own others =
-    elim (cases_Bool (has_unreaching g))
-    [ inl some ↦
-      let w = (Decides-has_unreaching g).0 some in
-      absurd (w.3 (stone_reaches g k own others w.0 w.1 (cell_at g w.0) refl w.2))
-    | inr none ↦ none
+    elim (cases_Bool (has_unreaching g)) [
+      | inl some ↦
+          let w = (Decides-has_unreaching g).0 some in
+          absurd (w.3 (stone_reaches g k own others w.0 w.1 (cell_at g w.0) refl w.2))
+      | inr none ↦ none
     ]
 
 -- after a move every stone reaches empty, however the grid was before
@@ -111,12 +111,12 @@ settled_by_play g k p =
 pub AllReach-settled : (g : Grid) (k : Colour) → has_unreaching g ≡ false → AllReach g k
 AllReach-settled g k settled =
     λ p on own.
-      elim (reaches_or_not g Empty p on)
-      [ inl way ↦ way
+    elim (reaches_or_not g Empty p on) [
+      | inl way ↦ way
       | inr shut ↦
-        absurd (true≢false
+          absurd (true≢false
           (sym ((Decides-has_unreaching g).1 (p, on, (λ e. stone_of≢Empty k (sym own ∙ e)), shut)) ∙ settled))
-      ]
+    ]
 
 -- so clearing a colour changes nothing there
 pub clear-settled : (g : Grid) (k : Colour) → length g.cells ≡ g.side * g.side → has_unreaching g ≡ false → clear g k ≡ g
@@ -125,11 +125,11 @@ clear-settled g k all settled = clear-AllReach g k all (AllReach-settled g k set
 -- nothing stands on an empty grid
 pub settled-empty_grid : (side : ℕ) → has_unreaching (empty_grid side) ≡ false
 settled-empty_grid side =
-    elim (cases_Bool (has_unreaching (empty_grid side)))
-    [ inl some ↦
-      let w = (Decides-has_unreaching (empty_grid side)).0 some in
-      absurd (w.2 (get_or-replicate_default (side * side) (place_of side w.0) Empty))
-    | inr none ↦ none
+    elim (cases_Bool (has_unreaching (empty_grid side))) [
+      | inl some ↦
+          let w = (Decides-has_unreaching (empty_grid side)).0 some in
+          absurd (w.2 (get_or-replicate_default (side * side) (place_of side w.0) Empty))
+      | inr none ↦ none
     ]
 
 pub side_play : (g : Grid) (k : Colour) (p : Point) → (play g k p).side ≡ g.side

@@ -16,9 +16,9 @@ use Rattle.go_board.specs.Flood.{left_of, right_of, above, below}
 pub record IsDead (g : Grid) (k : Colour) (dead : Point → Bool) : Type 0 where
   pub stones : (p : Point) → IsOn g.side p → IsTrue (dead p) → cell_at g p ≡ stone_of k
   pub shut : (p q : Point) → IsOn g.side p → IsOn g.side q → AreAdjacent p q → IsTrue (dead p)
-    → cell_at g q ≢ Empty
+      → cell_at g q ≢ Empty
   pub whole : (p q : Point) → IsOn g.side p → IsOn g.side q → AreAdjacent p q → IsTrue (dead p)
-    → cell_at g q ≡ stone_of k → IsTrue (dead q)
+      → cell_at g q ≡ stone_of k → IsTrue (dead q)
 
 -- all stones of a colour reach empty
 abbrev pub AllReach : Grid → Colour → Type 0
@@ -52,6 +52,6 @@ pub record LosesDead (g h : Grid) (k : Colour) : Type 0 where
   pub same_side : h.side ≡ g.side
   pub all : length h.cells ≡ length g.cells
   pub taken : (p : Point) → IsOn g.side p
-    → (cell_at h p ≡ cell_at g p) ⊎ ((cell_at h p ≡ Empty) × (cell_at g p ≡ stone_of k))
+      → (cell_at h p ≡ cell_at g p) ⊎ ((cell_at h p ≡ Empty) × (cell_at g p ≡ stone_of k))
   pub still : (p : Point) → IsOn g.side p → Reaches g Empty p → Reaches h Empty p
   pub cleared : clear h k ≡ clear g k

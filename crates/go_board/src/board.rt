@@ -32,7 +32,7 @@ impl Model for Board {
     ghost invariant = { λ b. (length b.cells ≡ MAX_POINTS)
         × (b.size * b.size ≤ MAX_POINTS)
         × (IsTrue b.settled
-            → has_unreaching (record { side = b.size; cells = take (b.size * b.size) b.cells }) ≡ false) };
+        → has_unreaching (record { side = b.size; cells = take (b.size * b.size) b.cells }) ≡ false) };
 }
 
 // The cells of the greatest board, on which nothing stands.

@@ -1,8 +1,7 @@
 //! Moves in turn, on boards where every stone is known to reach empty, and a move after points were set.
 
-use std::process::Abort;
-
 use crate::{Board, Cell, Colour, Point, Size};
+use std::process::Abort;
 
 /// Plays on an empty point of the board.
 fn play(rt: &impl Abort, board: &mut Board, colour: Colour, col: u8, row: u8) {
@@ -19,8 +18,16 @@ fn empty(rt: &impl Abort, side: u8) -> Board {
 
 /// How many stones of each colour there are.
 fn stones(board: &Board) -> (usize, usize) {
-    let black = board.cells().iter().filter(|cell| **cell == Cell::Black).count();
-    let white = board.cells().iter().filter(|cell| **cell == Cell::White).count();
+    let black = board
+        .cells()
+        .iter()
+        .filter(|cell| **cell == Cell::Black)
+        .count();
+    let white = board
+        .cells()
+        .iter()
+        .filter(|cell| **cell == Cell::White)
+        .count();
     (black, white)
 }
 
@@ -31,13 +38,25 @@ fn captures(rt: HostRuntime) {
     play(&rt, &mut board, Colour::White, 0, 0);
     assert_eq!(rt; stones(&board), (1, 1));
     play(&rt, &mut board, Colour::Black, 0, 1);
-    assert_eq!(rt; stones(&board), (2, 0), "the white stone had no liberty left");
+    assert_eq!(rt;
+        stones(&board),
+        (2, 0),
+        "the white stone had no liberty left"
+    );
     play(&rt, &mut board, Colour::White, 0, 0);
-    assert_eq!(rt; stones(&board), (2, 0), "a stone without a liberty is taken itself");
+    assert_eq!(rt;
+        stones(&board),
+        (2, 0),
+        "a stone without a liberty is taken itself"
+    );
     play(&rt, &mut board, Colour::White, 2, 0);
     play(&rt, &mut board, Colour::White, 1, 1);
     play(&rt, &mut board, Colour::White, 0, 0);
-    assert_eq!(rt; stones(&board), (1, 3), "the opponent's stones are taken before the own");
+    assert_eq!(rt;
+        stones(&board),
+        (1, 3),
+        "the opponent's stones are taken before the own"
+    );
 }
 
 #[test]
@@ -54,7 +73,11 @@ fn large_group(rt: HostRuntime) {
 #[test]
 fn after_setting(rt: HostRuntime) {
     let mut board = empty(&rt, 9);
-    for (col, row, cell) in [(0, 0, Cell::White), (1, 0, Cell::Black), (0, 1, Cell::Black)] {
+    for (col, row, cell) in [
+        (0, 0, Cell::White),
+        (1, 0, Cell::Black),
+        (0, 1, Cell::Black),
+    ] {
         let side = board.size().side();
         assert!(rt; col < side && row < side);
         board.set(Point { col, row }, cell);

@@ -2,12 +2,13 @@
 
 ghost use Rattle.std.specs.Prelude.{◌≡◌};
 
+use crate::{Board, Cell, Colour, MAX_SIDE, Point, Rect, Size, Steps, Vertex, point, rect, vertex};
 use std::process::Abort;
 
-use crate::{Board, Cell, Colour, MAX_SIDE, Point, Rect, Size, Steps, Vertex, point, rect, vertex};
-
 const B: Cell = Cell::Black;
+
 const W: Cell = Cell::White;
+
 const E: Cell = Cell::Empty;
 
 fn at(col: u8, row: u8) -> Point
@@ -34,7 +35,14 @@ fn three(rt: &impl Abort, cells: [Cell; 9]) -> Board
 
 #[test]
 fn sides(rt: HostRuntime) {
-    for (side, exists) in [(0, false), (1, true), (25, true), (26, true), (52, true), (53, false)] {
+    for (side, exists) in [
+        (0, false),
+        (1, true),
+        (25, true),
+        (26, true),
+        (52, true),
+        (53, false),
+    ] {
         assert_eq!(rt; Size::new(side).is_some(), exists, "side {side}");
     }
     assert_eq!(rt; size(&rt, MAX_SIDE).side(), 52);
@@ -56,7 +64,11 @@ fn points(rt: HostRuntime) {
         (b"ZZ".as_slice(), 52, Some(at(51, 51))),
     ];
     for (raw, side, expected) in named {
-        assert_eq!(rt; point(raw, size(&rt, side)), expected, "{raw:?} on side {side}");
+        assert_eq!(rt;
+            point(raw, size(&rt, side)),
+            expected,
+            "{raw:?} on side {side}"
+        );
     }
 }
 
@@ -81,10 +93,34 @@ fn rectangles(rt: HostRuntime) {
 fn vertices(rt: HostRuntime) {
     let size_9 = size(&rt, 9);
     let size_25 = size(&rt, 25);
-    assert_eq!(rt; vertex(at(8, 8), size_9), Vertex { letter: b'J', row: 1 });
-    assert_eq!(rt; vertex(at(0, 0), size_9), Vertex { letter: b'A', row: 9 });
-    assert_eq!(rt; vertex(at(24, 24), size_25), Vertex { letter: b'Z', row: 1 });
-    assert_eq!(rt; vertex(at(24, 0), size_25), Vertex { letter: b'Z', row: 25 });
+    assert_eq!(rt;
+        vertex(at(8, 8), size_9),
+        Vertex {
+            letter: b'J',
+            row: 1
+        }
+    );
+    assert_eq!(rt;
+        vertex(at(0, 0), size_9),
+        Vertex {
+            letter: b'A',
+            row: 9
+        }
+    );
+    assert_eq!(rt;
+        vertex(at(24, 24), size_25),
+        Vertex {
+            letter: b'Z',
+            row: 1
+        }
+    );
+    assert_eq!(rt;
+        vertex(at(24, 0), size_25),
+        Vertex {
+            letter: b'Z',
+            row: 25
+        }
+    );
 }
 
 #[test]
@@ -100,7 +136,11 @@ fn reaching(rt: HostRuntime) {
         for col in 0..3 {
             let corner = col + row == 0;
             assert_eq!(rt; empty.has(at(col, row)), !corner, "column {col}, row {row}");
-            assert_eq!(rt; black.has(at(col, row)), col + row < 2, "column {col}, row {row}");
+            assert_eq!(rt;
+                black.has(at(col, row)),
+                col + row < 2,
+                "column {col}, row {row}"
+            );
         }
     }
     let mut none = Steps::new();

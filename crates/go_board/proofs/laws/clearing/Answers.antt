@@ -1,8 +1,5 @@
 -- proofs/laws/clearing/Answers.antt
 use Rattle.std.proofs.Common.{◌∙◌}
-use Rattle.go_board.proofs.GroupLemmas.{clear-without}
-use Rattle.go_board.proofs.SettledLemmas.{clear-settled}
-use Rattle.go_board.proofs.MoveLemmas.{captured_is_play}
 use Rattle.go_board.proofs.RuleLemmas.{side-clear, length-clear, cell_at-clear, emptied, kept, others_kept}
 use Rattle.go_board.proofs.laws.clearing.Goals as goal
 

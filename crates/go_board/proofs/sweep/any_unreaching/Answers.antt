@@ -14,8 +14,8 @@ returns-then-is_unreaching c =
     let marked = c.has.ensures ∙ ap (mark_in marks) c.loop-cell.invariant.at.at_place in
     any_unreaching-at cells marks i c.loop-cell-test.true
     (ap (is_unreaching (cell_in cells i)) (sym marked)
-      ∙ ap (λ x. is_unreaching x c.has.result) (get_or_default cells i Empty Black c.loop-cell-test.true)
-      ∙ sym c.if-is_unreaching.ensures)
+    ∙ ap (λ x. is_unreaching x c.has.result) (get_or_default cells i Empty Black c.loop-cell-test.true)
+    ∙ sym c.if-is_unreaching.ensures)
 
 pub returns : goal.returns
 returns c =

@@ -1,7 +1,6 @@
 -- proofs/sweep/clear_all/Answers.antt
-use Rattle.std.proofs.Common.{◌≡◌, ◌+◌, ◌<◌, length, get_or, ap, ◌∙◌, arith}
+use Rattle.std.proofs.Common.{◌<◌, length, get_or, ap, ◌∙◌, arith}
 use Rattle.go_board.specs.declared.stones.Cell.TheVariants.{Black}
-use Rattle.go_board.specs.Point.{place_of}
 use Rattle.go_board.specs.Sweep.{cleared, mark_in}
 use Rattle.go_board.proofs.PointLemmas.{IsAt-next}
 use Rattle.go_board.proofs.SweepLemmas.{cleared_more, left_more, is_all_cleared}
@@ -19,8 +18,8 @@ loop-place-preserved c =
       done = cleared_more c.args.cells.now l.cells c.args.stone marks l.place c.cleared.result within l.invariant.done l.invariant.left is;
       left = left_more c.args.cells.now l.cells c.args.stone marks l.place c.cleared.result within l.invariant.left;
       at =
-        IsAt-next c.args.reaching.now.side l.place l.point next.result l.invariant.at
-        (rw c.size.ensures at next.ensures.value) (rw c.size.ensures at next.ensures.in_columns);
+          IsAt-next c.args.reaching.now.side l.place l.point next.result l.invariant.at
+          (rw c.size.ensures at next.ensures.value) (rw c.size.ensures at next.ensures.in_columns);
     }
 
 pub returns : goal.returns

@@ -1,5 +1,5 @@
 -- proofs/sweep/count/Answers.antt
-use Rattle.std.proofs.Common.{◌≡◌, ℕ, ◌+◌, ◌≤◌, Bool, cond, length, map, count_by, sym, ap, subst, ◌∙◌, arith}
+use Rattle.std.proofs.Common.{◌≡◌, ℕ, ◌+◌, ◌≤◌, Bool, cond, length, map, count_by, ap, ◌∙◌, arith}
 use Rattle.std.specs.List.{range_with_len}
 use Rattle.std.proofs.lemmas.List.{get_or_default}
 use Rattle.go_board.specs.declared.stones.Cell.TheVariants.{Black, Empty}
@@ -25,23 +25,23 @@ loop-cell-preserved c =
     let test : ℕ → Bool = λ k. counts (cell_in c.args.cells.now k) c.args.stone (mark_in own.marks k) (mark_in other.marks k) in
     let own_marked = c.has.ensures ∙ ap (mark_in own.marks) l.invariant.at.at_place in
     let other_marked =
-      c.has-in-loop-cell.ensures ∙ ap (λ s. mark_in other.marks (place_of s l.point)) c.requires.other_side
-      ∙ ap (mark_in other.marks) l.invariant.at.at_place in
+    c.has-in-loop-cell.ensures ∙ ap (λ s. mark_in other.marks (place_of s l.point)) c.requires.other_side
+    ∙ ap (mark_in other.marks) l.invariant.at.at_place in
     let read =
-      ap (λ x. counts x c.args.stone c.has.result c.has-in-loop-cell.result) (get_or_default c.args.cells.now i Black Empty c.loop-cell-test.true)
-      ∙ ap (λ b. counts (cell_in c.args.cells.now i) c.args.stone b c.has-in-loop-cell.result) own_marked
-      ∙ ap (counts (cell_in c.args.cells.now i) c.args.stone (mark_in own.marks i)) other_marked in
+    ap (λ x. counts x c.args.stone c.has.result c.has-in-loop-cell.result) (get_or_default c.args.cells.now i Black Empty c.loop-cell-test.true)
+    ∙ ap (λ b. counts (cell_in c.args.cells.now i) c.args.stone b c.has-in-loop-cell.result) own_marked
+    ∙ ap (counts (cell_in c.args.cells.now i) c.args.stone (mark_in own.marks i)) other_marked in
     let next : c.if-counts.count ≡ l.count + cond (test i) 1 0 =
-      elim c.if-counts.branch
-      [ then-counts w ↦ w.count-is ∙ ap (λ b. l.count + cond b 1 0) (w.if-counts.ensures ∙ read)
+    elim c.if-counts.branch [
+      | then-counts w ↦ w.count-is ∙ ap (λ b. l.count + cond b 1 0) (w.if-counts.ensures ∙ read)
       | else-counts w ↦ omega (arith, w.count-is, ap (λ b. cond {A = ℕ} b 1 0) (w.if-counts.ensures ∙ read))
-      ] in
+    ] in
     let following = c.following-point in
     record {
       counted = count-more test i l.count c.if-counts.count l.invariant.counted next;
       at =
-        IsAt-next own.side i l.point following.result l.invariant.at
-        (rw c.size.ensures at following.ensures.value) (rw c.size.ensures at following.ensures.in_columns);
+          IsAt-next own.side i l.point following.result l.invariant.at
+          (rw c.size.ensures at following.ensures.value) (rw c.size.ensures at following.ensures.in_columns);
     }
 
 pub returns : goal.returns

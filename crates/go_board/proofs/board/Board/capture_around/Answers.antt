@@ -1,5 +1,5 @@
 -- proofs/board/Board/capture_around/Answers.antt
-use Rattle.std.proofs.Common.{◌≡◌, sym, ap, ◌∙◌, subst}
+use Rattle.std.proofs.Common.{ap, ◌∙◌, subst}
 use Rattle.std.specs.Option.{ForSome}
 use Rattle.go_board.specs.Flood.{right_of, below}
 use Rattle.go_board.specs.Groups.{ReachesIfStone}

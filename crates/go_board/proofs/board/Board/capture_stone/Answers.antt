@@ -7,7 +7,7 @@ use Rattle.go_board.proofs.board.Board.capture_stone.Goals as goal
 pub returns-clause-settled : goal.returns-clause-settled
 returns-clause-settled c =
     let second = c.capture_group-2 in
-    elim (cases_Bool second.result)
-    [ inl there ↦ second.ensures.settled there
-    | inr none ↦ absurd (omega (arith, second.ensures.room none))
+    elim (cases_Bool second.result) [
+      | inl there ↦ second.ensures.settled there
+      | inr none ↦ absurd (omega (arith, second.ensures.room none))
     ]

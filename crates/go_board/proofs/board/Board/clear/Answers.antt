@@ -1,6 +1,5 @@
 -- proofs/board/Board/clear/Answers.antt
-use Rattle.std.proofs.Common.{◌≡◌, ◌*◌, ◌≤◌, take, length, sym, ap, ◌∙◌, arith}
-use Rattle.go_board.specs.Colour.{stone_of}
+use Rattle.std.proofs.Common.{◌*◌, ◌≤◌, take, length, sym, ap, ◌∙◌, arith}
 use Rattle.go_board.specs.Sweep.{all_cleared}
 use Rattle.go_board.specs.Clearing.{has_unreaching}
 use Rattle.go_board.proofs.FrontLemmas.{length-grid_in}
@@ -15,9 +14,9 @@ returns-clause-value c =
     let marking = c.reached-reaching.result in
     let fits : i.size * i.size ≤ length i.cells = omega (arith, c.self.invariant) in
     let cleared =
-      c.clear_all.ensures
-      ∙ ap (λ n. all_cleared (take n i.cells) c.stone.result marking.marks) c.points-points.ensures.value
-      ∙ ap (λ s. all_cleared (take (i.size * i.size) i.cells) s marking.marks) c.stone.ensures in
+    c.clear_all.ensures
+    ∙ ap (λ n. all_cleared (take n i.cells) c.stone.result marking.marks) c.points-points.ensures.value
+    ∙ ap (λ s. all_cleared (take (i.size * i.size) i.cells) s marking.marks) c.stone.ensures in
     grid_in-clear i.size i.cells c.clear_all.new.cells _ c.args.self.now c.args.colour marking c.self.view_is fits c.reached-reaching.ensures.side c.reached-reaching.ensures.marks cleared
 
 -- where every stone reaches empty, nothing is to be cleared

@@ -1,5 +1,5 @@
 -- proofs/board/Board/empty/Answers.antt
-use Rattle.std.proofs.Common.{◌≡◌, false, arith, ap, ◌∙◌, length}
+use Rattle.std.proofs.Common.{◌≡◌, arith, ap, ◌∙◌, length}
 use Rattle.std.proofs.lemmas.List.{length-replicate}
 use Rattle.go_board.specs.declared.stones.Cell.TheVariants.{Empty}
 use Rattle.go_board.specs.declared.size.TheConstants.{MAX_POINTS}
@@ -13,11 +13,11 @@ empty_front : (c : goal.After-nothing) → grid_in c.args.size c.nothing.result 
 empty_front c = grid_in-replicate c.args.size MAX_POINTS c.nothing.result c.nothing.ensures (omega arith)
 
 pub invariant_of-result : goal.invariant_of-result
-invariant_of-result c =
-    ( ap length c.nothing.ensures ∙ length-replicate MAX_POINTS Empty
-    , omega arith
-    , λ _. ap has_unreaching (empty_front c) ∙ settled-empty_grid c.args.size
-    )
+invariant_of-result c = (
+  ap length c.nothing.ensures ∙ length-replicate MAX_POINTS Empty,
+  omega arith,
+  λ _. ap has_unreaching (empty_front c) ∙ settled-empty_grid c.args.size,
+)
 
 pub returns : goal.returns
 returns c = empty_front c

@@ -9,7 +9,7 @@ abbrev pub invariant-loop-point : goal.invariant-loop-point
 invariant-loop-point g l = record {
   way : IsUnderWay l.self l.target (Reaches l.self l.target) l.search;
   seeded : IsSeeded l.self l.target l.search;
-  counted : l.steps ≡ l.initial.steps + l.search.taken
+  counted : l.steps ≡ l.initial.steps + l.search.taken;
 }
 
 abbrev pub decreases-loop-point : goal.decreases-loop-point

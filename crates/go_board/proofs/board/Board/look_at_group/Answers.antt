@@ -1,5 +1,5 @@
 -- proofs/board/Board/look_at_group/Answers.antt
-use Rattle.std.proofs.Common.{◌≡◌, ℕ, ◌+◌, ◌*◌, ◌<◌, sym, ap, ◌∙◌, subst, arith}
+use Rattle.std.proofs.Common.{◌≡◌, ◌+◌, ◌*◌, sym, ap, ◌∙◌, subst, arith}
 use Rattle.go_board.specs.declared.stones.Cell.TheVariants.{Empty}
 use Rattle.go_board.specs.Search.{with_found, AllListed}
 use Rattle.go_board.specs.Flood.{with_neighbours}
@@ -39,8 +39,8 @@ after_spread r c =
     subst (λ t. IsLooking g k c.args.from t × (t.taken ≡ s.taken + 1))
     (sym (c.spread.ensures ∙ ap (λ t. with_neighbours g Empty p t) took.taken))
     (IsLooking-step g k c.args.from s p looking
-      (IsNext-taken g k c.args.from s p looking took.next took.on_grid took.marked)
-      (sym c.has_liberty.ensures ∙ c.if-has_liberty.false))
+    (IsNext-taken g k c.args.from s p looking took.next took.on_grid took.marked)
+    (sym c.has_liberty.ensures ∙ c.if-has_liberty.false))
 
 pub loop-point-smaller : goal.loop-point-smaller
 loop-point-smaller r c =

@@ -1,6 +1,6 @@
 -- proofs/board/Board/place_settled/Answers.antt
-use Rattle.std.proofs.Common.{◌≡◌, ◌*◌, length, arith, ap, subst, refl, ◌∙◌}
-use Rattle.go_board.specs.Colour.{opponent, stone_of}
+use Rattle.std.proofs.Common.{arith, ap, subst, refl, ◌∙◌}
+use Rattle.go_board.specs.Colour.{stone_of}
 use Rattle.go_board.specs.Grid.{with_cell}
 use Rattle.go_board.specs.Groups.{LosesDead, ReachBeside}
 use Rattle.go_board.proofs.FrontLemmas.{length-grid_in}
@@ -18,7 +18,7 @@ returns c =
     let around = c.capture_around in
     captured_is_play g around.new.self c.capture.new.self p k c.requires.on_board all c.requires.settled
     (subst (λ o. LosesDead (with_cell g p (stone_of k)) around.new.self o) c.opponent.ensures
-      (subst (λ h. LosesDead h around.new.self c.opponent.result) here around.ensures.taken))
+    (subst (λ h. LosesDead h around.new.self c.opponent.result) here around.ensures.taken))
     (subst (λ o. ReachBeside around.new.self o p) c.opponent.ensures around.ensures.beside)
     c.capture.ensures.taken
     (c.capture.ensures.settled p refl)

@@ -1,5 +1,5 @@
 -- proofs/board/Board/search_from/Answers.antt
-use Rattle.std.proofs.Common.{◌≡◌, ℕ, ◌+◌, ◌*◌, ◌<◌, cond, length, refl, sym, ap, ◌∙◌, arith, rules}
+use Rattle.std.proofs.Common.{◌≡◌, ◌+◌, ◌*◌, ◌<◌, cond, length, ap, ◌∙◌, arith}
 use denote.Enum.Bare.{sameb}
 use Rattle.go_board.specs.contracts.stones.Cell.{the_type}
 use Rattle.go_board.specs.declared.stones.Cell.TheVariants.{Black}

@@ -1,5 +1,5 @@
 -- proofs/search/Search/offer/Answers.antt
-use Rattle.std.proofs.Common.{◌≡◌, ◌≤◌, ◌<◌, ◌*◌, Bool, false, length, set, sym, ap, subst, ◌∙◌, arith}
+use Rattle.std.proofs.Common.{◌≡◌, ◌≤◌, false, length, sym, ap, subst, ◌∙◌, arith}
 use Rattle.std.proofs.lemmas.List.{length-set}
 use Rattle.go_board.specs.Point.{IsOn}
 use Rattle.go_board.specs.Marking.{is_marked}
@@ -15,8 +15,8 @@ bounds-self-inside-self-inside r c =
     let not_yet : is_marked i.marks c.args.point ≡ false = sym c.has.ensures ∙ c.if-not-has.true in
     let within : i.filled ≤ length i.points = omega (arith, c.self.invariant) in
     let space : HasRoom (length i.points) 1 (searched_in i.marks i.points i.filled i.taken) =
-      subst (λ s. HasRoom (length i.points) 1 s) (sym c.self.view_is)
-      (subst (λ n. HasRoom n 1 c.args.self.now) (sym c.self.invariant.0) c.requires.room) in
+    subst (λ s. HasRoom (length i.points) 1 s) (sym c.self.view_is)
+    (subst (λ n. HasRoom n 1 c.args.self.now) (sym c.self.invariant.0) c.requires.room) in
     omega (arith, room_in i.marks i.points i.filled i.taken c.args.point within c.self.invariant.2 on not_yet space, c.self.invariant)
 
 pub invariant_of-self : goal.invariant_of-self
@@ -26,12 +26,12 @@ invariant_of-self r c =
     let not_yet : is_marked i.marks c.args.point ≡ false = sym c.has.ensures ∙ c.if-not-has.true in
     let within : i.filled ≤ length i.points = omega (arith, c.self.invariant) in
     let space : HasRoom (length i.points) 1 (searched_in i.marks i.points i.filled i.taken) =
-      subst (λ s. HasRoom (length i.points) 1 s) (sym c.self.view_is)
-      (subst (λ n. HasRoom n 1 c.args.self.now) (sym c.self.invariant.0) c.requires.room) in
-    let below = room_in i.marks i.points i.filled i.taken c.args.point within c.self.invariant.2 on not_yet space in
-    ( length-set i.points i.filled c.args.point ∙ c.self.invariant.0
-    , omega (arith, below, c.self.invariant)
-    , IsSound-searched_in i.marks i.points i.filled i.taken c.args.point within c.self.invariant.2 on not_yet c.mark.new.self c.mark.ensures below
+    subst (λ s. HasRoom (length i.points) 1 s) (sym c.self.view_is)
+    (subst (λ n. HasRoom n 1 c.args.self.now) (sym c.self.invariant.0) c.requires.room) in
+    let below = room_in i.marks i.points i.filled i.taken c.args.point within c.self.invariant.2 on not_yet space in (
+      length-set i.points i.filled c.args.point ∙ c.self.invariant.0,
+      omega (arith, below, c.self.invariant),
+      IsSound-searched_in i.marks i.points i.filled i.taken c.args.point within c.self.invariant.2 on not_yet c.mark.new.self c.mark.ensures below,
     )
 
 pub returns-then-not-has : goal.returns-then-not-has
@@ -41,8 +41,8 @@ returns-then-not-has r c =
     let not_yet : is_marked i.marks c.args.point ≡ false = sym c.has.ensures ∙ c.if-not-has.true in
     let within : i.filled ≤ length i.points = omega (arith, c.self.invariant) in
     let space : HasRoom (length i.points) 1 (searched_in i.marks i.points i.filled i.taken) =
-      subst (λ s. HasRoom (length i.points) 1 s) (sym c.self.view_is)
-      (subst (λ n. HasRoom n 1 c.args.self.now) (sym c.self.invariant.0) c.requires.room) in
+    subst (λ s. HasRoom (length i.points) 1 s) (sym c.self.view_is)
+    (subst (λ n. HasRoom n 1 c.args.self.now) (sym c.self.invariant.0) c.requires.room) in
     let below = room_in i.marks i.points i.filled i.taken c.args.point within c.self.invariant.2 on not_yet space in
     searched_in-set i.marks i.points i.filled i.taken c.args.point within c.self.invariant.2 on not_yet c.mark.new.self c.mark.ensures below
     ∙ sym (with_found-new _ c.args.point not_yet)
