@@ -1,5 +1,5 @@
 #!/bin/sh
-# Times a flood of the empty board, and moves in three ways, on sides 9, 19 and 52, by bench/board/main.rt: with the groups
+# Times a flood of the empty board, and moves in three ways, on sides 9, 19 and 52, by bench/board/main.rt.in: with the groups
 # around the point looked at, the same on a copy of the board, and with the whole grid cleared. The program is no crate of
 # this repository, so that the gate doesn't prove it: it is built in a folder of its own beside a copy of go_board, which
 # BENCH_FOLDER names. The first run proves both, which takes minutes; a later one in the same folder takes seconds.
@@ -13,7 +13,7 @@ for part in src specs proofs; do
     rm -rf "$folder/crates/go_board/$part"
     cp -R "$top/crates/go_board/$part" "$folder/crates/go_board/$part"
 done
-cp "$top/bench/board/main.rt" "$folder/crates/bench_board/src/main.rt"
+cp "$top/bench/board/main.rt.in" "$folder/crates/bench_board/src/main.rt"
 : > "$folder/crates/bench_board/specs/Lib.antt"
 cd "$folder/crates/bench_board"
 if ! rt run > run.log 2>&1; then

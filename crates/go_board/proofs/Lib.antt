@@ -15,3 +15,7 @@ pub mod NeighbourLemmas
 pub mod FloodLemmas
 pub mod ColourFloodLemmas
 pub mod SweepLemmas
+pub mod EntryLemmas
+pub mod RecordLemmas
+pub mod AreaLemmas
+pub mod TurnLemmas

@@ -1,5 +1,6 @@
 -- specs/Reaching.antt
--- Reaching a colour, as the Tromp-Taylor rules say it: by a path of adjacent points of the point's own colour.
+-- Reaching a colour, as the Tromp-Taylor rules say it: by a path of adjacent points of the point's own colour. A point
+-- of that colour reaches it too, by itself (this project's choice; clearing and the score don't ask it).
 use Rattle.std.specs.Prelude.{◌≡◌, ℕ, zero, suc, ◌*◌, Bool, ◌&&◌, ◌||◌, List, [], ◌∷◌}
 use Rattle.std.specs.List.{list_any}
 use Rattle.go_board.specs.declared.stones.Cell.{Cell}
@@ -19,9 +20,9 @@ Leads g own k p (q ∷ path) = IsOn g.side p × (cell_at g p ≡ own) × AreAdja
 abbrev pub Reaches : Grid → Cell → Point → Type 0
 Reaches g k p = (path : List Point) × Leads g (cell_at g p) k p path
 
--- Below, the same as a function that computes; the laws say that the two agree.
+-- Below, the same as a function that computes; the laws say that the two agree for points of the grid.
 
--- whether q, which stands beside p and is marked, is of p's colour or of colour k
+-- whether q stands beside p, is marked, and is of p's colour or of colour k
 abbrev pub leads_on : Grid → Cell → Marking → Point → Point → Bool
 leads_on g k m p q =
     are_adjacent p q && (is_marked m q && (same_cell (cell_at g q) (cell_at g p) || same_cell (cell_at g q) k))

@@ -27,12 +27,12 @@ rect_of ul lr =
     if nat_le ul.col lr.col && nat_le ul.row lr.row then Some (record { first = ul; last = lr }) else None
 
 -- the point of the board that a raw value names: two letters and nothing else
-abbrev pub point_value : List ℕ → ℕ → Option Point
+unfoldable pub point_value : List ℕ → ℕ → Option Point
 point_value (c ∷ r ∷ []) side = point_of side c r
 point_value _ side = None
 
 -- the rectangle of the board that a raw value names: a point alone, or two points with a `:` between them
-abbrev pub rect_value : List ℕ → ℕ → Option Rect
+unfoldable pub rect_value : List ℕ → ℕ → Option Rect
 rect_value (c ∷ r ∷ []) side = option_and_then (λ p. rect_of p p) (point_of side c r)
 rect_value (c ∷ r ∷ colon ∷ d ∷ s ∷ []) side =
     if colon == 58
@@ -44,6 +44,6 @@ rect_value _ side = None
 abbrev pub column_letters : List ℕ
 column_letters = codes "ABCDEFGHJKLMNOPQRSTUVWXYZ"
 
--- a point in GTP: the letter of its column, and its row counted from 1 from the bottom
-abbrev pub vertex_of : Point → ℕ → Vertex
+-- a point in GTP, on a side of 25 at most: the letter of its column, and its row counted from 1 from the bottom
+unfoldable pub vertex_of : Point → ℕ → Vertex
 vertex_of p side = record { letter = slice_index column_letters p.col; row = side - p.row }

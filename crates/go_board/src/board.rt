@@ -1,5 +1,7 @@
 //! The board: reading and setting points, moves and the score (Tromp-Taylor).
 
+mod areas;
+
 ghost use Rattle.std.specs.Prelude.{◌≡◌, replicate};
 ghost use Rattle.go_board.specs.declared.stones.Cell.TheVariants.{Empty};
 

@@ -1,5 +1,7 @@
 //! What the words of the contracts mean. Each function here does nothing; its contract is a law, proved.
 
+mod turns;
+
 ghost use Rattle.std.specs.Prelude.{◌≡◌, ◌≢◌, ◌*◌, ◌↔◌, IsTrue, length};
 ghost use Rattle.go_board.specs.declared.stones.Cell.{Cell};
 ghost use Rattle.go_board.specs.declared.stones.Cell.TheVariants.{Empty};
@@ -11,6 +13,8 @@ ghost use Rattle.go_board.specs.Grid.{Grid, cell_at, with_cell};
 ghost use Rattle.go_board.specs.Reaching.{Reaches, reaches};
 ghost use Rattle.go_board.specs.Clearing.{clear, HasUnreaching, has_unreaching};
 ghost use Rattle.go_board.specs.Score.{CountsFor, counts_for};
+
+pub use turns::{areas, reasons, sides};
 
 /// The function `reaches` tells exactly the points of the grid that reach a colour by a path.
 pub fn reaching()

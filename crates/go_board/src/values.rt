@@ -26,6 +26,7 @@ fn coordinate_of(letter: u8, size: Size) -> Option<u8>
 
 /// The point of the board that a raw value names: two letters, the column's and then the row's, and nothing else. None
 /// for everything else.
+#[tactic(auto, unfolding(crate::specs::Values::point_value))]
 pub fn point(raw: &[u8], size: Size) -> Option<Point>
     ensures value { result ≡ point_value raw.now size }
     ensures on_board { IfSome result (λ p. IsOn size p) }
@@ -53,6 +54,7 @@ fn ordered(first: Point, last: Point) -> Option<Rect>
 /// The rectangle of the board that a raw value names: a point alone, which is both corners, or the upper left corner, a
 /// `:` and the lower right corner. None for everything else. That equal corners are taken and other orders are not is
 /// this project's choice.
+#[tactic(auto, unfolding(crate::specs::Values::point_value, crate::specs::Values::rect_value))]
 pub fn rect(raw: &[u8], size: Size) -> Option<Rect>
     ensures value { result ≡ rect_value raw.now size }
     ensures on_board { IfSome result (λ r. IsRectOn size r) }

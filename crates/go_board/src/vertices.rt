@@ -12,6 +12,7 @@ pub const MAX_VERTEX_SIDE: u8 = 25;
 
 /// The vertex of a point: its column's letter, A to Z without I from the left, and its row's number, counted from 1 from
 /// the bottom.
+#[tactic(auto, unfolding(crate::specs::Values::vertex_of))]
 pub fn vertex(point: Point, size: Size) -> Vertex
     requires on_board { IsOn size point }
     requires letters { size ≤ MAX_VERTEX_SIDE }

@@ -1,13 +1,24 @@
-// A library with one function.
+//! The lines of play of a Smart Game Format (SGF FF[4]) collection.
+//! A line goes from the root of a game to a node that no node follows.
+//!
+//! - `line` has what is shown of a line.
+//! - `cursor` goes over the lines of a collection.
+//! - `record` writes the text of a line.
+//! - `laws` has laws of the definitions.
+//! - `split` turns a text into the records of its lines, and `fault` has the ways in which it may fail.
 #![tactic(auto)]
 
-ghost use Rattle.std.specs.Prelude.{◌≡◌};
-ghost use Rattle.sgf_lines.specs.Echo.{echo_of};
+mod cursor;
+mod fault;
+pub mod laws;
+mod line;
+mod record;
+mod split;
+#[cfg(test)]
+mod tests;
 
-// The `ensures` clause is the contract: what `echo` returns is `echo_of` of its argument, a definition
-// in `specs/Echo.antt`, which a caller's clause can cite too.
-pub fn echo(x: usize) -> usize
-    ensures { result ≡ echo_of x }
-{
-    x
-}
+pub use cursor::Cursor;
+pub use fault::FirstFault;
+pub use line::LineRef;
+pub use sgf_tree::MAX_LENGTH;
+pub use split::first_split;

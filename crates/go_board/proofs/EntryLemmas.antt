@@ -1,0 +1,122 @@
+-- proofs/EntryLemmas.antt
+-- The stretch of past colourings whose cells stand one behind the other in one list.
+use Rattle.std.proofs.Common.{◌≡◌, ◌≢◌, ℕ, zero, suc, ◌+◌, ◌*◌, ◌<◌, ◌⊎◌, ◌↔◌, inl, inr, Bool, true, false, List, [], ◌∷◌, ◌++◌, ◌≤◌, length, drop, slice_range, slice_index_or, Contains, length-append, length-take, length-drop, take, ◌-◌, subst, IsTrue, refl, sym, ap, ◌∙◌, arith, cond}
+use Rattle.std.proofs.lemmas.List.{take-append-le, drop_at, get_or_at, get_or_append_left, take-append-drop}
+use Rattle.std.proofs.lemmas.Slice.{between_is, between_to_end}
+use Rattle.std.proofs.Math.Nat.{mul-le-mul_right}
+use Rattle.go_board.specs.declared.stones.Cell.{Cell}
+use Rattle.go_board.specs.Grid.{Grid}
+use Rattle.go_board.specs.Past.{Held, present_stretch}
+use Rattle.go_board.specs.Entries.{entry, entries}
+
+-- a list has its first element, what the rest has, and nothing else
+pub Contains-later : {X : Type 0} (x y : X) (xs : List X) → Contains xs y → Contains (x ∷ xs) y
+Contains-later x y xs h = (suc h.0, omega (arith, h.1), h.2)
+
+pub Contains-cases : {X : Type 0} (x y : X) (xs : List X) → Contains (x ∷ xs) y → (x ≡ y) ⊎ Contains xs y
+Contains-cases x y xs (zero, h, e) = inl e
+Contains-cases x y xs (suc k, h, e) = inr (k, omega (arith, h), e)
+
+pub Contains-none : {X : Type 0} (y : X) → Contains [] y → ⊥
+Contains-none y h = absurd (omega (arith, h.1))
+
+-- a stretch that goes on behind its first colouring only where that doesn't begin it
+going_on : {X : Type 0} (x y : X) (b : Bool) (xs : List X) → b ≡ false → Contains xs y → Contains (x ∷ cond b [] xs) y
+going_on x y false xs e h = Contains-later x y xs h
+going_on x y true xs e h = absurd (cc)
+
+only_later : {X : Type 0} (x y : X) (b : Bool) (xs : List X) → x ≢ y → Contains (x ∷ cond b [] xs) y → (b ≡ false) × Contains xs y
+only_later x y false xs other h = elim (Contains-cases x y xs h) [ inl e ↦ absurd (other e) | inr l ↦ (refl, l) ]
+only_later x y true xs other h =
+    elim (Contains-cases x y [] h) [ inl e ↦ absurd (other e) | inr l ↦ absurd (Contains-none y l) ]
+
+same_cells : (side : ℕ) (a b : List Cell) → ◌≡◌ {A = Grid} (record { side = side; cells = a }) (record { side = side; cells = b }) → a ≡ b
+same_cells side a b e = ap (λ (g : Grid). g.cells) e
+
+abbrev with_cells : ℕ → List Cell → Grid
+with_cells side cells = record { side = side; cells = cells }
+
+-- the stretch of the first n colourings has the one of those cells
+abbrev pub Has : ℕ → List Cell → List Bool → List Cell → ℕ → Type 0
+Has side all marks cells n =
+    Contains (present_stretch (entries side all marks n)) (record { side = side; cells = cells })
+
+module _ (side points : ℕ) (square : points ≡ side * side) (all : List Cell) (marks : List Bool) (cells : List Cell) where
+  -- the cells of the colouring at place n
+  abbrev pub cells_at : ℕ → List Cell
+  cells_at n = slice_range all (n * points) ((n + 1) * points)
+
+  at_place : (n : ℕ) → (entry side all marks n).colouring ≡ record { side = side; cells = cells_at n }
+  at_place n = rw square refl
+
+  pub Has-none : (i : ℕ) → i ≡ 0 → Has side all marks cells i → ⊥
+  Has-none i e h = Contains-none _ (rw e at h)
+
+  pub Has-found : (i n : ℕ) → i ≡ suc n → cells_at n ≡ cells → Has side all marks cells i
+  Has-found i n e same = rw e (0, omega arith, at_place n ∙ ap (with_cells side) same)
+
+  pub Has-more : (i n : ℕ) → i ≡ suc n → slice_index_or marks n false ≡ false → Has side all marks cells n → Has side all marks cells i
+  Has-more i n e on h = rw e (going_on _ _ (slice_index_or marks n false) _ on h)
+
+  pub Has-cases : (i n : ℕ) → i ≡ suc n → cells_at n ≢ cells → Has side all marks cells i → (slice_index_or marks n false ≡ false) × Has side all marks cells n
+  Has-cases i n e other h =
+      only_later _ _ (slice_index_or marks n false) _ (λ same. other (same_cells side _ _ (sym (at_place n) ∙ same))) (rw e at h)
+
+-- Adding a colouring behind the others.
+
+-- a part within the front of a joined list is that part of the front
+part_of_front : {X : Type 0} (xs ys : List X) (i j : ℕ) → j ≤ length xs → slice_range (xs ++ ys) i j ≡ slice_range xs i j
+part_of_front xs ys i j h = between_is (xs ++ ys) i j ∙ ap (drop i) (take-append-le j xs ys h) ∙ sym (between_is xs i j)
+
+-- the part behind the front of a joined list is its back
+part_of_back : {X : Type 0} (xs ys : List X) (i j : ℕ) → length xs ≡ i → length xs + length ys ≡ j → slice_range (xs ++ ys) i j ≡ ys
+part_of_back xs ys i j front whole =
+    let short : length (xs ++ ys) ≤ j = omega (arith, length-append xs ys) in
+    between_to_end (xs ++ ys) i j short ∙ drop_at xs ys i front
+
+rows_below : (n m points : ℕ) → n < m → (n + 1) * points ≤ m * points
+rows_below n m points h = mul-le-mul_right points (omega arith)
+
+module _ (side : ℕ) (cells new : List Cell) (marks : List Bool) (b : Bool) (fits : length cells ≡ length marks * (side * side)) where
+  -- the colourings before the new one stay
+  entries-more : (n : ℕ) → n ≤ length marks → entries side (cells ++ new) (marks ++ b ∷ []) n ≡ entries side cells marks n
+  entries-more zero h = refl
+  entries-more (suc n) h =
+      let cells_stay : slice_range (cells ++ new) (n * (side * side)) ((n + 1) * (side * side)) ≡ slice_range cells (n * (side * side)) ((n + 1) * (side * side)) = part_of_front cells new _ _ (rw fits (rows_below n (length marks) (side * side) h)) in
+      let mark_stays : slice_index_or (marks ++ b ∷ []) n false ≡ slice_index_or marks n false = get_or_append_left marks (b ∷ []) false n h in
+      rw (cells_stay, mark_stays, entries-more n (omega arith)) refl
+
+  -- the new one is the newest
+  pub entries-push : length new ≡ side * side → entries side (cells ++ new) (marks ++ b ∷ []) (length (marks ++ b ∷ [])) ≡ record { colouring = record { side = side; cells = new }; begins = b } ∷ entries side cells marks (length marks)
+  entries-push square =
+      let count : length (marks ++ b ∷ []) ≡ suc (length marks) = omega (arith, length-append marks (b ∷ [])) in
+      let cells_new : slice_range (cells ++ new) (length marks * (side * side)) ((length marks + 1) * (side * side)) ≡ new = part_of_back cells new _ _ fits (omega arith) in
+      let mark_new : slice_index_or (marks ++ b ∷ []) (length marks) false ≡ b = get_or_at marks b [] false (length marks) refl in
+      rw (count, cells_new, mark_new, entries-more (length marks) (omega arith)) refl
+
+-- the newest colouring stands apart; once another takes its place, it stands behind the others
+pub held-add : (newest added : Grid) (mark begins : Bool) (cells cells' : List Cell) (marks marks' : List Bool) → length cells ≡ length marks * (newest.side * newest.side) → length newest.cells ≡ newest.side * newest.side → newest.side ≡ added.side → cells' ≡ cells ++ newest.cells → marks' ≡ marks ++ mark ∷ [] → ◌≡◌ {A = List Held} (record { colouring = added; begins = begins } ∷ entries added.side cells' marks' (length marks')) (record { colouring = added; begins = begins } ∷ (record { colouring = newest; begins = mark } ∷ entries newest.side cells marks (length marks)))
+held-add newest added mark begins cells cells' marks marks' fits square same more_cells more_marks =
+    let others : ◌≡◌ {A = List Held} (entries added.side cells' marks' (length marks')) (record { colouring = newest; begins = mark } ∷ entries newest.side cells marks (length marks)) = rw (← same, more_cells, more_marks) (entries-push newest.side cells newest.cells marks mark fits square) in
+    ap (λ (hs : List Held). record { colouring = added; begins = begins } ∷ hs) others
+
+-- once the newest one is taken away, the last of the others takes its place
+pub held-pop : (side kept : ℕ) (mark : Bool) (cells cells' : List Cell) (marks marks' : List Bool) → length cells ≡ length marks * (side * side) → kept ≡ length cells - side * side → cells' ≡ take kept cells → marks ≡ marks' ++ mark ∷ [] → record { colouring = record { side = side; cells = take (length cells - kept) (drop kept cells) }; begins = mark } ∷ entries side cells' marks' (length marks') ≡ entries side cells marks (length marks)
+held-pop side kept mark cells cells' marks marks' fits is_kept less_cells less_marks =
+    let count : length marks ≡ length marks' + 1 = rw less_marks (length-append marks' (mark ∷ [])) in
+    let whole : length cells ≡ length marks' * (side * side) + side * side = rw (fits, count) (omega arith) in
+    let is_front : kept ≡ length marks' * (side * side) = omega arith in
+    let front : length cells' ≡ length marks' * (side * side) = rw less_cells (length-take kept cells ∙ omega arith) in
+    let back : length (drop kept cells) ≡ side * side = length-drop kept cells ∙ omega arith in
+    let last : take (length cells - kept) (drop kept cells) ≡ drop kept cells = between_to_end cells kept (length cells) (omega arith) in
+    let joined : cells ≡ cells' ++ drop kept cells = rw less_cells (sym (take-append-drop kept cells)) in
+    rw last
+    (sym (subst (λ (cs : List Cell). entries side cs marks (length marks) ≡ record { colouring = record { side = side; cells = drop kept cells }; begins = mark } ∷ entries side cells' marks' (length marks')) (sym joined)
+    (rw less_marks (entries-push side cells' (drop kept cells) marks' mark front back))))
+
+-- the stretch has a colouring that isn't the newest exactly where it goes on and the others have it
+pub held-has : (r : Bool) (newest grid : Grid) (begins : Bool) (cells : List Cell) (marks : List Bool) → newest.side ≡ grid.side → begins ≡ false → newest ≢ grid → (IsTrue r ↔ Has newest.side cells marks grid.cells (length marks)) → IsTrue r ↔ Contains (present_stretch (record { colouring = newest; begins = begins } ∷ entries newest.side cells marks (length marks))) grid
+held-has r newest grid begins cells marks same on other has =
+    let whole : record { side = newest.side; cells = grid.cells } ≡ grid = ap (λ s. record { side = s; cells = grid.cells }) same in
+    let others = rw whole at has in
+    (λ t. going_on newest grid begins _ on (others.0 t), λ h. others.1 (only_later newest grid begins _ other h).1)

@@ -1,0 +1,181 @@
+-- proofs/TurnLemmas.antt
+-- What the tests on turns say.
+use Rattle.std.proofs.Common.{◌≡◌, ℕ, Bool, false, inl, inr, ◌↔◌, List, [], ◌∷◌, Option, Some, None, Contains, IsTrue, refl, sym, ap, ◌∙◌, cond, arith, unwrap_or, ◌<◌, ◌+◌, slice_index_or, subst, Decides}
+use Rattle.std.specs.List.{list_any}
+use Rattle.std.proofs.lemmas.Bool.{false≢true, cases_lt, cases_Bool}
+use Rattle.std.proofs.lemmas.Bool.Decides.{Decides-or, Decides-and, Decides-not, Decides-like, Decides-eqb, same_from_decides, not_from_Decides}
+use Rattle.std.proofs.lemmas.Slice.Eq.{slice_eq-Decides}
+use Rattle.go_board.specs.declared.stones.Colour.{Colour}
+use Rattle.go_board.specs.declared.points.Point.{Point}
+use Rattle.go_board.specs.declared.points.Play.{Play}
+use Rattle.go_board.specs.declared.points.SetupOp.{SetupOp}
+use Rattle.go_board.specs.declared.points.Play.TheVariants.{Pass, Stone}
+use Rattle.go_board.specs.declared.reason.Reason.{Reason}
+use Rattle.go_board.specs.declared.reason.Reason.TheVariants.{Mixed, TwoMoves, BadSetup, BadPoint, Over, Turn, Occupied, Repeat}
+use Rattle.go_board.specs.declared.stones.Cell.TheVariants.{Empty}
+use Rattle.go_board.specs.declared.stones.Colour.TheVariants.{Black, White}
+use Rattle.go_board.specs.Colour.{opponent}
+use Rattle.go_board.specs.Grid.{Grid, cell_at}
+use Rattle.go_board.specs.Clearing.{play}
+use Rattle.go_board.specs.State.{State, is_over, must_move, is_occupied, is_repeat, same_grid, reason_of, Forbids, IsFirstReason, place_in_order, set_up, turned}
+use Rattle.go_board.specs.Records.{made_by}
+use Rattle.go_board.proofs.GridLemmas.{Decides-same_cell}
+use Rattle.go_board.proofs.RuleLemmas.{side-clear, false_from_Decides}
+use Rattle.go_board.proofs.AreaLemmas.{side-with_areas}
+use Rattle.go_board.proofs.EntryLemmas.{Contains-none, Contains-later, Contains-cases}
+
+-- a list has the element that some test finds
+Decides-has : {X : Type 0} (test : X → Bool) (x : X) → ((y : X) → Decides (test y) (x ≡ y)) → (ys : List X) → Decides (list_any test ys) (Contains ys x)
+Decides-has test x each [] = (λ t. absurd (false≢true t), λ h. absurd (Contains-none x h))
+Decides-has test x each (y ∷ ys) =
+    Decides-like _
+    (λ h. elim h [ inl e ↦ (0, omega arith, sym e) | inr l ↦ Contains-later y x ys l ])
+    (λ h. elim (Contains-cases y x ys h) [ inl e ↦ inl (sym e) | inr l ↦ inr l ])
+    (Decides-or _ _ (each y) (Decides-has test x each ys))
+
+one_grid : (a b : Grid) → a.side ≡ b.side → a.cells ≡ b.cells → a ≡ b
+one_grid a b sides cells =
+    ap (λ s. record { side = s; cells = a.cells }) sides ∙ ap (λ l. record { side = b.side; cells = l }) cells
+
+pub Decides-grids : (g h : Grid) → Decides (same_grid g h) (g ≡ h)
+Decides-grids g h =
+    Decides-like _ (λ e. one_grid g h e.0 e.1) (λ e. (ap (λ (f : Grid). f.side) e, ap (λ (f : Grid). f.cells) e))
+    (Decides-and _ _ (Decides-eqb _ _) (slice_eq-Decides Decides-same_cell _ _ _ refl))
+
+-- a stone repeats a colouring that was seen
+pub Decides-is_repeat : (s : State) (k : Colour) (p : Point) → Decides (is_repeat s k (Stone p)) (Contains s.seen (play s.colouring k p))
+Decides-is_repeat s k p = Decides-has (same_grid (play s.colouring k p)) _ (Decides-grids (play s.colouring k p)) s.seen
+
+-- the first reason of a turn for which none before the last holds
+pub reason_of-last : (s : State) (k : Colour) (x : Play) (b : Bool) → is_over s ≡ false → must_move s.player (opponent k) ≡ false → is_occupied s x ≡ false → is_repeat s k x ≡ b → reason_of s k x ≡ cond b (Some Repeat) None
+reason_of-last s k x b on turn free repeats = rw (on, turn, free, repeats) refl
+
+-- a move leaves the side
+pub side-play : (g : Grid) (k : Colour) (p : Point) → (play g k p).side ≡ g.side
+unfolding play
+side-play g k p = side-clear _ k ∙ side-clear _ (opponent k)
+
+-- once a past of those colourings answered whether it holds a stone's colouring, the last reason is known
+pub reason_by_past : (s : State) (k : Colour) (p : Point) (b : Bool) (seen : List Grid) (made : Grid) → seen ≡ s.seen → made ≡ play s.colouring k p → is_over s ≡ false → must_move s.player (opponent k) ≡ false → is_occupied s (Stone p) ≡ false → (IsTrue b ↔ Contains seen made) → reason_of s k (Stone p) ≡ cond b (Some Repeat) None
+reason_by_past s k p b seen made same_seen same_made on turn free has =
+    reason_of-last s k (Stone p) b on turn free (same_from_decides _ b (Decides-is_repeat s k p) (rw (same_seen, same_made) at has))
+
+-- a turn leaves the side
+pub side-made : (s : State) (k : Colour) (x : Play) (made : Grid) → Some made ≡ made_by s k x → made.side ≡ s.colouring.side
+side-made s k Pass made e = absurd (cc)
+side-made s k (Stone p) made e = ap (λ (o : Option Grid). (unwrap_or o made).side) e ∙ side-play s.colouring k p
+
+-- The law of reasons: for any facts that four tests decide, the first test that passes names the first fact that holds.
+
+Decides-must_move : (player : Option Colour) (k : Colour) → Decides (must_move player k) (player ≡ Some k)
+Decides-must_move None k = (λ t. absurd (false≢true t), λ e. absurd (cc))
+Decides-must_move (Some Black) Black = (λ _. refl, λ _. refl)
+Decides-must_move (Some White) White = (λ _. refl, λ _. refl)
+Decides-must_move (Some Black) White = (λ h. absurd (false≢true h), λ h. absurd (cc))
+Decides-must_move (Some White) Black = (λ h. absurd (false≢true h), λ h. absurd (cc))
+
+Decides-occupied : (s : State) (k : Colour) (x : Play) → Decides (is_occupied s x) (Forbids s k x Occupied)
+Decides-occupied s k Pass = (λ t. absurd (false≢true t), λ h. absurd h)
+Decides-occupied s k (Stone p) = Decides-not _ (Decides-same_cell (cell_at s.colouring p) Empty)
+
+Decides-repeat : (s : State) (k : Colour) (x : Play) → Decides (is_repeat s k x) (Forbids s k x Repeat)
+Decides-repeat s k Pass = (λ t. absurd (false≢true t), λ h. absurd h)
+Decides-repeat s k (Stone p) = Decides-is_repeat s k p
+
+-- no other reason holds of a turn
+never_before : (s : State) (k : Colour) (x : Play) (q : Reason) → place_in_order q < 4 → ¬ Forbids s k x q
+never_before s k x Mixed h f = f
+never_before s k x TwoMoves h f = f
+never_before s k x BadSetup h f = f
+never_before s k x BadPoint h f = f
+never_before s k x Over h f = absurd (omega arith)
+never_before s k x Turn h f = absurd (omega arith)
+never_before s k x Occupied h f = absurd (omega arith)
+never_before s k x Repeat h f = absurd (omega arith)
+
+-- the reason at a place in the order of checking
+abbrev reason_at : ℕ → Reason
+reason_at n =
+    slice_index_or (Mixed ∷ TwoMoves ∷ BadSetup ∷ BadPoint ∷ Over ∷ Turn ∷ Occupied ∷ Repeat ∷ []) n Mixed
+
+at_its_place : (q : Reason) → reason_at (place_in_order q) ≡ q
+at_its_place Mixed = refl
+at_its_place TwoMoves = refl
+at_its_place BadSetup = refl
+at_its_place BadPoint = refl
+at_its_place Over = refl
+at_its_place Turn = refl
+at_its_place Occupied = refl
+at_its_place Repeat = refl
+
+module _ (s : State) (k : Colour) (x : Play) where
+  none_up_to : (n : ℕ) → (¬ Forbids s k x (reason_at n)) → ((q : Reason) → place_in_order q < n → ¬ Forbids s k x q) → (q : Reason) → place_in_order q < n + 1 → ¬ Forbids s k x q
+  none_up_to n here before q h f =
+      elim (cases_lt (place_in_order q) n) [
+        | inl less ↦ before q less f
+        | inr more ↦ (let at_n : place_in_order q ≡ n = omega arith in
+            here (subst (Forbids s k x) (sym (at_its_place q) ∙ ap reason_at at_n) f))
+      ]
+
+  module _ (b1 b2 b3 b4 : Bool) (over : Decides b1 (Forbids s k x Over)) (turn : Decides b2 (Forbids s k x Turn)) (occupied : Decides b3 (Forbids s k x Occupied)) (repeat : Decides b4 (Forbids s k x Repeat)) where
+    none_before_turn : b1 ≡ false → (q : Reason) → place_in_order q < 5 → ¬ Forbids s k x q
+    none_before_turn e = none_up_to 4 (not_from_Decides b1 over e) (never_before s k x)
+
+    none_before_occupied : b1 ≡ false → b2 ≡ false → (q : Reason) → place_in_order q < 6 → ¬ Forbids s k x q
+    none_before_occupied e f = none_up_to 5 (not_from_Decides b2 turn f) (none_before_turn e)
+
+    none_before_repeat : b1 ≡ false → b2 ≡ false → b3 ≡ false → (q : Reason) → place_in_order q < 7 → ¬ Forbids s k x q
+    none_before_repeat e f g = none_up_to 6 (not_from_Decides b3 occupied g) (none_before_occupied e f)
+
+    named_by_tests : (r : Reason) → IsFirstReason s k x r → cond b1 (Some Over) (cond b2 (Some Turn) (cond b3 (Some Occupied) (cond b4 (Some Repeat) None))) ≡ Some r
+    named_by_tests Mixed h = absurd h.holds
+    named_by_tests TwoMoves h = absurd h.holds
+    named_by_tests BadSetup h = absurd h.holds
+    named_by_tests BadPoint h = absurd h.holds
+    named_by_tests Over h = rw (over.1 h.holds) refl
+    named_by_tests Turn h =
+        rw (false_from_Decides b1 over (h.first Over (omega arith)), turn.1 h.holds) refl
+    named_by_tests Occupied h =
+        rw (false_from_Decides b1 over (h.first Over (omega arith)), false_from_Decides b2 turn (h.first Turn (omega arith)), occupied.1 h.holds) refl
+    named_by_tests Repeat h =
+        rw (false_from_Decides b1 over (h.first Over (omega arith)), false_from_Decides b2 turn (h.first Turn (omega arith)), false_from_Decides b3 occupied (h.first Occupied (omega arith)), repeat.1 h.holds) refl
+
+    first_by_tests : (r : Reason) → cond b1 (Some Over) (cond b2 (Some Turn) (cond b3 (Some Occupied) (cond b4 (Some Repeat) None))) ≡ Some r → IsFirstReason s k x r
+    first_by_tests r e =
+        elim (cases_Bool b1) [
+          | inl t1 ↦ named Over (rw t1 at e) (record { holds = over.0 t1; first = never_before s k x })
+          | inr f1 ↦ elim (cases_Bool b2) [
+            | inl t2 ↦ named Turn (rw (f1, t2) at e) (record { holds = turn.0 t2; first = none_before_turn f1 })
+            | inr f2 ↦ elim (cases_Bool b3) [
+              | inl t3 ↦ named Occupied (rw (f1, f2, t3) at e) (record { holds = occupied.0 t3; first = none_before_occupied f1 f2 })
+              | inr f3 ↦ elim (cases_Bool b4) [
+                | inl t4 ↦ named Repeat (rw (f1, f2, f3, t4) at e) (record { holds = repeat.0 t4; first = none_before_repeat f1 f2 f3 })
+                | inr f4 ↦ absurd (none_is_some (rw (f1, f2, f3, f4) at e))
+              ]
+            ]
+          ]
+        ]
+      where
+        named : (q : Reason) → Some q ≡ Some r → IsFirstReason s k x q → IsFirstReason s k x r
+        named q same h = subst (IsFirstReason s k x) (ap (λ o. unwrap_or o q) same) h
+
+        none_is_some : None ≡ Some r → ⊥
+        none_is_some h = absurd (cc)
+
+-- the first reason that the tests name is the first that holds
+pub first_reason : (s : State) (k : Colour) (x : Play) (r : Reason) → (reason_of s k x ≡ Some r) ↔ IsFirstReason s k x r
+first_reason s k x r =
+    let over = Decides-eqb s.passes 2 in
+    let turn = Decides-must_move s.player (opponent k) in
+    let occupied = Decides-occupied s k x in
+    let repeat = Decides-repeat s k x in
+    (first_by_tests s k x _ _ _ _ over turn occupied repeat r, named_by_tests s k x _ _ _ _ over turn occupied repeat r)
+
+-- setups and turns leave the side
+pub side-set_up : (s : State) (ops : List SetupOp) (player : Option Colour) → (set_up s ops player).colouring.side ≡ s.colouring.side
+side-set_up s [] player = refl
+side-set_up s (op ∷ ops) player = side-with_areas s.colouring (op ∷ ops)
+
+pub side-turned : (s : State) (k : Colour) (x : Play) → (turned s k x).colouring.side ≡ s.colouring.side
+side-turned s k Pass = refl
+side-turned s k (Stone p) = side-play s.colouring k p

@@ -1,0 +1,8 @@
+-- proofs/laws/turns/areas/Answers.antt
+use Rattle.go_board.specs.State.{with_area}
+use Rattle.go_board.proofs.GridLemmas.{cell_at-grid_of}
+use Rattle.go_board.proofs.laws.turns.areas.Goals as goal
+
+pub returns : goal.returns
+unfolding with_area
+returns c = λ g op p on. cell_at-grid_of g.side _ p on

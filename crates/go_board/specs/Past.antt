@@ -1,0 +1,24 @@
+-- specs/Past.antt
+-- The past colourings of a game, newest first, each with a mark where it begins a stretch.
+use Rattle.std.specs.Prelude.{◌≡◌, ℕ, Bool, Option, Some, None, List, [], ◌∷◌, if◌then◌else◌}
+use Rattle.go_board.specs.Grid.{Grid}
+
+-- a past colouring, and whether it begins a stretch
+pub record Held : Type 0 where
+  pub colouring : Grid
+  pub begins : Bool
+
+-- the newest of the past colourings
+abbrev pub newest : List Held → Option Grid
+newest [] = None
+newest (h ∷ hs) = Some h.colouring
+
+-- the colourings of the present stretch: the newest one that begins a stretch, and all after it
+abbrev pub present_stretch : List Held → List Grid
+present_stretch [] = []
+present_stretch (h ∷ hs) = h.colouring ∷ (if h.begins then [] else present_stretch hs)
+
+-- each of the colourings has that side
+abbrev pub HaveSide : ℕ → List Held → Type 0
+HaveSide side [] = Unit {0}
+HaveSide side (h ∷ hs) = (h.colouring.side ≡ side) × HaveSide side hs

@@ -1,0 +1,49 @@
+//! The colourings that a game has been through.
+
+ghost use Rattle.std.specs.Prelude.{◌≡◌, ◌≤◌, ◌↔◌, [], ◌∷◌, true, false, List, Some, length, drop, IsTrue, IfOk, OnOk, OnErr, Contains};
+ghost use Rattle.go_board.specs.Past.{Held, newest, present_stretch, HaveSide};
+
+use crate::board::Board;
+use crate::fault::MemoryFault;
+use std::alloc::Global;
+
+/// The colourings that a game has been through, at least one, each with a mark where it begins a stretch. The present
+/// stretch is the newest colouring that begins one, and all after it. Boards handed in have the size of the first one.
+/// After a refusal the past is unchanged.
+pub trait Past: Drop {
+    /// The colourings, newest first.
+    ghost held: { Self → List Held };
+
+    /// A past of that one colouring, which begins a stretch.
+    fn new(alloc: Global, board: &Board) -> Result<Self, MemoryFault>
+        ensures { IfOk result (λ past. held past
+            ≡ record { colouring = board.now; begins = true } ∷ []) };
+
+    /// Whether the present stretch has the colouring.
+    fn holds(&self, board: &Board) -> bool
+        requires { HaveSide board.now.side (held self.now) }
+        ensures { IsTrue result ↔ Contains (present_stretch (held self.now)) board.now };
+
+    /// The newest colouring.
+    fn newest(&self) -> &Board
+        ensures { newest (held self.now) ≡ Some result.now };
+
+    /// Adds a colouring to the present stretch.
+    fn push(&mut self, board: &Board) -> Result<(), MemoryFault>
+        requires { HaveSide board.now.side (held self.old) }
+        ensures ok { OnOk result (held self.new
+            ≡ record { colouring = board.now; begins = false } ∷ held self.old) }
+        ensures err { OnErr result (held self.new ≡ held self.old) };
+
+    /// Begins a stretch with a colouring.
+    fn restart(&mut self, board: &Board) -> Result<(), MemoryFault>
+        requires { HaveSide board.now.side (held self.old) }
+        ensures ok { OnOk result (held self.new
+            ≡ record { colouring = board.now; begins = true } ∷ held self.old) }
+        ensures err { OnErr result (held self.new ≡ held self.old) };
+
+    /// Takes the newest colouring back, with its mark. The caller knows that there are two or more.
+    fn pop(&mut self)
+        requires { 2 ≤ length (held self.old) }
+        ensures { held self.new ≡ drop 1 (held self.old) };
+}

@@ -1,0 +1,125 @@
+//! The referee: the rules of Tromp-Taylor over a past, with undo.
+
+mod setup;
+mod turn;
+
+use crate::board::Board;
+use crate::fault::MemoryFault;
+use crate::past::Past;
+use crate::record::Record;
+use crate::size::Size;
+use crate::stones::Colour;
+use std::alloc::Global;
+use std::marker::Model;
+
+/// A referee of one game. It is seen as the list of the states that the game was in: the present one, and before it one
+/// for each accepted setup or turn that wasn't taken back. After a refusal it is unchanged.
+#[derive(Drop)]
+pub struct Referee<P: Past> {
+    past: P,
+    player: Option<Colour>,
+    passes: u8,
+    turns: u64,
+    /// One for each accepted call that wasn't taken back.
+    records: Vec<Record>,
+}
+
+impl<P: Past> Model for Referee<P> {
+    ghost use Rattle.std.specs.Prelude.{reverse};
+    ghost use Rattle.go_board.specs.State.{States};
+    ghost use Rattle.go_board.specs.Records.{states_of, IsKept};
+
+    ghost Value = { States };
+
+    ghost view = { λ r. states_of (P.held r.past) r.player r.passes r.turns r.records.items };
+
+    ghost invariant = { λ r. IsKept (P.held r.past) r.passes r.turns (reverse r.records.items) };
+}
+
+impl<P: Past> Referee<P> {
+    ghost use Rattle.std.specs.Prelude.{◌≡◌, ◌<◌, ◌≤◌, length, IfOk};
+    ghost use Rattle.go_board.specs.declared.stones.Colour.TheVariants.{Black, White};
+    ghost use Rattle.go_board.specs.Score.{score_of};
+    ghost use Rattle.go_board.specs.State.{begun, followed_by, is_over};
+
+    /// A referee in the state in which a game begins: the board is empty and Black must move. `MemoryFault` comes only
+    /// where memory was refused.
+    pub fn new(alloc: Global, size: Size) -> Result<Referee<P>, MemoryFault>
+        ensures { IfOk result (λ referee. referee ≡ begun size) }
+    {
+        Ok(Referee {
+            past: P::new(alloc, &Board::empty(size))?,
+            player: Some(Colour::Black),
+            passes: 0,
+            turns: 0,
+            records: Vec::new(alloc),
+        })
+    }
+
+    /// How many accepted setups and turns aren't taken back.
+    pub fn depth(&self) -> usize
+        ensures { result ≡ length self.now.earlier }
+    {
+        self.records.len()
+    }
+
+    /// Takes the newest accepted setup or turn back: the whole state is that before it. `depth` tells whether there is
+    /// one.
+    pub fn undo(&mut self)
+        requires { 0 < length self.old.earlier }
+        ensures { self.old ≡ followed_by self.new self.old.present }
+    {
+        let record = self.records.pop().unwrap();
+        if record.grew {
+            self.past.pop();
+        }
+        self.player = record.player;
+        self.passes = record.passes;
+        self.turns = record.turns;
+    }
+
+    /// The present board.
+    pub fn board(&self) -> &Board
+        ensures { result.now ≡ self.now.present.colouring }
+    {
+        self.past.newest()
+    }
+
+    /// How many turns were made, passes among them.
+    pub fn turns(&self) -> u64
+        ensures value { result ≡ self.now.present.turns }
+        ensures at_most { result ≤ length self.now.earlier }
+    {
+        self.turns
+    }
+
+    /// Whether the game is over, by two passes in a row.
+    pub fn over(&self) -> bool
+        ensures { result ≡ is_over self.now.present }
+    {
+        self.passes == 2
+    }
+
+    /// The area scores of Black and of White on the present board.
+    pub fn score(&self) -> (u32, u32)
+        ensures black { result.0 ≡ score_of self.now.present.colouring Black }
+        ensures white { result.1 ≡ score_of self.now.present.colouring White }
+    {
+        self.past.newest().score()
+    }
+
+    /// What is kept of the present state besides the past, for a call that adds a colouring or doesn't.
+    fn record(&self, grew: bool) -> Record
+        ensures player { result.player ≡ self.now.present.player }
+        ensures passes { result.passes ≡ self.now.present.passes }
+        ensures turns { result.turns ≡ self.now.present.turns }
+        ensures grew { result.grew ≡ grew }
+    {
+        Record {
+            player: self.player,
+            passes: self.passes,
+            turns: self.turns,
+            grew,
+        }
+    }
+}

@@ -1,0 +1,62 @@
+//! A referee's setups.
+
+use crate::board::Board;
+use crate::fault::MemoryFault;
+use crate::past::Past;
+use crate::points::SetupOp;
+use crate::referee::Referee;
+use crate::stones::Colour;
+
+impl<P: Past> Referee<P> {
+    ghost use Rattle.std.specs.Prelude.{◌≡◌, ◌<◌, ◌⊎◌, All, IsSome, OnOk, OnErr, length};
+    ghost use Rattle.go_board.specs.Point.{IsRectOn};
+    ghost use Rattle.go_board.specs.State.{followed_by, set_up};
+    ghost use Rattle.go_board.specs.Records.{with_setup};
+
+    /// Sets stones or the player up (SGF FF[4]). With operations, these colour their areas in order, whatever stood
+    /// there; nothing is cleared, the past begins anew, no pass was made last, and the player given must move, or with
+    /// none either may. With no operation, only the player changes. `MemoryFault` comes only where memory was refused;
+    /// then nothing is changed.
+    pub fn setup(&mut self, ops: &[SetupOp], player: Option<Colour>) -> Result<(), MemoryFault>
+        requires areas { All (λ op. IsRectOn self.old.present.colouring.side op.area) ops.now }
+        requires something { (0 < length ops.now) ⊎ IsSome player }
+        ensures ok { OnOk result (self.new
+            ≡ followed_by self.old (set_up self.old.present ops.now player)) }
+        ensures err { OnErr result (self.new ≡ self.old) }
+    {
+        if ops.is_empty() {
+            self.set_player(player)
+        } else {
+            let board = self.board().with_areas(ops);
+            self.begin_anew(&board, player)
+        }
+    }
+
+    /// Changes the player who must move, alone.
+    fn set_player(&mut self, player: Option<Colour>) -> Result<(), MemoryFault>
+        ensures ok { OnOk result (self.new
+            ≡ followed_by self.old (record self.old.present { player = player })) }
+        ensures err { OnErr result (self.new ≡ self.old) }
+    {
+        let record = self.record(false);
+        self.records.push(record)?;
+        self.player = player;
+        Ok(())
+    }
+
+    /// Begins the past anew with a board.
+    fn begin_anew(&mut self, board: &Board, player: Option<Colour>) -> Result<(), MemoryFault>
+        requires { board.now.side ≡ self.old.present.colouring.side }
+        ensures ok { OnOk result (self.new
+            ≡ followed_by self.old (with_setup self.old.present board.now player)) }
+        ensures err { OnErr result (self.new ≡ self.old) }
+    {
+        let record = self.record(true);
+        self.records.reserve(1)?;
+        self.past.restart(board)?;
+        self.records.push(record).unwrap();
+        self.player = player;
+        self.passes = 0;
+        Ok(())
+    }
+}

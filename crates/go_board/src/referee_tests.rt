@@ -1,0 +1,208 @@
+//! Worked examples of a past and of a referee.
+
+ghost use Rattle.std.specs.Prelude.{◌≡◌};
+ghost use Rattle.go_board.specs.Point.{IsOn};
+
+use crate::{
+    Board, Cell, Colour, ListPast, MemoryFault, Past, Play, Point, Reason, Rect, Referee, SetupOp,
+    Size, TurnFault,
+};
+use std::alloc::Global;
+use std::process::Abort;
+use std::test::Fail;
+
+fn at(col: u8, row: u8) -> Point
+    ensures column { result.col ≡ col }
+    ensures row { result.row ≡ row }
+{
+    Point { col, row }
+}
+
+/// The board with one stone more.
+fn with_stone(board: &Board, point: Point, cell: Cell) -> Board
+    requires { IsOn board.now.side point }
+    ensures { result.side ≡ board.now.side }
+{
+    let mut copy = board.copy();
+    copy.set(point, cell);
+    copy
+}
+
+fn size(rt: &impl Abort, side: u8) -> Size
+    ensures { result ≡ side }
+{
+    Size::new(side).expect(rt, "the side of a board")
+}
+
+/// Takes a turn, and says why it isn't taken. A stone must be on the board.
+fn turn<P: Past>(
+    rt: &impl Abort,
+    referee: &mut Referee<P>,
+    colour: Colour,
+    play: Play,
+) -> Result<(), TurnFault> {
+    if let Play::Stone(point) = play {
+        let side = referee.board().size().side();
+        assert!(rt; point.col < side && point.row < side);
+    }
+    referee.turn(colour, play)
+}
+
+/// Colours an area, which must be on the board, and lets either player move.
+fn set_area<P: Past>(
+    rt: &impl Abort,
+    referee: &mut Referee<P>,
+    cell: Cell,
+    area: Rect,
+) -> Result<(), MemoryFault> {
+    let side = referee.board().size().side();
+    let Rect { first, last } = area;
+    assert!(rt; first.col <= last.col && last.col < side);
+    assert!(rt; first.row <= last.row && last.row < side);
+    referee.setup(&[SetupOp { cell, area }], None)
+}
+
+/// Takes the newest call back.
+fn undo<P: Past>(rt: &impl Abort, referee: &mut Referee<P>) {
+    assert!(rt; referee.depth() > 0);
+    referee.undo();
+}
+
+fn illegal(reason: Reason) -> Result<(), TurnFault> {
+    Err(TurnFault::Illegal(reason))
+}
+
+/// Black must move first, on one point every stone repeats the empty board, and two passes end the game.
+fn on_one<P: Past>(rt: &impl Abort, alloc: Global) -> Result<(), Fail> {
+    let mut game = Referee::<P>::new(alloc, size(rt, 1))?;
+    let pass = Play::Pass;
+    let turns = [
+        (
+            Colour::Black,
+            Play::Stone(at(0, 0)),
+            illegal(Reason::Repeat),
+            0,
+            false,
+        ),
+        (Colour::White, pass, illegal(Reason::Turn), 0, false),
+        (Colour::Black, pass, Ok(()), 1, false),
+        (Colour::White, pass, Ok(()), 2, true),
+        (Colour::Black, pass, illegal(Reason::Over), 2, true),
+    ];
+    for (colour, play, answer, made, over) in turns {
+        assert_eq!(rt;
+            turn(rt, &mut game, colour, play),
+            answer,
+            "{colour:?} {play:?}"
+        );
+        assert_eq!(rt;
+            (game.turns(), game.over()),
+            (made, over),
+            "after {colour:?} {play:?}"
+        );
+    }
+    undo(rt, &mut game);
+    assert_eq!(rt; (game.turns(), game.over(), game.depth()), (1, false, 1));
+    Ok(())
+}
+
+/// Setup colours an area, lets either player move and is taken back whole.
+fn on_three<P: Past>(rt: &impl Abort, alloc: Global) -> Result<(), Fail> {
+    let mut game = Referee::<P>::new(alloc, size(rt, 3))?;
+    let top = Rect {
+        first: at(0, 0),
+        last: at(2, 0),
+    };
+    set_area(rt, &mut game, Cell::White, top)?;
+    let turns = [
+        (at(0, 0), illegal(Reason::Occupied)),
+        (at(1, 1), Ok(())),
+        (at(2, 2), illegal(Reason::Turn)),
+    ];
+    for (point, answer) in turns {
+        assert_eq!(rt;
+            turn(rt, &mut game, Colour::White, Play::Stone(point)),
+            answer,
+            "{point:?}"
+        );
+    }
+    undo(rt, &mut game);
+    undo(rt, &mut game);
+    assert_eq!(rt; (game.turns(), game.depth(), game.score()), (0, 0, (0, 0)));
+    assert_eq!(rt;
+        turn(rt, &mut game, Colour::White, Play::Pass),
+        illegal(Reason::Turn)
+    );
+    Ok(())
+}
+
+/// A setup of the player alone, and then one stone that owns the board.
+fn player_alone<P: Past>(rt: &impl Abort, alloc: Global) -> Result<(), Fail> {
+    let mut game = Referee::<P>::new(alloc, size(rt, 3))?;
+    game.setup(&[], Some(Colour::White))?;
+    assert_eq!(rt;
+        turn(rt, &mut game, Colour::White, Play::Stone(at(0, 0))),
+        Ok(())
+    );
+    assert_eq!(rt; (game.turns(), game.score()), (1, (0, 9)));
+    Ok(())
+}
+
+/// A stretch that was begun anew hides the older colourings until it is taken back.
+fn past_begins_anew<P: Past>(rt: &impl Abort, alloc: Global) -> Result<(), Fail> {
+    let empty = Board::empty(size(rt, 3));
+    let black = with_stone(&empty, at(0, 0), Cell::Black);
+    let white = with_stone(&empty, at(1, 1), Cell::White);
+    let mut past = P::new(alloc, &empty)?;
+    past.push(&black)?;
+    assert!(rt; past.holds(&empty));
+    past.restart(&white)?;
+    assert_eq!(rt;
+        (past.holds(&empty), past.holds(&black), past.holds(&white)),
+        (false, false, true)
+    );
+    past.pop();
+    assert_eq!(rt;
+        (past.holds(&empty), past.holds(&black), past.holds(&white)),
+        (true, true, false)
+    );
+    assert!(rt; past.newest().same(&black));
+    Ok(())
+}
+
+#[test]
+fn list_past(rt: HostRuntime) -> Result<(), Fail> {
+    past_begins_anew::<ListPast>(&rt, rt.alloc())
+}
+
+#[test]
+fn referee_over_list_past(rt: HostRuntime) -> Result<(), Fail> {
+    on_one::<ListPast>(&rt, rt.alloc())?;
+    on_three::<ListPast>(&rt, rt.alloc())?;
+    player_alone::<ListPast>(&rt, rt.alloc())
+}
+
+#[test]
+fn words(rt: HostRuntime) -> Result<(), Fail> {
+    let printed = [
+        (Reason::Mixed, "mixed"),
+        (Reason::TwoMoves, "two-moves"),
+        (Reason::BadSetup, "bad-setup"),
+        (Reason::BadPoint, "bad-point"),
+        (Reason::Over, "over"),
+        (Reason::Turn, "turn"),
+        (Reason::Occupied, "occupied"),
+        (Reason::Repeat, "repeat"),
+    ];
+    for (reason, word) in printed {
+        let text = format!(in rt.alloc(); "{reason}")?;
+        assert_eq!(rt; text.as_str(), word);
+    }
+    let fault = format!(in rt.alloc();
+        "{}, {}",
+        TurnFault::Illegal(Reason::Turn),
+        TurnFault::Memory
+    )?;
+    assert_eq!(rt; fault.as_str(), "illegal turn: turn, out of memory");
+    Ok(())
+}

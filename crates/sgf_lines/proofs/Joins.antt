@@ -1,0 +1,43 @@
+-- Texts that are appended one behind the other.
+use Rattle.std.proofs.Common.{◌≡◌, ℕ, zero, suc, ◌+◌, ◌<◌, ◌≤◌, List, [], ◌∷◌, ◌++◌, length, take, map, slice_get, Option, Some, refl, sym, ap, ◌∙◌, arith, append_assoc, add-one, append-nil, get_or, Result, Ok, Err}
+use Rattle.std.specs.Prelude.{OnOk}
+use Rattle.std.proofs.lemmas.List.{take_all}
+use Rattle.std.specs.List.{flat_map}
+
+-- one more element
+more_texts : {X : Type 0} (f : X → List ℕ) (xs : List X) (i : ℕ) (x : X) → slice_get xs i ≡ Some x → flat_map f (take i xs) ++ f x ≡ flat_map f (take (suc i) xs)
+more_texts f [] i x e = absurd cc
+more_texts f (y ∷ ys) zero x e = let same : y ≡ x = cc in ap f (sym same) ∙ sym (append-nil (f y))
+more_texts f (y ∷ ys) (suc i) x e = append_assoc (f y) (flat_map f (take i ys)) (f x) ∙ ap (λ bs. f y ++ bs) (more_texts f ys i x e)
+
+pub joins : {X : Type 0} (f : X → List ℕ) (old front : List ℕ) (xs : List X) (i : ℕ) (x : X) (now new : List ℕ) → slice_get xs i ≡ Some x
+    → now ≡ old ++ (front ++ flat_map f (take i xs)) → new ≡ now ++ f x → new ≡ old ++ (front ++ flat_map f (take (i + 1) xs))
+joins f old front xs i x now new e now_is new_is =
+    let texts = flat_map f (take i xs) in
+    new_is ∙ ap (λ bs. bs ++ f x) now_is ∙ append_assoc old (front ++ texts) (f x) ∙ ap (λ bs. old ++ bs) (append_assoc front texts (f x))
+    ∙ rw add-one (ap (λ bs. old ++ (front ++ bs)) (more_texts f xs i x e))
+
+-- the node that a number of a path names
+pub node_named : {X : Type 0} (f : ℕ → Option X) (nodes : List X) (path : List ℕ) (i d : ℕ) (x : X) → map Some nodes ≡ map f path → i < length path
+    → f (get_or path i d) ≡ Some x → slice_get nodes i ≡ Some x
+node_named f [] [] i d x e lt is = absurd (omega arith)
+node_named f [] (p ∷ ps) i d x e lt is = absurd cc
+node_named f (m ∷ ms) [] i d x e lt is = absurd (omega arith)
+node_named f (m ∷ ms) (p ∷ ps) zero d x e lt is = let here : f p ≡ Some m = cc in cc
+node_named f (m ∷ ms) (p ∷ ps) (suc i) d x e lt is = node_named f ms ps i d x (cc) (omega arith) is
+
+-- as many nodes as numbers
+pub as_many : {X : Type 0} (f : ℕ → Option X) (nodes : List X) (path : List ℕ) → map Some nodes ≡ map f path → length nodes ≡ length path
+as_many f [] [] e = refl
+as_many f [] (p ∷ ps) e = absurd cc
+as_many f (m ∷ ms) [] e = absurd cc
+as_many f (m ∷ ms) (p ∷ ps) e = ap suc (as_many f ms ps (cc))
+
+-- the last bytes, behind all elements
+pub ends : {X E : Type 0} (f : X → List ℕ) (r : Result (Unit {0}) E) (old front tail : List ℕ) (xs : List X) (n : ℕ) (now new : List ℕ) → length xs ≤ n
+    → now ≡ old ++ (front ++ flat_map f (take n xs)) → OnOk r (new ≡ now ++ tail) → OnOk r (new ≡ old ++ (front ++ (flat_map f xs ++ tail)))
+ends f (Ok u) old front tail xs n now new le now_is new_is =
+    let texts = flat_map f xs in
+    let all : now ≡ old ++ (front ++ texts) = now_is ∙ ap (λ ys. old ++ (front ++ flat_map f ys)) (take_all n xs le) in
+    new_is ∙ ap (λ bs. bs ++ tail) all ∙ append_assoc old (front ++ texts) tail ∙ ap (λ bs. old ++ bs) (append_assoc front texts tail)
+ends f (Err e) old front tail xs n now new le now_is new_is = tt

@@ -1,0 +1,16 @@
+pub mod Examples
+pub mod Lists
+pub mod Standing
+pub mod Parents
+pub mod Climbing
+pub mod Ways
+pub mod Leaves
+pub mod GameNumbers
+pub mod Named
+pub mod Positions
+pub mod LinesRise
+pub mod Loops
+pub mod Standings
+pub mod Shows
+pub mod Joins
+pub mod Records

@@ -1,0 +1,54 @@
+-- Lists: an element of two lists joined, and facts of each element by recursion.
+use Rattle.std.proofs.Common.{◌≡◌, ℕ, zero, suc, ◌+◌, ◌<◌, List, [], ◌∷◌, ◌++◌, length, map, slice_get, Some, ◌⊎◌, inl, inr, refl, ap, arith}
+use Rattle.std.specs.List.{AllByRecursion}
+use Rattle.sgf_lines.specs.Lines.{through}
+
+-- an element of two lists joined stands in the first or in the second
+pub split_get : {A : Type 0} (xs ys : List A) (k : ℕ) (y : A) → slice_get (xs ++ ys) k ≡ Some y
+    → (slice_get xs k ≡ Some y) ⊎ ((j : ℕ) × (k ≡ length xs + j) × (slice_get ys j ≡ Some y))
+split_get [] ys k y e = inr (k, omega arith, e)
+split_get (x ∷ xs) ys zero y e = inl e
+split_get (x ∷ xs) ys (suc k) y e =
+    elim (split_get xs ys k y e) [ inl h ↦ inl h | inr h ↦ inr (h.0, omega arith, h.2) ]
+
+pub get_left : {A : Type 0} (xs ys : List A) (k : ℕ) (y : A) → slice_get xs k ≡ Some y → slice_get (xs ++ ys) k ≡ Some y
+get_left [] ys k y e = absurd cc
+get_left (x ∷ xs) ys zero y e = e
+get_left (x ∷ xs) ys (suc k) y e = get_left xs ys k y e
+
+pub get_right : {A : Type 0} (xs ys : List A) (k j : ℕ) → k ≡ length xs + j → slice_get (xs ++ ys) k ≡ slice_get ys j
+get_right [] ys k j e = let same : k ≡ j = omega arith in ap (λ i. slice_get ys i) same
+get_right (x ∷ xs) ys zero j e = absurd (omega arith)
+get_right (x ∷ xs) ys (suc k) j e = get_right xs ys k j (omega arith)
+
+-- each element has the property, by recursion on the list
+abbrev pub Each : {A : Type 0} → (A → Type 0) → List A → Type 0
+Each P xs = AllByRecursion P xs
+
+pub each_append : {A : Type 0} (P : A → Type 0) (xs ys : List A) → Each P xs → Each P ys → Each P (xs ++ ys)
+each_append P [] ys h k = k
+each_append P (x ∷ xs) ys h k = (h.0, each_append P xs ys h.1 k)
+
+pub each_weaker : {A : Type 0} (P Q : A → Type 0) → ((x : A) → P x → Q x) → (xs : List A) → Each P xs → Each Q xs
+each_weaker P Q f [] h = tt
+each_weaker P Q f (x ∷ xs) h = (f x h.0, each_weaker P Q f xs h.1)
+
+pub each_map : {A B : Type 0} (P : B → Type 0) (f : A → B) (xs : List A) → Each (λ x. P (f x)) xs → Each P (map f xs)
+each_map P f [] h = tt
+each_map P f (x ∷ xs) h = (h.0, each_map P f xs h.1)
+
+pub each_get : {A : Type 0} (P : A → Type 0) (xs : List A) (k : ℕ) (x : A) → Each P xs → slice_get xs k ≡ Some x → P x
+each_get P [] k x h e = absurd cc
+each_get P (y ∷ ys) zero x h e = let same : y ≡ x = cc in rw same at h.0
+each_get P (y ∷ ys) (suc k) x h e = each_get P ys k x h.1 e
+
+-- what holds of `own` where nothing follows it, and of `own` before each of the lists, holds of what goes through it
+pub each_through : {A : Type 0} (P Q : List A → Type 0) (own : List A) (ls : List (List A)) → (ls ≡ [] → P own)
+    → ((l : List A) → Q l → P (own ++ l)) → Each Q ls → Each P (through own ls)
+each_through P Q own [] alone before h = (alone refl, tt)
+each_through P Q own (l ∷ ls) alone before h = each_map P (λ rest. own ++ rest) (l ∷ ls) (each_weaker Q (λ rest. P (own ++ rest)) before (l ∷ ls) h)
+
+pub element : {A : Type 0} (xs : List A) (k : ℕ) → k < length xs → (x : A) × (slice_get xs k ≡ Some x)
+element [] k lt = absurd (omega arith)
+element (x ∷ xs) zero lt = (x, refl)
+element (x ∷ xs) (suc k) lt = element xs k (omega arith)

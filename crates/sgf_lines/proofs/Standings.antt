@@ -1,0 +1,99 @@
+-- What a cursor that stands behind a leaf shows, and how it goes on.
+use Rattle.std.proofs.Common.{◌≡◌, ℕ, zero, suc, ◌+◌, ◌-◌, ◌<◌, List, [], ◌∷◌, length, get_or, slice_get, Option, Some, None, option_map, sym, ap, ◌∙◌, subst, inl, inr, arith, length-append}
+use Rattle.std.proofs.lemmas.Option.{slice_get_past}
+use Rattle.std.proofs.lemmas.Bool.{cases_lt}
+use Rattle.sgf_tree.specs.Tree.{Games, node_count}
+use Rattle.sgf_tree.specs.FileOrder.{place_at, game_of, IsLeaf}
+use Rattle.sgf_lines.specs.Lines.{lines, place_of, last_number}
+use Rattle.sgf_lines.specs.Paths.{Path, paths, leaf_of}
+use Rattle.sgf_lines.specs.Way.{IsWayTo, top, step, HasNoLeaf, IsNextLeaf, IsBehindLeaf}
+use Rattle.sgf_lines.specs.Position.{lines_before}
+use Rattle.sgf_lines.proofs.Lists.{Each, each_append, each_get, element}
+use Rattle.sgf_lines.proofs.Parents.{node_within}
+use Rattle.sgf_lines.proofs.Climbing.{last-way}
+use Rattle.sgf_lines.proofs.Ways.{IsDescent, each_path}
+use Rattle.sgf_lines.proofs.GameNumbers.{game_of_path}
+use Rattle.sgf_lines.proofs.Named.{line_at, place-line, length-paths}
+use Rattle.sgf_lines.proofs.Positions.{before_none, next_line, no_line_left, given_line}
+
+-- each node on a way is one of the collection
+pub within_way : {c : Games} {at : Option ℕ} {way : List ℕ} → IsWayTo c at way → Each (λ n. n < node_count c) way
+within_way top = tt
+within_way {c = c} (step {i = i} {parent = p} {above = above} e up is) =
+    subst (Each (λ n. n < node_count c)) (sym is) (each_append (λ n. n < node_count c) above (i ∷ []) (within_way up) (node_within c i p e, tt))
+
+longer : {c : Games} {i : ℕ} {way : List ℕ} → IsWayTo c (Some i) way → 0 < length way
+longer {i = i} (step {above = above} e up is) = omega (arith, ap length is, length-append above (i ∷ []))
+
+each_head : (P : ℕ → Type 0) (ns : List ℕ) (d : ℕ) → 0 < length ns → Each P ns → P (get_or ns 0 d)
+each_head P [] d lt h = absurd (omega arith)
+each_head P (n ∷ ns) d lt h = h.0
+
+-- what it shows
+pub record IsShown (c : Games) (next : ℕ) (numbers : List ℕ) : Type 0 where
+  pub some_node : 0 < length numbers
+  pub root_within : (d : ℕ) → get_or numbers 0 d < node_count c
+  pub behind : 0 < next
+  pub last_within : next - 1 < node_count c
+  pub path_is : (d : ℕ) → slice_get (paths c) (lines_before c next - 1) ≡ Some (record { game_number = game_of c (get_or numbers 0 d); numbers = numbers })
+  pub place_is : (place : ℕ) → place_at c (next - 1) ≡ Some place → option_map place_of (slice_get (lines c) (lines_before c next - 1)) ≡ Some place
+
+same_path : (p : Path) (g : ℕ) (ns : List ℕ) → p.game_number ≡ g → p.numbers ≡ ns → p ≡ record { game_number = g; numbers = ns }
+same_path p g ns e f = ap (λ n. record { game_number = n; numbers = p.numbers }) e ∙ ap (λ l. record { game_number = g; numbers = l }) f
+
+shown_at : (c : Games) (i : ℕ) (numbers : List ℕ) → i < node_count c → IsLeaf c i → IsWayTo c (Some i) numbers → IsShown c (suc i) numbers
+shown_at c i numbers lt leaf way =
+    let more : suc i ≡ i + 1 = omega arith in
+    let less : suc i - 1 ≡ i = omega arith in
+    let f = given_line c i numbers lt leaf way in
+    let k = lines_before c (suc i) - 1 in
+    let found : slice_get (paths c) k ≡ Some f.0 = rw more f.1 in
+    let some_node = longer way in
+    record {
+      some_node = some_node;
+      root_within = λ d. each_head (λ n. n < node_count c) numbers d some_node (within_way way);
+      behind = omega arith;
+      last_within = omega (arith, lt);
+      path_is = λ d.
+          let of_game : Each (λ n. game_of c n ≡ f.0.game_number) numbers =
+          subst (Each (λ n. game_of c n ≡ f.0.game_number)) f.2 (each_get (λ path. Each (λ n. game_of c n ≡ path.game_number) path.numbers) (paths c) k f.0 (game_of_path c) found) in
+          let root = each_head (λ n. game_of c n ≡ f.0.game_number) numbers d some_node of_game in
+          found ∙ ap Some (same_path f.0 (game_of c (get_or numbers 0 d)) numbers (sym root) f.2);
+      place_is = λ place e.
+          let l = line_at c k f.0 found in
+          let ends : leaf_of f.0 ≡ i = ap last_number f.2 ∙ last-way way in
+          let descent : IsDescent c None f.0.numbers = each_get (λ path. IsDescent c None path.numbers) (paths c) k f.0 (each_path c) found in
+          let at_leaf : place_at c i ≡ Some (place_of l.0) = subst (λ n. place_at c n ≡ Some (place_of l.0)) ends (place-line c k f.0 l.0 l.1 descent.filled) in
+          let here : place_at c i ≡ Some place = rw less at e in
+          ap (λ o. option_map place_of o) l.1.found ∙ sym at_leaf ∙ here;
+    }
+
+pub shows : (c : Games) (next : ℕ) (numbers : List ℕ) → IsBehindLeaf c next numbers → 0 < lines_before c next → IsShown c next numbers
+shows c zero numbers h lt = absurd (omega (arith, before_none c))
+shows c (suc i) numbers h lt =
+    let is : suc i ≡ i + 1 = omega arith in
+    shown_at c i numbers (omega (arith, h.within)) (h.leaf i is) (h.way i is)
+
+-- a cursor before the first node has given no line
+pub stands_first : (c : Games) (numbers : List ℕ) → IsBehindLeaf c 0 numbers
+stands_first c numbers = record { within = omega arith; leaf = λ i e. absurd (omega arith); way = λ i e. absurd (omega arith) }
+
+-- where no leaf is left, no line is
+pub none_left : (c : Games) (next : ℕ) → HasNoLeaf c next (node_count c) → slice_get (lines c) (lines_before c next) ≡ None
+none_left c next none =
+    let past : slice_get (paths c) (lines_before c next) ≡ None = no_line_left c next none in
+    elim (cases_lt (lines_before c next) (length (paths c))) [
+      | inl lt ↦ let x = element (paths c) (lines_before c next) lt in absurd cc
+      | inr ge ↦ slice_get_past (lines c) (lines_before c next) (omega (arith, length-paths c))
+    ]
+
+-- behind the next leaf one line more has been given
+pub one_more : (c : Games) (next i : ℕ) → IsNextLeaf c next i → lines_before c (i + 1) ≡ lines_before c next + 1
+one_more c next i h = (next_line c next i h.from_there h.within h.is_leaf h.first).1.one_more
+
+pub stands_behind_next : (c : Games) (next i : ℕ) (numbers : List ℕ) → IsNextLeaf c next i → IsWayTo c (Some i) numbers → IsBehindLeaf c (i + 1) numbers
+stands_behind_next c next i numbers h way = record {
+  within = omega (arith, h.within);
+  leaf = λ j e. let same : i ≡ j = omega arith in subst (IsLeaf c) same h.is_leaf;
+  way = λ j e. let same : i ≡ j = omega arith in subst (λ n. IsWayTo c (Some n) numbers) same way;
+}

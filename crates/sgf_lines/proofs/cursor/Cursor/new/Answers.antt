@@ -1,0 +1,6 @@
+-- No line ends before the first node.
+use Rattle.sgf_lines.proofs.Shows.{starts}
+use Rattle.sgf_lines.proofs.cursor.Cursor.new.Goals as goal
+
+pub returns : goal.returns
+returns c = starts c.args.collection.now

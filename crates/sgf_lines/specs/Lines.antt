@@ -1,0 +1,42 @@
+-- The lines of play of a collection, which go from the root of a game to a node that no node follows.
+use Rattle.std.specs.Prelude.{ℕ, ◌+◌, List, [], ◌∷◌, ◌++◌, map}
+use Rattle.sgf_tree.specs.Tree.{Node, Games, no_games, game}
+
+-- each of the lists behind `own`, or `own` alone where there is none
+abbrev pub through : {A : Type 0} → List A → List (List A) → List (List A)
+through own [] = own ∷ []
+through own (l ∷ ls) = map (λ rest. own ++ rest) (l ∷ ls)
+
+-- the ways through games: those of each game in turn, which go through its own nodes to the games below them
+abbrev pub node_lines : Games → List (List Node)
+node_lines no_games = []
+node_lines (game first more below behind) = through (first ∷ more) (node_lines below) ++ node_lines behind
+
+-- a line of play: the number of its game, counted from 1, and its nodes, the root first
+pub record Line : Type 0 where
+  pub game_number : ℕ
+  pub nodes : List Node
+
+-- the ways through the game of this number
+abbrev pub lines_of_game : ℕ → List (List Node) → List Line
+lines_of_game number ways = map (λ nodes. record { game_number = number; nodes = nodes }) ways
+
+-- the lines of games, the first of which has this number
+abbrev pub lines_from : ℕ → Games → List Line
+lines_from number no_games = []
+lines_from number (game first more below behind) =
+    lines_of_game number (through (first ∷ more) (node_lines below)) ++ lines_from (number + 1) behind
+
+-- the lines of a collection, those of an earlier game and of an earlier child tree first
+abbrev pub lines : Games → List Line
+lines c = lines_from 1 c
+
+-- the last of some numbers, or 0 where there is none
+abbrev pub last_number : List ℕ → ℕ
+last_number [] = 0
+last_number (n ∷ []) = n
+last_number (n ∷ m ∷ ms) = last_number (m ∷ ms)
+
+-- the place of a line, which is that of its last node
+abbrev pub place_of : Line → ℕ
+place_of line = last_number (map (λ n. n.place) line.nodes)

@@ -1,0 +1,44 @@
+-- The lines of play again, with the nodes' numbers in file order in place of the nodes.
+use Rattle.std.specs.Prelude.{◌≡◌, ℕ, ◌+◌, List, [], ◌∷◌, ◌++◌, length, map, Some}
+use Rattle.std.specs.List.{range_with_len}
+use Rattle.sgf_tree.specs.Tree.{Games, no_games, game, node_count}
+use Rattle.sgf_tree.specs.FileOrder.{node_at}
+use Rattle.sgf_lines.specs.Lines.{Line, through, last_number}
+
+-- the ways through games whose first node has the number `at`
+abbrev pub number_lines : ℕ → Games → List (List ℕ)
+number_lines at no_games = []
+number_lines at (game first more below behind) =
+    let last = at + length more in
+    through (at ∷ range_with_len (at + 1) (length more)) (number_lines (last + 1) below)
+    ++ number_lines (last + 1 + node_count below) behind
+
+-- a line by numbers: that of its game, counted from 1, and those of its nodes, counted from 0, the root first
+pub record Path : Type 0 where
+  pub game_number : ℕ
+  pub numbers : List ℕ
+
+-- the ways through the game of this number
+abbrev pub paths_of_game : ℕ → List (List ℕ) → List Path
+paths_of_game number ways = map (λ numbers. record { game_number = number; numbers = numbers }) ways
+
+-- the paths of games, of which the first has this number and begins at the node `at`
+abbrev pub paths_from : ℕ → ℕ → Games → List Path
+paths_from number at no_games = []
+paths_from number at (game first more below behind) =
+    let last = at + length more in
+    paths_of_game number (through (at ∷ range_with_len (at + 1) (length more)) (number_lines (last + 1) below))
+    ++ paths_from (number + 1) (last + 1 + node_count below) behind
+
+-- the paths of a collection's lines, in the same order
+abbrev pub paths : Games → List Path
+paths c = paths_from 1 0 c
+
+-- the number of a path's last node
+abbrev pub leaf_of : Path → ℕ
+leaf_of path = last_number path.numbers
+
+-- the path names the nodes of the line, in the same game
+pub record IsPathOf (c : Games) (line : Line) (path : Path) : Type 0 where
+  pub game_number : path.game_number ≡ line.game_number
+  pub nodes : map (node_at c) path.numbers ≡ map Some line.nodes

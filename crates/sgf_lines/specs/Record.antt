@@ -1,0 +1,19 @@
+-- The text of a line in sgf form: the line as a game of its own (SGF FF[4], with no white space between its parts).
+use Rattle.std.specs.Prelude.{ℕ, List, ◌++◌, codes}
+use Rattle.std.specs.List.{flat_map}
+use Rattle.sgf_tree.specs.Tree.{Property, Node, values}
+
+-- a raw value between brackets, as it stood in the text
+abbrev pub value_text : List ℕ → List ℕ
+value_text value = codes "[" ++ value ++ codes "]"
+
+-- a property's name and its values
+abbrev pub property_text : Property → List ℕ
+property_text p = p.name ++ flat_map value_text (values p)
+
+abbrev pub node_text : Node → List ℕ
+node_text n = codes ";" ++ flat_map property_text n.properties
+
+-- the nodes between parentheses, and a line feed
+abbrev pub sgf_record : List Node → List ℕ
+sgf_record nodes = codes "(" ++ flat_map node_text nodes ++ codes ")\n"

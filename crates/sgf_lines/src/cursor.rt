@@ -1,0 +1,161 @@
+//! Goes over the lines of play of a collection.
+
+ghost use Rattle.std.specs.Prelude.{◌≡◌, ◌<◌, ◌-◌, Some, None, List, length, slice_get, OnOk, OnErr, IfOk, IfSome, MatchBool, ℕ};
+ghost use Rattle.sgf_tree.specs.Tree.{node_count};
+ghost use Rattle.sgf_tree.specs.FileOrder.{IsLeaf};
+ghost use Rattle.sgf_lines.specs.Lines.{lines};
+ghost use Rattle.sgf_lines.specs.Way.{IsWayTo, IsLeafSearch};
+ghost use Rattle.sgf_lines.specs.Position.{advanced};
+ghost use Rattle.sgf_lines.specs.Shown.{IsLine};
+
+use crate::line::LineRef;
+use sgf_tree::{Collection, MemoryFault};
+use std::alloc::Global;
+use std::marker::Model;
+
+/// Goes over the lines of a collection in file order: those of an earlier game, and of an earlier child tree, come first.
+/// It is seen as the collection and the number of lines that it has given.
+#[derive(Drop)]
+pub struct Cursor<'c, 'a> {
+    collection: &'c Collection<'a>,
+
+    // the node from which on it looks for the next leaf
+    next: usize,
+
+    // the nodes from the root to the leaf before that one
+    path: Vec<usize>,
+}
+
+impl<'c, 'a> Model for Cursor<'c, 'a> {
+    ghost use Rattle.sgf_lines.specs.Position.{Position, position_code, lines_before};
+    ghost use Rattle.sgf_lines.specs.Way.{IsBehindLeaf};
+
+    ghost Value = { Position };
+
+    ghost coded = { position_code };
+
+    ghost view = { λ s. record { games = s.collection.now; given = lines_before s.collection.now s.next } };
+
+    ghost invariant = { λ s. IsBehindLeaf s.collection.now s.next s.path.items };
+}
+
+impl<'c, 'a> Cursor<'c, 'a> {
+    ghost use Rattle.std.specs.Borrow.{sem};
+    ghost use Rattle.sgf_lines.specs.Steps.{Gives, EndsAs};
+
+    /// A cursor before the first line.
+    /// It takes no memory.
+    pub fn new(alloc: Global, collection: &'c Collection<'a>) -> Cursor<'c, 'a>
+        ensures { result ≡ record { games = collection.now; given = 0 } }
+    {
+        Cursor {
+            collection,
+            next: 0,
+            path: Vec::new(alloc),
+        }
+    }
+
+    /// The next line; after the last one None, again and again.
+    /// After a refusal of memory the cursor is unchanged.
+    pub fn next<'l>(&'l mut self) -> Result<Option<LineRef<'l>>, MemoryFault>
+        ensures* after_borrow { sem 𝓛 (EndsAs self.entry result) }
+        ensures line { IfOk result (Gives self.old) }
+    {
+        if self.advance()? {
+            Ok(Some(self.line()))
+        } else {
+            Ok(None)
+        }
+    }
+
+    /// Goes on by one line, or answers false where none is left.
+    fn advance(&mut self) -> Result<bool, MemoryFault>
+        ensures found { IfOk result (λ found. MatchBool found (self.new ≡ advanced self.old) (self.new ≡ self.old)) }
+        ensures none_left { IfOk result (λ found. MatchBool found (Unit {0}) (slice_get (lines self.old.games) self.old.given ≡ None)) }
+        ensures unchanged { OnErr result (self.new ≡ self.old) }
+    {
+        let Some(leaf) = next_leaf(self.collection, self.next) else {
+            return Ok(false);
+        };
+        write_way(self.collection, leaf, &mut self.path)?;
+        self.next = leaf + 1;
+        Ok(true)
+    }
+
+    /// The line that was given last.
+    fn line(&self) -> LineRef<'_>
+        requires { 0 < self.now.given }
+        ensures { IsLine self.now.games (self.now.given - 1) result }
+    {
+        LineRef {
+            path: &self.path,
+            game: self.collection.game_of(self.path[0]),
+            place: self.collection.place(self.next - 1),
+        }
+    }
+}
+
+/// The first leaf from node `from` on.
+fn next_leaf(collection: &Collection<'_>, from: usize) -> Option<usize>
+    ensures first { IsLeafSearch collection.now from result }
+    ensures small { IfSome result (λ leaf. leaf < usize.MAX) }
+{
+    for node in from..collection.nodes() {
+        if collection.is_leaf(node) {
+            return Some(node);
+        }
+    }
+    None
+}
+
+/// Replaces the numbers in `path` by those of the nodes from the root to a leaf.
+/// After a refusal of memory `path` is unchanged.
+fn write_way(
+    collection: &Collection<'_>,
+    leaf: usize,
+    path: &mut Vec<usize>,
+) -> Result<(), MemoryFault>
+    requires within { leaf < node_count collection.now }
+    requires small { leaf < usize.MAX }
+    requires is_leaf { IsLeaf collection.now leaf }
+    ensures ok { OnOk result (IsWayTo collection.now (Some leaf) path.new.items) }
+    ensures unchanged { OnErr result (path.new.items ≡ path.old.items) }
+{
+    if path.resize(depth(collection, leaf), 0).is_err() {
+        return Err(MemoryFault);
+    }
+    fill_way(collection, leaf, path);
+    Ok(())
+}
+
+/// The number of nodes from the root to a leaf.
+fn depth(collection: &Collection<'_>, leaf: usize) -> usize
+    requires within { leaf < node_count collection.now }
+    requires small { leaf < usize.MAX }
+    requires is_leaf { IsLeaf collection.now leaf }
+    ensures { (numbers : List ℕ) → IsWayTo collection.now (Some leaf) numbers → result ≡ length numbers }
+{
+    let mut depth = 0;
+    let mut node = Some(leaf);
+    while let Some(number) = node {
+        depth += 1;
+        node = collection.parent(number);
+    }
+    depth
+}
+
+/// Writes the numbers of the nodes from the root to a leaf, of which there are as many as `path` has room for.
+fn fill_way(collection: &Collection<'_>, leaf: usize, path: &mut [usize])
+    requires within { leaf < node_count collection.now }
+    requires is_leaf { IsLeaf collection.now leaf }
+    requires room { (numbers : List ℕ) → IsWayTo collection.now (Some leaf) numbers → length path.old ≡ length numbers }
+    ensures { IsWayTo collection.now (Some leaf) path.new }
+{
+    let mut room = path.len();
+    let mut node = Some(leaf);
+    while let Some(number) = node {
+        room -= 1;
+        path[room] = number;
+        node = collection.parent(number);
+    }
+}

@@ -1,0 +1,52 @@
+-- What the machine accepts, the text spells.
+use Rattle.std.proofs.Common.{◌≡◌, ℕ, ◌+◌, List, [], ◌∷◌, ◌++◌, length, Some, sym, subst, ◌∙◌, append-nil, arith}
+use Rattle.std.proofs.lemmas.Option.{none-some, same_Some, option_and_then_some}
+use Rattle.sgf_tree.specs.Tree.{Games, no_games, game}
+use Rattle.sgf_tree.specs.Spelling.{no_white, no_game, Spells, spells}
+use Rattle.sgf_tree.specs.Machine.{OpenGame, State, start, behind_game, whole_games, step, run, accepted, collection_of}
+use Rattle.sgf_tree.proofs.Run.{collection-run}
+use Rattle.sgf_tree.proofs.Transitions.{takes}
+use Rattle.sgf_tree.proofs.Completion.{followed-none, Rest, ends, Completes}
+use Rattle.sgf_tree.proofs.Prepending.{prepend}
+
+module _ (whole : ℕ) (c : Games) where
+  -- a text that is taken to a state, before one that completes that state
+  pub prepend-run : (at : ℕ) (z y : State) (t r : List ℕ) → at + length (t ++ r) ≡ whole → run at z t ≡ Some y
+      → Completes whole c y r → Completes whole c z (t ++ r)
+  unfolding run
+  prepend-run at z y [] r e h k = subst (λ x. Completes whole c x r) (sym (same_Some z y h)) k
+  prepend-run at z y (b ∷ t) r e h k =
+      option_and_then_some (λ next. run (at + 1) next t) (step at z b) y h (λ x s g.
+      prepend whole c at z b x (t ++ r) (takes at z b x s) e (prepend-run (at + 1) x y t r (omega arith) g k))
+
+  -- no byte completes a state where a text may end
+  whole-rest : (closed : Games) (unclosed : List OpenGame) → whole_games closed unclosed ≡ Some c → Rest whole c closed unclosed []
+  whole-rest no_games unclosed e = absurd (none-some c e)
+  whole-rest (game f m b h) [] e = ends no_game no_white (rw (followed-none h) e)
+  whole-rest (game f m b h) (g ∷ gs) e = absurd (none-some c e)
+
+  accepted-completes : (z : State) → accepted z ≡ Some c → Completes whole c z []
+  unfolding accepted
+  accepted-completes (behind_game k) e = whole-rest k.closed k.unclosed e
+  accepted-completes _ e = absurd (none-some c e)
+
+-- a text that completes the start spells the collection
+pub completes-spells : (c : Games) (t : List ℕ) → Completes (length t) c start t → Spells c t
+completes-spells c t (s, m, ends no_game w e) = absurd (none-some c e)
+completes-spells c t (s, m, ends {others = game f n b h} are w e) =
+    subst (λ x. Spells x t) (same_Some (game f n b h) c e) (spells m are w)
+
+-- a text that is taken to a state, and completed from there
+pub completed-spells : (c : Games) (t r : List ℕ) (z : State) → run 0 start t ≡ Some z → Completes (length (t ++ r)) c z r
+    → Spells c (t ++ r)
+completed-spells c t r z h k = completes-spells c (t ++ r) (prepend-run (length (t ++ r)) c 0 start z t r (omega arith) h k)
+
+pub accepted-spelled : (c : Games) (t : List ℕ) → collection_of t ≡ Some c → Spells c t
+unfolding collection_of
+accepted-spelled c t e =
+    option_and_then_some accepted (run 0 start t) c e (λ z h a.
+    subst (Spells c) (append-nil t) (completed-spells c t [] z h (accepted-completes (length (t ++ [])) c z a)))
+
+-- a text that is taken to a state where it may end
+pub run-spelled : (c : Games) (t : List ℕ) (z : State) → run 0 start t ≡ Some z → accepted z ≡ Some c → Spells c t
+run-spelled c t z h a = accepted-spelled c t (collection-run t z h ∙ a)

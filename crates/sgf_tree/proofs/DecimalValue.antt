@@ -1,0 +1,47 @@
+-- The value of digits: at one more digit, and how large it is.
+use Rattle.std.proofs.Common.{◌≡◌, ℕ, suc, ◌+◌, ◌-◌, ◌*◌, ◌^◌, ◌<◌, ◌≤◌, Bool, true, false, ◌&&◌, List, [], ◌∷◌, ◌++◌, length, take, get_or, refl, ap, ◌∙◌, arith, length-append}
+use Rattle.std.proofs.Math.Nat.{pow-suc, mul-le-mul_right, pow-le-pow_right}
+use Rattle.std.proofs.lemmas.List.{take_more, length-take-le}
+use Rattle.std.proofs.lemmas.List.Folds.{list_all-append}
+use Rattle.std.specs.List.{list_all}
+use Rattle.sgf_tree.specs.Number.{is_digit, decimal_value}
+
+decimal_value-append_digit : (ds : List ℕ) (d : ℕ) → decimal_value (ds ++ d ∷ []) ≡ 10 * decimal_value ds + (d - 48)
+decimal_value-append_digit [] d = omega arith
+decimal_value-append_digit (x ∷ ds) d =
+    let more = decimal_value-append_digit ds d in
+    let one_more : length (ds ++ d ∷ []) ≡ suc (length ds) = omega (arith, length-append ds (d ∷ [])) in
+    let size : 10 ^ length (ds ++ d ∷ []) ≡ 10 ^ length ds * 10 =
+    ap (λ n. 10 ^ n) one_more ∙ pow-suc 10 (length ds)
+    in
+    omega (arith, ap (λ p. (x - 48) * p) size)
+
+pub decimal_value-more : (ds : List ℕ) (i : ℕ) → i < length ds → decimal_value (take (i + 1) ds) ≡ 10 * decimal_value (take i ds) + (get_or ds i 0 - 48)
+decimal_value-more ds i h =
+    ap decimal_value (take_more ds i 0 h) ∙ decimal_value-append_digit (take i ds) (get_or ds i 0)
+
+and-true : (b : Bool) → (b && true) ≡ b
+and-true true = refl
+and-true false = refl
+
+pub digits-more : (ds : List ℕ) (i : ℕ) → i < length ds → list_all is_digit (take (i + 1) ds) ≡ (list_all is_digit (take i ds) && is_digit (get_or ds i 0))
+digits-more ds i h =
+    ap (list_all is_digit) (take_more ds i 0 h) ∙ list_all-append is_digit (take i ds) (get_or ds i 0 ∷ [])
+    ∙ ap (λ b. list_all is_digit (take i ds) && b) (and-true (is_digit (get_or ds i 0)))
+
+decimal_value-lt : (ds : List ℕ) → list_all is_digit ds ≡ true → decimal_value ds < 10 ^ length ds
+decimal_value-lt [] h = omega arith
+decimal_value-lt (d ∷ ds) h =
+    let rest : list_all is_digit ds ≡ true = grind arith in
+    let small : d - 48 ≤ 9 = grind arith in
+    let k = decimal_value-lt ds rest in
+    let m = mul-le-mul_right (10 ^ length ds) small in
+    omega (arith, pow-suc 10 (length ds))
+
+-- at most n digits
+pub decimal_value-take : (ds : List ℕ) (i n : ℕ) → i ≤ length ds → i ≤ n → list_all is_digit (take i ds) ≡ true → decimal_value (take i ds) < 10 ^ n
+decimal_value-take ds i n h k a =
+    let lt = decimal_value-lt (take i ds) a in
+    let size : 10 ^ length (take i ds) ≡ 10 ^ i = ap (λ m. 10 ^ m) (length-take-le i ds h) in
+    let more : 10 ^ i ≤ 10 ^ n = pow-le-pow_right {n = 10} (omega arith) k in
+    omega arith

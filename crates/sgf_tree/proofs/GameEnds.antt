@@ -1,0 +1,113 @@
+-- The end of a game, in the flat vectors.
+use Rattle.std.proofs.Common.{◌≡◌, ℕ, ◌+◌, ◌-◌, ◌<◌, ◌≤◌, inl, inr, List, [], ◌∷◌, ◌++◌, length, get_or, take, drop, map, replicate, slice_get, Option, Some, None, option_map, refl, sym, ap, subst, ◌∙◌, arith, append_assoc, length-append}
+use Rattle.std.proofs.lemmas.Bool.{cases_lt, lt-ltb, le-ltb}
+use Rattle.std.proofs.lemmas.List.{length-map, length-replicate, take_at, drop_at}
+use Rattle.std.proofs.lemmas.Option.{slice_get-map}
+use Rattle.sgf_tree.specs.Tree.{Property, Games, no_games, game, followed_by, game_count, node_count}
+use Rattle.sgf_tree.specs.FileOrder.{game_of}
+use Rattle.sgf_tree.specs.Machine.{OpenGame, whole_game}
+use Rattle.sgf_tree.specs.Ends.{EndsRise}
+use Rattle.sgf_tree.specs.Layout.{properties_of, row_by, rows_by}
+use Rattle.sgf_tree.specs.GamesRead.{open_count, lasts, open_lasts, IsRootOf, HoldStack, unmarked, ClosesRun}
+use Rattle.sgf_tree.specs.declared.layout.NodeEntry.{NodeEntry}
+use Rattle.sgf_tree.specs.declared.layout.PropertyEntry.{PropertyEntry}
+use Rattle.sgf_tree.specs.declared.layout.ValueEntry.{ValueEntry}
+use Rattle.sgf_tree.proofs.Completion.{add_games}
+use Rattle.sgf_tree.proofs.Marking.{mark_of, get_or-map}
+use Rattle.sgf_tree.proofs.NodesRead.{nodes-held}
+use Rattle.sgf_tree.proofs.Stacks.{node_count-followed, length-open_lasts, open_rows-closed, open_lasts-closed}
+
+-- marks change no row
+rows_by-unmarked : (props : List Property) (i from : ℕ) (ns : List NodeEntry) → rows_by props i from (map unmarked ns) ≡ rows_by props i from ns
+rows_by-unmarked props i from [] = refl
+rows_by-unmarked props i from (n ∷ ns) =
+    ap (λ rs. row_by props i from n ∷ rs) (rows_by-unmarked props (i + 1) n.properties_end ns)
+
+-- nor an end
+ends-to_unmarked : (from : ℕ) (ns : List NodeEntry) (to : ℕ) → EndsRise (λ (n : NodeEntry). n.properties_end) 0 from ns to → EndsRise (λ (n : NodeEntry). n.properties_end) 0 from (map unmarked ns) to
+ends-to_unmarked from [] to h = h
+ends-to_unmarked from (n ∷ ns) to h = (h.0, ends-to_unmarked n.properties_end ns to h.1)
+
+ends-of_unmarked : (from : ℕ) (ns : List NodeEntry) (to : ℕ) → EndsRise (λ (n : NodeEntry). n.properties_end) 0 from (map unmarked ns) to → EndsRise (λ (n : NodeEntry). n.properties_end) 0 from ns to
+ends-of_unmarked from [] to h = h
+ends-of_unmarked from (n ∷ ns) to h = (h.0, ends-of_unmarked n.properties_end ns to h.1)
+
+-- an element that a function maps to x
+mapped : {A B : Type 0} (f : A → B) (o : Option A) (y : B) → option_map f o ≡ Some y → (x : A) × (o ≡ Some x) × (f x ≡ y)
+mapped f None y h = absurd (cc)
+mapped f (Some x) y h = (x, refl, cc)
+
+-- the game of a node of the first of two lists of games
+game_of-before : (a b : Games) (i : ℕ) → i < node_count a → game_of (followed_by a b) i ≡ game_of a i
+game_of-before no_games b i h = absurd (omega arith)
+game_of-before (game first more below behind) b i h =
+    let size : ℕ = 1 + length more + node_count below in
+    elim (cases_lt i size) [
+      | inl lt ↦ rw (lt-ltb i size lt)
+      | inr le ↦ rw (le-ltb i size le) (ap (λ k. 1 + k) (game_of-before behind b (i - size) (omega arith)))
+    ]
+
+-- and of the root of a game behind them
+game_of-next : (a : Games) (g : OpenGame) → game_of (followed_by a (whole_game g)) (node_count a) ≡ game_count a + 1
+game_of-next no_games g =
+    let lt : 0 < 1 + length g.more + node_count g.below = omega arith in rw (lt-ltb 0 (1 + length g.more + node_count g.below) lt)
+game_of-next (game first more below behind) g =
+    let size : ℕ = 1 + length more + node_count below in
+    let le : size ≤ size + node_count behind = omega arith in
+    let e : size + node_count behind - size ≡ node_count behind = omega arith in
+    rw (le-ltb (size + node_count behind) size le, e) (ap (λ k. 1 + k) (game_of-next behind g) ∙ omega arith)
+
+-- a root stays that of its game
+root-closed : (closed : Games) (g : OpenGame) (gs : List OpenGame) (i r : ℕ) → IsRootOf closed i r → IsRootOf (add_games closed gs (whole_game g)).closed i r
+root-closed closed g [] i r (inl h) =
+    inl (omega (arith, h.0, node_count-followed closed (whole_game g)), game_of-before closed (whole_game g) i h.0 ∙ h.1)
+root-closed closed g [] i r (inr h) =
+    inl (omega (arith, h.0, node_count-followed closed (whole_game g)), ap (game_of (followed_by closed (whole_game g))) h.0 ∙ game_of-next closed g ∙ sym h.1)
+root-closed closed g (k ∷ gs) i r h = h
+
+-- the marks of a game's own nodes
+lasts-marked : (closed : Games) (g : OpenGame) (gs : List OpenGame) (marks : List ℕ) (count : ℕ) → marks ≡ open_lasts closed (g ∷ gs) → count ≡ open_count closed (g ∷ gs)
+    → open_lasts (add_games closed gs (whole_game g)).closed (add_games closed gs (whole_game g)).unclosed
+    ≡ take (open_count closed gs) marks ++ replicate (open_count closed gs + length g.more + 1 - open_count closed gs) (count - 1) ++ drop (open_count closed gs + length g.more + 1) marks
+lasts-marked closed g gs marks count is counts =
+    let at : ℕ = open_count closed gs in
+    let m : ℕ = length g.more in
+    let before : List ℕ = open_lasts closed gs in
+    let own : List ℕ = replicate (1 + m) 0 in
+    let after : List ℕ = lasts (at + 1 + m) g.below in
+    let befores : length before ≡ at = length-open_lasts closed gs in
+    let owns : length (before ++ own) ≡ at + m + 1 = omega (arith, length-append before own, length-replicate {A = ℕ} (1 + m) 0) in
+    let e : at + m + 1 - at ≡ 1 + m = omega arith in
+    let f : count - 1 ≡ at + m + node_count g.below = omega arith in
+    rw (is, e, f)
+    (open_lasts-closed closed g gs
+    ∙ ap (λ ls. ls ++ replicate (1 + m) (at + m + node_count g.below) ++ after) (sym (ap (take at) (append_assoc before own after) ∙ take_at before (own ++ after) at befores))
+    ∙ ap (λ ls. take at (before ++ own ++ after) ++ replicate (1 + m) (at + m + node_count g.below) ++ ls) (sym (drop_at (before ++ own) after (at + m + 1) owns)))
+
+module _ (t : List ℕ) (closed : Games) (g : OpenGame) (gs : List OpenGame) where
+  -- the vectors hold the stack in which the game has ended
+  pub game-closed : (ns ns' : List NodeEntry) (ps : List PropertyEntry) (vs : List ValueEntry) (parent : Option ℕ)
+      → HoldStack t (record { closed = closed; unclosed = g ∷ gs }) ns ps vs → ClosesRun ns ns' (open_count closed gs) (open_count closed gs + length g.more) parent
+      → HoldStack t (add_games closed gs (whole_game g)) ns' ps vs
+  game-closed ns ns' ps vs parent held closes =
+      let props : List Property = properties_of t vs 0 ps in
+      record {
+        same_rows =
+            open_rows-closed closed g gs ∙ held.same_rows ∙ sym (rows_by-unmarked props 0 0 ns) ∙ ap (rows_by props 0 0) (sym closes.same) ∙ rows_by-unmarked props 0 0 ns';
+        same_lasts =
+            lasts-marked closed g gs (map mark_of ns) (length ns) (sym held.same_lasts) (nodes-held t (record { closed = closed; unclosed = g ∷ gs }) ns ps vs held) ∙ sym closes.marked;
+        properties_end =
+            ends-of_unmarked 0 ns' (length ps) (subst (λ ms. EndsRise (λ (n : NodeEntry). n.properties_end) 0 0 ms (length ps)) (sym closes.same) (ends-to_unmarked 0 ns (length ps) held.properties_end));
+        values_end = held.values_end;
+        identifiers_within = held.identifiers_within;
+        values_within = held.values_within;
+        places_within = λ k d lt.
+            let same : (get_or ns' k d).place ≡ (get_or ns k d).place =
+            ap (λ (n : NodeEntry). n.place) (sym (get_or-map unmarked ns' k d) ∙ ap (λ xs. get_or xs k (unmarked d)) closes.same ∙ get_or-map unmarked ns k d) in
+            let count : length ns' ≡ length ns =
+            sym (length-map ns' unmarked) ∙ ap length closes.same ∙ length-map ns unmarked in
+            subst (λ p. p < length t) (sym same) (held.places_within k d (omega arith));
+        roots = λ i n r here is.
+            let old = mapped unmarked (slice_get ns i) (unmarked n) (sym (slice_get-map unmarked ns i) ∙ ap (λ xs. slice_get xs i) (sym closes.same) ∙ slice_get-map unmarked ns' i ∙ ap (option_map unmarked) here) in
+            root-closed closed g gs i r (held.roots i old.0 r old.1 (ap (λ (m : NodeEntry). m.link) old.2 ∙ is));
+      }

@@ -1,0 +1,218 @@
+-- How the machine goes from game to game.
+use Rattle.std.proofs.Common.{◌≡◌, ◌≢◌, ℕ, ◌+◌, ◌-◌, ◌<◌, ◌⊎◌, true, false, inl, inr, List, [], ◌∷◌, length, get_or, Option, Some, None, is_some, refl, sym, ap, subst, ◌∙◌, arith, ne_eqb}
+use Rattle.std.proofs.lemmas.Bool.{false≢true, true≢false}
+use Rattle.std.proofs.lemmas.List.{length-map}
+use Rattle.sgf_tree.specs.Tree.{Games, no_games, game, game_count, node_count}
+use Rattle.sgf_tree.specs.Spelling.{is_white}
+use Rattle.sgf_tree.specs.Machine.{OpenGame, Stack, opened, behind_game, between_games, close_in, whole_game, step, accepted}
+use Rattle.sgf_tree.specs.Refusal.{IsFaultyAt}
+use Rattle.sgf_tree.specs.Progress.{Reaches, IsRun}
+use Rattle.sgf_tree.specs.GamesRead.{open_count, tip, HoldStack, IsOpening, StandsBetween, IsSequenceRead, IsOwnRun, unmarked, ClosesRun, IsRead}
+use Rattle.sgf_tree.specs.declared.layout.Link.TheVariants.{Root}
+use Rattle.sgf_tree.specs.declared.layout.NodeEntry.{NodeEntry}
+use Rattle.sgf_tree.specs.declared.layout.PropertyEntry.{PropertyEntry}
+use Rattle.sgf_tree.specs.declared.layout.ValueEntry.{ValueEntry}
+use Rattle.sgf_tree.proofs.Completion.{add_games, closed-in}
+use Rattle.sgf_tree.proofs.GameEnds.{game-closed}
+use Rattle.sgf_tree.proofs.NodesRead.{nodes-held}
+use Rattle.sgf_tree.proofs.OwnRuns.{own-run, own-parent}
+use Rattle.sgf_tree.proofs.Run.{run-take-step}
+use Rattle.sgf_tree.proofs.SequencesRead.{open-unaccepted}
+use Rattle.sgf_tree.proofs.Skipping.{stays-behind_game}
+use Rattle.sgf_tree.proofs.Spans.{run-white}
+use Rattle.sgf_tree.proofs.Stacks.{game_count-followed}
+use Rattle.sgf_tree.proofs.ValueEnds.{ends-faulty, refused-faulty}
+
+pub game-next : (at : ℕ) (k : Stack) (b : ℕ) → step at (behind_game k) b ≡ between_games k b
+unfolding step
+game-next at k b = refl
+
+none-accepted : accepted (behind_game (record { closed = no_games; unclosed = [] })) ≡ None
+unfolding accepted
+none-accepted = refl
+
+some-accepted : (closed : Games) → 0 < game_count closed → accepted (behind_game (record { closed = closed; unclosed = [] })) ≡ Some closed
+unfolding accepted
+some-accepted no_games h = absurd (omega arith)
+some-accepted (game first more below behind) h = refl
+
+-- a byte that is no `(` and no `)`
+between-refused : (k : Stack) (b : ℕ) → is_white b ≡ false → b ≢ 40 → b ≢ 41 → between_games k b ≡ None
+between-refused k b white ne40 ne41 = rw (white, ne_eqb b 40 ne40, ne_eqb b 41 ne41)
+
+-- a `)` with no game open
+no-close : (k : Stack) → tip k.closed k.unclosed ≡ None → between_games k 41 ≡ None
+no-close k h = no-close-in k.closed k.unclosed h
+  where
+    no-close-in : (closed : Games) (gs : List OpenGame) → tip closed gs ≡ None → close_in closed gs ≡ None
+    no-close-in closed [] e = refl
+    no-close-in closed (g ∷ gs) e = absurd (cc)
+
+some-same : {A : Type 0} {x y : A} → Some x ≡ Some y → x ≡ y
+some-same h = cc
+
+-- the end of a game leaves the tip of the game around it
+tip-closed : (closed : Games) (g : OpenGame) (gs : List OpenGame) → tip (add_games closed gs (whole_game g)).closed (add_games closed gs (whole_game g)).unclosed ≡ tip closed gs
+tip-closed closed g [] = refl
+tip-closed closed g (h ∷ hs) = refl
+
+-- there is one whole game more where no game is around it
+games-counted : (closed : Games) (g : OpenGame) (gs : List OpenGame) (parent : Option ℕ) (games games' : ℕ) → tip closed gs ≡ parent → game_count closed ≡ games
+    → (is_some parent ≡ false → games' ≡ games + 1) → (is_some parent ≡ true → games' ≡ games) → game_count (add_games closed gs (whole_game g)).closed ≡ games'
+games-counted closed g [] parent games games' up e if_none if_some =
+    game_count-followed closed (whole_game g) ∙ omega (arith, e, if_none (ap is_some (sym up)))
+games-counted closed g (h ∷ hs) parent games games' up e if_none if_some =
+    e ∙ sym (if_some (ap is_some (sym up)))
+
+unfinished : (closed : Games) (gs : List OpenGame) (last : Option ℕ) (games : ℕ) → tip closed gs ≡ last → game_count closed ≡ games → (is_some last ≡ true) ⊎ (games ≡ 0)
+    → accepted (behind_game (record { closed = closed; unclosed = gs })) ≡ None
+unfinished closed (g ∷ gs) last games tip_is e h = open-unaccepted closed g gs
+unfinished no_games [] last games tip_is e h = none-accepted
+unfinished (game first more below behind) [] last games tip_is e (inl h) =
+    absurd (false≢true (ap is_some tip_is ∙ h))
+unfinished (game first more below behind) [] last games tip_is e (inr h) = absurd (omega arith)
+
+no-tip-left : (closed : Games) (gs : List OpenGame) (last : Option ℕ) → tip closed gs ≡ last → is_some last ≡ false → gs ≡ []
+no-tip-left closed [] last tip_is h = refl
+no-tip-left closed (g ∷ gs) last tip_is h = absurd (true≢false (ap is_some tip_is ∙ h))
+
+module _ (t : List ℕ) where
+  -- games were read up to `at`: so many whole ones, and the innermost open one has that last node
+  pub record GamesSoFar (at games : ℕ) (last : Option ℕ) (ns : List NodeEntry) (ps : List PropertyEntry) (vs : List ValueEntry) : Type 0 where
+    pub stack : Stack
+    pub stands : StandsBetween t at stack
+    pub held : HoldStack t stack ns ps vs
+    pub tip_is : tip stack.closed stack.unclosed ≡ last
+    pub games_are : game_count stack.closed ≡ games
+
+  module _ (at games : ℕ) (last : Option ℕ) (ns : List NodeEntry) (ps : List PropertyEntry) (vs : List ValueEntry) (so_far : GamesSoFar at games last ns ps vs) where
+    -- a `(`
+    pub games-open : at < length t → get_or t at 0 ≡ 40 → Reaches t (at + 1) (opened so_far.stack)
+    games-open lt e =
+        run-take-step t at so_far.stands.state (opened so_far.stack) so_far.stands.reached lt (so_far.stands.next lt ∙ ap (between_games so_far.stack) e)
+
+    -- another byte
+    pub games-faulty : at < length t → get_or t at 0 ≢ 40 → get_or t at 0 ≢ 41 → IsFaultyAt t at
+    games-faulty lt ne40 ne41 =
+        refused-faulty t at so_far.stands.state lt so_far.stands.reached (so_far.stands.next lt ∙ between-refused so_far.stack (get_or t at 0) (so_far.stands.not_white lt) ne40 ne41)
+
+    pub close-faulty : at < length t → get_or t at 0 ≡ 41 → last ≡ None → IsFaultyAt t at
+    close-faulty lt e none =
+        refused-faulty t at so_far.stands.state lt so_far.stands.reached (so_far.stands.next lt ∙ ap (between_games so_far.stack) e ∙ no-close so_far.stack (so_far.tip_is ∙ none))
+
+  -- the link of the first node behind a `(`
+  pub opening-root : (k : Stack) (games : ℕ) → tip k.closed k.unclosed ≡ None → game_count k.closed ≡ games → IsOpening k (Root (games + 1))
+  opening-root k games none e = (no-tip k.closed k.unclosed none, ap (λ n. n + 1) (sym e))
+    where
+      no-tip : (closed : Games) (gs : List OpenGame) → tip closed gs ≡ None → gs ≡ []
+      no-tip closed [] h = refl
+      no-tip closed (g ∷ gs) h = absurd (cc)
+
+  -- the game's own nodes
+  pub games-sequence : (end games : ℕ) (k : Stack) (ns : List NodeEntry) (ps : List PropertyEntry) (vs : List ValueEntry) → IsSequenceRead t end k ns ps vs → game_count k.closed ≡ games
+      → GamesSoFar end games (Some (length ns - 1)) ns ps vs
+  games-sequence end games k ns ps vs read e =
+      let k' : Stack = record { closed = k.closed; unclosed = read.last ∷ k.unclosed } in
+      let count : length ns ≡ open_count k.closed k.unclosed + 1 + length read.last.more + node_count read.last.below = nodes-held t k' ns ps vs read.held in
+      let same : open_count k.closed k.unclosed + length read.last.more ≡ length ns - 1 = omega (arith, count, ap node_count read.nothing_below) in
+      record {
+        stack = k';
+        stands = read.stands;
+        held = read.held;
+        tip_is = ap Some same;
+        games_are = e;
+      }
+
+  -- the open game of a tip
+  pub record Innermost (k : Stack) (last : ℕ) : Type 0 where
+    pub inner : OpenGame
+    pub outer : List OpenGame
+    pub is : k.unclosed ≡ inner ∷ outer
+    pub last_is : open_count k.closed outer + length inner.more ≡ last
+
+  pub innermost : (k : Stack) (last : ℕ) → tip k.closed k.unclosed ≡ Some last → Innermost k last
+  innermost k last h = innermost-of k.closed k.unclosed last h
+    where
+      innermost-of : (closed : Games) (gs : List OpenGame) (n : ℕ) → tip closed gs ≡ Some n → Innermost (record { closed = closed; unclosed = gs }) n
+      innermost-of closed [] n e = absurd (cc)
+      innermost-of closed (g ∷ gs) n e = record { inner = g; outer = gs; is = refl; last_is = cc }
+
+  -- a `)`
+  module _ (at games last : ℕ) (ns : List NodeEntry) (ps : List PropertyEntry) (vs : List ValueEntry) (so_far : GamesSoFar at games (Some last) ns ps vs) where
+    pub inmost : Innermost so_far.stack last
+    inmost = innermost so_far.stack last so_far.tip_is
+
+    abbrev at_inner : Stack
+    at_inner = record { closed = so_far.stack.closed; unclosed = inmost.inner ∷ inmost.outer }
+
+    held-inner : HoldStack t at_inner ns ps vs
+    held-inner =
+        subst (λ gs. HoldStack t (record { closed = so_far.stack.closed; unclosed = gs }) ns ps vs) inmost.is so_far.held
+
+    -- the own nodes of the innermost open game
+    pub close-own : IsOwnRun ns (open_count so_far.stack.closed inmost.outer) last
+    close-own =
+        subst (IsOwnRun ns (open_count so_far.stack.closed inmost.outer)) inmost.last_is
+        (own-run so_far.stack.closed inmost.inner inmost.outer _ ns held-inner.same_rows)
+
+    pub close-within : last < length ns
+    close-within = omega (arith, inmost.last_is, nodes-held t at_inner ns ps vs held-inner)
+
+    closes : (ns' : List NodeEntry) (parent : Option ℕ) → ((first : ℕ) → IsOwnRun ns first last → ClosesRun ns ns' first last parent) → ClosesRun ns ns' (open_count so_far.stack.closed inmost.outer) (open_count so_far.stack.closed inmost.outer + length inmost.inner.more) parent
+    closes ns' parent h =
+        subst (λ l. ClosesRun ns ns' (open_count so_far.stack.closed inmost.outer) l parent) (sym inmost.last_is) (h (open_count so_far.stack.closed inmost.outer) close-own)
+
+    -- as many nodes as before
+    pub close-count : (ns' : List NodeEntry) (parent : Option ℕ) → ((first : ℕ) → IsOwnRun ns first last → ClosesRun ns ns' first last parent) → length ns' ≡ length ns
+    close-count ns' parent h =
+        sym (length-map ns' unmarked) ∙ ap length (closes ns' parent h).same ∙ length-map ns unmarked
+
+    abbrev closed_stack : Stack
+    closed_stack = add_games so_far.stack.closed inmost.outer (whole_game inmost.inner)
+
+    pub games-close : (next games' : ℕ) (ns' : List NodeEntry) (parent : Option ℕ) → at < length t → get_or t at 0 ≡ 41
+        → ((first : ℕ) → IsOwnRun ns first last → ClosesRun ns ns' first last parent) → IsRun is_white t (at + 1) next
+        → (is_some parent ≡ false → games' ≡ games + 1) → (is_some parent ≡ true → games' ≡ games)
+        → GamesSoFar next games' parent ns' ps vs
+    games-close next games' ns' parent lt e h white if_none if_some =
+        let done = closes ns' parent h in
+        let up : tip so_far.stack.closed inmost.outer ≡ parent =
+        some-same (sym (own-parent so_far.stack.closed inmost.inner inmost.outer _ ns held-inner.same_rows) ∙ done.parent_is) in
+        let step_is : step at so_far.stands.state (get_or t at 0) ≡ Some (behind_game closed_stack) =
+        so_far.stands.next lt ∙ ap (between_games so_far.stack) e ∙ ap (close_in so_far.stack.closed) inmost.is ∙ closed-in so_far.stack.closed inmost.inner inmost.outer in
+        record {
+          stack = closed_stack;
+          stands = record {
+            state = behind_game closed_stack;
+            reached = run-white t (at + 1) next (behind_game closed_stack) (stays-behind_game closed_stack) white.rises white.within white.passing (run-take-step t at so_far.stands.state (behind_game closed_stack) so_far.stands.reached lt step_is);
+            next = λ _. game-next next closed_stack (get_or t next 0);
+            end = refl;
+            not_white = white.stops;
+          };
+          held = game-closed t so_far.stack.closed inmost.inner inmost.outer ns ns' ps vs parent held-inner done;
+          tip_is = tip-closed so_far.stack.closed inmost.inner inmost.outer ∙ up;
+          games_are = games-counted so_far.stack.closed inmost.inner inmost.outer parent games games' up so_far.games_are if_none if_some;
+        }
+
+  -- the end of the text
+  module _ (at games : ℕ) (last : Option ℕ) (ns : List NodeEntry) (ps : List PropertyEntry) (vs : List ValueEntry) (so_far : GamesSoFar at games last ns ps vs) (ends : at ≡ length t) where
+    pub games-unfinished : (is_some last ≡ true) ⊎ (games ≡ 0) → IsFaultyAt t at
+    games-unfinished h =
+        subst (IsFaultyAt t) (sym ends)
+        (ends-faulty t so_far.stands.state (subst (λ i. Reaches t i so_far.stands.state) ends so_far.stands.reached)
+        (so_far.stands.end ∙ unfinished so_far.stack.closed so_far.stack.unclosed last games so_far.tip_is so_far.games_are h))
+
+    pub games-finished : is_some last ≡ false → 0 < games → (c : Games) × (games ≡ game_count c) × IsRead t c ns ps vs
+    games-finished none some =
+        let all : so_far.stack.unclosed ≡ [] = no-tip-left so_far.stack.closed so_far.stack.unclosed last so_far.tip_is none in (
+          so_far.stack.closed,
+          sym so_far.games_are,
+          record {
+            reached = so_far.stands.state;
+            whole = subst (λ i. Reaches t i so_far.stands.state) ends so_far.stands.reached;
+            accepts =
+                so_far.stands.end ∙ ap (λ gs. accepted (behind_game (record { closed = so_far.stack.closed; unclosed = gs }))) all ∙ some-accepted so_far.stack.closed (omega (arith, so_far.games_are));
+            held =
+                subst (λ gs. HoldStack t (record { closed = so_far.stack.closed; unclosed = gs }) ns ps vs) all so_far.held;
+          },
+        )

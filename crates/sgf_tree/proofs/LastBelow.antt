@@ -1,0 +1,236 @@
+-- The last node below each node, in file order.
+use Rattle.std.proofs.Common.{◌≡◌, ℕ, zero, suc, ◌+◌, ◌-◌, ◌<◌, ◌≤◌, ◌⊎◌, inl, inr, true, List, [], ◌∷◌, ◌++◌, length, replicate, slice_get, Option, Some, None, refl, sym, ap, subst, ◌∙◌, arith, append_assoc, append-nil, length-append}
+use Rattle.std.proofs.lemmas.Bool.{cases_lt}
+use Rattle.std.proofs.lemmas.List.{length-replicate}
+use Rattle.sgf_tree.specs.Tree.{Node, Games, no_games, game, node_count}
+use Rattle.sgf_tree.specs.FileOrder.{Row, further_rows, rows, rows_of, IsUnder, itself, below, IsLastBelow}
+use Rattle.sgf_tree.specs.GamesRead.{lasts}
+use Rattle.sgf_tree.proofs.Rows.{slice_get-left, slice_get-right, parent_in, parent_in-left, parent_in-right, parent_in-further, length-further_rows, length-rows, length-rows_of, parent-within, parent_at-lt, parent_at-within}
+use Rattle.sgf_tree.proofs.Stacks.{length-lasts}
+
+slice_get-replicate : {A : Type 0} (n : ℕ) (x : A) (i : ℕ) → i < n → slice_get (replicate n x) i ≡ Some x
+slice_get-replicate zero x i h = absurd (omega arith)
+slice_get-replicate (suc n) x zero h = refl
+slice_get-replicate (suc n) x (suc i) h = slice_get-replicate n x i (omega arith)
+
+-- the nodes from n to last, with n the parent of those behind it or over their parents, and no later node below them
+pub record IsSpanBelow (flat : List Row) (n last : ℕ) : Type 0 where
+  pub rises : n ≤ last
+  pub inside : (j : ℕ) → n < j → j ≤ last → (q : ℕ) × (parent_in flat j ≡ Some (Some q)) × (n ≤ q) × (q < j)
+  pub outside : (j q : ℕ) → last < j → parent_in flat j ≡ Some (Some q) → (q < n) ⊎ (last < q)
+
+-- each node of games below p has a parent, from p on
+has-parent : (at p : ℕ) (g : Games) (k : ℕ) → p < at → k < node_count g → (q : ℕ) × (parent_in (rows at (Some p) g) k ≡ Some (Some q)) × (p ≤ q) × (q < at + k)
+has-parent at p no_games k lt h = absurd (omega arith)
+has-parent at p (game first more low high) zero lt h = (p, refl, omega arith, omega arith)
+has-parent at p (game first more low high) (suc k) lt h =
+    let last : ℕ = at + length more in
+    let own : List Row = record { node = first; parent = Some p; opens = true } ∷ further_rows at more in
+    let under : List Row = rows (last + 1) (Some last) low in
+    let start : ℕ = last + 1 + node_count low in
+    let next : List Row = rows start (Some p) high in
+    let owns : length own ≡ suc (length more) = ap suc (length-further_rows at more) in
+    let unders : length under ≡ node_count low = length-rows (last + 1) (Some last) low in
+    let both : length (own ++ under) ≡ suc (length more) + node_count low = omega (arith, length-append own under) in
+    elim (cases_lt (suc k) (suc (length more))) [
+      | inl in_own ↦ (
+        at + k,
+        parent_in-left (own ++ under) next (suc k) (omega arith) ∙ parent_in-left own under (suc k) (omega arith) ∙ parent_in-further at more k (omega arith),
+        omega arith,
+        omega arith,
+      )
+      | inr past ↦
+          elim (cases_lt (suc k) (suc (length more) + node_count low)) [
+            | inl in_under ↦
+                let j : ℕ = suc k - suc (length more) in
+                let there = has-parent (last + 1) last low j (omega arith) (omega arith) in (
+                  there.0,
+                  parent_in-left (own ++ under) next (suc k) (omega arith) ∙ parent_in-right own under (suc k) j (omega arith) ∙ there.1,
+                  omega (arith, there.2),
+                  omega (arith, there.3),
+                )
+            | inr in_next ↦
+                let j : ℕ = suc k - (suc (length more) + node_count low) in
+                let there = has-parent start p high j (omega arith) (omega arith) in (
+                  there.0,
+                  parent_in-right (own ++ under) next (suc k) j (omega arith) ∙ there.1,
+                  omega (arith, there.2),
+                  omega (arith, there.3),
+                )
+          ]
+    ]
+
+module _ (flat : List Row) where
+  -- the rows of g stand in the list from `at` on
+  Stands : ℕ → Option ℕ → Games → Type 0
+  Stands at p g = (before : List Row) × (behind : List Row) × (flat ≡ before ++ (rows at p g ++ behind)) × (at ≡ length before)
+
+  segment : (at : ℕ) (p : Option ℕ) (g : Games) (j : ℕ) → Stands at p g → at ≤ j → j < at + node_count g → parent_in flat j ≡ parent_in (rows at p g) (j - at)
+  unfolding Stands
+  segment at p g j (before, behind, is, count) low high =
+      ap (λ rs. parent_in rs j) is ∙ parent_in-right before (rows at p g ++ behind) j (j - at) (omega arith)
+      ∙ parent_in-left (rows at p g) behind (j - at) (omega (arith, length-rows at p g))
+
+  -- the parent of one of them is p or another one of them
+  segment-parent : (at : ℕ) (p : Option ℕ) (g : Games) (j q : ℕ) → Stands at p g → at ≤ j → j < at + node_count g → parent_in flat j ≡ Some (Some q) → (p ≡ Some q) ⊎ ((at ≤ q) × (q < j))
+  segment-parent at p g j q stands low high h =
+      elim (parent-within at p g (j - at) q (sym (segment at p g j stands low high) ∙ h)) [
+        | inl same ↦ inl same
+        | inr w ↦ let lo : at ≤ q = w.from in let hi : q < at + (j - at) = w.before in inr (omega arith, omega arith)
+      ]
+
+  -- no node behind the games is below them
+  abbrev Apart : ℕ → ℕ → Type 0
+  Apart at end = (j q : ℕ) → end ≤ j → parent_in flat j ≡ Some (Some q) → (q < at) ⊎ (end ≤ q)
+
+  module _ (at : ℕ) (p : Option ℕ) (first : Node) (more : List Node) (low high : Games) (stands : Stands at p (game first more low high)) where
+    -- the games below stand behind the game's own nodes
+    stands-below : Stands (at + length more + 1) (Some (at + length more)) low
+    unfolding Stands
+    stands-below =
+        let own : List Row = record { node = first; parent = p; opens = true } ∷ further_rows at more in
+        let under : List Row = rows (at + length more + 1) (Some (at + length more)) low in
+        let next : List Row = rows (at + length more + 1 + node_count low) p high in (
+          stands.0 ++ own,
+          next ++ stands.1,
+          stands.2 ∙ ap (λ rs. stands.0 ++ rs) (append_assoc (own ++ under) next stands.1 ∙ append_assoc own under (next ++ stands.1)) ∙ sym (append_assoc stands.0 own (under ++ (next ++ stands.1))),
+          omega (arith, stands.3, length-append stands.0 own, length-further_rows at more),
+        )
+
+    -- and the games behind it behind those
+    stands-behind : Stands (at + length more + 1 + node_count low) p high
+    unfolding Stands
+    stands-behind =
+        let own : List Row = record { node = first; parent = p; opens = true } ∷ further_rows at more in
+        let under : List Row = rows (at + length more + 1) (Some (at + length more)) low in
+        let next : List Row = rows (at + length more + 1 + node_count low) p high in (
+          stands.0 ++ (own ++ under),
+          stands.1,
+          stands.2 ∙ ap (λ rs. stands.0 ++ rs) (append_assoc (own ++ under) next stands.1) ∙ sym (append_assoc stands.0 (own ++ under) (next ++ stands.1)),
+          omega (arith, stands.3, length-append stands.0 (own ++ under), length-append own under, length-further_rows at more, length-rows (at + length more + 1) (Some (at + length more)) low),
+        )
+
+    module _ (before : (q : ℕ) → p ≡ Some q → q < at) (apart : Apart at (at + node_count (game first more low high))) where
+      -- behind the game's nodes none is below one of them
+      apart-first : Apart at (at + length more + 1 + node_count low)
+      apart-first j q le h =
+          elim (cases_lt j (at + node_count (game first more low high))) [
+            | inl lt ↦
+                elim (segment-parent (at + length more + 1 + node_count low) p high j q stands-behind le (omega arith) h) [
+                  | inl same ↦ inl (before q same)
+                  | inr there ↦ inr there.0
+                ]
+            | inr ge ↦ elim (apart j q ge h) [ inl lt ↦ inl lt | inr past ↦ inr (omega arith) ]
+          ]
+
+      -- an own node of the game
+      own-span : (n : ℕ) → at ≤ n → n ≤ at + length more → IsSpanBelow flat n (at + length more + node_count low)
+      own-span n from to =
+          let last : ℕ = at + length more in
+          let own : List Row = record { node = first; parent = p; opens = true } ∷ further_rows at more in
+          let under : List Row = rows (last + 1) (Some last) low in
+          let next : List Row = rows (last + 1 + node_count low) p high in
+          record {
+            rises = omega arith;
+            inside = λ j lo hi.
+                elim (cases_lt j (last + 1)) [
+                  | inl in_own ↦
+                      let e : j - at ≡ suc (j - at - 1) = omega arith in
+                      let f : at + (j - at - 1) ≡ j - 1 = omega arith in (
+                        j - 1,
+                        segment at p (game first more low high) j stands (omega arith) (omega arith)
+                            ∙ parent_in-left (own ++ under) next (j - at) (omega (arith, length-append own under, length-further_rows at more))
+                            ∙ parent_in-left own under (j - at) (omega (arith, length-further_rows at more))
+                            ∙ ap (parent_in own) e
+                            ∙ parent_in-further at more (j - at - 1) (omega arith)
+                            ∙ ap (λ k. Some (Some k)) f,
+                        omega arith,
+                        omega arith,
+                      )
+                  | inr past ↦
+                      let there = has-parent (last + 1) last low (j - (last + 1)) (omega arith) (omega arith) in (
+                        there.0,
+                        segment (last + 1) (Some last) low j stands-below (omega arith) (omega arith) ∙ there.1,
+                        omega (arith, there.2),
+                        omega (arith, there.3),
+                      )
+                ];
+            outside = λ j q lt h.
+                elim (apart-first j q (omega arith) h) [ inl lo ↦ inl (omega arith) | inr hi ↦ inr (omega arith) ];
+          }
+
+      -- behind the games below the game none is below one of them
+      apart-below : Apart (at + length more + 1) (at + length more + 1 + node_count low)
+      apart-below j q le h =
+          elim (apart-first j q le h) [ inl lo ↦ inl (omega arith) | inr hi ↦ inr hi ]
+
+      apart-behind : Apart (at + length more + 1 + node_count low) (at + length more + 1 + node_count low + node_count high)
+      apart-behind j q le h =
+          elim (apart j q (omega arith) h) [ inl lo ↦ inl (omega arith) | inr hi ↦ inr (omega arith) ]
+
+  -- the last one below each node
+  lasts-span : (at : ℕ) (p : Option ℕ) (g : Games) → Stands at p g → ((q : ℕ) → p ≡ Some q → q < at) → Apart at (at + node_count g)
+      → (i l n : ℕ) → n ≡ at + i → slice_get (lasts at g) i ≡ Some l → IsSpanBelow flat n l
+  lasts-span at p no_games stands before apart i l n e h = absurd (cc)
+  lasts-span at p (game first more low high) stands before apart i l n e h =
+      let m : ℕ = length more in
+      let own : List ℕ = replicate (1 + m) (at + m + node_count low) in
+      let under : List ℕ = lasts (at + 1 + m) low in
+      let next : List ℕ = lasts (at + 1 + m + node_count low) high in
+      let owns : length own ≡ 1 + m = length-replicate (1 + m) (at + m + node_count low) in
+      let both : length (own ++ under) ≡ 1 + m + node_count low = omega (arith, length-append own under, length-lasts (at + 1 + m) low) in
+      let f : at + 1 + m ≡ at + m + 1 = omega arith in
+      let g : at + 1 + m + node_count low ≡ at + m + 1 + node_count low = omega arith in
+      elim (cases_lt i (1 + m)) [
+        | inl in_own ↦
+            let is : Some (at + m + node_count low) ≡ Some l =
+            sym (slice_get-left (own ++ under) next i (omega arith) ∙ slice_get-left own under i (omega arith) ∙ slice_get-replicate (1 + m) (at + m + node_count low) i in_own) ∙ h in
+            let same : at + m + node_count low ≡ l = cc in
+            subst (IsSpanBelow flat n) same (own-span at p first more low high stands before apart n (omega arith) (omega arith))
+        | inr past ↦
+            elim (cases_lt i (1 + m + node_count low)) [
+              | inl in_under ↦
+                  let j : ℕ = i - (1 + m) in
+                  lasts-span (at + m + 1) (Some (at + m)) low (stands-below at p first more low high stands) (λ q same. let is : at + m ≡ q = cc in omega arith) (apart-below at p first more low high stands before apart) j l n (omega arith)
+                  (ap (λ k. slice_get (lasts k low) j) (sym f) ∙ sym (slice_get-left (own ++ under) next i (omega arith) ∙ slice_get-right own under i j (omega arith)) ∙ h)
+              | inr in_next ↦
+                  let j : ℕ = i - (1 + m + node_count low) in
+                  lasts-span (at + m + 1 + node_count low) p high (stands-behind at p first more low high stands) (λ q same. omega (arith, before q same)) (apart-behind at p first more low high stands before apart) j l n (omega arith)
+                  (ap (λ k. slice_get (lasts k high) j) (sym g) ∙ sym (slice_get-right (own ++ under) next i j (omega arith)) ∙ h)
+            ]
+      ]
+
+-- the nodes of a span are under the first one
+span-under : (c : Games) (n last : ℕ) → IsSpanBelow (rows_of c) n last → (steps j : ℕ) → j ≤ n + steps → n ≤ j → j ≤ last → IsUnder c n j
+span-under c n last span zero j few lo hi = let same : n ≡ j = omega arith in subst (IsUnder c n) same itself
+span-under c n last span (suc steps) j few lo hi =
+    elim (cases_lt n j) [
+      | inl lt ↦
+          let up = span.inside j lt hi in
+          below up.1 (span-under c n last span steps up.0 (omega (arith, up.3)) up.2 (omega (arith, up.3)))
+      | inr le ↦ let same : n ≡ j = omega arith in subst (IsUnder c n) same itself
+    ]
+
+-- and no others are
+span-greatest : (c : Games) (n last j : ℕ) → IsSpanBelow (rows_of c) n last → IsUnder c n j → (n ≤ j) × (j ≤ last)
+span-greatest c n last j span itself = (omega arith, span.rises)
+span-greatest c n last j span (below {j = q} h under) =
+    let up = span-greatest c n last q span under in
+    let lt : q < j = parent_at-lt c j q h in
+    elim (cases_lt last j) [
+      | inl past ↦ elim (span.outside j q past h) [ inl lo ↦ absurd (omega (arith, up.0)) | inr hi ↦ absurd (omega (arith, up.1)) ]
+      | inr le ↦ (omega (arith, up.0), le)
+    ]
+
+stands-whole : (c : Games) → Stands (rows_of c) 0 None c
+unfolding Stands
+stands-whole c = ([], [], sym (append-nil (rows_of c)), refl)
+
+pub lasts-below : (c : Games) (i l : ℕ) → slice_get (lasts 0 c) i ≡ Some l → IsLastBelow c i l
+lasts-below c i l h =
+    let apart : (j q : ℕ) → 0 + node_count c ≤ j → parent_in (rows_of c) j ≡ Some (Some q) → (q < 0) ⊎ (0 + node_count c ≤ q) = λ j q le e. absurd (omega (arith, parent_at-within c j (Some q) e, length-rows_of c)) in
+    let span : IsSpanBelow (rows_of c) i l = lasts-span (rows_of c) 0 None c (stands-whole c) (λ q same. absurd (cc)) apart i l i (omega arith) h in
+    record {
+      under = span-under c i l span (l - i) l (omega (arith, span.rises)) span.rises (omega arith);
+      greatest = λ j under. (span-greatest c i l j span under).1;
+    }

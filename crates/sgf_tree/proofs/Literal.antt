@@ -1,0 +1,34 @@
+-- The bytes that stand for themselves, whatever follows.
+use Rattle.std.proofs.Common.{◌≡◌, ℕ, Bool, true, false, not, ◌||◌, ◌&&◌, ◌==◌, nat_le, List, [], ◌∷◌, ◌++◌, take, drop, refl, ap, sym, ◌∙◌, arith}
+use Rattle.std.proofs.lemmas.List.{take-append-drop}
+use Rattle.std.specs.List.{list_all}
+use Rattle.sgf_tree.specs.Text.{text_of, is_pair, unescaped}
+
+-- neither a `\` nor one of tab, LF, vertical tab, form feed and CR
+abbrev pub is_literal : ℕ → Bool
+is_literal b = not (b == 92 || nat_le 9 b && nat_le b 13)
+
+not_backslash : (a : ℕ) → is_literal a ≡ true → (a == 92) ≡ false
+not_backslash a h = grind arith
+
+not_of_pair : (a b : ℕ) → is_literal a ≡ true → is_pair a b ≡ false
+not_of_pair a b h = grind arith
+
+unescaped-literal : (a : ℕ) → is_literal a ≡ true → unescaped a ≡ a
+unescaped-literal a h = grind arith
+
+text_of-literal : (a : ℕ) (s : List ℕ) → is_literal a ≡ true → text_of (a ∷ s) ≡ a ∷ text_of s
+text_of-literal a [] h = rw (not_backslash a h, unescaped-literal a h) refl
+text_of-literal a (b ∷ []) h = rw (not_backslash a h, not_of_pair a b h, unescaped-literal a h) refl
+text_of-literal a (b ∷ c ∷ s) h = rw (not_backslash a h, not_of_pair a b h, unescaped-literal a h) refl
+
+text_of-literals : (xs s : List ℕ) → list_all is_literal xs ≡ true → text_of (xs ++ s) ≡ xs ++ text_of s
+text_of-literals [] s h = refl
+text_of-literals (x ∷ xs) s h =
+    let first : is_literal x ≡ true = grind arith in
+    let rest : list_all is_literal xs ≡ true = grind arith in
+    text_of-literal x (xs ++ s) first ∙ ap (λ t. x ∷ t) (text_of-literals xs s rest)
+
+pub text_of-take_literals : (xs : List ℕ) (i : ℕ) → list_all is_literal (take i xs) ≡ true → text_of xs ≡ take i xs ++ text_of (drop i xs)
+text_of-take_literals xs i h =
+    ap text_of (sym (take-append-drop i xs)) ∙ text_of-literals (take i xs) (drop i xs) h

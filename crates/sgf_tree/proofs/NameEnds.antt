@@ -1,0 +1,126 @@
+-- How the name of a property is read, up to the `[` behind it.
+use Rattle.std.proofs.Common.{◌≡◌, ◌≢◌, ℕ, ◌+◌, ◌-◌, ◌<◌, ◌≤◌, false, inl, inr, IsTrue, List, [], ◌∷◌, ◌++◌, length, get_or, drop, slice_range, Some, None, refl, sym, ap, subst, ◌∙◌, arith, if◌then◌else◌, ne_eqb, get_or-drop, length-drop}
+use Rattle.std.proofs.lemmas.Bool.{cases_lt, or_cases, or_parts, or_left, false≢true}
+use Rattle.std.proofs.lemmas.List.{take_more}
+use Rattle.std.proofs.lemmas.List.Elements.{filter-append}
+use Rattle.sgf_tree.specs.Spelling.{is_white, is_upper, is_lower}
+use Rattle.sgf_tree.specs.Machine.{Started, State, in_name, behind_name, in_value, step, accepted}
+use Rattle.sgf_tree.specs.Refusal.{IsFaultyAt}
+use Rattle.sgf_tree.specs.Layout.{name_in}
+use Rattle.sgf_tree.specs.Progress.{Reaches, IsRun, is_letter}
+use Rattle.sgf_tree.proofs.Classes.{white-not_upper, white-not_lower}
+use Rattle.sgf_tree.proofs.Run.{run-take-step}
+use Rattle.sgf_tree.proofs.Skipping.{stays-behind_name}
+use Rattle.sgf_tree.proofs.Spans.{run-white, run-letters}
+use Rattle.sgf_tree.proofs.ValueEnds.{span-join, ends-faulty, refused-faulty}
+
+-- one byte
+span-one : (t : List ℕ) (at : ℕ) → at < length t → slice_range t at (at + 1) ≡ get_or t at 0 ∷ []
+span-one t at lt =
+    let e : at + 1 - at ≡ 0 + 1 = omega arith in
+    let f : at + 0 ≡ at = omega arith in
+    let short : 0 < length (drop at t) = rw length-drop (omega arith) in
+    rw e (take_more (drop at t) 0 0 short ∙ ap (λ b. b ∷ []) (get_or-drop at t 0 0 ∙ ap (λ k. get_or t k 0) f))
+
+-- a name is read from its first letter on
+name-longer : (t : List ℕ) (start end : ℕ) → start < length t → IsTrue (is_upper (get_or t start 0)) → IsRun is_letter t start end → start < end
+name-longer t start end lt capital letters =
+    let low : start ≤ end = letters.rises in
+    elim (cases_lt start end) [
+      | inl longer ↦ longer
+      | inr short ↦
+          let same : end ≡ start = omega arith in
+          let here : is_letter (get_or t start 0) ≡ false = subst (λ i. is_letter (get_or t i 0) ≡ false) same (letters.stops (omega arith)) in
+          absurd (false≢true (sym here ∙ or_left (is_upper (get_or t start 0)) (is_lower (get_or t start 0)) capital))
+    ]
+
+pub name-reached : (t : List ℕ) (start end : ℕ) (n : Started) → start < length t → IsTrue (is_upper (get_or t start 0)) → IsRun is_letter t start end
+    → Reaches t (start + 1) (in_name n (get_or t start 0 ∷ [])) → Reaches t end (in_name n (name_in (slice_range t start end)))
+name-reached t start end n lt capital letters h =
+    let b : ℕ = get_or t start 0 in
+    let longer : start < end = name-longer t start end lt capital letters in
+    let parts : slice_range t start end ≡ (b ∷ []) ++ slice_range t (start + 1) end =
+    sym (span-join t start (start + 1) end (omega arith) (omega arith)) ∙ ap (λ s. s ++ slice_range t (start + 1) end) (span-one t start lt) in
+    let name : name_in (slice_range t start end) ≡ (b ∷ []) ++ name_in (slice_range t (start + 1) end) =
+    ap name_in parts ∙ filter-append is_upper (b ∷ []) (slice_range t (start + 1) end)
+    ∙ ap (λ c. (if c then b ∷ [] else []) ++ name_in (slice_range t (start + 1) end)) capital in
+    rw name
+    (run-letters t (start + 1) end n (b ∷ []) (omega arith) letters.within
+    (λ i low high. or_cases (is_upper (get_or t i 0)) (is_lower (get_or t i 0)) (letters.passing i (omega arith) high)) h)
+
+-- the state behind a name and the white space there
+pub record StandsBehindName (t : List ℕ) (at : ℕ) (n : Started) (name : List ℕ) : Type 0 where
+  pub state : State
+  pub reached : Reaches t at state
+  pub bracket : step at state 91 ≡ Some (in_value n name [] [])
+  pub refused : at < length t → get_or t at 0 ≢ 91 → step at state (get_or t at 0) ≡ None
+  pub unaccepted : accepted state ≡ None
+
+name-white : (at : ℕ) (n : Started) (name : List ℕ) (b : ℕ) → IsTrue (is_white b) → step at (in_name n name) b ≡ Some (behind_name n name)
+unfolding step
+name-white at n name b h = rw (white-not_upper b h, white-not_lower b h, h)
+
+name-bracket : (at : ℕ) (n : Started) (name : List ℕ) → step at (in_name n name) 91 ≡ Some (in_value n name [] [])
+unfolding step
+name-bracket at n name = refl
+
+name-refused : (at : ℕ) (n : Started) (name : List ℕ) (b : ℕ) → is_letter b ≡ false → is_white b ≡ false → b ≢ 91 → step at (in_name n name) b ≡ None
+unfolding step
+name-refused at n name b letter white ne =
+    let parts = or_parts (is_upper b) (is_lower b) letter in rw (parts.0, parts.1, white, ne_eqb b 91 ne)
+
+name-unaccepted : (n : Started) (name : List ℕ) → accepted (in_name n name) ≡ None
+unfolding accepted
+name-unaccepted n name = refl
+
+behind-bracket : (at : ℕ) (n : Started) (name : List ℕ) → step at (behind_name n name) 91 ≡ Some (in_value n name [] [])
+unfolding step
+behind-bracket at n name = refl
+
+behind-refused : (at : ℕ) (n : Started) (name : List ℕ) (b : ℕ) → is_white b ≡ false → b ≢ 91 → step at (behind_name n name) b ≡ None
+unfolding step
+behind-refused at n name b white ne = rw (white, ne_eqb b 91 ne)
+
+behind-unaccepted : (n : Started) (name : List ℕ) → accepted (behind_name n name) ≡ None
+unfolding accepted
+behind-unaccepted n name = refl
+
+pub name-behind : (t : List ℕ) (start end at : ℕ) (n : Started) (name : List ℕ) → IsRun is_letter t start end → IsRun is_white t end at
+    → Reaches t end (in_name n name) → StandsBehindName t at n name
+name-behind t start end at n name letters white h =
+    let low : end ≤ at = white.rises in
+    let within : at ≤ length t = white.within in
+    elim (cases_lt end at) [
+      | inl lt ↦
+          let first : Reaches t (end + 1) (behind_name n name) = run-take-step t end (in_name n name) (behind_name n name) h (omega arith) (name-white end n name (get_or t end 0) (white.passing end (omega arith) lt)) in
+          record {
+            state = behind_name n name;
+            reached = run-white t (end + 1) at (behind_name n name) (stays-behind_name n name) (omega arith) white.within (λ i low high. white.passing i (omega arith) high) first;
+            bracket = behind-bracket at n name;
+            refused = λ lt' ne. behind-refused at n name (get_or t at 0) (white.stops lt') ne;
+            unaccepted = behind-unaccepted n name;
+          }
+      | inr le ↦
+          let same : end ≡ at = omega arith in
+          record {
+            state = in_name n name;
+            reached = subst (λ i. Reaches t i (in_name n name)) same h;
+            bracket = name-bracket at n name;
+            refused = λ lt' ne. name-refused at n name (get_or t at 0) (subst (λ i. is_letter (get_or t i 0) ≡ false) same (letters.stops (omega arith))) (white.stops lt') ne;
+            unaccepted = name-unaccepted n name;
+          }
+    ]
+
+-- a name without a `[` behind it
+pub name-faulty : (t : List ℕ) (at : ℕ) (n : Started) (name : List ℕ) → StandsBehindName t at n name → at ≤ length t → (at < length t → get_or t at 0 ≢ 91) → IsFaultyAt t at
+name-faulty t at n name behind le other =
+    elim (cases_lt at (length t)) [
+      | inl lt ↦ refused-faulty t at behind.state lt behind.reached (behind.refused lt (other lt))
+      | inr ge ↦
+          let same : length t ≡ at = omega arith in
+          subst (IsFaultyAt t) same (ends-faulty t behind.state (subst (λ i. Reaches t i behind.state) (sym same) behind.reached) behind.unaccepted)
+    ]
+
+-- the `[`
+pub name-value : (t : List ℕ) (at : ℕ) (n : Started) (name : List ℕ) → StandsBehindName t at n name → at < length t → get_or t at 0 ≡ 91 → Reaches t (at + 1) (in_value n name [] [])
+name-value t at n name behind lt e = run-take-step t at behind.state (in_value n name [] []) behind.reached lt (rw e behind.bracket)

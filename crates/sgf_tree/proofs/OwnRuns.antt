@@ -1,0 +1,54 @@
+-- The own nodes of the innermost open game, in the flat vectors.
+use Rattle.std.proofs.Common.{◌≡◌, ℕ, zero, suc, ◌+◌, ◌-◌, ◌<◌, false, List, [], ◌∷◌, length, slice_get, Some, option_map, refl, sym, ap, ◌∙◌, arith}
+use Rattle.sgf_tree.specs.Tree.{Property, Node, Games}
+use Rattle.sgf_tree.specs.FileOrder.{Row, further_rows, rows}
+use Rattle.sgf_tree.specs.Machine.{OpenGame}
+use Rattle.sgf_tree.specs.Layout.{parent_by, rows_by}
+use Rattle.sgf_tree.specs.GamesRead.{open_count, tip, own_rows, open_rows, opens_at, IsOwnRun}
+use Rattle.sgf_tree.specs.declared.layout.NodeEntry.{NodeEntry}
+use Rattle.sgf_tree.proofs.Rows.{slice_get-left, slice_get-right, length-further_rows}
+use Rattle.sgf_tree.proofs.Stacks.{length-open_rows}
+
+-- what the row of an entry says of its link
+pub opens-rows_by : (props : List Property) (i from : ℕ) (ns : List NodeEntry) (k : ℕ) → option_map (λ (r : Row). r.opens) (slice_get (rows_by props i from ns) k) ≡ opens_at ns k
+opens-rows_by props i from [] k = refl
+opens-rows_by props i from (n ∷ ns) zero = refl
+opens-rows_by props i from (n ∷ ns) (suc k) = opens-rows_by props (i + 1) n.properties_end ns k
+
+pub parent-rows_by : (props : List Property) (i from : ℕ) (ns : List NodeEntry) (k j : ℕ) → j ≡ i + k
+    → option_map (λ (r : Row). r.parent) (slice_get (rows_by props i from ns) k) ≡ option_map (λ (n : NodeEntry). parent_by n.link j) (slice_get ns k)
+parent-rows_by props i from [] k j e = refl
+parent-rows_by props i from (n ∷ ns) zero j e =
+    let same : i ≡ j = omega arith in ap (λ m. Some (parent_by n.link m)) same
+parent-rows_by props i from (n ∷ ns) (suc k) j e = parent-rows_by props (i + 1) n.properties_end ns k j (omega arith)
+
+further-opens : (last : ℕ) (ns : List Node) (k : ℕ) → k < length ns → option_map (λ (r : Row). r.opens) (slice_get (further_rows last ns) k) ≡ Some false
+further-opens last [] k h = absurd (omega arith)
+further-opens last (n ∷ ns) zero h = refl
+further-opens last (n ∷ ns) (suc k) h = further-opens (last + 1) ns k (omega arith)
+
+module _ (closed : Games) (g : OpenGame) (gs : List OpenGame) (props : List Property) (nodes : List NodeEntry) (same : open_rows closed (g ∷ gs) ≡ rows_by props 0 0 nodes) where
+  row-at : (i k : ℕ) → i ≡ open_count closed gs + k → slice_get (rows_by props 0 0 nodes) i ≡ slice_get (own_rows (open_count closed gs) (tip closed gs) g) k
+  row-at i k e =
+      ap (λ rs. slice_get rs i) (sym same)
+      ∙ slice_get-right (open_rows closed gs) (own_rows (open_count closed gs) (tip closed gs) g) i k (omega (arith, length-open_rows closed gs))
+
+  -- they begin with the node behind the `(`, and go on up to the tip
+  pub own-run : IsOwnRun nodes (open_count closed gs) (open_count closed gs + length g.more)
+  own-run =
+      let at : ℕ = open_count closed gs in
+      record {
+        rises = omega arith;
+        begins = sym (opens-rows_by props 0 0 nodes at) ∙ ap (option_map (λ (r : Row). r.opens)) (row-at at 0 (omega arith));
+        goes_on = λ i low high.
+            let e : i ≡ at + suc (i - at - 1) = omega arith in
+            sym (opens-rows_by props 0 0 nodes i) ∙ ap (option_map (λ (r : Row). r.opens)) (row-at i (suc (i - at - 1)) e
+            ∙ slice_get-left (further_rows at g.more) (rows (at + length g.more + 1) (Some (at + length g.more)) g.below) (i - at - 1) (omega (arith, length-further_rows at g.more)))
+            ∙ further-opens at g.more (i - at - 1) (omega arith);
+      }
+
+  -- the first one has the parent of the game
+  pub own-parent : option_map (λ (n : NodeEntry). parent_by n.link (open_count closed gs)) (slice_get nodes (open_count closed gs)) ≡ Some (tip closed gs)
+  own-parent =
+      let at : ℕ = open_count closed gs in
+      sym (parent-rows_by props 0 0 nodes at at (omega arith)) ∙ ap (option_map (λ (r : Row). r.parent)) (row-at at 0 (omega arith))

@@ -1,0 +1,145 @@
+-- The places of a collection that a text spells rise strictly in file order, and each is within the text.
+use Rattle.std.proofs.Common.{◌≡◌, ℕ, zero, suc, ◌+◌, ◌-◌, ◌<◌, ◌≤◌, List, [], ◌∷◌, ◌++◌, length, Option, Some, None, map, slice_get, true, refl, ap, sym, ◌∙◌, arith}
+use Rattle.std.proofs.lemmas.List.{map-append}
+use Rattle.std.proofs.lemmas.Option.{slice_get-map}
+use Rattle.sgf_tree.specs.Tree.{Node, Games, no_games, game, node_count}
+use Rattle.sgf_tree.specs.Spelling.{IsNode, node, AreNodes, no_node, nodes, AreGames, no_game, games, Spells, spells}
+use Rattle.sgf_tree.specs.FileOrder.{Row, further_rows, rows, rows_of, place_at, PlacesRise}
+use Rattle.sgf_tree.proofs.Shrinks.{shrinks-White, shrinks-AreProperties, shrinks-Mark}
+
+-- the numbers rise strictly, from low on and below high
+abbrev Rises : ℕ → List ℕ → ℕ → Type 0
+Rises low [] high = low ≤ high
+Rises low (p ∷ ps) high = (low ≤ p) × Rises (p + 1) ps high
+
+rises-low : (a b : ℕ) (ps : List ℕ) (c : ℕ) → a ≤ b → Rises b ps c → Rises a ps c
+rises-low a b [] c h r = omega arith
+rises-low a b (p ∷ ps) c h r = (omega arith, r.1)
+
+rises-append : (a b c : ℕ) (ps qs : List ℕ) → Rises a ps b → Rises b qs c → Rises a (ps ++ qs) c
+rises-append a b c [] qs r s = rises-low a b qs c r s
+rises-append a b c (p ∷ ps) qs r s = (r.0, rises-append (p + 1) b c ps qs r.1 s)
+
+rises-ends : (low high : ℕ) (ps : List ℕ) → Rises low ps high → low ≤ high
+rises-ends low high [] r = r
+rises-ends low high (p ∷ ps) r = let k = rises-ends (p + 1) high ps r.1 in omega arith
+
+rises-get : (low high : ℕ) (ps : List ℕ) (i p : ℕ) → Rises low ps high → slice_get ps i ≡ Some p → (low ≤ p) × (p < high)
+rises-get low high [] i p r e = cc
+rises-get low high (q ∷ ps) zero p r e =
+    let same : q ≡ p = cc in let k = rises-ends (q + 1) high ps r.1 in (omega arith, omega arith)
+rises-get low high (q ∷ ps) (suc i) p r e =
+    let k = rises-get (q + 1) high ps i p r.1 e in (omega arith, omega arith)
+
+rises-pair : (low high : ℕ) (ps : List ℕ) (i j p q : ℕ) → Rises low ps high → i < j → slice_get ps i ≡ Some p → slice_get ps j ≡ Some q → p < q
+rises-pair low high [] i j p q r h e f = cc
+rises-pair low high (x ∷ ps) zero zero p q r h e f = omega arith
+rises-pair low high (x ∷ ps) zero (suc j) p q r h e f =
+    let same : x ≡ p = cc in let k = rises-get (x + 1) high ps j q r.1 f in omega arith
+rises-pair low high (x ∷ ps) (suc i) zero p q r h e f = omega arith
+rises-pair low high (x ∷ ps) (suc i) (suc j) p q r h e f =
+    rises-pair (x + 1) high ps i j p q r.1 (omega arith) e f
+
+abbrev place_of : Node → ℕ
+place_of n = n.place
+
+-- the places in file order
+abbrev places : Games → List ℕ
+places no_games = []
+places (game first more below behind) = (first.place ∷ map place_of more ++ places below) ++ places behind
+
+abbrev place_in : Row → ℕ
+place_in r = r.node.place
+
+further-places : (last : ℕ) (ns : List Node) → map place_in (further_rows last ns) ≡ map place_of ns
+further-places last [] = refl
+further-places last (n ∷ ns) = ap (λ ps. n.place ∷ ps) (further-places (last + 1) ns)
+
+rows-places : (at : ℕ) (parent : Option ℕ) (g : Games) → map place_in (rows at parent g) ≡ places g
+rows-places at parent no_games = refl
+rows-places at parent (game first more below behind) =
+    let last = at + length more in
+    let b = rows (last + 1) (Some last) below in
+    let k = rows (last + 1 + node_count below) parent behind in
+    let head : Row = record { node = first; parent = parent; opens = true } in
+    let joined = map-append place_in (head ∷ further_rows at more ++ b) k in
+    let own = map-append place_in (head ∷ further_rows at more) b in
+    let e = further-places at more in
+    let f = rows-places (last + 1) (Some last) below in
+    let h = rows-places (last + 1 + node_count below) parent behind in
+    cc
+
+rises-node : {whole : ℕ} {n : Node} {s r : List ℕ} (a b : ℕ) → IsNode whole n s r → a + length s ≤ whole → whole ≤ b + length r
+    → (a ≤ n.place) × (n.place < b)
+rises-node a b (node w e ps) h k =
+    let x = shrinks-White w in let y = shrinks-AreProperties ps in (omega arith, omega arith)
+
+shrinks-IsNode : {whole : ℕ} {n : Node} {s r : List ℕ} → IsNode whole n s r → length r ≤ length s
+shrinks-IsNode (node w e ps) =
+    let x = shrinks-White w in let y = shrinks-AreProperties ps in omega arith
+
+shrinks-AreNodes : {whole : ℕ} {ns : List Node} {s r : List ℕ} → AreNodes whole ns s r → length r ≤ length s
+shrinks-AreNodes no_node = omega arith
+shrinks-AreNodes (nodes n ns) =
+    let x = shrinks-IsNode n in let y = shrinks-AreNodes ns in omega arith
+
+shrinks-AreGames : {whole : ℕ} {g : Games} {s r : List ℕ} → AreGames whole g s r → length r ≤ length s
+shrinks-AreGames no_game = omega arith
+shrinks-AreGames (games w n ns g v h) =
+    let a = shrinks-White w in
+    let b = shrinks-IsNode n in
+    let c = shrinks-AreNodes ns in
+    let d = shrinks-AreGames g in
+    let e = shrinks-White v in
+    let f = shrinks-AreGames h in
+    omega arith
+
+-- what lies between two ends of a text of `whole` bytes
+rises-nodes : {whole : ℕ} {ns : List Node} {s r : List ℕ} (a b : ℕ) → AreNodes whole ns s r → a + length s ≤ whole → whole ≤ b + length r
+    → Rises a (map place_of ns) b
+rises-nodes a b no_node h k = omega arith
+rises-nodes {whole} a b (nodes {n = m} {t = t} n ns) h k =
+    let x = shrinks-IsNode n in
+    let y = rises-node a (whole - length t) n h (omega arith) in
+    (y.0, rises-low (m.place + 1) (whole - length t) _ b (omega arith) (rises-nodes (whole - length t) b ns (omega arith) k))
+
+rises-games : {whole : ℕ} {g : Games} {s r : List ℕ} (a b : ℕ) → AreGames whole g s r → a + length s ≤ whole → whole ≤ b + length r
+    → Rises a (places g) b
+rises-games a b no_game h k = omega arith
+rises-games {whole} a b (games {first} {more} {below} {behind} {t = t} {u = u} {v = v} {w = w} {x = x} d n ns g e f) h k =
+    let dl = shrinks-White d in
+    let nl = shrinks-IsNode n in
+    let nsl = shrinks-AreNodes ns in
+    let gl = shrinks-AreGames g in
+    let el = shrinks-White e in
+    let own = rises-node a (whole - length u) n (omega arith) (omega arith) in
+    let rest : Rises (whole - length u) (map place_of more) (whole - length v) =
+    rises-nodes (whole - length u) (whole - length v) ns (omega arith) (omega arith)
+    in
+    let all : Rises a (map place_of (first ∷ more)) (whole - length v) =
+    (own.0, rises-low (first.place + 1) (whole - length u) _ _ (omega arith) rest)
+    in
+    let inner : Rises (whole - length v) (places below) (whole - length x) =
+    rises-games (whole - length v) (whole - length x) g (omega arith) (omega arith)
+    in
+    let later : Rises (whole - length x) (places behind) b =
+    rises-games (whole - length x) b f (omega arith) (omega arith)
+    in
+    let own_list = map place_of (first ∷ more) in
+    rises-append a (whole - length x) b (own_list ++ places below) (places behind) (rises-append a (whole - length v) (whole - length x) own_list (places below) all inner) later
+
+rises-spelled : (c : Games) (t : List ℕ) → Spells c t → Rises 0 (places c) (length t)
+rises-spelled c t (spells m g w) =
+    let a = shrinks-Mark m in rises-games 0 (length t) g (omega arith) (omega arith)
+
+place_at-places : (c : Games) (i : ℕ) → place_at c i ≡ slice_get (places c) i
+place_at-places c i =
+    sym (slice_get-map place_in (rows_of c) i) ∙ ap (λ ps. slice_get ps i) (rows-places 0 None c)
+
+pub places-rise : (c : Games) (t : List ℕ) → Spells c t → PlacesRise c
+places-rise c t s i j p q h e f =
+    rises-pair 0 (length t) (places c) i j p q (rises-spelled c t s) h (sym (place_at-places c i) ∙ e) (sym (place_at-places c j) ∙ f)
+
+pub places-within : (c : Games) (t : List ℕ) → Spells c t → (i p : ℕ) → place_at c i ≡ Some p → p < length t
+places-within c t s i p e =
+    (rises-get 0 (length t) (places c) i p (rises-spelled c t s) (sym (place_at-places c i) ∙ e)).1

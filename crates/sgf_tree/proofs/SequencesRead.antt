@@ -1,0 +1,149 @@
+-- How the machine goes over the own nodes of a game.
+use Rattle.std.proofs.Common.{◌≡◌, ◌≢◌, ℕ, ◌+◌, ◌<◌, ◌≤◌, true, false, inl, inr, List, [], ◌∷◌, ◌++◌, length, get_or, Some, None, refl, sym, ap, subst, ◌∙◌, arith, length-append, ne_eqb}
+use Rattle.std.proofs.lemmas.Bool.{cases_lt}
+use Rattle.sgf_tree.specs.Tree.{Games, no_games, game}
+use Rattle.sgf_tree.specs.Spelling.{is_white}
+use Rattle.sgf_tree.specs.Machine.{OpenGame, Stack, Started, opened, in_node, behind_game, behind_node, between_games, ended, begun, new_node, step, accepted}
+use Rattle.sgf_tree.specs.Refusal.{IsFaultyAt}
+use Rattle.sgf_tree.specs.Layout.{properties_of}
+use Rattle.sgf_tree.specs.Progress.{Reaches, IsRun}
+use Rattle.sgf_tree.specs.PropertiesRead.{StandsBehindNode, with_properties}
+use Rattle.sgf_tree.specs.GamesRead.{HoldStack, AreAtMost, IsOpening, IsNodeRead, IsSequenceRead}
+use Rattle.sgf_tree.specs.declared.layout.Link.{Link}
+use Rattle.sgf_tree.specs.declared.layout.Link.TheVariants.{Next}
+use Rattle.sgf_tree.specs.declared.layout.NodeEntry.{NodeEntry}
+use Rattle.sgf_tree.specs.declared.layout.PropertyEntry.{PropertyEntry}
+use Rattle.sgf_tree.specs.declared.layout.ValueEntry.{ValueEntry}
+use Rattle.sgf_tree.proofs.NodesRead.{first-held, next-held}
+use Rattle.sgf_tree.proofs.Run.{run-take-step}
+use Rattle.sgf_tree.proofs.Skipping.{stays-opened}
+use Rattle.sgf_tree.proofs.Spans.{run-white}
+use Rattle.sgf_tree.proofs.ValueEnds.{ends-faulty, refused-faulty}
+
+opened-node : (at : ℕ) (k : Stack) → step at (opened k) 59 ≡ Some (new_node k true at)
+unfolding step
+opened-node at k = refl
+
+opened-refused : (at : ℕ) (k : Stack) (b : ℕ) → is_white b ≡ false → b ≢ 59 → step at (opened k) b ≡ None
+unfolding step
+opened-refused at k b white ne = rw (white, ne_eqb b 59 ne)
+
+opened-unaccepted : (k : Stack) → accepted (opened k) ≡ None
+unfolding accepted
+opened-unaccepted k = refl
+
+-- games that are open are no collection
+pub open-unaccepted : (closed : Games) (g : OpenGame) (gs : List OpenGame) → accepted (behind_game (record { closed = closed; unclosed = g ∷ gs })) ≡ None
+unfolding accepted
+open-unaccepted no_games g gs = refl
+open-unaccepted (game first more below behind) g gs = refl
+
+-- behind a node that no `;` follows the machine goes on as between games
+node-between : (at : ℕ) (k : Stack) (b : ℕ) → is_white b ≡ false → b ≢ 59 → behind_node at k b ≡ between_games k b
+node-between at k b white ne = rw (white, ne_eqb b 59 ne)
+
+module _ (t : List ℕ) where
+  module _ (at place : ℕ) (k : Stack) (white : IsRun is_white t at place) (behind : Reaches t at (opened k)) where
+    pub place-reached : Reaches t place (opened k)
+    place-reached = run-white t at place (opened k) (stays-opened k) white.rises white.within white.passing behind
+
+    -- no `;` behind the `(`
+    pub place-faulty : (place < length t → get_or t place 0 ≢ 59) → IsFaultyAt t place
+    place-faulty other =
+        let within : place ≤ length t = white.within in
+        elim (cases_lt place (length t)) [
+          | inl lt ↦ refused-faulty t place (opened k) lt place-reached (opened-refused place k (get_or t place 0) (white.stops lt) (other lt))
+          | inr ge ↦
+              let same : length t ≡ place = omega arith in
+              subst (IsFaultyAt t) same (ends-faulty t (opened k) (subst (λ i. Reaches t i (opened k)) (sym same) place-reached) (opened-unaccepted k))
+        ]
+
+    -- the first node
+    pub place-node : place < length t → get_or t place 0 ≡ 59 → Reaches t (place + 1) (new_node k true place)
+    place-node lt e = run-take-step t place (opened k) (new_node k true place) place-reached lt (rw e (opened-node place k))
+
+  -- a further node
+  pub next-node : (end : ℕ) (whole : Started) → StandsBehindNode t end whole → end < length t → get_or t end 0 ≡ 59 → Reaches t (end + 1) (new_node (ended whole) false end)
+  next-node end whole stands lt e =
+      run-take-step t end stands.state (new_node (ended whole) false end) stands.reached lt (stands.next lt ∙ ap (behind_node end (ended whole)) e)
+
+  -- nodes of the game were read, and the last one is `whole`
+  pub record SequenceSoFar (end : ℕ) (k : Stack) (ns : List NodeEntry) (ps : List PropertyEntry) (vs : List ValueEntry) : Type 0 where
+    pub whole : Started
+    pub last : OpenGame
+    pub stands : StandsBehindNode t end whole
+    pub stack_is : ended whole ≡ record { closed = k.closed; unclosed = last ∷ k.unclosed }
+    pub held : HoldStack t (record { closed = k.closed; unclosed = last ∷ k.unclosed }) ns ps vs
+    pub nothing_below : last.below ≡ no_games
+    pub not_white : end < length t → is_white (get_or t end 0) ≡ false
+
+  pub sequence-first : (at place end : ℕ) (k : Stack) (link : Link) (ns ns' : List NodeEntry) (ps ps' : List PropertyEntry) (vs vs' : List ValueEntry)
+      → IsRun is_white t at place → Reaches t at (opened k) → HoldStack t k ns ps vs → IsOpening k link → place < length t → get_or t place 0 ≡ 59
+      → IsNodeRead t place end link ns ns' ps ps' vs vs' → SequenceSoFar end k ns' ps' vs'
+  sequence-first at place end k link ns ns' ps ps' vs vs' white behind held opening lt e read =
+      let n : Started = record { stack = k; opens = true; place = place; properties = [] } in
+      record {
+        whole = with_properties n (properties_of t vs' (length vs) read.properties.entries);
+        last = begun (record { place = place; properties = properties_of t vs' (length vs) read.properties.entries });
+        stands = read.properties.reached n refl (place-node at place k white behind lt e);
+        stack_is = refl;
+        held = first-held t k place end link ns ns' ps ps' vs vs' held opening read lt;
+        nothing_below = refl;
+        not_white = read.properties.not_white;
+      }
+
+  pub sequence-next : (place end : ℕ) (k : Stack) (ns ns' : List NodeEntry) (ps ps' : List PropertyEntry) (vs vs' : List ValueEntry)
+      → SequenceSoFar place k ns ps vs → place < length t → get_or t place 0 ≡ 59 → IsNodeRead t place end Next ns ns' ps ps' vs vs' → SequenceSoFar end k ns' ps' vs'
+  sequence-next place end k ns ns' ps ps' vs vs' so_far lt e read =
+      let k' : Stack = record { closed = k.closed; unclosed = so_far.last ∷ k.unclosed } in
+      let n : Started = record { stack = k'; opens = false; place = place; properties = [] } in
+      let begins : Reaches t (place + 1) (in_node n) =
+      subst (λ s. Reaches t (place + 1) (new_node s false place)) so_far.stack_is (next-node place so_far.whole so_far.stands lt e) in
+      record {
+        whole = with_properties n (properties_of t vs' (length vs) read.properties.entries);
+        last = record { first = so_far.last.first; more = so_far.last.more ++ record { place = place; properties = properties_of t vs' (length vs) read.properties.entries } ∷ []; below = so_far.last.below };
+        stands = read.properties.reached n refl begins;
+        stack_is = refl;
+        held = next-held t k.closed so_far.last k.unclosed place end ns ns' ps ps' vs vs' so_far.held so_far.nothing_below read lt;
+        nothing_below = so_far.nothing_below;
+        not_white = read.properties.not_white;
+      }
+
+  -- no further node follows
+  pub sequence-done : (end : ℕ) (k : Stack) (ns : List NodeEntry) (ps : List PropertyEntry) (vs : List ValueEntry) → SequenceSoFar end k ns ps vs → (end < length t → get_or t end 0 ≢ 59) → IsSequenceRead t end k ns ps vs
+  sequence-done end k ns ps vs so_far other =
+      let k' : Stack = record { closed = k.closed; unclosed = so_far.last ∷ k.unclosed } in
+      record {
+        last = so_far.last;
+        stands = record {
+          state = so_far.stands.state;
+          reached = so_far.stands.reached;
+          next = λ lt. so_far.stands.next lt ∙ ap (λ s. behind_node end s (get_or t end 0)) so_far.stack_is ∙ node-between end k' (get_or t end 0) (so_far.not_white lt) (other lt);
+          end = so_far.stands.unaccepted ∙ sym (open-unaccepted k.closed so_far.last k.unclosed);
+          not_white = so_far.not_white;
+        };
+        held = so_far.held;
+        nothing_below = so_far.nothing_below;
+      }
+
+  -- a further node's `;` begins a node
+  pub sequence-node : (end : ℕ) (k : Stack) (ns : List NodeEntry) (ps : List PropertyEntry) (vs : List ValueEntry) → SequenceSoFar end k ns ps vs → end < length t → get_or t end 0 ≡ 59
+      → (n : Started) × ((n.properties ≡ []) × Reaches t (end + 1) (in_node n))
+  sequence-node end k ns ps vs so_far lt e = (
+    record { stack = ended so_far.whole; opens = false; place = end; properties = [] },
+    (refl, next-node end so_far.whole so_far.stands lt e),
+  )
+
+  -- the vectors have room for a node's bytes
+  pub node-room : (place end : ℕ) (link : Link) (ns ns' : List NodeEntry) (ps ps' : List PropertyEntry) (vs vs' : List ValueEntry) → AreAtMost place ns ps vs → IsNodeRead t place end link ns ns' ps ps' vs vs' → AreAtMost end ns' ps' vs'
+  node-room place end link ns ns' ps ps' vs vs' room read =
+      let n : NodeEntry = record { place = place; properties_end = length ps'; link = link; last_below = 0 } in
+      let props = read.properties in
+      record {
+        nodes_at_most =
+            omega (arith, room.nodes_at_most, props.counted, ap length read.pushed, length-append ns (n ∷ []));
+        properties_at_most =
+            omega (arith, room.properties_at_most, props.counted, ap length props.pushed, length-append ps props.entries);
+        values_at_most =
+            omega (arith, room.values_at_most, props.values_counted, ap length props.values_pushed.pushed, length-append vs props.added);
+      }

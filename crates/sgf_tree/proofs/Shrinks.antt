@@ -1,0 +1,44 @@
+-- What is left behind a thing is no longer than what was left before it.
+use Rattle.std.proofs.Common.{ℕ, ◌≤◌, List, length, arith}
+use Rattle.sgf_tree.specs.Tree.{Property}
+use Rattle.sgf_tree.specs.Spelling.{White, no_white, white, Letters, no_letter, upper, lower, IsValue, no_unit, plain, escaped, IsPropValue, prop_value, ArePropValues, no_value, value, IsProperty, property, AreProperties, no_property, properties, Mark, no_mark, mark}
+
+pub shrinks-White : {s r : List ℕ} → White s r → length r ≤ length s
+shrinks-White no_white = omega arith
+shrinks-White (white h w) = let k = shrinks-White w in omega arith
+
+pub shrinks-Letters : {name s r : List ℕ} → Letters name s r → length r ≤ length s
+shrinks-Letters no_letter = omega arith
+shrinks-Letters (upper h l) = let k = shrinks-Letters l in omega arith
+shrinks-Letters (lower h l) = let k = shrinks-Letters l in omega arith
+
+pub shrinks-IsValue : {v s r : List ℕ} → IsValue v s r → length r ≤ length s
+shrinks-IsValue no_unit = omega arith
+shrinks-IsValue (plain h k v) = let m = shrinks-IsValue v in omega arith
+shrinks-IsValue (escaped v) = let m = shrinks-IsValue v in omega arith
+
+pub shrinks-IsPropValue : {v s r : List ℕ} → IsPropValue v s r → length r ≤ length s
+shrinks-IsPropValue (prop_value w v) =
+    let k = shrinks-White w in let m = shrinks-IsValue v in omega arith
+
+pub shrinks-ArePropValues : {vs : List (List ℕ)} {s r : List ℕ} → ArePropValues vs s r → length r ≤ length s
+shrinks-ArePropValues no_value = omega arith
+shrinks-ArePropValues (value v vs) =
+    let k = shrinks-IsPropValue v in let m = shrinks-ArePropValues vs in omega arith
+
+pub shrinks-IsProperty : {p : Property} {s r : List ℕ} → IsProperty p s r → length r ≤ length s
+shrinks-IsProperty (property w h l v vs) =
+    let a = shrinks-White w in
+    let b = shrinks-Letters l in
+    let c = shrinks-IsPropValue v in
+    let d = shrinks-ArePropValues vs in
+    omega arith
+
+pub shrinks-AreProperties : {ps : List Property} {s r : List ℕ} → AreProperties ps s r → length r ≤ length s
+shrinks-AreProperties no_property = omega arith
+shrinks-AreProperties (properties p ps) =
+    let k = shrinks-IsProperty p in let m = shrinks-AreProperties ps in omega arith
+
+pub shrinks-Mark : {s r : List ℕ} → Mark s r → length r ≤ length s
+shrinks-Mark no_mark = omega arith
+shrinks-Mark mark = omega arith

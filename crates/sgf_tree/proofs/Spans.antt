@@ -1,0 +1,100 @@
+-- The machine over a span of a text, by the offsets of its bytes: white space, letters, the plain bytes of a value.
+use Rattle.std.proofs.Common.{◌≡◌, ◌≢◌, ℕ, zero, suc, ◌+◌, ◌-◌, ◌<◌, ◌≤◌, ◌⊎◌, IsTrue, if◌then◌else◌, List, [], ◌∷◌, ◌++◌, length, get_or, take, drop, slice_range, filter, Some, refl, sym, ap, ◌∙◌, subst, inl, inr, add-zero, append_assoc, append-nil, get_or-drop, length-drop, ne_eqb, arith}
+use Rattle.std.proofs.lemmas.List.{take_more}
+use Rattle.std.proofs.lemmas.List.Elements.{filter-append}
+use Rattle.sgf_tree.specs.Spelling.{is_white, is_upper, is_lower}
+use Rattle.sgf_tree.specs.Machine.{Started, State, start, in_name, in_value, behind_escape, step, run}
+use Rattle.sgf_tree.proofs.Classes.{lower-not_upper}
+use Rattle.sgf_tree.proofs.Run.{run-take-step}
+use Rattle.sgf_tree.proofs.Skipping.{Stays}
+
+-- a letter, which goes on the name where it is an upper-case one
+one-upper : (at : ℕ) (n : Started) (name : List ℕ) (b : ℕ) → IsTrue (is_upper b) → step at (in_name n name) b ≡ Some (in_name n (name ++ b ∷ []))
+unfolding step
+one-upper at n name b h = rw h
+
+one-lower : (at : ℕ) (n : Started) (name : List ℕ) (b : ℕ) → IsTrue (is_lower b) → step at (in_name n name) b ≡ Some (in_name n name)
+unfolding step
+one-lower at n name b h = rw (lower-not_upper b h, h)
+
+one-letter : (at : ℕ) (n : Started) (name : List ℕ) (b : ℕ) → IsTrue (is_upper b) ⊎ IsTrue (is_lower b)
+    → step at (in_name n name) b ≡ Some (in_name n (name ++ filter is_upper (b ∷ [])))
+one-letter at n name b (inl h) =
+    one-upper at n name b h ∙ ap (λ c. Some (in_name n (name ++ (if c then b ∷ [] else [])))) (sym h)
+one-letter at n name b (inr h) =
+    one-lower at n name b h ∙ ap (λ s. Some (in_name n s)) (sym (append-nil name))
+    ∙ ap (λ c. Some (in_name n (name ++ (if c then b ∷ [] else [])))) (sym (lower-not_upper b h))
+
+module _ (t : List ℕ) where
+  -- each byte of the span takes the state of its offset to the next one's
+  run-bytes : (at to n : ℕ) (f : ℕ → State) → to ≤ length t → ((i : ℕ) → at ≤ i → i < to → step i (f i) (get_or t i 0) ≡ Some (f (i + 1)))
+      → run 0 start (take at t) ≡ Some (f at) → at + n ≤ to → run 0 start (take (at + n) t) ≡ Some (f (at + n))
+  run-bytes at to zero f within s h le = rw add-zero h
+  run-bytes at to (suc n) f within s h le =
+      let e : at + suc n ≡ at + n + 1 = omega arith in
+      rw e (run-take-step t (at + n) (f (at + n)) (f (at + n + 1)) (run-bytes at to n f within s h (omega arith)) (omega arith)
+      (s (at + n) (omega arith) (omega arith)))
+
+  pub run-span : (at to : ℕ) (f : ℕ → State) → at ≤ to → to ≤ length t
+      → ((i : ℕ) → at ≤ i → i < to → step i (f i) (get_or t i 0) ≡ Some (f (i + 1)))
+      → run 0 start (take at t) ≡ Some (f at) → run 0 start (take to t) ≡ Some (f to)
+  run-span at to f le within s h =
+      let e : at + (to - at) ≡ to = omega arith in
+      subst (λ i. run 0 start (take i t) ≡ Some (f i)) e (run-bytes at to (to - at) f within s h (omega arith))
+
+  -- white space, where the state stays
+  pub run-white : (at to : ℕ) (z : State) → Stays z → at ≤ to → to ≤ length t
+      → ((i : ℕ) → at ≤ i → i < to → IsTrue (is_white (get_or t i 0)))
+      → run 0 start (take at t) ≡ Some z → run 0 start (take to t) ≡ Some z
+  run-white at to z stays le within white h =
+      run-span at to (λ i. z) le within (λ i low high. stays (get_or t i 0) i (white i low high)) h
+
+  -- a span of no byte, and one of one more byte
+  span-none : (at : ℕ) → slice_range t at at ≡ []
+  span-none at = let e : at - at ≡ 0 = omega arith in rw e
+
+  span-more : (at i : ℕ) → at ≤ i → i < length t → slice_range t at (i + 1) ≡ slice_range t at i ++ get_or t i 0 ∷ []
+  span-more at i le lt =
+      let e : i + 1 - at ≡ (i - at) + 1 = omega arith in
+      let f : at + (i - at) ≡ i = omega arith in
+      let short : i - at < length (drop at t) = rw length-drop (omega arith) in
+      rw e (take_more (drop at t) (i - at) 0 short ∙ ap (λ b. take (i - at) (drop at t) ++ b ∷ []) (get_or-drop at t (i - at) 0 ∙ ap (λ k. get_or t k 0) f))
+
+  -- letters, of which the upper-case ones go on the name
+  pub run-letters : (at to : ℕ) (n : Started) (name : List ℕ) → at ≤ to → to ≤ length t
+      → ((i : ℕ) → at ≤ i → i < to → IsTrue (is_upper (get_or t i 0)) ⊎ IsTrue (is_lower (get_or t i 0)))
+      → run 0 start (take at t) ≡ Some (in_name n name)
+      → run 0 start (take to t) ≡ Some (in_name n (name ++ filter is_upper (slice_range t at to)))
+  unfolding step
+  run-letters at to n name le within letters h =
+      run-span at to (λ i. in_name n (name ++ filter is_upper (slice_range t at i))) le within
+      (λ i low high.
+      rw (span-more at i low (omega arith), filter-append is_upper (slice_range t at i) (get_or t i 0 ∷ []), ← append_assoc)
+      (one-letter i n (name ++ filter is_upper (slice_range t at i)) (get_or t i 0) (letters i low high)))
+      (rw (span-none at, append-nil) h)
+
+  -- the plain bytes of a value
+  pub run-plain : (at to : ℕ) (n : Started) (name : List ℕ) (before : List (List ℕ)) (so_far : List ℕ) → at ≤ to → to ≤ length t
+      → ((i : ℕ) → at ≤ i → i < to → (get_or t i 0 ≢ 93) × (get_or t i 0 ≢ 92))
+      → run 0 start (take at t) ≡ Some (in_value n name before so_far)
+      → run 0 start (take to t) ≡ Some (in_value n name before (so_far ++ slice_range t at to))
+  unfolding step
+  run-plain at to n name before so_far le within plain h =
+      run-span at to (λ i. in_value n name before (so_far ++ slice_range t at i)) le within
+      (λ i low high. let (x, y) = plain i low high in
+      rw (span-more at i low (omega arith), ne_eqb (get_or t i 0) 93 x, ne_eqb (get_or t i 0) 92 y, append_assoc))
+      (rw (span-none at, append-nil) h)
+
+  -- a `\\` and the byte behind it
+  pub run-escape : (at : ℕ) (n : Started) (name : List ℕ) (before : List (List ℕ)) (so_far : List ℕ) → at + 1 < length t
+      → get_or t at 0 ≡ 92 → run 0 start (take at t) ≡ Some (in_value n name before so_far)
+      → run 0 start (take (at + 2) t) ≡ Some (in_value n name before (so_far ++ slice_range t at (at + 2)))
+  unfolding step
+  run-escape at n name before so_far lt e h =
+      let two : at + 2 ≡ at + 1 + 1 = omega arith in
+      let span : slice_range t at (at + 2) ≡ 92 ∷ get_or t (at + 1) 0 ∷ [] =
+      rw (two, span-more at (at + 1) (omega arith) lt, span-more at at (omega arith) (omega arith), span-none at, e) in
+      rw (span, two)
+      (run-take-step t (at + 1) (behind_escape n name before so_far) _
+      (run-take-step t at (in_value n name before so_far) (behind_escape n name before so_far) h (omega arith) (rw e))
+      lt refl)

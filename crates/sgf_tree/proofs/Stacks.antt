@@ -1,0 +1,145 @@
+-- The rows of whole and open games: games side by side, one more node, and a game that ends.
+use Rattle.std.proofs.Common.{◌≡◌, ℕ, ◌+◌, true, false, List, [], ◌∷◌, ◌++◌, length, replicate, Option, Some, None, refl, sym, ap, ◌∙◌, arith, append_assoc, append-nil, length-append}
+use Rattle.std.proofs.lemmas.List.{length-replicate, replicate_more}
+use Rattle.sgf_tree.specs.Tree.{Node, Games, no_games, game, followed_by, game_count, node_count}
+use Rattle.sgf_tree.specs.FileOrder.{Row, further_rows, rows}
+use Rattle.sgf_tree.specs.Machine.{OpenGame, begun, whole_game}
+use Rattle.sgf_tree.specs.GamesRead.{open_count, tip, own_rows, open_rows, lasts, open_lasts}
+use Rattle.sgf_tree.proofs.Completion.{add_games}
+use Rattle.sgf_tree.proofs.Rows.{length-further_rows, length-rows}
+
+pub node_count-followed : (a b : Games) → node_count (followed_by a b) ≡ node_count a + node_count b
+node_count-followed no_games b = omega arith
+node_count-followed (game first more below behind) b = omega (arith, node_count-followed behind b)
+
+pub game_count-followed : (a b : Games) → game_count (followed_by a b) ≡ game_count a + game_count b
+game_count-followed no_games b = omega arith
+game_count-followed (game first more below behind) b = omega (arith, game_count-followed behind b)
+
+-- games behind others have their rows behind theirs
+pub rows-followed : (at : ℕ) (parent : Option ℕ) (a b : Games) → rows at parent (followed_by a b) ≡ rows at parent a ++ rows (at + node_count a) parent b
+rows-followed at parent no_games b = let e : at + 0 ≡ at = omega arith in rw e
+rows-followed at parent (game first more below behind) b =
+    let last : ℕ = at + length more in
+    let own : List Row = record { node = first; parent = parent; opens = true } ∷ further_rows at more ++ rows (last + 1) (Some last) below in
+    let next : ℕ = last + 1 + node_count below in
+    let e : next + node_count behind ≡ at + node_count (game first more below behind) = omega arith in
+    ap (λ rs. own ++ rs) (rows-followed next parent behind b)
+    ∙ sym (append_assoc own (rows next parent behind) (rows (next + node_count behind) parent b))
+    ∙ ap (λ k. own ++ rows next parent behind ++ rows k parent b) e
+
+pub length-lasts : (at : ℕ) (g : Games) → length (lasts at g) ≡ node_count g
+length-lasts at no_games = refl
+length-lasts at (game first more below behind) =
+    let next : ℕ = at + 1 + length more in
+    let own : List ℕ = replicate (1 + length more) (at + length more + node_count below) in
+    omega (arith, length-append (own ++ lasts next below) (lasts (next + node_count below) behind), length-append own (lasts next below), length-replicate (1 + length more) (at + length more + node_count below), length-lasts next below, length-lasts (next + node_count below) behind)
+
+pub lasts-followed : (at : ℕ) (a b : Games) → lasts at (followed_by a b) ≡ lasts at a ++ lasts (at + node_count a) b
+lasts-followed at no_games b = let e : at + 0 ≡ at = omega arith in rw e
+lasts-followed at (game first more below behind) b =
+    let next : ℕ = at + 1 + length more in
+    let own : List ℕ = replicate (1 + length more) (at + length more + node_count below) ++ lasts next below in
+    let e : next + node_count below + node_count behind ≡ at + node_count (game first more below behind) = omega arith in
+    ap (λ ls. own ++ ls) (lasts-followed (next + node_count below) behind b)
+    ∙ sym (append_assoc own (lasts (next + node_count below) behind) (lasts (next + node_count below + node_count behind) b))
+    ∙ ap (λ k. own ++ lasts (next + node_count below) behind ++ lasts k b) e
+
+length-own_rows : (at : ℕ) (parent : Option ℕ) (g : OpenGame) → length (own_rows at parent g) ≡ 1 + length g.more + node_count g.below
+length-own_rows at parent g =
+    let last : ℕ = at + length g.more in
+    omega (arith, length-append (record { node = g.first; parent = parent; opens = true } ∷ further_rows at g.more) (rows (last + 1) (Some last) g.below), length-further_rows at g.more, length-rows (last + 1) (Some last) g.below)
+
+pub length-open_rows : (closed : Games) (gs : List OpenGame) → length (open_rows closed gs) ≡ open_count closed gs
+length-open_rows closed [] = length-rows 0 None closed
+length-open_rows closed (g ∷ gs) =
+    omega (arith, length-append (open_rows closed gs) (own_rows (open_count closed gs) (tip closed gs) g), length-open_rows closed gs, length-own_rows (open_count closed gs) (tip closed gs) g)
+
+pub length-open_lasts : (closed : Games) (gs : List OpenGame) → length (open_lasts closed gs) ≡ open_count closed gs
+length-open_lasts closed [] = length-lasts 0 closed
+length-open_lasts closed (g ∷ gs) =
+    let own : List ℕ = replicate (1 + length g.more) 0 in
+    let next : ℕ = open_count closed gs + 1 + length g.more in
+    omega (arith, length-append (open_lasts closed gs ++ own) (lasts next g.below), length-append (open_lasts closed gs) own, length-replicate {A = ℕ} (1 + length g.more) 0, length-open_lasts closed gs, length-lasts next g.below)
+
+-- an open game has the rows that it has as a whole one
+own_rows-whole : (at : ℕ) (parent : Option ℕ) (g : OpenGame) → rows at parent (whole_game g) ≡ own_rows at parent g
+own_rows-whole at parent g = append-nil (own_rows at parent g)
+
+-- the end of a game leaves the rows as they are
+pub open_rows-closed : (closed : Games) (g : OpenGame) (gs : List OpenGame) → open_rows (add_games closed gs (whole_game g)).closed (add_games closed gs (whole_game g)).unclosed ≡ open_rows closed (g ∷ gs)
+open_rows-closed closed g [] =
+    let e : 0 + node_count closed ≡ node_count closed = omega arith in
+    rows-followed 0 None closed (whole_game g)
+    ∙ ap (λ k. rows 0 None closed ++ rows k None (whole_game g)) e
+    ∙ ap (λ rs. rows 0 None closed ++ rs) (own_rows-whole (node_count closed) None g)
+open_rows-closed closed g (h ∷ hs) =
+    let at : ℕ = open_count closed hs in
+    let last : ℕ = at + length h.more in
+    let before : List Row = open_rows closed hs in
+    let own : List Row = record { node = h.first; parent = tip closed hs; opens = true } ∷ further_rows at h.more in
+    let e : last + 1 + node_count h.below ≡ at + 1 + length h.more + node_count h.below = omega arith in
+    ap (λ rs. before ++ (own ++ rs)) (rows-followed (last + 1) (Some last) h.below (whole_game g)
+    ∙ ap (λ k. rows (last + 1) (Some last) h.below ++ rows k (Some last) (whole_game g)) e
+    ∙ ap (λ rs. rows (last + 1) (Some last) h.below ++ rs) (own_rows-whole (at + 1 + length h.more + node_count h.below) (Some last) g))
+    ∙ ap (λ rs. before ++ rs) (sym (append_assoc own (rows (last + 1) (Some last) h.below) (own_rows (at + 1 + length h.more + node_count h.below) (Some last) g)))
+    ∙ sym (append_assoc before (own ++ rows (last + 1) (Some last) h.below) (own_rows (at + 1 + length h.more + node_count h.below) (Some last) g))
+
+lasts-whole : (at : ℕ) (g : OpenGame) → lasts at (whole_game g) ≡ replicate (1 + length g.more) (at + length g.more + node_count g.below) ++ lasts (at + 1 + length g.more) g.below
+lasts-whole at g =
+    append-nil (replicate (1 + length g.more) (at + length g.more + node_count g.below) ++ lasts (at + 1 + length g.more) g.below)
+
+-- the last nodes below, once a game's own nodes are marked
+pub open_lasts-closed : (closed : Games) (g : OpenGame) (gs : List OpenGame)
+    → open_lasts (add_games closed gs (whole_game g)).closed (add_games closed gs (whole_game g)).unclosed
+    ≡ open_lasts closed gs ++ replicate (1 + length g.more) (open_count closed gs + length g.more + node_count g.below) ++ lasts (open_count closed gs + 1 + length g.more) g.below
+open_lasts-closed closed g [] =
+    let m : ℕ = length g.more in
+    let n : ℕ = node_count closed in
+    let e : 0 + n ≡ n = omega arith in
+    lasts-followed 0 closed (whole_game g) ∙ ap (λ k. lasts 0 closed ++ lasts k (whole_game g)) e
+    ∙ ap (λ ls. lasts 0 closed ++ ls) (lasts-whole n g)
+    ∙ sym (append_assoc (lasts 0 closed) (replicate (1 + m) (n + m + node_count g.below)) (lasts (n + 1 + m) g.below))
+open_lasts-closed closed g (h ∷ hs) =
+    let m : ℕ = length g.more in
+    let next : ℕ = open_count closed hs + 1 + length h.more in
+    let n : ℕ = next + node_count h.below in
+    let before : List ℕ = open_lasts closed hs ++ replicate (1 + length h.more) 0 in
+    ap (λ ls. before ++ ls) (lasts-followed next h.below (whole_game g) ∙ ap (λ ls. lasts next h.below ++ ls) (lasts-whole n g))
+    ∙ sym (append_assoc before (lasts next h.below) (replicate (1 + m) (n + m + node_count g.below) ++ lasts (n + 1 + m) g.below))
+    ∙ sym (append_assoc (before ++ lasts next h.below) (replicate (1 + m) (n + m + node_count g.below)) (lasts (n + 1 + m) g.below))
+
+-- one more node of a game
+further_rows-more : (last : ℕ) (ns : List Node) (n : Node) → further_rows last (ns ++ n ∷ []) ≡ further_rows last ns ++ record { node = n; parent = Some (last + length ns); opens = false } ∷ []
+further_rows-more last [] n = let e : last + 0 ≡ last = omega arith in rw e
+further_rows-more last (m ∷ ns) n =
+    let e : last + 1 + length ns ≡ last + length (m ∷ ns) = omega arith in
+    ap (λ rs. record { node = m; parent = Some last; opens = false } ∷ rs) (further_rows-more (last + 1) ns n ∙ ap (λ k. further_rows (last + 1) ns ++ record { node = n; parent = Some k; opens = false } ∷ []) e)
+
+pub open_lasts-begun : (closed : Games) (gs : List OpenGame) (n : Node) → open_lasts closed (begun n ∷ gs) ≡ open_lasts closed gs ++ 0 ∷ []
+open_lasts-begun closed gs n = append-nil (open_lasts closed gs ++ 0 ∷ [])
+
+pub open_rows-more : (closed : Games) (g : OpenGame) (gs : List OpenGame) (n : Node) → g.below ≡ no_games
+    → open_rows closed (record { first = g.first; more = g.more ++ n ∷ []; below = g.below } ∷ gs)
+    ≡ open_rows closed (g ∷ gs) ++ record { node = n; parent = Some (open_count closed gs + length g.more); opens = false } ∷ []
+open_rows-more closed g gs n none =
+    let at : ℕ = open_count closed gs in
+    let r : Row = record { node = g.first; parent = tip closed gs; opens = true } in
+    let new : Row = record { node = n; parent = Some (at + length g.more); opens = false } in
+    rw none
+    (ap (λ rs. open_rows closed gs ++ ((r ∷ rs) ++ [])) (further_rows-more at g.more n)
+    ∙ ap (λ rs. open_rows closed gs ++ rs) (append-nil (r ∷ (further_rows at g.more ++ new ∷ [])))
+    ∙ sym (append_assoc (open_rows closed gs) (r ∷ further_rows at g.more) (new ∷ []))
+    ∙ ap (λ rs. open_rows closed gs ++ rs ++ new ∷ []) (sym (append-nil (r ∷ further_rows at g.more))))
+
+pub open_lasts-more : (closed : Games) (g : OpenGame) (gs : List OpenGame) (n : Node) → g.below ≡ no_games
+    → open_lasts closed (record { first = g.first; more = g.more ++ n ∷ []; below = g.below } ∷ gs) ≡ open_lasts closed (g ∷ gs) ++ 0 ∷ []
+open_lasts-more closed g gs n none =
+    let e : 1 + length (g.more ++ n ∷ []) ≡ (1 + length g.more) + 1 = omega (arith, length-append g.more (n ∷ [])) in
+    let before : List ℕ = open_lasts closed gs in
+    rw none
+    (append-nil (before ++ replicate (1 + length (g.more ++ n ∷ [])) 0)
+    ∙ ap (λ k. before ++ replicate k 0) e
+    ∙ ap (λ ls. before ++ ls) (sym (replicate_more (1 + length g.more) 0))
+    ∙ sym (append_assoc before (replicate (1 + length g.more) 0) (0 ∷ []))
+    ∙ ap (λ ls. ls ++ 0 ∷ []) (sym (append-nil (before ++ replicate (1 + length g.more) 0))))

@@ -1,0 +1,160 @@
+-- Where a raw value ends, by the machine.
+use Rattle.std.proofs.Common.{◌≡◌, ◌≢◌, ℕ, zero, suc, ◌+◌, ◌-◌, ◌<◌, ◌≤◌, Bool, true, false, not, ◌||◌, ◌&&◌, ◌==◌, List, [], ◌∷◌, ◌++◌, length, get_or, take, drop, slice_range, Some, None, refl, sym, ap, subst, ◌∙◌, arith, eqb-true, get_or-take, get_or-drop}
+use Rattle.std.proofs.Common.{inl, inr, length-take, length-drop}
+use Rattle.std.proofs.lemmas.Bool.{and_parts, and_cases, not-true, not-false, cases_lt, eqb-false, false≢true}
+use Rattle.memchr.specs.Find.{IsFirstByte, is_byte2}
+use Rattle.std.proofs.lemmas.List.{drop-drop, take_all}
+use Rattle.sgf_tree.specs.Machine.{Started, State, start, in_value, behind_escape, step, run, accepted}
+use Rattle.sgf_tree.specs.Refusal.{IsFaultyAt}
+use Rattle.sgf_tree.specs.Progress.{Reaches, IsRun, is_plain, IsUnended}
+use Rattle.sgf_tree.proofs.Faults.{ended-fault, refused-fault}
+use Rattle.sgf_tree.proofs.Run.{run-take-step}
+use Rattle.sgf_tree.proofs.Spans.{run-plain, run-escape}
+
+take-nil : {A : Type 0} (n : ℕ) → take {A = A} n [] ≡ []
+take-nil zero = refl
+take-nil (suc n) = refl
+
+-- two spans side by side
+take-both : {A : Type 0} (m n : ℕ) (xs : List A) → take (m + n) xs ≡ take m xs ++ take n (drop m xs)
+take-both zero n xs = let e : 0 + n ≡ n = omega arith in rw e
+take-both (suc m) n [] = take-nil (suc m + n) ∙ sym (take-nil n)
+take-both (suc m) n (x ∷ xs) = let e : suc m + n ≡ suc (m + n) = omega arith in rw e (ap (λ ys. x ∷ ys) (take-both m n xs))
+
+pub span-join : {A : Type 0} (t : List A) (a b c : ℕ) → a ≤ b → b ≤ c → slice_range t a b ++ slice_range t b c ≡ slice_range t a c
+span-join t a b c le le' =
+    let e : c - a ≡ (b - a) + (c - b) = omega arith in
+    let f : a + (b - a) ≡ b = omega arith in
+    rw e (sym (take-both (b - a) (c - b) (drop a t) ∙ ap (λ xs. take (b - a) (drop a t) ++ take (c - b) xs) (drop-drop (b - a) a t ∙ ap (λ k. drop k t) f)))
+
+-- the whole text is reached
+pub reaches-all : (t : List ℕ) (z : State) → Reaches t (length t) z → run 0 start t ≡ Some z
+reaches-all t z h = ap (run 0 start) (sym (take_all (length t) t (omega arith))) ∙ h
+
+-- the text ends in a state where it may not end
+pub ends-faulty : (t : List ℕ) (z : State) → Reaches t (length t) z → accepted z ≡ None → IsFaultyAt t (length t)
+ends-faulty t z h a =
+    let fault = ended-fault t z (reaches-all t z h) a in record { unspelled = fault.1; first_fault = fault.0 }
+
+-- a byte is refused
+pub refused-faulty : (t : List ℕ) (at : ℕ) (z : State) → at < length t → Reaches t at z → step at z (get_or t at 0) ≡ None → IsFaultyAt t at
+refused-faulty t at z lt h s =
+    let fault = refused-fault t at z lt h s in record { unspelled = fault.1; first_fault = fault.0 }
+
+-- a plain byte is neither `]` nor `\`
+plain-other : (b : ℕ) → is_plain b ≡ true → (b ≢ 93) × (b ≢ 92)
+plain-other b h =
+    let parts = and_parts (not (b == 93)) (not (b == 92)) h in
+    (eqb-false b 93 (not-true (b == 93) parts.0), eqb-false b 92 (not-true (b == 92) parts.1))
+
+-- and a byte that is neither is plain
+escape-other : (b : ℕ) → is_plain b ≡ false → b ≢ 93 → b ≡ 92
+escape-other b h ne =
+    elim (and_cases (not (b == 93)) (not (b == 92)) h) [
+      | inl p ↦ absurd (ne (eqb-true b 93 (not-false (b == 93) p)))
+      | inr p ↦ eqb-true b 92 (not-false (b == 92) p)
+    ]
+
+both-not : (x y : Bool) → ((x || y) ≡ true → ⊥) → (not x && not y) ≡ true
+both-not true y h = absurd (h refl)
+both-not false true h = absurd (h refl)
+both-not false false h = refl
+
+some-not : (x y : Bool) → (x || y) ≡ true → (not x && not y) ≡ false
+some-not true y h = refl
+some-not false true h = refl
+some-not false false h = absurd (false≢true h)
+
+span-at : (t : List ℕ) (end i : ℕ) → end ≤ i → i < length t → get_or (slice_range t end (length t)) (i - end) 0 ≡ get_or t i 0
+span-at t end i le lt =
+    let short : i - end < length t - end = omega arith in
+    let e : end + (i - end) ≡ i = omega arith in
+    rw get_or-take (get_or-drop end t (i - end) 0 ∙ ap (λ k. get_or t k 0) e)
+
+-- the search for `]` or `\` finds where the plain bytes end
+pub plain-found : (t : List ℕ) (at end further : ℕ) → at ≤ end → end ≤ length t → ((i : ℕ) → at ≤ i → i < end → is_plain (get_or t i 0) ≡ true)
+    → IsFirstByte (is_byte2 93 92) (slice_range t end (length t)) (Some further) → IsRun is_plain t at (end + further)
+plain-found t at end further le le' passing found =
+    let hay : List ℕ = slice_range t end (length t) in
+    let long : length hay + end ≡ length t = omega (arith, length-take (length t - end) (drop end t), length-drop end t) in
+    let high : further < length hay = found.0.high in
+    record {
+      rises = omega arith;
+      within = omega arith;
+      passing = λ i low lt. elim (cases_lt i end) [
+        | inl before ↦ passing i low before
+        | inr after ↦
+            let here : get_or hay (i - end) 0 ≡ get_or t i 0 = span-at t end i after (omega arith) in
+            subst (λ b. is_plain b ≡ true) here (both-not (get_or hay (i - end) 0 == 93) (get_or hay (i - end) 0 == 92) (found.0.before (i - end) (omega arith) (omega arith)))
+      ];
+      stops = λ lt.
+          let here : get_or hay (end + further - end) 0 ≡ get_or t (end + further) 0 = span-at t end (end + further) (omega arith) lt in
+          let same : end + further - end ≡ further = omega arith in
+          subst (λ b. is_plain b ≡ false) (ap (λ k. get_or hay k 0) (sym same) ∙ here) (some-not (get_or hay further 0 == 93) (get_or hay further 0 == 92) found.1);
+    }
+
+pub plain-none : (t : List ℕ) (at end : ℕ) → at ≤ end → end ≤ length t → ((i : ℕ) → at ≤ i → i < end → is_plain (get_or t i 0) ≡ true)
+    → IsFirstByte (is_byte2 93 92) (slice_range t end (length t)) None → IsRun is_plain t at (length t)
+plain-none t at end le le' passing none =
+    let hay : List ℕ = slice_range t end (length t) in
+    let long : length hay + end ≡ length t = omega (arith, length-take (length t - end) (drop end t), length-drop end t) in
+    record {
+      rises = omega arith;
+      within = omega arith;
+      passing = λ i low lt. elim (cases_lt i end) [
+        | inl before ↦ passing i low before
+        | inr after ↦
+            let here : get_or hay (i - end) 0 ≡ get_or t i 0 = span-at t end i after lt in
+            subst (λ b. is_plain b ≡ true) here (both-not (get_or hay (i - end) 0 == 93) (get_or hay (i - end) 0 == 92) (none (i - end) (omega arith) (omega arith)))
+      ];
+      stops = λ lt. absurd (omega arith);
+    }
+
+-- the states inside a value, and behind a `\`, are no ends
+value-unaccepted : (n : Started) (name : List ℕ) (before : List (List ℕ)) (so_far : List ℕ) → accepted (in_value n name before so_far) ≡ None
+unfolding accepted
+value-unaccepted n name before so_far = refl
+
+escape-unaccepted : (n : Started) (name : List ℕ) (before : List (List ℕ)) (so_far : List ℕ) → accepted (behind_escape n name before so_far) ≡ None
+unfolding accepted
+escape-unaccepted n name before so_far = refl
+
+step-escape : (at : ℕ) (n : Started) (name : List ℕ) (before : List (List ℕ)) (so_far : List ℕ) → step at (in_value n name before so_far) 92 ≡ Some (behind_escape n name before so_far)
+unfolding step
+step-escape at n name before so_far = refl
+
+module _ (t : List ℕ) (at : ℕ) where
+  -- the bytes from `at` to `end` are units of a value
+  abbrev pub AreUnits : ℕ → Type 0
+  AreUnits end =
+      (n : Started) (name : List ℕ) (before : List (List ℕ)) → Reaches t at (in_value n name before [])
+      → Reaches t end (in_value n name before (slice_range t at end))
+
+  pub units-none : AreUnits at
+  units-none n name before h = let e : at - at ≡ 0 = omega arith in rw e h
+
+  pub units-plain : (a b : ℕ) → at ≤ a → AreUnits a → IsRun is_plain t a b → AreUnits b
+  units-plain a b le units plain n name before h =
+      rw (← span-join t at a b le plain.rises)
+      (run-plain t a b n name before (slice_range t at a) plain.rises plain.within (λ i low lt. plain-other (get_or t i 0) (plain.passing i low lt)) (units n name before h))
+
+  pub units-escape : (a : ℕ) → at ≤ a → a + 1 < length t → get_or t a 0 ≡ 92 → AreUnits a → AreUnits (a + 2)
+  units-escape a le lt e units n name before h =
+      rw (← span-join t at a (a + 2) le (omega arith))
+      (run-escape t a n name before (slice_range t at a) lt e (units n name before h))
+
+  -- the text ends in the value
+  pub units-end : AreUnits (length t) → IsUnended t at
+  units-end units n name before h =
+      ends-faulty t (in_value n name before (slice_range t at (length t))) (units n name before h) (value-unaccepted n name before (slice_range t at (length t)))
+
+  -- or behind a `\`
+  pub escape-end : (a : ℕ) → a + 1 ≡ length t → get_or t a 0 ≡ 92 → AreUnits a → IsUnended t at
+  escape-end a e f units n name before h =
+      let so_far : List ℕ = slice_range t at a in
+      let last : Reaches t (a + 1) (behind_escape n name before so_far) = run-take-step t a (in_value n name before so_far) (behind_escape n name before so_far) (units n name before h) (omega arith) (rw f (step-escape a n name before so_far)) in
+      ends-faulty t (behind_escape n name before so_far) (subst (λ i. Reaches t i (behind_escape n name before so_far)) e last) (escape-unaccepted n name before so_far)
+
+  -- the byte that stops the plain bytes begins an escape
+  pub stop-escape : (a b : ℕ) → IsRun is_plain t a b → b < length t → get_or t b 0 ≢ 93 → get_or t b 0 ≡ 92
+  stop-escape a b plain lt ne = escape-other (get_or t b 0) (plain.stops lt) ne

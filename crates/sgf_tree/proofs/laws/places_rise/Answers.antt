@@ -1,0 +1,5 @@
+use Rattle.sgf_tree.proofs.PlacesRise.{places-rise}
+use Rattle.sgf_tree.proofs.laws.places_rise.Goals as goal
+
+pub returns : goal.returns
+returns c = places-rise

@@ -1,0 +1,68 @@
+use Rattle.std.proofs.Common.{◌≡◌, ℕ, ◌+◌, ◌-◌, ◌<◌, length, set, subst, arith}
+use Rattle.sgf_tree.specs.declared.layout.NodeEntry.{NodeEntry}
+use Rattle.sgf_tree.specs.GamesRead.{IsOwnRun}
+use Rattle.sgf_tree.proofs.Marking.{Marks, marks-more, run-before, opens-link, parent-link, marks-closed}
+use Rattle.sgf_tree.proofs.reader.games.close_game.Goals as goal
+use Rattle.sgf_tree.proofs.reader.games.close_game.Goals.{After-index_mut-node}
+
+-- the node at hand was marked
+marked : (c : After-index_mut-node) → let x : NodeEntry = c.index_mut-node.result.now in
+    Marks c.args.nodes.now.items (set c.own.nodes.items c.own.at (record { place = x.place; properties_end = x.properties_end; link = x.link; last_below = c.len.result - 1 })) c.args.tip c.own.at
+marked c =
+    let x : NodeEntry = c.index_mut-node.result.now in
+    let count : length c.args.nodes.now.items ≡ c.len.result = omega (arith, c.len.ensures, c.args.nodes.now.ok.0) in
+    subst (λ k. Marks c.args.nodes.now.items (set c.own.nodes.items c.own.at (record { place = x.place; properties_end = x.properties_end; link = x.link; last_below = k - 1 })) c.args.tip c.own.at) count
+    (marks-more c.args.nodes.now.items c.own.nodes.items c.args.tip c.own.at x c.own.invariant.low c.requires.within c.index_mut-node.ensures.value c.own.invariant.marks)
+
+pub returns-in-Root : goal.returns-in-Root
+returns-in-Root c first run =
+    let old = c.args.nodes.now.items in
+    let at = c.own.at in
+    let lt : at < length old = omega arith in
+    marks-closed old _ c.args.tip first at _ run (c.own.invariant.begins first run) c.own.invariant.low
+    (opens-link old c.own.nodes.items c.args.tip (at + 1) at c.index_mut-node.result.now _ c.own.invariant.marks lt c.index_mut-node.ensures.value c.in-Root.is)
+    (marked (goal.at.returns-in-Root c).After-index_mut-node)
+    (parent-link old c.own.nodes.items c.args.tip (at + 1) at c.index_mut-node.result.now _ c.own.invariant.marks lt c.index_mut-node.ensures.value c.in-Root.is)
+
+pub returns-in-Branch : goal.returns-in-Branch
+returns-in-Branch c first run =
+    let old = c.args.nodes.now.items in
+    let at = c.own.at in
+    let lt : at < length old = omega arith in
+    marks-closed old _ c.args.tip first at _ run (c.own.invariant.begins first run) c.own.invariant.low
+    (opens-link old c.own.nodes.items c.args.tip (at + 1) at c.index_mut-node.result.now _ c.own.invariant.marks lt c.index_mut-node.ensures.value c.in-Branch.is)
+    (marked (goal.at.returns-in-Branch c).After-index_mut-node)
+    (parent-link old c.own.nodes.items c.args.tip (at + 1) at c.index_mut-node.result.now _ c.own.invariant.marks lt c.index_mut-node.ensures.value c.in-Branch.is)
+
+pub overflow_sub-at : goal.overflow_sub-at
+overflow_sub-at c =
+    let old = c.args.nodes.now.items in
+    let at = c.own.at in
+    let first = c.requires.own.0 in
+    let run = c.requires.own.1 in
+    let lt : at < length old = omega arith in
+    let before = run-before old c.own.nodes.items c.args.tip first at run (c.own.invariant.begins first run) (opens-link old c.own.nodes.items c.args.tip (at + 1) at c.index_mut-node.result.now _ c.own.invariant.marks lt c.index_mut-node.ensures.value c.in-Next.is) in
+    omega (arith, before)
+
+pub own-smaller : goal.own-smaller
+own-smaller c =
+    let old = c.args.nodes.now.items in
+    let at = c.own.at in
+    let first = c.requires.own.0 in
+    let run = c.requires.own.1 in
+    let lt : at < length old = omega arith in
+    let before = run-before old c.own.nodes.items c.args.tip first at run (c.own.invariant.begins first run) (opens-link old c.own.nodes.items c.args.tip (at + 1) at c.index_mut-node.result.now _ c.own.invariant.marks lt c.index_mut-node.ensures.value c.in-Next.is) in
+    omega (arith, before)
+
+pub own-preserved : goal.own-preserved
+own-preserved c =
+    let old = c.args.nodes.now.items in
+    let at = c.own.at in
+    let lt : at < length old = omega arith in
+    let before = λ (first : ℕ) (run : IsOwnRun old first c.args.tip). run-before old c.own.nodes.items c.args.tip first at run (c.own.invariant.begins first run) (opens-link old c.own.nodes.items c.args.tip (at + 1) at c.index_mut-node.result.now _ c.own.invariant.marks lt c.index_mut-node.ensures.value c.in-Next.is) in
+    let up : at ≡ at - 1 + 1 = omega (arith, before c.requires.own.0 c.requires.own.1) in
+    record {
+      low = omega arith;
+      marks = subst (Marks old _ c.args.tip) up (marked (goal.at.own-preserved c).After-index_mut-node);
+      begins = λ first run. omega (arith, before first run);
+    }

@@ -1,0 +1,14 @@
+-- Where a text stops being the front of any text of the grammar (this project's choice).
+use Rattle.std.specs.Prelude.{ℕ, ◌<◌, ◌≤◌, List, ◌++◌, length, take, All}
+use Rattle.sgf_tree.specs.Tree.{Games}
+use Rattle.sgf_tree.specs.Spelling.{Spells}
+
+-- some bytes behind it make it a text that spells a collection
+abbrev pub Begins : List ℕ → Type 0
+Begins front = (more : List ℕ) × (c : Games) × All (λ b. b < 256) more × Spells c (front ++ more)
+
+-- at is the greatest n for which the first n bytes of t begin some text of the grammar
+pub record IsFirstFault (t : List ℕ) (at : ℕ) : Type 0 where
+  pub within : at ≤ length t
+  pub begins : Begins (take at t)
+  pub greatest : (n : ℕ) → n ≤ length t → Begins (take n t) → n ≤ at

@@ -1,0 +1,169 @@
+-- How the nodes and games of a text were read: the words of the contracts in `reader::games`.
+use Rattle.std.specs.Prelude.{◌≡◌, ℕ, ◌+◌, ◌-◌, ◌<◌, ◌≤◌, ◌⊎◌, Bool, true, false, List, [], ◌∷◌, ◌++◌, length, map, take, drop, replicate, All, slice_get, slice_index, Option, Some, None, option_map}
+use Rattle.sgf_tree.specs.Tree.{Games, no_games, game, game_count, node_count}
+use Rattle.sgf_tree.specs.Spelling.{is_white}
+use Rattle.sgf_tree.specs.FileOrder.{Row, further_rows, rows, game_of}
+use Rattle.sgf_tree.specs.Machine.{OpenGame, Stack, State, opened, behind_game, between_games, step, accepted}
+use Rattle.sgf_tree.specs.Ends.{EndsRise}
+use Rattle.sgf_tree.specs.Layout.{IsSpan, properties_of, parent_by, opens_by, rows_by}
+use Rattle.sgf_tree.specs.Progress.{Reaches, IsTrueFault}
+use Rattle.sgf_tree.specs.PropertiesRead.{ArePropertiesRead}
+use Rattle.sgf_tree.specs.declared.layout.Entries.{Entries}
+use Rattle.sgf_tree.specs.declared.layout.Link.{Link}
+use Rattle.sgf_tree.specs.declared.layout.Link.TheVariants.{Root, Branch, Next}
+use Rattle.sgf_tree.specs.declared.layout.NodeEntry.{NodeEntry}
+use Rattle.sgf_tree.specs.declared.layout.PropertyEntry.{PropertyEntry}
+use Rattle.sgf_tree.specs.declared.layout.ValueEntry.{ValueEntry}
+use Rattle.sgf_tree.specs.declared.reader.fault.Fault.{Fault}
+
+-- how many nodes whole and open games have
+abbrev pub open_count : Games → List OpenGame → ℕ
+open_count closed [] = node_count closed
+open_count closed (g ∷ gs) = open_count closed gs + 1 + length g.more + node_count g.below
+
+-- the last own node of the innermost open game
+abbrev pub tip : Games → List OpenGame → Option ℕ
+tip closed [] = None
+tip closed (g ∷ gs) = Some (open_count closed gs + length g.more)
+
+-- the rows of an open game
+abbrev pub own_rows : ℕ → Option ℕ → OpenGame → List Row
+own_rows at parent g =
+    let last = at + length g.more in
+    record { node = g.first; parent = parent; opens = true } ∷ further_rows at g.more ++ rows (last + 1) (Some last) g.below
+
+-- the rows of whole and open games
+abbrev pub open_rows : Games → List OpenGame → List Row
+open_rows closed [] = rows 0 None closed
+open_rows closed (g ∷ gs) = open_rows closed gs ++ own_rows (open_count closed gs) (tip closed gs) g
+
+-- of each node in file order the last one below it, where the first one has the number `at`
+abbrev pub lasts : ℕ → Games → List ℕ
+lasts at no_games = []
+lasts at (game first more below behind) =
+    let next = at + 1 + length more in
+    replicate (1 + length more) (at + length more + node_count below) ++ lasts next below ++ lasts (next + node_count below) behind
+
+-- the same for whole and open games, with 0 for an open game's own nodes
+abbrev pub open_lasts : Games → List OpenGame → List ℕ
+open_lasts closed [] = lasts 0 closed
+open_lasts closed (g ∷ gs) =
+    open_lasts closed gs ++ replicate (1 + length g.more) 0 ++ lasts (open_count closed gs + 1 + length g.more) g.below
+
+-- node i is a root, and g is the number of its game, which is one of the closed games or the next one
+abbrev pub IsRootOf : Games → ℕ → ℕ → Type 0
+IsRootOf closed i g =
+    ((i < node_count closed) × (game_of closed i ≡ g)) ⊎ ((i ≡ node_count closed) × (g ≡ game_count closed + 1))
+
+-- the vectors hold the games of the stack k
+pub record HoldStack (t : List ℕ) (k : Stack) (nodes : List NodeEntry) (properties : List PropertyEntry) (values : List ValueEntry) : Type 0 where
+  pub same_rows : open_rows k.closed k.unclosed ≡ rows_by (properties_of t values 0 properties) 0 0 nodes
+  pub same_lasts : open_lasts k.closed k.unclosed ≡ map (λ (n : NodeEntry). n.last_below) nodes
+  pub properties_end : EndsRise (λ (n : NodeEntry). n.properties_end) 0 0 nodes (length properties)
+  pub values_end : EndsRise (λ (p : PropertyEntry). p.values_end) 1 0 properties (length values)
+  pub identifiers_within : All (λ (p : PropertyEntry). IsSpan (length t) p.name_start p.name_end) properties
+  pub values_within : All (λ (v : ValueEntry). IsSpan (length t) v.start v.end) values
+  pub places_within : All (λ (n : NodeEntry). n.place < length t) nodes
+  pub roots : (i : ℕ) (n : NodeEntry) (g : ℕ) → slice_get nodes i ≡ Some n → n.link ≡ Root g → IsRootOf k.closed i g
+
+-- the vectors have no more elements than this number
+pub record AreAtMost (count : ℕ) (nodes : List NodeEntry) (properties : List PropertyEntry) (values : List ValueEntry) : Type 0 where
+  pub nodes_at_most : length nodes ≤ count
+  pub properties_at_most : length properties ≤ count
+  pub values_at_most : length values ≤ count
+
+-- the link of the first node of a game that begins at the stack k
+abbrev pub IsOpening : Stack → Link → Type 0
+IsOpening k (Root g) = (k.unclosed ≡ []) × (g ≡ game_count k.closed + 1)
+IsOpening k (Branch p) = tip k.closed k.unclosed ≡ Some p
+IsOpening k Next = ⊥
+
+-- the machine has the games of the stack k, and a `(`, a `)` or the end of the text may come
+pub record StandsBetween (t : List ℕ) (at : ℕ) (k : Stack) : Type 0 where
+  pub state : State
+  pub reached : Reaches t at state
+  pub next : at < length t → step at state (slice_index t at) ≡ between_games k (slice_index t at)
+  pub end : accepted state ≡ accepted (behind_game k)
+  pub not_white : at < length t → is_white (slice_index t at) ≡ false
+
+-- the node whose `;` stands at `place` was read up to `end`
+pub record IsNodeRead (t : List ℕ) (place end : ℕ) (link : Link) (ns ns' : List NodeEntry) (ps ps' : List PropertyEntry) (vs vs' : List ValueEntry) : Type 0 where
+  pub properties : ArePropertiesRead t (place + 1) end ps ps' vs vs'
+  pub pushed : ns' ≡ ns ++ record { place = place; properties_end = length ps'; link = link; last_below = 0 } ∷ []
+
+-- the nodes of a game that began at the stack k were read up to `end`
+pub record IsSequenceRead (t : List ℕ) (end : ℕ) (k : Stack) (ns : List NodeEntry) (ps : List PropertyEntry) (vs : List ValueEntry) : Type 0 where
+  pub last : OpenGame
+  pub stands : StandsBetween t end (record { closed = k.closed; unclosed = last ∷ k.unclosed })
+  pub held : HoldStack t (record { closed = k.closed; unclosed = last ∷ k.unclosed }) ns ps vs
+  pub nothing_below : last.below ≡ no_games
+
+-- whether the node of an entry is the first behind a `(`
+abbrev pub opens_at : List NodeEntry → ℕ → Option Bool
+opens_at nodes i = option_map (λ (n : NodeEntry). opens_by n.link) (slice_get nodes i)
+
+-- the own nodes of a game
+pub record IsOwnRun (nodes : List NodeEntry) (first last : ℕ) : Type 0 where
+  pub rises : first ≤ last
+  pub begins : opens_at nodes first ≡ Some true
+  pub goes_on : (i : ℕ) → first < i → i ≤ last → opens_at nodes i ≡ Some false
+
+-- the node without the number of the last one below it
+abbrev pub unmarked : NodeEntry → NodeEntry
+unmarked n = record { place = n.place; properties_end = n.properties_end; link = n.link; last_below = 0 }
+
+-- the nodes from first to last got the number of the last node, and nothing else changed; the parent is that of the first
+pub record ClosesRun (old new : List NodeEntry) (first last : ℕ) (parent : Option ℕ) : Type 0 where
+  pub same : map unmarked new ≡ map unmarked old
+  pub marked : map (λ (n : NodeEntry). n.last_below) new
+      ≡ take first (map (λ (n : NodeEntry). n.last_below) old) ++ replicate (last + 1 - first) (length old - 1) ++ drop (last + 1) (map (λ (n : NodeEntry). n.last_below) old)
+  pub parent_is : option_map (λ (n : NodeEntry). parent_by n.link first) (slice_get old first) ≡ Some parent
+
+-- a text that spells the collection c was read, which the vectors hold
+pub record IsRead (t : List ℕ) (c : Games) (ns : List NodeEntry) (ps : List PropertyEntry) (vs : List ValueEntry) : Type 0 where
+  pub reached : State
+  pub whole : Reaches t (length t) reached
+  pub accepts : accepted reached ≡ Some c
+  pub held : HoldStack t (record { closed = c; unclosed = [] }) ns ps vs
+
+-- what may stand before the first game was read: the byte order mark, or nothing
+pub record IsMarkRead (t : List ℕ) (at : ℕ) : Type 0 where
+  pub within : at ≤ length t
+  pub state : State
+  pub reached : Reaches t at state
+  pub next : at < length t
+      → step at state (slice_index t at) ≡ between_games (record { closed = no_games; unclosed = [] }) (slice_index t at)
+  pub end : accepted state ≡ accepted (behind_game (record { closed = no_games; unclosed = [] }))
+
+-- the same, of all entries
+abbrev pub HasRoom : ℕ → Entries → Type 0
+HasRoom count entries = AreAtMost count entries.nodes.items entries.properties.items entries.values.items
+
+abbrev pub HoldsStack : List ℕ → Stack → Entries → Type 0
+HoldsStack t k entries = HoldStack t k entries.nodes.items entries.properties.items entries.values.items
+
+abbrev pub ReadsNode : List ℕ → ℕ → ℕ → Link → Entries → Entries → Type 0
+ReadsNode t place end link old new =
+    IsNodeRead t place end link old.nodes.items new.nodes.items old.properties.items new.properties.items old.values.items new.values.items
+
+-- where the machine has the games of a stack and stands behind a `(` at `at`, the game's own nodes were read up to `end`
+abbrev pub ReadsSequence : List ℕ → ℕ → ℕ → Link → Entries → Entries → Type 0
+ReadsSequence t at end link old new =
+    (k : Stack) → Reaches t at (opened k) → HoldsStack t k old → IsOpening k link
+    → IsSequenceRead t end k new.nodes.items new.properties.items new.values.items
+
+-- there a fault is the first one of the text
+abbrev pub IsFaultInSequence : List ℕ → ℕ → Link → Entries → Fault → Type 0
+IsFaultInSequence t at link old fault =
+    (k : Stack) → Reaches t at (opened k) → HoldsStack t k old → IsOpening k link → IsTrueFault t fault
+
+-- a whole text was read, and has so many games
+abbrev pub ReadsWhole : List ℕ → Entries → ℕ → Type 0
+ReadsWhole t new games =
+    (c : Games) × (games ≡ game_count c) × IsRead t c new.nodes.items new.properties.items new.values.items
+
+-- nothing was read yet
+pub record AreEmpty (entries : Entries) : Type 0 where
+  pub no_nodes : entries.nodes.items ≡ []
+  pub no_properties : entries.properties.items ≡ []
+  pub no_values : entries.values.items ≡ []

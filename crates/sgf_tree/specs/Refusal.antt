@@ -1,0 +1,18 @@
+-- What a refusal to read says of the text.
+use Rattle.std.specs.Prelude.{ℕ, List}
+use Rattle.sgf_tree.specs.Tree.{Games}
+use Rattle.sgf_tree.specs.Spelling.{Spells}
+use Rattle.sgf_tree.specs.FirstFault.{IsFirstFault}
+use Rattle.sgf_tree.specs.declared.fault.ReadFault.{ReadFault}
+use Rattle.sgf_tree.specs.declared.fault.ReadFault.TheVariants.{TooLong, NotSgf, Memory}
+
+-- no collection is spelled by it, and its first fault is at that offset
+pub record IsFaultyAt (t : List ℕ) (at : ℕ) : Type 0 where
+  pub unspelled : (c : Games) → ¬ Spells c t
+  pub first_fault : IsFirstFault t at
+
+-- that the text is not of the grammar is said only where it isn't
+abbrev pub IsFaultyWhereNotSgf : List ℕ → ReadFault → Type 0
+IsFaultyWhereNotSgf t TooLong = Unit {0}
+IsFaultyWhereNotSgf t (NotSgf at) = IsFaultyAt t at
+IsFaultyWhereNotSgf t Memory = Unit {0}

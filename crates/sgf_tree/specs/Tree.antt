@@ -1,0 +1,39 @@
+-- What a Smart Game Format text holds: a collection of game trees (SGF FF[4], EBNF).
+use Rattle.std.specs.Prelude.{ℕ, ◌+◌, List, ◌∷◌, length}
+
+-- a property: its name and its raw values, of which there is at least one
+pub record Property : Type 0 where
+  pub name : List ℕ
+  pub first : List ℕ
+  pub more : List (List ℕ)
+
+-- all values of a property, in file order
+abbrev pub values : Property → List (List ℕ)
+values p = p.first ∷ p.more
+
+-- a node: its place, which is the offset of its `;` in the text, and its properties
+pub record Node : Type 0 where
+  pub place : ℕ
+  pub properties : List Property
+
+-- Games that stand side by side. A game has a first node, more nodes behind it, and the games below them;
+-- then come the games behind it.
+pub data Games : Type 0 where
+  no_games : Games
+  game : (first : Node) (more : List Node) (below behind : Games) → Games
+
+-- how many games stand side by side
+abbrev pub game_count : Games → ℕ
+game_count no_games = 0
+game_count (game first more below behind) = 1 + game_count behind
+
+-- how many nodes they have, at every depth
+abbrev pub node_count : Games → ℕ
+node_count no_games = 0
+node_count (game first more below behind) =
+    1 + length more + node_count below + node_count behind
+
+-- games, and further games behind them
+abbrev pub followed_by : Games → Games → Games
+followed_by no_games others = others
+followed_by (game first more below behind) others = game first more below (followed_by behind others)

@@ -1,0 +1,59 @@
+-- How a collection is stored as a list, so that it may be the value of a model: of each games a token, before those
+-- below and those behind. It says nothing of what a text means.
+use Rattle.std.specs.Prelude.{◌≡◌, ℕ, List, [], ◌∷◌, ◌++◌, Option, Some, None, refl}
+use Rattle.std.specs.Coded.{Coded, code_by, coded×, coded_ℕ, coded_list, coded_option}
+use Rattle.std.proofs.Common.{◌∙◌, ap, sym, append_assoc, append-nil}
+use Rattle.sgf_tree.specs.Tree.{Property, Node, Games, no_games, game}
+
+-- a property is stored as its name, its first value and its further values
+abbrev pub property_code : Coded Property
+property_code =
+    code_by (List ℕ × (List ℕ × List (List ℕ))) (coded× (coded_list coded_ℕ) (coded× (coded_list coded_ℕ) (coded_list (coded_list coded_ℕ))))
+    (λ p. (p.name, (p.first, p.more)))
+    (λ t. record { name = t.0; first = t.1.0; more = t.1.1 })
+    (λ _. refl)
+
+-- a node is stored as its place and its properties
+abbrev pub node_code : Coded Node
+node_code =
+    code_by (ℕ × List Property) (coded× coded_ℕ (coded_list property_code)) (λ n. (n.place, n.properties)) (λ t. record { place = t.0; properties = t.1 }) (λ _. refl)
+
+-- a game's own nodes, or that there is no game
+abbrev pub Token : Type 0
+Token = Option (Node × List Node)
+
+abbrev pub tokens : Games → List Token
+tokens no_games = None ∷ []
+tokens (game first more below behind) = Some (first, more) ∷ (tokens below ++ tokens behind)
+
+-- a game of its own nodes, over the two games that come next
+abbrev pub joined : Node → List Node → List Games → List Games
+joined first more (below ∷ behind ∷ rest) = game first more below behind ∷ rest
+joined first more (below ∷ []) = []
+joined first more [] = []
+
+-- the games of a list of tokens, read from its right end
+abbrev pub games_of : List Token → List Games
+games_of [] = []
+games_of (None ∷ ts) = no_games ∷ games_of ts
+games_of (Some n ∷ ts) = joined n.0 n.1 (games_of ts)
+
+-- the first of them
+abbrev pub first_games : List Games → Games
+first_games [] = no_games
+first_games (g ∷ gs) = g
+
+pub games_of-tokens : (g : Games) (rest : List Token) → games_of (tokens g ++ rest) ≡ g ∷ games_of rest
+games_of-tokens no_games rest = refl
+games_of-tokens (game first more below behind) rest =
+    ap (λ ts. joined first more (games_of ts)) (append_assoc (tokens below) (tokens behind) rest)
+    ∙ ap (joined first more) (games_of-tokens below (tokens behind ++ rest))
+    ∙ ap (λ gs. joined first more (below ∷ gs)) (games_of-tokens behind rest)
+
+pub first_games-tokens : (g : Games) → first_games (games_of (tokens g)) ≡ g
+first_games-tokens g =
+    ap (λ ts. first_games (games_of ts)) (sym (append-nil (tokens g))) ∙ ap first_games (games_of-tokens g [])
+
+abbrev pub games_code : Coded Games
+games_code =
+    code_by (List Token) (coded_list (coded_option (coded× node_code (coded_list node_code)))) tokens (λ ts. first_games (games_of ts)) first_games-tokens

@@ -1,0 +1,161 @@
+//! A collection that was read: its nodes in file order, which number them from 0.
+
+ghost use Rattle.std.specs.Prelude.{◌≡◌, ◌<◌, ◌↔◌, ℕ, IsTrue, length};
+ghost use Rattle.sgf_tree.specs.declared.fault.TheConstants.{MAX_LENGTH};
+ghost use Rattle.sgf_tree.specs.Tree.{game_count, node_count};
+ghost use Rattle.sgf_tree.specs.Ends.{end_before};
+ghost use Rattle.sgf_tree.specs.FileOrder.{node_at, place_at, parent_at, IsLeaf, game_of, IsLastBelow, PlacesRise};
+
+use crate::layout::{Entries, Link, NodeEntry, PropertyEntry, ValueEntry, part};
+use crate::node::{NodeRef, values_start};
+use std::marker::Model;
+
+/// The collection that a text spells (SGF FF[4], EBNF).
+/// It refers to the text, whose names and values are not copied.
+/// No call on it takes memory.
+#[derive(Drop)]
+pub struct Collection<'a> {
+    text: &'a [u8],
+    games: u32,
+    nodes: Vec<NodeEntry>,
+    properties: Vec<PropertyEntry>,
+    values: Vec<ValueEntry>,
+}
+
+impl<'a> Model for Collection<'a> {
+    ghost use Rattle.sgf_tree.specs.Tree.{Games};
+    ghost use Rattle.sgf_tree.specs.TreeCode.{games_code};
+
+    ghost Value = { Games };
+
+    ghost coded = { games_code };
+
+    ghost use Rattle.sgf_tree.specs.Layout.{games_in, IsLaidOut};
+
+    ghost view = { λ c. games_in c.text.now };
+
+    ghost invariant = { λ c.
+        IsLaidOut c.text.now c.games c.nodes.items c.properties.items c.values.items };
+}
+
+impl<'a> Collection<'a> {
+    ghost use Rattle.sgf_tree.specs.Layout.{games_in, IsLaidOut};
+
+    /// The collection of the text, which the entries hold.
+    pub(crate) fn new(text: &'a [u8], games: u32, entries: Entries) -> Collection<'a>
+        requires { IsLaidOut text.now games
+            entries.nodes.items entries.properties.items entries.values.items }
+        ensures { result ≡ games_in text.now }
+    {
+        let Entries {
+            nodes,
+            properties,
+            values,
+        } = entries;
+        Collection {
+            text,
+            games,
+            nodes,
+            properties,
+            values,
+        }
+    }
+
+    /// The number of games.
+    pub fn games(&self) -> usize
+        ensures { result ≡ game_count self.now }
+    {
+        self.games as usize
+    }
+
+    /// The number of nodes of all games.
+    /// Their places rise in file order, and are below `MAX_LENGTH`.
+    pub fn nodes(&self) -> usize
+        ensures count { result ≡ node_count self.now }
+        ensures places_rise { PlacesRise self.now }
+        ensures places_within { (i p : ℕ) → place_at self.now i ≡ Some p → p < MAX_LENGTH }
+    {
+        self.nodes.len()
+    }
+
+    /// Node `i`, counted from 0 in file order.
+    pub fn node(&self, i: usize) -> NodeRef<'_, 'a>
+        requires { i < node_count self.now }
+        ensures { node_at self.now i ≡ Some result }
+    {
+        let entry = self.nodes[i];
+        let start = properties_start(&self.nodes, i);
+        NodeRef {
+            text: self.text,
+            place: entry.place,
+            values_start: values_start(&self.properties, 0, start as usize),
+            properties: part(&self.properties, start, entry.properties_end),
+            values: &self.values,
+        }
+    }
+
+    /// The number of the node before node `i` on its line, which is its parent.
+    /// None for the root of a game.
+    pub fn parent(&self, i: usize) -> Option<usize>
+        requires { i < node_count self.now }
+        ensures { parent_at self.now i ≡ Some result }
+    {
+        match self.nodes[i].link {
+            Link::Root(_) => None,
+            Link::Branch(parent) => Some(parent as usize),
+            Link::Next => Some(i - 1),
+        }
+    }
+
+    /// Whether no node follows node `i` on a line.
+    pub fn is_leaf(&self, i: usize) -> bool
+        requires { i < node_count self.now }
+        ensures { IsTrue result ↔ IsLeaf self.now i }
+    {
+        let count = self.nodes.len();
+        i + 1 == count || self.parent(i + 1) != Some(i)
+    }
+
+    /// The place of node `i`: the offset of its `;` in the text.
+    pub fn place(&self, i: usize) -> usize
+        requires { i < node_count self.now }
+        ensures { place_at self.now i ≡ Some result }
+    {
+        self.nodes[i].place as usize
+    }
+
+    /// The number of the game that has node `i`, counted from 1.
+    pub fn game_of(&self, i: usize) -> usize
+        requires { i < node_count self.now }
+        ensures { result ≡ game_of self.now i }
+    {
+        let mut at = i;
+        'climb: loop {
+            match self.nodes[at].link {
+                Link::Root(game) => return game as usize,
+                Link::Branch(parent) => at = parent as usize,
+                Link::Next => at -= 1,
+            }
+        }
+    }
+
+    /// The greatest number among node `i` and the nodes below it.
+    pub fn last_below(&self, i: usize) -> usize
+        requires { i < node_count self.now }
+        ensures { IsLastBelow self.now i result }
+    {
+        self.nodes[i].last_below as usize
+    }
+}
+
+/// Where the properties of node `i` begin.
+fn properties_start(nodes: &[NodeEntry], i: usize) -> u32
+    requires { i < length nodes.now }
+    ensures { result ≡ end_before (λ n. n.properties_end) 0 nodes.now i }
+{
+    if i == 0 {
+        0
+    } else {
+        nodes[i - 1].properties_end
+    }
+}

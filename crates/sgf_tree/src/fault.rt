@@ -1,0 +1,29 @@
+//! The ways in which a call may fail.
+
+use thiserror::Error;
+
+/// The most bytes that a text may have: 64 MiB (this project's choice).
+pub const MAX_LENGTH: usize = 67_108_864;
+
+/// Why a text was not read.
+#[derive(Debug, Drop, Error)]
+pub enum ReadFault {
+    /// The text is longer than `MAX_LENGTH` bytes.
+    #[error("the text is longer than 67108864 bytes")]
+    TooLong,
+
+    /// No collection is spelled by the text (SGF FF[4], EBNF).
+    /// Its first `at` bytes begin some text of the grammar, and no more of them do.
+    /// So where `at` is the text's length, the text ends too early.
+    #[error("byte {at}: not SGF")]
+    NotSgf { at: usize },
+
+    /// More memory was wanted and refused.
+    #[error("out of memory")]
+    Memory,
+}
+
+/// More memory was wanted and refused.
+#[derive(Debug, Drop, Error)]
+#[error("out of memory")]
+pub struct MemoryFault;

@@ -1,0 +1,60 @@
+//! The value of a number.
+
+ghost use Rattle.std.specs.Prelude.{◌≡◌, ◌<◌, ◌^◌, IfSome};
+ghost use Rattle.sgf_tree.specs.Number.{magnitude_of, number_of};
+
+/// The most digits that a number may have.
+const MAX_DIGITS: usize = 18;
+
+/// The value of a raw value that is a number: a `+`, a `-` or no sign, then 1 to 18 digits and nothing else (SGF FF[4],
+/// Number; at most 18 digits is this project's choice). `None` for every other raw value.
+pub fn number(raw: &[u8]) -> Option<i64>
+    ensures { result ≡ number_of raw.now }
+{
+    match raw {
+        [b'+', digits @ ..] => Some(magnitude(digits)? as i64),
+        [b'-', digits @ ..] => Some(-(magnitude(digits)? as i64)),
+        digits => Some(magnitude(digits)? as i64),
+    }
+}
+
+/// The value of 1 to 18 digits; `None` for everything else.
+fn magnitude(digits: &[u8]) -> Option<u64>
+    ensures value { result ≡ magnitude_of digits.now }
+    ensures fits { IfSome result (λ value. value < 10 ^ 18) }
+{
+    if digits.is_empty() || digits.len() > MAX_DIGITS {
+        return None;
+    }
+    let mut value = 0;
+    for digit in digits {
+        if !digit.is_ascii_digit() {
+            return None;
+        }
+        value = 10 * value + u64::from(digit - b'0');
+    }
+    Some(value)
+}
+
+#[cfg(test)]
+mod tests {
+    use super::*;
+
+    #[test]
+    fn reads_numbers(rt: HostRuntime) {
+        for (raw, want) in [
+            ("+7", Some(7)),
+            ("-0", Some(0)),
+            ("-12", Some(-12)),
+            ("007", Some(7)),
+            ("999999999999999999", Some(999_999_999_999_999_999)),
+            ("1000000000000000000", None),
+            ("+", None),
+            ("", None),
+            ("19:19", None),
+            ("1 ", None),
+        ] {
+            assert_eq!(rt; number(raw.as_bytes()), want, "of {raw:?}");
+        }
+    }
+}

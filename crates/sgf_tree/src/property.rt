@@ -1,0 +1,88 @@
+//! A property of a node.
+
+ghost use Rattle.std.specs.Prelude.{◌≡◌, ◌<◌, ◌≤◌, ◌↔◌, ◌++◌, length, slice_get, Some, IsTrue, OnOk, OnErr};
+ghost use Rattle.sgf_tree.specs.Tree.{values};
+
+use crate::fault::MemoryFault;
+use crate::layout::{ValueEntry, part};
+use std::marker::Model;
+
+/// A property, seen as its name and its raw values.
+/// Only `push_name` takes memory.
+#[derive(Drop)]
+pub struct PropRef<'c, 'a> {
+    pub(crate) text: &'a [u8],
+    pub(crate) identifier: &'a [u8],
+    pub(crate) values: &'c [ValueEntry],
+}
+
+impl<'c, 'a> Model for PropRef<'c, 'a> {
+    ghost use Rattle.sgf_tree.specs.Tree.{Property};
+    ghost use Rattle.sgf_tree.specs.TreeCode.{property_code};
+
+    ghost Value = { Property };
+
+    ghost coded = { property_code };
+
+    ghost use Rattle.sgf_tree.specs.Layout.{property_from, name_in, raw_values, IsPropertyHeld};
+
+    ghost view = { λ p. property_from (name_in p.identifier.now) (raw_values p.text.now p.values.now) };
+
+    ghost invariant = { λ p. IsPropertyHeld p.text.now p.values.now };
+}
+
+impl<'c, 'a> PropRef<'c, 'a> {
+    /// Whether `name` is its name.
+    /// The name is the upper-case letters of the identifier: `GaMe` is named `GM` (this project's choice).
+    pub fn is(&self, name: &[u8]) -> bool
+        ensures { IsTrue result ↔ (self.now.name ≡ name.now) }
+    {
+        let identifier = self.identifier;
+        let mut matched = 0;
+        for letter in identifier {
+            if letter.is_ascii_uppercase() {
+                if matched == name.len() || name[matched] != *letter {
+                    return false;
+                }
+                matched += 1;
+            }
+        }
+        matched == name.len()
+    }
+
+    /// Appends its name.
+    /// After a refusal of memory `out` is unchanged.
+    pub fn push_name(&self, out: &mut Vec<u8>) -> Result<(), MemoryFault>
+        ensures appended { OnOk result (out.new.items ≡ out.old.items ++ self.now.name) }
+        ensures unchanged { OnErr result (out.new.items ≡ out.old.items) }
+    {
+        let identifier = self.identifier;
+        if out.reserve(identifier.len()).is_err() {
+            return Err(MemoryFault);
+        }
+        for letter in identifier {
+            if letter.is_ascii_uppercase() {
+                out.push(*letter).unwrap();
+            }
+        }
+        Ok(())
+    }
+
+    /// The number of its values, at least 1.
+    pub fn values(&self) -> usize
+        ensures { result ≡ length (values self.now) }
+    {
+        self.values.len()
+    }
+
+    /// Raw value `i`, counted from 0 in file order: the bytes between the `[` and the `]`.
+    /// It is a part of the text that was read.
+    pub fn value(&self, i: usize) -> &'a [u8]
+        requires { i < length (values self.now) }
+        ensures { slice_get (values self.now) i ≡ Some result.now }
+    {
+        let values = self.values;
+        let entry = values[i];
+        part(self.text, entry.start, entry.end)
+    }
+}

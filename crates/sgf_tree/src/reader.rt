@@ -1,0 +1,65 @@
+//! Reading a text.
+//!
+//! The text is gone over once. Each node, property and value that ends is pushed to a vector, and a fault is
+//! reported at the first byte that no text of the grammar goes on with.
+
+ghost use Rattle.std.specs.Prelude.{◌≡◌, ◌<◌, ◌≤◌, ◌↔◌, length, Err, IfOk, IfErr};
+ghost use Rattle.sgf_tree.specs.Spelling.{Spells};
+ghost use Rattle.sgf_tree.specs.Refusal.{IsFaultyWhereNotSgf};
+ghost use Rattle.sgf_tree.specs.Progress.{IsTrueFault};
+ghost use Rattle.sgf_tree.specs.GamesRead.{AreEmpty, ReadsWhole};
+
+mod fault;
+mod games;
+mod mark;
+mod properties;
+mod scan;
+
+use crate::collection::Collection;
+use crate::fault::{MAX_LENGTH, ReadFault};
+use crate::layout::Entries;
+use crate::reader::fault::Fault;
+use crate::reader::games::read_games;
+use crate::reader::mark::mark_end;
+use crate::reader::scan::skip_white;
+use std::alloc::Global;
+
+/// The collection that a text spells (SGF FF[4], EBNF).
+/// It refers to the text.
+///
+/// A text longer than `MAX_LENGTH` bytes is `TooLong`, and no memory is taken for it.
+/// A text that spells no collection is `NotSgf`, at its first fault.
+/// Where memory was refused it is `Memory`, which may come in place of an answer or of `NotSgf`.
+pub fn read<'a>(alloc: Global, text: &'a [u8]) -> Result<Collection<'a>, ReadFault>
+    ensures too_long { (result ≡ Err ReadFault.TooLong) ↔ (MAX_LENGTH < length text.now) }
+    ensures spelled { IfOk result (λ c. Spells c text.now) }
+    ensures not_sgf { IfErr result (IsFaultyWhereNotSgf text.now) }
+{
+    if text.len() > MAX_LENGTH {
+        return Err(ReadFault::TooLong);
+    }
+    let mut entries = Entries {
+        nodes: Vec::new(alloc),
+        properties: Vec::new(alloc),
+        values: Vec::new(alloc),
+    };
+    match read_whole(text, &mut entries) {
+        Ok(games) => Ok(Collection::new(text, games, entries)),
+        Err(Fault::NotSgf(at)) => Err(ReadFault::NotSgf { at }),
+        Err(Fault::Memory) => Err(ReadFault::Memory),
+    }
+}
+
+/// Reads a whole text. The result is the number of its games.
+fn read_whole(text: &[u8], entries: &mut Entries) -> Result<u32, Fault>
+    requires short { length text.now ≤ MAX_LENGTH }
+    requires nothing_read { AreEmpty entries.old }
+    ensures read { IfOk result (ReadsWhole text.now entries.new) }
+    ensures fault { IfErr result (IsTrueFault text.now) }
+{
+    let mark = mark_end(text)?;
+    read_games(text, skip_white(text, mark), entries)
+}
+
+#[cfg(test)]
+mod tests;

@@ -1,0 +1,129 @@
+//! Reading nodes and games.
+
+ghost use Rattle.std.specs.Prelude.{◌≡◌, ◌<◌, ◌≤◌, ◌+◌, ℕ, [], length, IfOk, IfErr};
+ghost use Rattle.sgf_tree.specs.Tree.{no_games, game_count};
+ghost use Rattle.sgf_tree.specs.Machine.{Stack};
+ghost use Rattle.sgf_tree.specs.Progress.{IsTrueFault};
+ghost use Rattle.sgf_tree.specs.PropertiesRead.{IsFaultInNode};
+ghost use Rattle.sgf_tree.specs.GamesRead.{tip, HasRoom, IsOpening, IsOwnRun, ClosesRun};
+ghost use Rattle.sgf_tree.specs.GamesRead.{StandsBetween, AreEmpty, ReadsNode, ReadsSequence, ReadsWhole, IsFaultInSequence};
+
+use crate::fault::MAX_LENGTH;
+use crate::layout::{Entries, Link, NodeEntry};
+use crate::reader::fault::Fault;
+use crate::reader::properties::read_properties;
+use crate::reader::scan::skip_white;
+
+/// Reads the node whose `;` stands at `place`.
+/// The result is the offset of the byte behind it and the white space there.
+fn read_node(text: &[u8], place: usize, link: Link, entries: &mut Entries) -> Result<usize, Fault>
+    requires short { length text.now ≤ MAX_LENGTH }
+    requires within { place < length text.now }
+    requires room { HasRoom place entries.old }
+    ensures read { IfOk result (λ end. ReadsNode text.now place end link entries.old entries.new) }
+    ensures fault { IfErr result (IsFaultInNode text.now (place + 1)) }
+{
+    let end = read_properties(text, place + 1, entries)?;
+    entries.nodes.push(NodeEntry {
+        place: place as u32,
+        properties_end: entries.properties.len() as u32,
+        link,
+        last_below: 0,
+    })?;
+    Ok(end)
+}
+
+/// Reads the own nodes of the game whose `(` stands before `at`. The first one gets that link.
+/// The result is the offset of the byte behind them and the white space there.
+fn read_sequence(text: &[u8], at: usize, link: Link, entries: &mut Entries) -> Result<usize, Fault>
+    requires short { length text.now ≤ MAX_LENGTH }
+    requires within { at ≤ length text.now }
+    requires room { HasRoom at entries.old }
+    ensures read { IfOk result (λ end. ReadsSequence text.now at end link entries.old entries.new) }
+    ensures room { IfOk result (λ end. HasRoom end entries.new) }
+    ensures rises { IfOk result (λ end. at ≤ end) }
+    ensures within { IfOk result (λ end. end ≤ length text.now) }
+    ensures fault { IfErr result (IsFaultInSequence text.now at link entries.old) }
+{
+    let place = skip_white(text, at);
+    if place == text.len() || text[place] != b';' {
+        return Err(Fault::NotSgf(place));
+    }
+    let mut end = read_node(text, place, link, entries)?;
+    'nodes: while end < text.len() && text[end] == b';' {
+        end = read_node(text, end, Link::Next, entries)?;
+    }
+    Ok(end)
+}
+
+/// Notes in the own nodes of a game that the last node of all is the last one below them.
+/// `tip` is the last own node. The result is the parent of the first one.
+fn close_game(nodes: &mut Vec<NodeEntry>, tip: u32) -> Option<u32>
+    requires few { length nodes.old.items ≤ MAX_LENGTH }
+    requires within { tip < length nodes.old.items }
+    requires own { (first : ℕ) × IsOwnRun nodes.old.items first tip }
+    ensures { (first : ℕ) → IsOwnRun nodes.old.items first tip
+        → ClosesRun nodes.old.items nodes.new.items first tip result }
+{
+    let last = (nodes.len() - 1) as u32;
+    let mut at = tip as usize;
+    'own: loop {
+        let node = &mut nodes[at];
+        node.last_below = last;
+        match node.link {
+            Link::Root(_) => return None,
+            Link::Branch(parent) => return Some(parent),
+            Link::Next => at -= 1,
+        }
+    }
+}
+
+/// The link of a game's first node, where that many games are whole and the innermost open one has that last node.
+fn opening_link(games: u32, innermost: Option<u32>) -> Link
+    requires { games < MAX_LENGTH }
+    ensures { (k : Stack) → tip k.closed k.unclosed ≡ innermost → game_count k.closed ≡ games
+        → IsOpening k result }
+{
+    match innermost {
+        None => Link::Root(games + 1),
+        Some(parent) => Link::Branch(parent),
+    }
+}
+
+/// Reads all games, of which the first `(` may stand at `at`.
+/// The result is their number.
+pub(crate) fn read_games(text: &[u8], at: usize, entries: &mut Entries) -> Result<u32, Fault>
+    requires short { length text.now ≤ MAX_LENGTH }
+    requires within { at ≤ length text.now }
+    requires begins { StandsBetween text.now at (record { closed = no_games; unclosed = [] }) }
+    requires nothing_read { AreEmpty entries.old }
+    ensures read { IfOk result (ReadsWhole text.now entries.new) }
+    ensures fault { IfErr result (IsTrueFault text.now) }
+{
+    let mut at = at;
+    let mut games = 0;
+    let mut tip = None;
+    'games: while at < text.len() {
+        match text[at] {
+            b'(' => {
+                at = read_sequence(text, at + 1, opening_link(games, tip), entries)?;
+                tip = Some((entries.nodes.len() - 1) as u32);
+            }
+            b')' => {
+                let Some(last) = tip else {
+                    return Err(Fault::NotSgf(at));
+                };
+                tip = close_game(&mut entries.nodes, last);
+                if tip.is_none() {
+                    games += 1;
+                }
+                at = skip_white(text, at + 1);
+            }
+            _ => return Err(Fault::NotSgf(at)),
+        }
+    }
+    if tip.is_some() || games == 0 {
+        return Err(Fault::NotSgf(at));
+    }
+    Ok(games)
+}

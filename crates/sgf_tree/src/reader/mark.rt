@@ -1,0 +1,24 @@
+//! The byte order mark.
+
+ghost use Rattle.std.specs.Prelude.{IfOk, IfErr};
+ghost use Rattle.sgf_tree.specs.Progress.{IsTrueFault};
+ghost use Rattle.sgf_tree.specs.GamesRead.{IsMarkRead};
+
+use crate::reader::fault::Fault;
+
+/// The end of the UTF-8 byte order mark, EF BB BF, which may stand at the start of the text.
+pub(crate) fn mark_end(text: &[u8]) -> Result<usize, Fault>
+    ensures read { IfOk result (IsMarkRead text.now) }
+    ensures fault { IfErr result (IsTrueFault text.now) }
+{
+    if text.is_empty() || text[0] != 0xEF {
+        return Ok(0);
+    }
+    if text.len() < 2 || text[1] != 0xBB {
+        return Err(Fault::NotSgf(1));
+    }
+    if text.len() < 3 || text[2] != 0xBF {
+        return Err(Fault::NotSgf(2));
+    }
+    Ok(3)
+}

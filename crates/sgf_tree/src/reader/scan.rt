@@ -1,0 +1,81 @@
+//! Where spans of a text end.
+
+ghost use Rattle.std.specs.Prelude.{◌≡◌, ◌≤◌, length, MatchOption};
+ghost use Rattle.sgf_tree.specs.Spelling.{is_white};
+ghost use Rattle.sgf_tree.specs.Progress.{IsRun, IsValueEnd, IsUnended, is_letter, is_plain};
+
+use memchr::memchr2;
+
+/// How many bytes of a value are tried one by one. Most values are a point of two letters.
+const TRIED: usize = 4;
+
+/// Space, tab, line feed, carriage return, vertical tab, form feed.
+fn is_white_space(byte: u8) -> bool
+    ensures { result ≡ is_white byte }
+{
+    matches!(byte, b' ' | b'\t' | b'\n' | b'\r' | 0x0B | 0x0C)
+}
+
+/// The end of the white space that stands at `at`.
+pub(crate) fn skip_white(text: &[u8], at: usize) -> usize
+    requires { at ≤ length text.now }
+    ensures { IsRun is_white text.now at result }
+{
+    let mut end = at;
+    'white: while end < text.len() && is_white_space(text[end]) {
+        end += 1;
+    }
+    end
+}
+
+/// The end of the letters that stand at `at`.
+pub(crate) fn letters_end(text: &[u8], at: usize) -> usize
+    requires { at ≤ length text.now }
+    ensures { IsRun is_letter text.now at result }
+{
+    let mut end = at;
+    'letters: while end < text.len() && text[end].is_ascii_alphabetic() {
+        end += 1;
+    }
+    end
+}
+
+/// The first `]` or `\` from `at` on, or the end of the text.
+fn plain_end(text: &[u8], at: usize) -> usize
+    requires { at ≤ length text.now }
+    ensures { IsRun is_plain text.now at result }
+{
+    let mut end = at;
+    'plain: while end < text.len() && end - at < TRIED {
+        if text[end] == b']' || text[end] == b'\\' {
+            return end;
+        }
+        end += 1;
+    }
+    match memchr2(b']', b'\\', &text[end..]) {
+        Some(further) => end + further,
+        None => text.len(),
+    }
+}
+
+/// The `]` that ends the raw value at `at`.
+/// None where the text ends before it.
+pub(crate) fn value_end(text: &[u8], at: usize) -> Option<usize>
+    requires { at ≤ length text.now }
+    ensures { MatchOption result (IsUnended text.now at) (λ end. IsValueEnd text.now at end) }
+{
+    let mut end = at;
+    'units: loop {
+        end = plain_end(text, end);
+        if end == text.len() {
+            return None;
+        }
+        if text[end] == b']' {
+            return Some(end);
+        }
+        if text.len() - end < 2 {
+            return None;
+        }
+        end += 2;
+    }
+}

@@ -1,0 +1,106 @@
+//! The decoded text of a raw value.
+
+ghost use Rattle.std.specs.Prelude.{◌≡◌, ◌<◌, ◌≤◌, ◌+◌, ◌++◌, OnOk, OnErr, length, take, drop, option_to_list};
+ghost use Rattle.sgf_tree.specs.Text.{text_of, plain as plain_lem};
+
+use crate::fault::MemoryFault;
+
+/// Appends the decoded text of a raw value to `out` (SGF FF[4], Text).
+///
+/// A `\` before a line break goes with it, and before another byte it goes alone. A line break is CR LF, LF CR, LF or
+/// CR and gives an LF. The bytes 9, 11 and 12 give a space, behind a `\` too, and every other byte gives itself. (That
+/// two different bytes of CR and LF side by side, taken from the left, are one break, that a break gives an LF, and
+/// that a `\` as the last byte gives nothing are this project's choices.)
+///
+/// `MemoryFault` comes where more memory was refused, and then `out` is unchanged.
+pub fn push_text(raw: &[u8], out: &mut Vec<u8>) -> Result<(), MemoryFault>
+    ensures decoded { OnOk result (out.new.items ≡ out.old.items ++ text_of raw.now) }
+    ensures unchanged { OnErr result (out.new.items ≡ out.old.items) }
+{
+    out.reserve(raw.len()).map_err(|_| MemoryFault)?;
+    let mut rest = raw;
+    while !rest.is_empty() {
+        let (literal, special) = rest.split_at(literal_length(rest));
+        out.extend_from_slice(literal).unwrap();
+        let (byte, behind) = decode_front(special);
+        if let Some(byte) = byte {
+            out.push(byte).unwrap();
+        }
+        rest = behind;
+    }
+    Ok(())
+}
+
+/// How many bytes at the front stand for themselves, whatever follows.
+fn literal_length(raw: &[u8]) -> usize
+    ensures within { result ≤ length raw.now }
+    ensures literal { text_of raw.now ≡ take result raw.now ++ text_of (drop result raw.now) }
+{
+    for (i, byte) in raw.iter().enumerate() {
+        if matches!(byte, b'\\' | b'\t'..=b'\r') {
+            return i;
+        }
+    }
+    raw.len()
+}
+
+/// The byte that the front of a raw value gives, if it gives one, and the rest.
+fn decode_front(raw: &[u8]) -> (Option<u8>, &[u8])
+    ensures decoded { text_of raw.now ≡ option_to_list result.0 ++ text_of result.1.now }
+    ensures room { length (option_to_list result.0) + length result.1.now ≤ length raw.now }
+    ensures shorter { 0 < length raw.now → length result.1.now < length raw.now }
+{
+    match raw {
+        [] | [b'\\'] => (None, &[]),
+        [b'\\', b'\r', b'\n', rest @ ..] | [b'\\', b'\n', b'\r', rest @ ..] => (None, rest),
+        [b'\\', b'\r' | b'\n', rest @ ..] => (None, rest),
+        [b'\\', byte, rest @ ..] => (Some(plain(*byte)), rest),
+        [b'\r', b'\n', rest @ ..] | [b'\n', b'\r', rest @ ..] => (Some(b'\n'), rest),
+        [b'\r' | b'\n', rest @ ..] => (Some(b'\n'), rest),
+        [byte, rest @ ..] => (Some(plain(*byte)), rest),
+    }
+}
+
+/// A space for a tab, a vertical tab or a form feed, and every other byte itself.
+fn plain(byte: u8) -> u8
+    ensures { result ≡ plain_lem byte }
+{
+    match byte {
+        b'\t' | 11 | 12 => b' ',
+        _ => byte,
+    }
+}
+
+#[cfg(test)]
+mod tests {
+    use super::*;
+    use std::test::Fail;
+
+    #[test]
+    fn decodes(rt: HostRuntime) -> Result<(), Fail> {
+        for (raw, want) in [
+            ("a\\\nb", "ab"),
+            ("a\\\r\nb", "ab"),
+            ("a\tb\r\nc\\:d", "a b\nc:d"),
+            ("a\r\n\n\rb", "a\n\nb"),
+            ("\n\r\n", "\n\n"),
+            ("\\\\\\]", "\\]"),
+            ("\\\t", " "),
+            ("x\\", "x"),
+            ("", ""),
+        ] {
+            let mut out = Vec::new(rt.alloc());
+            push_text(raw.as_bytes(), &mut out)?;
+            assert_eq!(rt; out.as_slice(), want.as_bytes(), "of {raw:?}");
+        }
+        Ok(())
+    }
+
+    #[test]
+    fn appends(rt: HostRuntime) -> Result<(), Fail> {
+        let mut out = b"x".to_vec(rt.alloc())?;
+        push_text(b"\\\n", &mut out)?;
+        assert_eq!(rt; out.as_slice(), b"x".as_slice());
+        Ok(())
+    }
+}
