@@ -1,29 +1,28 @@
 -- proofs/CaptureLemmas.antt
 -- A search over the group of a stone: it finds a liberty, or the group has none.
-use Rattle.std.proofs.Common.{◌≡◌, ◌≢◌, ◌⊎◌, inl, inr, ℕ, ◌+◌, ◌<◌, ◌≤◌, Bool, true, false, ◌||◌, Option, Some, None, List, [], ◌∷◌, length, get_or, slice_get, refl, sym, ap, ◌∙◌, subst, arith, below_more, IsTrue, Decides}
-use Rattle.std.proofs.lemmas.Bool.{false≢true, or_cases}
+use Rattle.std.proofs.Common.{◌≡◌, ◌≢◌, inl, inr, ℕ, ◌+◌, ◌<◌, true, false, Option, Some, None, [], ◌∷◌, length, get_or, slice_get, refl, sym, ap, ◌∙◌, subst, arith, below_more, IsTrue, Decides}
+use Rattle.std.proofs.lemmas.Bool.{false≢true}
 use Rattle.std.specs.List.{Contains}
 use Rattle.std.proofs.lemmas.List.Elements.{Contains-get_or}
 use Rattle.std.proofs.lemmas.Option.{get_or_from_slice_get, slice_get_within}
 use Rattle.std.proofs.lemmas.Bool.Decides.{Decides-or, Decides-like, not_from_Decides}
-use Rattle.go_board.specs.declared.stones.Cell.{Cell}
 use Rattle.go_board.specs.declared.stones.Cell.TheVariants.{Empty}
 use Rattle.go_board.specs.declared.stones.Colour.{Colour}
 use Rattle.go_board.specs.declared.points.Point.{Point}
-use Rattle.go_board.specs.Colour.{stone_of, same_cell}
+use Rattle.go_board.specs.Colour.{stone_of}
 use Rattle.go_board.specs.Point.{IsOn, AreAdjacent}
 use Rattle.go_board.specs.Grid.{Grid, cell_at}
 use Rattle.go_board.specs.Marking.{is_marked}
-use Rattle.go_board.specs.Reaching.{Leads, Reaches}
+use Rattle.go_board.specs.Reaching.{Reaches}
 use Rattle.go_board.specs.Search.{Searched, nothing_found, with_found, AllListed}
 use Rattle.go_board.specs.Flood.{left_of, right_of, above, below, reaches_through, with_neighbours}
 use Rattle.go_board.specs.Groups.{IsDead, is_free, has_liberty}
 use Rattle.go_board.proofs.PointLemmas.{origin}
 use Rattle.go_board.proofs.GridLemmas.{Decides-same_cell}
 use Rattle.go_board.proofs.ReachingLemmas.{path_by_step}
-use Rattle.go_board.proofs.NeighbourLemmas.{AreAdjacent-sym, IsNeighbour, IsNeighbour-adjacent, AllNeighbour, left-neighbour, right-neighbour, above-neighbour, below-neighbour}
+use Rattle.go_board.proofs.NeighbourLemmas.{IsNeighbour, IsNeighbour-adjacent, AllNeighbour, left-neighbour, right-neighbour, above-neighbour, below-neighbour}
 use Rattle.go_board.proofs.GroupLemmas.{stone_of≢Empty}
-use Rattle.go_board.proofs.FloodLemmas.{IsFlood, IsFlood-found, IsFlood-nothing_found, Decides-reaches_through, Carries, Grows, IsClosed, IsUnderWay, IsUnderWay-step}
+use Rattle.go_board.proofs.FloodLemmas.{IsFlood-found, IsFlood-nothing_found, Decides-reaches_through, Carries, IsClosed, IsUnderWay, IsUnderWay-step}
 
 -- there is a neighbour, and it is empty
 FreeAt : Grid → Option Point → Type 0

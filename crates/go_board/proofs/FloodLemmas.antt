@@ -1,27 +1,20 @@
 -- proofs/FloodLemmas.antt
 -- A flood: each point found has the property that the search is for, and each taken has had its neighbours dealt with.
-use Rattle.std.proofs.Common.{◌≡◌, ◌⊎◌, inl, inr, ℕ, zero, suc, ◌+◌, ◌*◌, ◌<◌, ◌≤◌, Bool, true, false, cond, ◌||◌, Option, Some, None, List, [], ◌∷◌, ◌++◌, length, get_or, drop, drop_of_length-le, set, replicate, refl, sym, ap, ◌∙◌, subst, arith, below_more, IsTrue, Decides}
-use Rattle.std.specs.List.{All}
-use Rattle.std.proofs.lemmas.List.Elements.{All-head, All-tail, All-from_get_or}
+use Rattle.std.proofs.Common.{◌≡◌, ◌⊎◌, inl, inr, ℕ, zero, suc, ◌+◌, ◌*◌, ◌<◌, ◌≤◌, Bool, true, false, cond, Option, Some, None, List, [], ◌∷◌, ◌++◌, length, get_or, set, refl, sym, ap, ◌∙◌, subst, arith, below_more, IsTrue, Decides}
 use Rattle.std.proofs.lemmas.List.{length-set, length-replicate, length_push, get_or_push, get_or_append_left}
-use Rattle.std.proofs.Math.Seq.{drop-cons}
-use Rattle.std.proofs.Math.Numerals.{add-one}
 use Rattle.std.proofs.lemmas.Bool.{false≢true}
 use Rattle.std.proofs.lemmas.Bool.Decides.{Decides-or}
 use Rattle.go_board.specs.declared.stones.Cell.{Cell}
 use Rattle.go_board.specs.declared.points.Point.{Point}
-use Rattle.go_board.specs.Colour.{same_cell}
-use Rattle.go_board.specs.Point.{IsOn, AreAdjacent, place_of, points}
+use Rattle.go_board.specs.Point.{IsOn, AreAdjacent, place_of}
 use Rattle.go_board.specs.Grid.{Grid, cell_at}
 use Rattle.go_board.specs.Marking.{is_marked}
-use Rattle.go_board.specs.Reaching.{Leads, Reaches}
 use Rattle.go_board.specs.Search.{Searched, nothing_found, with_mark, with_found}
-use Rattle.go_board.specs.Flood.{left_of, right_of, above, below, reaches_through, with_neighbour, with_neighbours, with_points, with_colour}
-use Rattle.go_board.proofs.PointLemmas.{origin, place_below, place_of-injective, point_at-place_of, IsOn-point_at, IsOn-place_below, length-points, get_or-points}
+use Rattle.go_board.specs.Flood.{left_of, right_of, above, below, reaches_through, with_neighbour, with_neighbours}
+use Rattle.go_board.proofs.PointLemmas.{origin, place_of-injective}
 use Rattle.go_board.proofs.GridLemmas.{get_or-replicate_default, Decides-same_cell}
-use Rattle.go_board.proofs.ReachingLemmas.{Leads-on, step_kind, path_by_step}
 use Rattle.go_board.proofs.SearchLemmas.{is_marked-with_mark, is_marked-with_mark_keeps, with_found-new, with_found-old}
-use Rattle.go_board.proofs.NeighbourLemmas.{AreAdjacent-sym, IsNeighbour, IsNeighbour-adjacent, AllNeighbour, left-neighbour, right-neighbour, above-neighbour, below-neighbour}
+use Rattle.go_board.proofs.NeighbourLemmas.{IsNeighbour, IsNeighbour-adjacent, AllNeighbour, left-neighbour, right-neighbour, above-neighbour, below-neighbour}
 
 -- what is marked has the property that the search is for, and stands among the points found
 pub record IsFlood (g : Grid) (What : Point → Type 0) (s : Searched) : Type 0 where

@@ -1,14 +1,12 @@
 -- proofs/FrontLemmas.antt
 -- A grid as the front of an array, and what a write to the array does to it.
-use Rattle.std.proofs.Common.{◌≡◌, ℕ, ◌*◌, ◌<◌, ◌≤◌, Bool, true, false, List, take, set, replicate, sym, ap, ◌∙◌, length}
+use Rattle.std.proofs.Common.{◌≡◌, ℕ, ◌*◌, ◌<◌, ◌≤◌, List, take, set, replicate, sym, ap, ◌∙◌, length}
 use Rattle.std.proofs.Math.Seq.{take-set-lt}
 use Rattle.std.proofs.lemmas.List.{take-replicate, length-take-le}
 use Rattle.go_board.specs.declared.stones.Cell.{Cell}
 use Rattle.go_board.specs.declared.points.Point.{Point}
 use Rattle.go_board.specs.Point.{place_of}
 use Rattle.go_board.specs.Grid.{Grid, with_cell, empty_grid}
-use Rattle.go_board.specs.Marking.{Marking}
-use Rattle.go_board.specs.Search.{no_marks, with_mark}
 use Rattle.go_board.specs.declared.stones.Cell.TheVariants.{Empty}
 
 -- the grid that the front of an array holds

@@ -1,6 +1,6 @@
 -- proofs/GroupLemmas.antt
 -- A group without a liberty can be taken off before its colour is cleared: the cleared grid is the same.
-use Rattle.std.proofs.Common.{◌≡◌, ◌≢◌, ◌⊎◌, inl, inr, ℕ, ◌*◌, ◌<◌, Bool, true, false, cond, List, [], ◌∷◌, map, length, get_or, refl, sym, ap, subst, ◌∙◌, arith, IsTrue}
+use Rattle.std.proofs.Common.{◌≡◌, ◌≢◌, ◌⊎◌, inl, inr, ℕ, ◌*◌, Bool, false, List, [], ◌∷◌, map, length, get_or, refl, sym, ap, subst, ◌∙◌, IsTrue}
 use Rattle.std.proofs.lemmas.Bool.{cases_Bool, true≢false}
 use Rattle.std.proofs.lemmas.Bool.Decides.{same_from_decides, not_from_Decides, Decides-like}
 use Rattle.std.proofs.lemmas.List.{length-map}
@@ -9,17 +9,17 @@ use Rattle.go_board.specs.declared.stones.Cell.TheVariants.{Empty}
 use Rattle.go_board.specs.declared.stones.Colour.{Colour}
 use Rattle.go_board.specs.declared.stones.Colour.TheVariants.{Black, White}
 use Rattle.go_board.specs.declared.points.Point.{Point}
-use Rattle.go_board.specs.Colour.{opponent, stone_of, same_cell}
-use Rattle.go_board.specs.Point.{IsOn, AreAdjacent, points, point_at}
+use Rattle.go_board.specs.Colour.{stone_of, same_cell}
+use Rattle.go_board.specs.Point.{IsOn, points, point_at}
 use Rattle.go_board.specs.Grid.{Grid, cell_at, grid_of}
 use Rattle.go_board.specs.Reaching.{Leads, Reaches, reaches}
 use Rattle.go_board.specs.Clearing.{cleared_cell, clear}
 use Rattle.go_board.specs.Groups.{IsDead, LosesDead}
 use Rattle.go_board.proofs.PointLemmas.{is_map-points, length-points, get_or-map-points, place_of-point_at, IsOn-point_at}
-use Rattle.go_board.proofs.GridLemmas.{Decides-same_cell, cell_at-grid_of}
+use Rattle.go_board.proofs.GridLemmas.{Decides-same_cell}
 use Rattle.go_board.proofs.NeighbourLemmas.{AreAdjacent-sym}
 use Rattle.go_board.proofs.ReachingLemmas.{Leads-on, Leads-next, Decides-reaches}
-use Rattle.go_board.proofs.RuleLemmas.{emptied, kept, others_kept}
+use Rattle.go_board.proofs.RuleLemmas.{emptied, others_kept}
 
 -- a point has that colour or not
 pub coloured_or_not : (a b : Cell) → (a ≡ b) ⊎ (a ≢ b)

@@ -1,7 +1,7 @@
 -- proofs/MoveLemmas.antt
 -- A move on a grid where every stone reaches empty: taking the dead groups beside the stone, and then its own, is the
 -- whole move.
-use Rattle.std.proofs.Common.{◌≡◌, ◌≢◌, ◌⊎◌, inl, inr, ◌*◌, Bool, true, false, List, [], ◌∷◌, length, refl, sym, ap, subst, ◌∙◌, IsTrue}
+use Rattle.std.proofs.Common.{◌≡◌, ◌≢◌, ◌⊎◌, inl, inr, ◌*◌, false, List, [], ◌∷◌, length, refl, sym, ap, subst, ◌∙◌}
 use Rattle.std.specs.Option.{ForSome}
 use Rattle.std.proofs.lemmas.List.{length-set}
 use Rattle.go_board.specs.declared.stones.Cell.{Cell}

@@ -1,16 +1,16 @@
 -- proofs/RowLemmas.antt
 -- A set of points as words of bits, one for each row, as a marking.
-use Rattle.std.proofs.Common.{◌≡◌, ◌≢◌, ◌⊎◌, inl, inr, ℕ, ◌+◌, ◌*◌, ◌/◌, ◌%◌, ◌^◌, ◌<◌, ◌≤◌, ◌==◌, Bool, true, false, List, map, set, replicate, length, get_or, bit_and, bit_or, w64, refl, sym, ap, ◌∙◌, arith}
+use Rattle.std.proofs.Common.{◌≡◌, ◌≢◌, inl, inr, ℕ, ◌*◌, ◌/◌, ◌%◌, ◌^◌, ◌<◌, ◌≤◌, ◌==◌, true, false, List, map, set, replicate, length, get_or, bit_and, bit_or, w64, sym, ap, ◌∙◌, arith}
 use Rattle.std.specs.Int.{bit_at}
 use Rattle.std.proofs.lemmas.Bool.{cases_eq}
 use Rattle.std.proofs.lemmas.Nat.Bits.{bit_at-zero, shr_and_one, bit_at_set_same, bit_at_set_other}
 use Rattle.std.proofs.lemmas.List.{length-map, length-set, length-replicate, get_or-set_same, get_or-set_other}
 use Rattle.go_board.specs.declared.points.Point.{Point}
 use Rattle.go_board.specs.Point.{IsOn, place_of, point_at, points}
-use Rattle.go_board.specs.Marking.{Marking, is_marked, marking_of}
+use Rattle.go_board.specs.Marking.{is_marked, marking_of}
 use Rattle.go_board.specs.Rows.{is_set}
 use Rattle.go_board.specs.Search.{no_marks, with_mark}
-use Rattle.go_board.proofs.PointLemmas.{length-points, get_or-map-points, is_map-points, IsOn-point_at, place_of-point_at, point_at-place_of, place_below, same_or_not}
+use Rattle.go_board.proofs.PointLemmas.{length-points, get_or-map-points, is_map-points, IsOn-point_at, place_of-point_at, point_at-place_of, place_below}
 use Rattle.go_board.proofs.GridLemmas.{get_or-replicate_default, is_marked-marking_of}
 
 -- with no bit set no point is marked

@@ -1,6 +1,6 @@
 -- proofs/SettledLemmas.antt
 -- Grids on which stones reach empty: clearing them changes nothing, and after a move all do.
-use Rattle.std.proofs.Common.{◌≡◌, ◌≢◌, ◌⊎◌, inl, inr, ◌*◌, Bool, true, false, cond, List, [], ◌∷◌, length, refl, sym, ap, ◌∙◌, ℕ}
+use Rattle.std.proofs.Common.{◌≡◌, ◌≢◌, ◌⊎◌, inl, inr, ◌*◌, false, List, [], ◌∷◌, length, refl, sym, ◌∙◌, ℕ}
 use Rattle.std.proofs.lemmas.Bool.{cases_Bool, true≢false}
 use Rattle.std.proofs.lemmas.Bool.Decides.{not_from_Decides}
 use Rattle.go_board.specs.declared.stones.Cell.{Cell}
@@ -12,10 +12,10 @@ use Rattle.go_board.specs.Colour.{opponent, stone_of}
 use Rattle.go_board.specs.Point.{IsOn, place_of}
 use Rattle.go_board.specs.Grid.{Grid, cell_at, with_cell, empty_grid}
 use Rattle.go_board.specs.Reaching.{Leads, Reaches, reaches}
-use Rattle.go_board.specs.Clearing.{cleared_cell, clear, play, HasUnreaching, has_unreaching}
+use Rattle.go_board.specs.Clearing.{cleared_cell, clear, play, has_unreaching}
 use Rattle.go_board.specs.Groups.{AllReach}
 use Rattle.go_board.proofs.GridLemmas.{get_or-replicate_default}
-use Rattle.go_board.proofs.ReachingLemmas.{Leads-on, Decides-reaches}
+use Rattle.go_board.proofs.ReachingLemmas.{Decides-reaches}
 use Rattle.go_board.proofs.RuleLemmas.{side-clear, cell_at-clear, emptied, kept, others_kept, Decides-has_unreaching}
 use Rattle.go_board.proofs.GroupLemmas.{coloured_or_not, stone_of≢Empty, Reaches-Leads, grid_of-cells}
 

@@ -1,8 +1,7 @@
 -- specs/Search.antt
 -- A search over the points of a grid: the points found so far, each marked, and how many of them were taken. Private
 -- contracts alone cite these words.
-use Rattle.std.specs.Prelude.{◌≡◌, ◌⊎◌, ℕ, ◌+◌, ◌*◌, ◌≤◌, Bool, true, ◌&&◌, ◌||◌, List, [], ◌∷◌, ◌++◌, All, Contains, IsTrue, Option, Some, None, if◌then◌else◌, replicate, length, slice_set, false}
-use Rattle.go_board.specs.declared.stones.Cell.{Cell}
+use Rattle.std.specs.Prelude.{◌≡◌, ◌⊎◌, ℕ, ◌+◌, ◌*◌, ◌≤◌, true, List, [], ◌∷◌, ◌++◌, All, Contains, IsTrue, if◌then◌else◌, replicate, length, slice_set, false}
 use Rattle.go_board.specs.declared.points.Point.{Point}
 use Rattle.go_board.specs.Point.{IsOn, place_of}
 use Rattle.go_board.specs.Marking.{Marking, is_marked, marked_count}

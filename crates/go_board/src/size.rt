@@ -8,7 +8,7 @@ use std::marker::Model;
 pub const MAX_SIDE: u8 = 52;
 
 /// The number of rows of the greatest board.
-pub(crate) const MAX_ROWS: usize = 52;
+pub(crate) const MAX_ROWS: usize = MAX_SIDE as usize;
 
 /// The number of points of the greatest board.
 pub const MAX_POINTS: usize = 2704;
