@@ -65,7 +65,7 @@ pub use size::{MAX_POINTS, MAX_SIDE, Size};
 pub use steps::Steps;
 pub use stones::{Cell, Colour};
 pub use values::{point, rect};
-pub use vertices::vertex;
+pub use vertices::{MAX_VERTEX_SIDE, vertex};
 
 #[cfg(test)]
 mod play_tests;
