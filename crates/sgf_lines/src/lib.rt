@@ -3,6 +3,7 @@
 //!
 //! - `line` has what is shown of a line.
 //! - `cursor` goes over the lines of a collection.
+//! - `options` has what a run is asked for.
 //! - `record` writes the text of a line.
 //! - `laws` has laws of the definitions.
 //! - `split` turns a text into the records of its lines, and `fault` has the ways in which it may fail.
@@ -12,6 +13,7 @@ mod cursor;
 mod fault;
 pub mod laws;
 mod line;
+mod options;
 mod record;
 mod split;
 #[cfg(test)]
@@ -20,5 +22,6 @@ mod tests;
 pub use cursor::Cursor;
 pub use fault::FirstFault;
 pub use line::LineRef;
+pub use options::{Form, Options};
 pub use sgf_tree::MAX_LENGTH;
 pub use split::first_split;

@@ -1,0 +1,23 @@
+//! What a run is asked for.
+
+/// How a line of play is written.
+#[derive(Clone, Copy, Debug, PartialEq, Eq)]
+pub enum Form {
+    /// A row with the line's place, its game, the number of its nodes and its verdict.
+    List,
+    /// A single-line game of the Smart Game Format (SGF FF[4]).
+    Sgf,
+    /// A script of the Go Text Protocol, version 2.
+    Gtp,
+}
+
+/// Which lines of play are written, and how.
+#[derive(Clone, Copy, Debug, PartialEq, Eq)]
+pub struct Options {
+    /// How each line is written.
+    pub form: Form,
+    /// Only the lines that follow the line with this place, the offset of the `;` of its last node; none: all lines.
+    pub after: Option<u64>,
+    /// At most so many lines, the first ones of those; none: no limit.
+    pub limit: Option<u64>,
+}
