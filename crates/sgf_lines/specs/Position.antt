@@ -3,7 +3,7 @@ use Rattle.std.specs.Prelude.{ℕ, ◌+◌, nat_lt, refl}
 use Rattle.std.specs.List.{prefix_len}
 use Rattle.std.specs.Coded.{Coded, code_by, coded×, coded_ℕ}
 use Rattle.sgf_tree.specs.Tree.{Games}
-use Rattle.sgf_tree.specs.TreeCode.{games_code}
+use Rattle.sgf_tree.specs.inner.TreeCode.{games_code}
 use Rattle.sgf_lines.specs.Paths.{paths, leaf_of}
 
 -- a collection, and how many of its lines have been given

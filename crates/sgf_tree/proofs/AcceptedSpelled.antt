@@ -3,7 +3,7 @@ use Rattle.std.proofs.Common.{◌≡◌, ℕ, ◌+◌, List, [], ◌∷◌, ◌+
 use Rattle.std.proofs.lemmas.Option.{none-some, same_Some, option_and_then_some}
 use Rattle.sgf_tree.specs.Tree.{Games, no_games, game}
 use Rattle.sgf_tree.specs.Spelling.{no_white, no_game, Spells, spells}
-use Rattle.sgf_tree.specs.Machine.{OpenGame, State, start, behind_game, whole_games, step, run, accepted, collection_of}
+use Rattle.sgf_tree.specs.inner.Machine.{OpenGame, MachineState, start, after_game, whole_games, step, run, accepted, collection_of}
 use Rattle.sgf_tree.proofs.Run.{collection-run}
 use Rattle.sgf_tree.proofs.Transitions.{takes}
 use Rattle.sgf_tree.proofs.Completion.{followed-none, Rest, ends, Completes}
@@ -11,7 +11,7 @@ use Rattle.sgf_tree.proofs.Prepending.{prepend}
 
 module _ (whole : ℕ) (c : Games) where
   -- a text that is taken to a state, before one that completes that state
-  pub prepend-run : (at : ℕ) (z y : State) (t r : List ℕ) → at + length (t ++ r) ≡ whole → run at z t ≡ Some y
+  pub prepend-run : (at : ℕ) (z y : MachineState) (t r : List ℕ) → at + length (t ++ r) ≡ whole → run at z t ≡ Some y
       → Completes whole c y r → Completes whole c z (t ++ r)
   unfolding run
   prepend-run at z y [] r e h k = subst (λ x. Completes whole c x r) (sym (same_Some z y h)) k
@@ -25,9 +25,9 @@ module _ (whole : ℕ) (c : Games) where
   whole-rest (game f m b h) [] e = ends no_game no_white (rw (followed-none h) e)
   whole-rest (game f m b h) (g ∷ gs) e = absurd (none-some c e)
 
-  accepted-completes : (z : State) → accepted z ≡ Some c → Completes whole c z []
+  accepted-completes : (z : MachineState) → accepted z ≡ Some c → Completes whole c z []
   unfolding accepted
-  accepted-completes (behind_game k) e = whole-rest k.closed k.unclosed e
+  accepted-completes (after_game k) e = whole-rest k.closed k.unclosed e
   accepted-completes _ e = absurd (none-some c e)
 
 -- a text that completes the start spells the collection
@@ -37,7 +37,7 @@ completes-spells c t (s, m, ends {others = game f n b h} are w e) =
     subst (λ x. Spells x t) (same_Some (game f n b h) c e) (spells m are w)
 
 -- a text that is taken to a state, and completed from there
-pub completed-spells : (c : Games) (t r : List ℕ) (z : State) → run 0 start t ≡ Some z → Completes (length (t ++ r)) c z r
+pub completed-spells : (c : Games) (t r : List ℕ) (z : MachineState) → run 0 start t ≡ Some z → Completes (length (t ++ r)) c z r
     → Spells c (t ++ r)
 completed-spells c t r z h k = completes-spells c (t ++ r) (prepend-run (length (t ++ r)) c 0 start z t r (omega arith) h k)
 
@@ -48,5 +48,5 @@ accepted-spelled c t e =
     subst (Spells c) (append-nil t) (completed-spells c t [] z h (accepted-completes (length (t ++ [])) c z a)))
 
 -- a text that is taken to a state where it may end
-pub run-spelled : (c : Games) (t : List ℕ) (z : State) → run 0 start t ≡ Some z → accepted z ≡ Some c → Spells c t
+pub run-spelled : (c : Games) (t : List ℕ) (z : MachineState) → run 0 start t ≡ Some z → accepted z ≡ Some c → Spells c t
 run-spelled c t z h a = accepted-spelled c t (collection-run t z h ∙ a)

@@ -1,10 +1,11 @@
--- What a text spells, it spells before and behind another text too, with the places counted anew.
+-- What a text spells, it spells before and after another text too, with the places counted anew.
 use Rattle.std.proofs.Common.{◌≡◌, ℕ, ◌+◌, List, ◌++◌, length, map, refl, sym, subst, arith, length-append}
-use Rattle.sgf_tree.specs.Tree.{Property, Node, Games, game, followed_by}
-use Rattle.sgf_tree.specs.Spelling.{White, no_white, white, Letters, no_letter, upper, lower, IsValue, no_unit, plain, escaped, IsPropValue, prop_value, ArePropValues, no_value, value, IsProperty, property, AreProperties, no_property, properties, IsNode, node, AreNodes, no_node, nodes, AreGames, no_game, games, Mark, no_mark, mark, Spells, spells}
+use Rattle.sgf_tree.specs.Tree.{Property, Node, Games, game, joined}
+use Rattle.sgf_tree.specs.RawValue.{IsValue, no_unit, plain, escaped}
+use Rattle.sgf_tree.specs.Spelling.{White, no_white, white, Letters, no_letter, upper, lower, IsPropValue, prop_value, ArePropValues, no_value, value, IsProperty, property, AreProperties, no_property, properties, IsNode, node, AreNodes, no_node, nodes, AreGames, no_game, games, Mark, no_mark, mark, Spells, spells}
 use Rattle.sgf_tree.specs.Appending.{raised_node, raised, BeginsWithMark}
 
--- ---- with u behind the text
+-- ---- with u after the text
 
 White-before : {s r : List ℕ} (u : List ℕ) → White s r → White (s ++ u) (r ++ u)
 White-before u no_white = no_white
@@ -66,26 +67,26 @@ AreGames-raised by no_game = no_game
 AreGames-raised by (games w n ns g v h) =
     games w (IsNode-raised by n) (AreNodes-raised by ns) (AreGames-raised by g) v (AreGames-raised by h)
 
--- ---- one behind the other
+-- ---- one after the other
 
 White-joined : {s t r : List ℕ} → White s t → White t r → White s r
 White-joined no_white v = v
 White-joined (white h w) v = white h (White-joined w v)
 
-AreGames-joined : {whole : ℕ} {g h : Games} {s t r : List ℕ} → AreGames whole g s t → AreGames whole h t r → AreGames whole (followed_by g h) s r
+AreGames-joined : {whole : ℕ} {g h : Games} {s t r : List ℕ} → AreGames whole g s t → AreGames whole h t r → AreGames whole (joined g h) s r
 AreGames-joined no_game k = k
 AreGames-joined (games w n ns g v h) k = games w n ns g v (AreGames-joined h k)
 
 -- white space may stand before a game
-AreGames-behind_white : {whole : ℕ} {first : Node} {more : List Node} {below behind : Games} {s t r : List ℕ} → White s t
-    → AreGames whole (game first more below behind) t r
-    → AreGames whole (game first more below behind) s r
-AreGames-behind_white w (games v n ns g x h) = games (White-joined w v) n ns g x h
+AreGames-after_white : {whole : ℕ} {first : Node} {more : List Node} {below after : Games} {s t r : List ℕ} → White s t
+    → AreGames whole (game first more below after) t r
+    → AreGames whole (game first more below after) s r
+AreGames-after_white w (games v n ns g x h) = games (White-joined w v) n ns g x h
 
-pub Spells-append : (c d : Games) (t u : List ℕ) → Spells c t → Spells d u → ¬ BeginsWithMark u → Spells (followed_by c (raised (length t) d)) (t ++ u)
+pub Spells-append : (c d : Games) (t u : List ℕ) → Spells c t → Spells d u → ¬ BeginsWithMark u → Spells (joined c (raised (length t) d)) (t ++ u)
 Spells-append c d t u (spells m g w) (spells mark h v) unmarked = absurd (unmarked refl)
-Spells-append c d t u (spells {first} {more} {below} {behind} {s = s} {r = r} m g w) (spells {first = first'} {more = more'} {below = below'} {behind = behind'} {r = r'} no_mark h v) unmarked =
+Spells-append c d t u (spells {first} {more} {below} {after} {s = s} {r = r} m g w) (spells {first = first'} {more = more'} {below = below'} {after = after'} {r = r'} no_mark h v) unmarked =
     let whole : length t + length u ≡ length (t ++ u) = sym (length-append t u) in
-    let later = AreGames-behind_white (White-before u w) (AreGames-raised (length t) h) in
+    let later = AreGames-after_white (White-before u w) (AreGames-raised (length t) h) in
     let both = AreGames-joined (AreGames-before u g) later in
-    spells (Mark-before u m) (subst (λ n. AreGames n (followed_by c (raised (length t) d)) (s ++ u) r') whole both) v
+    spells (Mark-before u m) (subst (λ n. AreGames n (joined c (raised (length t) d)) (s ++ u) r') whole both) v

@@ -1,30 +1,31 @@
 -- A text completes a state to a collection: what the state has read and what the text spells make the collection.
 use Rattle.std.proofs.Common.{◌≡◌, ℕ, ◌+◌, true, List, [], ◌∷◌, ◌++◌, length, Some, refl, ap, append_assoc, append-nil}
 use Rattle.sgf_tree.specs.Tree.{Property, Node, Games, no_games, game}
-use Rattle.sgf_tree.specs.Spelling.{White, Letters, IsValue, ArePropValues, AreProperties, AreNodes, AreGames, Mark}
-use Rattle.sgf_tree.specs.Machine.{OpenGame, Stack, Started, State, start, first_of_mark, second_of_mark, opened, in_node, in_name, behind_name, in_value, behind_escape, behind_value, behind_game, followed_by, property_of, with_property, add_node, ended, whole_game, close_in, whole_games}
+use Rattle.sgf_tree.specs.RawValue.{IsValue}
+use Rattle.sgf_tree.specs.Spelling.{White, Letters, ArePropValues, AreProperties, AreNodes, AreGames, Mark}
+use Rattle.sgf_tree.specs.inner.Machine.{OpenGame, Stack, Started, MachineState, start, first_of_mark, second_of_mark, opened, in_node, in_name, after_name, in_value, after_escape, after_value, after_game, joined, property_of, with_property, add_node, ended, whole_game, close_in, whole_games}
 
 -- games at the end of the innermost open game, or of all
 abbrev pub add_games : Games → List OpenGame → Games → Stack
-add_games closed [] others = record { closed = followed_by closed others; unclosed = [] }
+add_games closed [] others = record { closed = joined closed others; unclosed = [] }
 add_games closed (g ∷ gs) others =
-    record { closed = closed; unclosed = record { first = g.first; more = g.more; below = followed_by g.below others } ∷ gs }
+    record { closed = closed; unclosed = record { first = g.first; more = g.more; below = joined g.below others } ∷ gs }
 
 -- nodes at the end of the innermost open game
 abbrev pub add_nodes : List OpenGame → List Node → List OpenGame
 add_nodes [] ns = []
 add_nodes (g ∷ gs) ns = record { first = g.first; more = g.more ++ ns; below = g.below } ∷ gs
 
-pub followed-none : (a : Games) → followed_by a no_games ≡ a
+pub followed-none : (a : Games) → joined a no_games ≡ a
 followed-none no_games = refl
 followed-none (game f m b h) = ap (game f m b) (followed-none h)
 
-pub followed_assoc : (a b c : Games) → followed_by (followed_by a b) c ≡ followed_by a (followed_by b c)
+pub followed_assoc : (a b c : Games) → joined (joined a b) c ≡ joined a (joined b c)
 followed_assoc no_games b c = refl
 followed_assoc (game f m i h) b c = ap (game f m i) (followed_assoc h b c)
 
 pub closed-in : (closed : Games) (g : OpenGame) (gs : List OpenGame)
-    → close_in closed (g ∷ gs) ≡ Some (behind_game (add_games closed gs (whole_game g)))
+    → close_in closed (g ∷ gs) ≡ Some (after_game (add_games closed gs (whole_game g)))
 closed-in closed g [] = refl
 closed-in closed g (h ∷ gs) = refl
 
@@ -44,55 +45,55 @@ with_values p vs = record { name = p.name; first = p.first; more = p.more ++ vs 
 abbrev pub with_properties : Started → List Property → Started
 with_properties n ps = record { stack = n.stack; opens = n.opens; place = n.place; properties = n.properties ++ ps }
 
--- behind a game, or behind the nodes of one: games, and the ends of the open ones
+-- after a game, or after the nodes of one: games, and the ends of the open ones
 pub data Rest (whole : ℕ) (c : Games) : Games → List OpenGame → List ℕ → Type 0 where
   ends : {closed others : Games} {t r : List ℕ} → AreGames whole others t r → White r []
-      → whole_games (followed_by closed others) [] ≡ Some c → Rest whole c closed [] t
+      → whole_games (joined closed others) [] ≡ Some c → Rest whole c closed [] t
   closes : {closed below : Games} {g : OpenGame} {gs : List OpenGame} {t r x : List ℕ} → AreGames whole below t r → White r (41 ∷ x)
-      → Rest whole c (add_games closed gs (game g.first g.more (followed_by g.below below) no_games)).closed
-      (add_games closed gs (game g.first g.more (followed_by g.below below) no_games)).unclosed x
+      → Rest whole c (add_games closed gs (game g.first g.more (joined g.below below) no_games)).closed
+      (add_games closed gs (game g.first g.more (joined g.below below) no_games)).unclosed x
       → Rest whole c closed (g ∷ gs) t
 
 module _ (whole : ℕ) (c : Games) where
-  abbrev pub Behind_game : Stack → List ℕ → Type 0
-  Behind_game k t = Rest whole c k.closed k.unclosed t
+  abbrev pub After_game : Stack → List ℕ → Type 0
+  After_game k t = Rest whole c k.closed k.unclosed t
 
   -- where a node has ended: nodes, and the rest
-  abbrev pub Behind_node : Stack → List ℕ → Type 0
-  Behind_node k t = (ns : List Node) × (u : List ℕ) × AreNodes whole ns t u × Rest whole c k.closed (add_nodes k.unclosed ns) u
+  abbrev pub After_node : Stack → List ℕ → Type 0
+  After_node k t = (ns : List Node) × (u : List ℕ) × AreNodes whole ns t u × Rest whole c k.closed (add_nodes k.unclosed ns) u
 
   abbrev pub In_node : Started → List ℕ → Type 0
-  In_node n t = (ps : List Property) × (u : List ℕ) × AreProperties ps t u × Behind_node (ended (with_properties n ps)) u
+  In_node n t = (ps : List Property) × (u : List ℕ) × AreProperties ps t u × After_node (ended (with_properties n ps)) u
 
   abbrev pub Opened : Stack → List ℕ → Type 0
   Opened k t =
       (place : ℕ) × (u : List ℕ) × White t (59 ∷ u) × (place + length (59 ∷ u) ≡ whole)
       × In_node (record { stack = k; opens = true; place = place; properties = [] }) u
 
-  abbrev pub Behind_value : Started → Property → List ℕ → Type 0
-  Behind_value n p t = (vs : List (List ℕ)) × (u : List ℕ) × ArePropValues vs t u × In_node (with_property n (with_values p vs)) u
+  abbrev pub After_value : Started → Property → List ℕ → Type 0
+  After_value n p t = (vs : List (List ℕ)) × (u : List ℕ) × ArePropValues vs t u × In_node (with_property n (with_values p vs)) u
 
   abbrev pub In_value : Started → List ℕ → List (List ℕ) → List ℕ → List ℕ → Type 0
   In_value n name before value t =
-      (v u : List ℕ) × IsValue v t (93 ∷ u) × Behind_value n (property_of name before (value ++ v)) u
+      (v u : List ℕ) × IsValue v t (93 ∷ u) × After_value n (property_of name before (value ++ v)) u
 
-  abbrev pub Behind_name : Started → List ℕ → List ℕ → Type 0
-  Behind_name n name t = (u : List ℕ) × White t (91 ∷ u) × In_value n name [] [] u
+  abbrev pub After_name : Started → List ℕ → List ℕ → Type 0
+  After_name n name t = (u : List ℕ) × White t (91 ∷ u) × In_value n name [] [] u
 
   abbrev pub In_name : Started → List ℕ → List ℕ → Type 0
-  In_name n name t = (more u : List ℕ) × Letters more t u × Behind_name n (name ++ more) u
+  In_name n name t = (more u : List ℕ) × Letters more t u × After_name n (name ++ more) u
 
   -- the text completes the state
-  abbrev pub Completes : State → List ℕ → Type 0
+  abbrev pub Completes : MachineState → List ℕ → Type 0
   Completes start t = (s : List ℕ) × Mark t s × Rest whole c no_games [] s
   Completes first_of_mark t = (s : List ℕ) × (t ≡ 187 ∷ 191 ∷ s) × Rest whole c no_games [] s
   Completes second_of_mark t = (s : List ℕ) × (t ≡ 191 ∷ s) × Rest whole c no_games [] s
   Completes (opened k) t = Opened k t
   Completes (in_node n) t = In_node n t
   Completes (in_name n name) t = In_name n name t
-  Completes (behind_name n name) t = Behind_name n name t
+  Completes (after_name n name) t = After_name n name t
   Completes (in_value n name before value) t = In_value n name before value t
-  Completes (behind_escape n name before value) t =
+  Completes (after_escape n name before value) t =
       (b : ℕ) × (s : List ℕ) × (t ≡ b ∷ s) × In_value n name before (value ++ 92 ∷ b ∷ []) s
-  Completes (behind_value n p) t = Behind_value n p t
-  Completes (behind_game k) t = Behind_game k t
+  Completes (after_value n p) t = After_value n p t
+  Completes (after_game k) t = After_game k t

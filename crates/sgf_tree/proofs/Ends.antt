@@ -1,6 +1,6 @@
 -- Facts on lists cut by ends.
 use Rattle.std.proofs.Common.{◌≡◌, ℕ, zero, suc, ◌+◌, ◌-◌, ◌<◌, ◌≤◌, List, [], ◌∷◌, ◌++◌, length, get_or, take, drop, refl, sym, subst, ◌∙◌, arith}
-use Rattle.sgf_tree.specs.Ends.{EndsRise, end_before}
+use Rattle.sgf_tree.specs.inner.Ends.{EndsRise, end_before}
 
 module _ {A : Type 0} (end : A → ℕ) where
   -- the part of a later element begins where that of the one before it ends
@@ -20,7 +20,7 @@ module _ {A : Type 0} (end : A → ℕ) where
   end_before-nil from zero = refl
   end_before-nil from (suc i) = refl
 
-  -- where the parts begin behind the first n elements
+  -- where the parts begin after the first n elements
   pub end_before-drop : (from : ℕ) (xs : List A) (n i : ℕ) → end_before end (end_before end from xs n) (drop n xs) i ≡ end_before end from xs (n + i)
   end_before-drop from xs zero i = let e : 0 + i ≡ i = omega arith in rw e
   end_before-drop from [] (suc n) i = end_before-nil from i ∙ sym (end_before-nil from (suc n + i))
@@ -38,7 +38,7 @@ module _ {A : Type 0} (end : A → ℕ) where
     end_before-le from [] to (suc i) h = omega arith
     end_before-le from (x ∷ xs) to (suc i) h = end_before-le (end x) xs to i h.1
 
-    -- and end there, behind their beginning
+    -- and end there, after their beginning
     pub end-rises : (from : ℕ) (xs : List A) (to i : ℕ) (d : A) → EndsRise end gap from xs to → i < length xs → (end_before end from xs i + gap ≤ end (get_or xs i d)) × (end (get_or xs i d) ≤ to)
     end-rises from [] to i d h lt = absurd (omega arith)
     end-rises from (x ∷ xs) to zero d h lt = (h.0, ends-rise (end x) xs to h.1)
@@ -50,13 +50,13 @@ module _ {A : Type 0} (end : A → ℕ) where
     ends-take from [] to (suc n) h = refl
     ends-take from (x ∷ xs) to (suc n) h = (h.0, ends-take (end x) xs to n h.1)
 
-    -- and of what is behind it
+    -- and of what is after it
     pub ends-drop : (from : ℕ) (xs : List A) (to n : ℕ) → EndsRise end gap from xs to → EndsRise end gap (end_before end from xs n) (drop n xs) to
     ends-drop from xs to zero h = h
     ends-drop from [] to (suc n) h = h
     ends-drop from (x ∷ xs) to (suc n) h = ends-drop (end x) xs to n h.1
 
-    -- one more element, whose part ends behind theirs
+    -- one more element, whose part ends after theirs
     pub ends-push : (from : ℕ) (xs : List A) (to : ℕ) (x : A) → EndsRise end gap from xs to → to + gap ≤ end x → EndsRise end gap from (xs ++ x ∷ []) (end x)
     ends-push from [] to x h le = (omega arith, refl)
     ends-push from (y ∷ xs) to x h le = (h.0, ends-push (end y) xs to x h.1 le)

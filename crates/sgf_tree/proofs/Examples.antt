@@ -1,7 +1,7 @@
 -- Worked examples: the machine computes the collections of a few texts.
 use Rattle.std.proofs.Common.{◌≡◌, ℕ, [], ◌∷◌, Some, None, refl}
 use Rattle.sgf_tree.specs.Tree.{Node, no_games, game}
-use Rattle.sgf_tree.specs.Machine.{step, run, accepted, collection_of}
+use Rattle.sgf_tree.specs.inner.Machine.{step, run, accepted, collection_of}
 
 abbrev bare : ℕ → Node
 bare at = record { place = at; properties = [] }
@@ -17,7 +17,7 @@ variations : collection_of (40 ∷ 59 ∷ 40 ∷ 59 ∷ 41 ∷ 40 ∷ 59 ∷ 41 
 unfolding collection_of accepted run step
 variations = refl
 
--- a byte order mark, and ` (;GaM[a\]][b];)(;)` with white space behind it
+-- a byte order mark, and ` (;GaM[a\]][b];)(;)` with white space after it
 choices : collection_of (239 ∷ 187 ∷ 191 ∷ 32 ∷ 40 ∷ 59 ∷ 71 ∷ 97 ∷ 77 ∷ 91 ∷ 97 ∷ 92 ∷ 93 ∷ 93 ∷ 91 ∷ 98 ∷ 93 ∷ 59 ∷ 41 ∷ 40 ∷ 59 ∷ 41 ∷ 32 ∷ 10 ∷ [])
     ≡ Some (game
     (record { place = 5; properties = record { name = 71 ∷ 77 ∷ []; first = 97 ∷ 92 ∷ 93 ∷ []; more = (98 ∷ []) ∷ [] } ∷ [] })

@@ -5,26 +5,26 @@ use Rattle.std.proofs.lemmas.Option.{none-some, option_and_then_some}
 use Rattle.sgf_tree.specs.Tree.{Games}
 use Rattle.sgf_tree.specs.Spelling.{Spells}
 use Rattle.sgf_tree.specs.FirstFault.{Begins, IsFirstFault}
-use Rattle.sgf_tree.specs.Machine.{State, start, step, run, accepted, collection_of}
+use Rattle.sgf_tree.specs.inner.Machine.{MachineState, start, step, run, accepted, collection_of}
 use Rattle.sgf_tree.proofs.Run.{run-append, run-front, run-take-refused, refused-front, collection-run, collection-refused}
 use Rattle.sgf_tree.proofs.AcceptedSpelled.{completed-spells}
 use Rattle.sgf_tree.proofs.Completable.{reached, complete}
 use Rattle.sgf_tree.proofs.SpelledAccepted.{spelled-accepted}
 
 -- a text that spells a collection is taken to a state
-pub spelled-runs : (c : Games) (t : List ℕ) → Spells c t → (z : State) × (run 0 start t ≡ Some z)
+pub spelled-runs : (c : Games) (t : List ℕ) → Spells c t → (z : MachineState) × (run 0 start t ≡ Some z)
 unfolding collection_of
 spelled-runs c t h =
     option_and_then_some accepted (run 0 start t) c (spelled-accepted c t h) (λ z e f. (z, e))
 
 -- so is each front of one
-pub begins-runs : (t : List ℕ) → Begins t → (z : State) × (run 0 start t ≡ Some z)
+pub begins-runs : (t : List ℕ) → Begins t → (z : MachineState) × (run 0 start t ≡ Some z)
 begins-runs t (more, c, all, h) =
     let (y, e) = spelled-runs c (t ++ more) h in
     option_and_then_some (λ next. run (0 + length t) next more) (run 0 start t) y (sym (run-append 0 start t more) ∙ e) (λ z f g. (z, f))
 
 -- a text that is taken to a state is such a front
-pub runs-begins : (t : List ℕ) (z : State) → run 0 start t ≡ Some z → Begins t
+pub runs-begins : (t : List ℕ) (z : MachineState) → run 0 start t ≡ Some z → Begins t
 runs-begins t z h =
     let (more, all, k) = complete z (reached 0 start z t h tt) in
     let (c, f) = k (length (t ++ more)) (length t) (sym (length-append t more)) in
@@ -40,7 +40,7 @@ begins-below t at h n b = ⊎_elim (λ lt. absurd (longer lt)) (λ le. le) (case
         let (y, f) = run-front (at + 1) (take n t) z e in
         none-some y (sym h ∙ rw (take-take (at + 1) n t (omega arith)) at f)
 
-pub refused-fault : (t : List ℕ) (at : ℕ) (z : State) → at < length t → run 0 start (take at t) ≡ Some z
+pub refused-fault : (t : List ℕ) (at : ℕ) (z : MachineState) → at < length t → run 0 start (take at t) ≡ Some z
     → step at z (get_or t at 0) ≡ None → IsFirstFault t at × ((c : Games) → Spells c t → ⊥)
 refused-fault t at z lt h s =
     let r : run 0 start (take (at + 1) t) ≡ None = run-take-refused t at z h lt s in (
@@ -52,7 +52,7 @@ refused-fault t at z lt h s =
       λ c i. none-some c (sym (collection-refused t (refused-front (at + 1) t r)) ∙ spelled-accepted c t i),
     )
 
-pub ended-fault : (t : List ℕ) (z : State) → run 0 start t ≡ Some z → accepted z ≡ None
+pub ended-fault : (t : List ℕ) (z : MachineState) → run 0 start t ≡ Some z → accepted z ≡ None
     → IsFirstFault t (length t) × ((c : Games) → Spells c t → ⊥)
 ended-fault t z h a = (
   record {

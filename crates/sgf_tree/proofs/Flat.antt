@@ -2,8 +2,8 @@
 use Rattle.std.proofs.Common.{◌≡◌, ℕ, zero, suc, ◌+◌, ◌-◌, ◌<◌, ◌≤◌, List, [], ◌∷◌, length, get_or, take, drop, slice_get, slice_range, Some, refl, ap, ◌∙◌, arith}
 use Rattle.sgf_tree.specs.Tree as tree
 use Rattle.sgf_tree.specs.Tree.{Property}
-use Rattle.sgf_tree.specs.Ends.{EndsRise, end_before}
-use Rattle.sgf_tree.specs.Layout.{property_from, name_in, raw_values, properties_of, row_by, rows_by}
+use Rattle.sgf_tree.specs.inner.Ends.{EndsRise, end_before}
+use Rattle.sgf_tree.specs.inner.Layout.{property_from, name_in, raw_values, properties_of, row_by, rows_by}
 use Rattle.sgf_tree.specs.declared.layout.NodeEntry.{NodeEntry}
 use Rattle.sgf_tree.specs.declared.layout.PropertyEntry.{PropertyEntry}
 use Rattle.sgf_tree.specs.declared.layout.ValueEntry.{ValueEntry}

@@ -3,12 +3,12 @@ use Rattle.std.proofs.Common.{◌≡◌, ℕ, ◌+◌, ◌-◌, ◌<◌, ◌≤�
 use Rattle.std.proofs.lemmas.Bool.{cases_lt, lt-ltb, le-ltb}
 use Rattle.std.proofs.lemmas.List.{length-map, length-replicate, take_at, drop_at}
 use Rattle.std.proofs.lemmas.Option.{slice_get-map}
-use Rattle.sgf_tree.specs.Tree.{Property, Games, no_games, game, followed_by, game_count, node_count}
+use Rattle.sgf_tree.specs.Tree.{Property, Games, no_games, game, joined, game_count, node_count}
 use Rattle.sgf_tree.specs.FileOrder.{game_of}
-use Rattle.sgf_tree.specs.Machine.{OpenGame, whole_game}
-use Rattle.sgf_tree.specs.Ends.{EndsRise}
-use Rattle.sgf_tree.specs.Layout.{properties_of, row_by, rows_by}
-use Rattle.sgf_tree.specs.GamesRead.{open_count, lasts, open_lasts, IsRootOf, HoldStack, unmarked, ClosesRun}
+use Rattle.sgf_tree.specs.inner.Machine.{OpenGame, whole_game}
+use Rattle.sgf_tree.specs.inner.Ends.{EndsRise}
+use Rattle.sgf_tree.specs.inner.Layout.{properties_of, row_by, rows_by}
+use Rattle.sgf_tree.specs.inner.GamesRead.{open_count, lasts, open_lasts, IsRootOf, HoldStack, unmarked, ClosesRun}
 use Rattle.sgf_tree.specs.declared.layout.NodeEntry.{NodeEntry}
 use Rattle.sgf_tree.specs.declared.layout.PropertyEntry.{PropertyEntry}
 use Rattle.sgf_tree.specs.declared.layout.ValueEntry.{ValueEntry}
@@ -38,31 +38,31 @@ mapped f None y h = absurd (cc)
 mapped f (Some x) y h = (x, refl, cc)
 
 -- the game of a node of the first of two lists of games
-game_of-before : (a b : Games) (i : ℕ) → i < node_count a → game_of (followed_by a b) i ≡ game_of a i
+game_of-before : (a b : Games) (i : ℕ) → i < node_count a → game_of (joined a b) i ≡ game_of a i
 game_of-before no_games b i h = absurd (omega arith)
-game_of-before (game first more below behind) b i h =
+game_of-before (game first more below after) b i h =
     let size : ℕ = 1 + length more + node_count below in
     elim (cases_lt i size) [
       | inl lt ↦ rw (lt-ltb i size lt)
-      | inr le ↦ rw (le-ltb i size le) (ap (λ k. 1 + k) (game_of-before behind b (i - size) (omega arith)))
+      | inr le ↦ rw (le-ltb i size le) (ap (λ k. 1 + k) (game_of-before after b (i - size) (omega arith)))
     ]
 
--- and of the root of a game behind them
-game_of-next : (a : Games) (g : OpenGame) → game_of (followed_by a (whole_game g)) (node_count a) ≡ game_count a + 1
+-- and of the root of a game after them
+game_of-next : (a : Games) (g : OpenGame) → game_of (joined a (whole_game g)) (node_count a) ≡ game_count a + 1
 game_of-next no_games g =
     let lt : 0 < 1 + length g.more + node_count g.below = omega arith in rw (lt-ltb 0 (1 + length g.more + node_count g.below) lt)
-game_of-next (game first more below behind) g =
+game_of-next (game first more below after) g =
     let size : ℕ = 1 + length more + node_count below in
-    let le : size ≤ size + node_count behind = omega arith in
-    let e : size + node_count behind - size ≡ node_count behind = omega arith in
-    rw (le-ltb (size + node_count behind) size le, e) (ap (λ k. 1 + k) (game_of-next behind g) ∙ omega arith)
+    let le : size ≤ size + node_count after = omega arith in
+    let e : size + node_count after - size ≡ node_count after = omega arith in
+    rw (le-ltb (size + node_count after) size le, e) (ap (λ k. 1 + k) (game_of-next after g) ∙ omega arith)
 
 -- a root stays that of its game
 root-closed : (closed : Games) (g : OpenGame) (gs : List OpenGame) (i r : ℕ) → IsRootOf closed i r → IsRootOf (add_games closed gs (whole_game g)).closed i r
 root-closed closed g [] i r (inl h) =
     inl (omega (arith, h.0, node_count-followed closed (whole_game g)), game_of-before closed (whole_game g) i h.0 ∙ h.1)
 root-closed closed g [] i r (inr h) =
-    inl (omega (arith, h.0, node_count-followed closed (whole_game g)), ap (game_of (followed_by closed (whole_game g))) h.0 ∙ game_of-next closed g ∙ sym h.1)
+    inl (omega (arith, h.0, node_count-followed closed (whole_game g)), ap (game_of (joined closed (whole_game g))) h.0 ∙ game_of-next closed g ∙ sym h.1)
 root-closed closed g (k ∷ gs) i r h = h
 
 -- the marks of a game's own nodes
@@ -74,15 +74,15 @@ lasts-marked closed g gs marks count is counts =
     let m : ℕ = length g.more in
     let before : List ℕ = open_lasts closed gs in
     let own : List ℕ = replicate (1 + m) 0 in
-    let after : List ℕ = lasts (at + 1 + m) g.below in
+    let later : List ℕ = lasts (at + 1 + m) g.below in
     let befores : length before ≡ at = length-open_lasts closed gs in
     let owns : length (before ++ own) ≡ at + m + 1 = omega (arith, length-append before own, length-replicate {A = ℕ} (1 + m) 0) in
     let e : at + m + 1 - at ≡ 1 + m = omega arith in
     let f : count - 1 ≡ at + m + node_count g.below = omega arith in
     rw (is, e, f)
     (open_lasts-closed closed g gs
-    ∙ ap (λ ls. ls ++ replicate (1 + m) (at + m + node_count g.below) ++ after) (sym (ap (take at) (append_assoc before own after) ∙ take_at before (own ++ after) at befores))
-    ∙ ap (λ ls. take at (before ++ own ++ after) ++ replicate (1 + m) (at + m + node_count g.below) ++ ls) (sym (drop_at (before ++ own) after (at + m + 1) owns)))
+    ∙ ap (λ ls. ls ++ replicate (1 + m) (at + m + node_count g.below) ++ later) (sym (ap (take at) (append_assoc before own later) ∙ take_at before (own ++ later) at befores))
+    ∙ ap (λ ls. take at (before ++ own ++ later) ++ replicate (1 + m) (at + m + node_count g.below) ++ ls) (sym (drop_at (before ++ own) later (at + m + 1) owns)))
 
 module _ (t : List ℕ) (closed : Games) (g : OpenGame) (gs : List OpenGame) where
   -- the vectors hold the stack in which the game has ended

@@ -4,10 +4,10 @@ use Rattle.std.proofs.lemmas.Bool.{false≢true, true≢false}
 use Rattle.std.proofs.lemmas.List.{length-map}
 use Rattle.sgf_tree.specs.Tree.{Games, no_games, game, game_count, node_count}
 use Rattle.sgf_tree.specs.Spelling.{is_white}
-use Rattle.sgf_tree.specs.Machine.{OpenGame, Stack, opened, behind_game, between_games, close_in, whole_game, step, accepted}
+use Rattle.sgf_tree.specs.inner.Machine.{OpenGame, Stack, opened, after_game, between_games, close_in, whole_game, step, accepted}
 use Rattle.sgf_tree.specs.Refusal.{IsFaultyAt}
-use Rattle.sgf_tree.specs.Progress.{Reaches, IsRun}
-use Rattle.sgf_tree.specs.GamesRead.{open_count, tip, HoldStack, IsOpening, StandsBetween, IsSequenceRead, IsOwnRun, unmarked, ClosesRun, IsRead}
+use Rattle.sgf_tree.specs.inner.Progress.{ComesTo, IsRun}
+use Rattle.sgf_tree.specs.inner.GamesRead.{open_count, tip, HoldStack, IsOpening, StandsBetween, IsSequenceRead, IsOwnRun, unmarked, ClosesRun, IsRead}
 use Rattle.sgf_tree.specs.declared.layout.Link.TheVariants.{Root}
 use Rattle.sgf_tree.specs.declared.layout.NodeEntry.{NodeEntry}
 use Rattle.sgf_tree.specs.declared.layout.PropertyEntry.{PropertyEntry}
@@ -18,23 +18,23 @@ use Rattle.sgf_tree.proofs.NodesRead.{nodes-held}
 use Rattle.sgf_tree.proofs.OwnRuns.{own-run, own-parent}
 use Rattle.sgf_tree.proofs.Run.{run-take-step}
 use Rattle.sgf_tree.proofs.SequencesRead.{open-unaccepted}
-use Rattle.sgf_tree.proofs.Skipping.{stays-behind_game}
+use Rattle.sgf_tree.proofs.Skipping.{stays-after_game}
 use Rattle.sgf_tree.proofs.Spans.{run-white}
 use Rattle.sgf_tree.proofs.Stacks.{game_count-followed}
 use Rattle.sgf_tree.proofs.ValueEnds.{ends-faulty, refused-faulty}
 
-pub game-next : (at : ℕ) (k : Stack) (b : ℕ) → step at (behind_game k) b ≡ between_games k b
+pub game-next : (at : ℕ) (k : Stack) (b : ℕ) → step at (after_game k) b ≡ between_games k b
 unfolding step
 game-next at k b = refl
 
-none-accepted : accepted (behind_game (record { closed = no_games; unclosed = [] })) ≡ None
+none-accepted : accepted (after_game (record { closed = no_games; unclosed = [] })) ≡ None
 unfolding accepted
 none-accepted = refl
 
-some-accepted : (closed : Games) → 0 < game_count closed → accepted (behind_game (record { closed = closed; unclosed = [] })) ≡ Some closed
+some-accepted : (closed : Games) → 0 < game_count closed → accepted (after_game (record { closed = closed; unclosed = [] })) ≡ Some closed
 unfolding accepted
 some-accepted no_games h = absurd (omega arith)
-some-accepted (game first more below behind) h = refl
+some-accepted (game first more below after) h = refl
 
 -- a byte that is no `(` and no `)`
 between-refused : (k : Stack) (b : ℕ) → is_white b ≡ false → b ≢ 40 → b ≢ 41 → between_games k b ≡ None
@@ -65,12 +65,12 @@ games-counted closed g (h ∷ hs) parent games games' up e if_none if_some =
     e ∙ sym (if_some (ap is_some (sym up)))
 
 unfinished : (closed : Games) (gs : List OpenGame) (last : Option ℕ) (games : ℕ) → tip closed gs ≡ last → game_count closed ≡ games → (is_some last ≡ true) ⊎ (games ≡ 0)
-    → accepted (behind_game (record { closed = closed; unclosed = gs })) ≡ None
+    → accepted (after_game (record { closed = closed; unclosed = gs })) ≡ None
 unfinished closed (g ∷ gs) last games tip_is e h = open-unaccepted closed g gs
 unfinished no_games [] last games tip_is e h = none-accepted
-unfinished (game first more below behind) [] last games tip_is e (inl h) =
+unfinished (game first more below after) [] last games tip_is e (inl h) =
     absurd (false≢true (ap is_some tip_is ∙ h))
-unfinished (game first more below behind) [] last games tip_is e (inr h) = absurd (omega arith)
+unfinished (game first more below after) [] last games tip_is e (inr h) = absurd (omega arith)
 
 no-tip-left : (closed : Games) (gs : List OpenGame) (last : Option ℕ) → tip closed gs ≡ last → is_some last ≡ false → gs ≡ []
 no-tip-left closed [] last tip_is h = refl
@@ -87,7 +87,7 @@ module _ (t : List ℕ) where
 
   module _ (at games : ℕ) (last : Option ℕ) (ns : List NodeEntry) (ps : List PropertyEntry) (vs : List ValueEntry) (so_far : GamesSoFar at games last ns ps vs) where
     -- a `(`
-    pub games-open : at < length t → get_or t at 0 ≡ 40 → Reaches t (at + 1) (opened so_far.stack)
+    pub games-open : at < length t → get_or t at 0 ≡ 40 → ComesTo t (at + 1) (opened so_far.stack)
     games-open lt e =
         run-take-step t at so_far.stands.state (opened so_far.stack) so_far.stands.reached lt (so_far.stands.next lt ∙ ap (between_games so_far.stack) e)
 
@@ -100,7 +100,7 @@ module _ (t : List ℕ) where
     close-faulty lt e none =
         refused-faulty t at so_far.stands.state lt so_far.stands.reached (so_far.stands.next lt ∙ ap (between_games so_far.stack) e ∙ no-close so_far.stack (so_far.tip_is ∙ none))
 
-  -- the link of the first node behind a `(`
+  -- the link of the first node after a `(`
   pub opening-root : (k : Stack) (games : ℕ) → tip k.closed k.unclosed ≡ None → game_count k.closed ≡ games → IsOpening k (Root (games + 1))
   opening-root k games none e = (no-tip k.closed k.unclosed none, ap (λ n. n + 1) (sym e))
     where
@@ -178,13 +178,13 @@ module _ (t : List ℕ) where
         let done = closes ns' parent h in
         let up : tip so_far.stack.closed inmost.outer ≡ parent =
         some-same (sym (own-parent so_far.stack.closed inmost.inner inmost.outer _ ns held-inner.same_rows) ∙ done.parent_is) in
-        let step_is : step at so_far.stands.state (get_or t at 0) ≡ Some (behind_game closed_stack) =
+        let step_is : step at so_far.stands.state (get_or t at 0) ≡ Some (after_game closed_stack) =
         so_far.stands.next lt ∙ ap (between_games so_far.stack) e ∙ ap (close_in so_far.stack.closed) inmost.is ∙ closed-in so_far.stack.closed inmost.inner inmost.outer in
         record {
           stack = closed_stack;
           stands = record {
-            state = behind_game closed_stack;
-            reached = run-white t (at + 1) next (behind_game closed_stack) (stays-behind_game closed_stack) white.rises white.within white.passing (run-take-step t at so_far.stands.state (behind_game closed_stack) so_far.stands.reached lt step_is);
+            state = after_game closed_stack;
+            reached = run-white t (at + 1) next (after_game closed_stack) (stays-after_game closed_stack) white.rises white.within white.passing (run-take-step t at so_far.stands.state (after_game closed_stack) so_far.stands.reached lt step_is);
             next = λ _. game-next next closed_stack (get_or t next 0);
             end = refl;
             not_white = white.stops;
@@ -199,7 +199,7 @@ module _ (t : List ℕ) where
     pub games-unfinished : (is_some last ≡ true) ⊎ (games ≡ 0) → IsFaultyAt t at
     games-unfinished h =
         subst (IsFaultyAt t) (sym ends)
-        (ends-faulty t so_far.stands.state (subst (λ i. Reaches t i so_far.stands.state) ends so_far.stands.reached)
+        (ends-faulty t so_far.stands.state (subst (λ i. ComesTo t i so_far.stands.state) ends so_far.stands.reached)
         (so_far.stands.end ∙ unfinished so_far.stack.closed so_far.stack.unclosed last games so_far.tip_is so_far.games_are h))
 
     pub games-finished : is_some last ≡ false → 0 < games → (c : Games) × (games ≡ game_count c) × IsRead t c ns ps vs
@@ -209,9 +209,9 @@ module _ (t : List ℕ) where
           sym so_far.games_are,
           record {
             reached = so_far.stands.state;
-            whole = subst (λ i. Reaches t i so_far.stands.state) ends so_far.stands.reached;
+            whole = subst (λ i. ComesTo t i so_far.stands.state) ends so_far.stands.reached;
             accepts =
-                so_far.stands.end ∙ ap (λ gs. accepted (behind_game (record { closed = so_far.stack.closed; unclosed = gs }))) all ∙ some-accepted so_far.stack.closed (omega (arith, so_far.games_are));
+                so_far.stands.end ∙ ap (λ gs. accepted (after_game (record { closed = so_far.stack.closed; unclosed = gs }))) all ∙ some-accepted so_far.stack.closed (omega (arith, so_far.games_are));
             held =
                 subst (λ gs. HoldStack t (record { closed = so_far.stack.closed; unclosed = gs }) ns ps vs) all so_far.held;
           },

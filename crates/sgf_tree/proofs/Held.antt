@@ -6,7 +6,7 @@ use Rattle.std.proofs.lemmas.Option.{slice_get-get_or}
 use Rattle.sgf_tree.specs.declared.fault.TheConstants.{MAX_LENGTH}
 use Rattle.sgf_tree.specs.Tree.{Property, Games, node_count}
 use Rattle.sgf_tree.specs.FileOrder.{Row, rows_of, node_at, place_at, parent_at, game_of, IsLeaf, IsLastBelow}
-use Rattle.sgf_tree.specs.Layout.{games_in, properties_of, parent_by, row_by, rows_by, IsLaidOut, IsNodeHeld, IsSpan}
+use Rattle.sgf_tree.specs.inner.Layout.{games_in, properties_of, parent_by, row_by, rows_by, IsLaidOut, IsNodeHeld, IsSpan}
 use Rattle.sgf_tree.specs.declared.collection.Collection.TheInside.{Inside}
 use Rattle.sgf_tree.specs.declared.layout.Link.{Link}
 use Rattle.sgf_tree.specs.declared.layout.Link.TheVariants.{Root, Next}

@@ -6,7 +6,7 @@ use Rattle.std.proofs.lemmas.Option.{slice_get-get_or, slice_get-map}
 use Rattle.sgf_tree.specs.Tree as tree
 use Rattle.sgf_tree.specs.Tree.{Property, Node}
 use Rattle.sgf_tree.specs.Spelling.{is_upper}
-use Rattle.sgf_tree.specs.Layout.{property_from, name_in, raw_values, properties_of, IsNodeHeld, IsPropertyHeld, IsSpan}
+use Rattle.sgf_tree.specs.inner.Layout.{property_from, name_in, raw_values, properties_of, IsNodeHeld, IsPropertyHeld, IsSpan}
 use Rattle.sgf_tree.specs.declared.node.NodeRef.TheInside as node
 use Rattle.sgf_tree.specs.declared.property.PropRef.TheInside as property
 use Rattle.sgf_tree.specs.declared.layout.PropertyEntry.{PropertyEntry}

@@ -4,7 +4,7 @@ use Rattle.std.proofs.lemmas.Bool.{cases_lt}
 use Rattle.std.proofs.lemmas.List.{length-replicate}
 use Rattle.sgf_tree.specs.Tree.{Node, Games, no_games, game, node_count}
 use Rattle.sgf_tree.specs.FileOrder.{Row, further_rows, rows, rows_of, IsUnder, itself, below, IsLastBelow}
-use Rattle.sgf_tree.specs.GamesRead.{lasts}
+use Rattle.sgf_tree.specs.inner.GamesRead.{lasts}
 use Rattle.sgf_tree.proofs.Rows.{slice_get-left, slice_get-right, parent_in, parent_in-left, parent_in-right, parent_in-further, length-further_rows, length-rows, length-rows_of, parent-within, parent_at-lt, parent_at-within}
 use Rattle.sgf_tree.proofs.Stacks.{length-lasts}
 
@@ -13,7 +13,7 @@ slice_get-replicate zero x i h = absurd (omega arith)
 slice_get-replicate (suc n) x zero h = refl
 slice_get-replicate (suc n) x (suc i) h = slice_get-replicate n x i (omega arith)
 
--- the nodes from n to last, with n the parent of those behind it or over their parents, and no later node below them
+-- the nodes from n to last, with n the parent of those after it or over their parents, and no later node below them
 pub record IsSpanBelow (flat : List Row) (n last : ℕ) : Type 0 where
   pub rises : n ≤ last
   pub inside : (j : ℕ) → n < j → j ≤ last → (q : ℕ) × (parent_in flat j ≡ Some (Some q)) × (n ≤ q) × (q < j)
@@ -63,13 +63,13 @@ has-parent at p (game first more low high) (suc k) lt h =
 module _ (flat : List Row) where
   -- the rows of g stand in the list from `at` on
   Stands : ℕ → Option ℕ → Games → Type 0
-  Stands at p g = (before : List Row) × (behind : List Row) × (flat ≡ before ++ (rows at p g ++ behind)) × (at ≡ length before)
+  Stands at p g = (before : List Row) × (after : List Row) × (flat ≡ before ++ (rows at p g ++ after)) × (at ≡ length before)
 
   segment : (at : ℕ) (p : Option ℕ) (g : Games) (j : ℕ) → Stands at p g → at ≤ j → j < at + node_count g → parent_in flat j ≡ parent_in (rows at p g) (j - at)
   unfolding Stands
-  segment at p g j (before, behind, is, count) low high =
-      ap (λ rs. parent_in rs j) is ∙ parent_in-right before (rows at p g ++ behind) j (j - at) (omega arith)
-      ∙ parent_in-left (rows at p g) behind (j - at) (omega (arith, length-rows at p g))
+  segment at p g j (before, after, is, count) low high =
+      ap (λ rs. parent_in rs j) is ∙ parent_in-right before (rows at p g ++ after) j (j - at) (omega arith)
+      ∙ parent_in-left (rows at p g) after (j - at) (omega (arith, length-rows at p g))
 
   -- the parent of one of them is p or another one of them
   segment-parent : (at : ℕ) (p : Option ℕ) (g : Games) (j q : ℕ) → Stands at p g → at ≤ j → j < at + node_count g → parent_in flat j ≡ Some (Some q) → (p ≡ Some q) ⊎ ((at ≤ q) × (q < j))
@@ -79,12 +79,12 @@ module _ (flat : List Row) where
         | inr w ↦ let lo : at ≤ q = w.from in let hi : q < at + (j - at) = w.before in inr (omega arith, omega arith)
       ]
 
-  -- no node behind the games is below them
+  -- no node after the games is below them
   abbrev Apart : ℕ → ℕ → Type 0
   Apart at end = (j q : ℕ) → end ≤ j → parent_in flat j ≡ Some (Some q) → (q < at) ⊎ (end ≤ q)
 
   module _ (at : ℕ) (p : Option ℕ) (first : Node) (more : List Node) (low high : Games) (stands : Stands at p (game first more low high)) where
-    -- the games below stand behind the game's own nodes
+    -- the games below stand after the game's own nodes
     stands-below : Stands (at + length more + 1) (Some (at + length more)) low
     unfolding Stands
     stands-below =
@@ -97,10 +97,10 @@ module _ (flat : List Row) where
           omega (arith, stands.3, length-append stands.0 own, length-further_rows at more),
         )
 
-    -- and the games behind it behind those
-    stands-behind : Stands (at + length more + 1 + node_count low) p high
+    -- and the games after it after those
+    stands-after : Stands (at + length more + 1 + node_count low) p high
     unfolding Stands
-    stands-behind =
+    stands-after =
         let own : List Row = record { node = first; parent = p; opens = true } ∷ further_rows at more in
         let under : List Row = rows (at + length more + 1) (Some (at + length more)) low in
         let next : List Row = rows (at + length more + 1 + node_count low) p high in (
@@ -111,12 +111,12 @@ module _ (flat : List Row) where
         )
 
     module _ (before : (q : ℕ) → p ≡ Some q → q < at) (apart : Apart at (at + node_count (game first more low high))) where
-      -- behind the game's nodes none is below one of them
+      -- after the game's nodes none is below one of them
       apart-first : Apart at (at + length more + 1 + node_count low)
       apart-first j q le h =
           elim (cases_lt j (at + node_count (game first more low high))) [
             | inl lt ↦
-                elim (segment-parent (at + length more + 1 + node_count low) p high j q stands-behind le (omega arith) h) [
+                elim (segment-parent (at + length more + 1 + node_count low) p high j q stands-after le (omega arith) h) [
                   | inl same ↦ inl (before q same)
                   | inr there ↦ inr there.0
                 ]
@@ -159,13 +159,13 @@ module _ (flat : List Row) where
                 elim (apart-first j q (omega arith) h) [ inl lo ↦ inl (omega arith) | inr hi ↦ inr (omega arith) ];
           }
 
-      -- behind the games below the game none is below one of them
+      -- after the games below the game none is below one of them
       apart-below : Apart (at + length more + 1) (at + length more + 1 + node_count low)
       apart-below j q le h =
           elim (apart-first j q le h) [ inl lo ↦ inl (omega arith) | inr hi ↦ inr hi ]
 
-      apart-behind : Apart (at + length more + 1 + node_count low) (at + length more + 1 + node_count low + node_count high)
-      apart-behind j q le h =
+      apart-after : Apart (at + length more + 1 + node_count low) (at + length more + 1 + node_count low + node_count high)
+      apart-after j q le h =
           elim (apart j q (omega arith) h) [ inl lo ↦ inl (omega arith) | inr hi ↦ inr (omega arith) ]
 
   -- the last one below each node
@@ -195,7 +195,7 @@ module _ (flat : List Row) where
                   (ap (λ k. slice_get (lasts k low) j) (sym f) ∙ sym (slice_get-left (own ++ under) next i (omega arith) ∙ slice_get-right own under i j (omega arith)) ∙ h)
               | inr in_next ↦
                   let j : ℕ = i - (1 + m + node_count low) in
-                  lasts-span (at + m + 1 + node_count low) p high (stands-behind at p first more low high stands) (λ q same. omega (arith, before q same)) (apart-behind at p first more low high stands before apart) j l n (omega arith)
+                  lasts-span (at + m + 1 + node_count low) p high (stands-after at p first more low high stands) (λ q same. omega (arith, before q same)) (apart-after at p first more low high stands before apart) j l n (omega arith)
                   (ap (λ k. slice_get (lasts k high) j) (sym g) ∙ sym (slice_get-right (own ++ under) next i j (omega arith)) ∙ h)
             ]
       ]

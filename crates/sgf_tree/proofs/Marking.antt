@@ -3,8 +3,8 @@ use Rattle.std.proofs.Common.{◌≡◌, ℕ, zero, suc, ◌+◌, ◌-◌, ◌<�
 use Rattle.std.proofs.lemmas.Bool.{cases_lt}
 use Rattle.std.proofs.lemmas.List.{length-map, length-take-le, map-set, set-get_or, set_at, take_more, take-append-drop}
 use Rattle.std.proofs.lemmas.Option.{slice_get-get_or}
-use Rattle.sgf_tree.specs.Layout.{parent_by, opens_by}
-use Rattle.sgf_tree.specs.GamesRead.{opens_at, IsOwnRun, unmarked, ClosesRun}
+use Rattle.sgf_tree.specs.inner.Layout.{parent_by, opens_by}
+use Rattle.sgf_tree.specs.inner.GamesRead.{opens_at, IsOwnRun, unmarked, ClosesRun}
 use Rattle.sgf_tree.specs.declared.layout.Link.{Link}
 use Rattle.sgf_tree.specs.declared.layout.NodeEntry.{NodeEntry}
 

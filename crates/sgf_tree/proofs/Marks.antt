@@ -1,15 +1,15 @@
--- The byte order mark, by the machine, and the white space behind it.
+-- The byte order mark, by the machine, and the white space after it.
 use Rattle.std.proofs.Common.{◌≡◌, ◌≢◌, ℕ, ◌+◌, ◌<◌, ◌≤◌, inl, inr, true, List, [], length, get_or, Some, None, refl, sym, subst, ◌∙◌, arith, ne_eqb}
 use Rattle.std.proofs.lemmas.Bool.{cases_lt}
 use Rattle.sgf_tree.specs.Tree.{no_games}
 use Rattle.sgf_tree.specs.Spelling.{is_white}
-use Rattle.sgf_tree.specs.Machine.{Stack, State, start, first_of_mark, second_of_mark, behind_game, between_games, step, accepted}
+use Rattle.sgf_tree.specs.inner.Machine.{Stack, MachineState, start, first_of_mark, second_of_mark, after_game, between_games, step, accepted}
 use Rattle.sgf_tree.specs.Refusal.{IsFaultyAt}
-use Rattle.sgf_tree.specs.Progress.{Reaches, IsRun}
-use Rattle.sgf_tree.specs.GamesRead.{StandsBetween, IsMarkRead}
+use Rattle.sgf_tree.specs.inner.Progress.{ComesTo, IsRun}
+use Rattle.sgf_tree.specs.inner.GamesRead.{StandsBetween, IsMarkRead}
 use Rattle.sgf_tree.proofs.GamesLoop.{game-next}
 use Rattle.sgf_tree.proofs.Run.{run-take-none, run-take-step}
-use Rattle.sgf_tree.proofs.Skipping.{stays-behind_game}
+use Rattle.sgf_tree.proofs.Skipping.{stays-after_game}
 use Rattle.sgf_tree.proofs.Spans.{run-white}
 use Rattle.sgf_tree.proofs.ValueEnds.{ends-faulty, refused-faulty}
 
@@ -33,7 +33,7 @@ first-refused : (at b : ℕ) → b ≢ 187 → step at first_of_mark b ≡ None
 unfolding step
 first-refused at b ne = rw (ne_eqb b 187 ne)
 
-second-third : (at : ℕ) → step at second_of_mark 191 ≡ Some (behind_game nothing)
+second-third : (at : ℕ) → step at second_of_mark 191 ≡ Some (after_game nothing)
 unfolding step
 second-third at = refl
 
@@ -41,7 +41,7 @@ second-refused : (at b : ℕ) → b ≢ 191 → step at second_of_mark b ≡ Non
 unfolding step
 second-refused at b ne = rw (ne_eqb b 191 ne)
 
-start-end : accepted start ≡ accepted (behind_game nothing)
+start-end : accepted start ≡ accepted (after_game nothing)
 unfolding accepted
 start-end = refl
 
@@ -53,7 +53,7 @@ second-unaccepted : accepted second_of_mark ≡ None
 unfolding accepted
 second-unaccepted = refl
 
-between-white : (b : ℕ) → is_white b ≡ true → between_games nothing b ≡ Some (behind_game nothing)
+between-white : (b : ℕ) → is_white b ≡ true → between_games nothing b ≡ Some (after_game nothing)
 between-white b h = rw h
 
 module _ (t : List ℕ) where
@@ -68,10 +68,10 @@ module _ (t : List ℕ) where
         end = start-end;
       }
 
-  first-reached : 0 < length t → get_or t 0 0 ≡ 239 → Reaches t 1 first_of_mark
+  first-reached : 0 < length t → get_or t 0 0 ≡ 239 → ComesTo t 1 first_of_mark
   first-reached lt e = run-take-step t 0 start first_of_mark (run-take-none t) lt (rw e (start-first 0))
 
-  second-reached : 1 < length t → get_or t 0 0 ≡ 239 → get_or t 1 0 ≡ 187 → Reaches t 2 second_of_mark
+  second-reached : 1 < length t → get_or t 0 0 ≡ 239 → get_or t 1 0 ≡ 187 → ComesTo t 2 second_of_mark
   second-reached lt e f =
       run-take-step t 1 first_of_mark second_of_mark (first-reached (omega arith) e) lt (rw f (first-second 1))
 
@@ -80,20 +80,20 @@ module _ (t : List ℕ) where
   mark-read lt e f g =
       record {
         within = omega arith;
-        state = behind_game nothing;
-        reached = run-take-step t 2 second_of_mark (behind_game nothing) (second-reached (omega arith) e f) lt (rw g (second-third 2));
+        state = after_game nothing;
+        reached = run-take-step t 2 second_of_mark (after_game nothing) (second-reached (omega arith) e f) lt (rw g (second-third 2));
         next = λ _. game-next 3 nothing (get_or t 3 0);
         end = refl;
       }
 
   -- a part of it
-  part-faulty : (at : ℕ) (z : State) → at ≤ length t → Reaches t at z → accepted z ≡ None → (at < length t → step at z (get_or t at 0) ≡ None) → IsFaultyAt t at
+  part-faulty : (at : ℕ) (z : MachineState) → at ≤ length t → ComesTo t at z → accepted z ≡ None → (at < length t → step at z (get_or t at 0) ≡ None) → IsFaultyAt t at
   part-faulty at z le reached a refused =
       elim (cases_lt at (length t)) [
         | inl lt ↦ refused-faulty t at z lt reached (refused lt)
         | inr ge ↦
             let same : length t ≡ at = omega arith in
-            subst (IsFaultyAt t) same (ends-faulty t z (subst (λ i. Reaches t i z) (sym same) reached) a)
+            subst (IsFaultyAt t) same (ends-faulty t z (subst (λ i. ComesTo t i z) (sym same) reached) a)
       ]
 
   pub first-faulty : 0 < length t → get_or t 0 0 ≡ 239 → (1 < length t → get_or t 1 0 ≢ 187) → IsFaultyAt t 1
@@ -111,11 +111,11 @@ module _ (t : List ℕ) where
       elim (cases_lt mark at) [
         | inl lt ↦
             let short : mark < length t = omega (arith, white.within) in
-            let first : Reaches t (mark + 1) (behind_game nothing) =
-            run-take-step t mark read.state (behind_game nothing) read.reached short (read.next short ∙ between-white (get_or t mark 0) (white.passing mark (omega arith) lt)) in
+            let first : ComesTo t (mark + 1) (after_game nothing) =
+            run-take-step t mark read.state (after_game nothing) read.reached short (read.next short ∙ between-white (get_or t mark 0) (white.passing mark (omega arith) lt)) in
             record {
-              state = behind_game nothing;
-              reached = run-white t (mark + 1) at (behind_game nothing) (stays-behind_game nothing) (omega arith) white.within (λ i lo hi. white.passing i (omega arith) hi) first;
+              state = after_game nothing;
+              reached = run-white t (mark + 1) at (after_game nothing) (stays-after_game nothing) (omega arith) white.within (λ i lo hi. white.passing i (omega arith) hi) first;
               next = λ _. game-next at nothing (get_or t at 0);
               end = refl;
               not_white = white.stops;
@@ -124,7 +124,7 @@ module _ (t : List ℕ) where
             let same : mark ≡ at = omega arith in
             record {
               state = read.state;
-              reached = subst (λ i. Reaches t i read.state) same read.reached;
+              reached = subst (λ i. ComesTo t i read.state) same read.reached;
               next =
                   subst (λ i. i < length t → step i read.state (get_or t i 0) ≡ between_games nothing (get_or t i 0)) same read.next;
               end = read.end;

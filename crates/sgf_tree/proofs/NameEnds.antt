@@ -1,16 +1,16 @@
--- How the name of a property is read, up to the `[` behind it.
+-- How the name of a property is read, up to the `[` after it.
 use Rattle.std.proofs.Common.{◌≡◌, ◌≢◌, ℕ, ◌+◌, ◌-◌, ◌<◌, ◌≤◌, false, inl, inr, IsTrue, List, [], ◌∷◌, ◌++◌, length, get_or, drop, slice_range, Some, None, refl, sym, ap, subst, ◌∙◌, arith, if◌then◌else◌, ne_eqb, get_or-drop, length-drop}
 use Rattle.std.proofs.lemmas.Bool.{cases_lt, or_cases, or_parts, or_left, false≢true}
 use Rattle.std.proofs.lemmas.List.{take_more}
 use Rattle.std.proofs.lemmas.List.Elements.{filter-append}
 use Rattle.sgf_tree.specs.Spelling.{is_white, is_upper, is_lower}
-use Rattle.sgf_tree.specs.Machine.{Started, State, in_name, behind_name, in_value, step, accepted}
+use Rattle.sgf_tree.specs.inner.Machine.{Started, MachineState, in_name, after_name, in_value, step, accepted}
 use Rattle.sgf_tree.specs.Refusal.{IsFaultyAt}
-use Rattle.sgf_tree.specs.Layout.{name_in}
-use Rattle.sgf_tree.specs.Progress.{Reaches, IsRun, is_letter}
+use Rattle.sgf_tree.specs.inner.Layout.{name_in}
+use Rattle.sgf_tree.specs.inner.Progress.{ComesTo, IsRun, is_letter}
 use Rattle.sgf_tree.proofs.Classes.{white-not_upper, white-not_lower}
 use Rattle.sgf_tree.proofs.Run.{run-take-step}
-use Rattle.sgf_tree.proofs.Skipping.{stays-behind_name}
+use Rattle.sgf_tree.proofs.Skipping.{stays-after_name}
 use Rattle.sgf_tree.proofs.Spans.{run-white, run-letters}
 use Rattle.sgf_tree.proofs.ValueEnds.{span-join, ends-faulty, refused-faulty}
 
@@ -35,7 +35,7 @@ name-longer t start end lt capital letters =
     ]
 
 pub name-reached : (t : List ℕ) (start end : ℕ) (n : Started) → start < length t → IsTrue (is_upper (get_or t start 0)) → IsRun is_letter t start end
-    → Reaches t (start + 1) (in_name n (get_or t start 0 ∷ [])) → Reaches t end (in_name n (name_in (slice_range t start end)))
+    → ComesTo t (start + 1) (in_name n (get_or t start 0 ∷ [])) → ComesTo t end (in_name n (name_in (slice_range t start end)))
 name-reached t start end n lt capital letters h =
     let b : ℕ = get_or t start 0 in
     let longer : start < end = name-longer t start end lt capital letters in
@@ -48,15 +48,15 @@ name-reached t start end n lt capital letters h =
     (run-letters t (start + 1) end n (b ∷ []) (omega arith) letters.within
     (λ i low high. or_cases (is_upper (get_or t i 0)) (is_lower (get_or t i 0)) (letters.passing i (omega arith) high)) h)
 
--- the state behind a name and the white space there
+-- the state after a name and the white space there
 pub record StandsBehindName (t : List ℕ) (at : ℕ) (n : Started) (name : List ℕ) : Type 0 where
-  pub state : State
-  pub reached : Reaches t at state
+  pub state : MachineState
+  pub reached : ComesTo t at state
   pub bracket : step at state 91 ≡ Some (in_value n name [] [])
   pub refused : at < length t → get_or t at 0 ≢ 91 → step at state (get_or t at 0) ≡ None
   pub unaccepted : accepted state ≡ None
 
-name-white : (at : ℕ) (n : Started) (name : List ℕ) (b : ℕ) → IsTrue (is_white b) → step at (in_name n name) b ≡ Some (behind_name n name)
+name-white : (at : ℕ) (n : Started) (name : List ℕ) (b : ℕ) → IsTrue (is_white b) → step at (in_name n name) b ≡ Some (after_name n name)
 unfolding step
 name-white at n name b h = rw (white-not_upper b h, white-not_lower b h, h)
 
@@ -73,54 +73,54 @@ name-unaccepted : (n : Started) (name : List ℕ) → accepted (in_name n name) 
 unfolding accepted
 name-unaccepted n name = refl
 
-behind-bracket : (at : ℕ) (n : Started) (name : List ℕ) → step at (behind_name n name) 91 ≡ Some (in_value n name [] [])
+after-bracket : (at : ℕ) (n : Started) (name : List ℕ) → step at (after_name n name) 91 ≡ Some (in_value n name [] [])
 unfolding step
-behind-bracket at n name = refl
+after-bracket at n name = refl
 
-behind-refused : (at : ℕ) (n : Started) (name : List ℕ) (b : ℕ) → is_white b ≡ false → b ≢ 91 → step at (behind_name n name) b ≡ None
+after-refused : (at : ℕ) (n : Started) (name : List ℕ) (b : ℕ) → is_white b ≡ false → b ≢ 91 → step at (after_name n name) b ≡ None
 unfolding step
-behind-refused at n name b white ne = rw (white, ne_eqb b 91 ne)
+after-refused at n name b white ne = rw (white, ne_eqb b 91 ne)
 
-behind-unaccepted : (n : Started) (name : List ℕ) → accepted (behind_name n name) ≡ None
+after-unaccepted : (n : Started) (name : List ℕ) → accepted (after_name n name) ≡ None
 unfolding accepted
-behind-unaccepted n name = refl
+after-unaccepted n name = refl
 
-pub name-behind : (t : List ℕ) (start end at : ℕ) (n : Started) (name : List ℕ) → IsRun is_letter t start end → IsRun is_white t end at
-    → Reaches t end (in_name n name) → StandsBehindName t at n name
-name-behind t start end at n name letters white h =
+pub name-after : (t : List ℕ) (start end at : ℕ) (n : Started) (name : List ℕ) → IsRun is_letter t start end → IsRun is_white t end at
+    → ComesTo t end (in_name n name) → StandsBehindName t at n name
+name-after t start end at n name letters white h =
     let low : end ≤ at = white.rises in
     let within : at ≤ length t = white.within in
     elim (cases_lt end at) [
       | inl lt ↦
-          let first : Reaches t (end + 1) (behind_name n name) = run-take-step t end (in_name n name) (behind_name n name) h (omega arith) (name-white end n name (get_or t end 0) (white.passing end (omega arith) lt)) in
+          let first : ComesTo t (end + 1) (after_name n name) = run-take-step t end (in_name n name) (after_name n name) h (omega arith) (name-white end n name (get_or t end 0) (white.passing end (omega arith) lt)) in
           record {
-            state = behind_name n name;
-            reached = run-white t (end + 1) at (behind_name n name) (stays-behind_name n name) (omega arith) white.within (λ i low high. white.passing i (omega arith) high) first;
-            bracket = behind-bracket at n name;
-            refused = λ lt' ne. behind-refused at n name (get_or t at 0) (white.stops lt') ne;
-            unaccepted = behind-unaccepted n name;
+            state = after_name n name;
+            reached = run-white t (end + 1) at (after_name n name) (stays-after_name n name) (omega arith) white.within (λ i low high. white.passing i (omega arith) high) first;
+            bracket = after-bracket at n name;
+            refused = λ lt' ne. after-refused at n name (get_or t at 0) (white.stops lt') ne;
+            unaccepted = after-unaccepted n name;
           }
       | inr le ↦
           let same : end ≡ at = omega arith in
           record {
             state = in_name n name;
-            reached = subst (λ i. Reaches t i (in_name n name)) same h;
+            reached = subst (λ i. ComesTo t i (in_name n name)) same h;
             bracket = name-bracket at n name;
             refused = λ lt' ne. name-refused at n name (get_or t at 0) (subst (λ i. is_letter (get_or t i 0) ≡ false) same (letters.stops (omega arith))) (white.stops lt') ne;
             unaccepted = name-unaccepted n name;
           }
     ]
 
--- a name without a `[` behind it
+-- a name without a `[` after it
 pub name-faulty : (t : List ℕ) (at : ℕ) (n : Started) (name : List ℕ) → StandsBehindName t at n name → at ≤ length t → (at < length t → get_or t at 0 ≢ 91) → IsFaultyAt t at
-name-faulty t at n name behind le other =
+name-faulty t at n name after le other =
     elim (cases_lt at (length t)) [
-      | inl lt ↦ refused-faulty t at behind.state lt behind.reached (behind.refused lt (other lt))
+      | inl lt ↦ refused-faulty t at after.state lt after.reached (after.refused lt (other lt))
       | inr ge ↦
           let same : length t ≡ at = omega arith in
-          subst (IsFaultyAt t) same (ends-faulty t behind.state (subst (λ i. Reaches t i behind.state) (sym same) behind.reached) behind.unaccepted)
+          subst (IsFaultyAt t) same (ends-faulty t after.state (subst (λ i. ComesTo t i after.state) (sym same) after.reached) after.unaccepted)
     ]
 
 -- the `[`
-pub name-value : (t : List ℕ) (at : ℕ) (n : Started) (name : List ℕ) → StandsBehindName t at n name → at < length t → get_or t at 0 ≡ 91 → Reaches t (at + 1) (in_value n name [] [])
-name-value t at n name behind lt e = run-take-step t at behind.state (in_value n name [] []) behind.reached lt (rw e behind.bracket)
+pub name-value : (t : List ℕ) (at : ℕ) (n : Started) (name : List ℕ) → StandsBehindName t at n name → at < length t → get_or t at 0 ≡ 91 → ComesTo t (at + 1) (in_value n name [] [])
+name-value t at n name after lt e = run-take-step t at after.state (in_value n name [] []) after.reached lt (rw e after.bracket)

@@ -3,11 +3,11 @@ use Rattle.std.proofs.Common.{◌≡◌, ◌≢◌, ℕ, ◌+◌, ◌<◌, ◌�
 use Rattle.std.proofs.lemmas.List.Elements.{All-append}
 use Rattle.sgf_tree.specs.Tree.{Property}
 use Rattle.sgf_tree.specs.Spelling.{is_white, is_upper}
-use Rattle.sgf_tree.specs.Machine.{Started, State, in_node, in_name, behind_value, behind_node, with_property, ended, step, accepted}
-use Rattle.sgf_tree.specs.Ends.{EndsRise}
-use Rattle.sgf_tree.specs.Layout.{IsSpan, property_from, name_in, raw_values, properties_of}
-use Rattle.sgf_tree.specs.Progress.{Reaches, IsRun}
-use Rattle.sgf_tree.specs.PropertiesRead.{ArePushed, IsPropertyRead, StandsBehindNode, with_properties, ArePropertiesRead}
+use Rattle.sgf_tree.specs.inner.Machine.{Started, MachineState, in_node, in_name, after_value, after_node, with_property, ended, step, accepted}
+use Rattle.sgf_tree.specs.inner.Ends.{EndsRise}
+use Rattle.sgf_tree.specs.inner.Layout.{IsSpan, property_from, name_in, raw_values, properties_of}
+use Rattle.sgf_tree.specs.inner.Progress.{ComesTo, IsRun}
+use Rattle.sgf_tree.specs.inner.PropertiesRead.{ArePushed, IsPropertyRead, StandsAfterNode, with_properties, ArePropertiesRead}
 use Rattle.sgf_tree.specs.declared.layout.PropertyEntry.{PropertyEntry}
 use Rattle.sgf_tree.specs.declared.layout.ValueEntry.{ValueEntry}
 use Rattle.sgf_tree.proofs.Classes.{upper-not_white, upper-not_bracket}
@@ -18,10 +18,10 @@ use Rattle.sgf_tree.proofs.Skipping.{stays-in_node}
 use Rattle.sgf_tree.proofs.Spans.{run-white}
 use Rattle.sgf_tree.proofs.ValuesRead.{all-one}
 
--- the state in a node without properties, or behind its last one
-abbrev pub state_of : Started → Option Property → State
+-- the state in a node without properties, or after its last one
+abbrev pub state_of : Started → Option Property → MachineState
 state_of done None = in_node done
-state_of done (Some p) = behind_value done p
+state_of done (Some p) = after_value done p
 
 -- the node with that last one
 abbrev pub finished : Started → Option Property → Started
@@ -40,7 +40,7 @@ name-begins at done None b h = rw (upper-not_white b h, h)
 name-begins at done (Some p) b h = rw (upper-not_white b h, upper-not_bracket b h, h)
 
 -- another byte ends the node
-node-ends : (at : ℕ) (done : Started) (last : Option Property) (b : ℕ) → is_white b ≡ false → is_upper b ≡ false → NoBracket last b → step at (state_of done last) b ≡ behind_node at (ended (finished done last)) b
+node-ends : (at : ℕ) (done : Started) (last : Option Property) (b : ℕ) → is_white b ≡ false → is_upper b ≡ false → NoBracket last b → step at (state_of done last) b ≡ after_node at (ended (finished done last)) b
 unfolding step
 node-ends at done None b white upper other = rw (white, upper)
 node-ends at done (Some p) b white upper other = rw (white, ne_eqb b 91 other, upper)
@@ -55,22 +55,22 @@ module _ (t : List ℕ) where
   pub record StandsInNode (at : ℕ) (whole : Started) : Type 0 where
     pub done : Started
     pub last : Option Property
-    pub reached : Reaches t at (state_of done last)
+    pub reached : ComesTo t at (state_of done last)
     pub whole_is : finished done last ≡ whole
     pub other : at < length t → NoBracket last (get_or t at 0)
 
-  pub node-done : (at : ℕ) (whole : Started) → StandsInNode at whole → (at < length t → is_white (get_or t at 0) ≡ false) → (at < length t → is_upper (get_or t at 0) ≡ false) → StandsBehindNode t at whole
+  pub node-done : (at : ℕ) (whole : Started) → StandsInNode at whole → (at < length t → is_white (get_or t at 0) ≡ false) → (at < length t → is_upper (get_or t at 0) ≡ false) → StandsAfterNode t at whole
   node-done at whole stands white upper =
       record {
         state = state_of stands.done stands.last;
         reached = stands.reached;
-        next = λ lt. node-ends at stands.done stands.last (get_or t at 0) (white lt) (upper lt) (stands.other lt) ∙ ap (λ n. behind_node at (ended n) (get_or t at 0)) stands.whole_is;
+        next = λ lt. node-ends at stands.done stands.last (get_or t at 0) (white lt) (upper lt) (stands.other lt) ∙ ap (λ n. after_node at (ended n) (get_or t at 0)) stands.whole_is;
         unaccepted = node-unaccepted stands.done stands.last;
       }
 
-  pub node-name : (at : ℕ) (whole : Started) → StandsInNode at whole → at < length t → IsTrue (is_upper (get_or t at 0)) → Reaches t (at + 1) (in_name whole (get_or t at 0 ∷ []))
+  pub node-name : (at : ℕ) (whole : Started) → StandsInNode at whole → at < length t → IsTrue (is_upper (get_or t at 0)) → ComesTo t (at + 1) (in_name whole (get_or t at 0 ∷ []))
   node-name at whole stands lt capital =
-      subst (λ n. Reaches t (at + 1) (in_name n (get_or t at 0 ∷ []))) stands.whole_is
+      subst (λ n. ComesTo t (at + 1) (in_name n (get_or t at 0 ∷ []))) stands.whole_is
       (run-take-step t at (state_of stands.done stands.last) (in_name (finished stands.done stands.last) (get_or t at 0 ∷ [])) stands.reached lt (name-begins at stands.done stands.last (get_or t at 0) capital))
 
   -- the properties that were read so far
@@ -85,7 +85,7 @@ module _ (t : List ℕ) where
     pub values_counted : at + length added ≤ end
     pub within : end ≤ length t
     pub not_white : end < length t → is_white (get_or t end 0) ≡ false
-    pub reached : (n : Started) → n.properties ≡ [] → Reaches t at (in_node n) → StandsInNode end (with_properties n (properties_of t vs' (length vs) entries))
+    pub reached : (n : Started) → n.properties ≡ [] → ComesTo t at (in_node n) → StandsInNode end (with_properties n (properties_of t vs' (length vs) entries))
 
   pub properties-begin : (at end : ℕ) (ps : List PropertyEntry) (vs : List ValueEntry) → IsRun is_white t at end → PropertiesSoFar at end ps ps vs vs
   properties-begin at end ps vs white =
@@ -153,7 +153,7 @@ module _ (t : List ℕ) where
         reached = λ n none h.
             let before : List Property = properties_of t vs' (length vs) so_far.entries in
             let p : Property = property_from (name_in (slice_range t read.entry.name_start read.entry.name_end)) (raw_values t read.added) in
-            let name : Reaches t (mid + 1) (in_name (with_properties n before) (get_or t mid 0 ∷ [])) = node-name mid (with_properties n before) (so_far.reached n none h) lt capital in
+            let name : ComesTo t (mid + 1) (in_name (with_properties n before) (get_or t mid 0 ∷ [])) = node-name mid (with_properties n before) (so_far.reached n none h) lt capital in
             record {
               done = with_properties n before;
               last = Some p;

@@ -4,10 +4,10 @@ use Rattle.std.proofs.lemmas.List.{map-append}
 use Rattle.std.proofs.lemmas.List.Elements.{All-append}
 use Rattle.sgf_tree.specs.Tree.{Property, Node, Games, no_games, node_count}
 use Rattle.sgf_tree.specs.FileOrder.{Row}
-use Rattle.sgf_tree.specs.Machine.{OpenGame, Stack, ended, begun}
-use Rattle.sgf_tree.specs.Ends.{EndsRise}
-use Rattle.sgf_tree.specs.Layout.{IsSpan, properties_of, parent_by, opens_by, rows_by}
-use Rattle.sgf_tree.specs.GamesRead.{open_count, tip, open_rows, open_lasts, IsRootOf, HoldStack, IsOpening, IsNodeRead}
+use Rattle.sgf_tree.specs.inner.Machine.{OpenGame, Stack, ended, new_game}
+use Rattle.sgf_tree.specs.inner.Ends.{EndsRise}
+use Rattle.sgf_tree.specs.inner.Layout.{IsSpan, properties_of, parent_by, opens_by, rows_by}
+use Rattle.sgf_tree.specs.inner.GamesRead.{open_count, tip, open_rows, open_lasts, IsRootOf, HoldStack, IsOpening, IsNodeRead}
 use Rattle.sgf_tree.specs.declared.layout.Link.{Link}
 use Rattle.sgf_tree.specs.declared.layout.Link.TheVariants.{Root, Branch, Next}
 use Rattle.sgf_tree.specs.declared.layout.NodeEntry.{NodeEntry}
@@ -16,7 +16,7 @@ use Rattle.sgf_tree.specs.declared.layout.ValueEntry.{ValueEntry}
 use Rattle.sgf_tree.proofs.Ends.{ends-push, ends-append}
 use Rattle.sgf_tree.proofs.Flat.{length-properties_of, length-rows_by}
 use Rattle.sgf_tree.proofs.Growth.{slice_range-pushed, properties_of-more, properties_of-append, rows_by-more, rows_by-push}
-use Rattle.sgf_tree.proofs.Stacks.{length-open_rows, open_lasts-begun, open_rows-more, open_lasts-more}
+use Rattle.sgf_tree.proofs.Stacks.{length-open_rows, open_lasts-new_game, open_rows-more, open_lasts-more}
 use Rattle.sgf_tree.proofs.ValuesRead.{all-one}
 
 -- an element of a list with one more is one of the list, or the last one
@@ -123,10 +123,10 @@ module _ (t : List ℕ) where
       let node : Node = record { place = place; properties = properties_of t vs' (length vs) read.properties.entries } in
       let count : length ns ≡ open_count k.closed k.unclosed = nodes-held k ns ps vs held in
       let is = opening-link k link (length ns) count opening in
-      node-held k (record { closed = k.closed; unclosed = begun node ∷ k.unclosed }) place end link ns ns' ps ps' vs vs' held read lt
+      node-held k (record { closed = k.closed; unclosed = new_game node ∷ k.unclosed }) place end link ns ns' ps ps' vs vs' held read lt
       (ap (λ p. open_rows k.closed k.unclosed ++ record { node = node; parent = p; opens = true } ∷ []) is.0
       ∙ ap (λ b. open_rows k.closed k.unclosed ++ record { node = node; parent = parent_by link (length ns); opens = b } ∷ []) is.1)
-      (open_lasts-begun k.closed k.unclosed node)
+      (open_lasts-new_game k.closed k.unclosed node)
       refl
       is.2
 

@@ -2,9 +2,9 @@
 use Rattle.std.proofs.Common.{◌≡◌, ℕ, zero, suc, ◌+◌, ◌-◌, ◌<◌, false, List, [], ◌∷◌, length, slice_get, Some, option_map, refl, sym, ap, ◌∙◌, arith}
 use Rattle.sgf_tree.specs.Tree.{Property, Node, Games}
 use Rattle.sgf_tree.specs.FileOrder.{Row, further_rows, rows}
-use Rattle.sgf_tree.specs.Machine.{OpenGame}
-use Rattle.sgf_tree.specs.Layout.{parent_by, rows_by}
-use Rattle.sgf_tree.specs.GamesRead.{open_count, tip, own_rows, open_rows, opens_at, IsOwnRun}
+use Rattle.sgf_tree.specs.inner.Machine.{OpenGame}
+use Rattle.sgf_tree.specs.inner.Layout.{parent_by, rows_by}
+use Rattle.sgf_tree.specs.inner.GamesRead.{open_count, tip, own_rows, open_rows, opens_at, IsOwnRun}
 use Rattle.sgf_tree.specs.declared.layout.NodeEntry.{NodeEntry}
 use Rattle.sgf_tree.proofs.Rows.{slice_get-left, slice_get-right, length-further_rows}
 use Rattle.sgf_tree.proofs.Stacks.{length-open_rows}
@@ -33,7 +33,7 @@ module _ (closed : Games) (g : OpenGame) (gs : List OpenGame) (props : List Prop
       ap (λ rs. slice_get rs i) (sym same)
       ∙ slice_get-right (open_rows closed gs) (own_rows (open_count closed gs) (tip closed gs) g) i k (omega (arith, length-open_rows closed gs))
 
-  -- they begin with the node behind the `(`, and go on up to the tip
+  -- they begin with the node after the `(`, and go on up to the tip
   pub own-run : IsOwnRun nodes (open_count closed gs) (open_count closed gs + length g.more)
   own-run =
       let at : ℕ = open_count closed gs in

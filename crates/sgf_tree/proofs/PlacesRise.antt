@@ -40,33 +40,33 @@ rises-pair low high (x ∷ ps) (suc i) zero p q r h e f = omega arith
 rises-pair low high (x ∷ ps) (suc i) (suc j) p q r h e f =
     rises-pair (x + 1) high ps i j p q r.1 (omega arith) e f
 
-abbrev place_of : Node → ℕ
-place_of n = n.place
+abbrev node_place : Node → ℕ
+node_place n = n.place
 
 -- the places in file order
 abbrev places : Games → List ℕ
 places no_games = []
-places (game first more below behind) = (first.place ∷ map place_of more ++ places below) ++ places behind
+places (game first more below after) = (first.place ∷ map node_place more ++ places below) ++ places after
 
 abbrev place_in : Row → ℕ
 place_in r = r.node.place
 
-further-places : (last : ℕ) (ns : List Node) → map place_in (further_rows last ns) ≡ map place_of ns
+further-places : (last : ℕ) (ns : List Node) → map place_in (further_rows last ns) ≡ map node_place ns
 further-places last [] = refl
 further-places last (n ∷ ns) = ap (λ ps. n.place ∷ ps) (further-places (last + 1) ns)
 
 rows-places : (at : ℕ) (parent : Option ℕ) (g : Games) → map place_in (rows at parent g) ≡ places g
 rows-places at parent no_games = refl
-rows-places at parent (game first more below behind) =
+rows-places at parent (game first more below after) =
     let last = at + length more in
     let b = rows (last + 1) (Some last) below in
-    let k = rows (last + 1 + node_count below) parent behind in
+    let k = rows (last + 1 + node_count below) parent after in
     let head : Row = record { node = first; parent = parent; opens = true } in
     let joined = map-append place_in (head ∷ further_rows at more ++ b) k in
     let own = map-append place_in (head ∷ further_rows at more) b in
     let e = further-places at more in
     let f = rows-places (last + 1) (Some last) below in
-    let h = rows-places (last + 1 + node_count below) parent behind in
+    let h = rows-places (last + 1 + node_count below) parent after in
     cc
 
 rises-node : {whole : ℕ} {n : Node} {s r : List ℕ} (a b : ℕ) → IsNode whole n s r → a + length s ≤ whole → whole ≤ b + length r
@@ -96,7 +96,7 @@ shrinks-AreGames (games w n ns g v h) =
 
 -- what lies between two ends of a text of `whole` bytes
 rises-nodes : {whole : ℕ} {ns : List Node} {s r : List ℕ} (a b : ℕ) → AreNodes whole ns s r → a + length s ≤ whole → whole ≤ b + length r
-    → Rises a (map place_of ns) b
+    → Rises a (map node_place ns) b
 rises-nodes a b no_node h k = omega arith
 rises-nodes {whole} a b (nodes {n = m} {t = t} n ns) h k =
     let x = shrinks-IsNode n in
@@ -106,27 +106,27 @@ rises-nodes {whole} a b (nodes {n = m} {t = t} n ns) h k =
 rises-games : {whole : ℕ} {g : Games} {s r : List ℕ} (a b : ℕ) → AreGames whole g s r → a + length s ≤ whole → whole ≤ b + length r
     → Rises a (places g) b
 rises-games a b no_game h k = omega arith
-rises-games {whole} a b (games {first} {more} {below} {behind} {t = t} {u = u} {v = v} {w = w} {x = x} d n ns g e f) h k =
+rises-games {whole} a b (games {first} {more} {below} {after} {t = t} {u = u} {v = v} {w = w} {x = x} d n ns g e f) h k =
     let dl = shrinks-White d in
     let nl = shrinks-IsNode n in
     let nsl = shrinks-AreNodes ns in
     let gl = shrinks-AreGames g in
     let el = shrinks-White e in
     let own = rises-node a (whole - length u) n (omega arith) (omega arith) in
-    let rest : Rises (whole - length u) (map place_of more) (whole - length v) =
+    let rest : Rises (whole - length u) (map node_place more) (whole - length v) =
     rises-nodes (whole - length u) (whole - length v) ns (omega arith) (omega arith)
     in
-    let all : Rises a (map place_of (first ∷ more)) (whole - length v) =
+    let all : Rises a (map node_place (first ∷ more)) (whole - length v) =
     (own.0, rises-low (first.place + 1) (whole - length u) _ _ (omega arith) rest)
     in
     let inner : Rises (whole - length v) (places below) (whole - length x) =
     rises-games (whole - length v) (whole - length x) g (omega arith) (omega arith)
     in
-    let later : Rises (whole - length x) (places behind) b =
+    let later : Rises (whole - length x) (places after) b =
     rises-games (whole - length x) b f (omega arith) (omega arith)
     in
-    let own_list = map place_of (first ∷ more) in
-    rises-append a (whole - length x) b (own_list ++ places below) (places behind) (rises-append a (whole - length v) (whole - length x) own_list (places below) all inner) later
+    let own_list = map node_place (first ∷ more) in
+    rises-append a (whole - length x) b (own_list ++ places below) (places after) (rises-append a (whole - length v) (whole - length x) own_list (places below) all inner) later
 
 rises-spelled : (c : Games) (t : List ℕ) → Spells c t → Rises 0 (places c) (length t)
 rises-spelled c t (spells m g w) =

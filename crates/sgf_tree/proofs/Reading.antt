@@ -1,25 +1,26 @@
 -- How the machine reads the parts of a text, up to the properties of a node.
 use Rattle.std.proofs.Common.{◌≡◌, ℕ, ◌+◌, ◌-◌, Bool, List, [], ◌∷◌, ◌++◌, length, Option, Some, None, option_and_then, refl, ap, ◌∙◌, append_assoc, append-nil, arith, ne_eqb}
 use Rattle.sgf_tree.specs.Tree.{Property, values}
-use Rattle.sgf_tree.specs.Spelling.{White, no_white, white, Letters, no_letter, upper, lower, IsValue, no_unit, plain, escaped, prop_value, ArePropValues, no_value, value}
-use Rattle.sgf_tree.specs.Machine.{Stack, Started, State, start, in_name, behind_name, in_value, behind_escape, behind_value, property_of, new_node, step, run}
+use Rattle.sgf_tree.specs.RawValue.{IsValue, no_unit, plain, escaped}
+use Rattle.sgf_tree.specs.Spelling.{White, no_white, white, Letters, no_letter, upper, lower, prop_value, ArePropValues, no_value, value}
+use Rattle.sgf_tree.specs.inner.Machine.{Stack, Started, MachineState, start, in_name, after_name, in_value, after_escape, after_value, property_of, new_node, step, run}
 use Rattle.sgf_tree.proofs.Classes.{white-not_upper, white-not_lower, lower-not_upper}
-use Rattle.sgf_tree.proofs.Skipping.{Stays, stays-behind_name, stays-behind_value}
+use Rattle.sgf_tree.proofs.Skipping.{Stays, stays-after_name, stays-after_value}
 use Rattle.sgf_tree.proofs.Completion.{with_values}
 
 -- the machine over what is left of a text of `whole` bytes
-unfoldable pub read : ℕ → State → List ℕ → Option State
+unfoldable pub read : ℕ → MachineState → List ℕ → Option MachineState
 read whole z [] = Some z
 read whole z (b ∷ t) = option_and_then (λ y. read whole y t) (step (whole - length (b ∷ t)) z b)
 
-run-read : (whole at : ℕ) (z : State) (t : List ℕ) → at + length t ≡ whole → run at z t ≡ read whole z t
+run-read : (whole at : ℕ) (z : MachineState) (t : List ℕ) → at + length t ≡ whole → run at z t ≡ read whole z t
 unfolding run read
 run-read whole at z [] e = refl
 run-read whole at z (b ∷ t) e =
     let f : whole - length (b ∷ t) ≡ at = omega arith in
     rw f (also (λ y. run-read whole (at + 1) y t (omega arith)) (step at z b))
   where
-    also : ((y : State) → run (at + 1) y t ≡ read whole y t) → (o : Option State)
+    also : ((y : MachineState) → run (at + 1) y t ≡ read whole y t) → (o : Option MachineState)
         → option_and_then (λ next. run (at + 1) next t) o ≡ option_and_then (λ y. read whole y t) o
     also h None = refl
     also h (Some y) = h y
@@ -30,12 +31,12 @@ run-whole t = run-read (length t) 0 start t (omega arith)
 
 module _ (whole : ℕ) where
   -- one byte
-  pub one-byte : (z y : State) (b : ℕ) (t : List ℕ) → ((at : ℕ) → step at z b ≡ Some y) → read whole z (b ∷ t) ≡ read whole y t
+  pub one-byte : (z y : MachineState) (b : ℕ) (t : List ℕ) → ((at : ℕ) → step at z b ≡ Some y) → read whole z (b ∷ t) ≡ read whole y t
   unfolding read
   one-byte z y b t e = ap (option_and_then (λ x. read whole x t)) (e (whole - length (b ∷ t)))
 
   -- the `;` of a node, with its place
-  pub one-node : (z : State) (k : Stack) (opens : Bool) (place : ℕ) (t : List ℕ) → place + length (59 ∷ t) ≡ whole
+  pub one-node : (z : MachineState) (k : Stack) (opens : Bool) (place : ℕ) (t : List ℕ) → place + length (59 ∷ t) ≡ whole
       → ((at : ℕ) → step at z 59 ≡ Some (new_node k opens at)) → read whole z (59 ∷ t) ≡ read whole (new_node k opens place) t
   unfolding read
   one-node z k opens place t f e =
@@ -43,7 +44,7 @@ module _ (whole : ℕ) where
       rw g (ap (option_and_then (λ x. read whole x t)) (e place))
 
   -- white space, where the state stays
-  pub over-white : {s r : List ℕ} (z : State) → Stays z → White s r → read whole z s ≡ read whole z r
+  pub over-white : {s r : List ℕ} (z : MachineState) → Stays z → White s r → read whole z s ≡ read whole z r
   over-white z h no_white = refl
   over-white z h (white {b} {s} i w) = one-byte z z b s (λ at. h b at i) ∙ over-white z h w
 
@@ -56,25 +57,25 @@ module _ (whole : ℕ) where
       (λ at. rw (ne_eqb b 93 x, ne_eqb b 92 y))
       ∙ rw append_assoc at (over-units n name before (so_far ++ b ∷ []) u)
   over-units n name before so_far (escaped {b} {s} u) =
-      one-byte (in_value n name before so_far) (behind_escape n name before so_far) 92 (b ∷ s) (λ at. refl)
-      ∙ one-byte (behind_escape n name before so_far) (in_value n name before (so_far ++ 92 ∷ b ∷ [])) b s (λ at. refl)
+      one-byte (in_value n name before so_far) (after_escape n name before so_far) 92 (b ∷ s) (λ at. refl)
+      ∙ one-byte (after_escape n name before so_far) (in_value n name before (so_far ++ 92 ∷ b ∷ [])) b s (λ at. refl)
       ∙ rw append_assoc at (over-units n name before (so_far ++ 92 ∷ b ∷ []) u)
 
-  -- a value behind its `[`, with its `]`
+  -- a value after its `[`, with its `]`
   pub over-value : {v t r : List ℕ} (n : Started) (name : List ℕ) (before : List (List ℕ)) → IsValue v t (93 ∷ r)
-      → read whole (in_value n name before []) t ≡ read whole (behind_value n (property_of name before v)) r
+      → read whole (in_value n name before []) t ≡ read whole (after_value n (property_of name before v)) r
   unfolding step
   over-value {v} {t} {r} n name before u =
       over-units n name before [] u
-      ∙ one-byte (in_value n name before v) (behind_value n (property_of name before v)) 93 r (λ at. refl)
+      ∙ one-byte (in_value n name before v) (after_value n (property_of name before v)) 93 r (λ at. refl)
 
   pub over-values : {vs : List (List ℕ)} {t r : List ℕ} (n : Started) (p : Property) → ArePropValues vs t r
-      → read whole (behind_value n p) t ≡ read whole (behind_value n (with_values p vs)) r
+      → read whole (after_value n p) t ≡ read whole (after_value n (with_values p vs)) r
   unfolding step
   over-values n p no_value = rw append-nil
   over-values n p (value (prop_value {value = v} {t} w u) are) =
-      over-white (behind_value n p) (stays-behind_value n p) w
-      ∙ one-byte (behind_value n p) (in_value n p.name (values p) []) 91 t (λ at. refl)
+      over-white (after_value n p) (stays-after_value n p) w
+      ∙ one-byte (after_value n p) (in_value n p.name (values p) []) 91 t (λ at. refl)
       ∙ over-value n p.name (values p) u
       ∙ rw append_assoc at (over-values n (property_of p.name (values p) v) are)
 
@@ -88,12 +89,12 @@ module _ (whole : ℕ) where
   over-letters n name (lower {b} {s} h l) =
       one-byte (in_name n name) (in_name n name) b s (λ at. rw (lower-not_upper b h, h)) ∙ over-letters n name l
 
-  -- behind a name, up to the first value
+  -- after a name, up to the first value
   pub to-value : {s t : List ℕ} (n : Started) (name : List ℕ) → White s (91 ∷ t)
       → read whole (in_name n name) s ≡ read whole (in_value n name [] []) t
   unfolding step
   to-value {s} {t} n name no_white = one-byte (in_name n name) (in_value n name [] []) 91 t (λ at. refl)
   to-value {s} {t} n name (white {b} {s = u} h w) =
-      one-byte (in_name n name) (behind_name n name) b u (λ at. rw (white-not_upper b h, white-not_lower b h, h))
-      ∙ over-white (behind_name n name) (stays-behind_name n name) w
-      ∙ one-byte (behind_name n name) (in_value n name [] []) 91 t (λ at. refl)
+      one-byte (in_name n name) (after_name n name) b u (λ at. rw (white-not_upper b h, white-not_lower b h, h))
+      ∙ over-white (after_name n name) (stays-after_name n name) w
+      ∙ one-byte (after_name n name) (in_value n name [] []) 91 t (λ at. refl)

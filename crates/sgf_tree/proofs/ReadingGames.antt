@@ -2,19 +2,19 @@
 use Rattle.std.proofs.Common.{◌≡◌, ℕ, Bool, false, true, IsTrue, List, [], ◌∷◌, Some, refl, sym, ap, ◌∙◌, append_assoc, append-nil}
 use Rattle.sgf_tree.specs.Tree.{Property, Node, Games, no_games, game}
 use Rattle.sgf_tree.specs.Spelling.{is_upper, White, prop_value, IsProperty, property, AreProperties, no_property, properties, IsNode, node, AreNodes, no_node, nodes, AreGames, no_game, games}
-use Rattle.sgf_tree.specs.Machine.{OpenGame, Stack, Started, State, opened, in_node, in_name, behind_value, behind_game, followed_by, property_of, with_property, add_node, begun, ended, whole_game, close, new_node, step}
+use Rattle.sgf_tree.specs.inner.Machine.{OpenGame, Stack, Started, MachineState, opened, in_node, in_name, after_value, after_game, joined, property_of, with_property, add_node, new_game, ended, whole_game, close, new_node, step}
 use Rattle.sgf_tree.proofs.Classes.{upper-not_white, upper-not_bracket}
 use Rattle.sgf_tree.proofs.Completion.{followed-none, followed_assoc, nodes-none, nodes-more, closed-in, add_games, add_nodes, with_properties}
-use Rattle.sgf_tree.proofs.Skipping.{Stays, stays-opened, stays-behind_game}
+use Rattle.sgf_tree.proofs.Skipping.{Stays, stays-opened, stays-after_game}
 use Rattle.sgf_tree.proofs.Reading.{read, one-byte, one-node, over-white, over-value, over-values, over-letters, to-value}
 
 -- the states in which a node may end
-data AtEnd : Started → State → Type 0 where
+data AtEnd : Started → MachineState → Type 0 where
   bare_end : {n : Started} → AtEnd n (in_node n)
-  value_end : {n : Started} {p : Property} → AtEnd (with_property n p) (behind_value n p)
+  value_end : {n : Started} {p : Property} → AtEnd (with_property n p) (after_value n p)
 
 -- the end of a node that gives the stack
-abbrev EndsAs : Stack → State → Type 0
+abbrev EndsAs : Stack → MachineState → Type 0
 EndsAs k z = (n : Started) × AtEnd n z × (ended n ≡ k)
 
 games-none : (closed : Games) (unclosed : List OpenGame) → add_games closed unclosed no_games ≡ record { closed = closed; unclosed = unclosed }
@@ -22,38 +22,38 @@ games-none closed [] = rw followed-none
 games-none closed (g ∷ gs) = rw followed-none
 
 games-more : (closed : Games) (unclosed : List OpenGame) (a b : Games)
-    → add_games (add_games closed unclosed a).closed (add_games closed unclosed a).unclosed b ≡ add_games closed unclosed (followed_by a b)
+    → add_games (add_games closed unclosed a).closed (add_games closed unclosed a).unclosed b ≡ add_games closed unclosed (joined a b)
 games-more closed [] a b = rw followed_assoc
 games-more closed (g ∷ gs) a b = rw followed_assoc
 
 module _ (whole : ℕ) where
-  stays-end : {n : Started} {z : State} → AtEnd n z → Stays z
+  stays-end : {n : Started} {z : MachineState} → AtEnd n z → Stays z
   unfolding step
   stays-end bare_end b at h = rw h
   stays-end value_end b at h = rw h
 
-  end-name : {n : Started} {z : State} → AtEnd n z → (b at : ℕ) → IsTrue (is_upper b) → step at z b ≡ Some (in_name n (b ∷ []))
+  end-name : {n : Started} {z : MachineState} → AtEnd n z → (b at : ℕ) → IsTrue (is_upper b) → step at z b ≡ Some (in_name n (b ∷ []))
   unfolding step
   end-name bare_end b at h = rw (upper-not_white b h, h)
   end-name value_end b at h = rw (upper-not_white b h, upper-not_bracket b h, h)
 
-  end-node : {n : Started} {z : State} → AtEnd n z → (at : ℕ) → step at z 59 ≡ Some (new_node (ended n) false at)
+  end-node : {n : Started} {z : MachineState} → AtEnd n z → (at : ℕ) → step at z 59 ≡ Some (new_node (ended n) false at)
   unfolding step
   end-node bare_end at = refl
   end-node value_end at = refl
 
-  end-opens : {n : Started} {z : State} → AtEnd n z → (at : ℕ) → step at z 40 ≡ Some (opened (ended n))
+  end-opens : {n : Started} {z : MachineState} → AtEnd n z → (at : ℕ) → step at z 40 ≡ Some (opened (ended n))
   unfolding step
   end-opens bare_end at = refl
   end-opens value_end at = refl
 
-  end-closes : {n : Started} {z : State} → AtEnd n z → (at : ℕ) → step at z 41 ≡ close (ended n)
+  end-closes : {n : Started} {z : MachineState} → AtEnd n z → (at : ℕ) → step at z 41 ≡ close (ended n)
   unfolding step
   end-closes bare_end at = refl
   end-closes value_end at = refl
 
-  over-property : {p : Property} {s r : List ℕ} {n : Started} {z : State} → AtEnd n z → IsProperty p s r
-      → read whole z s ≡ read whole (behind_value n p) r
+  over-property : {p : Property} {s r : List ℕ} {n : Started} {z : MachineState} → AtEnd n z → IsProperty p s r
+      → read whole z s ≡ read whole (after_value n p) r
   over-property {n = n} {z = z} a (property {b} {name} {v} {t = t} w h l (prop_value w' u) are) =
       over-white whole z (stays-end a) w
       ∙ one-byte whole z (in_name n (b ∷ [])) b t (λ at. end-name a b at h)
@@ -62,85 +62,85 @@ module _ (whole : ℕ) where
       ∙ over-value whole n (b ∷ name) [] u
       ∙ over-values whole n (property_of (b ∷ name) [] v) are
 
-  -- the state behind properties
-  over-properties : {ps : List Property} {s r : List ℕ} (n : Started) (z : State) → AtEnd n z → AreProperties ps s r
-      → (y : State) × AtEnd (with_properties n ps) y × (read whole z s ≡ read whole y r)
+  -- the state after properties
+  over-properties : {ps : List Property} {s r : List ℕ} (n : Started) (z : MachineState) → AtEnd n z → AreProperties ps s r
+      → (y : MachineState) × AtEnd (with_properties n ps) y × (read whole z s ≡ read whole y r)
   over-properties n z a no_property = (z, rw append-nil a, refl)
   over-properties n z a (properties {p} is are) =
-      let (y, e, f) = over-properties (with_property n p) (behind_value n p) value_end are in
+      let (y, e, f) = over-properties (with_property n p) (after_value n p) value_end are in
       (y, rw append_assoc at e, over-property a is ∙ f)
 
   -- a node, from a state that takes its `;`
-  over-node : {m : Node} {s r : List ℕ} (z : State) (k : Stack) (opens : Bool) → Stays z
+  over-node : {m : Node} {s r : List ℕ} (z : MachineState) (k : Stack) (opens : Bool) → Stays z
       → ((at : ℕ) → step at z 59 ≡ Some (new_node k opens at)) → IsNode whole m s r
-      → (y : State) × EndsAs (ended (record { stack = k; opens = opens; place = m.place; properties = m.properties })) y
+      → (y : MachineState) × EndsAs (ended (record { stack = k; opens = opens; place = m.place; properties = m.properties })) y
       × (read whole z s ≡ read whole y r)
   over-node z k opens stays e (node {place} {ps} {t = t} w f are) =
       let n : Started = record { stack = k; opens = opens; place = place; properties = [] } in
       let (y, a, g) = over-properties n (in_node n) bare_end are in
       (y, (with_properties n ps, a, refl), over-white whole z stays w ∙ one-node whole z k opens place t f e ∙ g)
 
-  over-nodes : {ns : List Node} {s r : List ℕ} (k : Stack) (z : State) → EndsAs k z → AreNodes whole ns s r
-      → (y : State) × EndsAs (record { closed = k.closed; unclosed = add_nodes k.unclosed ns }) y × (read whole z s ≡ read whole y r)
+  over-nodes : {ns : List Node} {s r : List ℕ} (k : Stack) (z : MachineState) → EndsAs k z → AreNodes whole ns s r
+      → (y : MachineState) × EndsAs (record { closed = k.closed; unclosed = add_nodes k.unclosed ns }) y × (read whole z s ≡ read whole y r)
   over-nodes k z h no_node = (z, rw nodes-none h, refl)
   over-nodes k z (n, a, e) (nodes {n = m} is are) =
       let (x, f, g) = over-node z k false (stays-end a) (λ at. end-node a at ∙ ap (λ l. Some (new_node l false at)) e) is in
       let (y, h, i) = over-nodes (record { closed = k.closed; unclosed = add_node k.unclosed m }) x f are in
       (y, rw nodes-more at h, g ∙ i)
 
-  -- a `(` behind a game
-  to-opened : {s t : List ℕ} (k : Stack) → White s (40 ∷ t) → read whole (behind_game k) s ≡ read whole (opened k) t
+  -- a `(` after a game
+  to-opened : {s t : List ℕ} (k : Stack) → White s (40 ∷ t) → read whole (after_game k) s ≡ read whole (opened k) t
   unfolding step
-  to-opened {s} {t} k w = over-white whole (behind_game k) (stays-behind_game k) w ∙ one-byte whole (behind_game k) (opened k) 40 t (λ at. refl)
+  to-opened {s} {t} k w = over-white whole (after_game k) (stays-after_game k) w ∙ one-byte whole (after_game k) (opened k) 40 t (λ at. refl)
 
   -- where a `(` follows, the end of a node is like that of a game
-  to-game : {s t : List ℕ} (k : Stack) (z : State) → EndsAs k z → White s (40 ∷ t) → read whole z s ≡ read whole (behind_game k) s
+  to-game : {s t : List ℕ} (k : Stack) (z : MachineState) → EndsAs k z → White s (40 ∷ t) → read whole z s ≡ read whole (after_game k) s
   to-game {s} {t} k z (n, a, e) w =
       over-white whole z (stays-end a) w
       ∙ one-byte whole z (opened k) 40 t (λ at. end-opens a at ∙ ap (λ l. Some (opened l)) e)
       ∙ sym (to-opened k w)
 
-  -- a `)` behind a game, or behind a node
+  -- a `)` after a game, or after a node
   to-closed : {s t : List ℕ} (closed : Games) (g : OpenGame) (gs : List OpenGame) → White s (41 ∷ t)
-      → read whole (behind_game (record { closed = closed; unclosed = g ∷ gs })) s
-      ≡ read whole (behind_game (add_games closed gs (whole_game g))) t
+      → read whole (after_game (record { closed = closed; unclosed = g ∷ gs })) s
+      ≡ read whole (after_game (add_games closed gs (whole_game g))) t
   unfolding step
   to-closed {s} {t} closed g gs w =
       let k : Stack = record { closed = closed; unclosed = g ∷ gs } in
-      over-white whole (behind_game k) (stays-behind_game k) w
-      ∙ one-byte whole (behind_game k) (behind_game (add_games closed gs (whole_game g))) 41 t (λ at. closed-in closed g gs)
+      over-white whole (after_game k) (stays-after_game k) w
+      ∙ one-byte whole (after_game k) (after_game (add_games closed gs (whole_game g))) 41 t (λ at. closed-in closed g gs)
 
-  end-closed : {s t : List ℕ} (closed : Games) (g : OpenGame) (gs : List OpenGame) (z : State)
+  end-closed : {s t : List ℕ} (closed : Games) (g : OpenGame) (gs : List OpenGame) (z : MachineState)
       → EndsAs (record { closed = closed; unclosed = g ∷ gs }) z → White s (41 ∷ t)
-      → read whole z s ≡ read whole (behind_game (add_games closed gs (whole_game g))) t
+      → read whole z s ≡ read whole (after_game (add_games closed gs (whole_game g))) t
   end-closed {s} {t} closed g gs z (n, a, e) w =
       over-white whole z (stays-end a) w
-      ∙ one-byte whole z (behind_game (add_games closed gs (whole_game g))) 41 t
+      ∙ one-byte whole z (after_game (add_games closed gs (whole_game g))) 41 t
       (λ at. end-closes a at ∙ ap close e ∙ closed-in closed g gs)
 
-  -- the games below a node, and the `)` behind them
-  over-below : {below : Games} {s t r : List ℕ} (closed : Games) (g : OpenGame) (gs : List OpenGame) (z : State)
+  -- the games below a node, and the `)` after them
+  over-below : {below : Games} {s t r : List ℕ} (closed : Games) (g : OpenGame) (gs : List OpenGame) (z : MachineState)
       → EndsAs (record { closed = closed; unclosed = g ∷ gs }) z → AreGames whole below s r
-      → read whole (behind_game (record { closed = closed; unclosed = g ∷ gs })) s
-      ≡ read whole (behind_game (add_games closed (g ∷ gs) below)) r
+      → read whole (after_game (record { closed = closed; unclosed = g ∷ gs })) s
+      ≡ read whole (after_game (add_games closed (g ∷ gs) below)) r
       → White r (41 ∷ t)
-      → read whole z s ≡ read whole (behind_game (add_games closed gs (game g.first g.more (followed_by g.below below) no_games))) t
+      → read whole z s ≡ read whole (after_game (add_games closed gs (game g.first g.more (joined g.below below) no_games))) t
   over-below closed g gs z h no_game ih last = rw followed-none (end-closed closed g gs z h last)
   over-below {below} closed g gs z h (games w n ns bs l hs) ih last =
       let k : Stack = record { closed = closed; unclosed = g ∷ gs } in
       to-game k z h w ∙ ih
-      ∙ to-closed closed (record { first = g.first; more = g.more; below = followed_by g.below below }) gs last
+      ∙ to-closed closed (record { first = g.first; more = g.more; below = joined g.below below }) gs last
 
   pub over-games : {others : Games} {s r : List ℕ} (closed : Games) (unclosed : List OpenGame) → AreGames whole others s r
-      → read whole (behind_game (record { closed = closed; unclosed = unclosed })) s
-      ≡ read whole (behind_game (add_games closed unclosed others)) r
+      → read whole (after_game (record { closed = closed; unclosed = unclosed })) s
+      ≡ read whole (after_game (add_games closed unclosed others)) r
   unfolding step
   over-games closed unclosed no_game = rw games-none
-  over-games closed unclosed (games {first} {more} {below} {behind} w n ns bs last hs) =
+  over-games closed unclosed (games {first} {more} {below} {after} w n ns bs last hs) =
       let k : Stack = record { closed = closed; unclosed = unclosed } in
       let g : OpenGame = record { first = first; more = more; below = no_games } in
       let (x, e, f) = over-node (opened k) k true (stays-opened k) (λ at. refl) n in
-      let (y, h, i) = over-nodes (record { closed = closed; unclosed = begun first ∷ unclosed }) x e ns in
+      let (y, h, i) = over-nodes (record { closed = closed; unclosed = new_game first ∷ unclosed }) x e ns in
       let l = add_games closed unclosed (game first more below no_games) in
       to-opened k w ∙ f ∙ i
       ∙ over-below closed g unclosed y h bs (over-games closed (g ∷ unclosed) bs) last

@@ -37,12 +37,12 @@ length-further_rows last (n ∷ ns) = ap suc (length-further_rows (last + 1) ns)
 
 pub length-rows : (at : ℕ) (parent : Option ℕ) (g : Games) → length (rows at parent g) ≡ node_count g
 length-rows at parent no_games = refl
-length-rows at parent (game first more below behind) =
+length-rows at parent (game first more below after) =
     let last : ℕ = at + length more in
     let own : List Row = record { node = first; parent = parent; opens = true } ∷ further_rows at more in
     let under : List Row = rows (last + 1) (Some last) below in
-    let next : List Row = rows (last + 1 + node_count below) parent behind in
-    omega (arith, length-append (own ++ under) next, length-append own under, length-further_rows at more, length-rows (last + 1) (Some last) below, length-rows (last + 1 + node_count below) parent behind)
+    let next : List Row = rows (last + 1 + node_count below) parent after in
+    omega (arith, length-append (own ++ under) next, length-append own under, length-further_rows at more, length-rows (last + 1) (Some last) below, length-rows (last + 1 + node_count below) parent after)
 
 pub parent_in-further : (last : ℕ) (ns : List Node) (j : ℕ) → j < length ns → parent_in (further_rows last ns) j ≡ Some (Some (last + j))
 parent_in-further last [] j h = absurd (omega arith)
@@ -53,9 +53,9 @@ parent_in-further last (n ∷ ns) (suc j) h =
 -- the first of some games has the parent of them all
 parent_in-first : (at : ℕ) (parent : Option ℕ) (g : Games) → 0 < length (rows at parent g) → parent_in (rows at parent g) 0 ≡ Some parent
 parent_in-first at parent no_games h = absurd (omega arith)
-parent_in-first at parent (game first more below behind) h = refl
+parent_in-first at parent (game first more below after) h = refl
 
--- node i is one of these rows, stands before place j, and the node behind it has it as its parent
+-- node i is one of these rows, stands before place j, and the node after it has it as its parent
 pub record IsParentWithin (at : ℕ) (rs : List Row) (j i : ℕ) : Type 0 where
   pub from : at ≤ i
   pub before : i < at + j
@@ -115,12 +115,12 @@ joined-within at start xs ys j i P e h left right =
 -- a node that has the parent i has the parent of all these games, or i is one of their nodes
 pub parent-within : (at : ℕ) (parent : Option ℕ) (g : Games) (j i : ℕ) → parent_in (rows at parent g) j ≡ Some (Some i) → (parent ≡ Some i) ⊎ IsParentWithin at (rows at parent g) j i
 parent-within at parent no_games j i h = absurd (cc)
-parent-within at parent (game first more below behind) j i h =
+parent-within at parent (game first more below after) j i h =
     let last : ℕ = at + length more in
     let own : List Row = record { node = first; parent = parent; opens = true } ∷ further_rows at more in
     let under : List Row = rows (last + 1) (Some last) below in
     let start : ℕ = last + 1 + node_count below in
-    let next : List Row = rows start parent behind in
+    let next : List Row = rows start parent after in
     let owns : length own ≡ suc (length more) = ap suc (length-further_rows at more) in
     let unders : length under ≡ node_count below = length-rows (last + 1) (Some last) below in
     let both : length (own ++ under) ≡ suc (length more) + node_count below = omega (arith, length-append own under) in
@@ -135,7 +135,7 @@ parent-within at parent (game first more below behind) j i h =
       | inr w ↦ inr (within-right at (last + 1) own under j k i (omega arith) e w)
     ]))
     (λ k e in_next.
-    elim (parent-within start parent behind k i in_next) [
+    elim (parent-within start parent after k i in_next) [
       | inl p ↦ inl p
       | inr w ↦ inr (within-right at start (own ++ under) next j k i (omega arith) e w)
     ])
@@ -160,16 +160,16 @@ parent_at-next c j i h =
 pub length-rows_of : (c : Games) → length (rows_of c) ≡ node_count c
 length-rows_of c = length-rows 0 None c
 
--- the two are in the first game, or both are in the games behind it
-game_of-first : (size : ℕ) (behind : Games) (a b : ℕ) → a < size → b < size → (if nat_lt a size then 1 else 1 + game_of behind (a - size)) ≡ (if nat_lt b size then 1 else 1 + game_of behind (b - size))
-game_of-first size behind a b p q = rw (lt-ltb a size p, lt-ltb b size q)
+-- the two are in the first game, or both are in the games after it
+game_of-first : (size : ℕ) (after : Games) (a b : ℕ) → a < size → b < size → (if nat_lt a size then 1 else 1 + game_of after (a - size)) ≡ (if nat_lt b size then 1 else 1 + game_of after (b - size))
+game_of-first size after a b p q = rw (lt-ltb a size p, lt-ltb b size q)
 
-game_of-behind : (size : ℕ) (behind : Games) (a b : ℕ) → size ≤ a → size ≤ b → game_of behind (a - size) ≡ game_of behind (b - size) → (if nat_lt a size then 1 else 1 + game_of behind (a - size)) ≡ (if nat_lt b size then 1 else 1 + game_of behind (b - size))
-game_of-behind size behind a b p q e = rw (le-ltb a size p, le-ltb b size q, e)
+game_of-after : (size : ℕ) (after : Games) (a b : ℕ) → size ≤ a → size ≤ b → game_of after (a - size) ≡ game_of after (b - size) → (if nat_lt a size then 1 else 1 + game_of after (a - size)) ≡ (if nat_lt b size then 1 else 1 + game_of after (b - size))
+game_of-after size after a b p q e = rw (le-ltb a size p, le-ltb b size q, e)
 
 game_of-from : (at : ℕ) (g : Games) (j i : ℕ) → parent_in (rows at None g) j ≡ Some (Some i) → game_of g (i - at) ≡ game_of g j
 game_of-from at no_games j i h = refl
-game_of-from at (game first more below behind) j i h =
+game_of-from at (game first more below after) j i h =
     let last : ℕ = at + length more in
     let front : List Row = record { node = first; parent = None; opens = true } ∷ further_rows at more ++ rows (last + 1) (Some last) below in
     let start : ℕ = last + 1 + node_count below in
@@ -177,22 +177,22 @@ game_of-from at (game first more below behind) j i h =
     let fronts : length front ≡ size = omega (arith, length-append (record { node = first; parent = None; opens = true } ∷ further_rows at more) (rows (last + 1) (Some last) below), length-further_rows at more, length-rows (last + 1) (Some last) below) in
     elim (cases_lt j size) [
       | inl lt ↦
-          elim (parent-within at None (game first more below behind) j i h) [
+          elim (parent-within at None (game first more below after) j i h) [
             | inl p ↦ absurd (cc)
             | inr w ↦
                 let from : at ≤ i = w.from in
                 let before : i < at + j = w.before in
-                game_of-first size behind (i - at) j (omega arith) lt
+                game_of-first size after (i - at) j (omega arith) lt
           ]
       | inr le ↦
           let k : ℕ = j - size in
-          let in_behind : parent_in (rows start None behind) k ≡ Some (Some i) = sym (parent_in-right front (rows start None behind) j k (omega arith)) ∙ h in
-          elim (parent-within start None behind k i in_behind) [
+          let in_after : parent_in (rows start None after) k ≡ Some (Some i) = sym (parent_in-right front (rows start None after) j k (omega arith)) ∙ h in
+          elim (parent-within start None after k i in_after) [
             | inl p ↦ absurd (cc)
             | inr w ↦
                 let from : start ≤ i = w.from in
                 let same : (i - at) - size ≡ i - start = omega arith in
-                game_of-behind size behind (i - at) j (omega arith) le (rw same (game_of-from start behind k i in_behind))
+                game_of-after size after (i - at) j (omega arith) le (rw same (game_of-from start after k i in_after))
           ]
     ]
 

@@ -2,12 +2,12 @@
 use Rattle.std.proofs.Common.{◌≡◌, ℕ, ◌+◌, ◌<◌, ◌≤◌, List, [], ◌∷◌, ◌++◌, length, get_or, take, drop, Option, Some, None, option_and_then, refl, sym, ap, ◌∙◌, add-zero, arith}
 use Rattle.std.proofs.lemmas.List.{take_more, length-take-le, take-append-drop, take_all}
 use Rattle.std.proofs.lemmas.Option.{option_and_then_some}
-use Rattle.sgf_tree.specs.Machine.{State, start, step, run, accepted, collection_of}
+use Rattle.sgf_tree.specs.inner.Machine.{MachineState, start, step, run, accepted, collection_of}
 
--- a byte is taken, and then the text behind it
+-- a byte is taken, and then the text after it
 then_run : (at : ℕ) (x : ℕ) (a b : List ℕ)
-    → ((y : State) → run (at + 1) y (a ++ b) ≡ option_and_then (λ next. run (at + 1 + length a) next b) (run (at + 1) y a))
-    → (o : Option State)
+    → ((y : MachineState) → run (at + 1) y (a ++ b) ≡ option_and_then (λ next. run (at + 1 + length a) next b) (run (at + 1) y a))
+    → (o : Option MachineState)
     → option_and_then (λ next. run (at + 1) next (a ++ b)) o
     ≡ option_and_then (λ next. run (at + length (x ∷ a)) next b) (option_and_then (λ next. run (at + 1) next a) o)
 then_run at x a b ih None = refl
@@ -16,49 +16,49 @@ then_run at x a b ih (Some y) =
     rw e at ih y
 
 -- the machine goes over a, and then over b from where it stands
-pub run-append : (at : ℕ) (z : State) (a b : List ℕ)
+pub run-append : (at : ℕ) (z : MachineState) (a b : List ℕ)
     → run at z (a ++ b) ≡ option_and_then (λ next. run (at + length a) next b) (run at z a)
 unfolding run
 run-append at z [] b = rw add-zero
 run-append at z (x ∷ a) b = then_run at x a b (λ y. run-append (at + 1) y a b) (step at z x)
 
 -- what a run of two texts says of the first and the second
-pub run-through : (at : ℕ) (z y : State) (a b : List ℕ) → run at z a ≡ Some y → run at z (a ++ b) ≡ run (at + length a) y b
+pub run-through : (at : ℕ) (z y : MachineState) (a b : List ℕ) → run at z a ≡ Some y → run at z (a ++ b) ≡ run (at + length a) y b
 run-through at z y a b h = run-append at z a b ∙ ap (option_and_then (λ next. run (at + length a) next b)) h
 
 -- one byte
-pub run-one : (at : ℕ) (z : State) (b : ℕ) → run at z (b ∷ []) ≡ step at z b
+pub run-one : (at : ℕ) (z : MachineState) (b : ℕ) → run at z (b ∷ []) ≡ step at z b
 unfolding run
 run-one at z b = some_same (step at z b)
   where
-    some_same : (o : Option State) → option_and_then Some o ≡ o
+    some_same : (o : Option MachineState) → option_and_then Some o ≡ o
     some_same None = refl
     some_same (Some x) = refl
 
 -- no byte
-pub run-none : (at : ℕ) (z : State) → run at z [] ≡ Some z
+pub run-none : (at : ℕ) (z : MachineState) → run at z [] ≡ Some z
 unfolding run
 run-none at z = refl
 
--- a run of a text is one of its front, and then of what is behind it
+-- a run of a text is one of its front, and then of what is after it
 pub run-cut : (n : ℕ) (t : List ℕ)
     → run 0 start t ≡ option_and_then (λ next. run (0 + length (take n t)) next (drop n t)) (run 0 start (take n t))
 run-cut n t = ap (run 0 start) (sym (take-append-drop n t)) ∙ run-append 0 start (take n t) (drop n t)
 
 -- the bytes up to an offset, and the one there
-pub run-take-more : (t : List ℕ) (at : ℕ) (z : State) → at < length t → run 0 start (take at t) ≡ Some z
+pub run-take-more : (t : List ℕ) (at : ℕ) (z : MachineState) → at < length t → run 0 start (take at t) ≡ Some z
     → run 0 start (take (at + 1) t) ≡ step at z (get_or t at 0)
 run-take-more t at z lt h =
     let e : 0 + length (take at t) ≡ at = omega (arith, length-take-le at t) in
     rw (take_more t at 0 lt, run-through 0 start z (take at t) (get_or t at 0 ∷ []) h, e) (run-one at z (get_or t at 0))
 
 -- the byte at an offset is taken
-pub run-take-step : (t : List ℕ) (at : ℕ) (z y : State) → run 0 start (take at t) ≡ Some z → at < length t
+pub run-take-step : (t : List ℕ) (at : ℕ) (z y : MachineState) → run 0 start (take at t) ≡ Some z → at < length t
     → step at z (get_or t at 0) ≡ Some y → run 0 start (take (at + 1) t) ≡ Some y
 run-take-step t at z y h lt s = run-take-more t at z lt h ∙ s
 
 -- the byte at an offset is refused
-pub run-take-refused : (t : List ℕ) (at : ℕ) (z : State) → run 0 start (take at t) ≡ Some z → at < length t
+pub run-take-refused : (t : List ℕ) (at : ℕ) (z : MachineState) → run 0 start (take at t) ≡ Some z → at < length t
     → step at z (get_or t at 0) ≡ None → run 0 start (take (at + 1) t) ≡ None
 run-take-refused t at z h lt s = run-take-more t at z lt h ∙ s
 
@@ -67,7 +67,7 @@ pub run-take-none : (t : List ℕ) → run 0 start (take 0 t) ≡ Some start
 run-take-none t = run-none 0 start
 
 -- all bytes have been read
-pub run-take-all : (t : List ℕ) (at : ℕ) (z : State) → length t ≤ at → run 0 start (take at t) ≡ Some z → run 0 start t ≡ Some z
+pub run-take-all : (t : List ℕ) (at : ℕ) (z : MachineState) → length t ≤ at → run 0 start (take at t) ≡ Some z → run 0 start t ≡ Some z
 run-take-all t at z le h = rw (take_all at t le) at h
 
 -- a text that is refused stays so
@@ -75,13 +75,13 @@ pub refused-front : (n : ℕ) (t : List ℕ) → run 0 start (take n t) ≡ None
 refused-front n t h = run-cut n t ∙ ap (option_and_then (λ next. run (0 + length (take n t)) next (drop n t))) h
 
 -- each front of a text that is taken is taken
-pub run-front : (n : ℕ) (t : List ℕ) (z : State) → run 0 start t ≡ Some z → (y : State) × (run 0 start (take n t) ≡ Some y)
+pub run-front : (n : ℕ) (t : List ℕ) (z : MachineState) → run 0 start t ≡ Some z → (y : MachineState) × (run 0 start (take n t) ≡ Some y)
 run-front n t z h =
     option_and_then_some (λ next. run (0 + length (take n t)) next (drop n t)) (run 0 start (take n t)) z
     (sym (run-cut n t) ∙ h) (λ y e f. (y, e))
 
 -- the collection of a text that is taken to a state
-pub collection-run : (t : List ℕ) (z : State) → run 0 start t ≡ Some z → collection_of t ≡ accepted z
+pub collection-run : (t : List ℕ) (z : MachineState) → run 0 start t ≡ Some z → collection_of t ≡ accepted z
 unfolding collection_of
 collection-run t z h = ap (option_and_then accepted) h
 

@@ -3,12 +3,12 @@ use Rattle.std.proofs.Common.{◌≡◌, ◌≢◌, ℕ, ◌+◌, ◌<◌, ◌�
 use Rattle.std.proofs.lemmas.Bool.{cases_lt}
 use Rattle.sgf_tree.specs.Tree.{Games, no_games, game}
 use Rattle.sgf_tree.specs.Spelling.{is_white}
-use Rattle.sgf_tree.specs.Machine.{OpenGame, Stack, Started, opened, in_node, behind_game, behind_node, between_games, ended, begun, new_node, step, accepted}
+use Rattle.sgf_tree.specs.inner.Machine.{OpenGame, Stack, Started, opened, in_node, after_game, after_node, between_games, ended, new_game, new_node, step, accepted}
 use Rattle.sgf_tree.specs.Refusal.{IsFaultyAt}
-use Rattle.sgf_tree.specs.Layout.{properties_of}
-use Rattle.sgf_tree.specs.Progress.{Reaches, IsRun}
-use Rattle.sgf_tree.specs.PropertiesRead.{StandsBehindNode, with_properties}
-use Rattle.sgf_tree.specs.GamesRead.{HoldStack, AreAtMost, IsOpening, IsNodeRead, IsSequenceRead}
+use Rattle.sgf_tree.specs.inner.Layout.{properties_of}
+use Rattle.sgf_tree.specs.inner.Progress.{ComesTo, IsRun}
+use Rattle.sgf_tree.specs.inner.PropertiesRead.{StandsAfterNode, with_properties}
+use Rattle.sgf_tree.specs.inner.GamesRead.{HoldStack, AreAtMost, IsOpening, IsNodeRead, IsSequenceRead}
 use Rattle.sgf_tree.specs.declared.layout.Link.{Link}
 use Rattle.sgf_tree.specs.declared.layout.Link.TheVariants.{Next}
 use Rattle.sgf_tree.specs.declared.layout.NodeEntry.{NodeEntry}
@@ -33,21 +33,21 @@ unfolding accepted
 opened-unaccepted k = refl
 
 -- games that are open are no collection
-pub open-unaccepted : (closed : Games) (g : OpenGame) (gs : List OpenGame) → accepted (behind_game (record { closed = closed; unclosed = g ∷ gs })) ≡ None
+pub open-unaccepted : (closed : Games) (g : OpenGame) (gs : List OpenGame) → accepted (after_game (record { closed = closed; unclosed = g ∷ gs })) ≡ None
 unfolding accepted
 open-unaccepted no_games g gs = refl
-open-unaccepted (game first more below behind) g gs = refl
+open-unaccepted (game first more below after) g gs = refl
 
--- behind a node that no `;` follows the machine goes on as between games
-node-between : (at : ℕ) (k : Stack) (b : ℕ) → is_white b ≡ false → b ≢ 59 → behind_node at k b ≡ between_games k b
+-- after a node that no `;` follows the machine goes on as between games
+node-between : (at : ℕ) (k : Stack) (b : ℕ) → is_white b ≡ false → b ≢ 59 → after_node at k b ≡ between_games k b
 node-between at k b white ne = rw (white, ne_eqb b 59 ne)
 
 module _ (t : List ℕ) where
-  module _ (at place : ℕ) (k : Stack) (white : IsRun is_white t at place) (behind : Reaches t at (opened k)) where
-    pub place-reached : Reaches t place (opened k)
-    place-reached = run-white t at place (opened k) (stays-opened k) white.rises white.within white.passing behind
+  module _ (at place : ℕ) (k : Stack) (white : IsRun is_white t at place) (after : ComesTo t at (opened k)) where
+    pub place-reached : ComesTo t place (opened k)
+    place-reached = run-white t at place (opened k) (stays-opened k) white.rises white.within white.passing after
 
-    -- no `;` behind the `(`
+    -- no `;` after the `(`
     pub place-faulty : (place < length t → get_or t place 0 ≢ 59) → IsFaultyAt t place
     place-faulty other =
         let within : place ≤ length t = white.within in
@@ -55,37 +55,37 @@ module _ (t : List ℕ) where
           | inl lt ↦ refused-faulty t place (opened k) lt place-reached (opened-refused place k (get_or t place 0) (white.stops lt) (other lt))
           | inr ge ↦
               let same : length t ≡ place = omega arith in
-              subst (IsFaultyAt t) same (ends-faulty t (opened k) (subst (λ i. Reaches t i (opened k)) (sym same) place-reached) (opened-unaccepted k))
+              subst (IsFaultyAt t) same (ends-faulty t (opened k) (subst (λ i. ComesTo t i (opened k)) (sym same) place-reached) (opened-unaccepted k))
         ]
 
     -- the first node
-    pub place-node : place < length t → get_or t place 0 ≡ 59 → Reaches t (place + 1) (new_node k true place)
+    pub place-node : place < length t → get_or t place 0 ≡ 59 → ComesTo t (place + 1) (new_node k true place)
     place-node lt e = run-take-step t place (opened k) (new_node k true place) place-reached lt (rw e (opened-node place k))
 
   -- a further node
-  pub next-node : (end : ℕ) (whole : Started) → StandsBehindNode t end whole → end < length t → get_or t end 0 ≡ 59 → Reaches t (end + 1) (new_node (ended whole) false end)
+  pub next-node : (end : ℕ) (whole : Started) → StandsAfterNode t end whole → end < length t → get_or t end 0 ≡ 59 → ComesTo t (end + 1) (new_node (ended whole) false end)
   next-node end whole stands lt e =
-      run-take-step t end stands.state (new_node (ended whole) false end) stands.reached lt (stands.next lt ∙ ap (behind_node end (ended whole)) e)
+      run-take-step t end stands.state (new_node (ended whole) false end) stands.reached lt (stands.next lt ∙ ap (after_node end (ended whole)) e)
 
   -- nodes of the game were read, and the last one is `whole`
   pub record SequenceSoFar (end : ℕ) (k : Stack) (ns : List NodeEntry) (ps : List PropertyEntry) (vs : List ValueEntry) : Type 0 where
     pub whole : Started
     pub last : OpenGame
-    pub stands : StandsBehindNode t end whole
+    pub stands : StandsAfterNode t end whole
     pub stack_is : ended whole ≡ record { closed = k.closed; unclosed = last ∷ k.unclosed }
     pub held : HoldStack t (record { closed = k.closed; unclosed = last ∷ k.unclosed }) ns ps vs
     pub nothing_below : last.below ≡ no_games
     pub not_white : end < length t → is_white (get_or t end 0) ≡ false
 
   pub sequence-first : (at place end : ℕ) (k : Stack) (link : Link) (ns ns' : List NodeEntry) (ps ps' : List PropertyEntry) (vs vs' : List ValueEntry)
-      → IsRun is_white t at place → Reaches t at (opened k) → HoldStack t k ns ps vs → IsOpening k link → place < length t → get_or t place 0 ≡ 59
+      → IsRun is_white t at place → ComesTo t at (opened k) → HoldStack t k ns ps vs → IsOpening k link → place < length t → get_or t place 0 ≡ 59
       → IsNodeRead t place end link ns ns' ps ps' vs vs' → SequenceSoFar end k ns' ps' vs'
-  sequence-first at place end k link ns ns' ps ps' vs vs' white behind held opening lt e read =
+  sequence-first at place end k link ns ns' ps ps' vs vs' white after held opening lt e read =
       let n : Started = record { stack = k; opens = true; place = place; properties = [] } in
       record {
         whole = with_properties n (properties_of t vs' (length vs) read.properties.entries);
-        last = begun (record { place = place; properties = properties_of t vs' (length vs) read.properties.entries });
-        stands = read.properties.reached n refl (place-node at place k white behind lt e);
+        last = new_game (record { place = place; properties = properties_of t vs' (length vs) read.properties.entries });
+        stands = read.properties.reached n refl (place-node at place k white after lt e);
         stack_is = refl;
         held = first-held t k place end link ns ns' ps ps' vs vs' held opening read lt;
         nothing_below = refl;
@@ -97,8 +97,8 @@ module _ (t : List ℕ) where
   sequence-next place end k ns ns' ps ps' vs vs' so_far lt e read =
       let k' : Stack = record { closed = k.closed; unclosed = so_far.last ∷ k.unclosed } in
       let n : Started = record { stack = k'; opens = false; place = place; properties = [] } in
-      let begins : Reaches t (place + 1) (in_node n) =
-      subst (λ s. Reaches t (place + 1) (new_node s false place)) so_far.stack_is (next-node place so_far.whole so_far.stands lt e) in
+      let begins : ComesTo t (place + 1) (in_node n) =
+      subst (λ s. ComesTo t (place + 1) (new_node s false place)) so_far.stack_is (next-node place so_far.whole so_far.stands lt e) in
       record {
         whole = with_properties n (properties_of t vs' (length vs) read.properties.entries);
         last = record { first = so_far.last.first; more = so_far.last.more ++ record { place = place; properties = properties_of t vs' (length vs) read.properties.entries } ∷ []; below = so_far.last.below };
@@ -118,7 +118,7 @@ module _ (t : List ℕ) where
         stands = record {
           state = so_far.stands.state;
           reached = so_far.stands.reached;
-          next = λ lt. so_far.stands.next lt ∙ ap (λ s. behind_node end s (get_or t end 0)) so_far.stack_is ∙ node-between end k' (get_or t end 0) (so_far.not_white lt) (other lt);
+          next = λ lt. so_far.stands.next lt ∙ ap (λ s. after_node end s (get_or t end 0)) so_far.stack_is ∙ node-between end k' (get_or t end 0) (so_far.not_white lt) (other lt);
           end = so_far.stands.unaccepted ∙ sym (open-unaccepted k.closed so_far.last k.unclosed);
           not_white = so_far.not_white;
         };
@@ -128,7 +128,7 @@ module _ (t : List ℕ) where
 
   -- a further node's `;` begins a node
   pub sequence-node : (end : ℕ) (k : Stack) (ns : List NodeEntry) (ps : List PropertyEntry) (vs : List ValueEntry) → SequenceSoFar end k ns ps vs → end < length t → get_or t end 0 ≡ 59
-      → (n : Started) × ((n.properties ≡ []) × Reaches t (end + 1) (in_node n))
+      → (n : Started) × ((n.properties ≡ []) × ComesTo t (end + 1) (in_node n))
   sequence-node end k ns ps vs so_far lt e = (
     record { stack = ended so_far.whole; opens = false; place = end; properties = [] },
     (refl, next-node end so_far.whole so_far.stands lt e),

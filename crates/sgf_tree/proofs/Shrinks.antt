@@ -1,7 +1,8 @@
--- What is left behind a thing is no longer than what was left before it.
+-- What is left after a thing is no longer than what was left before it.
 use Rattle.std.proofs.Common.{ℕ, ◌≤◌, List, length, arith}
 use Rattle.sgf_tree.specs.Tree.{Property}
-use Rattle.sgf_tree.specs.Spelling.{White, no_white, white, Letters, no_letter, upper, lower, IsValue, no_unit, plain, escaped, IsPropValue, prop_value, ArePropValues, no_value, value, IsProperty, property, AreProperties, no_property, properties, Mark, no_mark, mark}
+use Rattle.sgf_tree.specs.RawValue.{IsValue, no_unit, plain, escaped}
+use Rattle.sgf_tree.specs.Spelling.{White, no_white, white, Letters, no_letter, upper, lower, IsPropValue, prop_value, ArePropValues, no_value, value, IsProperty, property, AreProperties, no_property, properties, Mark, no_mark, mark}
 
 pub shrinks-White : {s r : List ℕ} → White s r → length r ≤ length s
 shrinks-White no_white = omega arith

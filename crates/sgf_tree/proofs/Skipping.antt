@@ -2,9 +2,9 @@
 use Rattle.std.proofs.Common.{◌≡◌, ℕ, IsTrue, List, Some}
 use Rattle.sgf_tree.specs.Tree.{Property}
 use Rattle.sgf_tree.specs.Spelling.{is_white}
-use Rattle.sgf_tree.specs.Machine.{Stack, Started, State, opened, in_node, behind_name, behind_value, behind_game, step}
+use Rattle.sgf_tree.specs.inner.Machine.{Stack, Started, MachineState, opened, in_node, after_name, after_value, after_game, step}
 
-abbrev pub Stays : State → Type 0
+abbrev pub Stays : MachineState → Type 0
 Stays z = (b at : ℕ) → IsTrue (is_white b) → step at z b ≡ Some z
 
 pub stays-opened : (k : Stack) → Stays (opened k)
@@ -15,14 +15,14 @@ pub stays-in_node : (n : Started) → Stays (in_node n)
 unfolding step
 stays-in_node n b at h = rw h
 
-pub stays-behind_name : (n : Started) (name : List ℕ) → Stays (behind_name n name)
+pub stays-after_name : (n : Started) (name : List ℕ) → Stays (after_name n name)
 unfolding step
-stays-behind_name n name b at h = rw h
+stays-after_name n name b at h = rw h
 
-pub stays-behind_value : (n : Started) (p : Property) → Stays (behind_value n p)
+pub stays-after_value : (n : Started) (p : Property) → Stays (after_value n p)
 unfolding step
-stays-behind_value n p b at h = rw h
+stays-after_value n p b at h = rw h
 
-pub stays-behind_game : (k : Stack) → Stays (behind_game k)
+pub stays-after_game : (k : Stack) → Stays (after_game k)
 unfolding step
-stays-behind_game k b at h = rw h
+stays-after_game k b at h = rw h

@@ -3,7 +3,7 @@ use Rattle.std.proofs.Common.{◌≡◌, ◌≢◌, ℕ, zero, suc, ◌+◌, ◌
 use Rattle.std.proofs.lemmas.List.{take_more}
 use Rattle.std.proofs.lemmas.List.Elements.{filter-append}
 use Rattle.sgf_tree.specs.Spelling.{is_white, is_upper, is_lower}
-use Rattle.sgf_tree.specs.Machine.{Started, State, start, in_name, in_value, behind_escape, step, run}
+use Rattle.sgf_tree.specs.inner.Machine.{Started, MachineState, start, in_name, in_value, after_escape, step, run}
 use Rattle.sgf_tree.proofs.Classes.{lower-not_upper}
 use Rattle.sgf_tree.proofs.Run.{run-take-step}
 use Rattle.sgf_tree.proofs.Skipping.{Stays}
@@ -27,7 +27,7 @@ one-letter at n name b (inr h) =
 
 module _ (t : List ℕ) where
   -- each byte of the span takes the state of its offset to the next one's
-  run-bytes : (at to n : ℕ) (f : ℕ → State) → to ≤ length t → ((i : ℕ) → at ≤ i → i < to → step i (f i) (get_or t i 0) ≡ Some (f (i + 1)))
+  run-bytes : (at to n : ℕ) (f : ℕ → MachineState) → to ≤ length t → ((i : ℕ) → at ≤ i → i < to → step i (f i) (get_or t i 0) ≡ Some (f (i + 1)))
       → run 0 start (take at t) ≡ Some (f at) → at + n ≤ to → run 0 start (take (at + n) t) ≡ Some (f (at + n))
   run-bytes at to zero f within s h le = rw add-zero h
   run-bytes at to (suc n) f within s h le =
@@ -35,7 +35,7 @@ module _ (t : List ℕ) where
       rw e (run-take-step t (at + n) (f (at + n)) (f (at + n + 1)) (run-bytes at to n f within s h (omega arith)) (omega arith)
       (s (at + n) (omega arith) (omega arith)))
 
-  pub run-span : (at to : ℕ) (f : ℕ → State) → at ≤ to → to ≤ length t
+  pub run-span : (at to : ℕ) (f : ℕ → MachineState) → at ≤ to → to ≤ length t
       → ((i : ℕ) → at ≤ i → i < to → step i (f i) (get_or t i 0) ≡ Some (f (i + 1)))
       → run 0 start (take at t) ≡ Some (f at) → run 0 start (take to t) ≡ Some (f to)
   run-span at to f le within s h =
@@ -43,7 +43,7 @@ module _ (t : List ℕ) where
       subst (λ i. run 0 start (take i t) ≡ Some (f i)) e (run-bytes at to (to - at) f within s h (omega arith))
 
   -- white space, where the state stays
-  pub run-white : (at to : ℕ) (z : State) → Stays z → at ≤ to → to ≤ length t
+  pub run-white : (at to : ℕ) (z : MachineState) → Stays z → at ≤ to → to ≤ length t
       → ((i : ℕ) → at ≤ i → i < to → IsTrue (is_white (get_or t i 0)))
       → run 0 start (take at t) ≡ Some z → run 0 start (take to t) ≡ Some z
   run-white at to z stays le within white h =
@@ -85,7 +85,7 @@ module _ (t : List ℕ) where
       rw (span-more at i low (omega arith), ne_eqb (get_or t i 0) 93 x, ne_eqb (get_or t i 0) 92 y, append_assoc))
       (rw (span-none at, append-nil) h)
 
-  -- a `\\` and the byte behind it
+  -- a `\\` and the byte after it
   pub run-escape : (at : ℕ) (n : Started) (name : List ℕ) (before : List (List ℕ)) (so_far : List ℕ) → at + 1 < length t
       → get_or t at 0 ≡ 92 → run 0 start (take at t) ≡ Some (in_value n name before so_far)
       → run 0 start (take (at + 2) t) ≡ Some (in_value n name before (so_far ++ slice_range t at (at + 2)))
@@ -95,6 +95,6 @@ module _ (t : List ℕ) where
       let span : slice_range t at (at + 2) ≡ 92 ∷ get_or t (at + 1) 0 ∷ [] =
       rw (two, span-more at (at + 1) (omega arith) lt, span-more at at (omega arith) (omega arith), span-none at, e) in
       rw (span, two)
-      (run-take-step t (at + 1) (behind_escape n name before so_far) _
-      (run-take-step t at (in_value n name before so_far) (behind_escape n name before so_far) h (omega arith) (rw e))
+      (run-take-step t (at + 1) (after_escape n name before so_far) _
+      (run-take-step t at (in_value n name before so_far) (after_escape n name before so_far) h (omega arith) (rw e))
       lt refl)

@@ -3,44 +3,44 @@ use Rattle.std.proofs.Common.{◌≡◌, ℕ, List, [], ◌∷◌, length, Some,
 use Rattle.std.proofs.lemmas.Option.{same_Some}
 use Rattle.sgf_tree.specs.Tree.{Games, no_games, game}
 use Rattle.sgf_tree.specs.Spelling.{White, no_white, white, games, Mark, no_mark, mark, Spells, spells}
-use Rattle.sgf_tree.specs.Machine.{start, first_of_mark, second_of_mark, opened, behind_game, step, accepted, collection_of}
+use Rattle.sgf_tree.specs.inner.Machine.{start, first_of_mark, second_of_mark, opened, after_game, step, accepted, collection_of}
 use Rattle.sgf_tree.proofs.Classes.{white-not_mark}
 use Rattle.sgf_tree.proofs.Transitions.{no_stack}
 use Rattle.sgf_tree.proofs.Reading.{read, run-whole, one-byte, over-white}
 use Rattle.sgf_tree.proofs.ReadingGames.{over-games}
-use Rattle.sgf_tree.proofs.Skipping.{stays-behind_game}
+use Rattle.sgf_tree.proofs.Skipping.{stays-after_game}
 
 -- where no byte order mark stands, the start is like the end of a game
-from-start : (whole : ℕ) {s t : List ℕ} → White s (40 ∷ t) → read whole start s ≡ read whole (behind_game no_stack) s
+from-start : (whole : ℕ) {s t : List ℕ} → White s (40 ∷ t) → read whole start s ≡ read whole (after_game no_stack) s
 unfolding step
 from-start whole {s} {t} no_white =
-    one-byte whole start (opened no_stack) 40 t (λ at. refl) ∙ sym (one-byte whole (behind_game no_stack) (opened no_stack) 40 t (λ at. refl))
+    one-byte whole start (opened no_stack) 40 t (λ at. refl) ∙ sym (one-byte whole (after_game no_stack) (opened no_stack) 40 t (λ at. refl))
 from-start whole (white {b} {s} h w) =
-    one-byte whole start (behind_game no_stack) b s (λ at. rw (white-not_mark b h, h))
-    ∙ sym (one-byte whole (behind_game no_stack) (behind_game no_stack) b s (λ at. rw h))
+    one-byte whole start (after_game no_stack) b s (λ at. rw (white-not_mark b h, h))
+    ∙ sym (one-byte whole (after_game no_stack) (after_game no_stack) b s (λ at. rw h))
 
-over-mark : (whole : ℕ) {s t u : List ℕ} → Mark t s → White s (40 ∷ u) → read whole start t ≡ read whole (behind_game no_stack) s
+over-mark : (whole : ℕ) {s t u : List ℕ} → Mark t s → White s (40 ∷ u) → read whole start t ≡ read whole (after_game no_stack) s
 unfolding step
 over-mark whole no_mark w = from-start whole w
 over-mark whole {s} mark w =
     one-byte whole start first_of_mark 239 (187 ∷ 191 ∷ s) (λ at. refl)
     ∙ one-byte whole first_of_mark second_of_mark 187 (191 ∷ s) (λ at. refl)
-    ∙ one-byte whole second_of_mark (behind_game no_stack) 191 s (λ at. refl)
+    ∙ one-byte whole second_of_mark (after_game no_stack) 191 s (λ at. refl)
 
 -- a text that spells a collection
 spelled-read : (c : Games) (t : List ℕ) → Spells c t
-    → read (length t) start t ≡ Some (behind_game (record { closed = c; unclosed = [] }))
+    → read (length t) start t ≡ Some (after_game (record { closed = c; unclosed = [] }))
 unfolding read
-spelled-read c t (spells {first} {more} {below} {behind} m (games w n ns bs last hs) end) =
-    let k = record no_stack { closed = game first more below behind } in
+spelled-read c t (spells {first} {more} {below} {after} m (games w n ns bs last hs) end) =
+    let k = record no_stack { closed = game first more below after } in
     over-mark (length t) m w
     ∙ over-games (length t) no_games [] (games w n ns bs last hs)
-    ∙ over-white (length t) (behind_game k) (stays-behind_game k) end
+    ∙ over-white (length t) (after_game k) (stays-after_game k) end
 
 pub spelled-accepted : (c : Games) (t : List ℕ) → Spells c t → collection_of t ≡ Some c
 unfolding collection_of accepted
-spelled-accepted c t (spells {first} {more} {below} {behind} m are end) =
-    ap (option_and_then accepted) (run-whole t ∙ spelled-read (game first more below behind) t (spells m are end))
+spelled-accepted c t (spells {first} {more} {below} {after} m are end) =
+    ap (option_and_then accepted) (run-whole t ∙ spelled-read (game first more below after) t (spells m are end))
 
 pub one-collection : (c d : Games) (t : List ℕ) → Spells c t → Spells d t → c ≡ d
 one-collection c d t h i = same_Some c d (sym (spelled-accepted c t h) ∙ spelled-accepted d t i)

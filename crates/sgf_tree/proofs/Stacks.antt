@@ -1,49 +1,49 @@
 -- The rows of whole and open games: games side by side, one more node, and a game that ends.
 use Rattle.std.proofs.Common.{◌≡◌, ℕ, ◌+◌, true, false, List, [], ◌∷◌, ◌++◌, length, replicate, Option, Some, None, refl, sym, ap, ◌∙◌, arith, append_assoc, append-nil, length-append}
 use Rattle.std.proofs.lemmas.List.{length-replicate, replicate_more}
-use Rattle.sgf_tree.specs.Tree.{Node, Games, no_games, game, followed_by, game_count, node_count}
+use Rattle.sgf_tree.specs.Tree.{Node, Games, no_games, game, joined, game_count, node_count}
 use Rattle.sgf_tree.specs.FileOrder.{Row, further_rows, rows}
-use Rattle.sgf_tree.specs.Machine.{OpenGame, begun, whole_game}
-use Rattle.sgf_tree.specs.GamesRead.{open_count, tip, own_rows, open_rows, lasts, open_lasts}
+use Rattle.sgf_tree.specs.inner.Machine.{OpenGame, new_game, whole_game}
+use Rattle.sgf_tree.specs.inner.GamesRead.{open_count, tip, own_rows, open_rows, lasts, open_lasts}
 use Rattle.sgf_tree.proofs.Completion.{add_games}
 use Rattle.sgf_tree.proofs.Rows.{length-further_rows, length-rows}
 
-pub node_count-followed : (a b : Games) → node_count (followed_by a b) ≡ node_count a + node_count b
+pub node_count-followed : (a b : Games) → node_count (joined a b) ≡ node_count a + node_count b
 node_count-followed no_games b = omega arith
-node_count-followed (game first more below behind) b = omega (arith, node_count-followed behind b)
+node_count-followed (game first more below after) b = omega (arith, node_count-followed after b)
 
-pub game_count-followed : (a b : Games) → game_count (followed_by a b) ≡ game_count a + game_count b
+pub game_count-followed : (a b : Games) → game_count (joined a b) ≡ game_count a + game_count b
 game_count-followed no_games b = omega arith
-game_count-followed (game first more below behind) b = omega (arith, game_count-followed behind b)
+game_count-followed (game first more below after) b = omega (arith, game_count-followed after b)
 
--- games behind others have their rows behind theirs
-pub rows-followed : (at : ℕ) (parent : Option ℕ) (a b : Games) → rows at parent (followed_by a b) ≡ rows at parent a ++ rows (at + node_count a) parent b
+-- games after others have their rows after theirs
+pub rows-followed : (at : ℕ) (parent : Option ℕ) (a b : Games) → rows at parent (joined a b) ≡ rows at parent a ++ rows (at + node_count a) parent b
 rows-followed at parent no_games b = let e : at + 0 ≡ at = omega arith in rw e
-rows-followed at parent (game first more below behind) b =
+rows-followed at parent (game first more below after) b =
     let last : ℕ = at + length more in
     let own : List Row = record { node = first; parent = parent; opens = true } ∷ further_rows at more ++ rows (last + 1) (Some last) below in
     let next : ℕ = last + 1 + node_count below in
-    let e : next + node_count behind ≡ at + node_count (game first more below behind) = omega arith in
-    ap (λ rs. own ++ rs) (rows-followed next parent behind b)
-    ∙ sym (append_assoc own (rows next parent behind) (rows (next + node_count behind) parent b))
-    ∙ ap (λ k. own ++ rows next parent behind ++ rows k parent b) e
+    let e : next + node_count after ≡ at + node_count (game first more below after) = omega arith in
+    ap (λ rs. own ++ rs) (rows-followed next parent after b)
+    ∙ sym (append_assoc own (rows next parent after) (rows (next + node_count after) parent b))
+    ∙ ap (λ k. own ++ rows next parent after ++ rows k parent b) e
 
 pub length-lasts : (at : ℕ) (g : Games) → length (lasts at g) ≡ node_count g
 length-lasts at no_games = refl
-length-lasts at (game first more below behind) =
+length-lasts at (game first more below after) =
     let next : ℕ = at + 1 + length more in
     let own : List ℕ = replicate (1 + length more) (at + length more + node_count below) in
-    omega (arith, length-append (own ++ lasts next below) (lasts (next + node_count below) behind), length-append own (lasts next below), length-replicate (1 + length more) (at + length more + node_count below), length-lasts next below, length-lasts (next + node_count below) behind)
+    omega (arith, length-append (own ++ lasts next below) (lasts (next + node_count below) after), length-append own (lasts next below), length-replicate (1 + length more) (at + length more + node_count below), length-lasts next below, length-lasts (next + node_count below) after)
 
-pub lasts-followed : (at : ℕ) (a b : Games) → lasts at (followed_by a b) ≡ lasts at a ++ lasts (at + node_count a) b
+pub lasts-followed : (at : ℕ) (a b : Games) → lasts at (joined a b) ≡ lasts at a ++ lasts (at + node_count a) b
 lasts-followed at no_games b = let e : at + 0 ≡ at = omega arith in rw e
-lasts-followed at (game first more below behind) b =
+lasts-followed at (game first more below after) b =
     let next : ℕ = at + 1 + length more in
     let own : List ℕ = replicate (1 + length more) (at + length more + node_count below) ++ lasts next below in
-    let e : next + node_count below + node_count behind ≡ at + node_count (game first more below behind) = omega arith in
-    ap (λ ls. own ++ ls) (lasts-followed (next + node_count below) behind b)
-    ∙ sym (append_assoc own (lasts (next + node_count below) behind) (lasts (next + node_count below + node_count behind) b))
-    ∙ ap (λ k. own ++ lasts (next + node_count below) behind ++ lasts k b) e
+    let e : next + node_count below + node_count after ≡ at + node_count (game first more below after) = omega arith in
+    ap (λ ls. own ++ ls) (lasts-followed (next + node_count below) after b)
+    ∙ sym (append_assoc own (lasts (next + node_count below) after) (lasts (next + node_count below + node_count after) b))
+    ∙ ap (λ k. own ++ lasts (next + node_count below) after ++ lasts k b) e
 
 length-own_rows : (at : ℕ) (parent : Option ℕ) (g : OpenGame) → length (own_rows at parent g) ≡ 1 + length g.more + node_count g.below
 length-own_rows at parent g =
@@ -116,8 +116,8 @@ further_rows-more last (m ∷ ns) n =
     let e : last + 1 + length ns ≡ last + length (m ∷ ns) = omega arith in
     ap (λ rs. record { node = m; parent = Some last; opens = false } ∷ rs) (further_rows-more (last + 1) ns n ∙ ap (λ k. further_rows (last + 1) ns ++ record { node = n; parent = Some k; opens = false } ∷ []) e)
 
-pub open_lasts-begun : (closed : Games) (gs : List OpenGame) (n : Node) → open_lasts closed (begun n ∷ gs) ≡ open_lasts closed gs ++ 0 ∷ []
-open_lasts-begun closed gs n = append-nil (open_lasts closed gs ++ 0 ∷ [])
+pub open_lasts-new_game : (closed : Games) (gs : List OpenGame) (n : Node) → open_lasts closed (new_game n ∷ gs) ≡ open_lasts closed gs ++ 0 ∷ []
+open_lasts-new_game closed gs n = append-nil (open_lasts closed gs ++ 0 ∷ [])
 
 pub open_rows-more : (closed : Games) (g : OpenGame) (gs : List OpenGame) (n : Node) → g.below ≡ no_games
     → open_rows closed (record { first = g.first; more = g.more ++ n ∷ []; below = g.below } ∷ gs)

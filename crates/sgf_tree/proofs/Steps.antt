@@ -2,12 +2,12 @@
 use Rattle.std.proofs.Common.{◌≡◌, ◌≢◌, ℕ, ◌==◌, Bool, true, false, if◌then◌else◌, List, [], Option, Some, None, refl, ne_eqb}
 use Rattle.sgf_tree.specs.Tree.{Property}
 use Rattle.sgf_tree.specs.Spelling.{is_white, is_upper, is_lower}
-use Rattle.sgf_tree.specs.Machine.{Stack, Started, State, start, first_of_mark, second_of_mark, opened, in_node, in_name, behind_name, behind_value, behind_game, step}
+use Rattle.sgf_tree.specs.inner.Machine.{Stack, Started, MachineState, start, first_of_mark, second_of_mark, opened, in_node, in_name, after_name, after_value, after_game, step}
 use Rattle.sgf_tree.proofs.Classes.{upper-not_white, white-not_upper, white-not_lower, lower-not_upper, upper-not_bracket, white-not_mark}
-use Rattle.sgf_tree.proofs.Transitions.{white_between, opens_game, closes_game, next_node, opens_below, closes_nodes, Takes, mark_first, mark_second, mark_third, at_start, at_game, white_opened, first_node, white_node, first_name, ends_bare, upper_name, lower_name, white_name, first_value, white_behind_name, later_value, ends_value, escapes, plain_byte, escaped_byte, white_value, next_value, next_name, ends_node}
+use Rattle.sgf_tree.proofs.Transitions.{white_between, opens_game, closes_game, next_node, opens_below, closes_nodes, Takes, mark_first, mark_second, mark_third, at_start, at_game, white_opened, first_node, white_node, first_name, ends_bare, upper_name, lower_name, white_name, first_value, white_after_name, later_value, ends_value, escapes, plain_byte, escaped_byte, white_value, next_value, next_name, ends_node}
 
 -- each way that a byte takes a state on is a step
-pub taken : {at : ℕ} {z : State} {b : ℕ} {y : State} → Takes at z b y → step at z b ≡ Some y
+pub taken : {at : ℕ} {z : MachineState} {b : ℕ} {y : MachineState} → Takes at z b y → step at z b ≡ Some y
 unfolding step
 taken mark_first = refl
 taken mark_second = refl
@@ -29,7 +29,7 @@ taken (upper_name h) = rw h
 taken (lower_name {b} h) = rw (lower-not_upper b h, h)
 taken (white_name {b} h) = rw (white-not_upper b h, white-not_lower b h, h)
 taken first_value = refl
-taken (white_behind_name h) = rw h
+taken (white_after_name h) = rw h
 taken later_value = refl
 taken ends_value = refl
 taken escapes = refl
@@ -46,7 +46,7 @@ pub refused-start : (at b : ℕ) → is_white b ≡ false → b ≢ 239 → b �
 unfolding step
 refused-start at b w x y = rw (ne_eqb b 239 x, w, ne_eqb b 40 y) (either-way (b == 41))
   where
-    either-way : (c : Bool) → ◌≡◌ {A = Option State} (if c then None else None) None
+    either-way : (c : Bool) → ◌≡◌ {A = Option MachineState} (if c then None else None) None
     either-way true = refl
     either-way false = refl
 
@@ -72,20 +72,20 @@ pub refused-in_name : (at : ℕ) (n : Started) (name : List ℕ) (b : ℕ) → i
 unfolding step
 refused-in_name at n name b u l w x = rw (u, l, w, ne_eqb b 91 x)
 
-pub refused-behind_name : (at : ℕ) (n : Started) (name : List ℕ) (b : ℕ) → is_white b ≡ false → b ≢ 91 → step at (behind_name n name) b ≡ None
+pub refused-after_name : (at : ℕ) (n : Started) (name : List ℕ) (b : ℕ) → is_white b ≡ false → b ≢ 91 → step at (after_name n name) b ≡ None
 unfolding step
-refused-behind_name at n name b w x = rw (w, ne_eqb b 91 x)
+refused-after_name at n name b w x = rw (w, ne_eqb b 91 x)
 
-pub refused-behind_value : (at : ℕ) (n : Started) (p : Property) (b : ℕ) → is_white b ≡ false → b ≢ 91 → is_upper b ≡ false
-    → b ≢ 59 → b ≢ 40 → b ≢ 41 → step at (behind_value n p) b ≡ None
+pub refused-after_value : (at : ℕ) (n : Started) (p : Property) (b : ℕ) → is_white b ≡ false → b ≢ 91 → is_upper b ≡ false
+    → b ≢ 59 → b ≢ 40 → b ≢ 41 → step at (after_value n p) b ≡ None
 unfolding step
-refused-behind_value at n p b w v u x y z = rw (w, ne_eqb b 91 v, u, ne_eqb b 59 x, ne_eqb b 40 y, ne_eqb b 41 z)
+refused-after_value at n p b w v u x y z = rw (w, ne_eqb b 91 v, u, ne_eqb b 59 x, ne_eqb b 40 y, ne_eqb b 41 z)
 
-pub refused-behind_game : (at : ℕ) (k : Stack) (b : ℕ) → is_white b ≡ false → b ≢ 40 → b ≢ 41 → step at (behind_game k) b ≡ None
+pub refused-after_game : (at : ℕ) (k : Stack) (b : ℕ) → is_white b ≡ false → b ≢ 40 → b ≢ 41 → step at (after_game k) b ≡ None
 unfolding step
-refused-behind_game at k b w x y = rw (w, ne_eqb b 40 x, ne_eqb b 41 y)
+refused-after_game at k b w x y = rw (w, ne_eqb b 40 x, ne_eqb b 41 y)
 
 -- a `)` where no game is open
-pub refused-close : (at : ℕ) (k : Stack) → k.unclosed ≡ [] → step at (behind_game k) 41 ≡ None
+pub refused-close : (at : ℕ) (k : Stack) → k.unclosed ≡ [] → step at (after_game k) 41 ≡ None
 unfolding step
 refused-close at k e = rw e

@@ -4,9 +4,9 @@ use Rattle.std.proofs.Common.{inl, inr, length-take, length-drop}
 use Rattle.std.proofs.lemmas.Bool.{and_parts, and_cases, not-true, not-false, cases_lt, eqb-false, false≢true}
 use Rattle.memchr.specs.Find.{IsFirstByte, is_byte2}
 use Rattle.std.proofs.lemmas.List.{drop-drop, take_all}
-use Rattle.sgf_tree.specs.Machine.{Started, State, start, in_value, behind_escape, step, run, accepted}
+use Rattle.sgf_tree.specs.inner.Machine.{Started, MachineState, start, in_value, after_escape, step, run, accepted}
 use Rattle.sgf_tree.specs.Refusal.{IsFaultyAt}
-use Rattle.sgf_tree.specs.Progress.{Reaches, IsRun, is_plain, IsUnended}
+use Rattle.sgf_tree.specs.inner.Progress.{ComesTo, IsRun, is_plain, IsUnended}
 use Rattle.sgf_tree.proofs.Faults.{ended-fault, refused-fault}
 use Rattle.sgf_tree.proofs.Run.{run-take-step}
 use Rattle.sgf_tree.proofs.Spans.{run-plain, run-escape}
@@ -28,16 +28,16 @@ span-join t a b c le le' =
     rw e (sym (take-both (b - a) (c - b) (drop a t) ∙ ap (λ xs. take (b - a) (drop a t) ++ take (c - b) xs) (drop-drop (b - a) a t ∙ ap (λ k. drop k t) f)))
 
 -- the whole text is reached
-pub reaches-all : (t : List ℕ) (z : State) → Reaches t (length t) z → run 0 start t ≡ Some z
+pub reaches-all : (t : List ℕ) (z : MachineState) → ComesTo t (length t) z → run 0 start t ≡ Some z
 reaches-all t z h = ap (run 0 start) (sym (take_all (length t) t (omega arith))) ∙ h
 
 -- the text ends in a state where it may not end
-pub ends-faulty : (t : List ℕ) (z : State) → Reaches t (length t) z → accepted z ≡ None → IsFaultyAt t (length t)
+pub ends-faulty : (t : List ℕ) (z : MachineState) → ComesTo t (length t) z → accepted z ≡ None → IsFaultyAt t (length t)
 ends-faulty t z h a =
     let fault = ended-fault t z (reaches-all t z h) a in record { unspelled = fault.1; first_fault = fault.0 }
 
 -- a byte is refused
-pub refused-faulty : (t : List ℕ) (at : ℕ) (z : State) → at < length t → Reaches t at z → step at z (get_or t at 0) ≡ None → IsFaultyAt t at
+pub refused-faulty : (t : List ℕ) (at : ℕ) (z : MachineState) → at < length t → ComesTo t at z → step at z (get_or t at 0) ≡ None → IsFaultyAt t at
 refused-faulty t at z lt h s =
     let fault = refused-fault t at z lt h s in record { unspelled = fault.1; first_fault = fault.0 }
 
@@ -83,8 +83,8 @@ plain-found t at end further le le' passing found =
       within = omega arith;
       passing = λ i low lt. elim (cases_lt i end) [
         | inl before ↦ passing i low before
-        | inr after ↦
-            let here : get_or hay (i - end) 0 ≡ get_or t i 0 = span-at t end i after (omega arith) in
+        | inr later ↦
+            let here : get_or hay (i - end) 0 ≡ get_or t i 0 = span-at t end i later (omega arith) in
             subst (λ b. is_plain b ≡ true) here (both-not (get_or hay (i - end) 0 == 93) (get_or hay (i - end) 0 == 92) (found.0.before (i - end) (omega arith) (omega arith)))
       ];
       stops = λ lt.
@@ -103,23 +103,23 @@ plain-none t at end le le' passing none =
       within = omega arith;
       passing = λ i low lt. elim (cases_lt i end) [
         | inl before ↦ passing i low before
-        | inr after ↦
-            let here : get_or hay (i - end) 0 ≡ get_or t i 0 = span-at t end i after lt in
+        | inr later ↦
+            let here : get_or hay (i - end) 0 ≡ get_or t i 0 = span-at t end i later lt in
             subst (λ b. is_plain b ≡ true) here (both-not (get_or hay (i - end) 0 == 93) (get_or hay (i - end) 0 == 92) (none (i - end) (omega arith) (omega arith)))
       ];
       stops = λ lt. absurd (omega arith);
     }
 
--- the states inside a value, and behind a `\`, are no ends
+-- the states inside a value, and after a `\`, are no ends
 value-unaccepted : (n : Started) (name : List ℕ) (before : List (List ℕ)) (so_far : List ℕ) → accepted (in_value n name before so_far) ≡ None
 unfolding accepted
 value-unaccepted n name before so_far = refl
 
-escape-unaccepted : (n : Started) (name : List ℕ) (before : List (List ℕ)) (so_far : List ℕ) → accepted (behind_escape n name before so_far) ≡ None
+escape-unaccepted : (n : Started) (name : List ℕ) (before : List (List ℕ)) (so_far : List ℕ) → accepted (after_escape n name before so_far) ≡ None
 unfolding accepted
 escape-unaccepted n name before so_far = refl
 
-step-escape : (at : ℕ) (n : Started) (name : List ℕ) (before : List (List ℕ)) (so_far : List ℕ) → step at (in_value n name before so_far) 92 ≡ Some (behind_escape n name before so_far)
+step-escape : (at : ℕ) (n : Started) (name : List ℕ) (before : List (List ℕ)) (so_far : List ℕ) → step at (in_value n name before so_far) 92 ≡ Some (after_escape n name before so_far)
 unfolding step
 step-escape at n name before so_far = refl
 
@@ -127,8 +127,8 @@ module _ (t : List ℕ) (at : ℕ) where
   -- the bytes from `at` to `end` are units of a value
   abbrev pub AreUnits : ℕ → Type 0
   AreUnits end =
-      (n : Started) (name : List ℕ) (before : List (List ℕ)) → Reaches t at (in_value n name before [])
-      → Reaches t end (in_value n name before (slice_range t at end))
+      (n : Started) (name : List ℕ) (before : List (List ℕ)) → ComesTo t at (in_value n name before [])
+      → ComesTo t end (in_value n name before (slice_range t at end))
 
   pub units-none : AreUnits at
   units-none n name before h = let e : at - at ≡ 0 = omega arith in rw e h
@@ -148,12 +148,12 @@ module _ (t : List ℕ) (at : ℕ) where
   units-end units n name before h =
       ends-faulty t (in_value n name before (slice_range t at (length t))) (units n name before h) (value-unaccepted n name before (slice_range t at (length t)))
 
-  -- or behind a `\`
+  -- or after a `\`
   pub escape-end : (a : ℕ) → a + 1 ≡ length t → get_or t a 0 ≡ 92 → AreUnits a → IsUnended t at
   escape-end a e f units n name before h =
       let so_far : List ℕ = slice_range t at a in
-      let last : Reaches t (a + 1) (behind_escape n name before so_far) = run-take-step t a (in_value n name before so_far) (behind_escape n name before so_far) (units n name before h) (omega arith) (rw f (step-escape a n name before so_far)) in
-      ends-faulty t (behind_escape n name before so_far) (subst (λ i. Reaches t i (behind_escape n name before so_far)) e last) (escape-unaccepted n name before so_far)
+      let last : ComesTo t (a + 1) (after_escape n name before so_far) = run-take-step t a (in_value n name before so_far) (after_escape n name before so_far) (units n name before h) (omega arith) (rw f (step-escape a n name before so_far)) in
+      ends-faulty t (after_escape n name before so_far) (subst (λ i. ComesTo t i (after_escape n name before so_far)) e last) (escape-unaccepted n name before so_far)
 
   -- the byte that stops the plain bytes begins an escape
   pub stop-escape : (a b : ℕ) → IsRun is_plain t a b → b < length t → get_or t b 0 ≢ 93 → get_or t b 0 ≡ 92

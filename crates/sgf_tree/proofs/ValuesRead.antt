@@ -4,14 +4,14 @@ use Rattle.std.proofs.lemmas.List.{map-append, length-map}
 use Rattle.std.proofs.lemmas.List.Elements.{All-append}
 use Rattle.sgf_tree.specs.Tree.{Property, values}
 use Rattle.sgf_tree.specs.Spelling.{is_white}
-use Rattle.sgf_tree.specs.Machine.{Started, in_value, behind_value, property_of, step}
-use Rattle.sgf_tree.specs.Layout.{IsSpan, property_from, raw_values}
-use Rattle.sgf_tree.specs.Progress.{Reaches, IsRun, IsValueEnd}
-use Rattle.sgf_tree.specs.PropertiesRead.{ArePushed, AreValuesRead}
+use Rattle.sgf_tree.specs.inner.Machine.{Started, in_value, after_value, property_of, step}
+use Rattle.sgf_tree.specs.inner.Layout.{IsSpan, property_from, raw_values}
+use Rattle.sgf_tree.specs.inner.Progress.{ComesTo, IsRun, IsValueEnd}
+use Rattle.sgf_tree.specs.inner.PropertiesRead.{ArePushed, AreValuesRead}
 use Rattle.sgf_tree.specs.declared.layout.ValueEntry.{ValueEntry}
 use Rattle.sgf_tree.proofs.Flat.{values-property_from, name-property_from}
 use Rattle.sgf_tree.proofs.Run.{run-take-step}
-use Rattle.sgf_tree.proofs.Skipping.{stays-behind_value}
+use Rattle.sgf_tree.proofs.Skipping.{stays-after_value}
 use Rattle.sgf_tree.proofs.Spans.{run-white}
 
 -- what holds of one element holds of each one of a list of it
@@ -24,11 +24,11 @@ property_of-from : (name : List ℕ) (before : List (List ℕ)) (value : List �
 property_of-from name [] value = refl
 property_of-from name (v ∷ vs) value = refl
 
-step-close : (at : ℕ) (n : Started) (name : List ℕ) (before : List (List ℕ)) (value : List ℕ) → step at (in_value n name before value) 93 ≡ Some (behind_value n (property_of name before value))
+step-close : (at : ℕ) (n : Started) (name : List ℕ) (before : List (List ℕ)) (value : List ℕ) → step at (in_value n name before value) 93 ≡ Some (after_value n (property_of name before value))
 unfolding step
 step-close at n name before value = refl
 
-step-again : (at : ℕ) (n : Started) (p : Property) → step at (behind_value n p) 91 ≡ Some (in_value n p.name (values p) [])
+step-again : (at : ℕ) (n : Started) (p : Property) → step at (after_value n p) 91 ≡ Some (in_value n p.name (values p) [])
 unfolding step
 step-again at n p = refl
 
@@ -38,8 +38,8 @@ module _ (t : List ℕ) where
     pub added : List ValueEntry
     pub pushed : ArePushed t old new added
     pub counted : bracket + length added ≤ at
-    pub reached : (n : Started) (name : List ℕ) → Reaches t (bracket + 1) (in_value n name [] [])
-        → Reaches t (at + 1) (in_value n name (raw_values t added) [])
+    pub reached : (n : Started) (name : List ℕ) → ComesTo t (bracket + 1) (in_value n name [] [])
+        → ComesTo t (at + 1) (in_value n name (raw_values t added) [])
 
   pub values-begin : (bracket : ℕ) (old : List ValueEntry) → ValuesSoFar bracket bracket old old
   values-begin bracket old =
@@ -50,7 +50,7 @@ module _ (t : List ℕ) where
         reached = λ n name h. h;
       }
 
-  -- a value behind them, and the white space there
+  -- a value after them, and the white space there
   pub record ValuesBefore (bracket at : ℕ) (old new : List ValueEntry) : Type 0 where
     pub added : List ValueEntry
     pub pushed : ArePushed t old new added
@@ -58,8 +58,8 @@ module _ (t : List ℕ) where
     pub counted : bracket + length added ≤ at
     pub within : at ≤ length t
     pub not_white : at < length t → is_white (get_or t at 0) ≡ false
-    pub reached : (n : Started) (name : List ℕ) → Reaches t (bracket + 1) (in_value n name [] [])
-        → Reaches t at (behind_value n (property_from name (raw_values t added)))
+    pub reached : (n : Started) (name : List ℕ) → ComesTo t (bracket + 1) (in_value n name [] [])
+        → ComesTo t at (after_value n (property_from name (raw_values t added)))
 
   one-pushed : (old mid new added : List ValueEntry) (v : ValueEntry) → ArePushed t old mid added → new ≡ mid ++ v ∷ [] → IsSpan (length t) v.start v.end → ArePushed t old new (added ++ v ∷ [])
   one-pushed old mid new added v pushed e span =
@@ -84,10 +84,10 @@ module _ (t : List ℕ) where
         reached = λ n name h.
             let before : List (List ℕ) = raw_values t so_far.added in
             let raw : List ℕ = slice_range t (at + 1) end in
-            let value : Reaches t end (in_value n name before raw) = is_end.value n name before (so_far.reached n name h) in
-            let closed : Reaches t (end + 1) (behind_value n (property_of name before raw)) = run-take-step t end (in_value n name before raw) (behind_value n (property_of name before raw)) value is_end.within (rw is_end.bracket (step-close end n name before raw)) in
-            let skip : Reaches t next (behind_value n (property_of name before raw)) = run-white t (end + 1) next (behind_value n (property_of name before raw)) (stays-behind_value n (property_of name before raw)) white.rises white.within white.passing closed in
-            subst (λ p. Reaches t next (behind_value n p)) (property_of-from name before raw ∙ ap (property_from name) (sym (map-append (λ (w : ValueEntry). slice_range t w.start w.end) so_far.added (v ∷ [])))) skip;
+            let value : ComesTo t end (in_value n name before raw) = is_end.value n name before (so_far.reached n name h) in
+            let closed : ComesTo t (end + 1) (after_value n (property_of name before raw)) = run-take-step t end (in_value n name before raw) (after_value n (property_of name before raw)) value is_end.within (rw is_end.bracket (step-close end n name before raw)) in
+            let skip : ComesTo t next (after_value n (property_of name before raw)) = run-white t (end + 1) next (after_value n (property_of name before raw)) (stays-after_value n (property_of name before raw)) white.rises white.within white.passing closed in
+            subst (λ p. ComesTo t next (after_value n p)) (property_of-from name before raw ∙ ap (property_from name) (sym (map-append (λ (w : ValueEntry). slice_range t w.start w.end) so_far.added (v ∷ [])))) skip;
       }
 
   -- one more value follows
@@ -101,9 +101,9 @@ module _ (t : List ℕ) where
             let raw : List (List ℕ) = raw_values t before.added in
             let p : Property = property_from name raw in
             let some : 0 < length raw = omega (arith, before.some_value, length-map before.added (λ (w : ValueEntry). slice_range t w.start w.end)) in
-            let next : Reaches t (at + 1) (in_value n p.name (values p) []) = run-take-step t at (behind_value n p) (in_value n p.name (values p) []) (before.reached n name h) lt (rw e (step-again at n p)) in
-            subst (λ vs. Reaches t (at + 1) (in_value n name vs [])) (values-property_from name raw some)
-            (subst (λ m. Reaches t (at + 1) (in_value n m (values p) [])) (name-property_from name raw) next);
+            let next : ComesTo t (at + 1) (in_value n p.name (values p) []) = run-take-step t at (after_value n p) (in_value n p.name (values p) []) (before.reached n name h) lt (rw e (step-again at n p)) in
+            subst (λ vs. ComesTo t (at + 1) (in_value n name vs [])) (values-property_from name raw some)
+            (subst (λ m. ComesTo t (at + 1) (in_value n m (values p) [])) (name-property_from name raw) next);
       }
 
   -- none does

@@ -5,9 +5,9 @@ use Rattle.sgf_tree.specs.declared.fault.TheConstants.{MAX_LENGTH}
 use Rattle.sgf_tree.specs.Tree.{Games, no_games, game_count, node_count}
 use Rattle.sgf_tree.specs.Spelling.{Spells}
 use Rattle.sgf_tree.specs.FileOrder.{game_of, rows_of, IsLastBelow, PlacesRise}
-use Rattle.sgf_tree.specs.Machine.{collection_of}
-use Rattle.sgf_tree.specs.Layout.{games_in, IsLaidOut}
-use Rattle.sgf_tree.specs.GamesRead.{IsRootOf, IsRead}
+use Rattle.sgf_tree.specs.inner.Machine.{collection_of}
+use Rattle.sgf_tree.specs.inner.Layout.{games_in, IsLaidOut}
+use Rattle.sgf_tree.specs.inner.GamesRead.{IsRootOf, IsRead}
 use Rattle.sgf_tree.specs.declared.layout.NodeEntry.{NodeEntry}
 use Rattle.sgf_tree.specs.declared.layout.PropertyEntry.{PropertyEntry}
 use Rattle.sgf_tree.specs.declared.layout.ValueEntry.{ValueEntry}

@@ -1,5 +1,6 @@
--- A collection further on in a text, for the law of one text behind another.
+-- A collection further on in a text, for the law of one text after another.
 use Rattle.std.specs.Prelude.{◌≡◌, ℕ, ◌+◌, List, [], ◌∷◌, map, take}
+use Rattle.sgf_tree.specs.Bytes.{byte_ef, byte_bb, byte_bf}
 use Rattle.sgf_tree.specs.Tree.{Node, Games, no_games, game}
 
 -- a node `by` bytes further on
@@ -9,9 +10,9 @@ raised_node by n = record { place = by + n.place; properties = n.properties }
 -- games `by` bytes further on
 abbrev pub raised : ℕ → Games → Games
 raised by no_games = no_games
-raised by (game first more below behind) =
-    game (raised_node by first) (map (raised_node by) more) (raised by below) (raised by behind)
+raised by (game first more below after) =
+    game (raised_node by first) (map (raised_node by) more) (raised by below) (raised by after)
 
 -- the first bytes are the UTF-8 byte order mark
 abbrev pub BeginsWithMark : List ℕ → Type 0
-BeginsWithMark t = take 3 t ≡ 239 ∷ 187 ∷ 191 ∷ []
+BeginsWithMark t = take 3 t ≡ byte_ef ∷ byte_bb ∷ byte_bf ∷ []

@@ -3,7 +3,7 @@ use Rattle.std.specs.Prelude.{◌≡◌, ◌≢◌, ℕ, ◌+◌, ◌-◌, ◌<�
 use Rattle.sgf_tree.specs.Tree.{Node, Games, no_games, game, node_count}
 
 -- a node, the number of the node before it on its line (none for the root of a game of the collection), and whether it
--- is the first behind a `(`
+-- is the first after a `(`
 pub record Row : Type 0 where
   pub node : Node
   pub parent : Option ℕ
@@ -15,14 +15,14 @@ further_rows last [] = []
 further_rows last (n ∷ ns) = record { node = n; parent = Some last; opens = false } ∷ further_rows (last + 1) ns
 
 -- the nodes of games whose first node has the number `at` and follows `parent`: a game's own nodes, those of the
--- games below its last own node, and those of the games behind it
+-- games below its last own node, and those of the games after it
 abbrev pub rows : ℕ → Option ℕ → Games → List Row
 rows at parent no_games = []
-rows at parent (game first more below behind) =
+rows at parent (game first more below after) =
     let last = at + length more in
     record { node = first; parent = parent; opens = true } ∷ further_rows at more
     ++ rows (last + 1) (Some last) below
-    ++ rows (last + 1 + node_count below) parent behind
+    ++ rows (last + 1 + node_count below) parent after
 
 -- the nodes of a collection in file order
 abbrev pub rows_of : Games → List Row
@@ -45,9 +45,9 @@ IsLeaf c i = (j : ℕ) → parent_at c j ≢ Some (Some i)
 -- the number of the game that has node i, from 1
 abbrev pub game_of : Games → ℕ → ℕ
 game_of no_games i = 0
-game_of (game first more below behind) i =
+game_of (game first more below after) i =
     let size = 1 + length more + node_count below in
-    if nat_lt i size then 1 else 1 + game_of behind (i - size)
+    if nat_lt i size then 1 else 1 + game_of after (i - size)
 
 -- j is i, or a node below i
 pub data IsUnder (c : Games) (i : ℕ) : ℕ → Type 0 where

@@ -3,7 +3,7 @@ use Rattle.std.specs.Prelude.{ℕ, ◌<◌, ◌≤◌, List, ◌++◌, length, t
 use Rattle.sgf_tree.specs.Tree.{Games}
 use Rattle.sgf_tree.specs.Spelling.{Spells}
 
--- some bytes behind it make it a text that spells a collection
+-- some bytes after it make it a text that spells a collection
 abbrev pub Begins : List ℕ → Type 0
 Begins front = (more : List ℕ) × (c : Games) × All (λ b. b < 256) more × Spells c (front ++ more)
 

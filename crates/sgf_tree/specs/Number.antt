@@ -1,15 +1,16 @@
 -- The value of a number (SGF FF[4]: Number = [ "+" | "-" ] Digit { Digit }; at most 18 digits is this project's choice).
 use Rattle.std.specs.Prelude.{ℕ, ◌+◌, ◌-◌, ◌*◌, ◌^◌, ◌==◌, nat_le, ◌&&◌, Bool, if◌then◌else◌, List, [], ◌∷◌, length, ℤ, pos, neg_ℤ, Option, Some, None, option_map}
 use Rattle.std.specs.List.{list_all}
+use Rattle.sgf_tree.specs.Bytes.{plus, minus, digit_zero, digit_nine}
 
 -- 0 to 9
 abbrev pub is_digit : ℕ → Bool
-is_digit b = nat_le 48 b && nat_le b 57
+is_digit b = nat_le digit_zero b && nat_le b digit_nine
 
 -- the sum of the digits, each times its power of ten
 abbrev pub decimal_value : List ℕ → ℕ
 decimal_value [] = 0
-decimal_value (d ∷ ds) = (d - 48) * 10 ^ length ds + decimal_value ds
+decimal_value (d ∷ ds) = (d - digit_zero) * 10 ^ length ds + decimal_value ds
 
 -- 1 to 18 digits and nothing else
 abbrev pub are_digits : List ℕ → Bool
@@ -22,6 +23,6 @@ magnitude_of ds = if are_digits ds then Some (decimal_value ds) else None
 abbrev pub number_of : List ℕ → Option ℤ
 number_of [] = None
 number_of (b ∷ rest) =
-    if b == 43 then option_map pos (magnitude_of rest)
-    else (if b == 45 then option_map (λ n. neg_ℤ (pos n)) (magnitude_of rest)
+    if b == plus then option_map pos (magnitude_of rest)
+    else (if b == minus then option_map (λ n. neg_ℤ (pos n)) (magnitude_of rest)
     else option_map pos (magnitude_of (b ∷ rest)))

@@ -1,19 +1,21 @@
 -- Which texts spell a collection: the EBNF of SGF FF[4] down to the brackets of a value; what stands in these is any
--- bytes, with escapes. In each relation s is what is left of the text before a thing, and r what is left behind it.
-use Rattle.std.specs.Prelude.{◌≡◌, ◌≢◌, ℕ, ◌+◌, Bool, ◌||◌, ◌&&◌, ◌==◌, nat_le, IsTrue, List, [], ◌∷◌, length}
+-- bytes, with escapes (`RawValue.antt`). In each relation s is what is left of the text before a thing, and r what is left after it.
+use Rattle.std.specs.Prelude.{◌≡◌, ℕ, ◌+◌, Bool, ◌||◌, ◌&&◌, ◌==◌, nat_le, IsTrue, List, [], ◌∷◌, length}
+use Rattle.sgf_tree.specs.Bytes.{tab, line_feed, vertical_tab, form_feed, carriage_return, space, open_parenthesis, close_parenthesis, semicolon, capital_a, capital_z, open_bracket, close_bracket, small_a, small_z, byte_ef, byte_bb, byte_bf}
+use Rattle.sgf_tree.specs.RawValue.{IsValue}
 use Rattle.sgf_tree.specs.Tree.{Property, Node, Games, no_games, game}
 
 -- white space: space, tab, line feed, carriage return, vertical tab, form feed (this project's choice)
 abbrev pub is_white : ℕ → Bool
-is_white b = b == 32 || b == 9 || b == 10 || b == 13 || b == 11 || b == 12
+is_white b = b == space || b == tab || b == line_feed || b == carriage_return || b == vertical_tab || b == form_feed
 
 -- A to Z
 abbrev pub is_upper : ℕ → Bool
-is_upper b = nat_le 65 b && nat_le b 90
+is_upper b = nat_le capital_a b && nat_le b capital_z
 
 -- a to z
 abbrev pub is_lower : ℕ → Bool
-is_lower b = nat_le 97 b && nat_le b 122
+is_lower b = nat_le small_a b && nat_le b small_z
 
 -- any amount of white space
 pub data White : List ℕ → List ℕ → Type 0 where
@@ -26,15 +28,9 @@ pub data Letters : List ℕ → List ℕ → List ℕ → Type 0 where
   upper : {b : ℕ} {name s r : List ℕ} → IsTrue (is_upper b) → Letters name s r → Letters (b ∷ name) (b ∷ s) r
   lower : {b : ℕ} {name s r : List ℕ} → IsTrue (is_lower b) → Letters name s r → Letters name (b ∷ s) r
 
--- a raw value: units, each one byte other than `]` and `\`, or a `\` and any byte
-pub data IsValue : List ℕ → List ℕ → List ℕ → Type 0 where
-  no_unit : {s : List ℕ} → IsValue [] s s
-  plain : {b : ℕ} {value s r : List ℕ} → b ≢ 93 → b ≢ 92 → IsValue value s r → IsValue (b ∷ value) (b ∷ s) r
-  escaped : {b : ℕ} {value s r : List ℕ} → IsValue value s r → IsValue (92 ∷ b ∷ value) (92 ∷ b ∷ s) r
-
 -- PropValue = "[" value "]"
 pub data IsPropValue : List ℕ → List ℕ → List ℕ → Type 0 where
-  prop_value : {value s t r : List ℕ} → White s (91 ∷ t) → IsValue value t (93 ∷ r) → IsPropValue value s r
+  prop_value : {value s t r : List ℕ} → White s (open_bracket ∷ t) → IsValue value t (close_bracket ∷ r) → IsPropValue value s r
 
 -- { PropValue }
 pub data ArePropValues : List (List ℕ) → List ℕ → List ℕ → Type 0 where
@@ -54,7 +50,7 @@ pub data AreProperties : List Property → List ℕ → List ℕ → Type 0 wher
 
 -- Node = ";" { Property }; its place is the number of bytes before the `;` in a text of `whole` bytes
 pub data IsNode (whole : ℕ) : Node → List ℕ → List ℕ → Type 0 where
-  node : {place : ℕ} {ps : List Property} {s t r : List ℕ} → White s (59 ∷ t) → place + length (59 ∷ t) ≡ whole → AreProperties ps t r
+  node : {place : ℕ} {ps : List Property} {s t r : List ℕ} → White s (semicolon ∷ t) → place + length (semicolon ∷ t) ≡ whole → AreProperties ps t r
       → IsNode whole (record { place = place; properties = ps }) s r
 
 -- { Node }
@@ -65,18 +61,18 @@ pub data AreNodes (whole : ℕ) : List Node → List ℕ → List ℕ → Type 0
 -- { GameTree }, where GameTree = "(" Node { Node } { GameTree } ")"
 pub data AreGames (whole : ℕ) : Games → List ℕ → List ℕ → Type 0 where
   no_game : {s : List ℕ} → AreGames whole no_games s s
-  games : {first : Node} {more : List Node} {below behind : Games} {s t u v w x r : List ℕ}
-      → White s (40 ∷ t) → IsNode whole first t u → AreNodes whole more u v → AreGames whole below v w → White w (41 ∷ x)
-      → AreGames whole behind x r
-      → AreGames whole (game first more below behind) s r
+  games : {first : Node} {more : List Node} {below after : Games} {s t u v w x r : List ℕ}
+      → White s (open_parenthesis ∷ t) → IsNode whole first t u → AreNodes whole more u v → AreGames whole below v w → White w (close_parenthesis ∷ x)
+      → AreGames whole after x r
+      → AreGames whole (game first more below after) s r
 
 -- the UTF-8 byte order mark, once at the very start, or nothing (this project's choice)
 pub data Mark : List ℕ → List ℕ → Type 0 where
   no_mark : {s : List ℕ} → Mark s s
-  mark : {s : List ℕ} → Mark (239 ∷ 187 ∷ 191 ∷ s) s
+  mark : {s : List ℕ} → Mark (byte_ef ∷ byte_bb ∷ byte_bf ∷ s) s
 
 -- Collection = GameTree { GameTree }, then white space up to the end: the text t spells the collection c
 pub data Spells : Games → List ℕ → Type 0 where
-  spells : {first : Node} {more : List Node} {below behind : Games} {t s r : List ℕ}
-      → Mark t s → AreGames (length t) (game first more below behind) s r → White r []
-      → Spells (game first more below behind) t
+  spells : {first : Node} {more : List Node} {below after : Games} {t s r : List ℕ}
+      → Mark t s → AreGames (length t) (game first more below after) s r → White r []
+      → Spells (game first more below after) t

@@ -16,24 +16,24 @@ pub record Node : Type 0 where
   pub place : ℕ
   pub properties : List Property
 
--- Games that stand side by side. A game has a first node, more nodes behind it, and the games below them;
--- then come the games behind it.
+-- Games that stand side by side. A game has a first node, more nodes after it, and the games below them;
+-- then come the games after it.
 pub data Games : Type 0 where
   no_games : Games
-  game : (first : Node) (more : List Node) (below behind : Games) → Games
+  game : (first : Node) (more : List Node) (below after : Games) → Games
 
 -- how many games stand side by side
 abbrev pub game_count : Games → ℕ
 game_count no_games = 0
-game_count (game first more below behind) = 1 + game_count behind
+game_count (game first more below after) = 1 + game_count after
 
 -- how many nodes they have, at every depth
 abbrev pub node_count : Games → ℕ
 node_count no_games = 0
-node_count (game first more below behind) =
-    1 + length more + node_count below + node_count behind
+node_count (game first more below after) =
+    1 + length more + node_count below + node_count after
 
--- games, and further games behind them
-abbrev pub followed_by : Games → Games → Games
-followed_by no_games others = others
-followed_by (game first more below behind) others = game first more below (followed_by behind others)
+-- games, and further games after them
+abbrev pub joined : Games → Games → Games
+joined no_games others = others
+joined (game first more below after) others = game first more below (joined after others)

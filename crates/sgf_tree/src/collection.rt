@@ -3,7 +3,7 @@
 ghost use Rattle.std.specs.Prelude.{◌≡◌, ◌<◌, ◌↔◌, ℕ, IsTrue, length};
 ghost use Rattle.sgf_tree.specs.declared.fault.TheConstants.{MAX_LENGTH};
 ghost use Rattle.sgf_tree.specs.Tree.{game_count, node_count};
-ghost use Rattle.sgf_tree.specs.Ends.{end_before};
+ghost use Rattle.sgf_tree.specs.inner.Ends.{end_before};
 ghost use Rattle.sgf_tree.specs.FileOrder.{node_at, place_at, parent_at, IsLeaf, game_of, IsLastBelow, PlacesRise};
 
 use crate::layout::{Entries, Link, NodeEntry, PropertyEntry, ValueEntry, part};
@@ -24,13 +24,13 @@ pub struct Collection<'a> {
 
 impl<'a> Model for Collection<'a> {
     ghost use Rattle.sgf_tree.specs.Tree.{Games};
-    ghost use Rattle.sgf_tree.specs.TreeCode.{games_code};
+    ghost use Rattle.sgf_tree.specs.inner.TreeCode.{games_code};
 
     ghost Value = { Games };
 
     ghost coded = { games_code };
 
-    ghost use Rattle.sgf_tree.specs.Layout.{games_in, IsLaidOut};
+    ghost use Rattle.sgf_tree.specs.inner.Layout.{games_in, IsLaidOut};
 
     ghost view = { λ c. games_in c.text.now };
 
@@ -39,7 +39,7 @@ impl<'a> Model for Collection<'a> {
 }
 
 impl<'a> Collection<'a> {
-    ghost use Rattle.sgf_tree.specs.Layout.{games_in, IsLaidOut};
+    ghost use Rattle.sgf_tree.specs.inner.Layout.{games_in, IsLaidOut};
 
     /// The collection of the text, which the entries hold.
     pub(crate) fn new(text: &'a [u8], games: u32, entries: Entries) -> Collection<'a>

@@ -4,13 +4,13 @@ ghost use Rattle.std.specs.Prelude.{◌≡◌, ℕ, List, ◌++◌, length};
 ghost use Rattle.sgf_tree.specs.FileOrder.{PlacesRise};
 ghost use Rattle.sgf_tree.specs.Appending.{raised, BeginsWithMark};
 ghost use Rattle.sgf_tree.specs.Spelling.{Spells};
-ghost use Rattle.sgf_tree.specs.Tree.{Games, followed_by};
+ghost use Rattle.sgf_tree.specs.Tree.{Games, joined};
 
-/// One text behind another: where t spells c, and u, which doesn't begin with a byte order mark, spells d, the two
+/// One text after another: where t spells c, and u, which doesn't begin with a byte order mark, spells d, the two
 /// joined spell the games of c followed by those of d, with the places of d raised by the length of t.
 pub fn append()
     ensures { (c d : Games) (t u : List ℕ) → Spells c t → Spells d u → ¬ BeginsWithMark u
-        → Spells (followed_by c (raised (length t) d)) (t ++ u) }
+        → Spells (joined c (raised (length t) d)) (t ++ u) }
 {}
 
 /// A text spells one collection at most (SGF FF\[4\], EBNF, with this project's choices): the grammar is unambiguous,

@@ -7,7 +7,7 @@ ghost use Rattle.std.specs.Prelude.{◌≡◌, ◌≤◌, length, slice_range};
 pub(crate) enum Link {
     /// It is the root of the game of this number, from 1.
     Root(u32),
-    /// It is the first node behind a `(`, and the node of this number is its parent.
+    /// It is the first node after a `(`, and the node of this number is its parent.
     Branch(u32),
     /// The node before it in the file is its parent.
     Next,

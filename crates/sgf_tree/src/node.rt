@@ -2,7 +2,7 @@
 
 ghost use Rattle.std.specs.Prelude.{◌≡◌, ◌<◌, ◌≤◌, ◌+◌, length, slice_get, find, Some};
 ghost use Rattle.std.specs.Str.{bytes_eq};
-ghost use Rattle.sgf_tree.specs.Ends.{end_before};
+ghost use Rattle.sgf_tree.specs.inner.Ends.{end_before};
 
 use crate::layout::{PropertyEntry, ValueEntry, part};
 use crate::property::PropRef;
@@ -21,13 +21,13 @@ pub struct NodeRef<'c, 'a> {
 
 impl<'c, 'a> Model for NodeRef<'c, 'a> {
     ghost use Rattle.sgf_tree.specs.Tree.{Node};
-    ghost use Rattle.sgf_tree.specs.TreeCode.{node_code};
+    ghost use Rattle.sgf_tree.specs.inner.TreeCode.{node_code};
 
     ghost Value = { Node };
 
     ghost coded = { node_code };
 
-    ghost use Rattle.sgf_tree.specs.Layout.{properties_of, IsNodeHeld};
+    ghost use Rattle.sgf_tree.specs.inner.Layout.{properties_of, IsNodeHeld};
 
     ghost view = { λ n. record {
       place = n.place;

@@ -18,13 +18,13 @@ pub struct PropRef<'c, 'a> {
 
 impl<'c, 'a> Model for PropRef<'c, 'a> {
     ghost use Rattle.sgf_tree.specs.Tree.{Property};
-    ghost use Rattle.sgf_tree.specs.TreeCode.{property_code};
+    ghost use Rattle.sgf_tree.specs.inner.TreeCode.{property_code};
 
     ghost Value = { Property };
 
     ghost coded = { property_code };
 
-    ghost use Rattle.sgf_tree.specs.Layout.{property_from, name_in, raw_values, IsPropertyHeld};
+    ghost use Rattle.sgf_tree.specs.inner.Layout.{property_from, name_in, raw_values, IsPropertyHeld};
 
     ghost view = { λ p. property_from (name_in p.identifier.now) (raw_values p.text.now p.values.now) };
 

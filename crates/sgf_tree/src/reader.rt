@@ -6,8 +6,8 @@
 ghost use Rattle.std.specs.Prelude.{◌≡◌, ◌<◌, ◌≤◌, ◌↔◌, length, Err, IfOk, IfErr};
 ghost use Rattle.sgf_tree.specs.Spelling.{Spells};
 ghost use Rattle.sgf_tree.specs.Refusal.{IsFaultyWhereNotSgf};
-ghost use Rattle.sgf_tree.specs.Progress.{IsTrueFault};
-ghost use Rattle.sgf_tree.specs.GamesRead.{AreEmpty, ReadsWhole};
+ghost use Rattle.sgf_tree.specs.inner.Progress.{IsTrueFault};
+ghost use Rattle.sgf_tree.specs.inner.GamesRead.{AreEmpty, ReadsWhole};
 
 mod fault;
 mod games;

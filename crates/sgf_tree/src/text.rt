@@ -8,7 +8,7 @@ use crate::fault::MemoryFault;
 /// Appends the decoded text of a raw value to `out` (SGF FF[4], Text).
 ///
 /// A `\` before a line break goes with it, and before another byte it goes alone. A line break is CR LF, LF CR, LF or
-/// CR and gives an LF. The bytes 9, 11 and 12 give a space, behind a `\` too, and every other byte gives itself. (That
+/// CR and gives an LF. The bytes 9, 11 and 12 give a space, after a `\` too, and every other byte gives itself. (That
 /// two different bytes of CR and LF side by side, taken from the left, are one break, that a break gives an LF, and
 /// that a `\` as the last byte gives nothing are this project's choices.)
 ///
@@ -22,11 +22,11 @@ pub fn push_text(raw: &[u8], out: &mut Vec<u8>) -> Result<(), MemoryFault>
     while !rest.is_empty() {
         let (literal, special) = rest.split_at(literal_length(rest));
         out.extend_from_slice(literal).unwrap();
-        let (byte, behind) = decode_front(special);
+        let (byte, after) = decode_front(special);
         if let Some(byte) = byte {
             out.push(byte).unwrap();
         }
-        rest = behind;
+        rest = after;
     }
     Ok(())
 }

@@ -2,11 +2,11 @@
 
 ghost use Rattle.std.specs.Prelude.{◌≡◌, ◌<◌, ◌≤◌, ◌+◌, ℕ, [], length, IfOk, IfErr};
 ghost use Rattle.sgf_tree.specs.Tree.{no_games, game_count};
-ghost use Rattle.sgf_tree.specs.Machine.{Stack};
-ghost use Rattle.sgf_tree.specs.Progress.{IsTrueFault};
-ghost use Rattle.sgf_tree.specs.PropertiesRead.{IsFaultInNode};
-ghost use Rattle.sgf_tree.specs.GamesRead.{tip, HasRoom, IsOpening, IsOwnRun, ClosesRun};
-ghost use Rattle.sgf_tree.specs.GamesRead.{StandsBetween, AreEmpty, ReadsNode, ReadsSequence, ReadsWhole, IsFaultInSequence};
+ghost use Rattle.sgf_tree.specs.inner.Machine.{Stack};
+ghost use Rattle.sgf_tree.specs.inner.Progress.{IsTrueFault};
+ghost use Rattle.sgf_tree.specs.inner.PropertiesRead.{IsFaultInNode};
+ghost use Rattle.sgf_tree.specs.inner.GamesRead.{tip, HoldAtMost, IsOpening, IsOwnRun, ClosesRun};
+ghost use Rattle.sgf_tree.specs.inner.GamesRead.{StandsBetween, AreEmpty, ReadsNode, ReadsSequence, ReadsWhole, IsFaultInSequence};
 
 use crate::fault::MAX_LENGTH;
 use crate::layout::{Entries, Link, NodeEntry};
@@ -15,11 +15,11 @@ use crate::reader::properties::read_properties;
 use crate::reader::scan::skip_white;
 
 /// Reads the node whose `;` stands at `place`.
-/// The result is the offset of the byte behind it and the white space there.
+/// The result is the offset of the byte after it and the white space there.
 fn read_node(text: &[u8], place: usize, link: Link, entries: &mut Entries) -> Result<usize, Fault>
     requires short { length text.now ≤ MAX_LENGTH }
     requires within { place < length text.now }
-    requires room { HasRoom place entries.old }
+    requires room { HoldAtMost place entries.old }
     ensures read { IfOk result (λ end. ReadsNode text.now place end link entries.old entries.new) }
     ensures fault { IfErr result (IsFaultInNode text.now (place + 1)) }
 {
@@ -34,13 +34,13 @@ fn read_node(text: &[u8], place: usize, link: Link, entries: &mut Entries) -> Re
 }
 
 /// Reads the own nodes of the game whose `(` stands before `at`. The first one gets that link.
-/// The result is the offset of the byte behind them and the white space there.
+/// The result is the offset of the byte after them and the white space there.
 fn read_sequence(text: &[u8], at: usize, link: Link, entries: &mut Entries) -> Result<usize, Fault>
     requires short { length text.now ≤ MAX_LENGTH }
     requires within { at ≤ length text.now }
-    requires room { HasRoom at entries.old }
+    requires room { HoldAtMost at entries.old }
     ensures read { IfOk result (λ end. ReadsSequence text.now at end link entries.old entries.new) }
-    ensures room { IfOk result (λ end. HasRoom end entries.new) }
+    ensures room { IfOk result (λ end. HoldAtMost end entries.new) }
     ensures rises { IfOk result (λ end. at ≤ end) }
     ensures within { IfOk result (λ end. end ≤ length text.now) }
     ensures fault { IfErr result (IsFaultInSequence text.now at link entries.old) }

@@ -1,8 +1,8 @@
 //! The byte order mark.
 
 ghost use Rattle.std.specs.Prelude.{IfOk, IfErr};
-ghost use Rattle.sgf_tree.specs.Progress.{IsTrueFault};
-ghost use Rattle.sgf_tree.specs.GamesRead.{IsMarkRead};
+ghost use Rattle.sgf_tree.specs.inner.Progress.{IsTrueFault};
+ghost use Rattle.sgf_tree.specs.inner.GamesRead.{IsMarkRead};
 
 use crate::reader::fault::Fault;
 

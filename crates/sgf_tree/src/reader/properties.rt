@@ -2,8 +2,8 @@
 
 ghost use Rattle.std.specs.Prelude.{◌≡◌, ◌<◌, ◌≤◌, length, slice_index, IsTrue, IfOk, IfErr};
 ghost use Rattle.sgf_tree.specs.Spelling.{is_upper};
-ghost use Rattle.sgf_tree.specs.PropertiesRead.{AreValuesRead, ReadsProperty, ReadsProperties};
-ghost use Rattle.sgf_tree.specs.PropertiesRead.{IsFaultInValues, IsFaultInProperty, IsFaultInNode};
+ghost use Rattle.sgf_tree.specs.inner.PropertiesRead.{AreValuesRead, ReadsProperty, ReadsProperties};
+ghost use Rattle.sgf_tree.specs.inner.PropertiesRead.{IsFaultInValues, IsFaultInProperty, IsFaultInNode};
 
 use crate::fault::MAX_LENGTH;
 use crate::layout::{Entries, PropertyEntry, ValueEntry};
@@ -11,7 +11,7 @@ use crate::reader::fault::Fault;
 use crate::reader::scan::{letters_end, skip_white, value_end};
 
 /// Reads the values of a property, of which the first `[` stands at `bracket`.
-/// The result is the offset of the byte behind them and the white space there.
+/// The result is the offset of the byte after them and the white space there.
 fn read_values(text: &[u8], bracket: usize, values: &mut Vec<ValueEntry>) -> Result<usize, Fault>
     requires short { length text.now ≤ MAX_LENGTH }
     requires within { bracket < length text.now }
@@ -37,7 +37,7 @@ fn read_values(text: &[u8], bracket: usize, values: &mut Vec<ValueEntry>) -> Res
 }
 
 /// Reads the property whose identifier begins at `start`.
-/// The result is the offset of the byte behind it and the white space there.
+/// The result is the offset of the byte after it and the white space there.
 fn read_property(text: &[u8], start: usize, entries: &mut Entries) -> Result<usize, Fault>
     requires short { length text.now ≤ MAX_LENGTH }
     requires within { start < length text.now }
@@ -61,8 +61,8 @@ fn read_property(text: &[u8], start: usize, entries: &mut Entries) -> Result<usi
     Ok(end)
 }
 
-/// Reads the properties of a node, which begin at `at` or behind white space there.
-/// The result is the offset of the byte behind them and the white space there.
+/// Reads the properties of a node, which begin at `at` or after white space there.
+/// The result is the offset of the byte after them and the white space there.
 pub(crate) fn read_properties(text: &[u8], at: usize, entries: &mut Entries) -> Result<usize, Fault>
     requires short { length text.now ≤ MAX_LENGTH }
     requires within { at ≤ length text.now }

@@ -2,7 +2,7 @@
 
 ghost use Rattle.std.specs.Prelude.{◌≡◌, ◌≤◌, length, MatchOption};
 ghost use Rattle.sgf_tree.specs.Spelling.{is_white};
-ghost use Rattle.sgf_tree.specs.Progress.{IsRun, IsValueEnd, IsUnended, is_letter, is_plain};
+ghost use Rattle.sgf_tree.specs.inner.Progress.{IsRun, IsValueEnd, IsUnended, is_letter, is_plain};
 
 use memchr::memchr2;
 

@@ -1,6 +1,6 @@
 use Rattle.std.proofs.Common.{◌≡◌, ℕ, ◌+◌, ◌-◌, ◌<◌, length, set, subst, arith}
 use Rattle.sgf_tree.specs.declared.layout.NodeEntry.{NodeEntry}
-use Rattle.sgf_tree.specs.GamesRead.{IsOwnRun}
+use Rattle.sgf_tree.specs.inner.GamesRead.{IsOwnRun}
 use Rattle.sgf_tree.proofs.Marking.{Marks, marks-more, run-before, opens-link, parent-link, marks-closed}
 use Rattle.sgf_tree.proofs.reader.games.close_game.Goals as goal
 use Rattle.sgf_tree.proofs.reader.games.close_game.Goals.{After-index_mut-node}

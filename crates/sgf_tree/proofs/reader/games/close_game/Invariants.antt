@@ -1,5 +1,5 @@
 use Rattle.std.proofs.Common.{ℕ, ◌≤◌, ◌+◌}
-use Rattle.sgf_tree.specs.GamesRead.{IsOwnRun}
+use Rattle.sgf_tree.specs.inner.GamesRead.{IsOwnRun}
 use Rattle.sgf_tree.proofs.Marking.{Marks}
 use Rattle.sgf_tree.proofs.reader.games.close_game.Given as goal
 

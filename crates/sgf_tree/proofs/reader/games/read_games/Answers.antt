@@ -1,7 +1,7 @@
 use Rattle.std.proofs.Common.{◌-◌, ◌∷◌, ◌≡◌, ◌⊎◌, ◌≤◌, ◌∙◌, ◌+◌, inl, inr, true, false, is_some, not, length, Some, sym, ap, subst, arith}
 use Rattle.std.proofs.lemmas.Bool.{true≢false, false≢true}
 use Rattle.std.proofs.lemmas.Result.{err_from_is_err_and}
-use Rattle.sgf_tree.specs.GamesRead.{IsSequenceRead}
+use Rattle.sgf_tree.specs.inner.GamesRead.{IsSequenceRead}
 use Rattle.sgf_tree.proofs.GamesLoop.{GamesSoFar, games-open, games-faulty, close-faulty, games-sequence, close-own, close-within, close-count, games-close, games-unfinished, games-finished}
 use Rattle.sgf_tree.proofs.NodesRead.{nodes-held}
 use Rattle.sgf_tree.proofs.reader.games.read_games.Goals as goal

@@ -1,5 +1,5 @@
 use Rattle.std.proofs.Common.{◌-◌, ◌≤◌, length}
-use Rattle.sgf_tree.specs.GamesRead.{AreAtMost}
+use Rattle.sgf_tree.specs.inner.GamesRead.{AreAtMost}
 use Rattle.sgf_tree.proofs.GamesLoop.{GamesSoFar}
 use Rattle.sgf_tree.proofs.reader.games.read_games.Given as goal
 

@@ -5,14 +5,14 @@ use Rattle.sgf_tree.proofs.reader.games.read_sequence.Goals as goal
 use Rattle.sgf_tree.proofs.reader.games.read_sequence.Goals.{then-place-text-via-then-place-text, then-place-text-via-else-place-text+then-text-place-ne59}
 
 pub returns-then-place-text-clause-fault : goal.returns-then-place-text-clause-fault
-returns-then-place-text-clause-fault c k behind held opening =
+returns-then-place-text-clause-fault c k after held opening =
     let t = c.args.text.now in
     let place = c.skip_white-place.result in
     let other : place < length t → get_or t place 0 ≢ 59 = elim c.then-place-text.branch [
       | then-place-text-via-then-place-text w ↦ λ lt. absurd (omega (arith, w.if-place-text.true))
       | then-place-text-via-else-place-text+then-text-place-ne59 w ↦ λ _. w.if-text-place-ne59.true
     ] in
-    place-faulty t c.args.at place k c.skip_white-place.ensures behind other
+    place-faulty t c.args.at place k c.skip_white-place.ensures after other
 
 pub returns-in_err-end-clause-fault : goal.returns-in_err-end-clause-fault
 returns-in_err-end-clause-fault c =
@@ -21,8 +21,8 @@ returns-in_err-end-clause-fault c =
     let place = c.skip_white-place.result in
     let lt : place < length t = omega (arith, c.skip_white-place.ensures.within) in
     rw (p.1, p.2)
-    (λ k behind held opening.
-    c.in_err-end.ensures.fault _ refl (place-node t c.args.at place k c.skip_white-place.ensures behind lt c.if-text-place-ne59.false))
+    (λ k after held opening.
+    c.in_err-end.ensures.fault _ refl (place-node t c.args.at place k c.skip_white-place.ensures after lt c.if-text-place-ne59.false))
 
 pub nodes-init : goal.nodes-init
 nodes-init c =
@@ -38,16 +38,16 @@ nodes-init c =
         properties_at_most = omega (arith, c.requires.room.properties_at_most, c.skip_white-place.ensures.rises);
         values_at_most = omega (arith, c.requires.room.values_at_most, c.skip_white-place.ensures.rises);
       }) read;
-      so_far = λ k behind held opening.
-          sequence-first t c.args.at place c.in_ok-end.end k c.args.link _ _ _ _ _ _ c.skip_white-place.ensures behind held opening lt c.if-text-place-ne59.false read;
+      so_far = λ k after held opening.
+          sequence-first t c.args.at place c.in_ok-end.end k c.args.link _ _ _ _ _ _ c.skip_white-place.ensures after held opening lt c.if-text-place-ne59.false read;
     }
 
 pub returns-in_err-end-2-clause-fault : goal.returns-in_err-end-2-clause-fault
 returns-in_err-end-2-clause-fault c =
     let p = err_from_is_err_and c.from_residual-in_err-end-2.result c.from_residual-in_err-end-2.ensures.1 in
     rw (p.1, p.2)
-    (λ k behind held opening.
-    let node = sequence-node c.args.text.now c.nodes.end k _ _ _ (c.nodes.invariant.so_far k behind held opening) c.nodes-test.true c.if-text-end-eq59.true in
+    (λ k after held opening.
+    let node = sequence-node c.args.text.now c.nodes.end k _ _ _ (c.nodes.invariant.so_far k after held opening) c.nodes-test.true c.if-text-end-eq59.true in
     c.in_err-end-2.ensures.fault node.0 node.1.0 node.1.1)
 
 pub nodes-preserved : goal.nodes-preserved
@@ -58,14 +58,14 @@ nodes-preserved c =
       rises = omega (arith, c.nodes.invariant.rises, read.properties.counted);
       within = read.properties.within;
       room = node-room t c.nodes.end c.in_ok-end-2.end _ _ _ _ _ _ _ c.nodes.invariant.room read;
-      so_far = λ k behind held opening.
-          sequence-next t c.nodes.end c.in_ok-end-2.end k _ _ _ _ _ _ (c.nodes.invariant.so_far k behind held opening) c.nodes-test.true c.if-text-end-eq59.true read;
+      so_far = λ k after held opening.
+          sequence-next t c.nodes.end c.in_ok-end-2.end k _ _ _ _ _ _ (c.nodes.invariant.so_far k after held opening) c.nodes-test.true c.if-text-end-eq59.true read;
     }
 
 pub returns-else-text-end-eq59-clause-read : goal.returns-else-text-end-eq59-clause-read
-returns-else-text-end-eq59-clause-read c k behind held opening =
-    sequence-done c.args.text.now c.nodes.end k _ _ _ (c.nodes.invariant.so_far k behind held opening) (λ _. c.if-text-end-eq59.false)
+returns-else-text-end-eq59-clause-read c k after held opening =
+    sequence-done c.args.text.now c.nodes.end k _ _ _ (c.nodes.invariant.so_far k after held opening) (λ _. c.if-text-end-eq59.false)
 
 pub returns-after-nodes-clause-read : goal.returns-after-nodes-clause-read
-returns-after-nodes-clause-read c k behind held opening =
-    sequence-done c.args.text.now c.nodes.end k _ _ _ (c.nodes.invariant.so_far k behind held opening) (λ lt. absurd (omega (arith, c.nodes-test.false)))
+returns-after-nodes-clause-read c k after held opening =
+    sequence-done c.args.text.now c.nodes.end k _ _ _ (c.nodes.invariant.so_far k after held opening) (λ lt. absurd (omega (arith, c.nodes-test.false)))

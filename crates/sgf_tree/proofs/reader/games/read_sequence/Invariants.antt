@@ -1,7 +1,7 @@
 use Rattle.std.proofs.Common.{◌-◌, ◌≤◌, length}
-use Rattle.sgf_tree.specs.Machine.{Stack, opened}
-use Rattle.sgf_tree.specs.Progress.{Reaches}
-use Rattle.sgf_tree.specs.GamesRead.{HoldStack, AreAtMost, IsOpening}
+use Rattle.sgf_tree.specs.inner.Machine.{Stack, opened}
+use Rattle.sgf_tree.specs.inner.Progress.{ComesTo}
+use Rattle.sgf_tree.specs.inner.GamesRead.{HoldStack, AreAtMost, IsOpening}
 use Rattle.sgf_tree.proofs.SequencesRead.{SequenceSoFar}
 use Rattle.sgf_tree.proofs.reader.games.read_sequence.Given as goal
 
@@ -10,7 +10,7 @@ invariant-nodes l = record {
   rises : l.at ≤ l.end;
   within : l.end ≤ length l.text;
   room : AreAtMost l.end l.entries.nodes.items l.entries.properties.items l.entries.values.items;
-  so_far : (k : Stack) → Reaches l.text l.at (opened k) → HoldStack l.text k l.fn.entries.nodes.items l.fn.entries.properties.items l.fn.entries.values.items → IsOpening k l.fn.link
+  so_far : (k : Stack) → ComesTo l.text l.at (opened k) → HoldStack l.text k l.fn.entries.nodes.items l.fn.entries.properties.items l.fn.entries.values.items → IsOpening k l.fn.link
       → SequenceSoFar l.text l.end k l.entries.nodes.items l.entries.properties.items l.entries.values.items;
 }
 

@@ -1,21 +1,22 @@
 -- How far a text was read: the words of the contracts inside `reader`.
 use Rattle.std.specs.Prelude.{◌≡◌, ℕ, ◌<◌, ◌≤◌, Bool, false, not, ◌||◌, ◌&&◌, ◌==◌, List, [], length, slice_index, slice_range, take, Some, IsTrue}
+use Rattle.sgf_tree.specs.Bytes.{backslash, close_bracket}
 use Rattle.sgf_tree.specs.Spelling.{is_upper, is_lower}
-use Rattle.sgf_tree.specs.Machine.{Started, State, start, in_value, run}
+use Rattle.sgf_tree.specs.inner.Machine.{Started, MachineState, start, in_value, run}
 use Rattle.sgf_tree.specs.Refusal.{IsFaultyAt}
 use Rattle.sgf_tree.specs.declared.reader.fault.Fault.{Fault}
 use Rattle.sgf_tree.specs.declared.reader.fault.Fault.TheVariants.{NotSgf, Memory}
 
 -- the first `at` bytes take the machine to the state z
-abbrev pub Reaches : List ℕ → ℕ → State → Type 0
-Reaches t at z = run 0 start (take at t) ≡ Some z
+abbrev pub ComesTo : List ℕ → ℕ → MachineState → Type 0
+ComesTo t at z = run 0 start (take at t) ≡ Some z
 
 -- a fault is at the first one of the text
 abbrev pub IsTrueFault : List ℕ → Fault → Type 0
 IsTrueFault t (NotSgf at) = IsFaultyAt t at
 IsTrueFault t Memory = Unit {0}
 
--- the bytes from `at` to `end` pass the test, and the byte behind them doesn't
+-- the bytes from `at` to `end` pass the test, and the byte after them doesn't
 pub record IsRun (test : ℕ → Bool) (t : List ℕ) (at end : ℕ) : Type 0 where
   pub rises : at ≤ end
   pub within : end ≤ length t
@@ -28,17 +29,17 @@ is_letter b = is_upper b || is_lower b
 
 -- a byte of a value that neither ends it nor begins an escape
 abbrev pub is_plain : ℕ → Bool
-is_plain b = not (b == 93) && not (b == 92)
+is_plain b = not (b == close_bracket) && not (b == backslash)
 
 -- the raw value that begins at `at` ends at `end`, where its `]` stands
 pub record IsValueEnd (t : List ℕ) (at end : ℕ) : Type 0 where
   pub rises : at ≤ end
   pub within : end < length t
-  pub bracket : slice_index t end ≡ 93
-  pub value : (n : Started) (name : List ℕ) (before : List (List ℕ)) → Reaches t at (in_value n name before [])
-      → Reaches t end (in_value n name before (slice_range t at end))
+  pub bracket : slice_index t end ≡ close_bracket
+  pub value : (n : Started) (name : List ℕ) (before : List (List ℕ)) → ComesTo t at (in_value n name before [])
+      → ComesTo t end (in_value n name before (slice_range t at end))
 
 -- it doesn't end in the text
 abbrev pub IsUnended : List ℕ → ℕ → Type 0
 IsUnended t at =
-    (n : Started) (name : List ℕ) (before : List (List ℕ)) → Reaches t at (in_value n name before []) → IsFaultyAt t (length t)
+    (n : Started) (name : List ℕ) (before : List (List ℕ)) → ComesTo t at (in_value n name before []) → IsFaultyAt t (length t)

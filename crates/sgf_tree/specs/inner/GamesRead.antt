@@ -3,11 +3,11 @@ use Rattle.std.specs.Prelude.{◌≡◌, ℕ, ◌+◌, ◌-◌, ◌<◌, ◌≤�
 use Rattle.sgf_tree.specs.Tree.{Games, no_games, game, game_count, node_count}
 use Rattle.sgf_tree.specs.Spelling.{is_white}
 use Rattle.sgf_tree.specs.FileOrder.{Row, further_rows, rows, game_of}
-use Rattle.sgf_tree.specs.Machine.{OpenGame, Stack, State, opened, behind_game, between_games, step, accepted}
-use Rattle.sgf_tree.specs.Ends.{EndsRise}
-use Rattle.sgf_tree.specs.Layout.{IsSpan, properties_of, parent_by, opens_by, rows_by}
-use Rattle.sgf_tree.specs.Progress.{Reaches, IsTrueFault}
-use Rattle.sgf_tree.specs.PropertiesRead.{ArePropertiesRead}
+use Rattle.sgf_tree.specs.inner.Machine.{OpenGame, Stack, MachineState, opened, after_game, between_games, step, accepted}
+use Rattle.sgf_tree.specs.inner.Ends.{EndsRise}
+use Rattle.sgf_tree.specs.inner.Layout.{IsSpan, properties_of, parent_by, opens_by, rows_by}
+use Rattle.sgf_tree.specs.inner.Progress.{ComesTo, IsTrueFault}
+use Rattle.sgf_tree.specs.inner.PropertiesRead.{ArePropertiesRead}
 use Rattle.sgf_tree.specs.declared.layout.Entries.{Entries}
 use Rattle.sgf_tree.specs.declared.layout.Link.{Link}
 use Rattle.sgf_tree.specs.declared.layout.Link.TheVariants.{Root, Branch, Next}
@@ -40,9 +40,9 @@ open_rows closed (g ∷ gs) = open_rows closed gs ++ own_rows (open_count closed
 -- of each node in file order the last one below it, where the first one has the number `at`
 abbrev pub lasts : ℕ → Games → List ℕ
 lasts at no_games = []
-lasts at (game first more below behind) =
+lasts at (game first more below after) =
     let next = at + 1 + length more in
-    replicate (1 + length more) (at + length more + node_count below) ++ lasts next below ++ lasts (next + node_count below) behind
+    replicate (1 + length more) (at + length more + node_count below) ++ lasts next below ++ lasts (next + node_count below) after
 
 -- the same for whole and open games, with 0 for an open game's own nodes
 abbrev pub open_lasts : Games → List OpenGame → List ℕ
@@ -80,10 +80,10 @@ IsOpening k Next = ⊥
 
 -- the machine has the games of the stack k, and a `(`, a `)` or the end of the text may come
 pub record StandsBetween (t : List ℕ) (at : ℕ) (k : Stack) : Type 0 where
-  pub state : State
-  pub reached : Reaches t at state
+  pub state : MachineState
+  pub reached : ComesTo t at state
   pub next : at < length t → step at state (slice_index t at) ≡ between_games k (slice_index t at)
-  pub end : accepted state ≡ accepted (behind_game k)
+  pub end : accepted state ≡ accepted (after_game k)
   pub not_white : at < length t → is_white (slice_index t at) ≡ false
 
 -- the node whose `;` stands at `place` was read up to `end`
@@ -98,7 +98,7 @@ pub record IsSequenceRead (t : List ℕ) (end : ℕ) (k : Stack) (ns : List Node
   pub held : HoldStack t (record { closed = k.closed; unclosed = last ∷ k.unclosed }) ns ps vs
   pub nothing_below : last.below ≡ no_games
 
--- whether the node of an entry is the first behind a `(`
+-- whether the node of an entry is the first after a `(`
 abbrev pub opens_at : List NodeEntry → ℕ → Option Bool
 opens_at nodes i = option_map (λ (n : NodeEntry). opens_by n.link) (slice_get nodes i)
 
@@ -121,23 +121,23 @@ pub record ClosesRun (old new : List NodeEntry) (first last : ℕ) (parent : Opt
 
 -- a text that spells the collection c was read, which the vectors hold
 pub record IsRead (t : List ℕ) (c : Games) (ns : List NodeEntry) (ps : List PropertyEntry) (vs : List ValueEntry) : Type 0 where
-  pub reached : State
-  pub whole : Reaches t (length t) reached
+  pub reached : MachineState
+  pub whole : ComesTo t (length t) reached
   pub accepts : accepted reached ≡ Some c
   pub held : HoldStack t (record { closed = c; unclosed = [] }) ns ps vs
 
 -- what may stand before the first game was read: the byte order mark, or nothing
 pub record IsMarkRead (t : List ℕ) (at : ℕ) : Type 0 where
   pub within : at ≤ length t
-  pub state : State
-  pub reached : Reaches t at state
+  pub state : MachineState
+  pub reached : ComesTo t at state
   pub next : at < length t
       → step at state (slice_index t at) ≡ between_games (record { closed = no_games; unclosed = [] }) (slice_index t at)
-  pub end : accepted state ≡ accepted (behind_game (record { closed = no_games; unclosed = [] }))
+  pub end : accepted state ≡ accepted (after_game (record { closed = no_games; unclosed = [] }))
 
 -- the same, of all entries
-abbrev pub HasRoom : ℕ → Entries → Type 0
-HasRoom count entries = AreAtMost count entries.nodes.items entries.properties.items entries.values.items
+abbrev pub HoldAtMost : ℕ → Entries → Type 0
+HoldAtMost count entries = AreAtMost count entries.nodes.items entries.properties.items entries.values.items
 
 abbrev pub HoldsStack : List ℕ → Stack → Entries → Type 0
 HoldsStack t k entries = HoldStack t k entries.nodes.items entries.properties.items entries.values.items
@@ -146,16 +146,16 @@ abbrev pub ReadsNode : List ℕ → ℕ → ℕ → Link → Entries → Entries
 ReadsNode t place end link old new =
     IsNodeRead t place end link old.nodes.items new.nodes.items old.properties.items new.properties.items old.values.items new.values.items
 
--- where the machine has the games of a stack and stands behind a `(` at `at`, the game's own nodes were read up to `end`
+-- where the machine has the games of a stack and stands after a `(` at `at`, the game's own nodes were read up to `end`
 abbrev pub ReadsSequence : List ℕ → ℕ → ℕ → Link → Entries → Entries → Type 0
 ReadsSequence t at end link old new =
-    (k : Stack) → Reaches t at (opened k) → HoldsStack t k old → IsOpening k link
+    (k : Stack) → ComesTo t at (opened k) → HoldsStack t k old → IsOpening k link
     → IsSequenceRead t end k new.nodes.items new.properties.items new.values.items
 
 -- there a fault is the first one of the text
 abbrev pub IsFaultInSequence : List ℕ → ℕ → Link → Entries → Fault → Type 0
 IsFaultInSequence t at link old fault =
-    (k : Stack) → Reaches t at (opened k) → HoldsStack t k old → IsOpening k link → IsTrueFault t fault
+    (k : Stack) → ComesTo t at (opened k) → HoldsStack t k old → IsOpening k link → IsTrueFault t fault
 
 -- a whole text was read, and has so many games
 abbrev pub ReadsWhole : List ℕ → Entries → ℕ → Type 0

@@ -2,7 +2,8 @@
 -- grammar: the code follows it, and the laws in proofs/ say that it ends with exactly the collection that the text spells.
 use Rattle.std.specs.Prelude.{ℕ, ◌+◌, Bool, true, false, if◌then◌else◌, ◌==◌, List, [], ◌∷◌, ◌++◌, Option, Some, None, option_and_then}
 use Rattle.sgf_tree.specs.Tree.{Property, Node, Games, no_games, game, values}
-pub use Rattle.sgf_tree.specs.Tree.{followed_by}
+pub use Rattle.sgf_tree.specs.Tree.{joined}
+use Rattle.sgf_tree.specs.Bytes.{open_parenthesis, close_parenthesis, semicolon, open_bracket, backslash, close_bracket, byte_ef, byte_bb, byte_bf}
 use Rattle.sgf_tree.specs.Spelling.{is_white, is_upper, is_lower}
 
 -- a game whose `)` has not come: its nodes so far, and the games below them so far
@@ -16,25 +17,25 @@ pub record Stack : Type 0 where
   pub closed : Games
   pub unclosed : List OpenGame
 
--- a node whose end has not come: the games before it, whether it is the first behind a `(`, and its properties so far
+-- a node whose end has not come: the games before it, whether it is the first after a `(`, and its properties so far
 pub record Started : Type 0 where
   pub stack : Stack
   pub opens : Bool
   pub place : ℕ
   pub properties : List Property
 
-pub data State : Type 0 where
-  start : State
-  first_of_mark : State
-  second_of_mark : State
-  opened : (stack : Stack) → State
-  in_node : (node : Started) → State
-  in_name : (node : Started) (name : List ℕ) → State
-  behind_name : (node : Started) (name : List ℕ) → State
-  in_value : (node : Started) (name : List ℕ) (before : List (List ℕ)) (value : List ℕ) → State
-  behind_escape : (node : Started) (name : List ℕ) (before : List (List ℕ)) (value : List ℕ) → State
-  behind_value : (node : Started) (property : Property) → State
-  behind_game : (stack : Stack) → State
+pub data MachineState : Type 0 where
+  start : MachineState
+  first_of_mark : MachineState
+  second_of_mark : MachineState
+  opened : (stack : Stack) → MachineState
+  in_node : (node : Started) → MachineState
+  in_name : (node : Started) (name : List ℕ) → MachineState
+  after_name : (node : Started) (name : List ℕ) → MachineState
+  in_value : (node : Started) (name : List ℕ) (before : List (List ℕ)) (value : List ℕ) → MachineState
+  after_escape : (node : Started) (name : List ℕ) (before : List (List ℕ)) (value : List ℕ) → MachineState
+  after_value : (node : Started) (property : Property) → MachineState
+  after_game : (stack : Stack) → MachineState
 
 -- a property of the values before and one more
 abbrev pub property_of : List ℕ → List (List ℕ) → List ℕ → Property
@@ -52,8 +53,8 @@ add_node [] n = []
 add_node (g ∷ gs) n = record { first = g.first; more = g.more ++ n ∷ []; below = g.below } ∷ gs
 
 -- a game that begins
-abbrev pub begun : Node → OpenGame
-begun n = record { first = n; more = []; below = no_games }
+abbrev pub new_game : Node → OpenGame
+new_game n = record { first = n; more = []; below = no_games }
 
 -- the node ends: it begins a game, or it is the next one of the innermost open game
 abbrev pub ended : Started → Stack
@@ -61,7 +62,7 @@ ended n =
     let whole_node : Node = record { place = n.place; properties = n.properties } in
     record {
       closed = n.stack.closed;
-      unclosed = if n.opens then begun whole_node ∷ n.stack.unclosed else add_node n.stack.unclosed whole_node;
+      unclosed = if n.opens then new_game whole_node ∷ n.stack.unclosed else add_node n.stack.unclosed whole_node;
     }
 
 -- the innermost open game as a whole one
@@ -69,88 +70,88 @@ abbrev pub whole_game : OpenGame → Games
 whole_game g = game g.first g.more g.below no_games
 
 -- the innermost open game becomes the last game below the one around it, or the last of all
-abbrev pub close_in : Games → List OpenGame → Option State
+abbrev pub close_in : Games → List OpenGame → Option MachineState
 close_in closed [] = None
-close_in closed (g ∷ []) = Some (behind_game (record { closed = followed_by closed (whole_game g); unclosed = [] }))
+close_in closed (g ∷ []) = Some (after_game (record { closed = joined closed (whole_game g); unclosed = [] }))
 close_in closed (g ∷ h ∷ gs) =
-    Some (behind_game (record {
+    Some (after_game (record {
       closed = closed;
-      unclosed = record { first = h.first; more = h.more; below = followed_by h.below (whole_game g) } ∷ gs;
+      unclosed = record { first = h.first; more = h.more; below = joined h.below (whole_game g) } ∷ gs;
     }))
 
 -- a `)` ends the innermost open game
-abbrev pub close : Stack → Option State
+abbrev pub close : Stack → Option MachineState
 close k = close_in k.closed k.unclosed
 
 -- a node that begins at an offset
-abbrev pub new_node : Stack → Bool → ℕ → State
+abbrev pub new_node : Stack → Bool → ℕ → MachineState
 new_node k opens at = in_node (record { stack = k; opens = opens; place = at; properties = [] })
 
 -- the byte that stands where a node may end
-abbrev pub behind_node : ℕ → Stack → ℕ → Option State
-behind_node at k b =
-    if b == 59 then Some (new_node k false at)
-    else (if b == 40 then Some (opened k)
-    else (if b == 41 then close k
+abbrev pub after_node : ℕ → Stack → ℕ → Option MachineState
+after_node at k b =
+    if b == semicolon then Some (new_node k false at)
+    else (if b == open_parenthesis then Some (opened k)
+    else (if b == close_parenthesis then close k
     else None))
 
--- white space, a `(` or a `)` behind a game, or before the first one
-abbrev pub between_games : Stack → ℕ → Option State
+-- white space, a `(` or a `)` after a game, or before the first one
+abbrev pub between_games : Stack → ℕ → Option MachineState
 between_games k b =
-    if is_white b then Some (behind_game k)
-    else (if b == 40 then Some (opened k)
-    else (if b == 41 then close k
+    if is_white b then Some (after_game k)
+    else (if b == open_parenthesis then Some (opened k)
+    else (if b == close_parenthesis then close k
     else None))
 
 -- the byte b at an offset takes a state to the next one, or is refused
-unfoldable pub step : ℕ → State → ℕ → Option State
-step at start b = if b == 239 then Some first_of_mark else between_games (record { closed = no_games; unclosed = [] }) b
-step at first_of_mark b = if b == 187 then Some second_of_mark else None
-step at second_of_mark b = if b == 191 then Some (behind_game (record { closed = no_games; unclosed = [] })) else None
+unfoldable pub step : ℕ → MachineState → ℕ → Option MachineState
+step at start b = if b == byte_ef then Some first_of_mark else between_games (record { closed = no_games; unclosed = [] }) b
+step at first_of_mark b = if b == byte_bb then Some second_of_mark else None
+step at second_of_mark b = if b == byte_bf then Some (after_game (record { closed = no_games; unclosed = [] })) else None
 step at (opened k) b =
     if is_white b then Some (opened k)
-    else (if b == 59 then Some (new_node k true at)
+    else (if b == semicolon then Some (new_node k true at)
     else None)
 step at (in_node n) b =
     if is_white b then Some (in_node n)
     else (if is_upper b then Some (in_name n (b ∷ []))
-    else behind_node at (ended n) b)
+    else after_node at (ended n) b)
 step at (in_name n name) b =
     if is_upper b then Some (in_name n (name ++ b ∷ []))
     else (if is_lower b then Some (in_name n name)
-    else (if is_white b then Some (behind_name n name)
-    else (if b == 91 then Some (in_value n name [] [])
+    else (if is_white b then Some (after_name n name)
+    else (if b == open_bracket then Some (in_value n name [] [])
     else None)))
-step at (behind_name n name) b =
-    if is_white b then Some (behind_name n name)
-    else (if b == 91 then Some (in_value n name [] [])
+step at (after_name n name) b =
+    if is_white b then Some (after_name n name)
+    else (if b == open_bracket then Some (in_value n name [] [])
     else None)
 step at (in_value n name before value) b =
-    if b == 93 then Some (behind_value n (property_of name before value))
-    else (if b == 92 then Some (behind_escape n name before value)
+    if b == close_bracket then Some (after_value n (property_of name before value))
+    else (if b == backslash then Some (after_escape n name before value)
     else Some (in_value n name before (value ++ b ∷ [])))
-step at (behind_escape n name before value) b = Some (in_value n name before (value ++ 92 ∷ b ∷ []))
-step at (behind_value n p) b =
-    if is_white b then Some (behind_value n p)
-    else (if b == 91 then Some (in_value n p.name (values p) [])
+step at (after_escape n name before value) b = Some (in_value n name before (value ++ backslash ∷ b ∷ []))
+step at (after_value n p) b =
+    if is_white b then Some (after_value n p)
+    else (if b == open_bracket then Some (in_value n p.name (values p) [])
     else (if is_upper b then Some (in_name (with_property n p) (b ∷ []))
-    else behind_node at (ended (with_property n p)) b))
-step at (behind_game k) b = between_games k b
+    else after_node at (ended (with_property n p)) b))
+step at (after_game k) b = between_games k b
 
 -- the bytes from an offset on take a state to this one, or one of them is refused
-unfoldable pub run : ℕ → State → List ℕ → Option State
+unfoldable pub run : ℕ → MachineState → List ℕ → Option MachineState
 run at z [] = Some z
 run at z (b ∷ t) = option_and_then (λ next. run (at + 1) next t) (step at z b)
 
 -- the whole games, where there is one and none is open
 abbrev pub whole_games : Games → List OpenGame → Option Games
 whole_games no_games unclosed = None
-whole_games (game first more below behind) [] = Some (game first more below behind)
-whole_games (game first more below behind) (g ∷ gs) = None
+whole_games (game first more below after) [] = Some (game first more below after)
+whole_games (game first more below after) (g ∷ gs) = None
 
 -- the collection of a text that ends in this state, where it may end there
-unfoldable pub accepted : State → Option Games
-accepted (behind_game k) = whole_games k.closed k.unclosed
+unfoldable pub accepted : MachineState → Option Games
+accepted (after_game k) = whole_games k.closed k.unclosed
 accepted _ = None
 
 -- the collection of a text

@@ -1,5 +1,5 @@
 -- How a collection is stored as a list, so that it may be the value of a model: of each games a token, before those
--- below and those behind. It says nothing of what a text means.
+-- below and those after. It says nothing of what a text means.
 use Rattle.std.specs.Prelude.{◌≡◌, ℕ, List, [], ◌∷◌, ◌++◌, Option, Some, None, refl}
 use Rattle.std.specs.Coded.{Coded, code_by, coded×, coded_ℕ, coded_list, coded_option}
 use Rattle.std.proofs.Common.{◌∙◌, ap, sym, append_assoc, append-nil}
@@ -24,19 +24,19 @@ Token = Option (Node × List Node)
 
 abbrev pub tokens : Games → List Token
 tokens no_games = None ∷ []
-tokens (game first more below behind) = Some (first, more) ∷ (tokens below ++ tokens behind)
+tokens (game first more below after) = Some (first, more) ∷ (tokens below ++ tokens after)
 
 -- a game of its own nodes, over the two games that come next
-abbrev pub joined : Node → List Node → List Games → List Games
-joined first more (below ∷ behind ∷ rest) = game first more below behind ∷ rest
-joined first more (below ∷ []) = []
-joined first more [] = []
+abbrev pub over_next : Node → List Node → List Games → List Games
+over_next first more (below ∷ after ∷ rest) = game first more below after ∷ rest
+over_next first more (below ∷ []) = []
+over_next first more [] = []
 
 -- the games of a list of tokens, read from its right end
 abbrev pub games_of : List Token → List Games
 games_of [] = []
 games_of (None ∷ ts) = no_games ∷ games_of ts
-games_of (Some n ∷ ts) = joined n.0 n.1 (games_of ts)
+games_of (Some n ∷ ts) = over_next n.0 n.1 (games_of ts)
 
 -- the first of them
 abbrev pub first_games : List Games → Games
@@ -45,10 +45,10 @@ first_games (g ∷ gs) = g
 
 pub games_of-tokens : (g : Games) (rest : List Token) → games_of (tokens g ++ rest) ≡ g ∷ games_of rest
 games_of-tokens no_games rest = refl
-games_of-tokens (game first more below behind) rest =
-    ap (λ ts. joined first more (games_of ts)) (append_assoc (tokens below) (tokens behind) rest)
-    ∙ ap (joined first more) (games_of-tokens below (tokens behind ++ rest))
-    ∙ ap (λ gs. joined first more (below ∷ gs)) (games_of-tokens behind rest)
+games_of-tokens (game first more below after) rest =
+    ap (λ ts. over_next first more (games_of ts)) (append_assoc (tokens below) (tokens after) rest)
+    ∙ ap (over_next first more) (games_of-tokens below (tokens after ++ rest))
+    ∙ ap (λ gs. over_next first more (below ∷ gs)) (games_of-tokens after rest)
 
 pub first_games-tokens : (g : Games) → first_games (games_of (tokens g)) ≡ g
 first_games-tokens g =

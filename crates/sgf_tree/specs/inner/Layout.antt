@@ -2,9 +2,9 @@
 use Rattle.std.specs.Prelude.{◌≡◌, ℕ, ◌+◌, ◌-◌, ◌<◌, ◌≤◌, Bool, true, false, List, [], ◌∷◌, length, map, filter, All, slice_get, slice_range, Option, Some, None, unwrap_or}
 use Rattle.sgf_tree.specs.Tree.{Property, Games, no_games, game_count}
 use Rattle.sgf_tree.specs.Spelling.{is_upper}
-use Rattle.sgf_tree.specs.Ends.{EndsRise}
+use Rattle.sgf_tree.specs.inner.Ends.{EndsRise}
 use Rattle.sgf_tree.specs.FileOrder.{Row, rows_of, game_of, IsLastBelow, PlacesRise}
-use Rattle.sgf_tree.specs.Machine.{collection_of}
+use Rattle.sgf_tree.specs.inner.Machine.{collection_of}
 use Rattle.sgf_tree.specs.declared.fault.TheConstants.{MAX_LENGTH}
 use Rattle.sgf_tree.specs.declared.layout.Link.{Link}
 use Rattle.sgf_tree.specs.declared.layout.Link.TheVariants.{Root, Branch, Next}
@@ -42,7 +42,7 @@ parent_by (Root game) i = None
 parent_by (Branch parent) i = Some parent
 parent_by Next i = Some (i - 1)
 
--- whether a link is that of the first node behind a `(`
+-- whether a link is that of the first node after a `(`
 abbrev pub opens_by : Link → Bool
 opens_by (Root game) = true
 opens_by (Branch parent) = true

@@ -1,11 +1,12 @@
 -- How the properties of a node were read: the words of the contracts in `reader::properties`.
 use Rattle.std.specs.Prelude.{◌≡◌, ◌≢◌, ℕ, ◌+◌, ◌<◌, ◌≤◌, false, List, [], ◌∷◌, ◌++◌, length, slice_index, slice_range, All, None}
+use Rattle.sgf_tree.specs.Bytes.{open_bracket}
 use Rattle.sgf_tree.specs.Tree.{Property}
 use Rattle.sgf_tree.specs.Spelling.{is_white}
-use Rattle.sgf_tree.specs.Machine.{Started, State, in_node, in_name, in_value, behind_value, behind_node, ended, step, accepted}
-use Rattle.sgf_tree.specs.Ends.{EndsRise}
-use Rattle.sgf_tree.specs.Layout.{IsSpan, property_from, name_in, raw_values, properties_of}
-use Rattle.sgf_tree.specs.Progress.{Reaches, IsTrueFault}
+use Rattle.sgf_tree.specs.inner.Machine.{Started, MachineState, in_node, in_name, in_value, after_value, after_node, ended, step, accepted}
+use Rattle.sgf_tree.specs.inner.Ends.{EndsRise}
+use Rattle.sgf_tree.specs.inner.Layout.{IsSpan, property_from, name_in, raw_values, properties_of}
+use Rattle.sgf_tree.specs.inner.Progress.{ComesTo, IsTrueFault}
 use Rattle.sgf_tree.specs.declared.layout.Entries.{Entries}
 use Rattle.sgf_tree.specs.declared.layout.PropertyEntry.{PropertyEntry}
 use Rattle.sgf_tree.specs.declared.layout.ValueEntry.{ValueEntry}
@@ -13,7 +14,7 @@ use Rattle.sgf_tree.specs.declared.reader.fault.Fault.{Fault}
 
 -- the byte at `end`, if there is one, is neither white space nor `[`
 abbrev pub EndsValues : List ℕ → ℕ → Type 0
-EndsValues t end = end < length t → (is_white (slice_index t end) ≡ false) × (slice_index t end ≢ 91)
+EndsValues t end = end < length t → (is_white (slice_index t end) ≡ false) × (slice_index t end ≢ open_bracket)
 
 -- the entries' raw values were pushed, each a part of the text
 pub record ArePushed (t : List ℕ) (old new added : List ValueEntry) : Type 0 where
@@ -28,8 +29,8 @@ pub record AreValuesRead (t : List ℕ) (bracket end : ℕ) (old new : List Valu
   pub counted : bracket + length added ≤ end
   pub within : end ≤ length t
   pub stops : EndsValues t end
-  pub reached : (n : Started) (name : List ℕ) → Reaches t (bracket + 1) (in_value n name [] [])
-      → Reaches t end (behind_value n (property_from name (raw_values t added)))
+  pub reached : (n : Started) (name : List ℕ) → ComesTo t (bracket + 1) (in_value n name [] [])
+      → ComesTo t end (after_value n (property_from name (raw_values t added)))
 
 -- the property whose identifier begins at `start` was read up to `end`
 pub record IsPropertyRead (t : List ℕ) (start end : ℕ) (ps ps' : List PropertyEntry) (vs vs' : List ValueEntry) : Type 0 where
@@ -43,14 +44,14 @@ pub record IsPropertyRead (t : List ℕ) (start end : ℕ) (ps ps' : List Proper
   pub counted : start + length added ≤ end
   pub within : end ≤ length t
   pub stops : EndsValues t end
-  pub reached : (n : Started) → Reaches t (start + 1) (in_name n (slice_index t start ∷ []))
-      → Reaches t end (behind_value n (property_from (name_in (slice_range t entry.name_start entry.name_end)) (raw_values t added)))
+  pub reached : (n : Started) → ComesTo t (start + 1) (in_name n (slice_index t start ∷ []))
+      → ComesTo t end (after_value n (property_from (name_in (slice_range t entry.name_start entry.name_end)) (raw_values t added)))
 
--- a node, to which nothing is added but what may stand behind a node, is read up to `end`
-pub record StandsBehindNode (t : List ℕ) (end : ℕ) (whole : Started) : Type 0 where
-  pub state : State
-  pub reached : Reaches t end state
-  pub next : end < length t → step end state (slice_index t end) ≡ behind_node end (ended whole) (slice_index t end)
+-- a node, to which nothing is added but what may stand after a node, is read up to `end`
+pub record StandsAfterNode (t : List ℕ) (end : ℕ) (whole : Started) : Type 0 where
+  pub state : MachineState
+  pub reached : ComesTo t end state
+  pub next : end < length t → step end state (slice_index t end) ≡ after_node end (ended whole) (slice_index t end)
   pub unaccepted : accepted state ≡ None
 
 -- the node with these properties
@@ -69,8 +70,8 @@ pub record ArePropertiesRead (t : List ℕ) (at end : ℕ) (ps ps' : List Proper
   pub values_counted : at + length added ≤ end
   pub within : end ≤ length t
   pub not_white : end < length t → is_white (slice_index t end) ≡ false
-  pub reached : (n : Started) → n.properties ≡ [] → Reaches t at (in_node n)
-      → StandsBehindNode t end (with_properties n (properties_of t vs' (length vs) entries))
+  pub reached : (n : Started) → n.properties ≡ [] → ComesTo t at (in_node n)
+      → StandsAfterNode t end (with_properties n (properties_of t vs' (length vs) entries))
 
 -- the same, of all entries before and after
 abbrev pub ReadsProperty : List ℕ → ℕ → ℕ → Entries → Entries → Type 0
@@ -81,16 +82,16 @@ abbrev pub ReadsProperties : List ℕ → ℕ → ℕ → Entries → Entries �
 ReadsProperties t at end old new =
     ArePropertiesRead t at end old.properties.items new.properties.items old.values.items new.values.items
 
--- a fault is the first one of the text, if the machine stood behind the `[` at `bracket`
+-- a fault is the first one of the text, if the machine stood after the `[` at `bracket`
 abbrev pub IsFaultInValues : List ℕ → ℕ → Fault → Type 0
 IsFaultInValues t bracket fault =
-    (n : Started) (name : List ℕ) → Reaches t (bracket + 1) (in_value n name [] []) → IsTrueFault t fault
+    (n : Started) (name : List ℕ) → ComesTo t (bracket + 1) (in_value n name [] []) → IsTrueFault t fault
 
--- or behind the letter at `start`, which began a name
+-- or after the letter at `start`, which began a name
 abbrev pub IsFaultInProperty : List ℕ → ℕ → Fault → Type 0
 IsFaultInProperty t start fault =
-    (n : Started) → Reaches t (start + 1) (in_name n (slice_index t start ∷ [])) → IsTrueFault t fault
+    (n : Started) → ComesTo t (start + 1) (in_name n (slice_index t start ∷ [])) → IsTrueFault t fault
 
 -- or in a node without properties at `at`
 abbrev pub IsFaultInNode : List ℕ → ℕ → Fault → Type 0
-IsFaultInNode t at fault = (n : Started) → n.properties ≡ [] → Reaches t at (in_node n) → IsTrueFault t fault
+IsFaultInNode t at fault = (n : Started) → n.properties ≡ [] → ComesTo t at (in_node n) → IsTrueFault t fault

@@ -1,0 +1,10 @@
+-- What stands between the brackets of a value (SGF FF[4], ValueType and Escaping): it ends at the first `]` that no `\`
+-- escapes. s is what is left of the text before it, and r what is left after it.
+use Rattle.std.specs.Prelude.{◌≢◌, ℕ, List, [], ◌∷◌}
+use Rattle.sgf_tree.specs.Bytes.{backslash, close_bracket}
+
+-- a raw value: units, each one byte other than `]` and `\`, or a `\` and any byte
+pub data IsValue : List ℕ → List ℕ → List ℕ → Type 0 where
+  no_unit : {s : List ℕ} → IsValue [] s s
+  plain : {b : ℕ} {value s r : List ℕ} → b ≢ close_bracket → b ≢ backslash → IsValue value s r → IsValue (b ∷ value) (b ∷ s) r
+  escaped : {b : ℕ} {value s r : List ℕ} → IsValue value s r → IsValue (backslash ∷ b ∷ value) (backslash ∷ b ∷ s) r
