@@ -4,7 +4,7 @@ use Rattle.std.specs.List.{range_with_len}
 use Rattle.sgf_tree.specs.Tree.{Node, Games, game}
 use Rattle.sgf_tree.specs.FileOrder.{Row, further_rows, rows_of}
 use Rattle.sgf_lines.specs.Lines.{last_number}
-use Rattle.sgf_lines.specs.Way.{IsWayTo, top, step}
+use Rattle.sgf_lines.specs.inner.Ways.{IsWayTo, top, step}
 use Rattle.sgf_lines.proofs.Standing.{StandsAt, Stands, stands_get, stands_right, stands_own, first_row}
 
 pub last_number-push : (ns : List ℕ) (n : ℕ) → last_number (ns ++ n ∷ []) ≡ n
@@ -28,7 +28,7 @@ one_way {c = c} (step {i = i} {parent = p} {above = a} e u is) (step {parent = q
     let above : a ≡ b = one_way u (rw (← parents) at v) in
     is ∙ ap (λ l. l ++ i ∷ []) above ∙ sym same
 
--- the nodes behind a game's first one, down to its last
+-- the nodes after a game's first one, down to its last
 up_further : (c : Games) (at : ℕ) (ns : List Node) (above : List ℕ) → StandsAt (rows_of c) (at + 1) (further_rows at ns) → IsWayTo c (Some at) above
     → IsWayTo c (Some (at + length ns)) (above ++ range_with_len (at + 1) (length ns))
 up_further c at [] above h u = rw (append-nil, add-zero) u
@@ -41,10 +41,10 @@ up_further c at (n ∷ ns) above h u =
     rw (sums, append_assoc above ((at + 1) ∷ []) (range_with_len (at + 1 + 1) (length ns))) at (up_further c (at + 1) ns (above ++ (at + 1) ∷ []) rest next)
 
 -- a game's own nodes
-pub up_own : (c : Games) (at : ℕ) (parent : Option ℕ) (first : Node) (more : List Node) (below behind : Games) → Stands c at parent (game first more below behind)
+pub up_own : (c : Games) (at : ℕ) (parent : Option ℕ) (first : Node) (more : List Node) (below after : Games) → Stands c at parent (game first more below after)
     → (above : List ℕ) → IsWayTo c parent above → IsWayTo c (Some (at + length more)) (above ++ at ∷ range_with_len (at + 1) (length more))
-up_own c at parent first more below behind h above u =
-    let own = stands_own c at parent first more below behind h in
+up_own c at parent first more below after h above u =
+    let own = stands_own c at parent first more below after h in
     let here : slice_get (rows_of c) at ≡ Some (first_row parent first) =
     stands_get (first_row parent first ∷ further_rows at more) 0 at (first_row parent first) own (omega arith) refl in
     let root : IsWayTo c (Some at) (above ++ at ∷ []) = step (ap (λ o. option_map (λ r. r.parent) o) here) u refl in

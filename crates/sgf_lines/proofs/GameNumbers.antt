@@ -33,30 +33,30 @@ within_game at more below h =
 
 within_games : (at : ℕ) (g : Games) → Each (Within at (at + node_count g)) (number_lines at g)
 within_games at no_games = tt
-within_games at (game first more below behind) =
+within_games at (game first more below after) =
     let last = at + length more in
     let next = last + 1 + node_count below in
-    let to = at + node_count (game first more below behind) in
+    let to = at + node_count (game first more below after) in
     let here = through (at ∷ range_with_len (at + 1) (length more)) (number_lines (last + 1) below) in
-    each_append (Within at to) here (number_lines next behind)
+    each_append (Within at to) here (number_lines next after)
     (each_weaker (Within at next) (Within at to) (λ l w. within_wider at next at to l (omega arith) (omega arith) w) here (within_game at more below (within_games (last + 1) below)))
-    (each_weaker (Within next (next + node_count behind)) (Within at to) (λ l w. within_wider next (next + node_count behind) at to l (omega arith) (omega arith) w)
-    (number_lines next behind) (within_games next behind))
+    (each_weaker (Within next (next + node_count after)) (Within at to) (λ l w. within_wider next (next + node_count after) at to l (omega arith) (omega arith) w)
+    (number_lines next after) (within_games next after))
 
 -- the game of node n is that of this number, if games from node `at` on begin with the game of the number `from`
 abbrev IsOfGame : ℕ → ℕ → Games → ℕ → ℕ → Type 0
 IsOfGame from at g number n = (at ≤ n) × (number + 1 ≡ from + game_of g (n - at))
 
-in_first : (from at : ℕ) (first : Node) (more : List Node) (below behind : Games) (n : ℕ) → (at ≤ n) × (n < at + length more + 1 + node_count below)
-    → IsOfGame from at (game first more below behind) from n
-in_first from at first more below behind n w =
+in_first : (from at : ℕ) (first : Node) (more : List Node) (below after : Games) (n : ℕ) → (at ≤ n) × (n < at + length more + 1 + node_count below)
+    → IsOfGame from at (game first more below after) from n
+in_first from at first more below after n w =
     let size = 1 + length more + node_count below in
     let inside : n - at < size = omega (arith, w.0, w.1) in
     (w.0, rw (lt-ltb (n - at) size inside) refl)
 
-in_later : (from at : ℕ) (first : Node) (more : List Node) (below behind : Games) (number n : ℕ)
-    → IsOfGame (from + 1) (at + length more + 1 + node_count below) behind number n → IsOfGame from at (game first more below behind) number n
-in_later from at first more below behind number n h =
+in_later : (from at : ℕ) (first : Node) (more : List Node) (below after : Games) (number n : ℕ)
+    → IsOfGame (from + 1) (at + length more + 1 + node_count below) after number n → IsOfGame from at (game first more below after) number n
+in_later from at first more below after number n h =
     let size = 1 + length more + node_count below in
     let past : size ≤ n - at = omega (arith, h.0) in
     let rest : n - at - size ≡ n - (at + length more + 1 + node_count below) = omega (arith, h.0) in
@@ -64,21 +64,21 @@ in_later from at first more below behind number n h =
 
 games_of_paths : (from at : ℕ) (g : Games) → Each (λ path. Each (IsOfGame from at g path.game_number) path.numbers) (paths_from from at g)
 games_of_paths from at no_games = tt
-games_of_paths from at (game first more below behind) =
-    let g = game first more below behind in
+games_of_paths from at (game first more below after) =
+    let g = game first more below after in
     let last = at + length more in
     let next = last + 1 + node_count below in
     let here = through (at ∷ range_with_len (at + 1) (length more)) (number_lines (last + 1) below) in
     let P : Path → Type 0 = λ path. Each (IsOfGame from at g path.game_number) path.numbers in
-    each_append P (paths_of_game from here) (paths_from (from + 1) next behind)
+    each_append P (paths_of_game from here) (paths_from (from + 1) next after)
     (each_map P (λ numbers. record { game_number = from; numbers = numbers }) here
     (each_weaker (Within at next) (λ l. Each (IsOfGame from at g from) l)
-    (λ l w. each_weaker (λ n. (at ≤ n) × (n < next)) (IsOfGame from at g from) (in_first from at first more below behind) l w) here
+    (λ l w. each_weaker (λ n. (at ≤ n) × (n < next)) (IsOfGame from at g from) (in_first from at first more below after) l w) here
     (within_game at more below (within_games (last + 1) below))))
-    (each_weaker (λ (path : Path). Each (IsOfGame (from + 1) next behind path.game_number) path.numbers) P
-    (λ path w. each_weaker (IsOfGame (from + 1) next behind path.game_number) (IsOfGame from at g path.game_number) (in_later from at first more below behind path.game_number)
+    (each_weaker (λ (path : Path). Each (IsOfGame (from + 1) next after path.game_number) path.numbers) P
+    (λ path w. each_weaker (IsOfGame (from + 1) next after path.game_number) (IsOfGame from at g path.game_number) (in_later from at first more below after path.game_number)
     path.numbers w)
-    (paths_from (from + 1) next behind) (games_of_paths (from + 1) next behind))
+    (paths_from (from + 1) next after) (games_of_paths (from + 1) next after))
 
 -- each node on a path is of the path's game
 pub game_of_path : (c : Games) → Each (λ path. Each (λ n. game_of c n ≡ path.game_number) path.numbers) (paths c)

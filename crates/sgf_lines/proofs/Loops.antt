@@ -4,7 +4,7 @@ use Rattle.std.proofs.lemmas.List.{drop_all}
 use Rattle.std.proofs.lemmas.Grind.{drop-set_at}
 use Rattle.sgf_tree.specs.Tree.{Games, node_count}
 use Rattle.sgf_tree.specs.FileOrder.{parent_at, IsLeaf}
-use Rattle.sgf_lines.specs.Way.{IsWayTo, top, step}
+use Rattle.sgf_lines.specs.inner.Ways.{IsWayTo, top, step}
 use Rattle.sgf_lines.proofs.Parents.{parent_before}
 use Rattle.sgf_lines.proofs.Climbing.{one_way}
 use Rattle.sgf_lines.proofs.Positions.{next_line}

@@ -7,16 +7,16 @@ use Rattle.sgf_tree.specs.Tree.{Node, Games, no_games, game, node_count}
 use Rattle.sgf_tree.specs.FileOrder.{Row, further_rows, rows_of, node_at, place_at}
 use Rattle.sgf_lines.specs.Lines.{Line, through, node_lines, lines_of_game, lines_from, lines, last_number, place_of}
 use Rattle.sgf_lines.specs.Paths.{Path, number_lines, paths_of_game, paths_from, paths, leaf_of, IsPathOf}
-use Rattle.sgf_lines.proofs.Standing.{StandsAt, Stands, stands_whole, stands_get, stands_right, stands_own, stands_below, stands_behind, first_row}
+use Rattle.sgf_lines.proofs.Standing.{StandsAt, Stands, stands_whole, stands_get, stands_right, stands_own, stands_below, stands_after, first_row}
 
 -- what goes through images of the nodes is the image of what goes through them
-map_behind : {A B : Type 0} (f : A → B) (own : List A) (ls : List (List A)) → map (map f) (map (λ rest. own ++ rest) ls) ≡ map (λ rest. map f own ++ rest) (map (map f) ls)
-map_behind f own [] = refl
-map_behind f own (l ∷ ls) = let one = map-append f own l in let rest = map_behind f own ls in cc
+map_after : {A B : Type 0} (f : A → B) (own : List A) (ls : List (List A)) → map (map f) (map (λ rest. own ++ rest) ls) ≡ map (λ rest. map f own ++ rest) (map (map f) ls)
+map_after f own [] = refl
+map_after f own (l ∷ ls) = let one = map-append f own l in let rest = map_after f own ls in cc
 
 pub map-through : {A B : Type 0} (f : A → B) (own : List A) (ls : List (List A)) → map (map f) (through own ls) ≡ through (map f own) (map (map f) ls)
 map-through f own [] = refl
-map-through f own (l ∷ ls) = map_behind f own (l ∷ ls)
+map-through f own (l ∷ ls) = map_after f own (l ∷ ls)
 
 named_further : (c : Games) (at : ℕ) (ns : List Node) → StandsAt (rows_of c) (at + 1) (further_rows at ns) → map (node_at c) (range_with_len (at + 1) (length ns)) ≡ map Some ns
 named_further c at [] h = refl
@@ -27,39 +27,39 @@ named_further c at (n ∷ ns) h =
     let rest = named_further c (at + 1) ns (stands_right (at + 1 + 1) (row ∷ []) (further_rows (at + 1) ns) h refl) in
     cc
 
-named_own : (c : Games) (at : ℕ) (parent : Option ℕ) (first : Node) (more : List Node) (below behind : Games) → Stands c at parent (game first more below behind)
+named_own : (c : Games) (at : ℕ) (parent : Option ℕ) (first : Node) (more : List Node) (below after : Games) → Stands c at parent (game first more below after)
     → map (node_at c) (at ∷ range_with_len (at + 1) (length more)) ≡ map Some (first ∷ more)
-named_own c at parent first more below behind h =
-    let own = stands_own c at parent first more below behind h in
+named_own c at parent first more below after h =
+    let own = stands_own c at parent first more below after h in
     let here : slice_get (rows_of c) at ≡ Some (first_row parent first) =
     stands_get (first_row parent first ∷ further_rows at more) 0 at (first_row parent first) own (omega arith) refl in
     let root : node_at c at ≡ Some first = ap (λ o. option_map (λ r. r.node) o) here in
     let rest = named_further c at more (stands_right (at + 1) (first_row parent first ∷ []) (further_rows at more) own refl) in
     cc
 
-named_game : (c : Games) (at : ℕ) (parent : Option ℕ) (first : Node) (more : List Node) (below behind : Games) → Stands c at parent (game first more below behind)
+named_game : (c : Games) (at : ℕ) (parent : Option ℕ) (first : Node) (more : List Node) (below after : Games) → Stands c at parent (game first more below after)
     → map (map (node_at c)) (number_lines (at + length more + 1) below) ≡ map (map Some) (node_lines below)
     → map (map (node_at c)) (through (at ∷ range_with_len (at + 1) (length more)) (number_lines (at + length more + 1) below))
     ≡ map (map Some) (through (first ∷ more) (node_lines below))
-named_game c at parent first more below behind h down =
+named_game c at parent first more below after h down =
     let numbers = at ∷ range_with_len (at + 1) (length more) in
     map-through (node_at c) numbers (number_lines (at + length more + 1) below)
-    ∙ ap (λ own. through own (map (map (node_at c)) (number_lines (at + length more + 1) below))) (named_own c at parent first more below behind h)
+    ∙ ap (λ own. through own (map (map (node_at c)) (number_lines (at + length more + 1) below))) (named_own c at parent first more below after h)
     ∙ ap (λ ls. through (map Some (first ∷ more)) ls) down
     ∙ sym (map-through Some (first ∷ more) (node_lines below))
 
 named_ways : (c : Games) (g : Games) (at : ℕ) (parent : Option ℕ) → Stands c at parent g → map (map (node_at c)) (number_lines at g) ≡ map (map Some) (node_lines g)
 named_ways c no_games at parent h = refl
-named_ways c (game first more below behind) at parent h =
+named_ways c (game first more below after) at parent h =
     let last = at + length more in
     let next = last + 1 + node_count below in
     let numbers = through (at ∷ range_with_len (at + 1) (length more)) (number_lines (last + 1) below) in
-    let down = named_ways c below (last + 1) (Some last) (stands_below c at parent first more below behind h) in
-    let beside = named_ways c behind next parent (stands_behind c at parent first more below behind h) in
-    map-append (map (node_at c)) numbers (number_lines next behind)
-    ∙ ap (λ ls. ls ++ map (map (node_at c)) (number_lines next behind)) (named_game c at parent first more below behind h down)
+    let down = named_ways c below (last + 1) (Some last) (stands_below c at parent first more below after h) in
+    let beside = named_ways c after next parent (stands_after c at parent first more below after h) in
+    map-append (map (node_at c)) numbers (number_lines next after)
+    ∙ ap (λ ls. ls ++ map (map (node_at c)) (number_lines next after)) (named_game c at parent first more below after h down)
     ∙ ap (λ ls. map (map Some) (through (first ∷ more) (node_lines below)) ++ ls) beside
-    ∙ sym (map-append (map Some) (through (first ∷ more) (node_lines below)) (node_lines behind))
+    ∙ sym (map-append (map Some) (through (first ∷ more) (node_lines below)) (node_lines after))
 
 -- a game's number, and nodes
 abbrev Shown : Type 0
@@ -81,19 +81,19 @@ shown_lines number (w ∷ ws) = let rest = shown_lines number ws in cc
 
 named_from : (c : Games) (number : ℕ) (g : Games) (at : ℕ) → Stands c at None g → map (shown_path c) (paths_from number at g) ≡ map shown_line (lines_from number g)
 named_from c number no_games at h = refl
-named_from c number (game first more below behind) at h =
+named_from c number (game first more below after) at h =
     let last = at + length more in
     let next = last + 1 + node_count below in
     let numbers = through (at ∷ range_with_len (at + 1) (length more)) (number_lines (last + 1) below) in
     let nodes = through (first ∷ more) (node_lines below) in
-    let down = named_ways c below (last + 1) (Some last) (stands_below c at None first more below behind h) in
+    let down = named_ways c below (last + 1) (Some last) (stands_below c at None first more below after h) in
     let here : map (shown_path c) (paths_of_game number numbers) ≡ map shown_line (lines_of_game number nodes) =
-    shown_paths c number numbers ∙ ap (map (λ ns. (number, ns))) (named_game c at None first more below behind h down) ∙ sym (shown_lines number nodes) in
-    let beside = named_from c (number + 1) behind next (stands_behind c at None first more below behind h) in
-    map-append (shown_path c) (paths_of_game number numbers) (paths_from (number + 1) next behind)
-    ∙ ap (λ ls. ls ++ map (shown_path c) (paths_from (number + 1) next behind)) here
+    shown_paths c number numbers ∙ ap (map (λ ns. (number, ns))) (named_game c at None first more below after h down) ∙ sym (shown_lines number nodes) in
+    let beside = named_from c (number + 1) after next (stands_after c at None first more below after h) in
+    map-append (shown_path c) (paths_of_game number numbers) (paths_from (number + 1) next after)
+    ∙ ap (λ ls. ls ++ map (shown_path c) (paths_from (number + 1) next after)) here
     ∙ ap (λ ls. map shown_line (lines_of_game number nodes) ++ ls) beside
-    ∙ sym (map-append shown_line (lines_of_game number nodes) (lines_from (number + 1) behind))
+    ∙ sym (map-append shown_line (lines_of_game number nodes) (lines_from (number + 1) after))
 
 named_all : (c : Games) → map (shown_path c) (paths c) ≡ map shown_line (lines c)
 named_all c = named_from c 1 c 0 (stands_whole c)

@@ -5,7 +5,7 @@ use Rattle.std.proofs.lemmas.Option.{slice_get_within}
 use Rattle.sgf_tree.specs.Tree.{Node, Games, no_games, game, node_count}
 use Rattle.sgf_tree.specs.FileOrder.{Row, further_rows, rows, rows_of, parent_at, IsLeaf}
 use Rattle.sgf_lines.proofs.Lists.{split_get, get_right}
-use Rattle.sgf_lines.proofs.Standing.{Stands, stands_whole, stands_below, stands_behind, first_row, length-further_rows, length-rows}
+use Rattle.sgf_lines.proofs.Standing.{Stands, stands_whole, stands_below, stands_after, first_row, length-further_rows, length-rows}
 
 -- the parent of a node at the index k among games that begin at the index `at` and follow `parent`
 abbrev pub IsParentIn : ℕ → Option ℕ → ℕ → Option ℕ → Type 0
@@ -38,7 +38,7 @@ lower at last parent k p le lt (inr h) = inr (h.0, h.1, omega (arith, h.2), h.3)
 
 pub parent-rows : (g : Games) (at : ℕ) (parent : Option ℕ) (k : ℕ) (r : Row) → slice_get (rows at parent g) k ≡ Some r → IsParentIn at parent (at + k) r.parent
 parent-rows no_games at parent k r e = absurd cc
-parent-rows (game first more below behind) at parent k r e =
+parent-rows (game first more below after) at parent k r e =
     let last = at + length more in
     let own = first_row parent first ∷ further_rows at more in
     let under = rows (last + 1) (Some last) below in
@@ -53,12 +53,12 @@ parent-rows (game first more below behind) at parent k r e =
           let inside : IsParentIn (last + 1) (Some last) (last + 1 + h.0) r.parent = parent-rows below (last + 1) (Some last) h.0 r h.2 in
           lower at last parent (at + k) r.parent (omega arith) (omega (arith, h.1)) (rw sums at inside)
     ] in
-    elim (split_get (own ++ under) (rows (last + 1 + node_count below) parent behind) k r e) [
+    elim (split_get (own ++ under) (rows (last + 1 + node_count below) parent after) k r e) [
       | inl h ↦ in_front h
       | inr h ↦
           let sums : last + 1 + node_count below + h.0 ≡ at + k = omega (arith, h.1) in
           let inside : IsParentIn (last + 1 + node_count below) parent (last + 1 + node_count below + h.0) r.parent =
-          parent-rows behind (last + 1 + node_count below) parent h.0 r h.2 in
+          parent-rows after (last + 1 + node_count below) parent h.0 r h.2 in
           later at (last + 1 + node_count below) parent (at + k) r.parent (omega arith) (rw sums at inside)
     ]
 
@@ -77,9 +77,9 @@ parent_in c at parent g h j p le lt e =
     let xs = rows at parent g in
     let k = j - at in
     let sums : at + k ≡ j = omega arith in
-    let here : slice_get (xs ++ h.behind) k ≡ Some found.0 =
-    sym (get_right h.before (xs ++ h.behind) j k (omega (arith, h.length_is))) ∙ ap (λ zs. slice_get zs j) (sym h.is) ∙ found.1 in
-    elim (split_get xs h.behind k found.0 here) [
+    let here : slice_get (xs ++ h.after) k ≡ Some found.0 =
+    sym (get_right h.before (xs ++ h.after) j k (omega (arith, h.length_is))) ∙ ap (λ zs. slice_get zs j) (sym h.is) ∙ found.1 in
+    elim (split_get xs h.after k found.0 here) [
       | inl inside ↦
           let of_row : IsParentIn at parent (at + k) found.0.parent = parent-rows g at parent k found.0 inside in
           rw (sums, found.2) at of_row
@@ -99,7 +99,7 @@ parent_before c j i e =
       | inr h ↦ let same : i ≡ h.0 = cc in omega (arith, h.3)
     ]
 
--- The games stand in the collection from the index `at` on, behind their parent, and nodes behind them have no parent among them.
+-- The games stand in the collection from the index `at` on, after their parent, and nodes after them have no parent among them.
 pub record Among (c : Games) (at : ℕ) (parent : Option ℕ) (g : Games) : Type 0 where
   pub stands : Stands c at parent g
   pub parent_first : (i : ℕ) → parent ≡ Some i → i < at
@@ -113,15 +113,15 @@ among_whole c = record {
 }
 
 -- the parts of a game
-module _ (c : Games) (at : ℕ) (parent : Option ℕ) (first : Node) (more : List Node) (below behind : Games) (h : Among c at parent (game first more below behind)) where
-  behind_stands : Stands c (at + length more + 1 + node_count below) parent behind
-  behind_stands = stands_behind c at parent first more below behind h.stands
+module _ (c : Games) (at : ℕ) (parent : Option ℕ) (first : Node) (more : List Node) (below after : Games) (h : Among c at parent (game first more below after)) where
+  after_stands : Stands c (at + length more + 1 + node_count below) parent after
+  after_stands = stands_after c at parent first more below after h.stands
 
-  -- a node behind the games below has no parent among those
+  -- a node after the games below has no parent among those
   closed_below : (j i : ℕ) → at + length more + 1 + node_count below ≤ j → parent_at c j ≡ Some (Some i) → at + length more ≤ i
       → at + length more + 1 + node_count below ≤ i
-  closed_below j i le e from = elim (cases_lt j (at + node_count (game first more below behind))) [
-    | inl lt ↦ elim (parent_in c (at + length more + 1 + node_count below) parent behind behind_stands j (Some i) le (omega arith) e) [
+  closed_below j i le e from = elim (cases_lt j (at + node_count (game first more below after))) [
+    | inl lt ↦ elim (parent_in c (at + length more + 1 + node_count below) parent after after_stands j (Some i) le (omega arith) e) [
       | inl same ↦ absurd (omega (arith, h.parent_first i (sym same)))
       | inr inside ↦ let same : i ≡ inside.0 = cc in omega (arith, inside.2)
     ]
@@ -130,14 +130,14 @@ module _ (c : Games) (at : ℕ) (parent : Option ℕ) (first : Node) (more : Lis
 
   pub among_below : Among c (at + length more + 1) (Some (at + length more)) below
   among_below = record {
-    stands = stands_below c at parent first more below behind h.stands;
+    stands = stands_below c at parent first more below after h.stands;
     parent_first = λ i e. let same : at + length more ≡ i = cc in omega arith;
     closed = λ j i le e from. closed_below j i le e (omega arith);
   }
 
-  pub among_behind : Among c (at + length more + 1 + node_count below) parent behind
-  among_behind = record {
-    stands = behind_stands;
+  pub among_after : Among c (at + length more + 1 + node_count below) parent after
+  among_after = record {
+    stands = after_stands;
     parent_first = λ i e. omega (arith, h.parent_first i e);
     closed = λ j i le e from. omega (arith, h.closed j i (omega arith) e (omega arith));
   }

@@ -8,8 +8,8 @@ use Rattle.std.proofs.lemmas.Option.{slice_get-map, slice_get_past}
 use Rattle.sgf_tree.specs.Tree.{Games, node_count}
 use Rattle.sgf_tree.specs.FileOrder.{IsLeaf}
 use Rattle.sgf_lines.specs.Paths.{Path, paths, leaf_of}
-use Rattle.sgf_lines.specs.Position.{lines_before}
-use Rattle.sgf_lines.specs.Way.{IsWayTo, top}
+use Rattle.sgf_lines.specs.inner.Ways.{IsWayTo, top}
+use Rattle.sgf_lines.specs.inner.Standing.{lines_before}
 use Rattle.sgf_lines.proofs.Lists.{each_get}
 use Rattle.sgf_lines.proofs.Standing.{stands_whole}
 use Rattle.sgf_lines.proofs.Climbing.{one_way}

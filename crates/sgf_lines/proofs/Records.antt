@@ -12,10 +12,8 @@ use Rattle.sgf_lines.specs.Lines.{Line, lines}
 use Rattle.sgf_lines.specs.Paths.{paths}
 use Rattle.sgf_lines.specs.Record.{sgf_record}
 use Rattle.sgf_lines.specs.Output.{sgf_output}
-use Rattle.sgf_lines.specs.Way.{top}
-use Rattle.sgf_lines.specs.Position.{Position, advanced}
-use Rattle.sgf_lines.specs.Shown.{shown, IsLine}
-use Rattle.sgf_lines.specs.Steps.{Gives, Leaves}
+use Rattle.sgf_lines.specs.Cursor.{Position, advanced, shown, IsLine, Gives, Leaves}
+use Rattle.sgf_lines.specs.inner.Ways.{top}
 use Rattle.sgf_lines.specs.declared.line.LineRef.{LineRef}
 use Rattle.sgf_lines.proofs.Lists.{each_get, element}
 use Rattle.sgf_lines.proofs.Ways.{IsDescent, each_path}

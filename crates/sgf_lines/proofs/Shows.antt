@@ -3,9 +3,9 @@ use Rattle.std.proofs.Common.{◌≡◌, ℕ, ◌+◌, ◌-◌, ◌<◌, List, g
 use Rattle.sgf_tree.specs.Tree.{Games, node_count}
 use Rattle.sgf_tree.specs.FileOrder.{place_at, game_of}
 use Rattle.sgf_lines.specs.Lines.{lines}
-use Rattle.sgf_lines.specs.Way.{HasNoLeaf, IsNextLeaf, IsBehindLeaf}
-use Rattle.sgf_lines.specs.Position.{Position, advanced, lines_before}
-use Rattle.sgf_lines.specs.Shown.{IsLine}
+use Rattle.sgf_lines.specs.Cursor.{Position, advanced, IsLine}
+use Rattle.sgf_lines.specs.inner.Ways.{HasNoLeaf, IsNextLeaf}
+use Rattle.sgf_lines.specs.inner.Standing.{IsAfterLeaf, lines_before}
 use Rattle.sgf_lines.specs.declared.line.LineRef.{LineRef}
 use Rattle.sgf_lines.proofs.Positions.{before_none}
 use Rattle.sgf_lines.proofs.Standings.{IsShown, shows, none_left, one_more}
@@ -18,10 +18,10 @@ pub starts : (c : Games) → before c 0 ≡ record { games = c; given = 0 }
 starts c = ap (λ n. record { games = c; given = n }) (before_none c)
 
 module _ (c : Games) (next : ℕ) (at : Position) (is : before c next ≡ at) where
-  pub shows_line : (numbers : List ℕ) → IsBehindLeaf c next numbers → 0 < at.given → IsShown c next numbers
+  pub shows_line : (numbers : List ℕ) → IsAfterLeaf c next numbers → 0 < at.given → IsShown c next numbers
   shows_line numbers h lt = shows c next numbers h (rw (← is) at lt)
 
-  pub line_is : (numbers : List ℕ) (line : LineRef) (root : ℕ) → IsBehindLeaf c next numbers → 0 < at.given → line.path.now ≡ numbers → root ≡ get_or numbers 0 root
+  pub line_is : (numbers : List ℕ) (line : LineRef) (root : ℕ) → IsAfterLeaf c next numbers → 0 < at.given → line.path.now ≡ numbers → root ≡ get_or numbers 0 root
       → line.game ≡ game_of c root → place_at c (next - 1) ≡ Some line.place → IsLine at.games (at.given - 1) line
   line_is numbers line root h lt path_is root_is game_is place_is =
       let shown = shows_line numbers h lt in

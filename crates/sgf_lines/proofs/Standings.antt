@@ -1,4 +1,4 @@
--- What a cursor that stands behind a leaf shows, and how it goes on.
+-- What a cursor that stands after a leaf shows, and how it goes on.
 use Rattle.std.proofs.Common.{◌≡◌, ℕ, zero, suc, ◌+◌, ◌-◌, ◌<◌, List, [], ◌∷◌, length, get_or, slice_get, Option, Some, None, option_map, sym, ap, ◌∙◌, subst, inl, inr, arith, length-append}
 use Rattle.std.proofs.lemmas.Option.{slice_get_past}
 use Rattle.std.proofs.lemmas.Bool.{cases_lt}
@@ -6,8 +6,8 @@ use Rattle.sgf_tree.specs.Tree.{Games, node_count}
 use Rattle.sgf_tree.specs.FileOrder.{place_at, game_of, IsLeaf}
 use Rattle.sgf_lines.specs.Lines.{lines, place_of, last_number}
 use Rattle.sgf_lines.specs.Paths.{Path, paths, leaf_of}
-use Rattle.sgf_lines.specs.Way.{IsWayTo, top, step, HasNoLeaf, IsNextLeaf, IsBehindLeaf}
-use Rattle.sgf_lines.specs.Position.{lines_before}
+use Rattle.sgf_lines.specs.inner.Ways.{IsWayTo, top, step, HasNoLeaf, IsNextLeaf}
+use Rattle.sgf_lines.specs.inner.Standing.{IsAfterLeaf, lines_before}
 use Rattle.sgf_lines.proofs.Lists.{Each, each_append, each_get, element}
 use Rattle.sgf_lines.proofs.Parents.{node_within}
 use Rattle.sgf_lines.proofs.Climbing.{last-way}
@@ -33,7 +33,7 @@ each_head P (n ∷ ns) d lt h = h.0
 pub record IsShown (c : Games) (next : ℕ) (numbers : List ℕ) : Type 0 where
   pub some_node : 0 < length numbers
   pub root_within : (d : ℕ) → get_or numbers 0 d < node_count c
-  pub behind : 0 < next
+  pub after : 0 < next
   pub last_within : next - 1 < node_count c
   pub path_is : (d : ℕ) → slice_get (paths c) (lines_before c next - 1) ≡ Some (record { game_number = game_of c (get_or numbers 0 d); numbers = numbers })
   pub place_is : (place : ℕ) → place_at c (next - 1) ≡ Some place → option_map place_of (slice_get (lines c) (lines_before c next - 1)) ≡ Some place
@@ -52,7 +52,7 @@ shown_at c i numbers lt leaf way =
     record {
       some_node = some_node;
       root_within = λ d. each_head (λ n. n < node_count c) numbers d some_node (within_way way);
-      behind = omega arith;
+      after = omega arith;
       last_within = omega (arith, lt);
       path_is = λ d.
           let of_game : Each (λ n. game_of c n ≡ f.0.game_number) numbers =
@@ -68,14 +68,14 @@ shown_at c i numbers lt leaf way =
           ap (λ o. option_map place_of o) l.1.found ∙ sym at_leaf ∙ here;
     }
 
-pub shows : (c : Games) (next : ℕ) (numbers : List ℕ) → IsBehindLeaf c next numbers → 0 < lines_before c next → IsShown c next numbers
+pub shows : (c : Games) (next : ℕ) (numbers : List ℕ) → IsAfterLeaf c next numbers → 0 < lines_before c next → IsShown c next numbers
 shows c zero numbers h lt = absurd (omega (arith, before_none c))
 shows c (suc i) numbers h lt =
     let is : suc i ≡ i + 1 = omega arith in
     shown_at c i numbers (omega (arith, h.within)) (h.leaf i is) (h.way i is)
 
 -- a cursor before the first node has given no line
-pub stands_first : (c : Games) (numbers : List ℕ) → IsBehindLeaf c 0 numbers
+pub stands_first : (c : Games) (numbers : List ℕ) → IsAfterLeaf c 0 numbers
 stands_first c numbers = record { within = omega arith; leaf = λ i e. absurd (omega arith); way = λ i e. absurd (omega arith) }
 
 -- where no leaf is left, no line is
@@ -87,12 +87,12 @@ none_left c next none =
       | inr ge ↦ slice_get_past (lines c) (lines_before c next) (omega (arith, length-paths c))
     ]
 
--- behind the next leaf one line more has been given
+-- after the next leaf one line more has been given
 pub one_more : (c : Games) (next i : ℕ) → IsNextLeaf c next i → lines_before c (i + 1) ≡ lines_before c next + 1
 one_more c next i h = (next_line c next i h.from_there h.within h.is_leaf h.first).1.one_more
 
-pub stands_behind_next : (c : Games) (next i : ℕ) (numbers : List ℕ) → IsNextLeaf c next i → IsWayTo c (Some i) numbers → IsBehindLeaf c (i + 1) numbers
-stands_behind_next c next i numbers h way = record {
+pub stands_after_next : (c : Games) (next i : ℕ) (numbers : List ℕ) → IsNextLeaf c next i → IsWayTo c (Some i) numbers → IsAfterLeaf c (i + 1) numbers
+stands_after_next c next i numbers h way = record {
   within = omega (arith, h.within);
   leaf = λ j e. let same : i ≡ j = omega arith in subst (IsLeaf c) same h.is_leaf;
   way = λ j e. let same : i ≡ j = omega arith in subst (λ n. IsWayTo c (Some n) numbers) same way;

@@ -5,9 +5,9 @@ use Rattle.sgf_tree.specs.Tree.{Node, Games, no_games, game, node_count}
 use Rattle.sgf_tree.specs.FileOrder.{IsLeaf}
 use Rattle.sgf_lines.specs.Lines.{through, last_number}
 use Rattle.sgf_lines.specs.Paths.{number_lines, paths_of_game, paths_from, paths}
-use Rattle.sgf_lines.specs.Way.{IsWayTo}
+use Rattle.sgf_lines.specs.inner.Ways.{IsWayTo}
 use Rattle.sgf_lines.proofs.Lists.{Each, each_append, each_through, each_map}
-use Rattle.sgf_lines.proofs.Parents.{Among, among_whole, among_below, among_behind, last_is_leaf}
+use Rattle.sgf_lines.proofs.Parents.{Among, among_whole, among_below, among_after, last_is_leaf}
 use Rattle.sgf_lines.proofs.Climbing.{up_own, last_number-append}
 
 -- a way from below `parent` down to a leaf
@@ -21,10 +21,10 @@ last_number-range start zero = sym (add-zero start)
 last_number-range start (suc count) = last_number-range (start + 1) count ∙ omega arith
 
 -- own nodes and a way below them are a way
-behind_own : (c : Games) (last : ℕ) (parent : Option ℕ) (o : ℕ) (os way : List ℕ) → ((above : List ℕ) → IsWayTo c parent above → IsWayTo c (Some last) (above ++ o ∷ os))
+after_own : (c : Games) (last : ℕ) (parent : Option ℕ) (o : ℕ) (os way : List ℕ) → ((above : List ℕ) → IsWayTo c parent above → IsWayTo c (Some last) (above ++ o ∷ os))
     → IsDescent c (Some last) way → IsDescent c parent (o ∷ os ++ way)
-behind_own c last parent o os [] up h = absurd (h.filled refl)
-behind_own c last parent o os (w ∷ ws) up h =
+after_own c last parent o os [] up h = absurd (h.filled refl)
+after_own c last parent o os (w ∷ ws) up h =
     let lasts : last_number (o ∷ os ++ w ∷ ws) ≡ last_number (w ∷ ws) = last_number-append (o ∷ os) w ws in
     record {
       up = λ above u. rw (lasts, ← append_assoc above (o ∷ os) (w ∷ ws)) (h.up (above ++ o ∷ os) (up above u));
@@ -34,47 +34,47 @@ behind_own c last parent o os (w ∷ ws) up h =
 
 no_ways : (at : ℕ) (g : Games) → number_lines at g ≡ [] → g ≡ no_games
 no_ways at no_games e = refl
-no_ways at (game first more below behind) e =
+no_ways at (game first more below after) e =
     absurd (not_none (at ∷ range_with_len (at + 1) (length more)) (number_lines (at + length more + 1) below)
-    (number_lines (at + length more + 1 + node_count below) behind) e)
+    (number_lines (at + length more + 1 + node_count below) after) e)
   where
     not_none : (own : List ℕ) (ls ms : List (List ℕ)) → through own ls ++ ms ≡ [] → ⊥
     not_none own [] ms e = cc
     not_none own (l ∷ ls) ms e = cc
 
-ways_of_game : (c : Games) (at : ℕ) (parent : Option ℕ) (first : Node) (more : List Node) (below behind : Games) → Among c at parent (game first more below behind)
+ways_of_game : (c : Games) (at : ℕ) (parent : Option ℕ) (first : Node) (more : List Node) (below after : Games) → Among c at parent (game first more below after)
     → Each (IsDescent c (Some (at + length more))) (number_lines (at + length more + 1) below)
     → Each (IsDescent c parent) (through (at ∷ range_with_len (at + 1) (length more)) (number_lines (at + length more + 1) below))
-ways_of_game c at parent first more below behind h down =
+ways_of_game c at parent first more below after h down =
     let last = at + length more in
     let own = at ∷ range_with_len (at + 1) (length more) in
-    let up_to = up_own c at parent first more below behind h.stands in
+    let up_to = up_own c at parent first more below after h.stands in
     let lasts : last_number own ≡ last = last_number-range at (length more) in
     let alone : number_lines (last + 1) below ≡ [] → IsDescent c parent own = λ none. record {
       up = λ above u. rw lasts (up_to above u);
-      is_leaf = rw lasts (last_is_leaf c at parent first more below behind h (no_ways (last + 1) below none));
+      is_leaf = rw lasts (last_is_leaf c at parent first more below after h (no_ways (last + 1) below none));
       filled = λ e. cc;
     } in
     each_through (IsDescent c parent) (IsDescent c (Some last)) own (number_lines (last + 1) below) alone
-    (λ way w. behind_own c last parent at (range_with_len (at + 1) (length more)) way up_to w) down
+    (λ way w. after_own c last parent at (range_with_len (at + 1) (length more)) way up_to w) down
 
 ways : (c : Games) (g : Games) (at : ℕ) (parent : Option ℕ) → Among c at parent g → Each (IsDescent c parent) (number_lines at g)
 ways c no_games at parent h = tt
-ways c (game first more below behind) at parent h =
+ways c (game first more below after) at parent h =
     let last = at + length more in
-    each_append (IsDescent c parent) (through (at ∷ range_with_len (at + 1) (length more)) (number_lines (last + 1) below)) (number_lines (last + 1 + node_count below) behind)
-    (ways_of_game c at parent first more below behind h (ways c below (last + 1) (Some last) (among_below c at parent first more below behind h)))
-    (ways c behind (last + 1 + node_count below) parent (among_behind c at parent first more below behind h))
+    each_append (IsDescent c parent) (through (at ∷ range_with_len (at + 1) (length more)) (number_lines (last + 1) below)) (number_lines (last + 1 + node_count below) after)
+    (ways_of_game c at parent first more below after h (ways c below (last + 1) (Some last) (among_below c at parent first more below after h)))
+    (ways c after (last + 1 + node_count below) parent (among_after c at parent first more below after h))
 
 paths_are_ways : (c : Games) (number : ℕ) (g : Games) (at : ℕ) → Among c at None g → Each (λ path. IsDescent c None path.numbers) (paths_from number at g)
 paths_are_ways c number no_games at h = tt
-paths_are_ways c number (game first more below behind) at h =
+paths_are_ways c number (game first more below after) at h =
     let last = at + length more in
     let here = through (at ∷ range_with_len (at + 1) (length more)) (number_lines (last + 1) below) in
-    each_append (λ path. IsDescent c None path.numbers) (paths_of_game number here) (paths_from (number + 1) (last + 1 + node_count below) behind)
+    each_append (λ path. IsDescent c None path.numbers) (paths_of_game number here) (paths_from (number + 1) (last + 1 + node_count below) after)
     (each_map (λ path. IsDescent c None path.numbers) (λ numbers. record { game_number = number; numbers = numbers }) here
-    (ways_of_game c at None first more below behind h (ways c below (last + 1) (Some last) (among_below c at None first more below behind h))))
-    (paths_are_ways c (number + 1) behind (last + 1 + node_count below) (among_behind c at None first more below behind h))
+    (ways_of_game c at None first more below after h (ways c below (last + 1) (Some last) (among_below c at None first more below after h))))
+    (paths_are_ways c (number + 1) after (last + 1 + node_count below) (among_after c at None first more below after h))
 
 -- each path of a collection leads from a root to a leaf
 pub each_path : (c : Games) → Each (λ path. IsDescent c None path.numbers) (paths c)

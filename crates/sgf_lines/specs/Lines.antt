@@ -1,16 +1,17 @@
--- The lines of play of a collection, which go from the root of a game to a node that no node follows.
+-- The lines of play of a collection (SGF FF[4]). A line goes from the root of a game to a leaf, a node that no node follows.
+-- Where games stand below a node, the tree branches: each of them begins a variation, and lines go on through each in turn.
 use Rattle.std.specs.Prelude.{ℕ, ◌+◌, List, [], ◌∷◌, ◌++◌, map}
 use Rattle.sgf_tree.specs.Tree.{Node, Games, no_games, game}
 
--- each of the lists behind `own`, or `own` alone where there is none
+-- `own` followed by each of the lists, or `own` alone where there is none: the lines through a branch, or to a leaf
 abbrev pub through : {A : Type 0} → List A → List (List A) → List (List A)
 through own [] = own ∷ []
-through own (l ∷ ls) = map (λ rest. own ++ rest) (l ∷ ls)
+through own (first ∷ others) = map (λ rest. own ++ rest) (first ∷ others)
 
--- the ways through games: those of each game in turn, which go through its own nodes to the games below them
+-- the variations through games: those of each game in turn, which go through its own nodes to the games below them
 abbrev pub node_lines : Games → List (List Node)
 node_lines no_games = []
-node_lines (game first more below behind) = through (first ∷ more) (node_lines below) ++ node_lines behind
+node_lines (game first more below after) = through (first ∷ more) (node_lines below) ++ node_lines after
 
 -- a line of play: the number of its game, counted from 1, and its nodes, the root first
 pub record Line : Type 0 where
@@ -24,8 +25,8 @@ lines_of_game number ways = map (λ nodes. record { game_number = number; nodes 
 -- the lines of games, the first of which has this number
 abbrev pub lines_from : ℕ → Games → List Line
 lines_from number no_games = []
-lines_from number (game first more below behind) =
-    lines_of_game number (through (first ∷ more) (node_lines below)) ++ lines_from (number + 1) behind
+lines_from number (game first more below after) =
+    lines_of_game number (through (first ∷ more) (node_lines below)) ++ lines_from (number + 1) after
 
 -- the lines of a collection, those of an earlier game and of an earlier child tree first
 abbrev pub lines : Games → List Line

@@ -8,10 +8,10 @@ use Rattle.sgf_lines.specs.Lines.{Line, through, last_number}
 -- the ways through games whose first node has the number `at`
 abbrev pub number_lines : ℕ → Games → List (List ℕ)
 number_lines at no_games = []
-number_lines at (game first more below behind) =
+number_lines at (game first more below after) =
     let last = at + length more in
     through (at ∷ range_with_len (at + 1) (length more)) (number_lines (last + 1) below)
-    ++ number_lines (last + 1 + node_count below) behind
+    ++ number_lines (last + 1 + node_count below) after
 
 -- a line by numbers: that of its game, counted from 1, and those of its nodes, counted from 0, the root first
 pub record Path : Type 0 where
@@ -25,16 +25,16 @@ paths_of_game number ways = map (λ numbers. record { game_number = number; numb
 -- the paths of games, of which the first has this number and begins at the node `at`
 abbrev pub paths_from : ℕ → ℕ → Games → List Path
 paths_from number at no_games = []
-paths_from number at (game first more below behind) =
+paths_from number at (game first more below after) =
     let last = at + length more in
     paths_of_game number (through (at ∷ range_with_len (at + 1) (length more)) (number_lines (last + 1) below))
-    ++ paths_from (number + 1) (last + 1 + node_count below) behind
+    ++ paths_from (number + 1) (last + 1 + node_count below) after
 
 -- the paths of a collection's lines, in the same order
 abbrev pub paths : Games → List Path
 paths c = paths_from 1 0 c
 
--- the number of a path's last node
+-- the number of a path's last node, which is a leaf
 abbrev pub leaf_of : Path → ℕ
 leaf_of path = last_number path.numbers
 

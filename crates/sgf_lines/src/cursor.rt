@@ -4,9 +4,8 @@ ghost use Rattle.std.specs.Prelude.{◌≡◌, ◌<◌, ◌-◌, Some, None, Lis
 ghost use Rattle.sgf_tree.specs.Tree.{node_count};
 ghost use Rattle.sgf_tree.specs.FileOrder.{IsLeaf};
 ghost use Rattle.sgf_lines.specs.Lines.{lines};
-ghost use Rattle.sgf_lines.specs.Way.{IsWayTo, IsLeafSearch};
-ghost use Rattle.sgf_lines.specs.Position.{advanced};
-ghost use Rattle.sgf_lines.specs.Shown.{IsLine};
+ghost use Rattle.sgf_lines.specs.Cursor.{advanced, IsLine};
+ghost use Rattle.sgf_lines.specs.inner.Ways.{IsWayTo, IsLeafSearch};
 
 use crate::line::LineRef;
 use sgf_tree::{Collection, MemoryFault};
@@ -14,7 +13,7 @@ use std::alloc::Global;
 use std::marker::Model;
 
 /// Goes over the lines of a collection in file order: those of an earlier game, and of an earlier child tree, come first.
-/// It is seen as the collection and the number of lines that it has given.
+/// It is seen as the collection and the number of lines that stand before it.
 #[derive(Drop)]
 pub struct Cursor<'c, 'a> {
     collection: &'c Collection<'a>,
@@ -27,8 +26,8 @@ pub struct Cursor<'c, 'a> {
 }
 
 impl<'c, 'a> Model for Cursor<'c, 'a> {
-    ghost use Rattle.sgf_lines.specs.Position.{Position, position_code, lines_before};
-    ghost use Rattle.sgf_lines.specs.Way.{IsBehindLeaf};
+    ghost use Rattle.sgf_lines.specs.Cursor.{Position};
+    ghost use Rattle.sgf_lines.specs.inner.Standing.{position_code, lines_before, IsAfterLeaf};
 
     ghost Value = { Position };
 
@@ -36,12 +35,13 @@ impl<'c, 'a> Model for Cursor<'c, 'a> {
 
     ghost view = { λ s. record { games = s.collection.now; given = lines_before s.collection.now s.next } };
 
-    ghost invariant = { λ s. IsBehindLeaf s.collection.now s.next s.path.items };
+    ghost invariant = { λ s. IsAfterLeaf s.collection.now s.next s.path.items };
 }
 
 impl<'c, 'a> Cursor<'c, 'a> {
     ghost use Rattle.std.specs.Borrow.{sem};
-    ghost use Rattle.sgf_lines.specs.Steps.{Gives, EndsAs};
+    ghost use Rattle.sgf_lines.specs.Cursor.{Gives, Leaves};
+    ghost use Rattle.sgf_lines.specs.inner.Lending.{OnceReturned};
 
     /// A cursor before the first line.
     /// It takes no memory.
@@ -58,7 +58,7 @@ impl<'c, 'a> Cursor<'c, 'a> {
     /// The next line; after the last one None, again and again.
     /// After a refusal of memory the cursor is unchanged.
     pub fn next<'l>(&'l mut self) -> Result<Option<LineRef<'l>>, MemoryFault>
-        ensures* after_borrow { sem 𝓛 (EndsAs self.entry result) }
+        ensures* goes_on { sem 𝓛 (OnceReturned self.entry (Leaves self.entry.now result)) }
         ensures line { IfOk result (Gives self.old) }
     {
         if self.advance()? {
@@ -157,5 +157,33 @@ fn fill_way(collection: &Collection<'_>, leaf: usize, path: &mut [usize])
         room -= 1;
         path[room] = number;
         node = collection.parent(number);
+    }
+}
+
+#[cfg(test)]
+mod tests {
+    use super::*;
+    use sgf_tree::read;
+    use std::process::Abort;
+    use std::test::Fail;
+
+    #[test]
+    fn cursor_ends_and_stays(rt: HostRuntime) -> Result<(), Fail> {
+        let collection = read(rt.alloc(), b"(;SZ[3](;B[aa])(;B[bb];W[aa]))")?;
+        let mut cursor = Cursor::new(rt.alloc(), &collection);
+        expect_line(&rt, cursor.next()?, &[0, 1], 8);
+        expect_line(&rt, cursor.next()?, &[0, 2, 3], 22);
+        assert!(rt; cursor.next()?.is_none());
+        assert!(rt; cursor.next()?.is_none());
+        Ok(())
+    }
+
+    fn expect_line(rt: &impl Abort, line: Option<LineRef<'_>>, path: &[usize], place: usize) {
+        let Some(line) = line else {
+            panic!(rt; "a line was expected");
+        };
+        assert_eq!(rt; line.path(), path);
+        assert_eq!(rt; line.game(), 1);
+        assert_eq!(rt; line.place(), place);
     }
 }

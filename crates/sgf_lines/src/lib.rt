@@ -1,5 +1,12 @@
-//! The lines of play of a Smart Game Format (SGF FF[4]) collection.
-//! A line goes from the root of a game to a node that no node follows.
+//! The lines of play of a Smart Game Format (SGF FF[4]) collection, from the root of a game to a leaf.
+//! A cursor gives them one by one, in file order, over a collection that was read once.
+//! A run writes each as a record, a text of its own.
+//!
+//!     let collection = sgf_tree::read(alloc, text)?;
+//!     let mut cursor = Cursor::new(alloc, &collection);
+//!     while let Some(line) = cursor.next()? {
+//!         // line.path(), line.game(), line.place()
+//!     }
 //!
 //! - `line` has what is shown of a line.
 //! - `cursor` goes over the lines of a collection.

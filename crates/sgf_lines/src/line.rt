@@ -12,7 +12,7 @@ pub struct LineRef<'l> {
 }
 
 impl<'l> LineRef<'l> {
-    ghost use Rattle.sgf_lines.specs.Shown.{shown};
+    ghost use Rattle.sgf_lines.specs.Cursor.{shown};
 
     /// The numbers of its nodes, which count from 0 in file order; the root comes first.
     /// There is at least one.

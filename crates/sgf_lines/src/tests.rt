@@ -1,6 +1,4 @@
-use crate::{Cursor, FirstFault, LineRef, first_split};
-use sgf_tree::read;
-use std::process::Abort;
+use crate::{FirstFault, first_split};
 use std::test::Fail;
 
 // Each text, and the lines that it is split into.
@@ -27,24 +25,4 @@ fn lines_are_games_of_their_own(rt: HostRuntime) -> Result<(), Fail> {
 fn faulty_texts_are_named(rt: HostRuntime) {
     let refused = first_split(rt.alloc(), b"(;SZ[3])x");
     assert!(rt; matches!(&refused, Err(FirstFault::NotSgf { at: 8 })));
-}
-
-#[test]
-fn cursor_ends_and_stays(rt: HostRuntime) -> Result<(), Fail> {
-    let collection = read(rt.alloc(), b"(;SZ[3](;B[aa])(;B[bb];W[aa]))")?;
-    let mut cursor = Cursor::new(rt.alloc(), &collection);
-    expect_line(&rt, cursor.next()?, &[0, 1], 8);
-    expect_line(&rt, cursor.next()?, &[0, 2, 3], 22);
-    assert!(rt; cursor.next()?.is_none());
-    assert!(rt; cursor.next()?.is_none());
-    Ok(())
-}
-
-fn expect_line(rt: &impl Abort, line: Option<LineRef<'_>>, path: &[usize], place: usize) {
-    let Some(line) = line else {
-        panic!(rt; "a line was expected");
-    };
-    assert_eq!(rt; line.path(), path);
-    assert_eq!(rt; line.game(), 1);
-    assert_eq!(rt; line.place(), place);
 }

@@ -1,4 +1,4 @@
--- The position is one line further behind the next leaf.
+-- After the next leaf the position is one line further.
 use Rattle.sgf_lines.proofs.Shows.{none_is_left, advances}
 use Rattle.sgf_lines.proofs.cursor.Cursor.advance.Goals as goal
 

@@ -17,7 +17,7 @@ game_of-requires c =
 pub overflow_sub-self-inside : goal.overflow_sub-self-inside
 overflow_sub-self-inside c =
     let h = shows_line c.self.inside.collection.now c.self.inside.next c.args.self.now c.self.view_is c.self.inside.path.items c.self.invariant c.requires in
-    h.behind
+    h.after
 
 pub place-requires : goal.place-requires
 place-requires c =

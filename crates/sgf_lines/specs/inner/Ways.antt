@@ -1,5 +1,5 @@
 -- The way from the root of a game down to a node, and the leaves that a cursor looks for.
-use Rattle.std.specs.Prelude.{◌≡◌, ℕ, ◌+◌, ◌<◌, ◌≤◌, List, [], ◌∷◌, ◌++◌, Option, Some, None, MatchOption}
+use Rattle.std.specs.Prelude.{◌≡◌, ℕ, ◌<◌, ◌≤◌, List, [], ◌∷◌, ◌++◌, Option, Some, None, MatchOption}
 use Rattle.sgf_tree.specs.Tree.{Games, node_count}
 use Rattle.sgf_tree.specs.FileOrder.{parent_at, IsLeaf}
 
@@ -23,9 +23,3 @@ pub record IsNextLeaf (c : Games) (from i : ℕ) : Type 0 where
 -- the next leaf, or none where there is none
 abbrev pub IsLeafSearch : Games → ℕ → Option ℕ → Type 0
 IsLeafSearch c from found = MatchOption found (HasNoLeaf c from (node_count c)) (IsNextLeaf c from)
-
--- Where a cursor stands. It goes on from the node `next`; the node before that one is the last leaf, and `numbers` the way to it.
-pub record IsBehindLeaf (c : Games) (next : ℕ) (numbers : List ℕ) : Type 0 where
-  pub within : next ≤ node_count c
-  pub leaf : (i : ℕ) → next ≡ i + 1 → IsLeaf c i
-  pub way : (i : ℕ) → next ≡ i + 1 → IsWayTo c (Some i) numbers

@@ -1,0 +1,50 @@
+-- Where a cursor stands among the lines of a collection, what its calls give, and how they leave it.
+use Rattle.std.specs.Prelude.{◌≡◌, ◌≢◌, ℕ, ◌+◌, All, Option, Some, None, option_map, slice_get, Result, Ok, Err}
+use Rattle.sgf_tree.specs.Tree.{Games}
+use Rattle.sgf_tree.specs.declared.fault.MemoryFault.{MemoryFault}
+use Rattle.sgf_lines.specs.Lines.{lines, place_of}
+use Rattle.sgf_lines.specs.Paths.{Path, paths}
+use Rattle.sgf_lines.specs.declared.line.LineRef.{LineRef}
+
+-- a collection, and how many of its lines stand before the cursor
+pub record Position : Type 0 where
+  pub games : Games
+  pub given : ℕ
+
+-- one line later
+abbrev pub advanced : Position → Position
+advanced at = record { games = at.games; given = at.given + 1 }
+
+-- what is shown of a line: its path, and its place
+pub record Shown : Type 0 where
+  pub path : Path
+  pub place : ℕ
+
+abbrev pub shown : LineRef → Shown
+shown line = record { path = record { game_number = line.game; numbers = line.path.now }; place = line.place }
+
+-- it shows the line of a collection at an index
+pub record IsLine (games : Games) (index : ℕ) (line : LineRef) : Type 0 where
+  pub path : slice_get (paths games) index ≡ Some (shown line).path
+  pub place : option_map place_of (slice_get (lines games) index) ≡ Some (shown line).place
+
+-- the line at a position, or none after the last one
+abbrev pub Gives : Position → Option LineRef → Type 0
+Gives at None = slice_get (lines at.games) at.given ≡ None
+Gives at (Some line) = IsLine at.games at.given line
+
+-- a line takes the cursor one line on; at the end and after a refusal it is unchanged
+abbrev pub Leaves : Position → Result (Option LineRef) MemoryFault → Position → Type 0
+Leaves old (Ok (Some line)) new = new ≡ advanced old
+Leaves old (Ok None) new = new ≡ old
+Leaves old (Err fault) new = new ≡ old
+
+-- the position directly after the line with this place
+pub record IsAfterPlace (place : ℕ) (old new : Position) : Type 0 where
+  pub index : ℕ
+  pub line : option_map place_of (slice_get (lines old.games) index) ≡ Some place
+  pub new_is : new ≡ record { games = old.games; given = index + 1 }
+
+-- no line has this place
+abbrev pub HasNoLineAt : Games → ℕ → Type 0
+HasNoLineAt games place = All (λ line. place_of line ≢ place) (lines games)
