@@ -11,11 +11,11 @@ use Rattle.go_board.specs.declared.stones.Cell.{Cell}
 use Rattle.go_board.specs.declared.stones.Cell.TheVariants.{Empty}
 use Rattle.go_board.specs.declared.points.Point.{Point}
 use Rattle.go_board.specs.declared.points.Rect.{Rect}
-use Rattle.go_board.specs.declared.points.SetupOp.{SetupOp}
-use Rattle.go_board.specs.Point.{IsOn, IsRectOn, place_of, point_at, points}
+use Rattle.go_board.specs.declared.referee.plays.SetupOp.{SetupOp}
+use Rattle.go_board.specs.Point.{IsOn, IsRectOn, index_of, point_at, points}
 use Rattle.go_board.specs.Grid.{Grid, cell_at}
 use Rattle.go_board.specs.State.{is_in, with_area}
-use Rattle.go_board.proofs.PointLemmas.{place_below, IsOn-point_at, place_of-point_at, is_map-points}
+use Rattle.go_board.proofs.PointLemmas.{index_below, IsOn-point_at, index_of-point_at, is_map-points}
 
 -- a list after a write to a part of it, in the part and outside it
 get_or-in_part : {X : Type 0} (a k : ℕ) (xs ys : List X) (i : ℕ) (d : X) → length ys ≡ k → a + k ≤ length xs → a ≤ i → i < a + k → get_or (put_mid a k xs ys) i d ≡ get_or ys (i - a) d
@@ -43,20 +43,20 @@ pub record IsAbove (area : Rect) (row : ℕ) (p : Point) : Type 0 where
 -- the new cells are the old ones with the area coloured above that row
 pub record IsColouredTo (side : ℕ) (op : SetupOp) (row : ℕ) (old new : List Cell) : Type 0 where
   pub same_length : length new ≡ length old
-  pub inside : (p : Point) → IsOn side p → IsAbove op.area row p → get_or new (place_of side p) Empty ≡ op.cell
-  pub outside : (p : Point) → IsOn side p → (¬ IsAbove op.area row p) → get_or new (place_of side p) Empty ≡ get_or old (place_of side p) Empty
+  pub inside : (p : Point) → IsOn side p → IsAbove op.area row p → get_or new (index_of side p) Empty ≡ op.cell
+  pub outside : (p : Point) → IsOn side p → (¬ IsAbove op.area row p) → get_or new (index_of side p) Empty ≡ get_or old (index_of side p) Empty
 
 pub coloured_none : (side : ℕ) (op : SetupOp) (old : List Cell) → IsColouredTo side op op.area.first.row old old
 coloured_none side op old =
     record { same_length = refl; inside = λ p on h. absurd (omega (arith, h.below, h.above)); outside = λ p on h. refl }
 
 -- the place of a point of an earlier or a later row
-place_above : (side : ℕ) (p : Point) (row : ℕ) → p.col < side → p.row < row → place_of side p < row * side
-place_above side p row on h =
+index_above : (side : ℕ) (p : Point) (row : ℕ) → p.col < side → p.row < row → index_of side p < row * side
+index_above side p row on h =
     let rows : (p.row + 1) * side ≤ row * side = mul-le-mul_right side (omega arith) in omega arith
 
-place_below_row : (side : ℕ) (p : Point) (row : ℕ) → row < p.row → (row + 1) * side ≤ place_of side p
-place_below_row side p row h =
+index_below_row : (side : ℕ) (p : Point) (row : ℕ) → row < p.row → (row + 1) * side ≤ index_of side p
+index_below_row side p row h =
     let rows : (row + 1) * side ≤ p.row * side = mul-le-mul_right side (omega arith) in omega arith
 
 -- the row's part of the area
@@ -64,31 +64,31 @@ module _ (side : ℕ) (op : SetupOp) (row a k : ℕ) (old new : List Cell) (so_f
   after : List Cell
   after = put_mid a k new (replicate k op.cell)
 
-  cell_before : (p : Point) → place_of side p < a → get_or after (place_of side p) Empty ≡ get_or new (place_of side p) Empty
+  cell_before : (p : Point) → index_of side p < a → get_or after (index_of side p) Empty ≡ get_or new (index_of side p) Empty
   unfolding after
   cell_before p h = get_or-below_part a k new _ _ Empty (length-replicate k op.cell) fits h
 
-  cell_behind : (p : Point) → a + k ≤ place_of side p → get_or after (place_of side p) Empty ≡ get_or new (place_of side p) Empty
+  cell_behind : (p : Point) → a + k ≤ index_of side p → get_or after (index_of side p) Empty ≡ get_or new (index_of side p) Empty
   unfolding after
   cell_behind p h = get_or-above_part a k new _ _ Empty (length-replicate k op.cell) fits h
 
-  cell_within : (p : Point) → a ≤ place_of side p → place_of side p < a + k → get_or after (place_of side p) Empty ≡ op.cell
+  cell_within : (p : Point) → a ≤ index_of side p → index_of side p < a + k → get_or after (index_of side p) Empty ≡ op.cell
   unfolding after
   cell_within p h m =
       get_or-in_part a k new _ _ Empty (length-replicate k op.cell) fits h m
-      ∙ get_or-replicate k (place_of side p - a) op.cell Empty (omega arith)
+      ∙ get_or-replicate k (index_of side p - a) op.cell Empty (omega arith)
 
-  inside_more : (p : Point) → IsOn side p → IsAbove op.area (row + 1) p → get_or after (place_of side p) Empty ≡ op.cell
+  inside_more : (p : Point) → IsOn side p → IsAbove op.area (row + 1) p → get_or after (index_of side p) Empty ≡ op.cell
   inside_more p on h =
       elim (cases_order p.row row) [
         | inl e ↦ (let same : p.row * side ≡ row * side = ap (λ r. r * side) e in
             cell_within p (omega (arith, h.right_of)) (omega (arith, h.left_of)))
-        | inr (inl less) ↦ (let above = place_above side p row on.0 less in
+        | inr (inl less) ↦ (let above = index_above side p row on.0 less in
             cell_before p (omega arith) ∙ so_far.inside p on (record { right_of = h.right_of; left_of = h.left_of; below = h.below; above = less }))
         | inr (inr more) ↦ absurd (omega (arith, h.above))
       ]
 
-  outside_more : (p : Point) → IsOn side p → (¬ IsAbove op.area (row + 1) p) → get_or after (place_of side p) Empty ≡ get_or old (place_of side p) Empty
+  outside_more : (p : Point) → IsOn side p → (¬ IsAbove op.area (row + 1) p) → get_or after (index_of side p) Empty ≡ get_or old (index_of side p) Empty
   outside_more p on not =
       let not_above : ¬ IsAbove op.area row p = λ h. not (record { right_of = h.right_of; left_of = h.left_of; below = h.below; above = omega (arith, h.above) }) in
       elim (cases_order p.row row) [
@@ -100,9 +100,9 @@ module _ (side : ℕ) (op : SetupOp) (row a k : ℕ) (old new : List Cell) (so_f
                 | inr inner ↦ absurd (not (record { right_of = within; left_of = inner; below = omega arith; above = omega arith }))
               ]
             ])
-        | inr (inl less) ↦ (let above = place_above side p row on.0 less in
+        | inr (inl less) ↦ (let above = index_above side p row on.0 less in
             cell_before p (omega arith) ∙ so_far.outside p on not_above)
-        | inr (inr more) ↦ (let behind = place_below_row side p row more in
+        | inr (inr more) ↦ (let behind = index_below_row side p row more in
             cell_behind p (omega (arith, on_board.1.0)) ∙ so_far.outside p on not_above)
       ]
 
@@ -138,11 +138,11 @@ module _ (side : ℕ) (op : SetupOp) (row : ℕ) (old new : List Cell) (done : I
   cell_of : Point → Cell
   cell_of p = cond (is_in op.area p) op.cell (cell_at front p)
 
-  cell_at-front : (p : Point) → IsOn side p → cell_at front p ≡ get_or old (place_of side p) Empty
+  cell_at-front : (p : Point) → IsOn side p → cell_at front p ≡ get_or old (index_of side p) Empty
   unfolding front
-  cell_at-front p on = get_or-take (side * side) old _ Empty (place_below side p on)
+  cell_at-front p on = get_or-take (side * side) old _ Empty (index_below side p on)
 
-  each_cell : (p : Point) → IsOn side p → get_or new (place_of side p) Empty ≡ cell_of p
+  each_cell : (p : Point) → IsOn side p → get_or new (index_of side p) Empty ≡ cell_of p
   unfolding cell_of
   each_cell p on =
       elim (cases_Bool (is_in op.area p)) [
@@ -161,7 +161,7 @@ module _ (side : ℕ) (op : SetupOp) (row : ℕ) (old new : List Cell) (done : I
       is_map-points cell_of side (take (side * side) new) Empty long
       (λ i h.
       get_or-take (side * side) new i Empty h
-      ∙ ap (λ j. get_or new j Empty) (sym (place_of-point_at side i h))
+      ∙ ap (λ j. get_or new j Empty) (sym (index_of-point_at side i h))
       ∙ each_cell (point_at side i) (IsOn-point_at side i h)) in
       ap (λ (cs : List Cell). record { side = side; cells = cs }) cells
 
@@ -169,7 +169,7 @@ module _ (side : ℕ) (op : SetupOp) (row : ℕ) (old new : List Cell) (done : I
 pub coloured_row : (side : ℕ) (op : SetupOp) (row a k : ℕ) (old new filled : List Cell) → IsColouredTo side op row old new → IsRectOn side op.area → side * side ≤ length new → op.area.first.row ≤ row → row ≤ op.area.last.row → a ≡ row * side + op.area.first.col → k ≡ row * side + op.area.last.col + 1 - a → filled ≡ replicate (length (mid_of a k new)) op.cell → IsColouredTo side op (row + 1) old (put_mid a k new filled)
 coloured_row side op row a k old new filled so_far on_board whole low high starts long is_filled =
     let rows : row * side ≤ op.area.last.row * side = mul-le-mul_right side high in
-    let last : op.area.last.row * side + op.area.last.col < side * side = place_below side op.area.last on_board.1 in
+    let last : op.area.last.row * side + op.area.last.col < side * side = index_below side op.area.last on_board.1 in
     let ends : a + k ≡ row * side + op.area.last.col + 1 = omega (arith, on_board.2) in
     let fits : a + k ≤ length new = omega arith in
     let count : length (mid_of a k new) ≡ k = length-mid a k new fits in

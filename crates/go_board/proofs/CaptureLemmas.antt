@@ -14,9 +14,10 @@ use Rattle.go_board.specs.Point.{IsOn, AreAdjacent}
 use Rattle.go_board.specs.Grid.{Grid, cell_at}
 use Rattle.go_board.specs.Marking.{is_marked}
 use Rattle.go_board.specs.Reaching.{Reaches}
-use Rattle.go_board.specs.Search.{Searched, nothing_found, with_found, AllListed}
-use Rattle.go_board.specs.Flood.{left_of, right_of, above, below, reaches_through, with_neighbours}
-use Rattle.go_board.specs.Groups.{IsDead, is_free, has_liberty}
+use Rattle.go_board.specs.inner.Search.{Searched, nothing_found, with_found, AllListed}
+use Rattle.go_board.specs.inner.Flood.{reaches_through, with_neighbours}
+use Rattle.go_board.specs.inner.Neighbour.{left_of, right_of, above, below}
+use Rattle.go_board.specs.inner.Groups.{IsDead, is_free, has_liberty}
 use Rattle.go_board.proofs.PointLemmas.{origin}
 use Rattle.go_board.proofs.GridLemmas.{Decides-same_cell}
 use Rattle.go_board.proofs.ReachingLemmas.{path_by_step}

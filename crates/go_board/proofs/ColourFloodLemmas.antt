@@ -9,13 +9,14 @@ use Rattle.std.proofs.lemmas.Bool.{false≢true}
 use Rattle.go_board.specs.declared.stones.Cell.{Cell}
 use Rattle.go_board.specs.declared.points.Point.{Point}
 use Rattle.go_board.specs.Colour.{same_cell}
-use Rattle.go_board.specs.Point.{IsOn, AreAdjacent, place_of, points}
+use Rattle.go_board.specs.Point.{IsOn, AreAdjacent, index_of, points}
 use Rattle.go_board.specs.Grid.{Grid, cell_at}
 use Rattle.go_board.specs.Marking.{is_marked}
 use Rattle.go_board.specs.Reaching.{Leads, Reaches}
-use Rattle.go_board.specs.Search.{Searched, nothing_found, with_found}
-use Rattle.go_board.specs.Flood.{below, reaches_through, with_points, with_colour}
-use Rattle.go_board.proofs.PointLemmas.{origin, place_below, point_at-place_of, IsOn-point_at, IsOn-place_below, length-points, get_or-points}
+use Rattle.go_board.specs.inner.Search.{Searched, nothing_found, with_found}
+use Rattle.go_board.specs.inner.Flood.{reaches_through, with_points, with_colour}
+use Rattle.go_board.specs.inner.Neighbour.{below}
+use Rattle.go_board.proofs.PointLemmas.{origin, index_below, point_at-index_of, IsOn-point_at, IsOn-index_below, length-points, get_or-points}
 use Rattle.go_board.proofs.GridLemmas.{Decides-same_cell}
 use Rattle.go_board.proofs.ReachingLemmas.{Leads-on, step_kind, path_by_step}
 use Rattle.go_board.proofs.SearchLemmas.{with_found-new, with_found-old}
@@ -98,11 +99,11 @@ IsUnderWay-with_colour g k =
         in_turn = omega (arith, taken);
       },
       λ p on c.
-          let below = place_below g.side p on in
-          let within : place_of g.side p < length (points g.side) = rw length-points below in
-          let same : get_or (points g.side) (place_of g.side p) origin ≡ p = get_or-points g.side (place_of g.side p) below ∙ point_at-place_of g.side p on in
+          let below = index_below g.side p on in
+          let within : index_of g.side p < length (points g.side) = rw length-points below in
+          let same : get_or (points g.side) (index_of g.side p) origin ≡ p = get_or-points g.side (index_of g.side p) below ∙ point_at-index_of g.side p on in
           subst (λ x. IsTrue (is_marked (with_colour g k).marking x)) same
-          (done.2 (place_of g.side p) within (ap (cell_at g) same ∙ c)),
+          (done.2 (index_of g.side p) within (ap (cell_at g) same ∙ c)),
       taken,
     )
 
@@ -114,18 +115,18 @@ side-cond_found : (b : Bool) (s : Searched) (p : Point) → (cond b (with_found 
 side-cond_found true s p = side-with_found (is_marked s.marking p) s p refl
 side-cond_found false s p = refl
 
-with_points-next : (g : Grid) (k : Cell) (i : ℕ) (p : Point) (s t : Searched) → i < g.side * g.side → place_of g.side p ≡ i → p.col < g.side → t ≡ cond (same_cell (cell_at g p) k) (with_found s p) s → with_points g k (drop i (points g.side)) s ≡ with_points g k (drop (i + 1) (points g.side)) t
+with_points-next : (g : Grid) (k : Cell) (i : ℕ) (p : Point) (s t : Searched) → i < g.side * g.side → index_of g.side p ≡ i → p.col < g.side → t ≡ cond (same_cell (cell_at g p) k) (with_found s p) s → with_points g k (drop i (points g.side)) s ≡ with_points g k (drop (i + 1) (points g.side)) t
 unfolding with_points
 with_points-next g k i p s t below at col is =
-    let on = IsOn-place_below g.side p col (rw at below) in
+    let on = IsOn-index_below g.side p col (rw at below) in
     let within : i < length (points g.side) = rw length-points below in
-    let same : get_or (points g.side) i origin ≡ p = ap (λ j. get_or (points g.side) j origin) (sym at) ∙ get_or-points g.side (place_of g.side p) (place_below g.side p on) ∙ point_at-place_of g.side p on in
+    let same : get_or (points g.side) i origin ≡ p = ap (λ j. get_or (points g.side) j origin) (sym at) ∙ get_or-points g.side (index_of g.side p) (index_below g.side p on) ∙ point_at-index_of g.side p on in
     ap (λ l. with_points g k l s) (drop-cons (points g.side) i origin within ∙ ap (λ q. q ∷ drop (suc i) (points g.side)) same)
     ∙ ap (λ u. with_points g k (drop (suc i) (points g.side)) u) (sym is)
     ∙ ap (λ j. with_points g k (drop j (points g.side)) t) (sym (add-one i))
 
 -- the next point of the grid, found where it has the colour
-pub with_points-step : (g : Grid) (k : Cell) (i : ℕ) (p : Point) (s t : Searched) → i < g.side * g.side → place_of g.side p ≡ i → p.col < g.side → t ≡ cond (same_cell (cell_at g p) k) (with_found s p) s → (with_points g k (drop (i + 1) (points g.side)) t ≡ with_points g k (drop i (points g.side)) s) × (t.marking.side ≡ s.marking.side)
+pub with_points-step : (g : Grid) (k : Cell) (i : ℕ) (p : Point) (s t : Searched) → i < g.side * g.side → index_of g.side p ≡ i → p.col < g.side → t ≡ cond (same_cell (cell_at g p) k) (with_found s p) s → (with_points g k (drop (i + 1) (points g.side)) t ≡ with_points g k (drop i (points g.side)) s) × (t.marking.side ≡ s.marking.side)
 unfolding with_points
 with_points-step g k i p s t below at col is = (sym (with_points-next g k i p s t below at col is), ap (λ u. u.marking.side) is ∙ side-cond_found _ s p)
 

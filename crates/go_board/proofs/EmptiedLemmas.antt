@@ -10,10 +10,10 @@ use Rattle.std.proofs.lemmas.Bool.{true≢false}
 use Rattle.go_board.specs.declared.stones.Cell.TheVariants.{Empty}
 use Rattle.go_board.specs.declared.stones.Colour.{Colour}
 use Rattle.go_board.specs.declared.points.Point.{Point}
-use Rattle.go_board.specs.Point.{IsOn, place_of}
+use Rattle.go_board.specs.Point.{IsOn, index_of}
 use Rattle.go_board.specs.Grid.{Grid, cell_at, with_cell}
 use Rattle.go_board.specs.Marking.{Marking, is_marked}
-use Rattle.go_board.specs.Groups.{IsDead, emptied, LosesDead}
+use Rattle.go_board.specs.inner.Groups.{IsDead, emptied, LosesDead}
 use Rattle.go_board.proofs.PointLemmas.{same_or_not}
 use Rattle.go_board.proofs.GridLemmas.{same_grid, cell_at-with_cell_elsewhere}
 use Rattle.go_board.proofs.GroupLemmas.{LosesDead-group}
@@ -39,7 +39,7 @@ side-emptied g (p ∷ ps) = side-emptied (with_cell g p Empty) ps
 pub length-emptied : (g : Grid) (ps : List Point) → length (emptied g ps).cells ≡ length g.cells
 unfolding emptied
 length-emptied g [] = refl
-length-emptied g (p ∷ ps) = length-emptied (with_cell g p Empty) ps ∙ length-set g.cells (place_of g.side p) Empty
+length-emptied g (p ∷ ps) = length-emptied (with_cell g p Empty) ps ∙ length-set g.cells (index_of g.side p) Empty
 
 -- an emptied place is empty, also behind the end of the list
 set_default : {X : Type 0} (xs : List X) (i : ℕ) (d : X) → get_or (set xs i d) i d ≡ d
@@ -48,7 +48,7 @@ set_default (x ∷ xs) zero d = refl
 set_default (x ∷ xs) (suc i) d = set_default xs i d
 
 cell_at-emptied : (g : Grid) (p : Point) → cell_at (with_cell g p Empty) p ≡ Empty
-cell_at-emptied g p = set_default g.cells (place_of g.side p) Empty
+cell_at-emptied g p = set_default g.cells (index_of g.side p) Empty
 
 module _ (p : Point) where
   -- an empty point stays empty

@@ -7,7 +7,7 @@ use Rattle.std.proofs.Math.Nat.{mul-le-mul_right}
 use Rattle.go_board.specs.declared.stones.Cell.{Cell}
 use Rattle.go_board.specs.Grid.{Grid}
 use Rattle.go_board.specs.Past.{Held, present_stretch}
-use Rattle.go_board.specs.Entries.{entry, entries}
+use Rattle.go_board.specs.inner.Entries.{entry, entries}
 
 -- a list has its first element, what the rest has, and nothing else
 pub Contains-later : {X : Type 0} (x y : X) (xs : List X) → Contains xs y → Contains (x ∷ xs) y
@@ -46,21 +46,21 @@ module _ (side points : ℕ) (square : points ≡ side * side) (all : List Cell)
   abbrev pub cells_at : ℕ → List Cell
   cells_at n = slice_range all (n * points) ((n + 1) * points)
 
-  at_place : (n : ℕ) → (entry side all marks n).colouring ≡ record { side = side; cells = cells_at n }
-  at_place n = rw square refl
+  at_index : (n : ℕ) → (entry side all marks n).colouring ≡ record { side = side; cells = cells_at n }
+  at_index n = rw square refl
 
   pub Has-none : (i : ℕ) → i ≡ 0 → Has side all marks cells i → ⊥
   Has-none i e h = Contains-none _ (rw e at h)
 
   pub Has-found : (i n : ℕ) → i ≡ suc n → cells_at n ≡ cells → Has side all marks cells i
-  Has-found i n e same = rw e (0, omega arith, at_place n ∙ ap (with_cells side) same)
+  Has-found i n e same = rw e (0, omega arith, at_index n ∙ ap (with_cells side) same)
 
   pub Has-more : (i n : ℕ) → i ≡ suc n → slice_index_or marks n false ≡ false → Has side all marks cells n → Has side all marks cells i
   Has-more i n e on h = rw e (going_on _ _ (slice_index_or marks n false) _ on h)
 
   pub Has-cases : (i n : ℕ) → i ≡ suc n → cells_at n ≢ cells → Has side all marks cells i → (slice_index_or marks n false ≡ false) × Has side all marks cells n
   Has-cases i n e other h =
-      only_later _ _ (slice_index_or marks n false) _ (λ same. other (same_cells side _ _ (sym (at_place n) ∙ same))) (rw e at h)
+      only_later _ _ (slice_index_or marks n false) _ (λ same. other (same_cells side _ _ (sym (at_index n) ∙ same))) (rw e at h)
 
 -- Adding a colouring behind the others.
 

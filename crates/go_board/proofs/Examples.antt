@@ -8,7 +8,8 @@ use Rattle.go_board.specs.Grid.{Grid, empty_grid}
 use Rattle.go_board.specs.Reaching.{reaches, reaching_within, spread}
 use Rattle.go_board.specs.Clearing.{clear, play, cleared_cell, has_unreaching}
 use Rattle.go_board.specs.Score.{score_of, counts_for}
-use Rattle.go_board.specs.Values.{point_value, rect_value, vertex_of}
+use Rattle.go_board.specs.Values.{point_value, rect_value}
+use Rattle.go_board.specs.Vertex.{vertex_of}
 
 -- a black stone in the corner between two white ones
 corner : Grid

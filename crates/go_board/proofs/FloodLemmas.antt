@@ -6,12 +6,13 @@ use Rattle.std.proofs.lemmas.Bool.{false≢true}
 use Rattle.std.proofs.lemmas.Bool.Decides.{Decides-or}
 use Rattle.go_board.specs.declared.stones.Cell.{Cell}
 use Rattle.go_board.specs.declared.points.Point.{Point}
-use Rattle.go_board.specs.Point.{IsOn, AreAdjacent, place_of}
+use Rattle.go_board.specs.Point.{IsOn, AreAdjacent, index_of}
 use Rattle.go_board.specs.Grid.{Grid, cell_at}
 use Rattle.go_board.specs.Marking.{is_marked}
-use Rattle.go_board.specs.Search.{Searched, nothing_found, with_mark, with_found}
-use Rattle.go_board.specs.Flood.{left_of, right_of, above, below, reaches_through, with_neighbour, with_neighbours}
-use Rattle.go_board.proofs.PointLemmas.{origin, place_of-injective}
+use Rattle.go_board.specs.inner.Search.{Searched, nothing_found, with_mark, with_found}
+use Rattle.go_board.specs.inner.Flood.{reaches_through, with_neighbour, with_neighbours}
+use Rattle.go_board.specs.inner.Neighbour.{left_of, right_of, above, below}
+use Rattle.go_board.proofs.PointLemmas.{origin, index_of-injective}
 use Rattle.go_board.proofs.GridLemmas.{get_or-replicate_default, Decides-same_cell}
 use Rattle.go_board.proofs.SearchLemmas.{is_marked-with_mark, is_marked-with_mark_keeps, with_found-new, with_found-old}
 use Rattle.go_board.proofs.NeighbourLemmas.{IsNeighbour, IsNeighbour-adjacent, AllNeighbour, left-neighbour, right-neighbour, above-neighbour, below-neighbour}
@@ -82,8 +83,8 @@ module _ (g : Grid) (What : Point → Type 0) (s : Searched) (p : Point) (flood 
   -- a point marked now is that one, or was marked
   marked_next : (q : Point) → IsOn g.side q → IsTrue (is_marked next.marking q) → (p ≡ q) ⊎ IsTrue (is_marked s.marking q)
   marked_next q at h =
-      elim (set_only s.marking.marks (place_of s.marking.side p) (place_of s.marking.side q) h)
-      [ inl e ↦ inl (place_of-injective s.marking.side p q (on_side p on) (on_side q at) e) | inr before ↦ inr before ]
+      elim (set_only s.marking.marks (index_of s.marking.side p) (index_of s.marking.side q) h)
+      [ inl e ↦ inl (index_of-injective s.marking.side p q (on_side p on) (on_side q at) e) | inr before ↦ inr before ]
 
   Listed : Searched → Point → Type 0
   Listed t q = (i : ℕ) × (i < length t.found) × (get_or t.found i origin ≡ q)
@@ -101,7 +102,7 @@ module _ (g : Grid) (What : Point → Type 0) (s : Searched) (p : Point) (flood 
   unfolding Listed
   IsFlood-next way = record {
     same_side = flood.same_side;
-    all_marks = length-set s.marking.marks (place_of s.marking.side p) true ∙ flood.all_marks;
+    all_marks = length-set s.marking.marks (index_of s.marking.side p) true ∙ flood.all_marks;
     holds = λ q at h.
         elim (marked_next q at h)
         [ inl e ↦ subst What e way | inr before ↦ flood.holds q at before ];
@@ -142,8 +143,8 @@ pub IsFlood-nothing_found : (g : Grid) (What : Point → Type 0) → IsFlood g W
 IsFlood-nothing_found g What = record {
   same_side = refl;
   all_marks = length-replicate (g.side * g.side) false;
-  holds = λ p on h. absurd (false≢true (sym (get_or-replicate_default (g.side * g.side) (place_of g.side p) false) ∙ h));
-  listed = λ p on h. absurd (false≢true (sym (get_or-replicate_default (g.side * g.side) (place_of g.side p) false) ∙ h));
+  holds = λ p on h. absurd (false≢true (sym (get_or-replicate_default (g.side * g.side) (index_of g.side p) false) ∙ h));
+  listed = λ p on h. absurd (false≢true (sym (get_or-replicate_default (g.side * g.side) (index_of g.side p) false) ∙ h));
 }
 
 pub Decides-reaches_through : (g : Grid) (k : Cell) (p q : Point) → Decides (reaches_through g k p q) ((cell_at g p ≡ k) ⊎ (cell_at g q ≡ cell_at g p))

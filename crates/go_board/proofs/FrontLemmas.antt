@@ -5,7 +5,7 @@ use Rattle.std.proofs.Math.Seq.{take-set-lt}
 use Rattle.std.proofs.lemmas.List.{take-replicate, length-take-le}
 use Rattle.go_board.specs.declared.stones.Cell.{Cell}
 use Rattle.go_board.specs.declared.points.Point.{Point}
-use Rattle.go_board.specs.Point.{place_of}
+use Rattle.go_board.specs.Point.{index_of}
 use Rattle.go_board.specs.Grid.{Grid, with_cell, empty_grid}
 use Rattle.go_board.specs.declared.stones.Cell.TheVariants.{Empty}
 
@@ -13,7 +13,7 @@ use Rattle.go_board.specs.declared.stones.Cell.TheVariants.{Empty}
 abbrev pub grid_in : ℕ → List Cell → Grid
 grid_in side cells = record { side = side; cells = take (side * side) cells }
 
-pub grid_in-set : (side : ℕ) (cells : List Cell) (g : Grid) (p : Point) (c : Cell) (i : ℕ) → grid_in side cells ≡ g → i ≡ place_of side p → i < side * side → grid_in side (set cells i c) ≡ with_cell g p c
+pub grid_in-set : (side : ℕ) (cells : List Cell) (g : Grid) (p : Point) (c : Cell) (i : ℕ) → grid_in side cells ≡ g → i ≡ index_of side p → i < side * side → grid_in side (set cells i c) ≡ with_cell g p c
 grid_in-set side cells g p c i is at below =
     ap (λ l. record { side = side; cells = l }) (take-set-lt (side * side) cells i c below)
     ∙ ap (λ j. record { side = side; cells = set (take (side * side) cells) j c }) at

@@ -10,10 +10,10 @@ use Rattle.go_board.specs.declared.stones.Cell.{Cell}
 use Rattle.go_board.specs.declared.stones.Cell.TheVariants.{Black, White, Empty}
 use Rattle.go_board.specs.declared.points.Point.{Point}
 use Rattle.go_board.specs.Colour.{same_cell}
-use Rattle.go_board.specs.Point.{IsOn, place_of, points}
+use Rattle.go_board.specs.Point.{IsOn, index_of, points}
 use Rattle.go_board.specs.Grid.{Grid, cell_at, with_cell, grid_of}
 use Rattle.go_board.specs.Marking.{is_marked, marking_of}
-use Rattle.go_board.proofs.PointLemmas.{place_below, place_of-injective, length-points, get_or-map-points}
+use Rattle.go_board.proofs.PointLemmas.{index_below, index_of-injective, length-points, get_or-map-points}
 
 pub Decides-same_cell : (a b : Cell) → Decides (same_cell a b) (a ≡ b)
 Decides-same_cell Black Black = (λ _. refl, λ _. refl)
@@ -39,8 +39,8 @@ Decides-cell_eq Empty Black = (λ h. cc, λ h. cc)
 Decides-cell_eq Empty White = (λ h. cc, λ h. cc)
 
 -- a cell of a list as long as the grid, read with any default
-pub cell_at-place : (g : Grid) (cells : List Cell) (i : ℕ) (d : Cell) (p : Point) → cells ≡ g.cells → i < length cells → place_of g.side p ≡ i → get_or cells i d ≡ cell_at g p
-cell_at-place g cells i d p same within at =
+pub cell_at-index : (g : Grid) (cells : List Cell) (i : ℕ) (d : Cell) (p : Point) → cells ≡ g.cells → i < length cells → index_of g.side p ≡ i → get_or cells i d ≡ cell_at g p
+cell_at-index g cells i d p same within at =
     get_or_default cells i d Empty within ∙ ap (λ l. get_or l i Empty) same ∙ ap (λ j. get_or g.cells j Empty) (sym at)
 
 -- `==` on two cells is the test of the definitions
@@ -76,12 +76,12 @@ length-marking_of side test = length-map (points side) test ∙ length-points si
 
 pub cell_at-with_cell : (g : Grid) (p : Point) (c : Cell) → IsOn g.side p → length g.cells ≡ g.side * g.side → cell_at (with_cell g p c) p ≡ c
 cell_at-with_cell g p c h all =
-    let below : place_of g.side p < length g.cells = rw all (place_below g.side p h) in
-    get_or-set_same g.cells (place_of g.side p) c Empty below
+    let below : index_of g.side p < length g.cells = rw all (index_below g.side p h) in
+    get_or-set_same g.cells (index_of g.side p) c Empty below
 
 pub cell_at-with_cell_elsewhere : (g : Grid) (p q : Point) (c : Cell) → IsOn g.side p → IsOn g.side q → q ≢ p → cell_at (with_cell g p c) q ≡ cell_at g q
 cell_at-with_cell_elsewhere g p q c hp hq other =
-    get_or-set_other g.cells (place_of g.side p) (place_of g.side q) c Empty (λ e. other (place_of-injective g.side q p hq hp e))
+    get_or-set_other g.cells (index_of g.side p) (index_of g.side q) c Empty (λ e. other (index_of-injective g.side q p hq hp e))
 
 -- a list of one value, read with that value for what is behind its end
 pub get_or-replicate_default : {X : Type 0} (n i : ℕ) (d : X) → get_or (replicate n d) i d ≡ d

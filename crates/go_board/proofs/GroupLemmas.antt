@@ -14,8 +14,8 @@ use Rattle.go_board.specs.Point.{IsOn, points, point_at}
 use Rattle.go_board.specs.Grid.{Grid, cell_at, grid_of}
 use Rattle.go_board.specs.Reaching.{Leads, Reaches, reaches}
 use Rattle.go_board.specs.Clearing.{cleared_cell, clear}
-use Rattle.go_board.specs.Groups.{IsDead, LosesDead}
-use Rattle.go_board.proofs.PointLemmas.{is_map-points, length-points, get_or-map-points, place_of-point_at, IsOn-point_at}
+use Rattle.go_board.specs.inner.Groups.{IsDead, LosesDead}
+use Rattle.go_board.proofs.PointLemmas.{is_map-points, length-points, get_or-map-points, index_of-point_at, IsOn-point_at}
 use Rattle.go_board.proofs.GridLemmas.{Decides-same_cell}
 use Rattle.go_board.proofs.NeighbourLemmas.{AreAdjacent-sym}
 use Rattle.go_board.proofs.ReachingLemmas.{Leads-on, Leads-next, Decides-reaches}
@@ -43,7 +43,7 @@ grid_of-same side f h each =
     (is_map-points h side (map f (points side)) Empty (length-map (points side) f ∙ length-points side)
     (λ i below.
     let on = IsOn-point_at side i below in
-    ap (λ j. get_or (map f (points side)) j Empty) (sym (place_of-point_at side i below))
+    ap (λ j. get_or (map f (points side)) j Empty) (sym (index_of-point_at side i below))
     ∙ get_or-map-points f side (point_at side i) Empty on ∙ each (point_at side i) on))
 
 -- a grid made by a function that reads another grid is that grid
@@ -53,7 +53,7 @@ grid_of-cells g f all each =
     (sym (is_map-points f g.side g.cells Empty all
     (λ i below.
     let on = IsOn-point_at g.side i below in
-    ap (λ j. get_or g.cells j Empty) (sym (place_of-point_at g.side i below)) ∙ sym (each (point_at g.side i) on))))
+    ap (λ j. get_or g.cells j Empty) (sym (index_of-point_at g.side i below)) ∙ sym (each (point_at g.side i) on))))
 
 module _ (g : Grid) (k : Colour) (dead : Point → Bool) (group : IsDead g k dead) where
   -- no path leads from a group without a liberty to an empty point

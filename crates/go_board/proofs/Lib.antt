@@ -16,6 +16,6 @@ pub mod FloodLemmas
 pub mod ColourFloodLemmas
 pub mod SweepLemmas
 pub mod EntryLemmas
-pub mod RecordLemmas
+pub mod EarlierLemmas
 pub mod AreaLemmas
 pub mod TurnLemmas

@@ -10,12 +10,12 @@ use Rattle.go_board.specs.declared.stones.Colour.{Colour}
 use Rattle.go_board.specs.declared.stones.Colour.TheVariants.{Black, White}
 use Rattle.go_board.specs.declared.points.Point.{Point}
 use Rattle.go_board.specs.Colour.{opponent, stone_of}
-use Rattle.go_board.specs.Point.{IsOn, AreAdjacent, place_of}
+use Rattle.go_board.specs.Point.{IsOn, AreAdjacent, index_of}
 use Rattle.go_board.specs.Grid.{Grid, cell_at, with_cell}
 use Rattle.go_board.specs.Reaching.{Leads, Reaches}
 use Rattle.go_board.specs.Clearing.{clear, play, has_unreaching}
-use Rattle.go_board.specs.Flood.{left_of, right_of, above, below}
-use Rattle.go_board.specs.Groups.{AllReach, ReachBeside, ReachesIfStone, LosesDead}
+use Rattle.go_board.specs.inner.Neighbour.{left_of, right_of, above, below}
+use Rattle.go_board.specs.inner.Groups.{AllReach, ReachBeside, ReachesIfStone, LosesDead}
 use Rattle.go_board.proofs.PointLemmas.{same_or_not}
 use Rattle.go_board.proofs.GridLemmas.{same_grid, cell_at-with_cell, cell_at-with_cell_elsewhere}
 use Rattle.go_board.proofs.ReachingLemmas.{Leads-on, Leads-next, path_by_step}
@@ -119,7 +119,7 @@ module _ (g : Grid) (p : Point) (k : Colour) (on : IsOn g.side p) (all : length 
 
     length-after : length after.cells ≡ g.side * g.side
     unfolding after
-    length-after = first.all ∙ length-set g.cells (place_of g.side p) (stone_of k) ∙ all
+    length-after = first.all ∙ length-set g.cells (index_of g.side p) (stone_of k) ∙ all
 
     -- the stone is still there
     stone_stays : cell_at after p ≡ stone_of k

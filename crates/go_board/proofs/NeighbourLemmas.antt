@@ -4,7 +4,7 @@ use Rattle.std.proofs.Common.{◌≡◌, ◌⊎◌, inl, inr, ℕ, ◌+◌, ◌-
 use Rattle.std.proofs.lemmas.Bool.Decides.{Decides-ltb}
 use Rattle.go_board.specs.declared.points.Point.{Point}
 use Rattle.go_board.specs.Point.{IsOn, AreAdjacent}
-use Rattle.go_board.specs.Flood.{left_of, right_of, above, below}
+use Rattle.go_board.specs.inner.Neighbour.{left_of, right_of, above, below}
 
 pub AreAdjacent-sym : (p q : Point) → AreAdjacent p q → AreAdjacent q p
 AreAdjacent-sym p q (inl (e, inl d)) = inl (sym e, inr d)

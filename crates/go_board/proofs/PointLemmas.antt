@@ -9,27 +9,27 @@ use Rattle.std.proofs.lemmas.List.Folds.{list_any_at}
 use Rattle.std.proofs.lemmas.Bool.{false≢true, cases_eq}
 use Rattle.std.proofs.lemmas.Bool.Decides.{Decides-eqb, Decides-and, Decides-or}
 use Rattle.go_board.specs.declared.points.Point.{Point}
-use Rattle.go_board.specs.Point.{IsOn, AreAdjacent, are_adjacent, place_of, point_at, points}
+use Rattle.go_board.specs.Point.{IsOn, AreAdjacent, are_adjacent, index_of, point_at, points}
 
 -- the upper left corner
 abbrev pub origin : Point
 origin = record { col = 0; row = 0 }
 
-pub place_below : (side : ℕ) (p : Point) → IsOn side p → place_of side p < side * side
-place_below side p h = mul-add-lt p.row side p.col side h.1 h.0
+pub index_below : (side : ℕ) (p : Point) → IsOn side p → index_of side p < side * side
+index_below side p h = mul-add-lt p.row side p.col side h.1 h.0
 
 same_point : (a b c d : ℕ) → a ≡ c → b ≡ d → ◌≡◌ {A = Point} (record { col = a; row = b }) (record { col = c; row = d })
 same_point a b c d e f = cc
 
 -- the point at a point's place is that point
-pub point_at-place_of : (side : ℕ) (p : Point) → IsOn side p → point_at side (place_of side p) ≡ p
-point_at-place_of side p h =
+pub point_at-index_of : (side : ℕ) (p : Point) → IsOn side p → point_at side (index_of side p) ≡ p
+point_at-index_of side p h =
     same_point _ _ p.col p.row (mod-mul-add p.row side p.col h.0) (div-mul-add p.row side p.col h.0)
 
 -- two points of the grid with one place are one
-pub place_of-injective : (side : ℕ) (p q : Point) → IsOn side p → IsOn side q → place_of side p ≡ place_of side q → p ≡ q
-place_of-injective side p q hp hq e =
-    sym (point_at-place_of side p hp) ∙ ap (point_at side) e ∙ point_at-place_of side q hq
+pub index_of-injective : (side : ℕ) (p q : Point) → IsOn side p → IsOn side q → index_of side p ≡ index_of side q → p ≡ q
+index_of-injective side p q hp hq e =
+    sym (point_at-index_of side p hp) ∙ ap (point_at side) e ∙ point_at-index_of side q hq
 
 pub above_zero : (side i : ℕ) → i < side * side → 0 < side
 above_zero zero i h = absurd (omega arith)
@@ -39,13 +39,13 @@ above_zero (suc n) i h = omega arith
 pub IsOn-point_at : (side i : ℕ) → i < side * side → IsOn side (point_at side i)
 IsOn-point_at side i h = let positive = above_zero side i h in (omega arith, grind (arith, rows))
 
-pub place_of-point_at : (side i : ℕ) → i < side * side → place_of side (point_at side i) ≡ i
-place_of-point_at side i h = let positive = above_zero side i h in omega arith
+pub index_of-point_at : (side i : ℕ) → i < side * side → index_of side (point_at side i) ≡ i
+index_of-point_at side i h = let positive = above_zero side i h in omega arith
 
 -- a point whose column and place are on the grid is on it
-pub IsOn-place_below : (side : ℕ) (p : Point) → p.col < side → place_of side p < side * side → IsOn side p
-IsOn-place_below side p col below =
-    let in_row = (IsOn-point_at side (place_of side p) below).1 in
+pub IsOn-index_below : (side : ℕ) (p : Point) → p.col < side → index_of side p < side * side → IsOn side p
+IsOn-index_below side p col below =
+    let in_row = (IsOn-point_at side (index_of side p) below).1 in
     let same = div-mul-add p.row side p.col col in
     (col, omega (arith, in_row, same))
 
@@ -58,11 +58,11 @@ unfolding points
 get_or-points side i h = get_or-map-range_with_len (point_at side) 0 (side * side) i i origin h (omega arith)
 
 -- a function of the points, in a list, read at a point's place
-pub get_or-map-points : {X : Type 0} (f : Point → X) (side : ℕ) (p : Point) (d : X) → IsOn side p → get_or (map f (points side)) (place_of side p) d ≡ f p
+pub get_or-map-points : {X : Type 0} (f : Point → X) (side : ℕ) (p : Point) (d : X) → IsOn side p → get_or (map f (points side)) (index_of side p) d ≡ f p
 get_or-map-points f side p d h =
-    let below : place_of side p < length (points side) = rw length-points (place_below side p h) in
-    get_or-map f (points side) (place_of side p) origin d below
-    ∙ ap f (get_or-points side (place_of side p) (place_below side p h) ∙ point_at-place_of side p h)
+    let below : index_of side p < length (points side) = rw length-points (index_below side p h) in
+    get_or-map f (points side) (index_of side p) origin d below
+    ∙ ap f (get_or-points side (index_of side p) (index_below side p h) ∙ point_at-index_of side p h)
 
 -- a list as long as the grid is that of a function of the points which it is at each place
 pub is_map-points : {X : Type 0} (f : Point → X) (side : ℕ) (xs : List X) (d : X) → length xs ≡ side * side → ((i : ℕ) → i < side * side → get_or xs i d ≡ f (point_at side i)) → xs ≡ map f (points side)
@@ -96,10 +96,10 @@ Decides-some_point side test P each = (
       let on = IsOn-point_at side found.0 below in
       (point_at side found.0, on, (each _ on).0 (ap test (sym (get_or-points side found.0 below)) ∙ found.2)),
   λ w.
-      let below = place_below side w.0 w.1 in
-      let within : place_of side w.0 < length (points side) = rw length-points below in
-      list_any_at test (points side) (place_of side w.0) origin within
-      (ap test (get_or-points side _ below ∙ point_at-place_of side w.0 w.1) ∙ (each w.0 w.1).1 w.2),
+      let below = index_below side w.0 w.1 in
+      let within : index_of side w.0 < length (points side) = rw length-points below in
+      list_any_at test (points side) (index_of side w.0) origin within
+      (ap test (get_or-points side _ below ∙ point_at-index_of side w.0 w.1) ∙ (each w.0 w.1).1 w.2),
 )
 
 pub Decides-are_adjacent : (p q : Point) → Decides (are_adjacent p q) (AreAdjacent p q)
@@ -121,15 +121,15 @@ same_or_not p q =
 
 -- a point at a place of a list that goes row by row; behind its end, only the place is known
 pub record IsAt (side place : ℕ) (p : Point) : Type 0 where
-  pub at_place : place_of side p ≡ place
+  pub at_index : index_of side p ≡ place
   pub in_columns : place < side * side → p.col < side
 
 pub IsAt-first : (side : ℕ) → IsAt side 0 origin
-IsAt-first side = record { at_place = omega arith; in_columns = λ h. above_zero side 0 h }
+IsAt-first side = record { at_index = omega arith; in_columns = λ h. above_zero side 0 h }
 
 pub IsAt-on : (side i : ℕ) (p : Point) → IsAt side i p → i < side * side → IsOn side p
-IsAt-on side i p at below = IsOn-place_below side p (at.in_columns below) (rw at.at_place below)
+IsAt-on side i p at below = IsOn-index_below side p (at.in_columns below) (rw at.at_index below)
 
-pub IsAt-next : (side i : ℕ) (p q : Point) → IsAt side i p → place_of side q ≡ place_of side p + 1 → q.col < side → IsAt side (i + 1) q
+pub IsAt-next : (side i : ℕ) (p q : Point) → IsAt side i p → index_of side q ≡ index_of side p + 1 → q.col < side → IsAt side (i + 1) q
 IsAt-next side i p q at next column =
-    record { at_place = next ∙ ap (λ n. n + 1) at.at_place; in_columns = λ _. column }
+    record { at_index = next ∙ ap (λ n. n + 1) at.at_index; in_columns = λ _. column }

@@ -6,11 +6,11 @@ use Rattle.std.proofs.lemmas.Bool.Decides.{Decides-and, Decides-or, Decides-at, 
 use Rattle.go_board.specs.declared.stones.Cell.{Cell}
 use Rattle.go_board.specs.declared.points.Point.{Point}
 use Rattle.go_board.specs.Colour.{same_cell}
-use Rattle.go_board.specs.Point.{IsOn, AreAdjacent, place_of, point_at}
+use Rattle.go_board.specs.Point.{IsOn, AreAdjacent, index_of, point_at}
 use Rattle.go_board.specs.Grid.{Grid, cell_at}
 use Rattle.go_board.specs.Marking.{Marking, is_marked}
 use Rattle.go_board.specs.Reaching.{Leads, Reaches, leads_on, spread, reaching_within, reaches}
-use Rattle.go_board.proofs.PointLemmas.{Decides-some_point, Decides-are_adjacent, place_of-point_at, IsOn-point_at}
+use Rattle.go_board.proofs.PointLemmas.{Decides-some_point, Decides-are_adjacent, index_of-point_at, IsOn-point_at}
 use Rattle.go_board.proofs.GridLemmas.{Decides-same_cell, is_marked-marking_of, length-marking_of}
 
 -- p reaches the colour k in at most n steps
@@ -114,11 +114,11 @@ module _ (g : Grid) (k : Cell) where
   length-marks_after zero = length-marking_of g.side _
   length-marks_after (suc n) = length-marking_of g.side _
 
-  at_place : (n i : ℕ) → i < g.side * g.side → is_marked (reaching_within g k n) (point_at g.side i) ≡ get_or (marks_after n) i false
+  at_index : (n i : ℕ) → i < g.side * g.side → is_marked (reaching_within g k n) (point_at g.side i) ≡ get_or (marks_after n) i false
   unfolding marks_after
-  at_place n i h =
+  at_index n i h =
       ap (λ j. get_or (marks_after n) j false)
-      (ap (λ s. place_of s (point_at g.side i)) (side_after n) ∙ place_of-point_at g.side i h)
+      (ap (λ s. index_of s (point_at g.side i)) (side_after n) ∙ index_of-point_at g.side i h)
 
   -- a mark stays, at each place
   round_adds : (n : ℕ) → IsWithin (marks_after n) (marks_after (suc n))
@@ -127,9 +127,9 @@ module _ (g : Grid) (k : Cell) where
       let below : i < g.side * g.side = rw (← length-marks_after n) b in
       let on = IsOn-point_at g.side i below in
       let p = point_at g.side i in
-      sym (at_place (suc n) i below)
+      sym (at_index (suc n) i below)
       ∙ (Decides-reaching_within g k (suc n) p on).1
-      (inl ((Decides-reaching_within g k n p on).0 (at_place n i below ∙ h)))
+      (inl ((Decides-reaching_within g k n p on).0 (at_index n i below ∙ h)))
 
   -- a round that adds nothing, or more marks than rounds
   Settles : ℕ → Type 0

@@ -6,11 +6,11 @@ use Rattle.std.proofs.lemmas.Bool.{cases_eq}
 use Rattle.std.proofs.lemmas.Nat.Bits.{bit_at-zero, shr_and_one, bit_at_set_same, bit_at_set_other}
 use Rattle.std.proofs.lemmas.List.{length-map, length-set, length-replicate, get_or-set_same, get_or-set_other}
 use Rattle.go_board.specs.declared.points.Point.{Point}
-use Rattle.go_board.specs.Point.{IsOn, place_of, point_at, points}
+use Rattle.go_board.specs.Point.{IsOn, index_of, point_at, points}
 use Rattle.go_board.specs.Marking.{is_marked, marking_of}
-use Rattle.go_board.specs.Rows.{is_set}
-use Rattle.go_board.specs.Search.{no_marks, with_mark}
-use Rattle.go_board.proofs.PointLemmas.{length-points, get_or-map-points, is_map-points, IsOn-point_at, place_of-point_at, point_at-place_of, place_below}
+use Rattle.go_board.specs.inner.Rows.{is_set}
+use Rattle.go_board.specs.inner.Search.{no_marks, with_mark}
+use Rattle.go_board.proofs.PointLemmas.{length-points, get_or-map-points, is_map-points, IsOn-point_at, index_of-point_at, point_at-index_of, index_below}
 use Rattle.go_board.proofs.GridLemmas.{get_or-replicate_default, is_marked-marking_of}
 
 -- with no bit set no point is marked
@@ -50,25 +50,25 @@ pub rows-with_bit : (side : ℕ) (rows : List ℕ) (p : Point) → side ≤ leng
 rows-with_bit side rows p fits low on =
     let old = map (is_set rows) (points side) in
     let all : length old ≡ side * side = length-map (points side) (is_set rows) ∙ length-points side in
-    let below : place_of side p < length old = rw all (place_below side p on) in
+    let below : index_of side p < length old = rw all (index_below side p on) in
     let within : p.row < length rows = omega (arith, on.1, fits) in
     let column : p.col < 64 = omega (arith, on.0, low) in
     ap (λ l. record { side = side; marks = l })
-    (sym (is_map-points (is_set (with_bit rows p)) side (set old (place_of side p) true) false (length-set old (place_of side p) true ∙ all)
+    (sym (is_map-points (is_set (with_bit rows p)) side (set old (index_of side p) true) false (length-set old (index_of side p) true ∙ all)
     (λ i h.
     let q = point_at side i in
     let at = IsOn-point_at side i h in
-    elim (cases_eq i (place_of side p)) [
+    elim (cases_eq i (index_of side p)) [
       | inl same ↦
-          ap (λ j. get_or (set old (place_of side p) true) j false) same
-          ∙ get_or-set_same old (place_of side p) true false below
-          ∙ sym (ap (λ j. is_set (with_bit rows p) (point_at side j)) same ∙ ap (is_set (with_bit rows p)) (point_at-place_of side p on)
+          ap (λ j. get_or (set old (index_of side p) true) j false) same
+          ∙ get_or-set_same old (index_of side p) true false below
+          ∙ sym (ap (λ j. is_set (with_bit rows p) (point_at side j)) same ∙ ap (is_set (with_bit rows p)) (point_at-index_of side p on)
           ∙ is_set-same rows p within column)
       | inr other ↦
-          get_or-set_other old (place_of side p) i true false other
-          ∙ ap (λ j. get_or old j false) (sym (place_of-point_at side i h))
+          get_or-set_other old (index_of side p) i true false other
+          ∙ ap (λ j. get_or old j false) (sym (index_of-point_at side i h))
           ∙ get_or-map-points (is_set rows) side q false at
-          ∙ sym (is_set-other rows p q within column (λ e. other (sym (place_of-point_at side i h) ∙ ap (place_of side) e)))
+          ∙ sym (is_set-other rows p q within column (λ e. other (sym (index_of-point_at side i h) ∙ ap (index_of side) e)))
     ])))
 
 -- reading a bit

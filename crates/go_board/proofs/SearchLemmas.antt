@@ -5,10 +5,10 @@ use Rattle.std.proofs.lemmas.List.{get_or-set_same, length-set, length_push, tak
 use Rattle.std.proofs.lemmas.List.Elements.{All-push, All-get_or, All-from_get_or}
 use Rattle.std.proofs.lemmas.List.Sums.{sum_by-set, count_by-le-length}
 use Rattle.go_board.specs.declared.points.Point.{Point}
-use Rattle.go_board.specs.Point.{IsOn, place_of}
+use Rattle.go_board.specs.Point.{IsOn, index_of}
 use Rattle.go_board.specs.Marking.{Marking, is_marked, marked_count}
-use Rattle.go_board.specs.Search.{Searched, with_mark, with_found, IsSound, HasRoom}
-use Rattle.go_board.proofs.PointLemmas.{origin, place_below}
+use Rattle.go_board.specs.inner.Search.{Searched, with_mark, with_found, IsSound, HasRoom}
+use Rattle.go_board.proofs.PointLemmas.{origin, index_below}
 
 -- a mark that is set stays so
 set_keeps : (xs : List Bool) (i j : ℕ) → get_or xs j false ≡ true → get_or (set xs i true) j false ≡ true
@@ -19,24 +19,24 @@ set_keeps (x ∷ xs) (suc i) zero h = h
 set_keeps (x ∷ xs) (suc i) (suc j) h = set_keeps xs i j h
 
 pub is_marked-with_mark_keeps : (m : Marking) (p q : Point) → IsTrue (is_marked m q) → IsTrue (is_marked (with_mark m p) q)
-is_marked-with_mark_keeps m p q h = set_keeps m.marks (place_of m.side p) (place_of m.side q) h
+is_marked-with_mark_keeps m p q h = set_keeps m.marks (index_of m.side p) (index_of m.side q) h
 
 pub is_marked-with_mark : (m : Marking) (p : Point) → length m.marks ≡ m.side * m.side → IsOn m.side p → IsTrue (is_marked (with_mark m p) p)
 is_marked-with_mark m p all on =
-    let below : place_of m.side p < length m.marks = rw all (place_below m.side p on) in
-    get_or-set_same m.marks (place_of m.side p) true false below
+    let below : index_of m.side p < length m.marks = rw all (index_below m.side p on) in
+    get_or-set_same m.marks (index_of m.side p) true false below
 
 -- one more is marked
 marked_count-with_mark : (m : Marking) (p : Point) → length m.marks ≡ m.side * m.side → IsOn m.side p → is_marked m p ≡ false → marked_count (with_mark m p) ≡ marked_count m + 1
 marked_count-with_mark m p all on not_yet =
-    let below : place_of m.side p < length m.marks = rw all (place_below m.side p on) in
-    let changed = sum_by-set (λ b. cond b 1 0) m.marks (place_of m.side p) true false below in
+    let below : index_of m.side p < length m.marks = rw all (index_below m.side p on) in
+    let changed = sum_by-set (λ b. cond b 1 0) m.marks (index_of m.side p) true false below in
     let here = ap (λ b. cond {A = ℕ} b 1 0) not_yet in
     omega (arith, changed, here)
 
 pub IsSound-with_mark : (s : Searched) (p : Point) → IsSound s → IsOn s.marking.side p → is_marked s.marking p ≡ false → IsSound (record { marking = with_mark s.marking p; found = s.found ++ p ∷ []; taken = s.taken })
 IsSound-with_mark s p sound on not_yet = record {
-  all_marks = length-set s.marking.marks (place_of s.marking.side p) true ∙ sound.all_marks;
+  all_marks = length-set s.marking.marks (index_of s.marking.side p) true ∙ sound.all_marks;
   counted =
       marked_count-with_mark s.marking p sound.all_marks on not_yet
       ∙ ap (λ n. n + 1) sound.counted ∙ sym (length_push s.found p);
@@ -59,7 +59,7 @@ room s p sound on not_yet =
       marked_count-with_mark s.marking p sound.all_marks on not_yet,
       sound.counted,
       sound.all_marks,
-      length-set s.marking.marks (place_of s.marking.side p) true,
+      length-set s.marking.marks (index_of s.marking.side p) true,
       count_by-le-length (λ b. b) (with_mark s.marking p).marks,
     )
 

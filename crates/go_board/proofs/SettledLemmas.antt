@@ -9,11 +9,11 @@ use Rattle.go_board.specs.declared.stones.Colour.{Colour}
 use Rattle.go_board.specs.declared.stones.Colour.TheVariants.{Black, White}
 use Rattle.go_board.specs.declared.points.Point.{Point}
 use Rattle.go_board.specs.Colour.{opponent, stone_of}
-use Rattle.go_board.specs.Point.{IsOn, place_of}
+use Rattle.go_board.specs.Point.{IsOn, index_of}
 use Rattle.go_board.specs.Grid.{Grid, cell_at, with_cell, empty_grid}
 use Rattle.go_board.specs.Reaching.{Leads, Reaches, reaches}
 use Rattle.go_board.specs.Clearing.{cleared_cell, clear, play, has_unreaching}
-use Rattle.go_board.specs.Groups.{AllReach}
+use Rattle.go_board.specs.inner.Groups.{AllReach}
 use Rattle.go_board.proofs.GridLemmas.{get_or-replicate_default}
 use Rattle.go_board.proofs.ReachingLemmas.{Decides-reaches}
 use Rattle.go_board.proofs.RuleLemmas.{side-clear, cell_at-clear, emptied, kept, others_kept, Decides-has_unreaching}
@@ -128,7 +128,7 @@ settled-empty_grid side =
     elim (cases_Bool (has_unreaching (empty_grid side))) [
       | inl some ↦
           let w = (Decides-has_unreaching (empty_grid side)).0 some in
-          absurd (w.2 (get_or-replicate_default (side * side) (place_of side w.0) Empty))
+          absurd (w.2 (get_or-replicate_default (side * side) (index_of side w.0) Empty))
       | inr none ↦ none
     ]
 

@@ -14,14 +14,14 @@ use Rattle.go_board.specs.declared.stones.Cell.TheVariants.{Black, Empty}
 use Rattle.go_board.specs.declared.stones.Colour.{Colour}
 use Rattle.go_board.specs.declared.points.Point.{Point}
 use Rattle.go_board.specs.Colour.{opponent, stone_of}
-use Rattle.go_board.specs.Point.{IsOn, place_of, point_at, points}
+use Rattle.go_board.specs.Point.{IsOn, index_of, point_at, points}
 use Rattle.go_board.specs.Grid.{Grid, cell_at}
 use Rattle.go_board.specs.Marking.{Marking, is_marked}
 use Rattle.go_board.specs.Reaching.{Reaches, reaches}
 use Rattle.go_board.specs.Clearing.{cleared_cell, clear, has_unreaching}
 use Rattle.go_board.specs.Score.{counts_for, score_of}
-use Rattle.go_board.specs.Sweep.{cleared, is_unreaching, counts, cell_in, mark_in, all_cleared, any_unreaching, count_of}
-use Rattle.go_board.proofs.PointLemmas.{IsOn-point_at, place_of-point_at, is_map-points}
+use Rattle.go_board.specs.inner.Sweep.{cleared, is_unreaching, counts, cell_in, mark_in, all_cleared, any_unreaching, count_of}
+use Rattle.go_board.proofs.PointLemmas.{IsOn-point_at, index_of-point_at, is_map-points}
 use Rattle.go_board.proofs.GridLemmas.{same_grid}
 use Rattle.go_board.proofs.FrontLemmas.{grid_in}
 use Rattle.go_board.proofs.RuleLemmas.{side-clear, length-clear}
@@ -91,12 +91,12 @@ module _ (g : Grid) (all : length g.cells ≡ g.side * g.side) where
   mark_in-reaches k m i side marks below =
       let p = point_at g.side i in
       let on = IsOn-point_at g.side i below in
-      let at : place_of m.side p ≡ i = ap (λ s. place_of s p) side ∙ place_of-point_at g.side i below in
+      let at : index_of m.side p ≡ i = ap (λ s. index_of s p) side ∙ index_of-point_at g.side i below in
       sym (ap (mark_in m.marks) at)
       ∙ same_from_decides (is_marked m p) (reaches g k p) (marks p on) (Decides-reaches g k p on)
 
   cell_in-cell_at : (i : ℕ) → i < g.side * g.side → cell_in g.cells i ≡ cell_at g (point_at g.side i)
-  cell_in-cell_at i below = ap (cell_in g.cells) (sym (place_of-point_at g.side i below))
+  cell_in-cell_at i below = ap (cell_in g.cells) (sym (index_of-point_at g.side i below))
 
   -- a function of the places of all cells, as one of the points
   as_points : {X : Type 0} (f : ℕ → X) (h : Point → X) → X → ((i : ℕ) → i < g.side * g.side → f i ≡ h (point_at g.side i)) → map f (range_with_len 0 (length g.cells)) ≡ map h (points g.side)

@@ -7,9 +7,9 @@ use Rattle.std.proofs.lemmas.Bool.Decides.{Decides-or, Decides-and, Decides-not,
 use Rattle.std.proofs.lemmas.Slice.Eq.{slice_eq-Decides}
 use Rattle.go_board.specs.declared.stones.Colour.{Colour}
 use Rattle.go_board.specs.declared.points.Point.{Point}
-use Rattle.go_board.specs.declared.points.Play.{Play}
-use Rattle.go_board.specs.declared.points.SetupOp.{SetupOp}
-use Rattle.go_board.specs.declared.points.Play.TheVariants.{Pass, Stone}
+use Rattle.go_board.specs.declared.referee.plays.Play.{Play}
+use Rattle.go_board.specs.declared.referee.plays.SetupOp.{SetupOp}
+use Rattle.go_board.specs.declared.referee.plays.Play.TheVariants.{Pass, Stone}
 use Rattle.go_board.specs.declared.reason.Reason.{Reason}
 use Rattle.go_board.specs.declared.reason.Reason.TheVariants.{Mixed, TwoMoves, BadSetup, BadPoint, Over, Turn, Occupied, Repeat}
 use Rattle.go_board.specs.declared.stones.Cell.TheVariants.{Empty}
@@ -17,8 +17,9 @@ use Rattle.go_board.specs.declared.stones.Colour.TheVariants.{Black, White}
 use Rattle.go_board.specs.Colour.{opponent}
 use Rattle.go_board.specs.Grid.{Grid, cell_at}
 use Rattle.go_board.specs.Clearing.{play}
-use Rattle.go_board.specs.State.{State, is_over, must_move, is_occupied, is_repeat, same_grid, reason_of, Forbids, IsFirstReason, place_in_order, set_up, turned}
-use Rattle.go_board.specs.Records.{made_by}
+use Rattle.go_board.specs.State.{State, is_over, set_up, turned}
+use Rattle.go_board.specs.Reason.{must_move, is_occupied, is_repeat, same_grid, reason_of, Forbids, IsFirstReason, rank_of}
+use Rattle.go_board.specs.inner.Earlier.{made_by}
 use Rattle.go_board.proofs.GridLemmas.{Decides-same_cell}
 use Rattle.go_board.proofs.RuleLemmas.{side-clear, false_from_Decides}
 use Rattle.go_board.proofs.AreaLemmas.{side-with_areas}
@@ -83,7 +84,7 @@ Decides-repeat s k Pass = (λ t. absurd (false≢true t), λ h. absurd h)
 Decides-repeat s k (Stone p) = Decides-is_repeat s k p
 
 -- no other reason holds of a turn
-never_before : (s : State) (k : Colour) (x : Play) (q : Reason) → place_in_order q < 4 → ¬ Forbids s k x q
+never_before : (s : State) (k : Colour) (x : Play) (q : Reason) → rank_of q < 4 → ¬ Forbids s k x q
 never_before s k x Mixed h f = f
 never_before s k x TwoMoves h f = f
 never_before s k x BadSetup h f = f
@@ -98,7 +99,7 @@ abbrev reason_at : ℕ → Reason
 reason_at n =
     slice_index_or (Mixed ∷ TwoMoves ∷ BadSetup ∷ BadPoint ∷ Over ∷ Turn ∷ Occupied ∷ Repeat ∷ []) n Mixed
 
-at_its_place : (q : Reason) → reason_at (place_in_order q) ≡ q
+at_its_place : (q : Reason) → reason_at (rank_of q) ≡ q
 at_its_place Mixed = refl
 at_its_place TwoMoves = refl
 at_its_place BadSetup = refl
@@ -109,22 +110,22 @@ at_its_place Occupied = refl
 at_its_place Repeat = refl
 
 module _ (s : State) (k : Colour) (x : Play) where
-  none_up_to : (n : ℕ) → (¬ Forbids s k x (reason_at n)) → ((q : Reason) → place_in_order q < n → ¬ Forbids s k x q) → (q : Reason) → place_in_order q < n + 1 → ¬ Forbids s k x q
+  none_up_to : (n : ℕ) → (¬ Forbids s k x (reason_at n)) → ((q : Reason) → rank_of q < n → ¬ Forbids s k x q) → (q : Reason) → rank_of q < n + 1 → ¬ Forbids s k x q
   none_up_to n here before q h f =
-      elim (cases_lt (place_in_order q) n) [
+      elim (cases_lt (rank_of q) n) [
         | inl less ↦ before q less f
-        | inr more ↦ (let at_n : place_in_order q ≡ n = omega arith in
+        | inr more ↦ (let at_n : rank_of q ≡ n = omega arith in
             here (subst (Forbids s k x) (sym (at_its_place q) ∙ ap reason_at at_n) f))
       ]
 
   module _ (b1 b2 b3 b4 : Bool) (over : Decides b1 (Forbids s k x Over)) (turn : Decides b2 (Forbids s k x Turn)) (occupied : Decides b3 (Forbids s k x Occupied)) (repeat : Decides b4 (Forbids s k x Repeat)) where
-    none_before_turn : b1 ≡ false → (q : Reason) → place_in_order q < 5 → ¬ Forbids s k x q
+    none_before_turn : b1 ≡ false → (q : Reason) → rank_of q < 5 → ¬ Forbids s k x q
     none_before_turn e = none_up_to 4 (not_from_Decides b1 over e) (never_before s k x)
 
-    none_before_occupied : b1 ≡ false → b2 ≡ false → (q : Reason) → place_in_order q < 6 → ¬ Forbids s k x q
+    none_before_occupied : b1 ≡ false → b2 ≡ false → (q : Reason) → rank_of q < 6 → ¬ Forbids s k x q
     none_before_occupied e f = none_up_to 5 (not_from_Decides b2 turn f) (none_before_turn e)
 
-    none_before_repeat : b1 ≡ false → b2 ≡ false → b3 ≡ false → (q : Reason) → place_in_order q < 7 → ¬ Forbids s k x q
+    none_before_repeat : b1 ≡ false → b2 ≡ false → b3 ≡ false → (q : Reason) → rank_of q < 7 → ¬ Forbids s k x q
     none_before_repeat e f g = none_up_to 6 (not_from_Decides b3 occupied g) (none_before_occupied e f)
 
     named_by_tests : (r : Reason) → IsFirstReason s k x r → cond b1 (Some Over) (cond b2 (Some Turn) (cond b3 (Some Occupied) (cond b4 (Some Repeat) None))) ≡ Some r

@@ -4,7 +4,7 @@ use Rattle.std.specs.Prelude.{ℕ, ◌*◌, List, map, replicate, slice_index_or
 use Rattle.go_board.specs.declared.stones.Cell.{Cell}
 use Rattle.go_board.specs.declared.stones.Cell.TheVariants.{Empty}
 use Rattle.go_board.specs.declared.points.Point.{Point}
-use Rattle.go_board.specs.Point.{place_of, points}
+use Rattle.go_board.specs.Point.{index_of, points}
 
 -- the side, and a cell for each point, row by row from the top, from left to right
 pub record Grid : Type 0 where
@@ -13,7 +13,7 @@ pub record Grid : Type 0 where
 
 -- what stands on a point
 abbrev pub cell_at : Grid → Point → Cell
-cell_at g p = slice_index_or g.cells (place_of g.side p) Empty
+cell_at g p = slice_index_or g.cells (index_of g.side p) Empty
 
 -- the grid of that side on which nothing stands
 abbrev pub empty_grid : ℕ → Grid
@@ -21,7 +21,7 @@ empty_grid side = record { side = side; cells = replicate (side * side) Empty }
 
 -- the grid with that one point coloured anew
 abbrev pub with_cell : Grid → Point → Cell → Grid
-with_cell g p c = record g { cells = slice_set g.cells (place_of g.side p) c }
+with_cell g p c = record g { cells = slice_set g.cells (index_of g.side p) c }
 
 -- the grid of that side whose points are coloured by a function
 abbrev pub grid_of : ℕ → (Point → Cell) → Grid

@@ -2,7 +2,7 @@
 -- A set of points of a square grid.
 use Rattle.std.specs.Prelude.{ℕ, Bool, false, List, map, count_by, slice_index_or}
 use Rattle.go_board.specs.declared.points.Point.{Point}
-use Rattle.go_board.specs.Point.{place_of, points}
+use Rattle.go_board.specs.Point.{index_of, points}
 
 -- the side, and a mark or none for each point, row by row from the top, from left to right
 pub record Marking : Type 0 where
@@ -11,7 +11,7 @@ pub record Marking : Type 0 where
 
 -- whether a point is marked
 abbrev pub is_marked : Marking → Point → Bool
-is_marked m p = slice_index_or m.marks (place_of m.side p) false
+is_marked m p = slice_index_or m.marks (index_of m.side p) false
 
 -- how many points are marked
 abbrev pub marked_count : Marking → ℕ

@@ -30,8 +30,8 @@ IsRectOn side r =
     IsOn side r.first × IsOn side r.last × (r.first.col ≤ r.last.col) × (r.first.row ≤ r.last.row)
 
 -- the place of a point in a list that goes row by row from the top, from left to right
-abbrev pub place_of : ℕ → Point → ℕ
-place_of side p = p.row * side + p.col
+abbrev pub index_of : ℕ → Point → ℕ
+index_of side p = p.row * side + p.col
 
 -- the point at a place
 abbrev pub point_at : ℕ → ℕ → Point

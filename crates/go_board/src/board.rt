@@ -1,6 +1,10 @@
 //! The board: reading and setting points, moves and the score (Tromp-Taylor).
 
 mod areas;
+mod capture;
+mod flood;
+mod search;
+mod sweep;
 
 ghost use Rattle.std.specs.Prelude.{◌≡◌, replicate};
 ghost use Rattle.go_board.specs.declared.stones.Cell.TheVariants.{Empty};
@@ -8,7 +12,6 @@ ghost use Rattle.go_board.specs.declared.stones.Cell.TheVariants.{Empty};
 use crate::points::Point;
 use crate::size::{MAX_POINTS, Size};
 use crate::stones::{Cell, Colour};
-use crate::sweep;
 use std::marker::Model;
 
 /// A square board and what stands on its points.
@@ -88,7 +91,7 @@ impl Board {
         requires { IsOn self.now.side point }
         ensures { result ≡ cell_at self.now point }
     {
-        self.cells[point.place(self.size)]
+        self.cells[point.index(self.size)]
     }
 
     /// Colours one point, and no other. Nothing is cleared.
@@ -96,7 +99,7 @@ impl Board {
         requires { IsOn self.old.side point }
         ensures { self.new ≡ with_cell self.old point cell }
     {
-        self.cells[point.place(self.size)] = cell;
+        self.cells[point.index(self.size)] = cell;
         self.settled = false;
     }
 

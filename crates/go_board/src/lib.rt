@@ -1,71 +1,64 @@
-//! The board of the game of Go, by the Tromp-Taylor rules: points, stones, and what stands on a square board of side 1
-//! to 52, the largest whose points SGF FF[4] can name.
+//! The board of the game of Go, by the Tromp-Taylor rules, and a referee of a game on it.
+//!
+//! A `Board` is a square of 1 to 52 points a side (the largest whose points SGF FF[4] can name) and what stands on them;
+//! playing a stone captures the opponent's groups without a liberty and then, where its own has none, that (suicide). A
+//! `Referee` is seen as the list of the states that a game went through: an accepted setup or turn adds the state that
+//! the rules say, a refusal changes nothing, and undo takes the newest state back. A turn that would bring back a
+//! colouring since the last setup is refused (positional superko), for which a `Past` holds the colourings.
+//!
+//! ```text
+//! let mut referee = Referee::<ListPast>::new(alloc, size)?;
+//! referee.turn(Colour::Black, Play::Stone(Point { col: 3, row: 3 }))?;
+//! let (black, white) = referee.score();
+//! referee.undo();
+//! ```
 //!
 //! | Module | What it has |
 //! |---|---|
 //! | `stones` | players and what stands on a point |
-//! | `points` | points, rectangles, vertices, moves and setup operations, as plain data |
 //! | `size` | the side of a board |
+//! | `points` | points and rectangles, and the four neighbours of a point |
 //! | `values` | the points and rectangles that SGF property values name |
 //! | `vertices` | points as the Go Text Protocol writes them |
-//! | `marks` | a set of points of a board |
-//! | `steps` | a count of work |
-//! | `search` | the worklist of a flood |
-//! | `board` | the board: reading, setting, moves, score |
-//! | `flood` | which points reach a colour |
-//! | `capture` | taking groups without a liberty, one at a time |
-//! | `sweep` | passes over all points: clearing, counting |
-//! | `past` | the colourings that a game has been through |
-//! | `list_past` | the plain past: all colourings, compared point by point |
-//! | `reason` | why a turn, or a node of a record, isn't allowed |
-//! | `fault` | the errors |
-//! | `record` | what a referee keeps of a state that it left |
+//! | `marks`, `steps` | a set of points of a board; a count of work |
+//! | `board` | the board: reading, setting, moves, score; below it the flood, its worklist, captures, passes over all points, areas |
+//! | `past` | the colourings that a game has been through; below it the plain past, which keeps all of them whole |
+//! | `reason`, `fault` | why a turn, or a node of a game record, isn't allowed; the errors |
 //! | `referee` | setups, turns and undo by the rules |
 //! | `laws` | what the words of the contracts mean |
 //!
-//! A point *reaches* a colour where a path of adjacent points of the point's own colour leads from it to a point of
-//! that colour. Clearing a colour empties its points that don't reach empty. A player has the points of her colour, and
-//! the empty points that reach her colour and not the other's.
-//!
-//! A referee is seen as the list of the states that a game went through. A setup or a turn adds the state that the rules
-//! say or changes nothing, and undo takes the last one back. It works over any past that keeps the contract of `Past`.
-//!
-//! Only a past's `new`, `push` and `restart` and a referee's `new`, `setup` and `turn` take memory.
+//! A point *reaches* a colour where a path of adjacent points of the point's own colour leads from it to a point of that
+//! colour; a stone that reaches empty has a liberty. Only a past's `new`, `push` and `restart` and a referee's `new`,
+//! `setup` and `turn` take memory.
 #![tactic(auto)]
 
 mod board;
-mod capture;
 mod fault;
-mod flood;
 pub mod laws;
-mod list_past;
 mod marks;
 mod past;
 mod points;
 mod reason;
-mod record;
 mod referee;
-mod search;
 mod size;
 mod steps;
 mod stones;
-mod sweep;
 mod values;
 mod vertices;
 
 pub use board::Board;
 pub use fault::{MemoryFault, TurnFault};
-pub use list_past::ListPast;
 pub use marks::Marks;
-pub use past::Past;
-pub use points::{Play, Point, Rect, SetupOp, Vertex};
+pub use past::{ListPast, Past};
+pub use points::{Point, Rect};
 pub use reason::Reason;
-pub use referee::Referee;
+pub use referee::{Play, Referee, SetupOp};
 pub use size::{MAX_POINTS, MAX_SIDE, Size};
 pub use steps::Steps;
 pub use stones::{Cell, Colour};
 pub use values::{point, rect};
-pub use vertices::{MAX_VERTEX_SIDE, vertex};
+pub use vertices::naming::vertex;
+pub use vertices::{MAX_VERTEX_SIDE, Vertex};
 
 #[cfg(test)]
 mod play_tests;

@@ -17,7 +17,7 @@ impl Model for Marks {
     ghost use Rattle.std.specs.Prelude.{◌≡◌, ◌≤◌, length};
     ghost use Rattle.go_board.specs.declared.size.TheConstants.{MAX_ROWS};
     ghost use Rattle.go_board.specs.Marking.{Marking, marking_of};
-    ghost use Rattle.go_board.specs.Rows.{is_set};
+    ghost use Rattle.go_board.specs.inner.Rows.{is_set};
 
     ghost Value = { Marking };
 
@@ -36,7 +36,7 @@ fn no_rows() -> [u64; MAX_ROWS]
 impl Marks {
     ghost use Rattle.go_board.specs.Point.{IsOn};
     ghost use Rattle.go_board.specs.Marking.{is_marked};
-    ghost use Rattle.go_board.specs.Search.{no_marks, with_mark};
+    ghost use Rattle.go_board.specs.inner.Search.{no_marks, with_mark};
 
     /// No point of a board of that size.
     pub(crate) fn none(size: Size) -> Marks

@@ -1,10 +1,13 @@
 //! The colourings that a game has been through.
 
+mod list_past;
+
 ghost use Rattle.std.specs.Prelude.{◌≡◌, ◌≤◌, ◌↔◌, [], ◌∷◌, true, false, List, Some, length, drop, IsTrue, IfOk, OnOk, OnErr, Contains};
 ghost use Rattle.go_board.specs.Past.{Held, newest, present_stretch, HaveSide};
 
 use crate::board::Board;
 use crate::fault::MemoryFault;
+pub use list_past::ListPast;
 use std::alloc::Global;
 
 /// The colourings that a game has been through, at least one, each with a mark where it begins a stretch. The present

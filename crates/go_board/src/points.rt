@@ -1,11 +1,10 @@
-//! Points, rectangles, vertices, moves and setup operations, as plain data.
+//! Points and rectangles of a board, and the four neighbours of a point.
 
 ghost use Rattle.std.specs.Prelude.{◌≡◌, ◌<◌, ◌*◌, ◌+◌, ℕ, IfSome};
-ghost use Rattle.go_board.specs.Point.{IsOn, place_of};
-ghost use Rattle.go_board.specs.Flood.{left_of, right_of, above, below};
+ghost use Rattle.go_board.specs.Point.{IsOn, index_of};
+ghost use Rattle.go_board.specs.inner.Neighbour.{left_of, right_of, above, below};
 
 use crate::size::Size;
-use crate::stones::Cell;
 
 /// A point, by its column from the left and its row from the top, each counted from 0. It is on a board of side n where
 /// both are below n.
@@ -19,20 +18,20 @@ pub struct Point {
 pub(crate) const FIRST: Point = Point { col: 0, row: 0 };
 
 impl Point {
-    /// The place of the point in a list that goes row by row from the top, from left to right.
-    pub(crate) fn place(self, size: Size) -> usize
+    /// The index of the point in a list that goes row by row from the top, from left to right.
+    pub(crate) fn index(self, size: Size) -> usize
         requires { IsOn size self }
-        ensures value { result ≡ place_of size self }
+        ensures value { result ≡ index_of size self }
         ensures within { result < size * size }
     {
         usize::from(self.row) * usize::from(size.side()) + usize::from(self.col)
     }
 
     /// The next point in a list that goes row by row from the top, from left to right; after the last point of the board
-    /// the first of the row behind it.
+    /// the first of the row after it.
     pub(crate) fn following(self, size: Size) -> Point
         requires { (self.col < size) × (self.row < size) }
-        ensures value { place_of size result ≡ place_of size self + 1 }
+        ensures value { index_of size result ≡ index_of size self + 1 }
         ensures in_columns { result.col < size }
     {
         if self.col + 1 < size.side() {
@@ -118,29 +117,4 @@ pub struct Rect {
     pub first: Point,
     /// The lower right corner.
     pub last: Point,
-}
-
-/// A point as the Go Text Protocol (version 2) names it.
-#[derive(Clone, Copy, Debug, PartialEq, Eq)]
-pub struct Vertex {
-    /// The ASCII letter of the column: A to Z without I, from the left.
-    pub letter: u8,
-    /// The number of the row, counted from 1 from the bottom.
-    pub row: u8,
-}
-
-/// A player's turn.
-#[derive(Clone, Copy, Debug, PartialEq, Eq)]
-pub enum Play {
-    /// No stone is played.
-    Pass,
-    /// A stone is played on that point.
-    Stone(Point),
-}
-
-/// One operation of a setup: each point of the area gets the cell's colour, whatever stood there.
-#[derive(Clone, Copy, Debug, PartialEq, Eq)]
-pub struct SetupOp {
-    pub cell: Cell,
-    pub area: Rect,
 }

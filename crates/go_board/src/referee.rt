@@ -1,14 +1,17 @@
 //! The referee: the rules of Tromp-Taylor over a past, with undo.
 
+mod earlier;
+mod plays;
 mod setup;
 mod turn;
 
 use crate::board::Board;
 use crate::fault::MemoryFault;
 use crate::past::Past;
-use crate::record::Record;
+use crate::referee::earlier::Earlier;
 use crate::size::Size;
 use crate::stones::Colour;
+pub use plays::{Play, SetupOp};
 use std::alloc::Global;
 use std::marker::Model;
 
@@ -20,20 +23,20 @@ pub struct Referee<P: Past> {
     player: Option<Colour>,
     passes: u8,
     turns: u64,
-    /// One for each accepted call that wasn't taken back.
-    records: Vec<Record>,
+    /// One for each accepted call that wasn't taken back, oldest first.
+    earlier: Vec<Earlier>,
 }
 
 impl<P: Past> Model for Referee<P> {
     ghost use Rattle.std.specs.Prelude.{reverse};
     ghost use Rattle.go_board.specs.State.{States};
-    ghost use Rattle.go_board.specs.Records.{states_of, IsKept};
+    ghost use Rattle.go_board.specs.inner.Earlier.{states_of, IsKept};
 
     ghost Value = { States };
 
-    ghost view = { λ r. states_of (P.held r.past) r.player r.passes r.turns r.records.items };
+    ghost view = { λ r. states_of (P.held r.past) r.player r.passes r.turns r.earlier.items };
 
-    ghost invariant = { λ r. IsKept (P.held r.past) r.passes r.turns (reverse r.records.items) };
+    ghost invariant = { λ r. IsKept (P.held r.past) r.passes r.turns (reverse r.earlier.items) };
 }
 
 impl<P: Past> Referee<P> {
@@ -52,7 +55,7 @@ impl<P: Past> Referee<P> {
             player: Some(Colour::Black),
             passes: 0,
             turns: 0,
-            records: Vec::new(alloc),
+            earlier: Vec::new(alloc),
         })
     }
 
@@ -60,7 +63,7 @@ impl<P: Past> Referee<P> {
     pub fn depth(&self) -> usize
         ensures { result ≡ length self.now.earlier }
     {
-        self.records.len()
+        self.earlier.len()
     }
 
     /// Takes the newest accepted setup or turn back: the whole state is that before it. `depth` tells whether there is
@@ -69,13 +72,13 @@ impl<P: Past> Referee<P> {
         requires { 0 < length self.old.earlier }
         ensures { self.old ≡ followed_by self.new self.old.present }
     {
-        let record = self.records.pop().unwrap();
-        if record.grew {
+        let left = self.earlier.pop().unwrap();
+        if left.grew {
             self.past.pop();
         }
-        self.player = record.player;
-        self.passes = record.passes;
-        self.turns = record.turns;
+        self.player = left.player;
+        self.passes = left.passes;
+        self.turns = left.turns;
     }
 
     /// The present board.
@@ -109,16 +112,16 @@ impl<P: Past> Referee<P> {
     }
 
     /// What is kept of the present state besides the past, for a call that adds a colouring or doesn't.
-    fn record(&self, grew: bool) -> Record
+    fn present_kept(&self, grew: bool) -> Earlier
         ensures player { result.player ≡ self.now.present.player }
         ensures passes { result.passes ≡ self.now.present.passes }
         ensures turns { result.turns ≡ self.now.present.turns }
         ensures grew { result.grew ≡ grew }
     {
-        Record {
+        Earlier {
+            turns: self.turns,
             player: self.player,
             passes: self.passes,
-            turns: self.turns,
             grew,
         }
     }

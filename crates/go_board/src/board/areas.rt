@@ -1,7 +1,7 @@
 //! Colouring areas of a board.
 
 use crate::board::Board;
-use crate::points::SetupOp;
+use crate::referee::SetupOp;
 
 impl Board {
     ghost use Rattle.std.specs.Prelude.{◌≡◌, All, fold};

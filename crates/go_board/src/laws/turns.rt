@@ -1,14 +1,15 @@
 //! What the words on setups and turns mean.
 
 ghost use Rattle.std.specs.Prelude.{◌≡◌, ◌↔◌, if◌then◌else◌, List, Option, Some};
-ghost use Rattle.go_board.specs.declared.points.Play.{Play};
+ghost use Rattle.go_board.specs.declared.referee.plays.Play.{Play};
 ghost use Rattle.go_board.specs.declared.points.Point.{Point};
-ghost use Rattle.go_board.specs.declared.points.SetupOp.{SetupOp};
+ghost use Rattle.go_board.specs.declared.referee.plays.SetupOp.{SetupOp};
 ghost use Rattle.go_board.specs.declared.reason.Reason.{Reason};
 ghost use Rattle.go_board.specs.declared.stones.Colour.{Colour};
 ghost use Rattle.go_board.specs.Grid.{Grid, cell_at};
 ghost use Rattle.go_board.specs.Point.{IsOn};
-ghost use Rattle.go_board.specs.State.{State, IsFirstReason, reason_of, is_in, with_area, set_up, turned};
+ghost use Rattle.go_board.specs.State.{State, is_in, with_area, set_up, turned};
+ghost use Rattle.go_board.specs.Reason.{IsFirstReason, reason_of};
 
 /// The function `reason_of` tells exactly the first reason, in the order of checking, that holds of a turn.
 pub fn reasons()

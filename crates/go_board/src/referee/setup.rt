@@ -3,15 +3,14 @@
 use crate::board::Board;
 use crate::fault::MemoryFault;
 use crate::past::Past;
-use crate::points::SetupOp;
-use crate::referee::Referee;
+use crate::referee::{Referee, SetupOp};
 use crate::stones::Colour;
 
 impl<P: Past> Referee<P> {
     ghost use Rattle.std.specs.Prelude.{◌≡◌, ◌<◌, ◌⊎◌, All, IsSome, OnOk, OnErr, length};
     ghost use Rattle.go_board.specs.Point.{IsRectOn};
     ghost use Rattle.go_board.specs.State.{followed_by, set_up};
-    ghost use Rattle.go_board.specs.Records.{with_setup};
+    ghost use Rattle.go_board.specs.inner.Earlier.{with_setup};
 
     /// Sets stones or the player up (SGF FF[4]). With operations, these colour their areas in order, whatever stood
     /// there; nothing is cleared, the past begins anew, no pass was made last, and the player given must move, or with
@@ -38,8 +37,8 @@ impl<P: Past> Referee<P> {
             ≡ followed_by self.old (record self.old.present { player = player })) }
         ensures err { OnErr result (self.new ≡ self.old) }
     {
-        let record = self.record(false);
-        self.records.push(record)?;
+        let left = self.present_kept(false);
+        self.earlier.push(left)?;
         self.player = player;
         Ok(())
     }
@@ -51,10 +50,10 @@ impl<P: Past> Referee<P> {
             ≡ followed_by self.old (with_setup self.old.present board.now player)) }
         ensures err { OnErr result (self.new ≡ self.old) }
     {
-        let record = self.record(true);
-        self.records.reserve(1)?;
+        let left = self.present_kept(true);
+        self.earlier.reserve(1)?;
         self.past.restart(board)?;
-        self.records.push(record).unwrap();
+        self.earlier.push(left).unwrap();
         self.player = player;
         self.passes = 0;
         Ok(())

@@ -3,17 +3,17 @@
 use crate::board::Board;
 use crate::fault::{MemoryFault, TurnFault};
 use crate::past::Past;
-use crate::points::Play;
 use crate::reason::Reason;
-use crate::referee::Referee;
+use crate::referee::{Play, Referee};
 use crate::stones::{Cell, Colour};
 
 impl<P: Past> Referee<P> {
     ghost use Rattle.std.specs.Prelude.{◌≡◌, ◌≢◌, ◌↔◌, None, Some, IfOk, IfErr, IsErrOf, OnOk, OnErr};
     ghost use Rattle.go_board.specs.declared.reason.Reason.{Reason};
-    ghost use Rattle.go_board.specs.declared.points.Play.TheVariants.{Pass};
-    ghost use Rattle.go_board.specs.State.{IsPlayOn, followed_by, turned, reason_of};
-    ghost use Rattle.go_board.specs.Records.{with_stone, made_by};
+    ghost use Rattle.go_board.specs.declared.referee.plays.Play.TheVariants.{Pass};
+    ghost use Rattle.go_board.specs.State.{IsPlayOn, followed_by, turned};
+    ghost use Rattle.go_board.specs.Reason.{reason_of};
+    ghost use Rattle.go_board.specs.inner.Earlier.{with_stone, made_by};
 
     /// Takes a player's turn. It is refused with the first reason of `Over`, `Turn`, `Occupied` and `Repeat` that holds,
     /// without taking memory; else with `Memory`, only where memory was refused. After a refusal nothing is changed.
@@ -65,8 +65,8 @@ impl<P: Past> Referee<P> {
         ensures ok { OnOk result (self.new ≡ followed_by self.old (turned self.old.present colour Pass)) }
         ensures err { OnErr result (self.new ≡ self.old) }
     {
-        let record = self.record(false);
-        self.records.push(record)?;
+        let left = self.present_kept(false);
+        self.earlier.push(left)?;
         self.player = Some(colour.opponent());
         self.passes += 1;
         self.turns += 1;
@@ -80,10 +80,10 @@ impl<P: Past> Referee<P> {
             ≡ followed_by self.old (with_stone self.old.present colour board.now)) }
         ensures err { OnErr result (self.new ≡ self.old) }
     {
-        let record = self.record(true);
-        self.records.reserve(1)?;
+        let left = self.present_kept(true);
+        self.earlier.reserve(1)?;
         self.past.push(board)?;
-        self.records.push(record).unwrap();
+        self.earlier.push(left).unwrap();
         self.player = Some(colour.opponent());
         self.passes = 0;
         self.turns += 1;

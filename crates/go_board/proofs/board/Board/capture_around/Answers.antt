@@ -1,8 +1,8 @@
 -- proofs/board/Board/capture_around/Answers.antt
 use Rattle.std.proofs.Common.{ap, ◌∙◌, subst}
 use Rattle.std.specs.Option.{ForSome}
-use Rattle.go_board.specs.Flood.{right_of, below}
-use Rattle.go_board.specs.Groups.{ReachesIfStone}
+use Rattle.go_board.specs.inner.Neighbour.{right_of, below}
+use Rattle.go_board.specs.inner.Groups.{ReachesIfStone}
 use Rattle.go_board.proofs.MoveLemmas.{ReachBeside-four}
 use Rattle.go_board.proofs.board.Board.capture_around.Goals as goal
 

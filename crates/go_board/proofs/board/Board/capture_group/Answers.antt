@@ -3,7 +3,7 @@ use Rattle.std.proofs.Common.{All, sym, ap, ◌∙◌, subst}
 use Rattle.std.specs.List.{Contains}
 use Rattle.go_board.specs.Point.{IsOn}
 use Rattle.go_board.specs.Grid.{cell_at}
-use Rattle.go_board.specs.Groups.{LosesDead}
+use Rattle.go_board.specs.inner.Groups.{LosesDead}
 use Rattle.go_board.proofs.GroupLemmas.{stone_of≢Empty}
 use Rattle.go_board.proofs.EmptiedLemmas.{LosesDead-emptied, emptied_there}
 use Rattle.go_board.proofs.board.Board.capture_group.Goals as goal

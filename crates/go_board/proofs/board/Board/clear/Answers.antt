@@ -1,6 +1,6 @@
 -- proofs/board/Board/clear/Answers.antt
 use Rattle.std.proofs.Common.{◌*◌, ◌≤◌, take, length, sym, ap, ◌∙◌, arith}
-use Rattle.go_board.specs.Sweep.{all_cleared}
+use Rattle.go_board.specs.inner.Sweep.{all_cleared}
 use Rattle.go_board.specs.Clearing.{has_unreaching}
 use Rattle.go_board.proofs.FrontLemmas.{length-grid_in}
 use Rattle.go_board.proofs.SettledLemmas.{clear-settled}

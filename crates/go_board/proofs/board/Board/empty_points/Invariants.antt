@@ -1,6 +1,6 @@
 -- proofs/board/Board/empty_points/Invariants.antt
 use Rattle.std.proofs.Common.{◌≡◌, drop}
-use Rattle.go_board.specs.Groups.{emptied}
+use Rattle.go_board.specs.inner.Groups.{emptied}
 use Rattle.go_board.proofs.board.Board.empty_points.Given as goal
 
 abbrev pub invariant-loop-point : goal.invariant-loop-point

@@ -4,7 +4,7 @@ use Rattle.std.proofs.lemmas.Option.{get_or_from_slice_get, slice_get_within}
 use Rattle.go_board.specs.Point.{IsOn}
 use Rattle.go_board.specs.Grid.{cell_at}
 use Rattle.go_board.specs.Marking.{is_marked}
-use Rattle.go_board.specs.Flood.{with_neighbours}
+use Rattle.go_board.specs.inner.Flood.{with_neighbours}
 use Rattle.go_board.proofs.PointLemmas.{origin}
 use Rattle.go_board.specs.Reaching.{Reaches}
 use Rattle.go_board.proofs.FloodLemmas.{IsUnderWay, IsUnderWay-step}

@@ -1,6 +1,6 @@
 -- proofs/board/Board/has_unreaching/Answers.antt
 use Rattle.std.proofs.Common.{◌≡◌, ◌*◌, length, sym, ap, ◌∙◌}
-use Rattle.go_board.specs.Sweep.{any_unreaching}
+use Rattle.go_board.specs.inner.Sweep.{any_unreaching}
 use Rattle.go_board.proofs.SweepLemmas.{Marks, any_unreaching-has_unreaching}
 use Rattle.go_board.proofs.board.Board.has_unreaching.Goals as goal
 

@@ -1,11 +1,11 @@
 -- proofs/board/Board/look_at_group/Answers.antt
 use Rattle.std.proofs.Common.{◌≡◌, ◌+◌, ◌*◌, sym, ap, ◌∙◌, subst, arith}
 use Rattle.go_board.specs.declared.stones.Cell.TheVariants.{Empty}
-use Rattle.go_board.specs.Search.{with_found, AllListed}
-use Rattle.go_board.specs.Flood.{with_neighbours}
+use Rattle.go_board.specs.inner.Search.{with_found, AllListed}
+use Rattle.go_board.specs.inner.Flood.{with_neighbours}
 use Rattle.go_board.proofs.CaptureLemmas.{IsLooking, IsNext-taken, IsLooking-begun, IsLooking-step, liberty_found, none_found, AllListed-looking}
 use Rattle.go_board.specs.Marking.{is_marked}
-use Rattle.go_board.specs.Groups.{IsDead}
+use Rattle.go_board.specs.inner.Groups.{IsDead}
 use Rattle.go_board.proofs.board.Board.look_at_group.Given.{Over}
 use Rattle.go_board.proofs.board.Board.look_at_group.Goals as goal
 

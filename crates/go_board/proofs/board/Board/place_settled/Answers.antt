@@ -2,7 +2,7 @@
 use Rattle.std.proofs.Common.{arith, ap, subst, refl, ◌∙◌}
 use Rattle.go_board.specs.Colour.{stone_of}
 use Rattle.go_board.specs.Grid.{with_cell}
-use Rattle.go_board.specs.Groups.{LosesDead, ReachBeside}
+use Rattle.go_board.specs.inner.Groups.{LosesDead, ReachBeside}
 use Rattle.go_board.proofs.FrontLemmas.{length-grid_in}
 use Rattle.go_board.proofs.MoveLemmas.{captured_is_play}
 use Rattle.go_board.proofs.board.Board.place_settled.Goals as goal

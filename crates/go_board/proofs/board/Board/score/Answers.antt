@@ -2,7 +2,7 @@
 use Rattle.std.proofs.Common.{◌≡◌, ◌*◌, length, sym, ap, ◌∙◌}
 use Rattle.go_board.specs.declared.stones.Cell.TheVariants.{Black as BlackCell, White as WhiteCell}
 use Rattle.go_board.specs.declared.stones.Colour.TheVariants.{Black, White}
-use Rattle.go_board.specs.Sweep.{count_of}
+use Rattle.go_board.specs.inner.Sweep.{count_of}
 use Rattle.go_board.proofs.SweepLemmas.{Marks, count_of-score_of}
 use Rattle.go_board.proofs.board.Board.score.Goals as goal
 

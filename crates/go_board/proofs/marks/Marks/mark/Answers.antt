@@ -2,8 +2,8 @@
 use Rattle.std.proofs.Common.{◌*◌, ◌%◌, ◌^◌, set, get_or, bit_or, arith, ap, sym, subst, ◌∙◌}
 use Rattle.go_board.specs.Point.{IsOn}
 use Rattle.go_board.specs.Marking.{marking_of}
-use Rattle.go_board.specs.Rows.{is_set}
-use Rattle.go_board.specs.Search.{with_mark}
+use Rattle.go_board.specs.inner.Rows.{is_set}
+use Rattle.go_board.specs.inner.Search.{with_mark}
 use Rattle.go_board.proofs.RowLemmas.{rows-with_bit}
 use Rattle.go_board.proofs.marks.Marks.mark.Goals as goal
 

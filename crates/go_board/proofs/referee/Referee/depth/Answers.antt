@@ -1,8 +1,8 @@
 -- proofs/referee/Referee/depth/Answers.antt
 use Rattle.std.proofs.Common.{sym, ◌∙◌}
-use Rattle.go_board.proofs.RecordLemmas.{length-earlier}
+use Rattle.go_board.proofs.EarlierLemmas.{length-earlier}
 use Rattle.go_board.proofs.referee.Referee.depth.Goals as goal
 
 pub returns : goal.returns
 returns g c =
-    rw (← c.self.view_is) (c.len.ensures ∙ c.self.inside.records.ok.0 ∙ sym (length-earlier (g.P.Past.held c.self.inside.past) c.self.inside.records.items))
+    rw (← c.self.view_is) (c.len.ensures ∙ c.self.inside.earlier.ok.0 ∙ sym (length-earlier (g.P.Past.held c.self.inside.past) c.self.inside.earlier.items))

@@ -1,10 +1,11 @@
 -- proofs/referee/Referee/judge/Answers.antt
 use Rattle.std.proofs.Common.{◌≡◌, refl, Some, None, false, cond, ap, ◌∙◌, rules}
-use Rattle.go_board.specs.declared.points.Play.TheVariants.{Stone}
+use Rattle.go_board.specs.declared.referee.plays.Play.TheVariants.{Stone}
 use Rattle.go_board.specs.declared.reason.Reason.TheVariants.{Repeat}
 use Rattle.go_board.specs.Colour.{opponent}
 use Rattle.go_board.specs.Clearing.{play}
-use Rattle.go_board.specs.State.{States, is_over, must_move, is_occupied}
+use Rattle.go_board.specs.State.{States, is_over}
+use Rattle.go_board.specs.Reason.{must_move, is_occupied}
 use Rattle.go_board.proofs.TurnLemmas.{side-play, reason_by_past}
 use Rattle.go_board.proofs.referee.Referee.judge.Goals as goal
 

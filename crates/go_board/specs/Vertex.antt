@@ -1,0 +1,13 @@
+-- specs/Vertex.antt
+-- The vertices of GTP 2, which name points.
+use Rattle.std.specs.Prelude.{ℕ, ◌-◌, List, slice_index, codes}
+use Rattle.go_board.specs.declared.points.Point.{Point}
+use Rattle.go_board.specs.declared.vertices.Vertex.{Vertex}
+
+-- the letters of the columns from the left: A to Z without I
+abbrev pub column_letters : List ℕ
+column_letters = codes "ABCDEFGHJKLMNOPQRSTUVWXYZ"
+
+-- a point as a vertex, on a side of 25 at most: the letter of its column, and its row counted from 1 from the bottom
+unfoldable pub vertex_of : Point → ℕ → Vertex
+vertex_of point side = record { letter = slice_index column_letters point.col; row = side - point.row }

@@ -1,0 +1,9 @@
+-- Words of private contracts alone.
+pub mod Neighbour
+pub mod Rows
+pub mod Search
+pub mod Flood
+pub mod Groups
+pub mod Sweep
+pub mod Entries
+pub mod Earlier

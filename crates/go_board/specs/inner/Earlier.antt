@@ -1,0 +1,82 @@
+-- specs/inner/Earlier.antt
+-- A referee's states, from a past and from what it keeps of each earlier state besides.
+use Rattle.std.specs.Prelude.{ℕ, ◌+◌, ◌≤◌, ◌<◌, Option, List, [], ◌∷◌, if◌then◌else◌, unwrap_or, length, reverse, drop, Some, None}
+use Rattle.go_board.specs.declared.stones.Colour.{Colour}
+use Rattle.go_board.specs.declared.referee.plays.Play.{Play}
+use Rattle.go_board.specs.declared.referee.plays.Play.TheVariants.{Pass, Stone}
+use Rattle.go_board.specs.declared.referee.earlier.Earlier.{Earlier}
+use Rattle.go_board.specs.Colour.{opponent}
+use Rattle.go_board.specs.Grid.{Grid, empty_grid}
+use Rattle.go_board.specs.Clearing.{play}
+use Rattle.go_board.specs.Past.{Held, newest, present_stretch, HaveSide}
+use Rattle.go_board.specs.State.{State, States}
+
+-- the newest of the past colourings, of which there is one
+abbrev pub newest_grid : List Held → Grid
+newest_grid held = unwrap_or (newest held) (empty_grid 0)
+
+-- the state with that past
+abbrev pub state_of : List Held → Option Colour → ℕ → ℕ → State
+state_of held player passes turns =
+    record {
+      colouring = newest_grid held;
+      seen = present_stretch held;
+      player = player;
+      passes = passes;
+      turns = turns;
+    }
+
+-- the past before the call that left an earlier state
+abbrev pub held_before : List Held → Earlier → List Held
+held_before held left = if left.grew then drop 1 held else held
+
+-- the earlier states, newest first
+abbrev pub states_before : List Held → List Earlier → List State
+states_before held [] = []
+states_before held (left ∷ others) =
+    state_of (held_before held left) left.player left.passes left.turns ∷ states_before (held_before held left) others
+
+-- the present state and the earlier ones; what is kept of these stands oldest first
+abbrev pub states_of : List Held → Option Colour → ℕ → ℕ → List Earlier → States
+states_of held player passes turns earlier =
+    record { present = state_of held player passes turns; earlier = states_before held (reverse earlier) }
+
+-- the state once a stone made a colouring
+abbrev pub with_stone : State → Colour → Grid → State
+with_stone state colour grid =
+    record {
+      colouring = grid;
+      seen = grid ∷ state.seen;
+      player = Some (opponent colour);
+      passes = 0;
+      turns = state.turns + 1;
+    }
+
+-- the colouring that a turn makes, none for a pass
+abbrev pub made_by : State → Colour → Play → Option Grid
+made_by state colour Pass = None
+made_by state colour (Stone point) = Some (play state.colouring colour point)
+
+-- the state once a setup made a colouring
+abbrev pub with_setup : State → Grid → Option Colour → State
+with_setup state grid player =
+    record { colouring = grid; seen = grid ∷ []; player = player; passes = 0; turns = state.turns }
+
+-- how many of the calls made the past grow
+abbrev pub grown : List Earlier → ℕ
+grown [] = 0
+grown (left ∷ others) = (if left.grew then 1 else 0) + grown others
+
+-- each earlier state, newest first, has at most two passes, and at most as many turns as there are states before it
+abbrev pub AreBounded : List Earlier → Type 0
+AreBounded [] = Unit {0}
+AreBounded (left ∷ others) = (left.passes ≤ 2) × (left.turns ≤ length others) × AreBounded others
+
+-- what a referee keeps, of its earlier states newest first: past colourings of one side, one more at least than calls that
+-- made them grow; at most two passes, and at most as many turns as earlier states
+pub record IsKept (held : List Held) (passes turns : ℕ) (earlier : List Earlier) : Type 0 where
+  pub one_side : HaveSide (newest_grid held).side held
+  pub enough : grown earlier < length held
+  pub few_passes : passes ≤ 2
+  pub few_turns : turns ≤ length earlier
+  pub bounded : AreBounded earlier

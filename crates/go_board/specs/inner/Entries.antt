@@ -1,0 +1,18 @@
+-- specs/inner/Entries.antt
+-- Past colourings whose cells stand one behind the other in one list.
+use Rattle.std.specs.Prelude.{ℕ, zero, suc, ◌+◌, ◌*◌, Bool, false, List, [], ◌∷◌, slice_range, slice_index_or}
+use Rattle.go_board.specs.declared.stones.Cell.{Cell}
+use Rattle.go_board.specs.Past.{Held}
+
+-- the colouring at a place of the list, counted from 0
+abbrev pub entry : ℕ → List Cell → List Bool → ℕ → Held
+entry side cells marks n =
+    record {
+      colouring = record { side = side; cells = slice_range cells (n * (side * side)) ((n + 1) * (side * side)) };
+      begins = slice_index_or marks n false;
+    }
+
+-- the first n of them, newest first
+abbrev pub entries : ℕ → List Cell → List Bool → ℕ → List Held
+entries side cells marks zero = []
+entries side cells marks (suc n) = entry side cells marks n ∷ entries side cells marks n

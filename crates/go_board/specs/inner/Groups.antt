@@ -1,0 +1,57 @@
+-- specs/inner/Groups.antt
+-- Groups without liberties, and grids on which every stone reaches empty.
+use Rattle.std.specs.Prelude.{◌≡◌, ◌≢◌, ◌⊎◌, Bool, false, ◌||◌, IsTrue, Option, Some, None, List, [], ◌∷◌, length}
+use Rattle.go_board.specs.declared.stones.Cell.TheVariants.{Empty}
+use Rattle.go_board.specs.declared.stones.Colour.{Colour}
+use Rattle.go_board.specs.declared.points.Point.{Point}
+use Rattle.go_board.specs.Colour.{stone_of, same_cell}
+use Rattle.go_board.specs.Point.{IsOn, AreAdjacent}
+use Rattle.go_board.specs.Grid.{Grid, cell_at, with_cell}
+use Rattle.go_board.specs.Reaching.{Reaches}
+use Rattle.go_board.specs.Clearing.{clear}
+use Rattle.go_board.specs.inner.Neighbour.{left_of, right_of, above, below}
+
+-- the points that pass the test are stones of one colour, with each stone of that colour beside one of them, and no point
+-- beside them is empty
+pub record IsDead (g : Grid) (k : Colour) (dead : Point → Bool) : Type 0 where
+  pub stones : (p : Point) → IsOn g.side p → IsTrue (dead p) → cell_at g p ≡ stone_of k
+  pub shut : (p q : Point) → IsOn g.side p → IsOn g.side q → AreAdjacent p q → IsTrue (dead p)
+      → cell_at g q ≢ Empty
+  pub whole : (p q : Point) → IsOn g.side p → IsOn g.side q → AreAdjacent p q → IsTrue (dead p)
+      → cell_at g q ≡ stone_of k → IsTrue (dead q)
+
+-- all stones of a colour reach empty
+abbrev pub AllReach : Grid → Colour → Type 0
+AllReach g k = (p : Point) → IsOn g.side p → cell_at g p ≡ stone_of k → Reaches g Empty p
+
+-- whether a neighbour is there and empty
+abbrev pub is_free : Grid → Option Point → Bool
+is_free g None = false
+is_free g (Some q) = same_cell (cell_at g q) Empty
+
+-- whether one of the four neighbours of a point is empty
+unfoldable pub has_liberty : Grid → Point → Bool
+has_liberty g p =
+    (is_free g (left_of p) || is_free g (right_of g.side p)) || (is_free g (above p) || is_free g (below g.side p))
+
+-- the grid with the points of a list emptied
+unfoldable pub emptied : Grid → List Point → Grid
+emptied g [] = g
+emptied g (p ∷ ps) = emptied (with_cell g p Empty) ps
+
+-- a stone of the colour on p reaches empty
+abbrev pub ReachesIfStone : Grid → Colour → Point → Type 0
+ReachesIfStone g k p = cell_at g p ≡ stone_of k → Reaches g Empty p
+
+-- the stones of a colour beside p reach empty
+abbrev pub ReachBeside : Grid → Colour → Point → Type 0
+ReachBeside g k p = (q : Point) → IsOn g.side q → AreAdjacent p q → ReachesIfStone g k q
+
+-- h is g without some stones of a colour: what reached empty still does, and clearing the colour gives the same grid
+pub record LosesDead (g h : Grid) (k : Colour) : Type 0 where
+  pub same_side : h.side ≡ g.side
+  pub all : length h.cells ≡ length g.cells
+  pub taken : (p : Point) → IsOn g.side p
+      → (cell_at h p ≡ cell_at g p) ⊎ ((cell_at h p ≡ Empty) × (cell_at g p ≡ stone_of k))
+  pub still : (p : Point) → IsOn g.side p → Reaches g Empty p → Reaches h Empty p
+  pub cleared : clear h k ≡ clear g k

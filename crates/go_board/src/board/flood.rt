@@ -1,0 +1,134 @@
+//! Which points reach a colour (Tromp-Taylor), by a flood from the points of that colour.
+
+ghost use Rattle.std.specs.Prelude.{◌≡◌, ℕ, ◌*◌, ◌+◌, ◌≤◌, ◌↔◌, IsTrue};
+ghost use Rattle.std.specs.Option.{ForSome};
+ghost use Rattle.go_board.specs.declared.points.Point.{Point};
+ghost use Rattle.go_board.specs.Point.{IsOn};
+ghost use Rattle.go_board.specs.Marking.{is_marked, marked_count};
+ghost use Rattle.go_board.specs.Reaching.{Reaches};
+ghost use Rattle.go_board.specs.inner.Search.{HasRoom};
+ghost use Rattle.go_board.specs.inner.Flood.{reaches_through, with_neighbour, with_neighbours, with_colour};
+
+use crate::board::Board;
+use crate::board::search::Search;
+use crate::marks::Marks;
+use crate::points::{FIRST, Point};
+use crate::size::{MAX_POINTS, SMALL_POINTS, USUAL_POINTS};
+use crate::steps::Steps;
+use crate::stones::Cell;
+
+impl Board {
+    /// The points that reach a colour; points of that colour are among them. Adds one step for each point that is
+    /// marked, so at most the square of the side.
+    pub fn reaching(&self, target: Cell, steps: &mut Steps) -> Marks
+        requires { steps.old + self.now.side * self.now.side ≤ u64.MAX }
+        ensures side { result.side ≡ self.now.side }
+        ensures marks { (p : Point) → IsOn self.now.side p
+            → (IsTrue (is_marked result p) ↔ Reaches self.now target p) }
+        ensures steps { steps.new ≡ steps.old + marked_count result }
+    {
+        let points = self.size().points();
+        if points <= SMALL_POINTS {
+            self.flood::<SMALL_POINTS>(target, steps)
+        } else if points <= USUAL_POINTS {
+            self.flood::<USUAL_POINTS>(target, steps)
+        } else {
+            self.flood::<MAX_POINTS>(target, steps)
+        }
+    }
+
+    /// The points that reach a colour, by a search with room for all points of the board.
+    fn flood<const N: usize>(&self, target: Cell, steps: &mut Steps) -> Marks
+        requires steps { steps.old + self.now.side * self.now.side ≤ u64.MAX }
+        requires room { self.now.side * self.now.side ≤ N }
+        requires at_most { N ≤ MAX_POINTS }
+        ensures side { result.side ≡ self.now.side }
+        ensures marks { (p : Point) → IsOn self.now.side p
+            → (IsTrue (is_marked result p) ↔ Reaches self.now target p) }
+        ensures steps { steps.new ≡ steps.old + marked_count result }
+    {
+        let mut search = self.search_from::<N>(target);
+        while let Some(point) = search.take_one() {
+            steps.tick();
+            self.spread(target, point, &mut search);
+        }
+        search.into_marks()
+    }
+
+    /// The points that reach a colour, where nobody counts the steps.
+    pub(crate) fn reached(&self, target: Cell) -> Marks
+        ensures side { result.side ≡ self.now.side }
+        ensures marks { (p : Point) → IsOn self.now.side p
+            → (IsTrue (is_marked result p) ↔ Reaches self.now target p) }
+    {
+        prove!(self.size().points() <= MAX_POINTS);
+        self.reaching(target, &mut Steps::new())
+    }
+
+    /// A search that found the points of a colour.
+    fn search_from<const N: usize>(&self, target: Cell) -> Search<N>
+        requires room { self.now.side * self.now.side ≤ N }
+        requires at_most { N ≤ MAX_POINTS }
+        ensures { result ≡ with_colour self.now target }
+    {
+        let mut search = Search::<N>::new(self.size());
+        let mut point = FIRST;
+        for cell in self.cells() {
+            if *cell == target {
+                search.offer(point);
+            }
+            point = point.following(self.size());
+        }
+        search
+    }
+
+    /// Adds the neighbours of a point that reach a colour through it.
+    #[tactic(auto, unfolding(crate::specs::inner::Flood::with_neighbours))]
+    pub(crate) fn spread<const N: usize>(&self, target: Cell, from: Point, search: &mut Search<N>)
+        requires on_board { IsOn self.now.side from }
+        requires same_side { search.old.marking.side ≡ self.now.side }
+        requires room { HasRoom N 4 search.old }
+        ensures { search.new ≡ with_neighbours self.now target from search.old }
+    {
+        let size = self.size();
+        self.offer(target, from, from.left(), search);
+        self.offer(target, from, from.right(size), search);
+        self.offer(target, from, from.above(), search);
+        self.offer(target, from, from.below(size), search);
+    }
+
+    /// Adds a neighbour of a point, if there is one and it reaches a colour through the point.
+    #[tactic(auto, unfolding(crate::specs::inner::Flood::with_neighbour))]
+    fn offer<const N: usize>(
+        &self,
+        target: Cell,
+        from: Point,
+        to: Option<Point>,
+        search: &mut Search<N>,
+    )
+        requires from_on_board { IsOn self.now.side from }
+        requires to_on_board { ForSome to (IsOn self.now.side) }
+        requires same_side { search.old.marking.side ≡ self.now.side }
+        requires room { HasRoom N 1 search.old }
+        ensures value { search.new ≡ with_neighbour self.now target from to search.old }
+        ensures same_side { search.new.marking.side ≡ self.now.side }
+        ensures room { (more : ℕ) → HasRoom N (more + 1) search.old → HasRoom N more search.new }
+    {
+        if let Some(to) = to {
+            if self.reaches_through(target, from, to) {
+                search.offer(to);
+            }
+        }
+    }
+
+    /// Whether a neighbour of a point that reaches a colour reaches it through that point: the point has the colour, or
+    /// the neighbour has the point's.
+    fn reaches_through(&self, target: Cell, from: Point, to: Point) -> bool
+        requires from_on_board { IsOn self.now.side from }
+        requires to_on_board { IsOn self.now.side to }
+        ensures { result ≡ reaches_through self.now target from to }
+    {
+        let own = self.at(from);
+        own == target || self.at(to) == own
+    }
+}

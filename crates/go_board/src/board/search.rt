@@ -1,0 +1,111 @@
+//! The worklist of a flood.
+
+use crate::marks::Marks;
+use crate::points::{FIRST, Point};
+use crate::size::{MAX_POINTS, Size};
+use std::marker::Model;
+
+/// The points that a search found, in the order it found them, and how many of them were taken for a closer look. It has
+/// room for `N` points.
+#[derive(Drop)]
+pub(crate) struct Search<const N: usize> {
+    marks: Marks,
+    points: [Point; N],
+    filled: usize,
+    taken: usize,
+}
+
+impl<const N: usize> Model for Search<N> {
+    ghost use Rattle.std.specs.Prelude.{◌≡◌, ◌*◌, ◌≤◌, length, take};
+    ghost use Rattle.go_board.specs.inner.Search.{Searched, IsSound};
+
+    ghost Value = { Searched };
+
+    ghost view = { λ s. record { marking = s.marks; found = take s.filled s.points; taken = s.taken } };
+
+    ghost invariant = { λ s. (length s.points ≡ N)
+        × (s.filled ≤ N)
+        × IsSound (record { marking = s.marks; found = take s.filled s.points; taken = s.taken }) };
+}
+
+impl<const N: usize> Search<N> {
+    ghost use Rattle.std.specs.Prelude.{◌≡◌, ◌*◌, ◌<◌, ◌≤◌, ◌+◌, ◌↔◌, IsTrue, IfSome, IfNone, Some, All, slice_get, length};
+    ghost use Rattle.go_board.specs.Point.{IsOn};
+    ghost use Rattle.go_board.specs.Marking.{is_marked, marked_count};
+    ghost use Rattle.go_board.specs.inner.Search.{nothing_found, with_found, HasRoom};
+
+    /// A search that found nothing yet.
+    pub fn new(size: Size) -> Search<N>
+        ensures { result ≡ nothing_found size }
+    {
+        Search {
+            marks: Marks::none(size),
+            points: [FIRST; N],
+            filled: 0,
+            taken: 0,
+        }
+    }
+
+    /// Whether there is room for so many points more. There always is where N is no less than the number of the board's
+    /// points.
+    pub fn has_room(&self, more: usize) -> bool
+        ensures room { IsTrue result ↔ HasRoom N more self.now }
+        ensures greatest { MAX_POINTS ≤ N → IsTrue result }
+    {
+        self.marks.size().points() <= N || more <= N - self.filled
+    }
+
+    /// Adds a point, unless it was found before.
+    pub fn offer(&mut self, point: Point)
+        requires on_board { IsOn self.old.marking.side point }
+        requires room { HasRoom N 1 self.old }
+        ensures { self.new ≡ with_found self.old point }
+    {
+        if !self.marks.has(point) {
+            self.marks.mark(point);
+            self.points[self.filled] = point;
+            self.filled += 1;
+        }
+    }
+
+    /// The next point that wasn't taken yet.
+    pub fn take_one(&mut self) -> Option<Point>
+        ensures next { IfSome result (λ p. slice_get self.old.found self.old.taken ≡ Some p) }
+        ensures on_grid { IfSome result (λ p. IsOn self.old.marking.side p) }
+        ensures marked { IfSome result (λ p. IsTrue (is_marked self.old.marking p)) }
+        ensures taken { IfSome result (λ _. self.new ≡ record self.old { taken = self.old.taken + 1 }) }
+        ensures within { IfSome result (λ _. self.old.taken < self.old.marking.side * self.old.marking.side) }
+        ensures all_taken { IfNone result (length self.old.found ≡ self.old.taken) }
+        ensures unchanged { IfNone result (self.new ≡ self.old) }
+    {
+        if self.taken == self.filled {
+            return None;
+        }
+        let point = self.points[self.taken];
+        self.taken += 1;
+        Some(point)
+    }
+
+    /// The points found, in the order they were found.
+    pub fn found(&self) -> &[Point]
+        ensures points { result.now ≡ self.now.found }
+        ensures on_grid { All (IsOn self.now.marking.side) result.now }
+        ensures marked { All (λ p. IsTrue (is_marked self.now.marking p)) result.now }
+    {
+        &self.points[..self.filled]
+    }
+
+    /// The points found, as a set.
+    pub fn into_marks(self) -> Marks
+        ensures marks { result ≡ self.entry.marking }
+        ensures counted { marked_count result ≡ length self.entry.found }
+    {
+        let Search {
+            marks,
+            points: _,
+            filled: _,
+            taken: _,
+        } = self;
+        marks
+    }
+}
