@@ -14,3 +14,4 @@ pub mod Standings
 pub mod Shows
 pub mod Joins
 pub mod Records
+pub mod Again
