@@ -6,6 +6,7 @@ pub mod Growth
 pub mod Rows
 pub mod Names
 pub mod ValueEnds
+pub mod WalkHeld
 pub mod ValuesRead
 pub mod NameEnds
 pub mod NodeEnds
@@ -37,5 +38,4 @@ pub mod Faults
 pub mod Skipping
 pub mod Spans
 pub mod Literal
-pub mod Steps
 pub mod Examples

@@ -17,6 +17,7 @@ mod numbers;
 mod property;
 mod reader;
 mod text;
+mod walk;
 
 pub use collection::Collection;
 pub use fault::{MAX_LENGTH, MemoryFault, ReadFault};
@@ -25,3 +26,4 @@ pub use numbers::number;
 pub use property::PropRef;
 pub use reader::read;
 pub use text::push_text;
+pub use walk::{Properties, Values};

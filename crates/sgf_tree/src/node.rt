@@ -6,6 +6,7 @@ ghost use Rattle.sgf_tree.specs.inner.Ends.{end_before};
 
 use crate::layout::{PropertyEntry, ValueEntry, part};
 use crate::property::PropRef;
+use crate::walk::Properties;
 use std::marker::Model;
 
 /// A node, seen as its place and its properties.
@@ -38,6 +39,18 @@ impl<'c, 'a> Model for NodeRef<'c, 'a> {
 }
 
 impl<'c, 'a> NodeRef<'c, 'a> {
+    /// Its properties, to be taken off one after another.
+    pub fn walk(&self) -> Properties<'c, 'a>
+        ensures { result ≡ self.now.properties }
+    {
+        Properties {
+            text: self.text,
+            values_start: self.values_start,
+            properties: self.properties,
+            values: self.values,
+        }
+    }
+
     /// The number of its properties.
     pub fn props(&self) -> usize
         ensures { result ≡ length self.now.properties }

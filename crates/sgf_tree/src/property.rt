@@ -5,6 +5,7 @@ ghost use Rattle.sgf_tree.specs.Tree.{values};
 
 use crate::fault::MemoryFault;
 use crate::layout::{ValueEntry, part};
+use crate::walk::Values;
 use std::marker::Model;
 
 /// A property, seen as its name and its raw values.
@@ -66,6 +67,16 @@ impl<'c, 'a> PropRef<'c, 'a> {
             }
         }
         Ok(())
+    }
+
+    /// Its raw values, to be taken off one after another.
+    pub fn walk(&self) -> Values<'c, 'a>
+        ensures { result ≡ values self.now }
+    {
+        Values {
+            text: self.text,
+            values: self.values,
+        }
     }
 
     /// The number of its values, at least 1.

@@ -91,3 +91,7 @@ pub record IsNodeHeld (text : List ℕ) (properties : List PropertyEntry) (value
 pub record IsPropertyHeld (text : List ℕ) (values : List ValueEntry) : Type 0 where
   pub some_value : 0 < length values
   pub values_within : All (λ (v : ValueEntry). IsSpan (length text) v.start v.end) values
+
+-- the fields of values that are left hold them
+pub record AreValuesHeld (text : List ℕ) (values : List ValueEntry) : Type 0 where
+  pub values_within : All (λ (v : ValueEntry). IsSpan (length text) v.start v.end) values

@@ -13,6 +13,12 @@ property_code =
     (λ t. record { name = t.0; first = t.1.0; more = t.1.1 })
     (λ _. refl)
 
+abbrev pub properties_code : Coded (List Property)
+properties_code = coded_list property_code
+
+abbrev pub values_code : Coded (List (List ℕ))
+values_code = coded_list (coded_list coded_ℕ)
+
 -- a node is stored as its place and its properties
 abbrev pub node_code : Coded Node
 node_code =
