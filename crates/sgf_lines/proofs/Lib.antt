@@ -1,4 +1,5 @@
 pub mod Examples
+pub mod ExamplesOfVerdicts
 pub mod Lists
 pub mod Standing
 pub mod Parents

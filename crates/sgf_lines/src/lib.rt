@@ -25,6 +25,7 @@ mod record;
 mod split;
 #[cfg(test)]
 mod tests;
+mod verdict;
 
 pub use cursor::Cursor;
 pub use fault::FirstFault;
@@ -32,3 +33,4 @@ pub use line::LineRef;
 pub use options::{Form, Options};
 pub use sgf_tree::MAX_LENGTH;
 pub use split::first_split;
+pub use verdict::Verdict;

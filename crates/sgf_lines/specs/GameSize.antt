@@ -1,0 +1,48 @@
+-- Which games are judged: those of Go, on a square board of a size that there is (SGF FF[4], GM and SZ).
+use Rattle.std.specs.Prelude.{ℕ, Bool, true, false, ◌==◌, ◌&&◌, nat_le, if◌then◌else◌, Option, Some, None, List, [], ◌∷◌, codes, ℤ, pos, negsuc}
+use Rattle.sgf_tree.specs.Tree.{Property, Node}
+use Rattle.sgf_tree.specs.Number.{number_of}
+use Rattle.go_board.specs.declared.size.TheConstants.{MAX_SIDE}
+use Rattle.sgf_lines.specs.NodeContents.{first_value}
+
+-- the properties of a line's first node, the root of its game
+abbrev pub root_properties : List Node → List Property
+root_properties [] = []
+root_properties (root ∷ more) = root.properties
+
+-- whether a number is 1, which is GM's for Go
+abbrev pub is_one : Option ℤ → Bool
+is_one (Some (pos n)) = n == 1
+is_one (Some (negsuc n)) = false
+is_one None = false
+
+-- whether the game is Go: GM is the number 1, or absent
+abbrev pub is_go : Option (List ℕ) → Bool
+is_go None = true
+is_go (Some raw) = is_one (number_of raw)
+
+-- the side of a square board that a number gives, from 1 to the greatest
+abbrev pub side_from : Option ℤ → Option ℕ
+side_from (Some (pos n)) = if nat_le 1 n && nat_le n MAX_SIDE then Some n else None
+side_from (Some (negsuc n)) = None
+side_from None = None
+
+-- the side that SZ gives; 19 where it is absent
+abbrev pub side_of : Option (List ℕ) → Option ℕ
+side_of None = Some 19
+side_of (Some raw) = side_from (number_of raw)
+
+-- what the root says: another game, a size that there isn't, or a board of that side
+pub data Opening : Type 0 where
+  other_game : Opening
+  no_board : Opening
+  board : (side : ℕ) → Opening
+
+abbrev pub opening_on : Option ℕ → Opening
+opening_on None = no_board
+opening_on (Some side) = board side
+
+-- a game that isn't Go is found before a faulty size; GM and SZ of other nodes have no effect (this project's choices)
+abbrev pub opening : List Property → Opening
+opening ps =
+    if is_go (first_value (codes "GM") ps) then opening_on (side_of (first_value (codes "SZ") ps)) else other_game

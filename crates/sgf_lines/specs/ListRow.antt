@@ -1,0 +1,22 @@
+-- The row of a line: its place, its game, the number of its nodes, and its verdict.
+use Rattle.std.specs.Prelude.{ℕ, Bool, if◌then◌else◌, List, ◌++◌, length, codes, decimal}
+use Rattle.go_board.specs.Reason.{word_of}
+use Rattle.sgf_lines.specs.declared.verdict.Verdict.{Verdict}
+use Rattle.sgf_lines.specs.declared.verdict.Verdict.TheVariants.{Score, Illegal, NotGo, BadSize}
+use Rattle.sgf_lines.specs.Lines.{Line, place_of}
+use Rattle.sgf_lines.specs.Verdict.{verdict}
+
+-- a verdict in words; the scores are Black's and White's, and the numbers of a fault its turn and its place
+abbrev pub verdict_text : Verdict → List ℕ
+verdict_text (Score black white over) =
+    codes "score " ++ decimal black ++ codes " " ++ decimal white ++ (if over then codes " over" else codes " open")
+verdict_text (Illegal turn place reason) =
+    codes "illegal " ++ decimal turn ++ codes " " ++ decimal place ++ codes " " ++ word_of reason
+verdict_text NotGo = codes "unjudged game"
+verdict_text BadSize = codes "unjudged size"
+
+-- the row, without a line feed
+abbrev pub list_row : Line → List ℕ
+list_row line =
+    decimal (place_of line) ++ codes " " ++ decimal line.game_number ++ codes " " ++ decimal (length line.nodes)
+    ++ codes " " ++ verdict_text (verdict line)

@@ -1,0 +1,46 @@
+-- The verdict of a line: the area score at its end, or the first node that isn't allowed (Tromp-Taylor), or that it is
+-- not judged.
+use Rattle.std.specs.Prelude.{◌+◌, Option, Some, None, List, []}
+use Rattle.sgf_tree.specs.Tree.{Node}
+use Rattle.go_board.specs.declared.stones.Colour.TheVariants.{Black, White}
+use Rattle.go_board.specs.Score.{score_of}
+use Rattle.go_board.specs.State.{State, is_over}
+use Rattle.sgf_lines.specs.declared.verdict.Verdict.{Verdict}
+use Rattle.sgf_lines.specs.declared.verdict.Verdict.TheVariants.{Score, Illegal, NotGo, BadSize}
+use Rattle.sgf_lines.specs.Lines.{Line}
+use Rattle.sgf_lines.specs.GameSize.{Opening, other_game, no_board, board, opening, root_properties}
+use Rattle.sgf_lines.specs.Walk.{Fault, Walk, walk, judged_by}
+
+-- the scores of a state, and whether two passes in a row ended the game
+abbrev pub score_in : State → Verdict
+score_in s = Score (score_of s.colouring Black) (score_of s.colouring White) (is_over s)
+
+-- a fault is named with the number of the turn that would have come, its node's place and its reason
+abbrev pub verdict_with : State → Option Fault → Verdict
+verdict_with s None = score_in s
+verdict_with s (Some fault) = Illegal (s.turns + 1) fault.node.place fault.reason
+
+-- the verdict of a walk
+abbrev pub verdict_at : Walk → Verdict
+verdict_at w = verdict_with w.state w.fault
+
+abbrev pub verdict_by : Opening → List Node → Verdict
+verdict_by other_game nodes = NotGo
+verdict_by no_board nodes = BadSize
+verdict_by (board side) nodes = verdict_at (walk side nodes)
+
+-- the verdict of the nodes of a line, the root first
+abbrev pub verdict_of : List Node → Verdict
+verdict_of nodes = verdict_by (opening (root_properties nodes)) nodes
+
+abbrev pub verdict : Line → Verdict
+verdict line = verdict_of line.nodes
+
+-- the nodes of a line that are judged: all, or those up to the first that isn't allowed, or none
+abbrev pub judged_on : Opening → List Node → List Node
+judged_on other_game nodes = []
+judged_on no_board nodes = []
+judged_on (board side) nodes = judged_by (walk side nodes)
+
+abbrev pub judged_nodes : Line → List Node
+judged_nodes line = judged_on (opening (root_properties line.nodes)) line.nodes

@@ -1,0 +1,47 @@
+-- How far a line is played: node after node, up to the first one whose step is refused.
+use Rattle.std.specs.Prelude.{ℕ, Option, Some, None, option_to_list, List, [], ◌∷◌, ◌++◌, map, fold, Result, Ok, Err}
+use Rattle.sgf_tree.specs.Tree.{Node}
+use Rattle.go_board.specs.declared.reason.Reason.{Reason}
+use Rattle.go_board.specs.State.{State, starting}
+use Rattle.sgf_lines.specs.Step.{step}
+
+-- a node whose step was taken, and the state after it
+pub record Played : Type 0 where
+  pub node : Node
+  pub after : State
+
+-- the first node whose step is refused, and the reason
+pub record Fault : Type 0 where
+  pub node : Node
+  pub reason : Reason
+
+-- the nodes whose steps were taken; the state after them; and the fault, if one was met
+pub record Walk : Type 0 where
+  pub played : List Played
+  pub state : State
+  pub fault : Option Fault
+
+-- before the first node, on a board of that side
+abbrev pub begun : ℕ → Walk
+begun side = record { played = []; state = starting side; fault = None }
+
+-- a step that was taken goes on, and one that was refused is the fault
+abbrev pub stepped : Walk → Node → Result State Reason → Walk
+stepped w n (Ok s) = record { played = w.played ++ record { node = n; after = s } ∷ []; state = s; fault = None }
+stepped w n (Err reason) = record w { fault = Some (record { node = n; reason = reason }) }
+
+-- one node later; nothing comes after a fault
+abbrev pub next_by : Walk → Option Fault → Node → Walk
+next_by w (Some fault) n = w
+next_by w None n = stepped w n (step w.state n)
+
+abbrev pub next : Walk → Node → Walk
+next w n = next_by w w.fault n
+
+-- along nodes, from the state in which a game on a board of that side begins
+abbrev pub walk : ℕ → List Node → Walk
+walk side nodes = fold next (begun side) nodes
+
+-- the nodes that were judged: those whose steps were taken, and the faulty one
+abbrev pub judged_by : Walk → List Node
+judged_by w = map (λ (p : Played). p.node) w.played ++ map (λ (f : Fault). f.node) (option_to_list w.fault)
