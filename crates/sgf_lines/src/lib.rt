@@ -11,6 +11,7 @@
 //! - `line` has what is shown of a line.
 //! - `cursor` goes over the lines of a collection.
 //! - `options` has what a run is asked for.
+//! - `verdict` has what a referee says of a line.
 //! - `record` writes the text of a line.
 //! - `laws` has laws of the definitions.
 //! - `split` turns a text into the records of its lines, and `fault` has the ways in which it may fail.
