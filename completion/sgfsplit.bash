@@ -1,0 +1,27 @@
+# Completes the words of sgfsplit in bash: subcommands, options, forms and files.
+_sgfsplit() {
+    local word=${COMP_WORDS[COMP_CWORD]} before=${COMP_WORDS[COMP_CWORD - 1]}
+    COMPREPLY=()
+    if [ "$COMP_CWORD" -eq 1 ]; then
+        mapfile -t COMPREPLY < <(compgen -W 'split count --help' -- "$word")
+        return
+    fi
+    if [ "${COMP_WORDS[1]}" = split ]; then
+        case $before in
+            --form)
+                mapfile -t COMPREPLY < <(compgen -W 'list sgf gtp' -- "$word")
+                return
+                ;;
+            --after | --limit) return ;;
+        esac
+        if [[ $word == -* ]]; then
+            mapfile -t COMPREPLY < <(compgen -W '--form --after --limit --help' -- "$word")
+            return
+        fi
+    elif [[ $word == -* ]]; then
+        mapfile -t COMPREPLY < <(compgen -W '--help' -- "$word")
+        return
+    fi
+    mapfile -t COMPREPLY < <(compgen -f -- "$word")
+}
+complete -o filenames -F _sgfsplit sgfsplit

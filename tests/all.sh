@@ -1,0 +1,50 @@
+#!/usr/bin/env bash
+# The test command: the merge gate (`rt ci`), then every other script of this folder over the program that `make` built.
+# `tests/all.sh --scripts` leaves the gate out, `tests/all.sh NAME..` runs only the scripts named.
+# The last line is `N passed, N failed, N skipped`, summed over all.
+set -uo pipefail
+cd "$(dirname "$0")/.."
+passed=0 failed=0 skipped=0
+log=$(mktemp)
+trap 'rm -f "$log"' EXIT
+
+gate() {
+    rt ci < /dev/null 2>&1 | tee "$log"
+    local counts
+    counts=$(tail -n 1 "$log" | sed -n 's/^\([0-9][0-9]*\) passed, \([0-9][0-9]*\) failed$/\1 \2/p')
+    if [ -n "$counts" ]; then
+        passed=$((passed + ${counts% *}))
+        failed=$((failed + ${counts#* }))
+    else
+        echo "failed: rt ci gave no counts"
+        failed=$((failed + 1))
+    fi
+}
+
+script() {
+    local status=0
+    timeout 900 "tests/$1.sh" < /dev/null > "$log" 2>&1 || status=$?
+    case $status in
+        0) passed=$((passed + 1)); echo "passed: $1" ;;
+        77) skipped=$((skipped + 1)); echo "$(tail -n 1 "$log") ($1)" ;;
+        *) failed=$((failed + 1)); echo "FAILED: $1 (status $status)"; sed 's/^/    /' "$log" ;;
+    esac
+}
+
+names=()
+case ${1-} in
+    '') gate ;;
+    --scripts) ;;
+    *) names=("$@") ;;
+esac
+if [ ${#names[@]} = 0 ]; then
+    for file in tests/*.sh; do
+        name=$(basename "$file" .sh)
+        case $name in all | lib) ;; *) names+=("$name") ;; esac
+    done
+fi
+for name in ${names[@]+"${names[@]}"}; do
+    script "$name"
+done
+echo "$passed passed, $failed failed, $skipped skipped"
+[ "$failed" = 0 ]

@@ -1,0 +1,41 @@
+# What the scripts of tests/ share: `. "$(dirname "$0")/lib.sh"`. Such a script runs in a new folder, which goes when it ends.
+# Status 0 says passed, 77 skipped, anything else failed.
+set -euo pipefail
+top=$(cd "$(dirname "${BASH_SOURCE[0]}")/.." && pwd)
+export SGFSPLIT=${SGFSPLIT:-$top/crates/sgfsplit/out/sgfsplit}
+export LC_ALL=C
+PATH=$PATH:/usr/games
+work=$(mktemp -d)
+trap 'rm -rf "$work"' EXIT
+cd "$work"
+
+failed() {
+    echo "failed: $*" >&2
+    exit 1
+}
+
+skipped() {
+    echo "skipped: $*"
+    exit 77
+}
+
+# Goes on only where the programs are there.
+needs() {
+    local program
+    for program; do
+        command -v "$program" > /dev/null || skipped "$program isn't installed"
+    done
+}
+
+# The files WANT and GOT have the same bytes.
+same() {
+    diff "$1" "$2" >&2 || failed "${3:-$2} isn't ${1##*/}"
+}
+
+[ -x "$SGFSPLIT" ] || failed "no program at $SGFSPLIT: run make first"
+
+# Goes on only where the program has this form.
+needs_form() {
+    printf '(;)' > probe.sgf
+    "$SGFSPLIT" split --form "$1" probe.sgf > /dev/null 2>&1 || skipped "the program doesn't write the form $1 from a file"
+}
