@@ -10,9 +10,11 @@ pub mod GameNumbers
 pub mod Named
 pub mod Positions
 pub mod LinesRise
+pub mod Seeking
 pub mod Loops
 pub mod Standings
 pub mod Shows
+pub mod Sought
 pub mod Joins
 pub mod Records
 pub mod Again

@@ -5,6 +5,8 @@ use Rattle.sgf_tree.specs.declared.fault.MemoryFault.{MemoryFault}
 use Rattle.sgf_lines.specs.Lines.{lines, place_of}
 use Rattle.sgf_lines.specs.Paths.{Path, paths}
 use Rattle.sgf_lines.specs.declared.line.LineRef.{LineRef}
+use Rattle.sgf_lines.specs.declared.seek.SeekFault.{SeekFault}
+use Rattle.sgf_lines.specs.declared.seek.SeekFault.TheVariants.{NoSuchLine, Memory}
 
 -- a collection, and how many of its lines stand before the cursor
 pub record Position : Type 0 where
@@ -48,3 +50,8 @@ pub record IsAfterPlace (place : ℕ) (old new : Position) : Type 0 where
 -- no line has this place
 abbrev pub HasNoLineAt : Games → ℕ → Type 0
 HasNoLineAt games place = All (λ line. place_of line ≢ place) (lines games)
+
+-- that there is no such line is said of the place that was asked for, and only where no line has it
+abbrev pub IsSeekFault : Games → ℕ → SeekFault → Type 0
+IsSeekFault games place (NoSuchLine asked) = (asked ≡ place) × HasNoLineAt games place
+IsSeekFault games place Memory = Unit {0}

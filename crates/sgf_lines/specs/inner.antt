@@ -1,3 +1,4 @@
 pub mod Ways
 pub mod Standing
 pub mod Lending
+pub mod Seeking

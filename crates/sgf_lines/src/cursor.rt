@@ -1,6 +1,6 @@
 //! Goes over the lines of play of a collection.
 
-ghost use Rattle.std.specs.Prelude.{◌≡◌, ◌<◌, ◌-◌, Some, None, List, length, slice_get, OnOk, OnErr, IfOk, IfSome, MatchBool, ℕ};
+ghost use Rattle.std.specs.Prelude.{◌≡◌, ◌<◌, ◌-◌, Some, None, List, length, slice_get, OnOk, OnErr, IfOk, IfErr, IfSome, MatchBool, ℕ};
 ghost use Rattle.sgf_tree.specs.Tree.{node_count};
 ghost use Rattle.sgf_tree.specs.FileOrder.{IsLeaf};
 ghost use Rattle.sgf_lines.specs.Lines.{lines};
@@ -8,6 +8,7 @@ ghost use Rattle.sgf_lines.specs.Cursor.{advanced, IsLine};
 ghost use Rattle.sgf_lines.specs.inner.Ways.{IsWayTo, IsLeafSearch};
 
 use crate::line::LineRef;
+use crate::seek::{SeekFault, leaf_at};
 use sgf_tree::{Collection, MemoryFault};
 use std::alloc::Global;
 use std::marker::Model;
@@ -40,7 +41,7 @@ impl<'c, 'a> Model for Cursor<'c, 'a> {
 
 impl<'c, 'a> Cursor<'c, 'a> {
     ghost use Rattle.std.specs.Borrow.{sem};
-    ghost use Rattle.sgf_lines.specs.Cursor.{Gives, Leaves};
+    ghost use Rattle.sgf_lines.specs.Cursor.{Gives, Leaves, IsAfterPlace, IsSeekFault};
     ghost use Rattle.sgf_lines.specs.inner.Lending.{OnceReturned};
 
     /// A cursor before the first line.
@@ -66,6 +67,24 @@ impl<'c, 'a> Cursor<'c, 'a> {
         } else {
             Ok(None)
         }
+    }
+
+    /// Goes to the position directly after the line with this place, the offset of the `;` of its last node, from wherever it
+    /// stood.
+    ///
+    /// `NoSuchLine` comes exactly where no line has that place, unless memory was refused.
+    /// After a refusal the cursor is unchanged.
+    pub fn seek_after(&mut self, place: u64) -> Result<(), SeekFault>
+        ensures sought { OnOk result (IsAfterPlace place self.old self.new) }
+        ensures why { IfErr result (IsSeekFault self.old.games place) }
+        ensures unchanged { OnErr result (self.new ≡ self.old) }
+    {
+        let Some(leaf) = leaf_at(self.collection, place) else {
+            return Err(SeekFault::NoSuchLine { place });
+        };
+        write_way(self.collection, leaf, &mut self.path)?;
+        self.next = leaf + 1;
+        Ok(())
     }
 
     /// Goes on by one line, or answers false where none is left.
@@ -174,6 +193,22 @@ mod tests {
         expect_line(&rt, cursor.next()?, &[0, 1], 8);
         expect_line(&rt, cursor.next()?, &[0, 2, 3], 22);
         assert!(rt; cursor.next()?.is_none());
+        assert!(rt; cursor.next()?.is_none());
+        Ok(())
+    }
+
+    #[test]
+    fn seeks_from_anywhere(rt: HostRuntime) -> Result<(), Fail> {
+        let collection = read(rt.alloc(), b"(;SZ[3](;B[aa])(;B[bb];W[aa]))")?;
+        let mut cursor = Cursor::new(rt.alloc(), &collection);
+        cursor.seek_after(8)?;
+        expect_line(&rt, cursor.next()?, &[0, 2, 3], 22);
+        let refused = cursor.seek_after(16);
+        assert_eq!(rt; refused, Err(SeekFault::NoSuchLine { place: 16 }));
+        assert!(rt; cursor.next()?.is_none());
+        cursor.seek_after(8)?;
+        expect_line(&rt, cursor.next()?, &[0, 2, 3], 22);
+        cursor.seek_after(22)?;
         assert!(rt; cursor.next()?.is_none());
         Ok(())
     }

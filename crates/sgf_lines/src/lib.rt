@@ -10,6 +10,7 @@
 //!
 //! - `line` has what is shown of a line.
 //! - `cursor` goes over the lines of a collection.
+//! - `seek` looks for the line with a place.
 //! - `options` has what a run is asked for.
 //! - `verdict` has what a referee says of a line.
 //! - `record` writes the text of a line.
@@ -23,6 +24,7 @@ pub mod laws;
 mod line;
 mod options;
 mod record;
+mod seek;
 mod split;
 #[cfg(test)]
 mod tests;
@@ -32,6 +34,7 @@ pub use cursor::Cursor;
 pub use fault::FirstFault;
 pub use line::LineRef;
 pub use options::{Form, Options};
+pub use seek::SeekFault;
 pub use sgf_tree::MAX_LENGTH;
 pub use split::first_split;
 pub use verdict::Verdict;

@@ -1,0 +1,50 @@
+-- Looking for the leaf with a place among nodes whose places rise.
+use Rattle.std.proofs.Common.{◌≡◌, ◌≢◌, ℕ, ◌+◌, ◌<◌, ◌≤◌, Option, Some, None, refl, slice_get, length, option_map, inl, inr, arith}
+use Rattle.std.proofs.lemmas.Bool.{cases_lt, cases_eq}
+use Rattle.std.proofs.lemmas.Option.{slice_get_within}
+use Rattle.sgf_tree.specs.Tree.{Games, node_count}
+use Rattle.sgf_tree.specs.FileOrder.{Row, rows_of, place_at, IsLeaf, IsUnder, itself, below, IsLastBelow, PlacesRise}
+use Rattle.sgf_lines.specs.inner.Seeking.{IsLeafAt, AllBefore, GoesOnFrom}
+use Rattle.sgf_lines.proofs.Parents.{node_within}
+use Rattle.sgf_lines.proofs.Standing.{length-rows}
+
+pub last_within : (c : Games) (node last : ℕ) → node < node_count c → IsLastBelow c node last → last < node_count c
+last_within c node last lt h = under h.under
+  where
+    under : {j : ℕ} → IsUnder c node j → j < node_count c
+    under itself = lt
+    under (below {j = j} {k = k} e u) = node_within c k (Some j) e
+
+pub place_within : (c : Games) (i here : ℕ) → place_at c i ≡ Some here → i < node_count c
+place_within c i here e = omega (arith, row (slice_get (rows_of c) i) i refl e, length-rows 0 None c)
+  where
+    row : (o : Option Row) (i : ℕ) → slice_get (rows_of c) i ≡ o → option_map (λ r. r.node.place) o ≡ Some here → i < length (rows_of c)
+    row None i is e = absurd cc
+    row (Some r) i is e = slice_get_within (rows_of c) i r is
+
+-- nothing before a node that stands before the place reaches the place
+pub before_last : (c : Games) (place last p : ℕ) → PlacesRise c → place_at c last ≡ Some p → p < place → AllBefore c place (last + 1)
+before_last c place last p rise is lt = λ i here le e. elim (cases_lt i last) [
+  | inl before ↦ omega (arith, rise i last here p before e is)
+  | inr not_before ↦ let same : i ≡ last = omega arith in let places : place_at c last ≡ Some here = rw same at e in let equal : p ≡ here = cc in omega arith
+]
+
+pub jumps : (c : Games) (place node last p : ℕ) → PlacesRise c → node < node_count c → IsLastBelow c node last → place_at c last ≡ Some p → p < place
+    → GoesOnFrom c place node (last + 1)
+jumps c place node last p rise lt h is before =
+    let from : node ≤ last = h.greatest node itself in
+    record { later = omega arith; within = omega (arith, last_within c node last lt h); before = before_last c place last p rise is before }
+
+-- the first node that isn't before the place is the one sought, if it is a leaf and has the place
+pub no_leaf : (c : Games) (place node here : ℕ) → PlacesRise c → AllBefore c place node → place_at c node ≡ Some here → place ≤ here
+    → (here ≡ place → IsLeaf c node → ⊥) → (leaf : ℕ) → IsLeaf c leaf → place_at c leaf ≢ Some place
+no_leaf c place node here rise all is le not leaf is_leaf e = elim (cases_lt leaf node) [
+  | inl before ↦ absurd (omega (arith, all leaf place before e))
+  | inr from ↦ elim (cases_eq leaf node) [
+    | inl same ↦ let places : place_at c node ≡ Some place = rw same at e in let equal : here ≡ place = cc in not equal (rw same at is_leaf)
+    | inr after ↦ let lt : node < leaf = omega arith in absurd (omega (arith, rise node leaf here place lt is e))
+  ]
+]
+
+pub none_at_all : (c : Games) (place node : ℕ) → AllBefore c place node → node_count c ≤ node → (leaf : ℕ) → IsLeaf c leaf → place_at c leaf ≢ Some place
+none_at_all c place node all ge leaf is_leaf e = absurd (omega (arith, all leaf place (omega (arith, place_within c leaf place e)) e))

@@ -1,0 +1,69 @@
+//! Looks for the leaf at which a line with a given place ends.
+
+ghost use Rattle.std.specs.Prelude.{◌≡◌, ◌+◌, ◌<◌, ◌≤◌, IfSome};
+ghost use Rattle.sgf_tree.specs.Tree.{node_count};
+ghost use Rattle.sgf_tree.specs.FileOrder.{PlacesRise};
+ghost use Rattle.sgf_lines.specs.inner.Seeking.{IsLeafAt, AllBefore, GoesOnFrom};
+
+use sgf_tree::{Collection, MemoryFault};
+use thiserror::Error;
+
+/// Why a cursor was not put after a line.
+/// It is unchanged then.
+#[derive(Debug, Drop, PartialEq, Eq, Error)]
+pub enum SeekFault {
+    /// No line has this place: none ends at the node whose `;` has this offset, or no node has it.
+    #[error("no line ends at {place}")]
+    NoSuchLine { place: u64 },
+
+    /// More memory was wanted and refused.
+    #[error("out of memory")]
+    Memory,
+}
+
+impl From<MemoryFault> for SeekFault {
+    ghost use Rattle.sgf_lines.specs.declared.seek.SeekFault.TheVariants.{Memory};
+
+    ghost from_gives = { λ _ result. result ≡ Memory };
+
+    fn from(_: MemoryFault) -> Self {
+        SeekFault::Memory
+    }
+}
+
+/// The leaf with this place, if there is one.
+/// A node that ends before it is jumped over, with all that is below that node.
+pub(crate) fn leaf_at(collection: &Collection<'_>, place: u64) -> Option<usize>
+    ensures leaf { IsLeafAt collection.now place result }
+    ensures small { IfSome result (λ leaf. leaf < usize.MAX) }
+{
+    let mut node = 0;
+    'nodes: while node < collection.nodes() {
+        let here = collection.place(node) as u64;
+        if place <= here {
+            if here == place && collection.is_leaf(node) {
+                return Some(node);
+            }
+            return None;
+        }
+        node = first_after(collection, node, place);
+    }
+    None
+}
+
+/// The node to look at after a node that stands before the place: the first one below it, or the first one after all that
+/// is below it where that ends before the place.
+fn first_after(collection: &Collection<'_>, node: usize, place: u64) -> usize
+    requires within { node < node_count collection.now }
+    requires small { node_count collection.now ≤ usize.MAX }
+    requires rise { PlacesRise collection.now }
+    requires before { AllBefore collection.now place (node + 1) }
+    ensures { GoesOnFrom collection.now place node result }
+{
+    let last = collection.last_below(node);
+    if (collection.place(last) as u64) < place {
+        last + 1
+    } else {
+        node + 1
+    }
+}
