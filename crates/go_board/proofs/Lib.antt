@@ -1,5 +1,6 @@
 mod Examples
 pub mod PointLemmas
+pub mod VertexLemmas
 pub mod GridLemmas
 pub mod ReachingLemmas
 pub mod RuleLemmas

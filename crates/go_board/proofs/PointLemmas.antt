@@ -1,9 +1,10 @@
 -- proofs/PointLemmas.antt
--- Points, their places in a list that goes row by row, and tests on the points of a grid.
-use Rattle.std.proofs.Common.{◌≡◌, ◌≢◌, ℕ, zero, suc, ◌+◌, ◌*◌, ◌<◌, ◌⊎◌, Bool, true, false, ◌||◌, List, [], ◌∷◌, map, length, get_or, refl, sym, ap, ◌∙◌, arith, Decides, inl, inr}
+-- Points, their indices in a list that goes row by row, and tests on the points of a grid.
+use Rattle.std.proofs.Common.{◌≡◌, ◌≢◌, ◌↔◌, Some, slice_get, subst, ℕ, zero, suc, ◌+◌, ◌*◌, ◌<◌, ◌⊎◌, Bool, true, false, ◌||◌, List, [], ◌∷◌, map, length, get_or, refl, sym, ap, ◌∙◌, arith, Decides, inl, inr}
 use Rattle.std.specs.List.{list_any}
 use Rattle.std.proofs.lemmas.Nat.{mul-add-lt, mod-mul-add, div-mul-add, rows}
 use Rattle.std.proofs.lemmas.List.{get_or-map, ext_get_or, length-map}
+use Rattle.std.proofs.lemmas.Option.{slice_get-get_or, get_or_from_slice_get, slice_get_within}
 use Rattle.std.proofs.lemmas.List.FromFn.{length-map-range_with_len, get_or-map-range_with_len}
 use Rattle.std.proofs.lemmas.List.Folds.{list_any_at}
 use Rattle.std.proofs.lemmas.Bool.{false≢true, cases_eq}
@@ -21,12 +22,12 @@ index_below side p h = mul-add-lt p.row side p.col side h.1 h.0
 same_point : (a b c d : ℕ) → a ≡ c → b ≡ d → ◌≡◌ {A = Point} (record { col = a; row = b }) (record { col = c; row = d })
 same_point a b c d e f = cc
 
--- the point at a point's place is that point
+-- the point at a point's index is that point
 pub point_at-index_of : (side : ℕ) (p : Point) → IsOn side p → point_at side (index_of side p) ≡ p
 point_at-index_of side p h =
     same_point _ _ p.col p.row (mod-mul-add p.row side p.col h.0) (div-mul-add p.row side p.col h.0)
 
--- two points of the grid with one place are one
+-- two points of the grid with one index are one
 pub index_of-injective : (side : ℕ) (p q : Point) → IsOn side p → IsOn side q → index_of side p ≡ index_of side q → p ≡ q
 index_of-injective side p q hp hq e =
     sym (point_at-index_of side p hp) ∙ ap (point_at side) e ∙ point_at-index_of side q hq
@@ -35,14 +36,14 @@ pub above_zero : (side i : ℕ) → i < side * side → 0 < side
 above_zero zero i h = absurd (omega arith)
 above_zero (suc n) i h = omega arith
 
--- each place below the square of the side is that of a point of the grid
+-- each index below the square of the side is that of a point of the grid
 pub IsOn-point_at : (side i : ℕ) → i < side * side → IsOn side (point_at side i)
 IsOn-point_at side i h = let positive = above_zero side i h in (omega arith, grind (arith, rows))
 
 pub index_of-point_at : (side i : ℕ) → i < side * side → index_of side (point_at side i) ≡ i
 index_of-point_at side i h = let positive = above_zero side i h in omega arith
 
--- a point whose column and place are on the grid is on it
+-- a point whose column and index are on the grid is on it
 pub IsOn-index_below : (side : ℕ) (p : Point) → p.col < side → index_of side p < side * side → IsOn side p
 IsOn-index_below side p col below =
     let in_row = (IsOn-point_at side (index_of side p) below).1 in
@@ -57,14 +58,29 @@ pub get_or-points : (side i : ℕ) → i < side * side → get_or (points side) 
 unfolding points
 get_or-points side i h = get_or-map-range_with_len (point_at side) 0 (side * side) i i origin h (omega arith)
 
--- a function of the points, in a list, read at a point's place
+-- a point of the grid stands at its index in the list of the points, and nowhere else
+pub slice_get-points : (side index : ℕ) (point : Point) → ((slice_get (points side) index ≡ Some point) ↔ (IsOn side point × (index ≡ index_of side point)))
+slice_get-points side index point = (
+  λ at.
+      let within = slice_get_within (points side) index point at in
+      let below : index < side * side = rw (← length-points side) within in
+      let same : point_at side index ≡ point = sym (get_or-points side index below) ∙ get_or_from_slice_get (points side) index point origin at in
+      (subst (IsOn side) same (IsOn-point_at side index below), sym (index_of-point_at side index below) ∙ ap (index_of side) same),
+  λ w.
+      let below : index < side * side = rw w.1 (index_below side point w.0) in
+      let within : index < length (points side) = rw length-points below in
+      slice_get-get_or (points side) index origin within
+      ∙ ap Some (get_or-points side index below ∙ ap (point_at side) w.1 ∙ point_at-index_of side point w.0),
+)
+
+-- a function of the points, in a list, read at a point's index
 pub get_or-map-points : {X : Type 0} (f : Point → X) (side : ℕ) (p : Point) (d : X) → IsOn side p → get_or (map f (points side)) (index_of side p) d ≡ f p
 get_or-map-points f side p d h =
     let below : index_of side p < length (points side) = rw length-points (index_below side p h) in
     get_or-map f (points side) (index_of side p) origin d below
     ∙ ap f (get_or-points side (index_of side p) (index_below side p h) ∙ point_at-index_of side p h)
 
--- a list as long as the grid is that of a function of the points which it is at each place
+-- a list as long as the grid is that of a function of the points which it is at each index
 pub is_map-points : {X : Type 0} (f : Point → X) (side : ℕ) (xs : List X) (d : X) → length xs ≡ side * side → ((i : ℕ) → i < side * side → get_or xs i d ≡ f (point_at side i)) → xs ≡ map f (points side)
 is_map-points f side xs d same each =
     ext_get_or d xs (map f (points side)) (same ∙ sym (length-map (points side) f ∙ length-points side))
@@ -119,10 +135,10 @@ same_or_not p q =
       | inr other ↦ inr (λ e. other (ap (λ r. r.col) e))
     ]
 
--- a point at a place of a list that goes row by row; behind its end, only the place is known
-pub record IsAt (side place : ℕ) (p : Point) : Type 0 where
-  pub at_index : index_of side p ≡ place
-  pub in_columns : place < side * side → p.col < side
+-- a point at an index of a list that goes row by row; after its end, only the index is known
+pub record IsAt (side index : ℕ) (p : Point) : Type 0 where
+  pub at_index : index_of side p ≡ index
+  pub in_columns : index < side * side → p.col < side
 
 pub IsAt-first : (side : ℕ) → IsAt side 0 origin
 IsAt-first side = record { at_index = omega arith; in_columns = λ h. above_zero side 0 h }

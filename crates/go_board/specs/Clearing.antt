@@ -11,24 +11,29 @@ use Rattle.go_board.specs.Point.{IsOn, points}
 use Rattle.go_board.specs.Grid.{Grid, cell_at, with_cell, grid_of}
 use Rattle.go_board.specs.Reaching.{Reaches, reaches}
 
--- what stands on p once a colour was cleared: nothing, where p has that colour and doesn't reach empty
+-- what stands on a point once a colour was cleared: nothing, where it has that colour and doesn't reach empty
 unfoldable pub cleared_cell : Grid → Colour → Point → Cell
-cleared_cell g k p =
-    if same_cell (cell_at g p) (stone_of k) && not (reaches g Empty p) then Empty else cell_at g p
+cleared_cell grid colour point =
+    if same_cell (cell_at grid point) (stone_of colour) && not (reaches grid Empty point) then Empty
+    else cell_at grid point
 
--- the grid with all points of a colour that don't reach empty made empty, each tested on the grid as it was
+-- the grid once a colour's groups without a liberty were taken off: all points of the colour that don't reach empty are
+-- made empty, each tested on the grid as it was
 unfoldable pub clear : Grid → Colour → Grid
-clear g k = grid_of g.side (cleared_cell g k)
+clear grid colour = grid_of grid.side (cleared_cell grid colour)
 
--- the whole move: the point takes the player's colour, then the opponent's colour is cleared, then the player's own
+-- playing a stone: the point takes the player's colour, then the opponent's colour is cleared, which captures, and then
+-- the player's own, which is suicide
 unfoldable pub play : Grid → Colour → Point → Grid
-play g k p = clear (clear (with_cell g p (stone_of k)) (opponent k)) k
+play grid colour point = clear (clear (with_cell grid point (stone_of colour)) (opponent colour)) colour
 
--- some stone doesn't reach empty
+-- some stone has no liberty: it doesn't reach empty
 abbrev pub HasUnreaching : Grid → Type 0
-HasUnreaching g = (p : Point) × IsOn g.side p × (cell_at g p ≢ Empty) × (¬ (Reaches g Empty p))
+HasUnreaching grid =
+    (point : Point) × IsOn grid.side point × (cell_at grid point ≢ Empty) × (¬ (Reaches grid Empty point))
 
 -- the same, as a test
 unfoldable pub has_unreaching : Grid → Bool
-has_unreaching g =
-    list_any (λ p. not (same_cell (cell_at g p) Empty) && not (reaches g Empty p)) (points g.side)
+has_unreaching grid =
+    list_any (λ point. not (same_cell (cell_at grid point) Empty) && not (reaches grid Empty point))
+    (points grid.side)

@@ -29,13 +29,13 @@ abbrev pub IsRectOn : ℕ → Rect → Type 0
 IsRectOn side r =
     IsOn side r.first × IsOn side r.last × (r.first.col ≤ r.last.col) × (r.first.row ≤ r.last.row)
 
--- the place of a point in a list that goes row by row from the top, from left to right
+-- the index of a point in a list that goes row by row from the top, from left to right
 abbrev pub index_of : ℕ → Point → ℕ
 index_of side p = p.row * side + p.col
 
--- the point at a place
+-- the point at an index
 abbrev pub point_at : ℕ → ℕ → Point
-point_at side place = record { col = place % side; row = place / side }
+point_at side index = record { col = index % side; row = index / side }
 
 -- the points of the grid, row by row from the top, from left to right
 unfoldable pub points : ℕ → List Point

@@ -1,6 +1,7 @@
 -- specs/Reaching.antt
--- Reaching a colour, as the Tromp-Taylor rules say it: by a path of adjacent points of the point's own colour. A point
--- of that colour reaches it too, by itself (this project's choice; clearing and the score don't ask it).
+-- Reaching a colour, as the Tromp-Taylor rules say it: by a path of adjacent points of the point's own colour. The empty
+-- points beside a group are its liberties: a stone reaches empty where its group has one. A point of that colour reaches
+-- it too, by itself (this project's choice; clearing and the score don't ask it).
 use Rattle.std.specs.Prelude.{◌≡◌, ℕ, zero, suc, ◌*◌, Bool, ◌&&◌, ◌||◌, List, [], ◌∷◌}
 use Rattle.std.specs.List.{list_any}
 use Rattle.go_board.specs.declared.stones.Cell.{Cell}
@@ -10,32 +11,37 @@ use Rattle.go_board.specs.Point.{IsOn, AreAdjacent, are_adjacent, points}
 use Rattle.go_board.specs.Grid.{Grid, cell_at}
 use Rattle.go_board.specs.Marking.{Marking, is_marked, marking_of}
 
--- from p the path leads to a point of colour k: each of its points is on the grid and adjacent to the one before, and
--- all but the last are of the colour own
+-- from the point the path leads to one of the wanted colour: each of its points is on the grid and adjacent to the one
+-- before, and all but the last have the colour own
 abbrev pub Leads : Grid → Cell → Cell → Point → List Point → Type 0
-Leads g own k p [] = IsOn g.side p × (cell_at g p ≡ k)
-Leads g own k p (q ∷ path) = IsOn g.side p × (cell_at g p ≡ own) × AreAdjacent p q × Leads g own k q path
+Leads grid own wanted point [] = IsOn grid.side point × (cell_at grid point ≡ wanted)
+Leads grid own wanted point (next ∷ path) =
+    IsOn grid.side point × (cell_at grid point ≡ own) × AreAdjacent point next × Leads grid own wanted next path
 
--- p reaches the colour k: some path through points of p's own colour leads from p to a point of colour k
+-- the point reaches the wanted colour: some path through points of its own colour leads from it to a point of that colour
 abbrev pub Reaches : Grid → Cell → Point → Type 0
-Reaches g k p = (path : List Point) × Leads g (cell_at g p) k p path
+Reaches grid wanted point = (path : List Point) × Leads grid (cell_at grid point) wanted point path
 
 -- Below, the same as a function that computes; the laws say that the two agree for points of the grid.
 
--- whether q stands beside p, is marked, and is of p's colour or of colour k
+-- the next point stands beside the point, is marked, and has the point's colour or the wanted one
 abbrev pub leads_on : Grid → Cell → Marking → Point → Point → Bool
-leads_on g k m p q =
-    are_adjacent p q && (is_marked m q && (same_cell (cell_at g q) (cell_at g p) || same_cell (cell_at g q) k))
+leads_on grid wanted marking point next =
+    are_adjacent point next
+    && (is_marked marking next
+    && (same_cell (cell_at grid next) (cell_at grid point) || same_cell (cell_at grid next) wanted))
 
--- the marked points, and those that reach the colour k by one step to a marked point
+-- the marked points, and those that reach the wanted colour by one step to a marked point
 unfoldable pub spread : Grid → Cell → Marking → Marking
-spread g k m = marking_of g.side (λ p. is_marked m p || list_any (leads_on g k m p) (points g.side))
+spread grid wanted marking =
+    marking_of grid.side
+    (λ point. is_marked marking point || list_any (leads_on grid wanted marking point) (points grid.side))
 
--- the points that reach the colour k in at most n steps
+-- the points that reach the wanted colour in at most n steps
 unfoldable pub reaching_within : Grid → Cell → ℕ → Marking
-reaching_within g k zero = marking_of g.side (λ p. same_cell (cell_at g p) k)
-reaching_within g k (suc n) = spread g k (reaching_within g k n)
+reaching_within grid wanted zero = marking_of grid.side (λ point. same_cell (cell_at grid point) wanted)
+reaching_within grid wanted (suc n) = spread grid wanted (reaching_within grid wanted n)
 
--- whether p reaches the colour k: a path need not have more steps than the grid has points
+-- the point reaches the wanted colour: a path need not have more steps than the grid has points
 unfoldable pub reaches : Grid → Cell → Point → Bool
-reaches g k p = is_marked (reaching_within g k (g.side * g.side)) p
+reaches grid wanted point = is_marked (reaching_within grid wanted (grid.side * grid.side)) point

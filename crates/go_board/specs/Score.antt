@@ -11,16 +11,19 @@ use Rattle.go_board.specs.Reaching.{Reaches, reaches}
 
 -- a point counts for a player where it has her colour, or is empty and reaches her colour and not the other's
 abbrev pub CountsFor : Grid → Colour → Point → Type 0
-CountsFor g k p =
-    (cell_at g p ≡ stone_of k)
-    ⊎ ((cell_at g p ≡ Empty) × Reaches g (stone_of k) p × (¬ (Reaches g (stone_of (opponent k)) p)))
+CountsFor grid colour point =
+    (cell_at grid point ≡ stone_of colour)
+    ⊎ ((cell_at grid point ≡ Empty)
+    × Reaches grid (stone_of colour) point
+    × (¬ (Reaches grid (stone_of (opponent colour)) point)))
 
 -- the same, as a test
 unfoldable pub counts_for : Grid → Colour → Point → Bool
-counts_for g k p =
-    same_cell (cell_at g p) (stone_of k)
-    || (same_cell (cell_at g p) Empty && (reaches g (stone_of k) p && not (reaches g (stone_of (opponent k)) p)))
+counts_for grid colour point =
+    same_cell (cell_at grid point) (stone_of colour)
+    || (same_cell (cell_at grid point) Empty
+    && (reaches grid (stone_of colour) point && not (reaches grid (stone_of (opponent colour)) point)))
 
 -- a player's score is how many points count for her
 unfoldable pub score_of : Grid → Colour → ℕ
-score_of g k = count_by (counts_for g k) (points g.side)
+score_of grid colour = count_by (counts_for grid colour) (points grid.side)

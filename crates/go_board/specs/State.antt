@@ -1,6 +1,6 @@
 -- specs/State.antt
 -- The state of a game, and what setups and turns make of it (Tromp-Taylor; setup by SGF FF[4]).
-use Rattle.std.specs.Prelude.{ℕ, ◌+◌, Bool, ◌&&◌, ◌==◌, nat_le, if◌then◌else◌, Option, Some, List, [], ◌∷◌, fold}
+use Rattle.std.specs.Prelude.{◌≡◌, ℕ, ◌+◌, Bool, ◌&&◌, ◌==◌, nat_le, if◌then◌else◌, Option, Some, List, [], ◌∷◌, fold}
 use Rattle.go_board.specs.declared.stones.Colour.{Colour}
 use Rattle.go_board.specs.declared.stones.Colour.TheVariants.{Black}
 use Rattle.go_board.specs.declared.points.Point.{Point}
@@ -80,6 +80,15 @@ pub record States : Type 0 where
 -- only the state in which a game begins
 abbrev pub begun : ℕ → States
 begun side = record { present = starting side; earlier = [] }
+
+-- the oldest of a state and those before it
+abbrev pub oldest_of : State → List State → State
+oldest_of state [] = state
+oldest_of state (earlier ∷ others) = oldest_of earlier others
+
+-- the oldest state is that in which a game begins
+abbrev pub HaveBegun : States → Type 0
+HaveBegun states = oldest_of states.present states.earlier ≡ starting states.present.colouring.side
 
 -- the states, and then a new present one
 abbrev pub followed_by : States → State → States

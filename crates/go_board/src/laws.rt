@@ -1,20 +1,41 @@
 //! What the words of the contracts mean. Each function here does nothing; its contract is a law, proved.
 
-mod turns;
-
-ghost use Rattle.std.specs.Prelude.{◌≡◌, ◌≢◌, ◌*◌, ◌↔◌, IsTrue, length};
+ghost use Rattle.std.specs.Prelude.{◌≡◌, ◌≢◌, ◌≤◌, ◌*◌, ◌↔◌, if◌then◌else◌, IsTrue, ℕ, List, Option, Some, false, length, map, slice_get};
 ghost use Rattle.go_board.specs.declared.stones.Cell.{Cell};
 ghost use Rattle.go_board.specs.declared.stones.Cell.TheVariants.{Empty};
 ghost use Rattle.go_board.specs.declared.stones.Colour.{Colour};
 ghost use Rattle.go_board.specs.declared.points.Point.{Point};
+ghost use Rattle.go_board.specs.declared.reason.Reason.{Reason};
+ghost use Rattle.go_board.specs.declared.referee.plays.Play.{Play};
+ghost use Rattle.go_board.specs.declared.referee.plays.SetupOp.{SetupOp};
 ghost use Rattle.go_board.specs.Colour.{stone_of};
-ghost use Rattle.go_board.specs.Point.{IsOn};
+ghost use Rattle.go_board.specs.Point.{IsOn, index_of, points};
 ghost use Rattle.go_board.specs.Grid.{Grid, cell_at, with_cell};
 ghost use Rattle.go_board.specs.Reaching.{Reaches, reaches};
-ghost use Rattle.go_board.specs.Clearing.{clear, HasUnreaching, has_unreaching};
+ghost use Rattle.go_board.specs.Clearing.{clear, play, HasUnreaching, has_unreaching};
 ghost use Rattle.go_board.specs.Score.{CountsFor, counts_for};
+ghost use Rattle.go_board.specs.Vertex.{vertex_of};
+ghost use Rattle.go_board.specs.State.{State, is_in, with_area, set_up, turned};
+ghost use Rattle.go_board.specs.Reason.{IsFirstReason, reason_of};
 
-pub use turns::{areas, reasons, sides};
+/// The points of a grid are listed once each, a point at its index and nowhere else.
+pub fn listing()
+    ensures length { (side : ℕ) → length (points side) ≡ side * side }
+    ensures once { (side index : ℕ) (point : Point)
+        → ((slice_get (points side) index ≡ Some point)
+        ↔ (IsOn side point × (index ≡ index_of side point))) }
+{}
+
+/// The cells of a grid are what stands on its points, in their order; so two grids of one side with the same on each
+/// point are one.
+pub fn colouring()
+    ensures cells { (grid : Grid) → length grid.cells ≡ grid.side * grid.side
+        → map (cell_at grid) (points grid.side) ≡ grid.cells }
+    ensures same { (grid other : Grid) → grid.side ≡ other.side
+        → length grid.cells ≡ grid.side * grid.side → length other.cells ≡ other.side * other.side
+        → ((point : Point) → IsOn grid.side point → cell_at grid point ≡ cell_at other point)
+        → grid ≡ other }
+{}
 
 /// The function `reaches` tells exactly the points of the grid that reach a colour by a path.
 pub fn reaching()
@@ -51,4 +72,36 @@ pub fn scoring()
 /// Some stone doesn't reach empty exactly where a point of the grid has a stone and no path to an empty point.
 pub fn unreaching()
     ensures { (g : Grid) → (IsTrue (has_unreaching g) ↔ HasUnreaching g) }
+{}
+
+/// After a move no stone is without a liberty, whatever stood on the grid before.
+pub fn moving()
+    ensures { (grid : Grid) (colour : Colour) (point : Point)
+        → ¬ HasUnreaching (play grid colour point) }
+{}
+
+/// Different points have different vertices.
+pub fn naming()
+    ensures { (side : ℕ) (point other : Point) → side ≤ 25 → IsOn side point → IsOn side other
+        → vertex_of point side ≡ vertex_of other side → point ≡ other }
+{}
+
+/// The function `reason_of` tells exactly the first reason, in the order of checking, that holds of a turn.
+pub fn reasons()
+    ensures { (s : State) (k : Colour) (x : Play) (r : Reason)
+        → ((reason_of s k x ≡ Some r) ↔ IsFirstReason s k x r) }
+{}
+
+/// Colouring an area colours its points, and no other.
+pub fn areas()
+    ensures { (g : Grid) (op : SetupOp) (p : Point) → IsOn g.side p
+        → cell_at (with_area g op) p ≡ (if is_in op.area p then op.cell else cell_at g p) }
+{}
+
+/// Setups and turns leave the side of the board.
+pub fn sides()
+    ensures setup { (s : State) (ops : List SetupOp) (player : Option Colour)
+        → (set_up s ops player).colouring.side ≡ s.colouring.side }
+    ensures turn { (s : State) (k : Colour) (x : Play)
+        → (turned s k x).colouring.side ≡ s.colouring.side }
 {}

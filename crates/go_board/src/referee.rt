@@ -36,14 +36,14 @@ impl<P: Past> Model for Referee<P> {
 
     ghost view = { λ r. states_of (P.held r.past) r.player r.passes r.turns r.earlier.items };
 
-    ghost invariant = { λ r. IsKept (P.held r.past) r.passes r.turns (reverse r.earlier.items) };
+    ghost invariant = { λ r. IsKept (P.held r.past) r.player r.passes r.turns (reverse r.earlier.items) };
 }
 
 impl<P: Past> Referee<P> {
     ghost use Rattle.std.specs.Prelude.{◌≡◌, ◌<◌, ◌≤◌, length, IfOk};
     ghost use Rattle.go_board.specs.declared.stones.Colour.TheVariants.{Black, White};
     ghost use Rattle.go_board.specs.Score.{score_of};
-    ghost use Rattle.go_board.specs.State.{begun, followed_by, is_over};
+    ghost use Rattle.go_board.specs.State.{HaveBegun, begun, followed_by, is_over};
 
     /// A referee in the state in which a game begins: the board is empty and Black must move. `MemoryFault` comes only
     /// where memory was refused.
@@ -59,9 +59,10 @@ impl<P: Past> Referee<P> {
         })
     }
 
-    /// How many accepted setups and turns aren't taken back.
+    /// How many accepted setups and turns aren't taken back. The oldest state is that in which a game begins.
     pub fn depth(&self) -> usize
-        ensures { result ≡ length self.now.earlier }
+        ensures value { result ≡ length self.now.earlier }
+        ensures begun { HaveBegun self.now }
     {
         self.earlier.len()
     }
@@ -70,7 +71,8 @@ impl<P: Past> Referee<P> {
     /// one.
     pub fn undo(&mut self)
         requires { 0 < length self.old.earlier }
-        ensures { self.old ≡ followed_by self.new self.old.present }
+        ensures value { self.old ≡ followed_by self.new self.old.present }
+        ensures side { self.new.present.colouring.side ≡ self.old.present.colouring.side }
     {
         let left = self.earlier.pop().unwrap();
         if left.grew {
@@ -92,13 +94,15 @@ impl<P: Past> Referee<P> {
     pub fn turns(&self) -> u64
         ensures value { result ≡ self.now.present.turns }
         ensures at_most { result ≤ length self.now.earlier }
+        ensures countable { result < u64.MAX }
     {
         self.turns
     }
 
     /// Whether the game is over, by two passes in a row.
     pub fn over(&self) -> bool
-        ensures { result ≡ is_over self.now.present }
+        ensures value { result ≡ is_over self.now.present }
+        ensures at_most { self.now.present.passes ≤ 2 }
     {
         self.passes == 2
     }

@@ -1,6 +1,6 @@
 -- specs/inner/Earlier.antt
 -- A referee's states, from a past and from what it keeps of each earlier state besides.
-use Rattle.std.specs.Prelude.{ℕ, ◌+◌, ◌≤◌, ◌<◌, Option, List, [], ◌∷◌, if◌then◌else◌, unwrap_or, length, reverse, drop, Some, None}
+use Rattle.std.specs.Prelude.{◌≡◌, ℕ, ◌+◌, ◌≤◌, ◌<◌, Option, List, [], ◌∷◌, if◌then◌else◌, unwrap_or, length, reverse, drop, Some, None}
 use Rattle.go_board.specs.declared.stones.Colour.{Colour}
 use Rattle.go_board.specs.declared.referee.plays.Play.{Play}
 use Rattle.go_board.specs.declared.referee.plays.Play.TheVariants.{Pass, Stone}
@@ -9,7 +9,7 @@ use Rattle.go_board.specs.Colour.{opponent}
 use Rattle.go_board.specs.Grid.{Grid, empty_grid}
 use Rattle.go_board.specs.Clearing.{play}
 use Rattle.go_board.specs.Past.{Held, newest, present_stretch, HaveSide}
-use Rattle.go_board.specs.State.{State, States}
+use Rattle.go_board.specs.State.{State, States, starting, oldest_of}
 
 -- the newest of the past colourings, of which there is one
 abbrev pub newest_grid : List Held → Grid
@@ -73,10 +73,12 @@ AreBounded [] = Unit {0}
 AreBounded (left ∷ others) = (left.passes ≤ 2) × (left.turns ≤ length others) × AreBounded others
 
 -- what a referee keeps, of its earlier states newest first: past colourings of one side, one more at least than calls that
--- made them grow; at most two passes, and at most as many turns as earlier states
-pub record IsKept (held : List Held) (passes turns : ℕ) (earlier : List Earlier) : Type 0 where
+-- made them grow; at most two passes, and at most as many turns as earlier states; the oldest state is the starting one
+pub record IsKept (held : List Held) (player : Option Colour) (passes turns : ℕ) (earlier : List Earlier) : Type 0 where
   pub one_side : HaveSide (newest_grid held).side held
   pub enough : grown earlier < length held
   pub few_passes : passes ≤ 2
   pub few_turns : turns ≤ length earlier
   pub bounded : AreBounded earlier
+  pub from_start : oldest_of (state_of held player passes turns) (states_before held earlier)
+      ≡ starting (newest_grid held).side

@@ -1,10 +1,10 @@
 -- specs/inner/Entries.antt
--- Past colourings whose cells stand one behind the other in one list.
+-- Past colourings whose cells stand one after the other in one list.
 use Rattle.std.specs.Prelude.{ℕ, zero, suc, ◌+◌, ◌*◌, Bool, false, List, [], ◌∷◌, slice_range, slice_index_or}
 use Rattle.go_board.specs.declared.stones.Cell.{Cell}
 use Rattle.go_board.specs.Past.{Held}
 
--- the colouring at a place of the list, counted from 0
+-- the colouring at an index of the list, counted from 0
 abbrev pub entry : ℕ → List Cell → List Bool → ℕ → Held
 entry side cells marks n =
     record {

@@ -18,14 +18,14 @@ is_unreaching cell reaches = not (same_cell cell Empty) && not reaches
 abbrev pub counts : Cell → Cell → Bool → Bool → Bool
 counts cell stone own other = same_cell cell stone || (same_cell cell Empty && (own && not other))
 
--- the cell and the mark at a place
+-- the cell and the mark at an index
 abbrev pub cell_in : List Cell → ℕ → Cell
-cell_in cells place = slice_index_or cells place Empty
+cell_in cells index = slice_index_or cells index Empty
 
 abbrev pub mark_in : List Bool → ℕ → Bool
-mark_in marks place = slice_index_or marks place false
+mark_in marks index = slice_index_or marks index false
 
--- the same for all places of a list of cells
+-- the same for all indices of a list of cells
 unfoldable pub all_cleared : List Cell → Cell → List Bool → List Cell
 all_cleared cells stone marks =
     map (λ i. cleared (cell_in cells i) stone (mark_in marks i)) (range_with_len 0 (length cells))

@@ -1,6 +1,6 @@
 //! Which points reach a colour (Tromp-Taylor), by a flood from the points of that colour.
 
-ghost use Rattle.std.specs.Prelude.{◌≡◌, ℕ, ◌*◌, ◌+◌, ◌≤◌, ◌↔◌, IsTrue};
+ghost use Rattle.std.specs.Prelude.{◌≡◌, ℕ, ◌*◌, ◌+◌, ◌≤◌, ◌↔◌, IsTrue, length};
 ghost use Rattle.std.specs.Option.{ForSome};
 ghost use Rattle.go_board.specs.declared.points.Point.{Point};
 ghost use Rattle.go_board.specs.Point.{IsOn};
@@ -25,6 +25,7 @@ impl Board {
         ensures side { result.side ≡ self.now.side }
         ensures marks { (p : Point) → IsOn self.now.side p
             → (IsTrue (is_marked result p) ↔ Reaches self.now target p) }
+        ensures all { length result.marks ≡ self.now.side * self.now.side }
         ensures steps { steps.new ≡ steps.old + marked_count result }
     {
         let points = self.size().points();
@@ -45,6 +46,7 @@ impl Board {
         ensures side { result.side ≡ self.now.side }
         ensures marks { (p : Point) → IsOn self.now.side p
             → (IsTrue (is_marked result p) ↔ Reaches self.now target p) }
+        ensures all { length result.marks ≡ self.now.side * self.now.side }
         ensures steps { steps.new ≡ steps.old + marked_count result }
     {
         let mut search = self.search_from::<N>(target);

@@ -1,7 +1,7 @@
--- proofs/laws/turns/areas/Answers.antt
+-- proofs/laws/areas/Answers.antt
 use Rattle.go_board.specs.State.{with_area}
 use Rattle.go_board.proofs.GridLemmas.{cell_at-grid_of}
-use Rattle.go_board.proofs.laws.turns.areas.Goals as goal
+use Rattle.go_board.proofs.laws.areas.Goals as goal
 
 pub returns : goal.returns
 unfolding with_area

@@ -1,6 +1,6 @@
--- proofs/laws/turns/sides/Answers.antt
+-- proofs/laws/sides/Answers.antt
 use Rattle.go_board.proofs.TurnLemmas.{side-set_up, side-turned}
-use Rattle.go_board.proofs.laws.turns.sides.Goals as goal
+use Rattle.go_board.proofs.laws.sides.Goals as goal
 
 pub returns-clause-setup : goal.returns-clause-setup
 returns-clause-setup c = side-set_up

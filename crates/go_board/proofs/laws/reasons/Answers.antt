@@ -1,6 +1,6 @@
--- proofs/laws/turns/reasons/Answers.antt
+-- proofs/laws/reasons/Answers.antt
 use Rattle.go_board.proofs.TurnLemmas.{first_reason}
-use Rattle.go_board.proofs.laws.turns.reasons.Goals as goal
+use Rattle.go_board.proofs.laws.reasons.Goals as goal
 
 pub returns : goal.returns
 returns c = first_reason
