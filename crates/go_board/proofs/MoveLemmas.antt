@@ -27,32 +27,6 @@ opponent_differs : (k : Colour) → stone_of k ≢ stone_of (opponent k)
 opponent_differs Black = λ e. cc
 opponent_differs White = λ e. cc
 
--- taking nothing, and taking twice
-
-pub LosesDead-none : (g : Grid) (k : Colour) → LosesDead g g k
-LosesDead-none g k = record {
-  same_side = refl;
-  all = refl;
-  taken = λ p on. inl refl;
-  still = λ p on way. way;
-  cleared = refl;
-}
-
-pub LosesDead-twice : (g h i : Grid) (k : Colour) → LosesDead g h k → LosesDead h i k → LosesDead g i k
-LosesDead-twice g h i k first second = record {
-  same_side = second.same_side ∙ first.same_side;
-  all = second.all ∙ first.all;
-  taken = λ p on.
-      elim (second.taken p (subst (λ s. IsOn s p) (sym first.same_side) on)) [
-        | inl same ↦
-            elim (first.taken p on) [ inl was ↦ inl (same ∙ was) | inr gone ↦ inr (same ∙ gone.0, gone.1) ]
-        | inr gone ↦
-            elim (first.taken p on) [ inl was ↦ inr (gone.0, sym was ∙ gone.1) | inr before ↦ inr (gone.0, before.1) ]
-      ];
-  still = λ p on way. second.still p (subst (λ s. IsOn s p) (sym first.same_side) on) (first.still p on way);
-  cleared = second.cleared ∙ first.cleared;
-}
-
 -- a stone of the colour that is left was there before
 pub left_over : (g h : Grid) (k d : Colour) (p : Point) → LosesDead g h k → IsOn g.side p → cell_at h p ≡ stone_of d → cell_at g p ≡ stone_of d
 left_over g h k d p loses on left =

@@ -140,12 +140,6 @@ pub record IsAt (side index : ℕ) (p : Point) : Type 0 where
   pub at_index : index_of side p ≡ index
   pub in_columns : index < side * side → p.col < side
 
-pub IsAt-first : (side : ℕ) → IsAt side 0 origin
-IsAt-first side = record { at_index = omega arith; in_columns = λ h. above_zero side 0 h }
-
-pub IsAt-on : (side i : ℕ) (p : Point) → IsAt side i p → i < side * side → IsOn side p
-IsAt-on side i p at below = IsOn-index_below side p (at.in_columns below) (rw at.at_index below)
-
 pub IsAt-next : (side i : ℕ) (p q : Point) → IsAt side i p → index_of side q ≡ index_of side p + 1 → q.col < side → IsAt side (i + 1) q
 IsAt-next side i p q at next column =
     record { at_index = next ∙ ap (λ n. n + 1) at.at_index; in_columns = λ _. column }

@@ -100,9 +100,6 @@ found_room room more s p false e (inl all) = subst (λ t. HasRoom room more t) (
 found_room room more s p false e (inr left) =
     subst (λ t. HasRoom room more t) (sym (with_found-new s p e)) (inr (omega (arith, length_push s.found p)))
 
-pub HasRoom-with_found : (room more : ℕ) (s : Searched) (p : Point) → HasRoom room (more + 1) s → HasRoom room more (with_found s p)
-HasRoom-with_found room more s p h = found_room room more s p (is_marked s.marking p) refl h
-
 pub HasRoom-less : (room more : ℕ) (s : Searched) → HasRoom room (more + 1) s → HasRoom room more s
 HasRoom-less room more s (inl all) = inl all
 HasRoom-less room more s (inr left) = inr (omega arith)

@@ -3,8 +3,12 @@
 mod areas;
 mod capture;
 mod flood;
+#[cfg(test)]
+mod move_tests;
 mod search;
 mod sweep;
+#[cfg(test)]
+mod tests;
 
 ghost use Rattle.std.specs.Prelude.{◌≡◌, replicate};
 ghost use Rattle.go_board.specs.declared.stones.Cell.TheVariants.{Empty};

@@ -59,10 +59,3 @@ pub use stones::{Cell, Colour};
 pub use values::{point, rect};
 pub use vertices::naming::vertex;
 pub use vertices::{MAX_VERTEX_SIDE, Vertex};
-
-#[cfg(test)]
-mod play_tests;
-#[cfg(test)]
-mod referee_tests;
-#[cfg(test)]
-mod tests;

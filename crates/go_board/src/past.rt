@@ -1,6 +1,8 @@
 //! The colourings that a game has been through.
 
 mod list_past;
+#[cfg(test)]
+mod tests;
 
 ghost use Rattle.std.specs.Prelude.{◌≡◌, ◌≤◌, ◌↔◌, [], ◌∷◌, true, false, List, Some, length, drop, IsTrue, IfOk, OnOk, OnErr, Contains};
 ghost use Rattle.go_board.specs.Past.{Held, newest, present_stretch, HaveSide};

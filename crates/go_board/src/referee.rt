@@ -3,6 +3,8 @@
 mod earlier;
 mod plays;
 mod setup;
+#[cfg(test)]
+mod tests;
 mod turn;
 
 use crate::board::Board;

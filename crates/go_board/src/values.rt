@@ -1,5 +1,8 @@
 //! The points and rectangles that property values name (SGF FF[4], "Point" and "compressed point lists").
 
+#[cfg(test)]
+mod tests;
+
 ghost use Rattle.std.specs.Prelude.{◌≡◌, IfSome};
 ghost use Rattle.go_board.specs.Point.{IsOn, IsRectOn};
 ghost use Rattle.go_board.specs.Values.{coordinate, rect_of, point_value, rect_value};

@@ -121,7 +121,7 @@ impl Board {
             if !search.has_room(4) {
                 return Group::TooLarge;
             }
-            self.spread(Cell::Empty, point, search);
+            self.offer_neighbours(Cell::Empty, point, search);
         }
         Group::Dead
     }

@@ -52,7 +52,7 @@ impl Board {
         let mut search = self.search_from::<N>(target);
         while let Some(point) = search.take_one() {
             steps.tick();
-            self.spread(target, point, &mut search);
+            self.offer_neighbours(target, point, &mut search);
         }
         search.into_marks()
     }
@@ -86,7 +86,12 @@ impl Board {
 
     /// Adds the neighbours of a point that reach a colour through it.
     #[tactic(auto, unfolding(crate::specs::inner::Flood::with_neighbours))]
-    pub(crate) fn spread<const N: usize>(&self, target: Cell, from: Point, search: &mut Search<N>)
+    pub(crate) fn offer_neighbours<const N: usize>(
+        &self,
+        target: Cell,
+        from: Point,
+        search: &mut Search<N>,
+    )
         requires on_board { IsOn self.now.side from }
         requires same_side { search.old.marking.side ≡ self.now.side }
         requires room { HasRoom N 4 search.old }

@@ -23,9 +23,9 @@ loop-point-init r c =
     }
 
 -- the search once the point that was taken is dealt with
-after_spread : (r : Over) (c : goal.After-spread r) → IsUnderWay c.args.self.now c.args.target (Reaches c.args.self.now c.args.target) c.spread.new.search × IsSeeded c.args.self.now c.args.target c.spread.new.search × (c.spread.new.search.taken ≡ c.loop-point.search.taken + 1)
+after_neighbours : (r : Over) (c : goal.After-offer_neighbours r) → IsUnderWay c.args.self.now c.args.target (Reaches c.args.self.now c.args.target) c.offer_neighbours.new.search × IsSeeded c.args.self.now c.args.target c.offer_neighbours.new.search × (c.offer_neighbours.new.search.taken ≡ c.loop-point.search.taken + 1)
 unfolding IsSeeded
-after_spread r c =
+after_neighbours r c =
     let g = c.args.self.now in
     let k = c.args.target in
     let s = c.loop-point.search in
@@ -36,7 +36,7 @@ after_spread r c =
     let step =
     IsUnderWay-step g k (Reaches g k) (reached_through g k) s p way (slice_get_within s.found s.taken p took.next)
     (get_or_from_slice_get s.found s.taken p origin took.next) on took.marked in
-    let spread = c.spread.ensures ∙ ap (λ t. with_neighbours g k p t) took.taken in
+    let spread = c.offer_neighbours.ensures ∙ ap (λ t. with_neighbours g k p t) took.taken in
     subst (λ t. IsUnderWay g k (Reaches g k) t × IsSeeded g k t × (t.taken ≡ s.taken + 1)) (sym spread)
     (step.0, (λ q at colour. step.1.keeps q (c.loop-point.invariant.seeded q at colour)), step.1.same_taken)
 
@@ -44,11 +44,11 @@ pub loop-point-smaller : goal.loop-point-smaller
 loop-point-smaller r c =
     let s = c.loop-point.search in
     let sides = ap (λ n. n * n) c.loop-point.invariant.way.flood.same_side in
-    omega (arith, (after_spread r c).2, c.in-Some.ensures.within, sides)
+    omega (arith, (after_neighbours r c).2, c.in-Some.ensures.within, sides)
 
 pub loop-point-preserved : goal.loop-point-preserved
 loop-point-preserved r c =
-    let next = after_spread r c in
+    let next = after_neighbours r c in
     record {
       way = next.0;
       seeded = next.1;

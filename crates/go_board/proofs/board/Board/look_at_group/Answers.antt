@@ -28,8 +28,8 @@ returns-then-has_liberty-clause-lives r c = λ _.
     (sym c.has_liberty.ensures ∙ c.if-has_liberty.true)
 
 -- the search once the neighbours of that point were dealt with
-after_spread : (r : Over) (c : goal.After-spread r) → IsLooking c.args.self.now c.args.colour c.args.from c.spread.new.search × (c.spread.new.search.taken ≡ c.loop-point.search.taken + 1)
-after_spread r c =
+after_neighbours : (r : Over) (c : goal.After-offer_neighbours r) → IsLooking c.args.self.now c.args.colour c.args.from c.offer_neighbours.new.search × (c.offer_neighbours.new.search.taken ≡ c.loop-point.search.taken + 1)
+after_neighbours r c =
     let g = c.args.self.now in
     let k = c.args.colour in
     let s = c.loop-point.search in
@@ -37,7 +37,7 @@ after_spread r c =
     let looking = c.loop-point.invariant in
     let took = c.in-Some.ensures in
     subst (λ t. IsLooking g k c.args.from t × (t.taken ≡ s.taken + 1))
-    (sym (c.spread.ensures ∙ ap (λ t. with_neighbours g Empty p t) took.taken))
+    (sym (c.offer_neighbours.ensures ∙ ap (λ t. with_neighbours g Empty p t) took.taken))
     (IsLooking-step g k c.args.from s p looking
     (IsNext-taken g k c.args.from s p looking took.next took.on_grid took.marked)
     (sym c.has_liberty.ensures ∙ c.if-has_liberty.false))
@@ -46,10 +46,10 @@ pub loop-point-smaller : goal.loop-point-smaller
 loop-point-smaller r c =
     let s = c.loop-point.search in
     let sides = ap (λ n. n * n) c.loop-point.invariant.way.flood.same_side in
-    omega (arith, (after_spread r c).1, c.in-Some.ensures.within, sides)
+    omega (arith, (after_neighbours r c).1, c.in-Some.ensures.within, sides)
 
 pub loop-point-preserved : goal.loop-point-preserved
-loop-point-preserved r c = (after_spread r c).0
+loop-point-preserved r c = (after_neighbours r c).0
 
 pub returns-clause-dead : goal.returns-clause-dead
 returns-clause-dead r c = λ _.

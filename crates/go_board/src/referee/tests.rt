@@ -1,11 +1,10 @@
-//! Worked examples of a past and of a referee.
+//! Worked examples of a referee.
 
 ghost use Rattle.std.specs.Prelude.{◌≡◌};
-ghost use Rattle.go_board.specs.Point.{IsOn};
 
 use crate::{
-    Board, Cell, Colour, ListPast, MemoryFault, Past, Play, Point, Reason, Rect, Referee, SetupOp,
-    Size, TurnFault,
+    Cell, Colour, ListPast, MemoryFault, Past, Play, Point, Reason, Rect, Referee, SetupOp, Size,
+    TurnFault,
 };
 use std::alloc::Global;
 use std::process::Abort;
@@ -16,16 +15,6 @@ fn at(col: u8, row: u8) -> Point
     ensures row { result.row ≡ row }
 {
     Point { col, row }
-}
-
-/// The board with one stone more.
-fn with_stone(board: &Board, point: Point, cell: Cell) -> Board
-    requires { IsOn board.now.side point }
-    ensures { result.side ≡ board.now.side }
-{
-    let mut copy = board.copy();
-    copy.set(point, cell);
-    copy
 }
 
 fn size(rt: &impl Abort, side: u8) -> Size
@@ -148,33 +137,6 @@ fn player_alone<P: Past>(rt: &impl Abort, alloc: Global) -> Result<(), Fail> {
     Ok(())
 }
 
-/// A stretch that was begun anew hides the older colourings until it is taken back.
-fn past_begins_anew<P: Past>(rt: &impl Abort, alloc: Global) -> Result<(), Fail> {
-    let empty = Board::empty(size(rt, 3));
-    let black = with_stone(&empty, at(0, 0), Cell::Black);
-    let white = with_stone(&empty, at(1, 1), Cell::White);
-    let mut past = P::new(alloc, &empty)?;
-    past.push(&black)?;
-    assert!(rt; past.holds(&empty));
-    past.restart(&white)?;
-    assert_eq!(rt;
-        (past.holds(&empty), past.holds(&black), past.holds(&white)),
-        (false, false, true)
-    );
-    past.pop();
-    assert_eq!(rt;
-        (past.holds(&empty), past.holds(&black), past.holds(&white)),
-        (true, true, false)
-    );
-    assert!(rt; past.newest().same(&black));
-    Ok(())
-}
-
-#[test]
-fn list_past(rt: HostRuntime) -> Result<(), Fail> {
-    past_begins_anew::<ListPast>(&rt, rt.alloc())
-}
-
 #[test]
 fn referee_over_list_past(rt: HostRuntime) -> Result<(), Fail> {
     on_one::<ListPast>(&rt, rt.alloc())?;
@@ -183,26 +145,12 @@ fn referee_over_list_past(rt: HostRuntime) -> Result<(), Fail> {
 }
 
 #[test]
-fn words(rt: HostRuntime) -> Result<(), Fail> {
-    let printed = [
-        (Reason::Mixed, "mixed"),
-        (Reason::TwoMoves, "two-moves"),
-        (Reason::BadSetup, "bad-setup"),
-        (Reason::BadPoint, "bad-point"),
-        (Reason::Over, "over"),
-        (Reason::Turn, "turn"),
-        (Reason::Occupied, "occupied"),
-        (Reason::Repeat, "repeat"),
-    ];
-    for (reason, word) in printed {
-        let text = format!(in rt.alloc(); "{reason}")?;
-        assert_eq!(rt; text.as_str(), word);
-    }
-    let fault = format!(in rt.alloc();
+fn fault_texts(rt: HostRuntime) -> Result<(), Fail> {
+    let faults = format!(in rt.alloc();
         "{}, {}",
-        TurnFault::Illegal(Reason::Turn),
+        TurnFault::Illegal(Reason::TwoMoves),
         TurnFault::Memory
     )?;
-    assert_eq!(rt; fault.as_str(), "illegal turn: turn, out of memory");
+    assert_eq!(rt; faults.as_str(), "illegal turn: two-moves, out of memory");
     Ok(())
 }

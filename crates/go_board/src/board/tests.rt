@@ -1,8 +1,8 @@
-//! Worked examples of the rules and of the values that name points.
+//! Worked examples of reaching, clearing, scores, moves and copies.
 
 ghost use Rattle.std.specs.Prelude.{◌≡◌};
 
-use crate::{Board, Cell, Colour, MAX_SIDE, Point, Rect, Size, Steps, Vertex, point, rect, vertex};
+use crate::{Board, Cell, Colour, Point, Size, Steps};
 use std::process::Abort;
 
 const B: Cell = Cell::Black;
@@ -31,96 +31,6 @@ fn three(rt: &impl Abort, cells: [Cell; 9]) -> Board
     let mut board = Board::empty(size(rt, 3));
     board.set_cells(&cells);
     board
-}
-
-#[test]
-fn sides(rt: HostRuntime) {
-    for (side, exists) in [
-        (0, false),
-        (1, true),
-        (25, true),
-        (26, true),
-        (52, true),
-        (53, false),
-    ] {
-        assert_eq!(rt; Size::new(side).is_some(), exists, "side {side}");
-    }
-    assert_eq!(rt; size(&rt, MAX_SIDE).side(), 52);
-}
-
-#[test]
-fn points(rt: HostRuntime) {
-    let named = [
-        (b"aa".as_slice(), 1, Some(at(0, 0))),
-        (b"ba".as_slice(), 1, None),
-        (b"a".as_slice(), 25, None),
-        (b"".as_slice(), 25, None),
-        (b"aaa".as_slice(), 25, None),
-        (b"aA".as_slice(), 25, None),
-        (b"yy".as_slice(), 25, Some(at(24, 24))),
-        (b"tt".as_slice(), 19, None),
-        (b"Aa".as_slice(), 26, None),
-        (b"Aa".as_slice(), 27, Some(at(26, 0))),
-        (b"ZZ".as_slice(), 52, Some(at(51, 51))),
-    ];
-    for (raw, side, expected) in named {
-        assert_eq!(rt;
-            point(raw, size(&rt, side)),
-            expected,
-            "{raw:?} on side {side}"
-        );
-    }
-}
-
-#[test]
-fn rectangles(rt: HostRuntime) {
-    let named = [
-        (b"bb".as_slice(), Some((at(1, 1), at(1, 1)))),
-        (b"aa:aa".as_slice(), Some((at(0, 0), at(0, 0)))),
-        (b"aa:ca".as_slice(), Some((at(0, 0), at(2, 0)))),
-        (b"ca:aa".as_slice(), None),
-        (b"ab:ba".as_slice(), None),
-        (b"aa:".as_slice(), None),
-        (b"aa:dd".as_slice(), None),
-    ];
-    for (raw, corners) in named {
-        let expected = corners.map(|(first, last)| Rect { first, last });
-        assert_eq!(rt; rect(raw, size(&rt, 3)), expected, "{raw:?}");
-    }
-}
-
-#[test]
-fn vertices(rt: HostRuntime) {
-    let size_9 = size(&rt, 9);
-    let size_25 = size(&rt, 25);
-    assert_eq!(rt;
-        vertex(at(8, 8), size_9),
-        Vertex {
-            letter: b'J',
-            row: 1
-        }
-    );
-    assert_eq!(rt;
-        vertex(at(0, 0), size_9),
-        Vertex {
-            letter: b'A',
-            row: 9
-        }
-    );
-    assert_eq!(rt;
-        vertex(at(24, 24), size_25),
-        Vertex {
-            letter: b'Z',
-            row: 1
-        }
-    );
-    assert_eq!(rt;
-        vertex(at(24, 0), size_25),
-        Vertex {
-            letter: b'Z',
-            row: 25
-        }
-    );
 }
 
 #[test]

@@ -1,7 +1,7 @@
--- proofs/board/Board/spread/Answers.antt
+-- proofs/board/Board/offer_neighbours/Answers.antt
 use Rattle.std.proofs.Common.{rules}
 use Rattle.go_board.proofs.SearchLemmas.{HasRoom-less}
-use Rattle.go_board.proofs.board.Board.spread.Goals as goal
+use Rattle.go_board.proofs.board.Board.offer_neighbours.Goals as goal
 
 pub offer-requires-2 : goal.offer-requires-2
 offer-requires-2 r c =

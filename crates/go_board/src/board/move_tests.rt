@@ -62,8 +62,8 @@ fn captures(rt: HostRuntime) {
 #[test]
 fn large_group(rt: HostRuntime) {
     let mut board = empty(&rt, 9);
-    for place in 0..80 {
-        play(&rt, &mut board, Colour::Black, place % 9, place / 9);
+    for index in 0..80 {
+        play(&rt, &mut board, Colour::Black, index % 9, index / 9);
     }
     assert_eq!(rt; stones(&board), (80, 0));
     play(&rt, &mut board, Colour::White, 8, 8);
