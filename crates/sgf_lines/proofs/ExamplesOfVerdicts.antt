@@ -9,7 +9,8 @@ use Rattle.go_board.specs.Reaching.{reaches, reaching_within, spread}
 use Rattle.go_board.specs.Clearing.{clear, play, cleared_cell, has_unreaching}
 use Rattle.go_board.specs.Score.{score_of, counts_for}
 use Rattle.go_board.specs.State.{with_area}
-use Rattle.go_board.specs.Values.{point_value, rect_value, vertex_of}
+use Rattle.go_board.specs.Values.{point_value, rect_value}
+use Rattle.go_board.specs.Vertex.{vertex_of}
 use Rattle.sgf_lines.specs.declared.verdict.Verdict.TheVariants.{Score, Illegal, NotGo, BadSize}
 use Rattle.sgf_lines.specs.declared.options.Form.TheVariants.{List as list_form, Gtp as gtp_form}
 use Rattle.sgf_lines.specs.Lines.{Line}

@@ -6,15 +6,15 @@ use Rattle.sgf_tree.specs.Text.{text_of}
 use Rattle.go_board.specs.declared.stones.Colour.{Colour}
 use Rattle.go_board.specs.declared.stones.Colour.TheVariants.{Black, White}
 use Rattle.go_board.specs.declared.points.Point.{Point}
-use Rattle.go_board.specs.declared.points.Play.{Play}
-use Rattle.go_board.specs.declared.points.Play.TheVariants.{Pass, Stone}
-use Rattle.go_board.specs.declared.points.Vertex.{Vertex}
+use Rattle.go_board.specs.declared.referee.plays.Play.{Play}
+use Rattle.go_board.specs.declared.referee.plays.Play.TheVariants.{Pass, Stone}
+use Rattle.go_board.specs.declared.vertices.Vertex.{Vertex}
 use Rattle.go_board.specs.declared.vertices.TheConstants.{MAX_VERTEX_SIDE}
 use Rattle.go_board.specs.Colour.{stone_of, same_cell}
 use Rattle.go_board.specs.Point.{points}
 use Rattle.go_board.specs.Grid.{Grid, cell_at}
 use Rattle.go_board.specs.Clearing.{has_unreaching}
-use Rattle.go_board.specs.Values.{vertex_of}
+use Rattle.go_board.specs.Vertex.{vertex_of}
 use Rattle.go_board.specs.State.{State}
 use Rattle.sgf_lines.specs.Lines.{Line}
 use Rattle.sgf_lines.specs.NodeContents.{Move, Stones, moves, stones, first_value}

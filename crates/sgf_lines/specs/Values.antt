@@ -2,9 +2,9 @@
 use Rattle.std.specs.Prelude.{ℕ, Bool, ◌==◌, ◌||◌, ◌&&◌, nat_le, if◌then◌else◌, Option, Some, None, option_map, option_and_then, List, [], ◌∷◌, length, codes, bytes_eq}
 use Rattle.go_board.specs.declared.stones.Colour.{Colour}
 use Rattle.go_board.specs.declared.stones.Colour.TheVariants.{Black, White}
-use Rattle.go_board.specs.declared.points.Play.{Play}
-use Rattle.go_board.specs.declared.points.Play.TheVariants.{Pass, Stone}
-use Rattle.go_board.specs.declared.points.SetupOp.{SetupOp}
+use Rattle.go_board.specs.declared.referee.plays.Play.{Play}
+use Rattle.go_board.specs.declared.referee.plays.Play.TheVariants.{Pass, Stone}
+use Rattle.go_board.specs.declared.referee.plays.SetupOp.{SetupOp}
 use Rattle.go_board.specs.Values.{point_value, rect_value}
 use Rattle.sgf_lines.specs.NodeContents.{Stones}
 
