@@ -19,7 +19,7 @@ from compare import HERE, PEER, PROGRAM, peak, run, words
 
 FORMS = ["list", "sgf", "gtp", "count"]
 COLOURS = {"list": "#1f77b4", "sgf": "#2ca02c", "gtp": "#d62728", "count": "#9467bd", "scan": "#555555"}
-WIDTH, HEIGHT, LEFT, TOP = 430, 330, 60, 40
+WIDTH, HEIGHT, LEFT, TOP = 440, 330, 70, 40
 
 
 def measure(arguments):
@@ -60,7 +60,7 @@ def panel(rows, column, title, unit, left):
         svg.append(f'<path d="M{across(low_x):.1f} {down(power):.1f}H{across(high_x):.1f}" stroke="#ddd"/>')
         if (power - low_y) % 2 == 0:
             value = 2.0**power
-            text = f"{value:.0f}" if value >= 1 else f"{value * 1000:.1f} m"
+            text = f"{value:.0f} " if value >= 1 else f"{value * 1000:.{0 if value > 0.01 else 1}f} m"
             svg.append(f'<text x="{left + LEFT - 6}" y="{down(power) + 4:.1f}" text-anchor="end">{text}{unit}</text>')
     for power in range(round(low_x), round(high_x) + 1):
         svg.append(f'<text x="{across(power):.1f}" y="{HEIGHT - 30}" text-anchor="middle">{2**power}</text>')
@@ -77,7 +77,7 @@ def drawing(rows):
     total = 2 * WIDTH
     svg = [f'<svg xmlns="http://www.w3.org/2000/svg" viewBox="0 0 {total} {HEIGHT + 30}" font-family="sans-serif" font-size="12">',
            f'<rect width="{total}" height="{HEIGHT + 30}" fill="white"/>']
-    svg += panel(rows, 3, "Time", "s", 0) + panel(rows, 4, "Peak memory", " MiB", WIDTH)
+    svg += panel(rows, 3, "Time", "s", 0) + panel(rows, 4, "Peak memory", "MiB", WIDTH)
     x = LEFT
     labels = FORMS + ["scan"]
     for form in labels:
