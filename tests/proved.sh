@@ -1,0 +1,46 @@
+#!/usr/bin/env bash
+# Each call and clause that docs/PROVED.md names stands in the code, and each law of the code is named there.
+. "$(dirname "$0")/lib.sh"
+python3 - "$top" <<'PYTHON'
+import glob
+import re
+import sys
+
+top = sys.argv[1]
+faults = []
+
+
+def contracts(crate, name):
+    """The text between the name and the body of each function of that name."""
+    found = []
+    for path in glob.glob(f"{top}/crates/{crate}/src/**/*.rt", recursive=True):
+        if "tests" in path.rsplit("/src/")[1]:
+            continue
+        with open(path, encoding="utf-8") as file:
+            text = file.read()
+        for match in re.finditer(rf"\bfn {name}\b(.*?)(?=\n *\{{|\{{\}}|;\n)", text, re.DOTALL):
+            found.append(match[1])
+    return found
+
+
+named = set()
+call = None
+for line in open(f"{top}/docs/PROVED.md", encoding="utf-8"):
+    cells = [cell.strip() for cell in line.split("|")[1:-1]]
+    if len(cells) != 3 or cells[0] in ("Call", "---"):
+        continue
+    call = cells[0].strip("`") or call
+    named.add(call)
+    crate, name = call.split("::")[0], call.split("::")[-1]
+    clauses = re.findall(r"`(\w+)`", cells[1])
+    stand = contracts(crate, name)
+    if not any("ensures" in c and all(re.search(rf"ensures\*? {clause}\b", c) for clause in clauses) for c in stand):
+        faults.append(f"{call} has no clauses {clauses or '-'}")
+for path in glob.glob(f"{top}/crates/*/src/laws.rt") + glob.glob(f"{top}/crates/*/src/laws/*.rt"):
+    crate = path.split("/crates/")[1].split("/")[0]
+    for name in re.findall(r"^pub fn (\w+)\(", open(path, encoding="utf-8").read(), re.MULTILINE):
+        if f"{crate}::laws::{name}" not in named:
+            faults.append(f"the law {crate}::laws::{name} isn't named")
+print("\n".join(faults) or f"{len(named)} calls")
+sys.exit(bool(faults))
+PYTHON
