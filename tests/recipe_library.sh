@@ -17,3 +17,7 @@ done
 rm out/*.rows
 "$top/recipes/library.sh" out library/*.sgf || true
 [ ! -e out/broken.rows ] || failed "a file that was done was split again"
+"$top/recipes/library.sh" again library/*.sgf --sshlogin : || true
+same out/corner.fault again/corner.fault
+"$SGFSPLIT" split library/corner.sgf > want
+same want again/corner.rows "the rows made with --sshlogin"
