@@ -143,6 +143,21 @@ impl Board {
         self.settled = other.settled;
     }
 
+    /// Whether it is known that every stone reaches empty: true only where each does.
+    pub(crate) fn is_settled(&self) -> bool
+        ensures { IsTrue result → has_unreaching self.now ≡ false }
+    {
+        self.settled
+    }
+
+    /// Gives back what `is_settled` told of this same colouring. Nothing that is seen changes.
+    pub(crate) fn restore_settled(&mut self, settled: bool)
+        requires { IsTrue settled → has_unreaching self.old ≡ false }
+        ensures { self.new ≡ self.old }
+    {
+        self.settled = settled;
+    }
+
     /// Empties all points of a colour that don't reach empty, each tested on the board as it was.
     pub fn clear(&mut self, colour: Colour)
         ensures value { self.new ≡ clear self.old colour }
