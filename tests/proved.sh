@@ -1,5 +1,6 @@
 #!/usr/bin/env bash
-# Each call and clause that docs/PROVED.md names stands in the code, and each law of the code is named there.
+# Each call and clause that docs/PROVED.md names stands in the code, and each law of the code is named there. Each definition that the
+# tables of docs/ name stands in that file.
 . "$(dirname "$0")/lib.sh"
 python3 - "$top" <<'PYTHON'
 import glob
@@ -41,6 +42,15 @@ for path in glob.glob(f"{top}/crates/*/src/laws.rt") + glob.glob(f"{top}/crates/
     for name in re.findall(r"^pub fn (\w+)\(", open(path, encoding="utf-8").read(), re.MULTILINE):
         if f"{crate}::laws::{name}" not in named:
             faults.append(f"the law {crate}::laws::{name} isn't named")
-print("\n".join(faults) or f"{len(named)} calls")
+defined = 0
+for path in glob.glob(f"{top}/docs/*.md"):
+    for line in open(path, encoding="utf-8"):
+        row = re.match(r"\|[^|]*\|([^|]*)\| `(\w+\.antt)` \|$", line)
+        for word in re.findall(r"`(\w+)`", row[1]) if row else []:
+            files = glob.glob(f"{top}/crates/*/specs/**/{row[2]}", recursive=True)
+            defined += 1
+            if not any(re.search(rf"\b{word}\b", open(file, encoding="utf-8").read()) for file in files):
+                faults.append(f"{path}: {word} isn't in {row[2]}")
+print("\n".join(faults) or f"{len(named)} calls, {defined} definitions")
 sys.exit(bool(faults))
 PYTHON
