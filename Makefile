@@ -21,7 +21,7 @@ program:
 $(built):
 	@$(MAKE) --no-print-directory program
 
-check: program
+check:
 	@tests/all.sh
 
 scripts: $(built)

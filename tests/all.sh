@@ -1,5 +1,5 @@
 #!/usr/bin/env bash
-# The test command: the merge gate (`rt ci`), then every other script of this folder over the program that `make` built.
+# The test command: builds the program, runs the merge gate (`rt ci`), and then every other script of this folder over the program.
 # `tests/all.sh --scripts` leaves the gate out, `tests/all.sh NAME..` runs only the scripts named.
 # The last line is `N passed, N failed, N skipped`, summed over all.
 set -uo pipefail
@@ -7,6 +7,10 @@ cd "$(dirname "$0")/.."
 passed=0 failed=0 skipped=0
 log=$(mktemp)
 trap 'rm -f "$log"' EXIT
+
+build() {
+    make --no-print-directory program || { echo "FAILED: no program was built"; failed=$((failed + 1)); }
+}
 
 gate() {
     rt ci < /dev/null 2>&1 | tee "$log"
@@ -33,7 +37,7 @@ script() {
 
 names=()
 case ${1-} in
-    '') gate ;;
+    '') build; gate ;;
     --scripts) ;;
     *) names=("$@") ;;
 esac

@@ -41,3 +41,8 @@ for path in sys.argv[1:]:
 print(f"{ran} examples, {wrong} wrong")
 sys.exit(wrong > 0 or ran == 0)
 PYTHON
+cp -R "$top/docs/figures" .
+figures/draw.py
+for figure in figures/*.svg; do
+    same "$top/docs/figures/$(basename "$figure")" "$figure" "what draw.py draws"
+done
