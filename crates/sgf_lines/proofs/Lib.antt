@@ -10,10 +10,12 @@ pub mod GameNumbers
 pub mod Named
 pub mod Positions
 pub mod LinesRise
+pub mod Following
 pub mod Seeking
 pub mod Loops
 pub mod Standings
 pub mod Shows
+pub mod Descending
 pub mod Sought
 pub mod Joins
 pub mod Records

@@ -4,7 +4,7 @@ use Rattle.std.proofs.lemmas.Bool.{cases_lt, cases_eq}
 use Rattle.std.proofs.lemmas.Option.{slice_get_within}
 use Rattle.sgf_tree.specs.Tree.{Games, node_count}
 use Rattle.sgf_tree.specs.FileOrder.{Row, rows_of, place_at, IsLeaf, IsUnder, itself, below, IsLastBelow, PlacesRise}
-use Rattle.sgf_lines.specs.inner.Seeking.{IsLeafAt, AllBefore, GoesOnFrom}
+use Rattle.sgf_lines.specs.inner.Seeking.{AllBefore, GoesOnFrom}
 use Rattle.sgf_lines.proofs.Parents.{node_within}
 use Rattle.sgf_lines.proofs.Standing.{length-rows}
 

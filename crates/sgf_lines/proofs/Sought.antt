@@ -1,9 +1,9 @@
 -- The position after the line with a place, and that no line has it.
-use Rattle.std.proofs.Common.{◌≡◌, ◌≢◌, ℕ, ◌+◌, ◌-◌, ◌<◌, List, length, get_or, All, Some, None, slice_get, option_map, sym, ap, ◌∙◌, arith}
+use Rattle.std.proofs.Common.{◌≡◌, ◌≢◌, ℕ, ◌+◌, ◌-◌, ◌<◌, List, get_or, Some, None, sym, ap, ◌∙◌, arith}
 use Rattle.std.proofs.lemmas.Option.{get_or_from_slice_get}
 use Rattle.sgf_tree.specs.Tree.{Games, node_count}
 use Rattle.sgf_tree.specs.FileOrder.{place_at, IsLeaf}
-use Rattle.sgf_lines.specs.Lines.{Line, lines, place_of}
+use Rattle.sgf_lines.specs.Lines.{lines, place_of}
 use Rattle.sgf_lines.specs.Paths.{paths, leaf_of}
 use Rattle.sgf_lines.specs.Cursor.{Position, IsAfterPlace, HasNoLineAt}
 use Rattle.sgf_lines.specs.inner.Ways.{IsWayTo}
@@ -18,6 +18,7 @@ use Rattle.sgf_lines.proofs.Shows.{before}
 pub stands_after : (c : Games) (leaf : ℕ) (numbers : List ℕ) → leaf < node_count c → IsLeaf c leaf → IsWayTo c (Some leaf) numbers → IsAfterLeaf c (leaf + 1) numbers
 stands_after c leaf numbers lt is_leaf way = record {
   within = omega arith;
+  start = λ e. absurd (omega arith);
   leaf = λ i e. let same : leaf ≡ i = omega arith in rw (← same) is_leaf;
   way = λ i e. let same : leaf ≡ i = omega arith in rw (← same) way;
 }

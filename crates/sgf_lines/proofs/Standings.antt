@@ -74,10 +74,6 @@ shows c (suc i) numbers h lt =
     let is : suc i ≡ i + 1 = omega arith in
     shown_at c i numbers (omega (arith, h.within)) (h.leaf i is) (h.way i is)
 
--- a cursor before the first node has given no line
-pub stands_first : (c : Games) (numbers : List ℕ) → IsAfterLeaf c 0 numbers
-stands_first c numbers = record { within = omega arith; leaf = λ i e. absurd (omega arith); way = λ i e. absurd (omega arith) }
-
 -- where no leaf is left, no line is
 pub none_left : (c : Games) (next : ℕ) → HasNoLeaf c next (node_count c) → slice_get (lines c) (lines_before c next) ≡ None
 none_left c next none =
@@ -90,10 +86,3 @@ none_left c next none =
 -- after the next leaf one line more has been given
 pub one_more : (c : Games) (next i : ℕ) → IsNextLeaf c next i → lines_before c (i + 1) ≡ lines_before c next + 1
 one_more c next i h = (next_line c next i h.from_there h.within h.is_leaf h.first).1.one_more
-
-pub stands_after_next : (c : Games) (next i : ℕ) (numbers : List ℕ) → IsNextLeaf c next i → IsWayTo c (Some i) numbers → IsAfterLeaf c (i + 1) numbers
-stands_after_next c next i numbers h way = record {
-  within = omega (arith, h.within);
-  leaf = λ j e. let same : i ≡ j = omega arith in subst (IsLeaf c) same h.is_leaf;
-  way = λ j e. let same : i ≡ j = omega arith in subst (λ n. IsWayTo c (Some n) numbers) same way;
-}

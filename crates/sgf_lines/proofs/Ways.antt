@@ -32,7 +32,7 @@ after_own c last parent o os (w ∷ ws) up h =
       filled = λ e. cc;
     }
 
-no_ways : (at : ℕ) (g : Games) → number_lines at g ≡ [] → g ≡ no_games
+pub no_ways : (at : ℕ) (g : Games) → number_lines at g ≡ [] → g ≡ no_games
 no_ways at no_games e = refl
 no_ways at (game first more below after) e =
     absurd (not_none (at ∷ range_with_len (at + 1) (length more)) (number_lines (at + length more + 1) below)

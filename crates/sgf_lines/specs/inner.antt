@@ -2,3 +2,4 @@ pub mod Ways
 pub mod Standing
 pub mod Lending
 pub mod Seeking
+pub mod Following

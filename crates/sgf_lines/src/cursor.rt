@@ -1,14 +1,14 @@
 //! Goes over the lines of play of a collection.
 
-ghost use Rattle.std.specs.Prelude.{◌≡◌, ◌<◌, ◌-◌, Some, None, List, length, slice_get, OnOk, OnErr, IfOk, IfErr, IfSome, MatchBool, ℕ};
-ghost use Rattle.sgf_tree.specs.Tree.{node_count};
-ghost use Rattle.sgf_tree.specs.FileOrder.{IsLeaf};
+ghost use Rattle.std.specs.Prelude.{◌≡◌, ◌+◌, ◌-◌, ◌<◌, ◌≤◌, ◌++◌, None, take, vec_len, slice_get, OnOk, OnErr, IfOk, IfErr, IfSome, IfNone, MatchOption};
+ghost use Rattle.std.specs.List.{range_with_len};
 ghost use Rattle.sgf_lines.specs.Lines.{lines};
 ghost use Rattle.sgf_lines.specs.Cursor.{advanced, IsLine};
-ghost use Rattle.sgf_lines.specs.inner.Ways.{IsWayTo, IsLeafSearch};
+ghost use Rattle.sgf_lines.specs.inner.Ways.{IsLeafSearch};
+ghost use Rattle.sgf_lines.specs.inner.Following.{Continues, path_before, IsCutBack};
 
 use crate::line::LineRef;
-use crate::seek::{SeekFault, leaf_at};
+use crate::seek::{SeekFault, leaf_at, write_way};
 use sgf_tree::{Collection, MemoryFault};
 use std::alloc::Global;
 use std::marker::Model;
@@ -22,7 +22,7 @@ pub struct Cursor<'c, 'a> {
     // the node from which on it looks for the next leaf
     next: usize,
 
-    // the nodes from the root to the leaf before that one
+    // the nodes from the root to the leaf before that one; none before the first line
     path: Vec<usize>,
 }
 
@@ -62,10 +62,9 @@ impl<'c, 'a> Cursor<'c, 'a> {
         ensures* goes_on { sem 𝓛 (OnceReturned self.entry (Leaves self.entry.now result)) }
         ensures line { IfOk result (Gives self.old) }
     {
-        if self.advance()? {
-            Ok(Some(self.line()))
-        } else {
-            Ok(None)
+        match self.advance()? {
+            Some(_) => Ok(Some(self.line())),
+            None => Ok(None),
         }
     }
 
@@ -87,22 +86,25 @@ impl<'c, 'a> Cursor<'c, 'a> {
         Ok(())
     }
 
-    /// Goes on by one line, or answers false where none is left.
-    fn advance(&mut self) -> Result<bool, MemoryFault>
-        ensures found { IfOk result (λ found. MatchBool found (self.new ≡ advanced self.old) (self.new ≡ self.old)) }
-        ensures none_left { IfOk result (λ found. MatchBool found (Unit {0}) (slice_get (lines self.old.games) self.old.given ≡ None)) }
+    /// Goes on by one line, and answers how many nodes of the line before it this one shares; None where no line is left.
+    /// After a refusal of memory the cursor is unchanged.
+    pub(crate) fn advance(&mut self) -> Result<Option<usize>, MemoryFault>
+        ensures moved { IfOk result (λ shared. MatchOption shared (self.new ≡ self.old) (λ _. self.new ≡ advanced self.old)) }
+        ensures none_left { IfOk result (λ shared. IfNone shared (slice_get (lines self.old.games) self.old.given ≡ None)) }
+        ensures shared { IfOk result (λ shared. IfSome shared (λ n. Continues (path_before self.old) n (path_before self.new))) }
         ensures unchanged { OnErr result (self.new ≡ self.old) }
     {
         let Some(leaf) = next_leaf(self.collection, self.next) else {
-            return Ok(false);
+            return Ok(None);
         };
-        write_way(self.collection, leaf, &mut self.path)?;
+        let shared = cut_back(&self.path, self.collection.parent(self.next));
+        go_down(&mut self.path, shared, self.next, leaf)?;
         self.next = leaf + 1;
-        Ok(true)
+        Ok(Some(shared))
     }
 
-    /// The line that was given last.
-    fn line(&self) -> LineRef<'_>
+    /// The line before the cursor.
+    pub(crate) fn line(&self) -> LineRef<'_>
         requires { 0 < self.now.given }
         ensures { IsLine self.now.games (self.now.given - 1) result }
     {
@@ -114,7 +116,7 @@ impl<'c, 'a> Cursor<'c, 'a> {
     }
 }
 
-/// The first leaf from node `from` on.
+/// The leaf to which the nodes from `from` on lead down, one after the other.
 fn next_leaf(collection: &Collection<'_>, from: usize) -> Option<usize>
     ensures first { IsLeafSearch collection.now from result }
     ensures small { IfSome result (λ leaf. leaf < usize.MAX) }
@@ -127,56 +129,43 @@ fn next_leaf(collection: &Collection<'_>, from: usize) -> Option<usize>
     None
 }
 
-/// Replaces the numbers in `path` by those of the nodes from the root to a leaf.
-/// After a refusal of memory `path` is unchanged.
-fn write_way(
-    collection: &Collection<'_>,
-    leaf: usize,
-    path: &mut Vec<usize>,
-) -> Result<(), MemoryFault>
-    requires within { leaf < node_count collection.now }
+/// How many nodes at the front of a path lead to a node, which is looked for from the path's end; 0 where there is none.
+fn cut_back(path: &[usize], parent: Option<usize>) -> usize
+    ensures { IsCutBack path.now parent result }
+{
+    let Some(parent) = parent else {
+        return 0;
+    };
+    let mut kept = path.len();
+    while kept > 0 {
+        if path[kept - 1] == parent {
+            return kept;
+        }
+        kept -= 1;
+    }
+    kept
+}
+
+/// Cuts a path back to its first `kept` nodes, and appends the nodes from `first` to `leaf`.
+/// After a refusal of memory the path is unchanged.
+fn go_down(path: &mut Vec<usize>, kept: usize, first: usize, leaf: usize) -> Result<(), MemoryFault>
+    requires within { kept ≤ vec_len path.old }
+    requires before { kept ≤ first }
+    requires down { first ≤ leaf }
     requires small { leaf < usize.MAX }
-    requires is_leaf { IsLeaf collection.now leaf }
-    ensures ok { OnOk result (IsWayTo collection.now (Some leaf) path.new.items) }
+    ensures ok { OnOk result (path.new.items ≡ take kept path.old.items ++ range_with_len first (leaf + 1 - first)) }
     ensures unchanged { OnErr result (path.new.items ≡ path.old.items) }
 {
-    if path.resize(depth(collection, leaf), 0).is_err() {
+    let end = leaf + 1;
+    let room = (kept + (end - first)).saturating_sub(path.len());
+    if path.reserve(room).is_err() {
         return Err(MemoryFault);
     }
-    fill_way(collection, leaf, path);
+    path.truncate(kept);
+    for node in first..end {
+        path.push(node).unwrap();
+    }
     Ok(())
-}
-
-/// The number of nodes from the root to a leaf.
-fn depth(collection: &Collection<'_>, leaf: usize) -> usize
-    requires within { leaf < node_count collection.now }
-    requires small { leaf < usize.MAX }
-    requires is_leaf { IsLeaf collection.now leaf }
-    ensures { (numbers : List ℕ) → IsWayTo collection.now (Some leaf) numbers → result ≡ length numbers }
-{
-    let mut depth = 0;
-    let mut node = Some(leaf);
-    while let Some(number) = node {
-        depth += 1;
-        node = collection.parent(number);
-    }
-    depth
-}
-
-/// Writes the numbers of the nodes from the root to a leaf, of which there are as many as `path` has room for.
-fn fill_way(collection: &Collection<'_>, leaf: usize, path: &mut [usize])
-    requires within { leaf < node_count collection.now }
-    requires is_leaf { IsLeaf collection.now leaf }
-    requires room { (numbers : List ℕ) → IsWayTo collection.now (Some leaf) numbers → length path.old ≡ length numbers }
-    ensures { IsWayTo collection.now (Some leaf) path.new }
-{
-    let mut room = path.len();
-    let mut node = Some(leaf);
-    while let Some(number) = node {
-        room -= 1;
-        path[room] = number;
-        node = collection.parent(number);
-    }
 }
 
 #[cfg(test)]

@@ -1,8 +1,9 @@
-//! Looks for the leaf at which a line with a given place ends.
+//! Looks for the leaf at which a line with a given place ends, and writes the path to it.
 
-ghost use Rattle.std.specs.Prelude.{◌≡◌, ◌+◌, ◌<◌, ◌≤◌, IfSome};
+ghost use Rattle.std.specs.Prelude.{◌≡◌, ◌+◌, ◌<◌, ◌≤◌, Some, List, ℕ, length, IfSome, OnOk, OnErr};
 ghost use Rattle.sgf_tree.specs.Tree.{node_count};
-ghost use Rattle.sgf_tree.specs.FileOrder.{PlacesRise};
+ghost use Rattle.sgf_tree.specs.FileOrder.{IsLeaf, PlacesRise};
+ghost use Rattle.sgf_lines.specs.inner.Ways.{IsWayTo};
 ghost use Rattle.sgf_lines.specs.inner.Seeking.{IsLeafAt, AllBefore, GoesOnFrom};
 
 use sgf_tree::{Collection, MemoryFault};
@@ -65,5 +66,57 @@ fn first_after(collection: &Collection<'_>, node: usize, place: u64) -> usize
         last + 1
     } else {
         node + 1
+    }
+}
+
+/// Replaces the numbers in `path` by those of the nodes from the root to a leaf.
+/// After a refusal of memory `path` is unchanged.
+pub(crate) fn write_way(
+    collection: &Collection<'_>,
+    leaf: usize,
+    path: &mut Vec<usize>,
+) -> Result<(), MemoryFault>
+    requires within { leaf < node_count collection.now }
+    requires small { leaf < usize.MAX }
+    requires is_leaf { IsLeaf collection.now leaf }
+    ensures ok { OnOk result (IsWayTo collection.now (Some leaf) path.new.items) }
+    ensures unchanged { OnErr result (path.new.items ≡ path.old.items) }
+{
+    if path.resize(depth(collection, leaf), 0).is_err() {
+        return Err(MemoryFault);
+    }
+    fill_way(collection, leaf, path);
+    Ok(())
+}
+
+/// The number of nodes from the root to a leaf.
+fn depth(collection: &Collection<'_>, leaf: usize) -> usize
+    requires within { leaf < node_count collection.now }
+    requires small { leaf < usize.MAX }
+    requires is_leaf { IsLeaf collection.now leaf }
+    ensures { (numbers : List ℕ) → IsWayTo collection.now (Some leaf) numbers → result ≡ length numbers }
+{
+    let mut depth = 0;
+    let mut node = Some(leaf);
+    while let Some(number) = node {
+        depth += 1;
+        node = collection.parent(number);
+    }
+    depth
+}
+
+/// Writes the numbers of the nodes from the root to a leaf, of which there are as many as `path` has room for.
+fn fill_way(collection: &Collection<'_>, leaf: usize, path: &mut [usize])
+    requires within { leaf < node_count collection.now }
+    requires is_leaf { IsLeaf collection.now leaf }
+    requires room { (numbers : List ℕ) → IsWayTo collection.now (Some leaf) numbers → length path.old ≡ length numbers }
+    ensures { IsWayTo collection.now (Some leaf) path.new }
+{
+    let mut room = path.len();
+    let mut node = Some(leaf);
+    while let Some(number) = node {
+        room -= 1;
+        path[room] = number;
+        node = collection.parent(number);
     }
 }

@@ -1,5 +1,5 @@
 -- How a cursor's position is read from the node from which on it goes on.
-use Rattle.std.specs.Prelude.{◌≡◌, ℕ, ◌+◌, ◌≤◌, List, Some, nat_lt, refl}
+use Rattle.std.specs.Prelude.{◌≡◌, ℕ, ◌+◌, ◌≤◌, List, [], Some, nat_lt, refl}
 use Rattle.std.specs.List.{prefix_len}
 use Rattle.std.specs.Coded.{Coded, code_by, coded×, coded_ℕ}
 use Rattle.sgf_tree.specs.Tree.{Games, node_count}
@@ -16,6 +16,7 @@ lines_before c n = prefix_len (λ path. nat_lt (leaf_of path) n) (paths c)
 -- Where a cursor stands. It goes on from the node `next`; the node before that one is the last leaf, and `numbers` the way to it.
 pub record IsAfterLeaf (c : Games) (next : ℕ) (numbers : List ℕ) : Type 0 where
   pub within : next ≤ node_count c
+  pub start : next ≡ 0 → numbers ≡ []
   pub leaf : (i : ℕ) → next ≡ i + 1 → IsLeaf c i
   pub way : (i : ℕ) → next ≡ i + 1 → IsWayTo c (Some i) numbers
 

@@ -1,5 +1,5 @@
 -- The last node below stands in the collection, and what stands before it stands before the place.
-use Rattle.std.proofs.Common.{arith, rules}
+use Rattle.std.proofs.Common.{rules}
 use Rattle.sgf_lines.proofs.Seeking.{last_within, jumps}
 use Rattle.sgf_lines.proofs.seek.first_after.Goals as goal
 

@@ -1,6 +1,6 @@
 -- The nodes that the loop has left are counted.
 use Rattle.sgf_lines.proofs.Loops.{IsCounted, height}
-use Rattle.sgf_lines.proofs.cursor.depth.Given as goal
+use Rattle.sgf_lines.proofs.seek.depth.Given as goal
 
 abbrev pub invariant-loop-node : goal.invariant-loop-node
 invariant-loop-node l = IsCounted l.collection l.leaf l.node l.depth

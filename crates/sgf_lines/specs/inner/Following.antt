@@ -1,0 +1,38 @@
+-- How a line's path follows from that of the line before it.
+use Rattle.std.specs.Prelude.{◌≡◌, ◌≢◌, ℕ, suc, zero, ◌+◌, ◌-◌, ◌<◌, ◌≤◌, List, [], ◌∷◌, ◌++◌, length, take, slice_get, Option, Some, None}
+use Rattle.std.specs.List.{range_with_len}
+use Rattle.sgf_tree.specs.Tree.{Games}
+use Rattle.sgf_lines.specs.Lines.{last_number}
+use Rattle.sgf_lines.specs.Paths.{Path, paths}
+use Rattle.sgf_lines.specs.Cursor.{Position}
+
+-- the first node after the nodes of a line in file order; before the first line it is the first node of all
+abbrev pub first_after : List ℕ → ℕ
+first_after [] = 0
+first_after (n ∷ ns) = last_number (n ∷ ns) + 1
+
+-- The new path keeps a front of the old one, and then has the nodes from the first one after it down to its leaf.
+pub record Continues (old : List ℕ) (kept : ℕ) (new : List ℕ) : Type 0 where
+  pub kept_within : kept ≤ length old
+  pub more : ℕ
+  pub new_is : new ≡ take kept old ++ range_with_len (first_after old) (more + 1)
+
+abbrev pub numbers_of : Option Path → List ℕ
+numbers_of None = []
+numbers_of (Some path) = path.numbers
+
+abbrev pub numbers_before : Games → ℕ → List ℕ
+numbers_before games zero = []
+numbers_before games (suc k) = numbers_of (slice_get (paths games) k)
+
+-- the nodes of the line before a position; none before the first line
+abbrev pub path_before : Position → List ℕ
+path_before at = numbers_before at.games at.given
+
+-- How many nodes at the front of a path end with the node `parent`, which stands last there; 0 where there is no parent.
+abbrev pub IsCutBack : List ℕ → Option ℕ → ℕ → Type 0
+IsCutBack path None kept = kept ≡ 0
+IsCutBack path (Some parent) kept =
+    (kept ≤ length path)
+    × ((i : ℕ) → kept ≤ i → i < length path → slice_get path i ≢ Some parent)
+    × (0 < kept → slice_get path (kept - 1) ≡ Some parent)
