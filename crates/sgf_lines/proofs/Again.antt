@@ -147,7 +147,7 @@ records_same at ((n ∷ ns) ∷ ls) h =
     ap (λ t. (40 ∷ ((node_text n ++ t) ++ (41 ∷ 10 ∷ []))) ++ flat_map sgf_record (node_lines (single_games (at + length (sgf_record (n ∷ ns))) ls))) one
     ∙ ap (λ t. sgf_record (n ∷ ns) ++ t) rest
 
-flat_map-append : {A : Type 0} (f : A → List ℕ) (xs ys : List A) → flat_map f (xs ++ ys) ≡ flat_map f xs ++ flat_map f ys
+pub flat_map-append : {A : Type 0} (f : A → List ℕ) (xs ys : List A) → flat_map f (xs ++ ys) ≡ flat_map f xs ++ flat_map f ys
 flat_map-append f [] ys = refl
 flat_map-append f (x ∷ xs) ys = ap (λ t. f x ++ t) (flat_map-append f xs ys) ∙ sym (append_assoc (f x) (flat_map f xs) (flat_map f ys))
 

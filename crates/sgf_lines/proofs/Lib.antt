@@ -20,3 +20,4 @@ pub mod Sought
 pub mod Joins
 pub mod Records
 pub mod Again
+pub mod Appended

@@ -1,13 +1,17 @@
 //! Laws of the definitions. A function here does nothing: what it ensures is a law that is proved.
 
-ghost use Rattle.std.specs.Prelude.{◌≡◌, ℕ, List, map};
-ghost use Rattle.std.specs.List.{AllZip};
+ghost use Rattle.std.specs.Prelude.{◌≡◌, ◌++◌, ℕ, List, map, length};
+ghost use Rattle.std.specs.List.{AllZip, flat_map};
 ghost use Rattle.std.specs.List.Sorted.{IsStrictlyIncreasing};
-ghost use Rattle.sgf_tree.specs.Tree.{Games};
+ghost use Rattle.sgf_tree.specs.Appending.{raised, BeginsWithMark};
+ghost use Rattle.sgf_tree.specs.Tree.{Games, game_count, joined};
 ghost use Rattle.sgf_tree.specs.Spelling.{Spells};
 ghost use Rattle.sgf_lines.specs.Lines.{lines, place_of};
 ghost use Rattle.sgf_lines.specs.Paths.{paths, IsPathOf};
+ghost use Rattle.sgf_lines.specs.declared.options.Form.TheVariants.{List as list_form};
+ghost use Rattle.sgf_lines.specs.Appending.{raised_row};
 ghost use Rattle.sgf_lines.specs.Output.{sgf_output};
+ghost use Rattle.sgf_lines.specs.Record.{record_of};
 
 /// The places of the lines of a collection that some text spells rise strictly.
 /// So no line comes twice, and each is known by its place.
@@ -28,3 +32,17 @@ pub fn again()
     ensures { (c : Games) (t : List ℕ) → Spells c t
         → (d : Games) × Spells d (sgf_output c) × (sgf_output d ≡ sgf_output c) }
 {}
+
+/// One text after another, in list form: where t spells c, and u, which doesn't begin with a byte order mark, spells d,
+/// the two joined spell the games of both, and their rows are those of t, and then those of u with its places raised by
+/// the length of t, and the numbers of its games by the number of t's.
+/// So a database that grows at its end leaves all earlier rows as they were.
+pub fn append()
+    ensures spelled { (c d : Games) (t u : List ℕ) → Spells c t → Spells d u → ¬ BeginsWithMark u
+        → Spells (joined c (raised (length t) d)) (t ++ u) }
+    ensures rows { (c d : Games) (t u : List ℕ) → Spells c t → Spells d u → ¬ BeginsWithMark u
+        → flat_map (record_of list_form) (lines (joined c (raised (length t) d)))
+        ≡ flat_map (record_of list_form) (lines c) ++ flat_map (raised_row (length t) (game_count c)) (lines d) }
+{
+    sgf_tree::laws::append();
+}

@@ -1,0 +1,164 @@
+-- The lines of games after others are those of the others and then theirs, and what stands further on is judged alike.
+use Rattle.std.proofs.Common.{◌≡◌, ◌≢◌, ℕ, ◌+◌, List, [], ◌∷◌, ◌++◌, length, map, fold, Option, Some, None, option_map, Result, Ok, Err, codes, decimal, refl, sym, ap, ◌∙◌, arith, append_assoc}
+use Rattle.std.specs.List.{flat_map}
+use Rattle.std.proofs.lemmas.List.{map-append, length-map}
+use Rattle.sgf_tree.specs.Tree.{Node, Games, no_games, game, game_count, joined}
+use Rattle.sgf_tree.specs.Appending.{raised_node, raised}
+use Rattle.go_board.specs.declared.reason.Reason.{Reason}
+use Rattle.go_board.specs.State.{State}
+use Rattle.sgf_lines.specs.declared.options.Form.TheVariants.{List as list_form}
+use Rattle.sgf_lines.specs.declared.verdict.Verdict.{Verdict}
+use Rattle.sgf_lines.specs.Lines.{Line, through, node_lines, lines_of_game, lines_from, lines, last_number, place_of}
+use Rattle.sgf_lines.specs.GameSize.{Opening, other_game, no_board, board, opening, root_properties}
+use Rattle.sgf_lines.specs.Step.{step}
+use Rattle.sgf_lines.specs.Walk.{Played, Fault, Walk, begun, stepped, next_by, next, walk}
+use Rattle.sgf_lines.specs.Verdict.{verdict_with, verdict_by, verdict_of}
+use Rattle.sgf_lines.specs.ListRow.{verdict_text}
+use Rattle.sgf_lines.specs.Record.{record_of}
+use Rattle.sgf_lines.specs.Appending.{raised_verdict, raised_row}
+use Rattle.sgf_lines.proofs.Lists.{Each, each_append, each_through}
+use Rattle.sgf_lines.proofs.Named.{map-through}
+use Rattle.sgf_lines.proofs.Again.{flat_map-append}
+
+-- ---- games after others
+
+lines-joined : (number : ℕ) (c d : Games) → lines_from number (joined c d) ≡ lines_from number c ++ lines_from (game_count c + number) d
+lines-joined number no_games d = let same : number ≡ 0 + number = omega arith in ap (λ n. lines_from n d) same
+lines-joined number (game first more below after) d =
+    let own = lines_of_game number (through (first ∷ more) (node_lines below)) in
+    let sums : game_count after + (number + 1) ≡ 1 + game_count after + number = omega arith in
+    ap (λ ls. own ++ ls) (lines-joined (number + 1) after d)
+    ∙ sym (append_assoc own (lines_from (number + 1) after) (lines_from (game_count after + (number + 1)) d))
+    ∙ ap (λ n. (own ++ lines_from (number + 1) after) ++ lines_from n d) sums
+
+-- ---- games further on
+
+-- a line `by` bytes further on, after so many games
+abbrev raised_line : ℕ → ℕ → Line → Line
+raised_line by games line = record { game_number = games + line.game_number; nodes = map (raised_node by) line.nodes }
+
+node_lines-raised : (by : ℕ) (g : Games) → node_lines (raised by g) ≡ map (map (raised_node by)) (node_lines g)
+node_lines-raised by no_games = refl
+node_lines-raised by (game first more below after) =
+    let f = map (raised_node by) in
+    ap (λ ls. through (f (first ∷ more)) ls ++ node_lines (raised by after)) (node_lines-raised by below)
+    ∙ ap (λ ls. ls ++ node_lines (raised by after)) (sym (map-through (raised_node by) (first ∷ more) (node_lines below)))
+    ∙ ap (λ ls. map f (through (first ∷ more) (node_lines below)) ++ ls) (node_lines-raised by after)
+    ∙ sym (map-append f (through (first ∷ more) (node_lines below)) (node_lines after))
+
+lines_of_game-raised : (by games number : ℕ) (ways : List (List Node))
+    → lines_of_game (games + number) (map (map (raised_node by)) ways) ≡ map (raised_line by games) (lines_of_game number ways)
+lines_of_game-raised by games number [] = refl
+lines_of_game-raised by games number (w ∷ ws) = ap (λ ls. raised_line by games (record { game_number = number; nodes = w }) ∷ ls) (lines_of_game-raised by games number ws)
+
+lines-raised : (by games number : ℕ) (g : Games) → lines_from (games + number) (raised by g) ≡ map (raised_line by games) (lines_from number g)
+lines-raised by games number no_games = refl
+lines-raised by games number (game first more below after) =
+    let ways = through (first ∷ more) (node_lines below) in
+    let rest = lines_from (games + number + 1) (raised by after) in
+    let sums : games + number + 1 ≡ games + (number + 1) = omega arith in
+    ap (λ ls. lines_of_game (games + number) (through (map (raised_node by) (first ∷ more)) ls) ++ rest) (node_lines-raised by below)
+    ∙ ap (λ ls. lines_of_game (games + number) ls ++ rest) (sym (map-through (raised_node by) (first ∷ more) (node_lines below)))
+    ∙ ap (λ ls. ls ++ rest) (lines_of_game-raised by games number ways)
+    ∙ ap (λ n. map (raised_line by games) (lines_of_game number ways) ++ lines_from n (raised by after)) sums
+    ∙ ap (λ ls. map (raised_line by games) (lines_of_game number ways) ++ ls) (lines-raised by games (number + 1) after)
+    ∙ sym (map-append (raised_line by games) (lines_of_game number ways) (lines_from (number + 1) after))
+
+-- ---- Each line has a node.
+
+ways_filled : (g : Games) → Each (λ l. l ≢ []) (node_lines g)
+ways_filled no_games = tt
+ways_filled (game first more below after) =
+    each_append (λ l. l ≢ []) (through (first ∷ more) (node_lines below)) (node_lines after)
+    (each_through (λ l. l ≢ []) (λ l. l ≢ []) (first ∷ more) (node_lines below) (λ none e. cc) (λ l filled e. cc) (ways_filled below))
+    (ways_filled after)
+
+abbrev IsFilled : Line → Type 0
+IsFilled line = line.nodes ≢ []
+
+game_filled : (number : ℕ) (ways : List (List Node)) → Each (λ l. l ≢ []) ways → Each IsFilled (lines_of_game number ways)
+game_filled number [] h = tt
+game_filled number (w ∷ ws) h = (h.0, game_filled number ws h.1)
+
+lines_filled : (number : ℕ) (g : Games) → Each IsFilled (lines_from number g)
+lines_filled number no_games = tt
+lines_filled number (game first more below after) =
+    let ways = through (first ∷ more) (node_lines below) in
+    let own = each_through (λ l. l ≢ []) (λ l. l ≢ []) (first ∷ more) (node_lines below) (λ none e. cc) (λ l filled e. cc) (ways_filled below) in
+    each_append IsFilled (lines_of_game number ways) (lines_from (number + 1) after) (game_filled number ways own) (lines_filled (number + 1) after)
+
+-- ---- What a row says of a line further on.
+
+place-raised : (by : ℕ) (nodes : List Node) → nodes ≢ [] → last_number (map (λ n. n.place) (map (raised_node by) nodes)) ≡ by + last_number (map (λ n. n.place) nodes)
+place-raised by [] h = absurd (h refl)
+place-raised by (n ∷ []) h = refl
+place-raised by (n ∷ m ∷ ms) h = place-raised by (m ∷ ms) (λ e. cc)
+
+root-raised : (by : ℕ) (nodes : List Node) → root_properties (map (raised_node by) nodes) ≡ root_properties nodes
+root-raised by [] = refl
+root-raised by (n ∷ ns) = refl
+
+abbrev raised_played : ℕ → Played → Played
+raised_played by p = record { node = raised_node by p.node; after = p.after }
+
+abbrev raised_fault : ℕ → Fault → Fault
+raised_fault by fault = record { node = raised_node by fault.node; reason = fault.reason }
+
+abbrev raised_walk : ℕ → Walk → Walk
+raised_walk by w = record { played = map (raised_played by) w.played; state = w.state; fault = option_map (raised_fault by) w.fault }
+
+stepped-raised : (by : ℕ) (w : Walk) (n : Node) (result : Result State Reason)
+    → stepped (raised_walk by w) (raised_node by n) result ≡ raised_walk by (stepped w n result)
+stepped-raised by w n (Ok s) =
+    ap (λ ps. record { played = ps; state = s; fault = None }) (sym (map-append (raised_played by) w.played (record { node = n; after = s } ∷ [])))
+stepped-raised by w n (Err reason) = refl
+
+next-raised : (by : ℕ) (w : Walk) (fault : Option Fault) (n : Node)
+    → next_by (raised_walk by w) (option_map (raised_fault by) fault) (raised_node by n) ≡ raised_walk by (next_by w fault n)
+next-raised by w (Some fault) n = refl
+next-raised by w None n = stepped-raised by w n (step w.state n)
+
+walk-raised : (by : ℕ) (w : Walk) (nodes : List Node) → fold next (raised_walk by w) (map (raised_node by) nodes) ≡ raised_walk by (fold next w nodes)
+walk-raised by w [] = refl
+walk-raised by w (n ∷ ns) =
+    ap (λ v. fold next v (map (raised_node by) ns)) (next-raised by w w.fault n) ∙ walk-raised by (next w n) ns
+
+verdict_with-raised : (by : ℕ) (s : State) (fault : Option Fault) → verdict_with s (option_map (raised_fault by) fault) ≡ raised_verdict by (verdict_with s fault)
+verdict_with-raised by s None = refl
+verdict_with-raised by s (Some fault) = refl
+
+verdict_by-raised : (by : ℕ) (o : Opening) (nodes : List Node) → verdict_by o (map (raised_node by) nodes) ≡ raised_verdict by (verdict_by o nodes)
+verdict_by-raised by other_game nodes = refl
+verdict_by-raised by no_board nodes = refl
+verdict_by-raised by (board side) nodes =
+    ap (λ w. verdict_with w.state w.fault) (walk-raised by (begun side) nodes)
+    ∙ verdict_with-raised by (walk side nodes).state (walk side nodes).fault
+
+verdict-raised : (by : ℕ) (nodes : List Node) → verdict_of (map (raised_node by) nodes) ≡ raised_verdict by (verdict_of nodes)
+verdict-raised by nodes =
+    ap (λ ps. verdict_by (opening ps) (map (raised_node by) nodes)) (root-raised by nodes) ∙ verdict_by-raised by (opening (root_properties nodes)) nodes
+
+row-raised : (by games : ℕ) (line : Line) → IsFilled line → record_of list_form (raised_line by games line) ≡ raised_row by games line
+row-raised by games line filled =
+    let text = λ (place size : ℕ) (v : Verdict). (decimal place ++ codes " " ++ decimal (games + line.game_number) ++ codes " " ++ decimal size
+    ++ codes " " ++ verdict_text v) ++ codes "\n" in
+    let nodes = map (raised_node by) line.nodes in
+    ap (λ n. text n (length nodes) (verdict_of nodes)) (place-raised by line.nodes filled)
+    ∙ ap (λ n. text (by + place_of line) n (verdict_of nodes)) (length-map line.nodes (raised_node by))
+    ∙ ap (λ v. text (by + place_of line) (length line.nodes) v) (verdict-raised by line.nodes)
+
+rows-raised : (by games : ℕ) (ls : List Line) → Each IsFilled ls
+    → flat_map (λ line. record_of list_form line) (map (raised_line by games) ls) ≡ flat_map (λ line. raised_row by games line) ls
+rows-raised by games [] h = refl
+rows-raised by games (l ∷ ls) h =
+    ap (λ t. t ++ flat_map (λ line. record_of list_form line) (map (raised_line by games) ls)) (row-raised by games l h.0)
+    ∙ ap (λ t. raised_row by games l ++ t) (rows-raised by games ls h.1)
+
+pub rows_joined : (c d : Games) (by : ℕ) → flat_map (λ line. record_of list_form line) (lines (joined c (raised by d)))
+    ≡ flat_map (λ line. record_of list_form line) (lines c) ++ flat_map (λ line. raised_row by (game_count c) line) (lines d)
+rows_joined c d by =
+    let row = λ (line : Line). record_of list_form line in
+    let games = game_count c in
+    ap (λ ls. flat_map row ls) (lines-joined 1 c (raised by d) ∙ ap (λ ls. lines c ++ ls) (lines-raised by games 1 d))
+    ∙ flat_map-append row (lines c) (map (raised_line by games) (lines d))
+    ∙ ap (λ t. flat_map row (lines c) ++ t) (rows-raised by games (lines d) (lines_filled 1 d))

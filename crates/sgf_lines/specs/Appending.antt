@@ -1,0 +1,21 @@
+-- The rows of a text that follows another one, for the law of one text after another.
+use Rattle.std.specs.Prelude.{ℕ, ◌+◌, List, ◌++◌, length, codes, decimal}
+use Rattle.sgf_lines.specs.declared.verdict.Verdict.{Verdict}
+use Rattle.sgf_lines.specs.declared.verdict.Verdict.TheVariants.{Score, Illegal, NotGo, BadSize}
+use Rattle.sgf_lines.specs.Lines.{Line, place_of}
+use Rattle.sgf_lines.specs.ListRow.{verdict_text}
+use Rattle.sgf_lines.specs.Verdict.{verdict}
+
+-- a verdict on a line that stands `by` bytes further on: the place of a faulty node is raised by so many
+abbrev pub raised_verdict : ℕ → Verdict → Verdict
+raised_verdict by (Score black white over) = Score black white over
+raised_verdict by (Illegal turn place reason) = Illegal turn (by + place) reason
+raised_verdict by NotGo = NotGo
+raised_verdict by BadSize = BadSize
+
+-- the record in list form of a line that stands `by` bytes further on, after so many games: its place and that of a
+-- faulty node are raised by the bytes, and the number of its game by the games
+abbrev pub raised_row : ℕ → ℕ → Line → List ℕ
+raised_row by games line =
+    (decimal (by + place_of line) ++ codes " " ++ decimal (games + line.game_number) ++ codes " " ++ decimal (length line.nodes)
+    ++ codes " " ++ verdict_text (raised_verdict by (verdict line))) ++ codes "\n"
