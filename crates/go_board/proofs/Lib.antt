@@ -20,3 +20,4 @@ pub mod EntryLemmas
 pub mod EarlierLemmas
 pub mod AreaLemmas
 pub mod TurnLemmas
+pub mod PrintLemmas

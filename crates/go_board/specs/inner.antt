@@ -7,3 +7,4 @@ pub mod Groups
 pub mod Sweep
 pub mod Entries
 pub mod Earlier
+pub mod Print

@@ -1,6 +1,7 @@
 //! The colourings that a game has been through.
 
 mod list_past;
+mod print;
 #[cfg(test)]
 mod tests;
 

@@ -1,0 +1,24 @@
+-- specs/inner/Print.antt
+-- The print of a colouring: one number made of what stands on all its points.
+use Rattle.std.specs.Prelude.{ℕ, ◌+◌, ◌*◌, ◌%◌, ◌^◌, List, [], ◌∷◌}
+use Rattle.go_board.specs.declared.stones.Cell.{Cell}
+use Rattle.go_board.specs.declared.stones.Cell.TheVariants.{Black, White, Empty}
+
+abbrev pub code_of : Cell → ℕ
+code_of Empty = 0
+code_of Black = 1
+code_of White = 2
+
+-- the codes as the digits of a number in base 31, after the digits of n
+abbrev pub digits_after : ℕ → List Cell → ℕ
+digits_after n [] = n
+digits_after n (c ∷ cs) = digits_after (31 * n + code_of c) cs
+
+-- the print, of 64 bits
+abbrev pub print_of : List Cell → ℕ
+print_of cells = digits_after 0 cells % 2 ^ 64
+
+-- the short print: from n, point by point, 31 times the number and the point's code, modulo 16,384
+abbrev pub short_print_after : ℕ → List Cell → ℕ
+short_print_after n [] = n
+short_print_after n (c ∷ cs) = short_print_after ((31 * n + code_of c) % 16384) cs

@@ -1,0 +1,44 @@
+//! The print of a colouring: one number made of what stands on all its points, so that two colourings are mostly told
+//! apart by one comparison.
+
+ghost use Rattle.std.specs.Prelude.{◌≡◌, List};
+ghost use Rattle.go_board.specs.declared.stones.Cell.{Cell};
+ghost use Rattle.go_board.specs.inner.Print.{code_of, print_of, short_print_after};
+
+use crate::stones::Cell;
+
+/// What each point's code is a digit of.
+const BASE: u64 = 31;
+
+/// The number of short prints.
+const SHORT_PRINTS: u64 = 16_384;
+
+/// What a point adds to a print.
+fn code_of(cell: Cell) -> u64
+    ensures { result ≡ code_of cell }
+{
+    match cell {
+        Cell::Empty => 0,
+        Cell::Black => 1,
+        Cell::White => 2,
+    }
+}
+
+/// The print of a board's points, row by row from the top, from left to right: from 0, 31 times the number and the
+/// point's code (empty 0, black 1, white 2), modulo 2^64.
+pub(crate) fn print_of(cells: &[Cell]) -> u64
+    ensures { result ≡ print_of cells.now }
+{
+    let mut print: u64 = 0;
+    for cell in cells {
+        print = print.wrapping_mul(BASE).wrapping_add(code_of(*cell));
+    }
+    print
+}
+
+/// The short print of the points with that print: what the same steps give modulo 16,384. It is the print's low 14 bits.
+pub(crate) fn short_print(print: u64) -> u64
+    ensures { (cells : List Cell) → print ≡ print_of cells → result ≡ short_print_after 0 cells }
+{
+    print % SHORT_PRINTS
+}
