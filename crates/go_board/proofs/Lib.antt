@@ -21,3 +21,4 @@ pub mod EarlierLemmas
 pub mod AreaLemmas
 pub mod TurnLemmas
 pub mod PrintLemmas
+pub mod PrintPastLemmas

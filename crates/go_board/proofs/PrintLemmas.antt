@@ -1,6 +1,6 @@
 -- proofs/PrintLemmas.antt
 -- The print of a colouring.
-use Rattle.std.proofs.Common.{◌≡◌, ℕ, ◌+◌, ◌*◌, ◌%◌, ◌/◌, ◌^◌, List, [], ◌∷◌, ◌++◌, length, refl, sym, ap, ◌∙◌, arith}
+use Rattle.std.proofs.Common.{◌≡◌, ℕ, ◌+◌, ◌*◌, ◌%◌, ◌/◌, ◌^◌, List, [], ◌∷◌, ◌++◌, refl, sym, ap, ◌∙◌, arith}
 use Rattle.std.proofs.Math.Nat.{mod-add-div, add-mul-mod_self_left}
 use Rattle.std.proofs.lemmas.Nat.{mul-mod_first, mul-mod_second}
 use Rattle.go_board.specs.declared.stones.Cell.{Cell}
@@ -11,9 +11,6 @@ pub add-mod_first : (a b m : ℕ) → (a % m + b) % m ≡ (a + b) % m
 add-mod_first a b m =
     let whole : a + b ≡ (a % m + b) + m * (a / m) = omega (arith, mod-add-div a m) in
     sym (ap (λ n. n % m) whole ∙ add-mul-mod_self_left (a % m + b) m (a / m))
-
-pub add-mod_second : (a b m : ℕ) → (a + b % m) % m ≡ (a + b) % m
-add-mod_second a b m = omega (arith, add-mod_first b a m)
 
 -- digits are read one after another
 pub digits-append : (n : ℕ) (xs ys : List Cell) → digits_after n (xs ++ ys) ≡ digits_after (digits_after n xs) ys

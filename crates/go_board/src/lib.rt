@@ -22,7 +22,7 @@
 //! | `vertices` | points as the Go Text Protocol writes them |
 //! | `marks`, `steps` | a set of points of a board; a count of work |
 //! | `board` | the board: reading, setting, moves, score; below it the flood, its worklist, captures, passes over all points, areas |
-//! | `past` | the colourings that a game has been through; below it the plain past, which keeps all of them whole |
+//! | `past` | the colourings that a game has been through; below it the plain past, which keeps all of them whole, and the past with prints |
 //! | `reason`, `fault` | why a turn, or a node of a game record, isn't allowed; the errors |
 //! | `referee` | setups, turns and undo by the rules |
 //! | `laws` | what the words of the contracts mean |
@@ -49,7 +49,7 @@ mod vertices;
 pub use board::Board;
 pub use fault::{MemoryFault, TurnFault};
 pub use marks::Marks;
-pub use past::{ListPast, Past};
+pub use past::{ListPast, Past, PrintPast};
 pub use points::{Point, Rect};
 pub use reason::Reason;
 pub use referee::{Play, Referee, SetupOp};

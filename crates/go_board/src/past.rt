@@ -2,6 +2,7 @@
 
 mod list_past;
 mod print;
+mod print_past;
 #[cfg(test)]
 mod tests;
 
@@ -11,6 +12,7 @@ ghost use Rattle.go_board.specs.Past.{Held, newest, present_stretch, HaveSide};
 use crate::board::Board;
 use crate::fault::MemoryFault;
 pub use list_past::ListPast;
+pub use print_past::PrintPast;
 use std::alloc::Global;
 
 /// The colourings that a game has been through, at least one, each with a mark where it begins a stretch. The present

@@ -1,8 +1,9 @@
 -- specs/inner/Print.antt
 -- The print of a colouring: one number made of what stands on all its points.
-use Rattle.std.specs.Prelude.{ℕ, ◌+◌, ◌*◌, ◌%◌, ◌^◌, List, [], ◌∷◌}
+use Rattle.std.specs.Prelude.{ℕ, ◌+◌, ◌*◌, ◌%◌, ◌^◌, List, [], ◌∷◌, map}
 use Rattle.go_board.specs.declared.stones.Cell.{Cell}
 use Rattle.go_board.specs.declared.stones.Cell.TheVariants.{Black, White, Empty}
+use Rattle.go_board.specs.Past.{Held}
 
 abbrev pub code_of : Cell → ℕ
 code_of Empty = 0
@@ -22,3 +23,7 @@ print_of cells = digits_after 0 cells % 2 ^ 64
 abbrev pub short_print_after : ℕ → List Cell → ℕ
 short_print_after n [] = n
 short_print_after n (c ∷ cs) = short_print_after ((31 * n + code_of c) % 16384) cs
+
+-- the prints of past colourings
+abbrev pub prints_of : List Held → List ℕ
+prints_of held = map (λ (h : Held). print_of h.colouring.cells) held

@@ -2,8 +2,8 @@
 
 use crate::board::Board;
 use crate::fault::MemoryFault;
-use crate::past::list_past::ListPast;
 use crate::past::Past;
+use crate::past::list_past::ListPast;
 use crate::past::print::print_of;
 use std::alloc::Global;
 use std::marker::Model;

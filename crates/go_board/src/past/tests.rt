@@ -3,7 +3,7 @@
 ghost use Rattle.std.specs.Prelude.{◌≡◌};
 ghost use Rattle.go_board.specs.Point.{IsOn};
 
-use crate::{Board, Cell, ListPast, Past, Point, Size};
+use crate::{Board, Cell, ListPast, Past, Point, PrintPast, Size};
 use std::alloc::Global;
 use std::process::Abort;
 use std::test::Fail;
@@ -56,4 +56,9 @@ fn past_begins_anew<P: Past>(rt: &impl Abort, alloc: Global) -> Result<(), Fail>
 #[test]
 fn list_past(rt: HostRuntime) -> Result<(), Fail> {
     past_begins_anew::<ListPast>(&rt, rt.alloc())
+}
+
+#[test]
+fn print_past(rt: HostRuntime) -> Result<(), Fail> {
+    past_begins_anew::<PrintPast>(&rt, rt.alloc())
 }

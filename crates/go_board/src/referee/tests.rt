@@ -3,8 +3,8 @@
 ghost use Rattle.std.specs.Prelude.{◌≡◌};
 
 use crate::{
-    Cell, Colour, ListPast, MemoryFault, Past, Play, Point, Reason, Rect, Referee, SetupOp, Size,
-    TurnFault,
+    Cell, Colour, ListPast, MemoryFault, Past, Play, Point, PrintPast, Reason, Rect, Referee,
+    SetupOp, Size, TurnFault,
 };
 use std::alloc::Global;
 use std::process::Abort;
@@ -142,6 +142,13 @@ fn referee_over_list_past(rt: HostRuntime) -> Result<(), Fail> {
     on_one::<ListPast>(&rt, rt.alloc())?;
     on_three::<ListPast>(&rt, rt.alloc())?;
     player_alone::<ListPast>(&rt, rt.alloc())
+}
+
+#[test]
+fn referee_over_print_past(rt: HostRuntime) -> Result<(), Fail> {
+    on_one::<PrintPast>(&rt, rt.alloc())?;
+    on_three::<PrintPast>(&rt, rt.alloc())?;
+    player_alone::<PrintPast>(&rt, rt.alloc())
 }
 
 #[test]

@@ -1,5 +1,5 @@
 -- proofs/past/print/short_print/Answers.antt
-use Rattle.std.proofs.Common.{◌≡◌, ◌%◌, ap, ◌∙◌}
+use Rattle.std.proofs.Common.{◌%◌, ap, ◌∙◌}
 use Rattle.go_board.proofs.PrintLemmas.{short-low}
 use Rattle.go_board.proofs.past.print.short_print.Goals as goal
 
