@@ -154,9 +154,8 @@ numbers_of_paths number at (game first more below after) =
     ∙ ap (λ ls. ls ++ map (λ p. p.numbers) (paths_from (number + 1) next after)) (numbers_of_game number ways)
     ∙ ap (λ ls. ways ++ ls) (numbers_of_paths (number + 1) next after)
 
--- the paths of a collection, from no path and the first node on
-pub record AllFollow (ls : List (List ℕ)) : Type 0 where
-  pub end : ℕ
+-- the paths of a collection, from no path and the first node on, up to the last node
+pub record AllFollow (end : ℕ) (ls : List (List ℕ)) : Type 0 where
   pub last : List ℕ
   pub follow : Follow 0 [] ls end last
 
@@ -164,14 +163,15 @@ same_each : (ls : List (List ℕ)) → map (λ l. [] ++ l) ls ≡ ls
 same_each [] = refl
 same_each (l ∷ ls) = ap (λ ls. l ∷ ls) (same_each ls)
 
-all_follow : (c : Games) → AllFollow (number_lines 0 c)
-all_follow no_games = record { end = 0; last = []; follow = stay }
+all_follow : (c : Games) → AllFollow (node_count c) (number_lines 0 c)
+all_follow no_games = record { last = []; follow = stay }
 all_follow (game first more below after) =
     let g = game first more below after in
     let f = follow_games g 0 0 0 [] [] 0 (record { within = omega arith; above_is = refl; at_is = refl }) in
-    record { end = 0 + node_count g; last = [] ++ f.rest; follow = rw (same_each (number_lines 0 g)) at f.follow }
+    let count : 0 + node_count g ≡ node_count g = omega arith in
+    record { last = [] ++ f.rest; follow = rw count at (rw (same_each (number_lines 0 g)) at f.follow) }
 
-pub paths_follow : (c : Games) → AllFollow (map (λ p. p.numbers) (paths c))
+pub paths_follow : (c : Games) → AllFollow (node_count c) (map (λ p. p.numbers) (paths c))
 paths_follow c = rw (numbers_of_paths 1 0 c) (all_follow c)
 
 -- the node after a path is the one after its last

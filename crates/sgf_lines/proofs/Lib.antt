@@ -11,6 +11,9 @@ pub mod Named
 pub mod Positions
 pub mod LinesRise
 pub mod Following
+pub mod Different
+pub mod Touched
+pub mod PagesJoin
 pub mod Seeking
 pub mod Loops
 pub mod Standings

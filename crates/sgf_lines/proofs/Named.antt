@@ -135,7 +135,7 @@ pub length-paths : (c : Games) → length (paths c) ≡ length (lines c)
 length-paths c = sym (length-map (paths c) (shown_path c)) ∙ ap length (named_all c) ∙ length-map (lines c) shown_line
 
 -- the place of a line is that of the last node on its path
-place_of_node : (c : Games) (i : ℕ) (n : Node) → Some n ≡ node_at c i → place_at c i ≡ Some n.place
+pub place_of_node : (c : Games) (i : ℕ) (n : Node) → Some n ≡ node_at c i → place_at c i ≡ Some n.place
 place_of_node c i n e = of_row (slice_get (rows_of c) i) e
   where
     of_row : (o : Option Row) → Some n ≡ option_map (λ r. r.node) o → option_map (λ r. r.node.place) o ≡ Some n.place

@@ -1,13 +1,16 @@
 //! Laws of the definitions. A function here does nothing: what it ensures is a law that is proved.
 
-ghost use Rattle.std.specs.Prelude.{◌≡◌, ◌++◌, ℕ, List, map, length};
+ghost use Rattle.std.specs.Prelude.{◌≡◌, ◌∷◌, ◌++◌, ℕ, List, [], map, length};
 ghost use Rattle.std.specs.List.{AllZip, flat_map};
 ghost use Rattle.std.specs.List.Sorted.{IsStrictlyIncreasing};
 ghost use Rattle.sgf_tree.specs.Appending.{raised, BeginsWithMark};
 ghost use Rattle.sgf_tree.specs.Tree.{Games, game_count, joined};
 ghost use Rattle.sgf_tree.specs.Spelling.{Spells};
-ghost use Rattle.sgf_lines.specs.Lines.{lines, place_of};
+ghost use Rattle.sgf_lines.specs.Lines.{Line, lines, place_of};
 ghost use Rattle.sgf_lines.specs.Paths.{paths, IsPathOf};
+ghost use Rattle.sgf_lines.specs.Page.{page};
+ghost use Rattle.sgf_lines.specs.declared.options.Options.{Options};
+ghost use Rattle.sgf_lines.specs.Plays.{touched as touched_places, node_places};
 ghost use Rattle.sgf_lines.specs.declared.options.Form.TheVariants.{List as list_form};
 ghost use Rattle.sgf_lines.specs.Appending.{raised_row};
 ghost use Rattle.sgf_lines.specs.Output.{sgf_output};
@@ -45,4 +48,24 @@ pub fn append()
         ≡ flat_map (record_of list_form) (lines c) ++ flat_map (raised_row (length t) (game_count c)) (lines d) }
 {
     sgf_tree::laws::append();
+}
+
+/// The places that the lines of a collection touch are the places of all its nodes, in file order.
+/// So a run over all lines plays at most as many nodes as there are.
+pub fn touched()
+    ensures { (c : Games) (t : List ℕ) → Spells c t → touched_places (lines c) ≡ node_places c }
+{
+    sgf_tree::laws::places_rise();
+}
+
+/// A page with a limit, and the page of all lines after its last line, join to the page without the limit, for a collection
+/// that some text spells.
+/// So runs of one line or more, each begun after the last place of the one before, give the whole output.
+pub fn pages()
+    ensures { (c : Games) (t : List ℕ) → Spells c t → (o : Options) (front : List Line) (last : Line)
+        → page o c ≡ Some (front ++ last ∷ []) → (rest : List Line)
+        × (page (record o { after = Some (place_of last); limit = None }) c ≡ Some rest)
+        × (page (record o { limit = None }) c ≡ Some (front ++ last ∷ rest)) }
+{
+    sgf_tree::laws::places_rise();
 }

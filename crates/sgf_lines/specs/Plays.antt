@@ -1,0 +1,31 @@
+-- Which nodes a run plays: each node that is judged on some line of its page, once, however many lines share it.
+use Rattle.std.specs.Prelude.{ℕ, Bool, true, false, ◌==◌, if◌then◌else◌, List, [], ◌∷◌, map, filter}
+use Rattle.std.specs.List.{flat_map}
+use Rattle.sgf_tree.specs.Tree.{Node, Games}
+use Rattle.sgf_tree.specs.FileOrder.{rows_of}
+use Rattle.sgf_lines.specs.Lines.{Line}
+use Rattle.sgf_lines.specs.Verdict.{judged_nodes}
+
+-- whether two numbers differ
+abbrev pub differ : ℕ → ℕ → Bool
+differ n m = if n == m then false else true
+
+-- each number of a list once, where it stands first
+abbrev pub different : List ℕ → List ℕ
+different [] = []
+different (n ∷ ns) = n ∷ filter (differ n) (different ns)
+
+abbrev pub places_of : List Node → List ℕ
+places_of nodes = map (λ n. n.place) nodes
+
+-- the places of all nodes of a collection, in file order
+abbrev pub node_places : Games → List ℕ
+node_places c = map (λ r. r.node.place) (rows_of c)
+
+-- the places of the nodes that stand on some of these lines
+abbrev pub touched : List Line → List ℕ
+touched ls = different (flat_map (λ line. places_of line.nodes) ls)
+
+-- the places of the nodes that are judged on some of these lines: up to the first that isn't allowed, that one among them
+abbrev pub judged : List Line → List ℕ
+judged ls = different (flat_map (λ line. places_of (judged_nodes line)) ls)
