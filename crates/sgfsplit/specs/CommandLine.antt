@@ -4,28 +4,59 @@ use Rattle.std.specs.Borrow.{Bor}
 use Rattle.clap.specs.Faults.{fault_of}
 use Rattle.clap.specs.Walk.{Rule}
 use Rattle.clap.specs.Simple.{App, new_app, new_rule, on_top, with_rule, with_subcommand}
-use Rattle.clap.specs.declared.builder.value_parser.ValueParser.TheVariants.{Names}
+use Rattle.clap.specs.declared.builder.value_parser.ValueParser.TheVariants.{Names, Unsigned}
 
--- `--form`, which is required and takes one of these values
-abbrev pub form_rule : Bor (List (Bor (List ℕ))) → Rule
-form_rule forms =
-    record (new_rule (codes "form")) { long = Some (codes "form"); value_names = 1; parser = Some (Names forms); required = true }
+-- a list of the forms as the program holds it
+abbrev pub FormNames : Type 0
+FormNames = Bor (List (Bor (List ℕ)))
+
+abbrev pub names_of : FormNames → List (List ℕ)
+names_of names = map (λ name. name.now) names.now
+
+-- `--form FORM`: one of these names, and `list` where it isn't given
+abbrev pub form_rule : FormNames → Rule
+form_rule names = record (new_rule (codes "form")) {
+  long = Some (codes "form");
+  value_names = 1;
+  parser = Some (Names names);
+  defaults = codes "list" ∷ [];
+}
+
+-- an option that takes a number of 64 bits
+abbrev pub number_rule : List ℕ → Rule
+number_rule name = record (new_rule name) {
+  long = Some name;
+  value_names = 1;
+  parser = Some (Unsigned 0 18446744073709551615);
+}
+
+-- FILE
+abbrev pub file_rule : Rule
+file_rule = record (new_rule (codes "file")) { value_names = 1 }
 
 -- `sgfsplit`, which wants a subcommand
 abbrev pub program_alone : App
 program_alone = on_top (λ s. record s { subcommand_required = true }) (new_app (codes "sgfsplit"))
 
--- `sgfsplit split --form FORM`
-abbrev pub program_line : Bor (List (Bor (List ℕ))) → App
-program_line forms =
-    with_subcommand program_alone (with_rule (new_app (codes "split")) (form_rule forms)).top
+-- `split [--form FORM] [--after PLACE] [--limit N] [FILE]`
+abbrev pub split_line : FormNames → App
+split_line names =
+    with_rule (with_rule (with_rule (with_rule (new_app (codes "split")) (form_rule names)) (number_rule (codes "after")))
+    (number_rule (codes "limit"))) file_rule
 
--- the words that ask for a split: a name of the program, `split --form sgf`
-abbrev pub split_words : List ℕ → List (List ℕ)
-split_words name = name ∷ codes "split" ∷ codes "--form" ∷ codes "sgf" ∷ []
+-- `count [FILE]`
+abbrev pub count_line : App
+count_line = with_rule (new_app (codes "count")) file_rule
 
--- clap finds no fault in the words, read as a command line of the program whose one form is `sgf`
+-- the whole command line
+abbrev pub program_line : FormNames → App
+program_line names = with_subcommand (with_subcommand program_alone (split_line names).top) count_line.top
+
+-- the forms that `--form` takes
+abbrev pub forms : List (List ℕ)
+forms = codes "list" ∷ codes "sgf" ∷ codes "gtp" ∷ []
+
+-- clap finds no fault in the words, read as a command line of the program
 abbrev pub AreFaultless : List (List ℕ) → Type 0
 AreFaultless words =
-    (forms : Bor (List (Bor (List ℕ)))) × (map (λ form. form.now) forms.now ≡ codes "sgf" ∷ [])
-    × (fault_of (program_line forms) words ≡ [])
+    (names : FormNames) × (names_of names ≡ forms) × (fault_of (program_line names) words ≡ [])

@@ -1,12 +1,20 @@
 //! What the words of the command line ask for.
 
 use clap::Error;
+use sgf_lines::Options;
 
-/// What the words ask for.
-#[derive(Clone, Copy, Debug, PartialEq, Eq)]
+/// What the words ask for. A file is named by its path, and none is standard input.
+#[derive(Debug, Drop)]
 pub enum Job {
-    /// Split standard input into one SGF game a line.
-    Split,
+    /// Write the lines of play of a collection.
+    Split {
+        options: Options,
+        file: Option<String>,
+    },
+    /// Count the games, the nodes and the lines of play of a collection.
+    Count {
+        file: Option<String>,
+    },
 }
 
 /// Why there is no job.

@@ -4,44 +4,111 @@ use crate::fault::RunFault;
 use crate::request::{Job, JobFault};
 use crate::splitting::split_input;
 use crate::words::job;
+use sgf_lines::{Form, Options};
 use std::alloc::{AllocError, Global};
 use std::io;
 use std::io::{ErrorKind, Read, Write};
 use std::test::Fail;
 
-/// The status that words get where there is no job, or none.
-fn status_of_words(alloc: Global, words: &[&str]) -> Result<Option<i32>, AllocError> {
+/// What the words ask for: the job, or the status that they get.
+fn asked(alloc: Global, words: &[&str]) -> Result<Result<Job, i32>, AllocError> {
     let mut texts: Vec<String> = Vec::new(alloc);
+    texts.push(String::from_str(alloc, "sgfsplit")?)?;
     for word in words {
         texts.push(String::from_str(alloc, word)?)?;
     }
     match job(alloc, texts.as_slice()) {
-        Ok(Job::Split) => Ok(None),
-        Err(JobFault::Words(error)) => Ok(Some(error.exit_code())),
+        Ok(job) => Ok(Ok(job)),
+        Err(JobFault::Words(error)) => Ok(Err(error.exit_code())),
         Err(JobFault::Memory) => Err(AllocError),
     }
 }
 
+/// The file has this name, or both are none.
+fn is_named(file: &Option<String>, name: Option<&str>) -> bool {
+    match (file, name) {
+        (Some(file), Some(name)) => file.as_str() == name,
+        (None, None) => true,
+        _ => false,
+    }
+}
+
 #[test]
-fn words(rt: HostRuntime) -> Result<(), Fail> {
-    for (words, want) in [
-        (["sgfsplit", "split", "--form", "sgf"].as_slice(), None),
-        (["sgfsplit", "--help"].as_slice(), Some(0)),
-        (["sgfsplit", "split", "--help"].as_slice(), Some(0)),
-        (["sgfsplit"].as_slice(), Some(2)),
-        (["sgfsplit", "split"].as_slice(), Some(2)),
-        (["sgfsplit", "count"].as_slice(), Some(2)),
-        (["sgfsplit", "split", "--form", "xml"].as_slice(), Some(2)),
+fn words_of_a_job(rt: HostRuntime) -> Result<(), Fail> {
+    for (words, form, after, limit, file) in [
+        (["split"].as_slice(), Form::List, None, None, None),
+        (["split", "-"].as_slice(), Form::List, None, None, None),
         (
-            ["sgfsplit", "split", "--form", "sgf", "--form", "sgf"].as_slice(),
-            Some(2),
+            ["split", "--form", "list", "x"].as_slice(),
+            Form::List,
+            None,
+            None,
+            Some("x"),
         ),
         (
-            ["sgfsplit", "split", "--form", "sgf", "file"].as_slice(),
-            Some(2),
+            [
+                "split", "--form", "gtp", "--after", "0", "--limit", "7", "a b",
+            ]
+            .as_slice(),
+            Form::Gtp,
+            Some(0),
+            Some(7),
+            Some("a b"),
+        ),
+        (
+            ["split", "x", "--limit=18446744073709551615", "--form=sgf"].as_slice(),
+            Form::Sgf,
+            None,
+            Some(u64::MAX),
+            Some("x"),
         ),
     ] {
-        assert_eq!(rt; status_of_words(rt.alloc(), words)?, want, "of {words:?}");
+        let asked = asked(rt.alloc(), words)?;
+        let is_asked = match &asked {
+            Ok(
+                Job::Split {
+                    options,
+                    file: named,
+                },
+            ) => { *options == Options { form, after, limit } && is_named(named, file) }
+            _ => false,
+        };
+        assert!(rt; is_asked, "of {words:?}");
+    }
+    for (words, file) in [
+        (["count"].as_slice(), None),
+        (["count", "x"].as_slice(), Some("x")),
+    ] {
+        let asked = asked(rt.alloc(), words)?;
+        let is_asked = match &asked {
+            Ok(Job::Count { file: named }) => is_named(named, file),
+            _ => false,
+        };
+        assert!(rt; is_asked, "of {words:?}");
+    }
+    Ok(())
+}
+
+#[test]
+fn refused_words(rt: HostRuntime) -> Result<(), Fail> {
+    for (words, status) in [
+        (["--help"].as_slice(), 0),
+        (["split", "--help"].as_slice(), 0),
+        ([].as_slice(), 2),
+        (["two.sgf"].as_slice(), 2),
+        (["--version"].as_slice(), 2),
+        (["split", "--form", "xml"].as_slice(), 2),
+        (["split", "--after", "x"].as_slice(), 2),
+        (["split", "--form", "sgf", "--form", "sgf"].as_slice(), 2),
+        (["split", "x", "y"].as_slice(), 2),
+        (["count", "--limit", "1"].as_slice(), 2),
+    ] {
+        let asked = asked(rt.alloc(), words)?;
+        let refused = match &asked {
+            Ok(_) => None,
+            Err(status) => Some(*status),
+        };
+        assert_eq!(rt; refused, Some(status), "of {words:?}");
     }
     Ok(())
 }

@@ -1,62 +1,154 @@
-//! The command line: `sgfsplit split --form sgf`.
+//! The job that the words of a command line ask for.
 
-ghost use Rattle.std.specs.Prelude.{◌≡◌, false, ◌⊎◌, ℕ, List, [], ◌∷◌, map, IfOk, OnOk, Ok, Err, codes, string_bytes};
-ghost use Rattle.std.specs.Borrow.{Bor};
-ghost use Rattle.clap.specs.Walk.{rule_of};
-ghost use Rattle.clap.specs.Simple.{app_of};
-ghost use Rattle.sgfsplit.specs.CommandLine.{form_rule, program_line, split_words, AreFaultless};
+ghost use Rattle.std.specs.Prelude.{◌≡◌, true, ℕ, List, Some, None, Option, option_map, map, IfOk, IfSome, OnOk, MatchResult, codes, string_bytes};
+ghost use Rattle.std.specs.Str.Parse.{digits_value};
+ghost use Rattle.clap.specs.Matches.{has_subcommand};
+ghost use Rattle.clap.specs.Simple.{subcommand_rows_of};
+ghost use Rattle.clap.specs.Walk.{Row, first_of, one_of};
+ghost use Rattle.sgf_lines.specs.declared.options.Form.{Form};
+ghost use Rattle.sgfsplit.specs.CommandLine.{AreFaultless};
+ghost use Rattle.sgfsplit.specs.PlainWords.{Word, SplitWords, ArePlain, IsNumberWord, IsFileWord, SplitsBy, CountsFile, word_of, file_of, options_of, split_words, count_words};
+ghost use Rattle.sgfsplit.specs.inner.Found.{rows_found, form_named, HoldSplitWords};
 
+use crate::command::command;
 use crate::request::{Job, JobFault};
+use clap::ArgMatches;
 use clap::error::ErrorKind;
-use clap::{Arg, Command};
+use sgf_lines::{Form, Options};
 use std::alloc::{AllocError, Global};
 
-/// The forms of a record that `--form` takes.
-const FORMS: [&str; 1] = ["sgf"];
-
-/// The option `--form`, which takes one of `FORMS`.
-fn form_option<'a>(alloc: Global) -> Arg<'a>
-    ensures rule { (forms : Bor (List (Bor (List ℕ))))
-        × (map (λ form. form.now) forms.now ≡ codes "sgf" ∷ []) × (rule_of result ≡ form_rule forms) }
-    ensures local { result.global ≡ false }
+/// The form of this name.
+fn form_named(word: &str) -> Form
+    ensures { result ≡ form_named word.now }
 {
-    Arg::new(alloc, "form")
-        .long("form")
-        .value_name("FORM")
-        .help("The form of a record")
-        .required(true)
-        .value_parser(FORMS.as_slice())
+    if word == "sgf" {
+        Form::Sgf
+    } else if word == "gtp" {
+        Form::Gtp
+    } else {
+        Form::List
+    }
 }
 
-/// The command line as clap sees it.
-fn command<'a>(alloc: Global) -> Result<Command<'a>, AllocError>
-    ensures { IfOk result (λ c. (forms : Bor (List (Bor (List ℕ))))
-        × (map (λ form. form.now) forms.now ≡ codes "sgf" ∷ []) × (app_of c ≡ program_line forms)) }
+/// The form that `--form` names.
+fn form_given(found: &ArgMatches) -> Form
+    ensures { (form : Form) → first_of (codes "form") (rows_found found.now) ≡ Some (word_of form) → result ≡ form }
 {
-    let split = Command::new(alloc, "split")
-        .about("Writes one record per line of play of the SGF text on standard input")
-        .arg(form_option(alloc))?;
-    let program = Command::new(alloc, "sgfsplit")
-        .about("Splits SGF game records with variations into their single lines of play")
-        .subcommand_required(true)
-        .subcommand(split)?;
-    Ok(program)
+    match found.get_str("form") {
+        Some(word) => form_named(word),
+        None => Form::List,
+    }
+}
+
+/// The number that an option gives.
+fn number_given(found: &ArgMatches, name: &str) -> Option<u64>
+    ensures none { one_of name.now (rows_found found.now) ≡ None → result ≡ None }
+    ensures some { (word : Word) → IsNumberWord word → one_of name.now (rows_found found.now) ≡ Some word
+        → result ≡ Some (digits_value 10 word) }
+{
+    found.get_one::<u64>(name)
+}
+
+/// The file that FILE names; none, for standard input, where it is `-`.
+fn file_named(alloc: Global, word: &str) -> Result<Option<String>, AllocError>
+    ensures { IfOk result (λ file. option_map string_bytes file ≡ file_of (Some word.now)) }
+{
+    if word == "-" {
+        return Ok(None);
+    }
+    Ok(Some(String::from_str(alloc, word)?))
+}
+
+/// The file that the words name; none for standard input.
+fn file_given(alloc: Global, found: &ArgMatches) -> Result<Option<String>, AllocError>
+    ensures { IfOk result (λ file. option_map string_bytes file
+        ≡ file_of (first_of (codes "file") (rows_found found.now))) }
+{
+    match found.get_str("file") {
+        Some(word) => file_named(alloc, word),
+        None => Ok(None),
+    }
+}
+
+/// The job of the words after `split`.
+fn split_job(alloc: Global, found: &ArgMatches) -> Result<Job, AllocError>
+    ensures { IfOk result (λ job. (words : SplitWords) → ArePlain words → HoldSplitWords words (rows_found found.now)
+        → SplitsBy (options_of words) (file_of words.file) job) }
+{
+    let options = Options {
+        form: form_given(found),
+        after: number_given(found, "after"),
+        limit: number_given(found, "limit"),
+    };
+    let file = file_given(alloc, found)?;
+    Ok(Job::Split { options, file })
+}
+
+/// The job of the words after `count`.
+fn count_job(alloc: Global, found: &ArgMatches) -> Result<Job, AllocError>
+    ensures { IfOk result (CountsFile (file_of (first_of (codes "file") (rows_found found.now)))) }
+{
+    let file = file_given(alloc, found)?;
+    Ok(Job::Count { file })
+}
+
+/// The job of a command and the words after it.
+fn command_job(alloc: Global, name: &str, found: &ArgMatches) -> Result<Job, AllocError>
+    ensures split { IfOk result (λ job. name.now ≡ codes "split" → (words : SplitWords) → ArePlain words
+        → HoldSplitWords words (rows_found found.now) → SplitsBy (options_of words) (file_of words.file) job) }
+    ensures count { IfOk result (λ job. name.now ≡ codes "count"
+        → CountsFile (file_of (first_of (codes "file") (rows_found found.now))) job) }
+{
+    if name == "count" {
+        return count_job(alloc, found);
+    }
+    split_job(alloc, found)
+}
+
+/// The job of the words that clap took.
+fn found_job(alloc: Global, found: &ArgMatches) -> Result<Job, AllocError>
+    requires { has_subcommand found.now ≡ true }
+    ensures split { IfOk result (λ job. (words : SplitWords) (rows : List Row) → ArePlain words
+        → subcommand_rows_of found.now ≡ Some (codes "split", rows) → HoldSplitWords words rows
+        → SplitsBy (options_of words) (file_of words.file) job) }
+    ensures count { IfOk result (λ job. (rows : List Row)
+        → subcommand_rows_of found.now ≡ Some (codes "count", rows)
+        → CountsFile (file_of (first_of (codes "file") rows)) job) }
+{
+    match found.subcommand() {
+        Some((name, found)) => command_job(alloc, name, found),
+        None => unreachable!(),
+    }
 }
 
 /// The job that the words ask for, the program's own name first.
+///
+/// A number is at most 18,446,744,073,709,551,615. What isn't a job of `sgfsplit split` or `sgfsplit count` is
+/// `JobFault::Words`, with clap's text and status; so are the words that ask for help.
 pub fn job<'a>(alloc: Global, words: &'a [String]) -> Result<Job, JobFault>
-    ensures split { (name : List ℕ) → map string_bytes words.now ≡ split_words name
-        → (result ≡ Ok Job.Split) ⊎ (result ≡ Err JobFault.Memory) }
+    // Each option there or not, in the order of the help, and FILE or none.
+    ensures split { (name : Word) (given : SplitWords) → ArePlain given
+        → map string_bytes words.now ≡ split_words name given
+        → MatchResult result (SplitsBy (options_of given) (file_of given.file)) (λ fault. fault ≡ JobFault.Memory) }
+    ensures count { (name : Word) (file : Option Word) → IfSome file IsFileWord
+        → map string_bytes words.now ≡ count_words name file
+        → MatchResult result (CountsFile (file_of file)) (λ fault. fault ≡ JobFault.Memory) }
     ensures faultless { OnOk result (AreFaultless (map string_bytes words.now)) }
 {
     let Ok(command) = command(alloc) else {
         return Err(JobFault::Memory);
     };
-    match command.try_get_matches_from(words) {
-        Ok(_) => Ok(Job::Split),
-        Err(error) => match error.kind() {
-            ErrorKind::OutOfMemory => Err(JobFault::Memory),
-            _ => Err(JobFault::Words(error)),
-        },
+    let found = match command.try_get_matches_from(words) {
+        Ok(found) => found,
+        Err(error) => {
+            return match error.kind() {
+                ErrorKind::OutOfMemory => Err(JobFault::Memory),
+                _ => Err(JobFault::Words(error)),
+            };
+        }
+    };
+    match found_job(alloc, &found) {
+        Ok(job) => Ok(job),
+        Err(_) => Err(JobFault::Memory),
     }
 }

@@ -1,0 +1,182 @@
+#!/usr/bin/env bash
+# Drives the built program as users do: files, pipes, full devices, closed streams, endless inputs, wrong words.
+# The last line is `N passed, N failed, N skipped`. A run that lost output may never end with status 0.
+. "$(dirname "$0")/lib.sh"
+set +e
+passed=0 failed=0 not_run=0
+
+# run WANTED-STATUS NAME COMMAND..: runs it with its streams in the files out and err, and compares the status.
+run() {
+    local wanted=$1 name=$2
+    shift 2
+    rm -f out err
+    timeout 60 "$@" > out 2> err
+    local status=$?
+    verdict "$name: status" "$wanted" "$status"
+}
+
+# verdict NAME WANTED GOT
+verdict() {
+    if [ "$2" = "$3" ]; then
+        passed=$((passed + 1))
+    else
+        failed=$((failed + 1))
+        printf 'FAILED: %s\n  wanted: %s\n  got:    %s\n' "$1" "$2" "$3"
+    fi
+}
+
+# writes NAME TEXT: what the last run wrote to standard output; says NAME TEXT: to standard error. Both to the byte.
+writes() { verdict "$1: output" "$2." "$(cat out; printf .)"; }
+says() { verdict "$1: fault line" "$2." "$(cat err; printf .)"; }
+
+# fault NAME STATUS LINE COMMAND..: the run ends with this status and line, and nothing on standard output.
+fault() {
+    local name=$1 wanted=$2 line=$3
+    shift 3
+    run "$wanted" "$name" "$@"
+    writes "$name" ''
+    says "$name" "sgfsplit: $line"$'\n'
+}
+
+# answer NAME TEXT COMMAND..: the run ends with status 0, writes this text and says nothing.
+answer() {
+    local name=$1 text=$2
+    shift 2
+    run 0 "$name" "$@"
+    writes "$name" "$text"
+    says "$name" ''
+}
+
+fed() { "$SGFSPLIT" "${@:2}" < "$1"; }
+export -f fed
+
+two='(;SZ[3](;B[aa])(;B[bb];W[aa]))'
+rows=$'8 1 2 score 9 0 open\n22 1 3 score 1 1 open\n'
+printf '%s' "$two" > two.sgf
+printf '(;SZ[3])x' > tail.sgf
+printf '(;SZ[3]' > early.sgf
+: > empty.sgf
+mkdir folder
+
+# ---- where the input comes from
+answer 'a file' "$rows" "$SGFSPLIT" split two.sgf
+answer 'standard input' "$rows" bash -c 'fed two.sgf split'
+answer 'a hyphen for standard input' "$rows" bash -c 'fed two.sgf split -'
+answer 'a pipe that writes in parts' "$rows" bash -c '(head -c 10 two.sgf; sleep 0.2; tail -c +11 two.sgf) | "$SGFSPLIT" split'
+answer 'a file of a name with a space' "$rows" bash -c 'cp two.sgf "a b.sgf"; "$SGFSPLIT" split "a b.sgf"'
+answer 'a file after two hyphens' "$rows" bash -c 'cp two.sgf ./-x; "$SGFSPLIT" split -- -x'
+answer 'a file and standard input' "$rows" bash -c 'fed empty.sgf split two.sgf'
+fault 'a missing file' 3 'open failed' "$SGFSPLIT" split none.sgf
+fault 'a missing file to count' 3 'open failed' "$SGFSPLIT" count none.sgf
+fault 'an empty name' 3 'open failed' "$SGFSPLIT" split ''
+run 3 'a directory' "$SGFSPLIT" split folder
+writes 'a directory' ''
+verdict 'a directory: fault line' 1 "$(grep -cxE 'sgfsplit: (open|read) failed' err)"
+fault 'a closed standard input' 3 'read failed' bash -c '"$SGFSPLIT" split <&-'
+if [ "$(id -u)" = 0 ]; then
+    not_run=$((not_run + 1))
+    echo 'skipped: a file without permission to read, as root may read all'
+else
+    touch locked.sgf
+    chmod 000 locked.sgf
+    fault 'a file without permission to read' 3 'open failed' "$SGFSPLIT" split locked.sgf
+fi
+
+# ---- forms and pages
+answer 'form list' "$rows" "$SGFSPLIT" split --form list two.sgf
+answer 'form sgf' $'(;SZ[3];B[aa])\n(;SZ[3];B[bb];W[aa])\n' "$SGFSPLIT" split --form sgf two.sgf
+answer 'form gtp' $'# 8 1 2 score 9 0 open\nboardsize 3\nclear_board\nplay B A3\n\n' "$SGFSPLIT" split --form gtp --limit 1 two.sgf
+answer 'after the first line' $'22 1 3 score 1 1 open\n' "$SGFSPLIT" split --after 8 two.sgf
+answer 'after the last line' '' "$SGFSPLIT" split --after 22 two.sgf
+answer 'no line' '' "$SGFSPLIT" split --limit 0 two.sgf
+answer 'one line' $'8 1 2 score 9 0 open\n' "$SGFSPLIT" split --limit 1 two.sgf
+answer 'all options' $'(;SZ[3];B[bb];W[aa])\n' "$SGFSPLIT" split --form sgf --after 8 --limit 1 two.sgf
+answer 'options in another order, with =' $'(;SZ[3];B[bb];W[aa])\n' "$SGFSPLIT" split two.sgf --limit=1 --after=8 --form=sgf
+answer 'the greatest limit' "$rows" "$SGFSPLIT" split --limit 18446744073709551615 two.sgf
+answer 'counts' $'1 4 2\n' "$SGFSPLIT" count two.sgf
+answer 'counts of standard input' $'1 4 2\n' bash -c 'fed two.sgf count -'
+fault 'after an inner node' 1 'no line ends at 16' "$SGFSPLIT" split --after 16 two.sgf
+fault 'after an inner node, with a limit' 1 'no line ends at 16' "$SGFSPLIT" split --after 16 --limit 0 two.sgf
+fault 'after the greatest place' 1 'no line ends at 18446744073709551615' "$SGFSPLIT" split --after 18446744073709551615 two.sgf
+
+# ---- inputs that are refused
+fault 'bytes after the collection' 1 'byte 8: not SGF' "$SGFSPLIT" split tail.sgf
+fault 'an input that ends too early' 1 'byte 7: input ends too early' "$SGFSPLIT" split early.sgf
+fault 'an empty input' 1 'byte 0: input ends too early' "$SGFSPLIT" split empty.sgf
+fault 'an empty input to count' 1 'byte 0: input ends too early' "$SGFSPLIT" count empty.sgf
+fault 'bytes after the collection, to count' 1 'byte 8: not SGF' "$SGFSPLIT" count tail.sgf
+(printf '(;)'; head -c 67108861 /dev/zero | tr '\0' ' ') > full.sgf
+answer 'the greatest input' $'1 1 1 score 0 0 open\n' "$SGFSPLIT" split full.sgf
+printf ' ' >> full.sgf
+fault 'one byte more' 1 'input is longer than 67108864 bytes' "$SGFSPLIT" split full.sgf
+rm full.sgf
+fault 'zeros without end' 1 'input is longer than 67108864 bytes' bash -c 'fed /dev/zero split'
+fault 'zeros without end to count' 1 'input is longer than 67108864 bytes' "$SGFSPLIT" count /dev/zero
+fault 'games without end' 1 'input is longer than 67108864 bytes' bash -c "yes '(;B[aa])' | \"\$SGFSPLIT\" split"
+
+# ---- outputs that fail: never status 0 where output was lost
+# lost NAME COMMAND: the run ends with status 3 and says so.
+lost() {
+    run 3 "$1" bash -c "$2"
+    says "$1" $'sgfsplit: write failed\n'
+}
+if [ -w /dev/full ]; then
+    lost 'a full device' '"$SGFSPLIT" split two.sgf > /dev/full'
+    lost 'a full device, counting' '"$SGFSPLIT" count two.sgf > /dev/full'
+    run 3 'a full device for both streams' bash -c '"$SGFSPLIT" split two.sgf > /dev/full 2> /dev/full'
+    run 1 'a full device for the fault line' bash -c '"$SGFSPLIT" split tail.sgf 2> /dev/full'
+    writes 'a full device for the fault line' ''
+else
+    not_run=$((not_run + 4))
+    echo 'skipped: there is no /dev/full'
+fi
+lost 'a closed standard output' '"$SGFSPLIT" split two.sgf >&-'
+lost 'a closed standard output, counting' '"$SGFSPLIT" count two.sgf >&-'
+run 0 'a closed standard error' bash -c '"$SGFSPLIT" split two.sgf 2>&-'
+writes 'a closed standard error' "$rows"
+run 1 'a closed standard error, at a fault' bash -c '"$SGFSPLIT" split tail.sgf 2>&-'
+{
+    printf '(;SZ[9]'
+    for _ in $(seq 20000); do printf '(;B[aa])'; done
+    printf ')'
+} > many.sgf
+lost 'a reader that goes away' 'exec 3> >(exec head -c 10 > /dev/null); sleep 0.2; trap "" PIPE; "$SGFSPLIT" split many.sgf >&3'
+run 0 'a slow reader' bash -c '"$SGFSPLIT" split many.sgf | (sleep 0.3; cat) | tail -n 1; exit "${PIPESTATUS[0]}"'
+writes 'a slow reader' $'160000 1 2 score 81 0 open\n'
+
+# ---- words
+# refused NAME WORDS..: status 2, something on standard error, nothing on standard output.
+refused() {
+    local name=$1
+    shift
+    run 2 "$name" "$SGFSPLIT" "$@"
+    writes "$name" ''
+    verdict "$name: says something" 1 "$([ -s err ] && echo 1)"
+}
+refused 'no word'
+refused 'an unknown command' divide
+refused 'a file without a command' two.sgf
+refused 'an unknown form' split --form xml
+refused 'a form in capitals' split --form SGF
+refused 'no form' split --form
+refused 'no number' split --after x
+refused 'a negative number' split --after=-1
+refused 'a number of more than 64 bits' split --limit 18446744073709551616
+refused 'an option given twice' split --form sgf --form sgf
+refused 'a number given twice' split --limit 1 --limit 2
+refused 'two files' split two.sgf two.sgf
+refused 'an option before the command' --form sgf split
+refused 'an option of split after count' count --form sgf
+refused 'an unknown option' split --colour
+refused 'no version' --version
+run 2 'wrong words open nothing' bash -c 'mkfifo pipe; "$SGFSPLIT" split --form xml pipe'
+
+run 0 'help' "$SGFSPLIT" --help
+verdict 'help names both commands' 2 "$(grep -cE '^ +(split|count) ' out)"
+verdict 'help has an example' 1 "$(grep -c '^ *sgfsplit split .*\.sgf' out)"
+run 0 'help of split' "$SGFSPLIT" split --help
+verdict 'help of split names its options' 3 "$(grep -cE '^ +--(form|after|limit) ' out)"
+run 0 'help of count' "$SGFSPLIT" count --help
+
+echo "$passed passed, $failed failed, $not_run skipped"
+[ "$failed" = 0 ]
