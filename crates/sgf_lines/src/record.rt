@@ -25,7 +25,7 @@ pub(crate) fn push_record(
 }
 
 /// Appends a `;` and the properties of a node.
-fn push_node(node: &NodeRef<'_, '_>, output: &mut Vec<u8>) -> Result<(), MemoryFault>
+fn push_node(node: &NodeRef<'_>, output: &mut Vec<u8>) -> Result<(), MemoryFault>
     ensures { OnOk result (output.new.items ≡ output.old.items ++ node_text node.now) }
 {
     push_bytes(b";", output)?;
@@ -36,7 +36,7 @@ fn push_node(node: &NodeRef<'_, '_>, output: &mut Vec<u8>) -> Result<(), MemoryF
 }
 
 /// Appends the name of a property and its values.
-fn push_property(property: &PropRef<'_, '_>, output: &mut Vec<u8>) -> Result<(), MemoryFault>
+fn push_property(property: &PropRef<'_>, output: &mut Vec<u8>) -> Result<(), MemoryFault>
     ensures { OnOk result (output.new.items ≡ output.old.items ++ property_text property.now) }
 {
     property.push_name(output)?;

@@ -1,5 +1,5 @@
 -- The classes of bytes stand apart.
-use Rattle.std.proofs.Common.{◌≡◌, ℕ, ◌≤◌, Bool, true, false, ◌==◌, nat_le, IsTrue, arith, refl, leb-true, eqb-true}
+use Rattle.std.proofs.Common.{◌≡◌, ◌≢◌, ℕ, ◌≤◌, Bool, true, false, ◌==◌, nat_le, IsTrue, arith, refl, leb-true, eqb-true}
 use Rattle.std.proofs.lemmas.Bool.{and_parts, or_cases}
 use Rattle.std.proofs.lemmas.Bool.Decides.{nat_tests}
 use Rattle.sgf_tree.specs.Spelling.{is_white, is_upper, is_lower}
@@ -34,3 +34,6 @@ upper-not_bracket b h = fails (b == 91) (λ e. let u = upper-range b h in let v 
 
 pub white-not_mark : (b : ℕ) → IsTrue (is_white b) → b == 239 ≡ false
 white-not_mark b h = fails (b == 239) (λ e. let u = white-range b h in let v = eqb-true b 239 e in omega arith)
+
+pub white-not_bracket : (b : ℕ) → IsTrue (is_white b) → b ≢ 91
+white-not_bracket b h e = let u = white-range b h in omega arith

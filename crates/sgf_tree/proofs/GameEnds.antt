@@ -3,34 +3,21 @@ use Rattle.std.proofs.Common.{◌≡◌, ℕ, ◌+◌, ◌-◌, ◌<◌, ◌≤�
 use Rattle.std.proofs.lemmas.Bool.{cases_lt, lt-ltb, le-ltb}
 use Rattle.std.proofs.lemmas.List.{length-map, length-replicate, take_at, drop_at}
 use Rattle.std.proofs.lemmas.Option.{slice_get-map}
-use Rattle.sgf_tree.specs.Tree.{Property, Games, no_games, game, joined, game_count, node_count}
+use Rattle.sgf_tree.specs.Tree.{Games, no_games, game, joined, game_count, node_count}
 use Rattle.sgf_tree.specs.FileOrder.{game_of}
 use Rattle.sgf_tree.specs.inner.Machine.{OpenGame, whole_game}
-use Rattle.sgf_tree.specs.inner.Ends.{EndsRise}
-use Rattle.sgf_tree.specs.inner.Layout.{properties_of, row_by, rows_by}
+use Rattle.sgf_tree.specs.inner.Layout.{outline, outline_by, outlines_by}
 use Rattle.sgf_tree.specs.inner.GamesRead.{open_count, lasts, open_lasts, IsRootOf, HoldStack, unmarked, ClosesRun}
 use Rattle.sgf_tree.specs.declared.layout.NodeEntry.{NodeEntry}
-use Rattle.sgf_tree.specs.declared.layout.PropertyEntry.{PropertyEntry}
-use Rattle.sgf_tree.specs.declared.layout.ValueEntry.{ValueEntry}
 use Rattle.sgf_tree.proofs.Completion.{add_games}
 use Rattle.sgf_tree.proofs.Marking.{mark_of, get_or-map}
 use Rattle.sgf_tree.proofs.NodesRead.{nodes-held}
 use Rattle.sgf_tree.proofs.Stacks.{node_count-followed, length-open_lasts, open_rows-closed, open_lasts-closed}
 
--- marks change no row
-rows_by-unmarked : (props : List Property) (i from : ℕ) (ns : List NodeEntry) → rows_by props i from (map unmarked ns) ≡ rows_by props i from ns
-rows_by-unmarked props i from [] = refl
-rows_by-unmarked props i from (n ∷ ns) =
-    ap (λ rs. row_by props i from n ∷ rs) (rows_by-unmarked props (i + 1) n.properties_end ns)
-
--- nor an end
-ends-to_unmarked : (from : ℕ) (ns : List NodeEntry) (to : ℕ) → EndsRise (λ (n : NodeEntry). n.properties_end) 0 from ns to → EndsRise (λ (n : NodeEntry). n.properties_end) 0 from (map unmarked ns) to
-ends-to_unmarked from [] to h = h
-ends-to_unmarked from (n ∷ ns) to h = (h.0, ends-to_unmarked n.properties_end ns to h.1)
-
-ends-of_unmarked : (from : ℕ) (ns : List NodeEntry) (to : ℕ) → EndsRise (λ (n : NodeEntry). n.properties_end) 0 from (map unmarked ns) to → EndsRise (λ (n : NodeEntry). n.properties_end) 0 from ns to
-ends-of_unmarked from [] to h = h
-ends-of_unmarked from (n ∷ ns) to h = (h.0, ends-of_unmarked n.properties_end ns to h.1)
+-- marks change no outline
+outlines-unmarked : (i : ℕ) (ns : List NodeEntry) → outlines_by i (map unmarked ns) ≡ outlines_by i ns
+outlines-unmarked i [] = refl
+outlines-unmarked i (n ∷ ns) = ap (λ rs. outline_by i n ∷ rs) (outlines-unmarked (i + 1) ns)
 
 -- an element that a function maps to x
 mapped : {A B : Type 0} (f : A → B) (o : Option A) (y : B) → option_map f o ≡ Some y → (x : A) × (o ≡ Some x) × (f x ≡ y)
@@ -86,21 +73,15 @@ lasts-marked closed g gs marks count is counts =
 
 module _ (t : List ℕ) (closed : Games) (g : OpenGame) (gs : List OpenGame) where
   -- the vectors hold the stack in which the game has ended
-  pub game-closed : (ns ns' : List NodeEntry) (ps : List PropertyEntry) (vs : List ValueEntry) (parent : Option ℕ)
-      → HoldStack t (record { closed = closed; unclosed = g ∷ gs }) ns ps vs → ClosesRun ns ns' (open_count closed gs) (open_count closed gs + length g.more) parent
-      → HoldStack t (add_games closed gs (whole_game g)) ns' ps vs
-  game-closed ns ns' ps vs parent held closes =
-      let props : List Property = properties_of t vs 0 ps in
+  pub game-closed : (ns ns' : List NodeEntry) (parent : Option ℕ)
+      → HoldStack t (record { closed = closed; unclosed = g ∷ gs }) ns → ClosesRun ns ns' (open_count closed gs) (open_count closed gs + length g.more) parent
+      → HoldStack t (add_games closed gs (whole_game g)) ns'
+  game-closed ns ns' parent held closes =
       record {
         same_rows =
-            open_rows-closed closed g gs ∙ held.same_rows ∙ sym (rows_by-unmarked props 0 0 ns) ∙ ap (rows_by props 0 0) (sym closes.same) ∙ rows_by-unmarked props 0 0 ns';
+            ap (map outline) (open_rows-closed closed g gs) ∙ held.same_rows ∙ sym (outlines-unmarked 0 ns) ∙ ap (outlines_by 0) (sym closes.same) ∙ outlines-unmarked 0 ns';
         same_lasts =
-            lasts-marked closed g gs (map mark_of ns) (length ns) (sym held.same_lasts) (nodes-held t (record { closed = closed; unclosed = g ∷ gs }) ns ps vs held) ∙ sym closes.marked;
-        properties_end =
-            ends-of_unmarked 0 ns' (length ps) (subst (λ ms. EndsRise (λ (n : NodeEntry). n.properties_end) 0 0 ms (length ps)) (sym closes.same) (ends-to_unmarked 0 ns (length ps) held.properties_end));
-        values_end = held.values_end;
-        identifiers_within = held.identifiers_within;
-        values_within = held.values_within;
+            lasts-marked closed g gs (map mark_of ns) (length ns) (sym held.same_lasts) (nodes-held t (record { closed = closed; unclosed = g ∷ gs }) ns held) ∙ sym closes.marked;
         places_within = λ k d lt.
             let same : (get_or ns' k d).place ≡ (get_or ns k d).place =
             ap (λ (n : NodeEntry). n.place) (sym (get_or-map unmarked ns' k d) ∙ ap (λ xs. get_or xs k (unmarked d)) closes.same ∙ get_or-map unmarked ns k d) in

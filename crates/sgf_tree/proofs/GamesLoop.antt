@@ -10,8 +10,6 @@ use Rattle.sgf_tree.specs.inner.Progress.{ComesTo, IsRun}
 use Rattle.sgf_tree.specs.inner.GamesRead.{open_count, tip, HoldStack, IsOpening, StandsBetween, IsSequenceRead, IsOwnRun, unmarked, ClosesRun, IsRead}
 use Rattle.sgf_tree.specs.declared.layout.Link.TheVariants.{Root}
 use Rattle.sgf_tree.specs.declared.layout.NodeEntry.{NodeEntry}
-use Rattle.sgf_tree.specs.declared.layout.PropertyEntry.{PropertyEntry}
-use Rattle.sgf_tree.specs.declared.layout.ValueEntry.{ValueEntry}
 use Rattle.sgf_tree.proofs.Completion.{add_games, closed-in}
 use Rattle.sgf_tree.proofs.GameEnds.{game-closed}
 use Rattle.sgf_tree.proofs.NodesRead.{nodes-held}
@@ -78,14 +76,14 @@ no-tip-left closed (g ∷ gs) last tip_is h = absurd (true≢false (ap is_some t
 
 module _ (t : List ℕ) where
   -- games were read up to `at`: so many whole ones, and the innermost open one has that last node
-  pub record GamesSoFar (at games : ℕ) (last : Option ℕ) (ns : List NodeEntry) (ps : List PropertyEntry) (vs : List ValueEntry) : Type 0 where
+  pub record GamesSoFar (at games : ℕ) (last : Option ℕ) (ns : List NodeEntry) : Type 0 where
     pub stack : Stack
     pub stands : StandsBetween t at stack
-    pub held : HoldStack t stack ns ps vs
+    pub held : HoldStack t stack ns
     pub tip_is : tip stack.closed stack.unclosed ≡ last
     pub games_are : game_count stack.closed ≡ games
 
-  module _ (at games : ℕ) (last : Option ℕ) (ns : List NodeEntry) (ps : List PropertyEntry) (vs : List ValueEntry) (so_far : GamesSoFar at games last ns ps vs) where
+  module _ (at games : ℕ) (last : Option ℕ) (ns : List NodeEntry) (so_far : GamesSoFar at games last ns) where
     -- a `(`
     pub games-open : at < length t → get_or t at 0 ≡ 40 → ComesTo t (at + 1) (opened so_far.stack)
     games-open lt e =
@@ -109,11 +107,11 @@ module _ (t : List ℕ) where
       no-tip closed (g ∷ gs) h = absurd (cc)
 
   -- the game's own nodes
-  pub games-sequence : (end games : ℕ) (k : Stack) (ns : List NodeEntry) (ps : List PropertyEntry) (vs : List ValueEntry) → IsSequenceRead t end k ns ps vs → game_count k.closed ≡ games
-      → GamesSoFar end games (Some (length ns - 1)) ns ps vs
-  games-sequence end games k ns ps vs read e =
+  pub games-sequence : (end games : ℕ) (k : Stack) (ns : List NodeEntry) → IsSequenceRead t end k ns → game_count k.closed ≡ games
+      → GamesSoFar end games (Some (length ns - 1)) ns
+  games-sequence end games k ns read e =
       let k' : Stack = record { closed = k.closed; unclosed = read.last ∷ k.unclosed } in
-      let count : length ns ≡ open_count k.closed k.unclosed + 1 + length read.last.more + node_count read.last.below = nodes-held t k' ns ps vs read.held in
+      let count : length ns ≡ open_count k.closed k.unclosed + 1 + length read.last.more + node_count read.last.below = nodes-held t k' ns read.held in
       let same : open_count k.closed k.unclosed + length read.last.more ≡ length ns - 1 = omega (arith, count, ap node_count read.nothing_below) in
       record {
         stack = k';
@@ -138,25 +136,25 @@ module _ (t : List ℕ) where
       innermost-of closed (g ∷ gs) n e = record { inner = g; outer = gs; is = refl; last_is = cc }
 
   -- a `)`
-  module _ (at games last : ℕ) (ns : List NodeEntry) (ps : List PropertyEntry) (vs : List ValueEntry) (so_far : GamesSoFar at games (Some last) ns ps vs) where
+  module _ (at games last : ℕ) (ns : List NodeEntry) (so_far : GamesSoFar at games (Some last) ns) where
     pub inmost : Innermost so_far.stack last
     inmost = innermost so_far.stack last so_far.tip_is
 
     abbrev at_inner : Stack
     at_inner = record { closed = so_far.stack.closed; unclosed = inmost.inner ∷ inmost.outer }
 
-    held-inner : HoldStack t at_inner ns ps vs
+    held-inner : HoldStack t at_inner ns
     held-inner =
-        subst (λ gs. HoldStack t (record { closed = so_far.stack.closed; unclosed = gs }) ns ps vs) inmost.is so_far.held
+        subst (λ gs. HoldStack t (record { closed = so_far.stack.closed; unclosed = gs }) ns) inmost.is so_far.held
 
     -- the own nodes of the innermost open game
     pub close-own : IsOwnRun ns (open_count so_far.stack.closed inmost.outer) last
     close-own =
         subst (IsOwnRun ns (open_count so_far.stack.closed inmost.outer)) inmost.last_is
-        (own-run so_far.stack.closed inmost.inner inmost.outer _ ns held-inner.same_rows)
+        (own-run so_far.stack.closed inmost.inner inmost.outer ns held-inner.same_rows)
 
     pub close-within : last < length ns
-    close-within = omega (arith, inmost.last_is, nodes-held t at_inner ns ps vs held-inner)
+    close-within = omega (arith, inmost.last_is, nodes-held t at_inner ns held-inner)
 
     closes : (ns' : List NodeEntry) (parent : Option ℕ) → ((first : ℕ) → IsOwnRun ns first last → ClosesRun ns ns' first last parent) → ClosesRun ns ns' (open_count so_far.stack.closed inmost.outer) (open_count so_far.stack.closed inmost.outer + length inmost.inner.more) parent
     closes ns' parent h =
@@ -173,11 +171,11 @@ module _ (t : List ℕ) where
     pub games-close : (next games' : ℕ) (ns' : List NodeEntry) (parent : Option ℕ) → at < length t → get_or t at 0 ≡ 41
         → ((first : ℕ) → IsOwnRun ns first last → ClosesRun ns ns' first last parent) → IsRun is_white t (at + 1) next
         → (is_some parent ≡ false → games' ≡ games + 1) → (is_some parent ≡ true → games' ≡ games)
-        → GamesSoFar next games' parent ns' ps vs
+        → GamesSoFar next games' parent ns'
     games-close next games' ns' parent lt e h white if_none if_some =
         let done = closes ns' parent h in
         let up : tip so_far.stack.closed inmost.outer ≡ parent =
-        some-same (sym (own-parent so_far.stack.closed inmost.inner inmost.outer _ ns held-inner.same_rows) ∙ done.parent_is) in
+        some-same (sym (own-parent so_far.stack.closed inmost.inner inmost.outer ns held-inner.same_rows) ∙ done.parent_is) in
         let step_is : step at so_far.stands.state (get_or t at 0) ≡ Some (after_game closed_stack) =
         so_far.stands.next lt ∙ ap (between_games so_far.stack) e ∙ ap (close_in so_far.stack.closed) inmost.is ∙ closed-in so_far.stack.closed inmost.inner inmost.outer in
         record {
@@ -189,20 +187,19 @@ module _ (t : List ℕ) where
             end = refl;
             not_white = white.stops;
           };
-          held = game-closed t so_far.stack.closed inmost.inner inmost.outer ns ns' ps vs parent held-inner done;
+          held = game-closed t so_far.stack.closed inmost.inner inmost.outer ns ns' parent held-inner done;
           tip_is = tip-closed so_far.stack.closed inmost.inner inmost.outer ∙ up;
           games_are = games-counted so_far.stack.closed inmost.inner inmost.outer parent games games' up so_far.games_are if_none if_some;
         }
 
   -- the end of the text
-  module _ (at games : ℕ) (last : Option ℕ) (ns : List NodeEntry) (ps : List PropertyEntry) (vs : List ValueEntry) (so_far : GamesSoFar at games last ns ps vs) (ends : at ≡ length t) where
-    pub games-unfinished : (is_some last ≡ true) ⊎ (games ≡ 0) → IsFaultyAt t at
+  module _ (at games : ℕ) (last : Option ℕ) (ns : List NodeEntry) (so_far : GamesSoFar at games last ns) (ends : at ≡ length t) where
+    pub games-unfinished : (is_some last ≡ true) ⊎ (games ≡ 0) → IsFaultyAt t (length t)
     games-unfinished h =
-        subst (IsFaultyAt t) (sym ends)
-        (ends-faulty t so_far.stands.state (subst (λ i. ComesTo t i so_far.stands.state) ends so_far.stands.reached)
-        (so_far.stands.end ∙ unfinished so_far.stack.closed so_far.stack.unclosed last games so_far.tip_is so_far.games_are h))
+        ends-faulty t so_far.stands.state (subst (λ i. ComesTo t i so_far.stands.state) ends so_far.stands.reached)
+        (so_far.stands.end ∙ unfinished so_far.stack.closed so_far.stack.unclosed last games so_far.tip_is so_far.games_are h)
 
-    pub games-finished : is_some last ≡ false → 0 < games → (c : Games) × (games ≡ game_count c) × IsRead t c ns ps vs
+    pub games-finished : is_some last ≡ false → 0 < games → (c : Games) × (games ≡ game_count c) × IsRead t c ns
     games-finished none some =
         let all : so_far.stack.unclosed ≡ [] = no-tip-left so_far.stack.closed so_far.stack.unclosed last so_far.tip_is none in (
           so_far.stack.closed,
@@ -213,6 +210,6 @@ module _ (t : List ℕ) where
             accepts =
                 so_far.stands.end ∙ ap (λ gs. accepted (after_game (record { closed = so_far.stack.closed; unclosed = gs }))) all ∙ some-accepted so_far.stack.closed (omega (arith, so_far.games_are));
             held =
-                subst (λ gs. HoldStack t (record { closed = so_far.stack.closed; unclosed = gs }) ns ps vs) all so_far.held;
+                subst (λ gs. HoldStack t (record { closed = so_far.stack.closed; unclosed = gs }) ns) all so_far.held;
           },
         )

@@ -1,58 +1,65 @@
 -- What the flat vectors of a collection say of its nodes.
-use Rattle.std.proofs.Common.{◌≡◌, ℕ, zero, suc, ◌+◌, ◌-◌, ◌<◌, ◌≤◌, List, [], ◌∷◌, length, get_or, drop, slice_get, slice_range, Option, Some, option_map, vec_len, sym, ap, subst, ◌∙◌, arith}
-use Rattle.std.proofs.lemmas.List.{get_or_default}
-use Rattle.std.proofs.lemmas.List.Elements.{All-take, All-drop}
-use Rattle.std.proofs.lemmas.Option.{slice_get-get_or}
+use Rattle.std.proofs.Common.{◌≡◌, ℕ, zero, suc, ◌+◌, ◌-◌, ◌<◌, ◌≤◌, List, [], ◌∷◌, length, map, get_or, drop, All, slice_get, Option, Some, None, option_map, refl, vec_len, sym, ap, subst, ◌∙◌, arith}
+use Rattle.std.proofs.lemmas.List.{get_or_default, length-map}
+use Rattle.std.proofs.lemmas.Option.{slice_get-get_or, slice_get-map}
 use Rattle.sgf_tree.specs.declared.fault.TheConstants.{MAX_LENGTH}
-use Rattle.sgf_tree.specs.Tree.{Property, Games, node_count}
-use Rattle.sgf_tree.specs.FileOrder.{Row, rows_of, node_at, place_at, parent_at, game_of, IsLeaf, IsLastBelow}
-use Rattle.sgf_tree.specs.inner.Layout.{games_in, properties_of, parent_by, row_by, rows_by, IsLaidOut, IsNodeHeld, IsSpan}
+use Rattle.sgf_tree.specs.Tree.{Node, Games, node_count}
+use Rattle.sgf_tree.specs.Spelling.{Spells, AreProperties}
+use Rattle.sgf_tree.specs.inner.NodeText.{properties_in, ArePropertiesIn}
+use Rattle.sgf_tree.specs.FileOrder.{Row, rows_of, node_at, place_at, parent_at, game_of, IsLeaf, IsLastBelow, PlacesRise}
+use Rattle.sgf_tree.specs.inner.Layout.{games_in, Outline, outline, outline_by, outlines_by, parent_by, IsLaidOut}
 use Rattle.sgf_tree.specs.declared.collection.Collection.TheInside.{Inside}
 use Rattle.sgf_tree.specs.declared.layout.Link.{Link}
 use Rattle.sgf_tree.specs.declared.layout.Link.TheVariants.{Root, Next}
 use Rattle.sgf_tree.specs.declared.layout.NodeEntry.{NodeEntry}
-use Rattle.sgf_tree.specs.declared.layout.PropertyEntry.{PropertyEntry}
-use Rattle.sgf_tree.proofs.Ends.{end-rises}
-use Rattle.sgf_tree.proofs.Flat.{properties_before, values_before, length-rows_by, rows_by-at, properties_of-range, ends-range, values_before-range-le}
+use Rattle.sgf_tree.proofs.Flat.{length-outlines_by, outlines_by-at}
+use Rattle.sgf_tree.proofs.NodesSpelled.{IsNodeSpelled, rows-spelled}
+use Rattle.sgf_tree.proofs.NodeTexts.{properties-in}
+use Rattle.sgf_tree.proofs.PlacesRise.{places-rise}
 use Rattle.sgf_tree.proofs.Rows.{length-rows_of, parent_at-lt, parent_at-next, parent_at-within, game_of-parent}
 
 -- the fields lay the collection out
 abbrev Holds : Inside → Type 0
-Holds s = IsLaidOut s.text.now s.games s.nodes.items s.properties.items s.values.items
+Holds s = IsLaidOut s.text.now s.games s.nodes.items
 
 option_map-within : {A B : Type 0} (f : A → B) (xs : List A) (i : ℕ) (y : B) → option_map f (slice_get xs i) ≡ Some y → i < length xs
 option_map-within f [] i y h = absurd (cc)
 option_map-within f (x ∷ xs) zero y h = omega arith
 option_map-within f (x ∷ xs) (suc i) y h = omega (arith, option_map-within f xs i y h)
 
--- all properties that the fields show
-abbrev all_properties : Inside → List Property
-all_properties s = properties_of s.text.now s.values.items 0 s.properties.items
+-- the outline of a row
+from-outline : {A : Type 0} (f : Row → A) (h : Outline → A) → ((r : Row) → h (outline r) ≡ f r) → (o : Option Row) → option_map h (option_map outline o) ≡ option_map f o
+from-outline f h same None = refl
+from-outline f h same (Some r) = ap Some (same r)
 
 module _ (s : Inside) (held : Holds s) (g : Games) (is : games_in s.text.now ≡ g) where
-  pub rows-held : rows_of g ≡ rows_by (all_properties s) 0 0 s.nodes.items
-  rows-held = ap rows_of (sym is) ∙ held.same_rows
+  rows-held : map outline (rows_of g) ≡ outlines_by 0 s.nodes.items
+  rows-held = ap (λ c. map outline (rows_of c)) (sym is) ∙ held.same_rows
 
   pub count-held : vec_len s.nodes ≡ node_count g
   count-held =
-      omega (arith, s.nodes.ok.0, length-rows_by (all_properties s) 0 0 s.nodes.items, ap length rows-held, length-rows_of g)
+      omega (arith, s.nodes.ok.0, length-outlines_by 0 s.nodes.items, ap length rows-held, length-map (rows_of g) outline, length-rows_of g)
 
   -- the node of the entry x
-  pub row-held : (i : ℕ) (x : NodeEntry) → i < node_count g → x ≡ get_or s.nodes.items i x → slice_get (rows_of g) i ≡ Some (row_by (all_properties s) i (properties_before s.nodes.items i) x)
+  row-held : (i : ℕ) (x : NodeEntry) → i < node_count g → x ≡ get_or s.nodes.items i x → option_map outline (slice_get (rows_of g) i) ≡ Some (outline_by i x)
   row-held i x h e =
       let start : 0 + i ≡ i = omega arith in
-      ap (λ rs. slice_get rs i) rows-held
-      ∙ rows_by-at (all_properties s) 0 0 s.nodes.items i x (omega (arith, s.nodes.ok.0, count-held))
-      ∙ ap (λ n. Some (row_by (all_properties s) n (properties_before s.nodes.items i) (get_or s.nodes.items i x))) start
-      ∙ ap (λ y. Some (row_by (all_properties s) i (properties_before s.nodes.items i) y)) (sym e)
+      sym (slice_get-map outline (rows_of g) i)
+      ∙ ap (λ rs. slice_get rs i) rows-held
+      ∙ outlines_by-at 0 s.nodes.items i x (omega (arith, s.nodes.ok.0, count-held))
+      ∙ ap (λ n. Some (outline_by n (get_or s.nodes.items i x))) start
+      ∙ ap (λ y. Some (outline_by i y)) (sym e)
 
   pub place-held : (i : ℕ) (x : NodeEntry) → i < node_count g → x ≡ get_or s.nodes.items i x → place_at g i ≡ Some x.place
-  place-held i x h e = ap (option_map (λ (r : Row). r.node.place)) (row-held i x h e)
+  place-held i x h e =
+      sym (from-outline (λ (r : Row). r.node.place) (λ (o : Outline). o.place) (λ r. refl) (slice_get (rows_of g) i))
+      ∙ ap (option_map (λ (o : Outline). o.place)) (row-held i x h e)
 
   -- its parent, by its link
   pub parent-held : (i : ℕ) (x : NodeEntry) (l : Link) → i < node_count g → x ≡ get_or s.nodes.items i x → x.link ≡ l → parent_at g i ≡ Some (parent_by l i)
   parent-held i x l h e f =
-      ap (option_map (λ (r : Row). r.parent)) (row-held i x h e) ∙ ap (λ k. Some (parent_by k i)) f
+      sym (from-outline (λ (r : Row). r.parent) (λ (o : Outline). o.parent) (λ r. refl) (slice_get (rows_of g) i))
+      ∙ ap (option_map (λ (o : Outline). o.parent)) (row-held i x h e) ∙ ap (λ k. Some (parent_by k i)) f
 
   -- a node that follows the node before it is not the first one
   pub next-held : (i : ℕ) (x : NodeEntry) → i < node_count g → x ≡ get_or s.nodes.items i x → x.link ≡ Next → 1 ≤ i
@@ -91,39 +98,44 @@ module _ (s : Inside) (held : Holds s) (g : Games) (is : games_in s.text.now ≡
   pub places-held : (i p : ℕ) → place_at g i ≡ Some p → p < MAX_LENGTH
   places-held i p h =
       let within : i < node_count g = omega (arith, option_map-within (λ (r : Row). r.node.place) (rows_of g) i p h, length-rows_of g) in
-      let none : NodeEntry = record { place = 0; properties_end = 0; link = Next; last_below = 0 } in
+      let none : NodeEntry = record { place = 0; link = Next; last_below = 0 } in
       let inside : i < length s.nodes.items = omega (arith, s.nodes.ok.0, count-held) in
       let x : NodeEntry = get_or s.nodes.items i none in
       let same : Some x.place ≡ Some p = sym (place-held i x within (get_or_default s.nodes.items i none x inside)) ∙ h in
       let place : x.place ≡ p = cc in
       omega (arith, held.places_within i none inside, held.short)
 
-  -- its properties are a part of all of them
-  pub part-held : (i : ℕ) (x : NodeEntry) → i < node_count g → x ≡ get_or s.nodes.items i x → (properties_before s.nodes.items i ≤ x.properties_end) × (x.properties_end ≤ length s.properties.items)
-  part-held i x h e =
-      let rise = end-rises (λ (n : NodeEntry). n.properties_end) 0 0 s.nodes.items (length s.properties.items) i x held.properties_end (omega (arith, s.nodes.ok.0, count-held)) in
-      let same : (get_or s.nodes.items i x).properties_end ≡ x.properties_end = ap (λ (n : NodeEntry). n.properties_end) (sym e) in
-      (omega (arith, rise.0), omega (arith, rise.1))
+  pub rise-held : PlacesRise g
+  rise-held = subst PlacesRise is (places-rise (games_in s.text.now) s.text.now held.spelled)
+
+  pub place-within : (i : ℕ) (x : NodeEntry) → i < node_count g → x ≡ get_or s.nodes.items i x → x.place < length s.text.now
+  place-within i x h e =
+      subst (λ (y : NodeEntry). y.place < length s.text.now) (sym e) (held.places_within i x (omega (arith, s.nodes.ok.0, count-held)))
+
+  -- its properties are spelled after its `;`
+  spelled-at : (i : ℕ) (x : NodeEntry) (o : Option Row) → slice_get (rows_of g) i ≡ o → i < node_count g → x ≡ get_or s.nodes.items i x
+      → (n : Node) × (node_at g i ≡ Some n) × (n.place ≡ x.place) × IsNodeSpelled s.text.now n
+  spelled-at i x None e h f = let none : Option ℕ = None in
+      let never : none ≡ Some x.place = ap (option_map (λ (r : Row). r.node.place)) (sym e) ∙ place-held i x h f in absurd (cc)
+  spelled-at i x (Some r) e h f =
+      let rows : List Row = rows_of g in
+      let all : All (λ (q : Row). IsNodeSpelled s.text.now q.node) rows = rows-spelled s.text.now g (subst (λ c. Spells c s.text.now) is held.spelled) in
+      let lt : i < length rows = omega (arith, length-rows_of g) in
+      let here : Some r ≡ Some (get_or rows i r) = sym e ∙ slice_get-get_or rows i r lt in
+      let same : r ≡ get_or rows i r = cc in
+      let place : Some r.node.place ≡ Some x.place = ap (option_map (λ (q : Row). q.node.place)) (sym e) ∙ place-held i x h f in
+      (r.node, ap (option_map (λ (q : Row). q.node)) e, cc, subst (λ (q : Row). IsNodeSpelled s.text.now q.node) (sym same) (all i r lt))
 
   -- what a reference to it holds
   pub node-held : (i : ℕ) (x : NodeEntry) → i < node_count g → x ≡ get_or s.nodes.items i x
-      → node_at g i ≡ Some (record {
-        place = x.place;
-        properties = properties_of s.text.now s.values.items (values_before 0 s.properties.items (properties_before s.nodes.items i)) (slice_range s.properties.items (properties_before s.nodes.items i) x.properties_end);
-      })
+      → (node_at g i ≡ Some (record { place = x.place; properties = properties_in (drop (x.place + 1) s.text.now) }))
+      × ArePropertiesIn (drop (x.place + 1) s.text.now)
   node-held i x h e =
-      ap (option_map (λ (r : Row). r.node)) (row-held i x h e)
-      ∙ ap (λ ps. Some (record { place = x.place; properties = ps })) (sym (properties_of-range s.text.now s.values.items 0 s.properties.items (properties_before s.nodes.items i) x.properties_end))
-
-  pub fields-held : (a b : ℕ) → IsNodeHeld s.text.now (slice_range s.properties.items a b) s.values.items (values_before 0 s.properties.items a)
-  fields-held a b =
-      record {
-        values_end = (
-          values_before (values_before 0 s.properties.items a) (drop a s.properties.items) (b - a),
-          values_before-range-le 0 s.properties.items (length s.values.items) a b held.values_end,
-          ends-range 0 s.properties.items (length s.values.items) a b held.values_end,
-        );
-        identifiers_within =
-            All-take (λ (p : PropertyEntry). IsSpan (length s.text.now) p.name_start p.name_end) (b - a) (drop a s.properties.items) (All-drop (λ (p : PropertyEntry). IsSpan (length s.text.now) p.name_start p.name_end) a s.properties.items held.identifiers_within);
-        values_within = held.values_within;
-      }
+      let at = spelled-at i x (slice_get (rows_of g) i) refl h e in
+      let n : Node = at.0 in
+      let spelled : AreProperties n.properties (drop (x.place + 1) s.text.now) at.3.rest =
+      subst (λ p. AreProperties n.properties (drop (p + 1) s.text.now) at.3.rest) at.2 at.3.spelled in
+      let own : properties_in (drop (x.place + 1) s.text.now) ≡ n.properties = properties-in spelled at.3.ends in (
+        at.1 ∙ ap (λ p. Some (record { place = p; properties = n.properties })) at.2 ∙ ap (λ ps. Some (record { place = x.place; properties = ps })) (sym own),
+        record { properties = n.properties; rest = at.3.rest; spelled = spelled; ends = at.3.ends },
+      )

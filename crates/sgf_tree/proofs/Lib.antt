@@ -1,12 +1,10 @@
 pub mod Shrinks
 pub mod PlacesRise
-pub mod Ends
 pub mod Flat
-pub mod Growth
 pub mod Rows
 pub mod Names
 pub mod ValueEnds
-pub mod WalkHeld
+pub mod ValueSpelled
 pub mod ValuesRead
 pub mod NameEnds
 pub mod NodeEnds
@@ -21,7 +19,6 @@ pub mod GamesLoop
 pub mod Marks
 pub mod WholeRead
 pub mod Held
-pub mod HeldProperties
 pub mod DecimalValue
 pub mod Appending
 pub mod Run
@@ -39,3 +36,7 @@ pub mod Skipping
 pub mod Spans
 pub mod Literal
 pub mod Examples
+pub mod NodesSpelled
+pub mod NodeTexts
+pub mod Walks
+pub mod Taking

@@ -42,9 +42,9 @@ module _ (old new : List NodeEntry) (tip : ℕ) where
       ap (λ (n : NodeEntry). n.link) (sym (get_or-map unmarked new i d) ∙ ap (λ xs. get_or xs i (unmarked d)) m.same ∙ get_or-map unmarked old i d)
 
   pub marks-more : (at : ℕ) (x : NodeEntry) → at ≤ tip → tip < length old → x ≡ get_or new at x → Marks old new tip (at + 1)
-      → Marks old (set new at (record { place = x.place; properties_end = x.properties_end; link = x.link; last_below = length old - 1 })) tip at
+      → Marks old (set new at (record { place = x.place; link = x.link; last_below = length old - 1 })) tip at
   marks-more at x le lt e m =
-      let y : NodeEntry = record { place = x.place; properties_end = x.properties_end; link = x.link; last_below = length old - 1 } in
+      let y : NodeEntry = record { place = x.place; link = x.link; last_below = length old - 1 } in
       let count : tip + 1 - at ≡ suc (tip + 1 - (at + 1)) = omega arith in
       record {
         same =

@@ -6,8 +6,8 @@ use Rattle.std.proofs.lemmas.List.Elements.{filter-append}
 use Rattle.sgf_tree.specs.Spelling.{is_white, is_upper, is_lower}
 use Rattle.sgf_tree.specs.inner.Machine.{Started, MachineState, in_name, after_name, in_value, step, accepted}
 use Rattle.sgf_tree.specs.Refusal.{IsFaultyAt}
-use Rattle.sgf_tree.specs.inner.Layout.{name_in}
-use Rattle.sgf_tree.specs.inner.Progress.{ComesTo, IsRun, is_letter}
+use Rattle.sgf_tree.specs.inner.NodeText.{is_letter, name_in}
+use Rattle.sgf_tree.specs.inner.Progress.{ComesTo, IsRun}
 use Rattle.sgf_tree.proofs.Classes.{white-not_upper, white-not_lower}
 use Rattle.sgf_tree.proofs.Run.{run-take-step}
 use Rattle.sgf_tree.proofs.Skipping.{stays-after_name}
@@ -49,7 +49,7 @@ name-reached t start end n lt capital letters h =
     (λ i low high. or_cases (is_upper (get_or t i 0)) (is_lower (get_or t i 0)) (letters.passing i (omega arith) high)) h)
 
 -- the state after a name and the white space there
-pub record StandsBehindName (t : List ℕ) (at : ℕ) (n : Started) (name : List ℕ) : Type 0 where
+pub record StandsAfterName (t : List ℕ) (at : ℕ) (n : Started) (name : List ℕ) : Type 0 where
   pub state : MachineState
   pub reached : ComesTo t at state
   pub bracket : step at state 91 ≡ Some (in_value n name [] [])
@@ -86,7 +86,7 @@ unfolding accepted
 after-unaccepted n name = refl
 
 pub name-after : (t : List ℕ) (start end at : ℕ) (n : Started) (name : List ℕ) → IsRun is_letter t start end → IsRun is_white t end at
-    → ComesTo t end (in_name n name) → StandsBehindName t at n name
+    → ComesTo t end (in_name n name) → StandsAfterName t at n name
 name-after t start end at n name letters white h =
     let low : end ≤ at = white.rises in
     let within : at ≤ length t = white.within in
@@ -112,7 +112,7 @@ name-after t start end at n name letters white h =
     ]
 
 -- a name without a `[` after it
-pub name-faulty : (t : List ℕ) (at : ℕ) (n : Started) (name : List ℕ) → StandsBehindName t at n name → at ≤ length t → (at < length t → get_or t at 0 ≢ 91) → IsFaultyAt t at
+pub name-faulty : (t : List ℕ) (at : ℕ) (n : Started) (name : List ℕ) → StandsAfterName t at n name → at ≤ length t → (at < length t → get_or t at 0 ≢ 91) → IsFaultyAt t at
 name-faulty t at n name after le other =
     elim (cases_lt at (length t)) [
       | inl lt ↦ refused-faulty t at after.state lt after.reached (after.refused lt (other lt))
@@ -122,5 +122,5 @@ name-faulty t at n name after le other =
     ]
 
 -- the `[`
-pub name-value : (t : List ℕ) (at : ℕ) (n : Started) (name : List ℕ) → StandsBehindName t at n name → at < length t → get_or t at 0 ≡ 91 → ComesTo t (at + 1) (in_value n name [] [])
+pub name-value : (t : List ℕ) (at : ℕ) (n : Started) (name : List ℕ) → StandsAfterName t at n name → at < length t → get_or t at 0 ≡ 91 → ComesTo t (at + 1) (in_value n name [] [])
 name-value t at n name after lt e = run-take-step t at after.state (in_value n name [] []) after.reached lt (rw e after.bracket)

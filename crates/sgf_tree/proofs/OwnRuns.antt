@@ -1,37 +1,50 @@
 -- The own nodes of the innermost open game, in the flat vectors.
-use Rattle.std.proofs.Common.{◌≡◌, ℕ, zero, suc, ◌+◌, ◌-◌, ◌<◌, false, List, [], ◌∷◌, length, slice_get, Some, option_map, refl, sym, ap, ◌∙◌, arith}
-use Rattle.sgf_tree.specs.Tree.{Property, Node, Games}
+use Rattle.std.proofs.Common.{◌≡◌, ℕ, zero, suc, ◌+◌, ◌-◌, ◌<◌, false, List, [], ◌∷◌, length, map, slice_get, Option, Some, None, option_map, refl, sym, ap, ◌∙◌, arith}
+use Rattle.std.proofs.lemmas.Option.{slice_get-map}
+use Rattle.sgf_tree.specs.Tree.{Node, Games}
 use Rattle.sgf_tree.specs.FileOrder.{Row, further_rows, rows}
 use Rattle.sgf_tree.specs.inner.Machine.{OpenGame}
-use Rattle.sgf_tree.specs.inner.Layout.{parent_by, rows_by}
+use Rattle.sgf_tree.specs.inner.Layout.{Outline, outline, outlines_by, parent_by}
 use Rattle.sgf_tree.specs.inner.GamesRead.{open_count, tip, own_rows, open_rows, opens_at, IsOwnRun}
 use Rattle.sgf_tree.specs.declared.layout.NodeEntry.{NodeEntry}
 use Rattle.sgf_tree.proofs.Rows.{slice_get-left, slice_get-right, length-further_rows}
 use Rattle.sgf_tree.proofs.Stacks.{length-open_rows}
 
--- what the row of an entry says of its link
-pub opens-rows_by : (props : List Property) (i from : ℕ) (ns : List NodeEntry) (k : ℕ) → option_map (λ (r : Row). r.opens) (slice_get (rows_by props i from ns) k) ≡ opens_at ns k
-opens-rows_by props i from [] k = refl
-opens-rows_by props i from (n ∷ ns) zero = refl
-opens-rows_by props i from (n ∷ ns) (suc k) = opens-rows_by props (i + 1) n.properties_end ns k
+-- what the outline of an entry says of its link
+opens-outlines_by : (i : ℕ) (ns : List NodeEntry) (k : ℕ) → option_map (λ (r : Outline). r.opens) (slice_get (outlines_by i ns) k) ≡ opens_at ns k
+opens-outlines_by i [] k = refl
+opens-outlines_by i (n ∷ ns) zero = refl
+opens-outlines_by i (n ∷ ns) (suc k) = opens-outlines_by (i + 1) ns k
 
-pub parent-rows_by : (props : List Property) (i from : ℕ) (ns : List NodeEntry) (k j : ℕ) → j ≡ i + k
-    → option_map (λ (r : Row). r.parent) (slice_get (rows_by props i from ns) k) ≡ option_map (λ (n : NodeEntry). parent_by n.link j) (slice_get ns k)
-parent-rows_by props i from [] k j e = refl
-parent-rows_by props i from (n ∷ ns) zero j e =
-    let same : i ≡ j = omega arith in ap (λ m. Some (parent_by n.link m)) same
-parent-rows_by props i from (n ∷ ns) (suc k) j e = parent-rows_by props (i + 1) n.properties_end ns k j (omega arith)
+parent-outlines_by : (i : ℕ) (ns : List NodeEntry) (k j : ℕ) → j ≡ i + k
+    → option_map (λ (r : Outline). r.parent) (slice_get (outlines_by i ns) k) ≡ option_map (λ (n : NodeEntry). parent_by n.link j) (slice_get ns k)
+parent-outlines_by i [] k j e = refl
+parent-outlines_by i (n ∷ ns) zero j e = let same : i ≡ j = omega arith in ap (λ m. Some (parent_by n.link m)) same
+parent-outlines_by i (n ∷ ns) (suc k) j e = parent-outlines_by (i + 1) ns k j (omega arith)
+
+-- the outline of a row has its parent, and whether it opens
+outline-opens : (o : Option Row) → option_map (λ (r : Outline). r.opens) (option_map outline o) ≡ option_map (λ (r : Row). r.opens) o
+outline-opens None = refl
+outline-opens (Some r) = refl
+
+outline-parent : (o : Option Row) → option_map (λ (r : Outline). r.parent) (option_map outline o) ≡ option_map (λ (r : Row). r.parent) o
+outline-parent None = refl
+outline-parent (Some r) = refl
 
 further-opens : (last : ℕ) (ns : List Node) (k : ℕ) → k < length ns → option_map (λ (r : Row). r.opens) (slice_get (further_rows last ns) k) ≡ Some false
 further-opens last [] k h = absurd (omega arith)
 further-opens last (n ∷ ns) zero h = refl
 further-opens last (n ∷ ns) (suc k) h = further-opens (last + 1) ns k (omega arith)
 
-module _ (closed : Games) (g : OpenGame) (gs : List OpenGame) (props : List Property) (nodes : List NodeEntry) (same : open_rows closed (g ∷ gs) ≡ rows_by props 0 0 nodes) where
-  row-at : (i k : ℕ) → i ≡ open_count closed gs + k → slice_get (rows_by props 0 0 nodes) i ≡ slice_get (own_rows (open_count closed gs) (tip closed gs) g) k
+module _ (closed : Games) (g : OpenGame) (gs : List OpenGame) (nodes : List NodeEntry) (same : map outline (open_rows closed (g ∷ gs)) ≡ outlines_by 0 nodes) where
+  row-at : (i k : ℕ) → i ≡ open_count closed gs + k → slice_get (outlines_by 0 nodes) i ≡ option_map outline (slice_get (own_rows (open_count closed gs) (tip closed gs) g) k)
   row-at i k e =
-      ap (λ rs. slice_get rs i) (sym same)
-      ∙ slice_get-right (open_rows closed gs) (own_rows (open_count closed gs) (tip closed gs) g) i k (omega (arith, length-open_rows closed gs))
+      ap (λ rs. slice_get rs i) (sym same) ∙ slice_get-map outline (open_rows closed (g ∷ gs)) i
+      ∙ ap (option_map outline) (slice_get-right (open_rows closed gs) (own_rows (open_count closed gs) (tip closed gs) g) i k (omega (arith, length-open_rows closed gs)))
+
+  opens-at : (i k : ℕ) → i ≡ open_count closed gs + k → opens_at nodes i ≡ option_map (λ (r : Row). r.opens) (slice_get (own_rows (open_count closed gs) (tip closed gs) g) k)
+  opens-at i k e =
+      sym (opens-outlines_by 0 nodes i) ∙ ap (option_map (λ (r : Outline). r.opens)) (row-at i k e) ∙ outline-opens (slice_get (own_rows (open_count closed gs) (tip closed gs) g) k)
 
   -- they begin with the node after the `(`, and go on up to the tip
   pub own-run : IsOwnRun nodes (open_count closed gs) (open_count closed gs + length g.more)
@@ -39,11 +52,11 @@ module _ (closed : Games) (g : OpenGame) (gs : List OpenGame) (props : List Prop
       let at : ℕ = open_count closed gs in
       record {
         rises = omega arith;
-        begins = sym (opens-rows_by props 0 0 nodes at) ∙ ap (option_map (λ (r : Row). r.opens)) (row-at at 0 (omega arith));
+        begins = opens-at at 0 (omega arith);
         goes_on = λ i low high.
             let e : i ≡ at + suc (i - at - 1) = omega arith in
-            sym (opens-rows_by props 0 0 nodes i) ∙ ap (option_map (λ (r : Row). r.opens)) (row-at i (suc (i - at - 1)) e
-            ∙ slice_get-left (further_rows at g.more) (rows (at + length g.more + 1) (Some (at + length g.more)) g.below) (i - at - 1) (omega (arith, length-further_rows at g.more)))
+            opens-at i (suc (i - at - 1)) e
+            ∙ ap (option_map (λ (r : Row). r.opens)) (slice_get-left (further_rows at g.more) (rows (at + length g.more + 1) (Some (at + length g.more)) g.below) (i - at - 1) (omega (arith, length-further_rows at g.more)))
             ∙ further-opens at g.more (i - at - 1) (omega arith);
       }
 
@@ -51,4 +64,5 @@ module _ (closed : Games) (g : OpenGame) (gs : List OpenGame) (props : List Prop
   pub own-parent : option_map (λ (n : NodeEntry). parent_by n.link (open_count closed gs)) (slice_get nodes (open_count closed gs)) ≡ Some (tip closed gs)
   own-parent =
       let at : ℕ = open_count closed gs in
-      sym (parent-rows_by props 0 0 nodes at at (omega arith)) ∙ ap (option_map (λ (r : Row). r.parent)) (row-at at 0 (omega arith))
+      sym (parent-outlines_by 0 nodes at at (omega arith)) ∙ ap (option_map (λ (r : Outline). r.parent)) (row-at at 0 (omega arith))
+      ∙ outline-parent (slice_get (own_rows at (tip closed gs) g) 0)

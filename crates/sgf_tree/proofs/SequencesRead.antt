@@ -5,15 +5,12 @@ use Rattle.sgf_tree.specs.Tree.{Games, no_games, game}
 use Rattle.sgf_tree.specs.Spelling.{is_white}
 use Rattle.sgf_tree.specs.inner.Machine.{OpenGame, Stack, Started, opened, in_node, after_game, after_node, between_games, ended, new_game, new_node, step, accepted}
 use Rattle.sgf_tree.specs.Refusal.{IsFaultyAt}
-use Rattle.sgf_tree.specs.inner.Layout.{properties_of}
 use Rattle.sgf_tree.specs.inner.Progress.{ComesTo, IsRun}
 use Rattle.sgf_tree.specs.inner.PropertiesRead.{StandsAfterNode, with_properties}
-use Rattle.sgf_tree.specs.inner.GamesRead.{HoldStack, AreAtMost, IsOpening, IsNodeRead, IsSequenceRead}
+use Rattle.sgf_tree.specs.inner.GamesRead.{HoldStack, IsOpening, IsNodeRead, IsSequenceRead}
 use Rattle.sgf_tree.specs.declared.layout.Link.{Link}
 use Rattle.sgf_tree.specs.declared.layout.Link.TheVariants.{Next}
 use Rattle.sgf_tree.specs.declared.layout.NodeEntry.{NodeEntry}
-use Rattle.sgf_tree.specs.declared.layout.PropertyEntry.{PropertyEntry}
-use Rattle.sgf_tree.specs.declared.layout.ValueEntry.{ValueEntry}
 use Rattle.sgf_tree.proofs.NodesRead.{first-held, next-held}
 use Rattle.sgf_tree.proofs.Run.{run-take-step}
 use Rattle.sgf_tree.proofs.Skipping.{stays-opened}
@@ -68,50 +65,52 @@ module _ (t : List ℕ) where
       run-take-step t end stands.state (new_node (ended whole) false end) stands.reached lt (stands.next lt ∙ ap (after_node end (ended whole)) e)
 
   -- nodes of the game were read, and the last one is `whole`
-  pub record SequenceSoFar (end : ℕ) (k : Stack) (ns : List NodeEntry) (ps : List PropertyEntry) (vs : List ValueEntry) : Type 0 where
+  pub record SequenceSoFar (end : ℕ) (k : Stack) (ns : List NodeEntry) : Type 0 where
     pub whole : Started
     pub last : OpenGame
     pub stands : StandsAfterNode t end whole
     pub stack_is : ended whole ≡ record { closed = k.closed; unclosed = last ∷ k.unclosed }
-    pub held : HoldStack t (record { closed = k.closed; unclosed = last ∷ k.unclosed }) ns ps vs
+    pub held : HoldStack t (record { closed = k.closed; unclosed = last ∷ k.unclosed }) ns
     pub nothing_below : last.below ≡ no_games
     pub not_white : end < length t → is_white (get_or t end 0) ≡ false
 
-  pub sequence-first : (at place end : ℕ) (k : Stack) (link : Link) (ns ns' : List NodeEntry) (ps ps' : List PropertyEntry) (vs vs' : List ValueEntry)
-      → IsRun is_white t at place → ComesTo t at (opened k) → HoldStack t k ns ps vs → IsOpening k link → place < length t → get_or t place 0 ≡ 59
-      → IsNodeRead t place end link ns ns' ps ps' vs vs' → SequenceSoFar end k ns' ps' vs'
-  sequence-first at place end k link ns ns' ps ps' vs vs' white after held opening lt e read =
+  pub sequence-first : (at place end : ℕ) (k : Stack) (link : Link) (ns ns' : List NodeEntry)
+      → IsRun is_white t at place → ComesTo t at (opened k) → HoldStack t k ns → IsOpening k link → place < length t → get_or t place 0 ≡ 59
+      → IsNodeRead t place end link ns ns' → SequenceSoFar end k ns'
+  sequence-first at place end k link ns ns' white after held opening lt e read =
       let n : Started = record { stack = k; opens = true; place = place; properties = [] } in
+      let own = read.properties.reached n refl (place-node at place k white after lt e) in
       record {
-        whole = with_properties n (properties_of t vs' (length vs) read.properties.entries);
-        last = new_game (record { place = place; properties = properties_of t vs' (length vs) read.properties.entries });
-        stands = read.properties.reached n refl (place-node at place k white after lt e);
+        whole = with_properties n own.0;
+        last = new_game (record { place = place; properties = own.0 });
+        stands = own.1;
         stack_is = refl;
-        held = first-held t k place end link ns ns' ps ps' vs vs' held opening read lt;
+        held = first-held t k place end own.0 link ns ns' held opening read lt;
         nothing_below = refl;
         not_white = read.properties.not_white;
       }
 
-  pub sequence-next : (place end : ℕ) (k : Stack) (ns ns' : List NodeEntry) (ps ps' : List PropertyEntry) (vs vs' : List ValueEntry)
-      → SequenceSoFar place k ns ps vs → place < length t → get_or t place 0 ≡ 59 → IsNodeRead t place end Next ns ns' ps ps' vs vs' → SequenceSoFar end k ns' ps' vs'
-  sequence-next place end k ns ns' ps ps' vs vs' so_far lt e read =
+  pub sequence-next : (place end : ℕ) (k : Stack) (ns ns' : List NodeEntry)
+      → SequenceSoFar place k ns → place < length t → get_or t place 0 ≡ 59 → IsNodeRead t place end Next ns ns' → SequenceSoFar end k ns'
+  sequence-next place end k ns ns' so_far lt e read =
       let k' : Stack = record { closed = k.closed; unclosed = so_far.last ∷ k.unclosed } in
       let n : Started = record { stack = k'; opens = false; place = place; properties = [] } in
       let begins : ComesTo t (place + 1) (in_node n) =
       subst (λ s. ComesTo t (place + 1) (new_node s false place)) so_far.stack_is (next-node place so_far.whole so_far.stands lt e) in
+      let own = read.properties.reached n refl begins in
       record {
-        whole = with_properties n (properties_of t vs' (length vs) read.properties.entries);
-        last = record { first = so_far.last.first; more = so_far.last.more ++ record { place = place; properties = properties_of t vs' (length vs) read.properties.entries } ∷ []; below = so_far.last.below };
-        stands = read.properties.reached n refl begins;
+        whole = with_properties n own.0;
+        last = record { first = so_far.last.first; more = so_far.last.more ++ record { place = place; properties = own.0 } ∷ []; below = so_far.last.below };
+        stands = own.1;
         stack_is = refl;
-        held = next-held t k.closed so_far.last k.unclosed place end ns ns' ps ps' vs vs' so_far.held so_far.nothing_below read lt;
+        held = next-held t k.closed so_far.last k.unclosed place end own.0 ns ns' so_far.held so_far.nothing_below read lt;
         nothing_below = so_far.nothing_below;
         not_white = read.properties.not_white;
       }
 
   -- no further node follows
-  pub sequence-done : (end : ℕ) (k : Stack) (ns : List NodeEntry) (ps : List PropertyEntry) (vs : List ValueEntry) → SequenceSoFar end k ns ps vs → (end < length t → get_or t end 0 ≢ 59) → IsSequenceRead t end k ns ps vs
-  sequence-done end k ns ps vs so_far other =
+  pub sequence-done : (end : ℕ) (k : Stack) (ns : List NodeEntry) → SequenceSoFar end k ns → (end < length t → get_or t end 0 ≢ 59) → IsSequenceRead t end k ns
+  sequence-done end k ns so_far other =
       let k' : Stack = record { closed = k.closed; unclosed = so_far.last ∷ k.unclosed } in
       record {
         last = so_far.last;
@@ -127,23 +126,15 @@ module _ (t : List ℕ) where
       }
 
   -- a further node's `;` begins a node
-  pub sequence-node : (end : ℕ) (k : Stack) (ns : List NodeEntry) (ps : List PropertyEntry) (vs : List ValueEntry) → SequenceSoFar end k ns ps vs → end < length t → get_or t end 0 ≡ 59
+  pub sequence-node : (end : ℕ) (k : Stack) (ns : List NodeEntry) → SequenceSoFar end k ns → end < length t → get_or t end 0 ≡ 59
       → (n : Started) × ((n.properties ≡ []) × ComesTo t (end + 1) (in_node n))
-  sequence-node end k ns ps vs so_far lt e = (
+  sequence-node end k ns so_far lt e = (
     record { stack = ended so_far.whole; opens = false; place = end; properties = [] },
     (refl, next-node end so_far.whole so_far.stands lt e),
   )
 
-  -- the vectors have room for a node's bytes
-  pub node-room : (place end : ℕ) (link : Link) (ns ns' : List NodeEntry) (ps ps' : List PropertyEntry) (vs vs' : List ValueEntry) → AreAtMost place ns ps vs → IsNodeRead t place end link ns ns' ps ps' vs vs' → AreAtMost end ns' ps' vs'
-  node-room place end link ns ns' ps ps' vs vs' room read =
-      let n : NodeEntry = record { place = place; properties_end = length ps'; link = link; last_below = 0 } in
-      let props = read.properties in
-      record {
-        nodes_at_most =
-            omega (arith, room.nodes_at_most, props.counted, ap length read.pushed, length-append ns (n ∷ []));
-        properties_at_most =
-            omega (arith, room.properties_at_most, props.counted, ap length props.pushed, length-append ps props.entries);
-        values_at_most =
-            omega (arith, room.values_at_most, props.values_counted, ap length props.values_pushed.pushed, length-append vs props.added);
-      }
+  -- there are no more nodes than bytes
+  pub node-room : (place end : ℕ) (link : Link) (ns ns' : List NodeEntry) → length ns ≤ place → IsNodeRead t place end link ns ns' → length ns' ≤ end
+  node-room place end link ns ns' room read =
+      let n : NodeEntry = record { place = place; link = link; last_below = 0 } in
+      omega (arith, room, read.properties.rises, ap length read.pushed, length-append ns (n ∷ []))

@@ -42,7 +42,7 @@ refused-faulty t at z lt h s =
     let fault = refused-fault t at z lt h s in record { unspelled = fault.1; first_fault = fault.0 }
 
 -- a plain byte is neither `]` nor `\`
-plain-other : (b : ℕ) → is_plain b ≡ true → (b ≢ 93) × (b ≢ 92)
+pub plain-other : (b : ℕ) → is_plain b ≡ true → (b ≢ 93) × (b ≢ 92)
 plain-other b h =
     let parts = and_parts (not (b == 93)) (not (b == 92)) h in
     (eqb-false b 93 (not-true (b == 93) parts.0), eqb-false b 92 (not-true (b == 92) parts.1))

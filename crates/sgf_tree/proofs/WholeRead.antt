@@ -1,25 +1,22 @@
 -- What holds once a whole text was read.
-use Rattle.std.proofs.Common.{◌≡◌, ℕ, ◌<◌, ◌≤◌, inl, inr, List, [], length, slice_get, Some, option_map, unwrap_or, sym, ap, subst, ◌∙◌, arith}
+use Rattle.std.proofs.Common.{◌≡◌, ℕ, ◌<◌, ◌≤◌, inl, inr, List, [], length, map, slice_get, Some, option_map, unwrap_or, sym, ap, subst, ◌∙◌, arith}
 use Rattle.std.proofs.lemmas.Option.{slice_get-map, slice_get_within}
 use Rattle.sgf_tree.specs.declared.fault.TheConstants.{MAX_LENGTH}
 use Rattle.sgf_tree.specs.Tree.{Games, no_games, game_count, node_count}
 use Rattle.sgf_tree.specs.Spelling.{Spells}
-use Rattle.sgf_tree.specs.FileOrder.{game_of, rows_of, IsLastBelow, PlacesRise}
+use Rattle.sgf_tree.specs.FileOrder.{game_of, rows_of, IsLastBelow}
 use Rattle.sgf_tree.specs.inner.Machine.{collection_of}
-use Rattle.sgf_tree.specs.inner.Layout.{games_in, IsLaidOut}
+use Rattle.sgf_tree.specs.inner.Layout.{games_in, outline, IsLaidOut}
 use Rattle.sgf_tree.specs.inner.GamesRead.{IsRootOf, IsRead}
 use Rattle.sgf_tree.specs.declared.layout.NodeEntry.{NodeEntry}
-use Rattle.sgf_tree.specs.declared.layout.PropertyEntry.{PropertyEntry}
-use Rattle.sgf_tree.specs.declared.layout.ValueEntry.{ValueEntry}
 use Rattle.sgf_tree.proofs.AcceptedSpelled.{accepted-spelled}
 use Rattle.sgf_tree.proofs.LastBelow.{lasts-below}
 use Rattle.sgf_tree.proofs.Marking.{mark_of}
 use Rattle.sgf_tree.proofs.NodesRead.{nodes-held}
-use Rattle.sgf_tree.proofs.PlacesRise.{places-rise}
 use Rattle.sgf_tree.proofs.Run.{collection-run}
 use Rattle.sgf_tree.proofs.ValueEnds.{reaches-all}
 
-module _ (t : List ℕ) (c : Games) (ns : List NodeEntry) (ps : List PropertyEntry) (vs : List ValueEntry) (read : IsRead t c ns ps vs) where
+module _ (t : List ℕ) (c : Games) (ns : List NodeEntry) (read : IsRead t c ns) where
   whole-collection : collection_of t ≡ Some c
   whole-collection = collection-run t read.reached (reaches-all t read.reached read.whole) ∙ read.accepts
 
@@ -33,17 +30,14 @@ module _ (t : List ℕ) (c : Games) (ns : List NodeEntry) (ps : List PropertyEnt
   whole-root i g lt (inl h) = h.1
   whole-root i g lt (inr h) = absurd (omega (arith, h.0))
 
-  pub whole-laid_out : (games : ℕ) → length t ≤ MAX_LENGTH → games ≡ game_count c → IsLaidOut t games ns ps vs
+  pub whole-laid_out : (games : ℕ) → length t ≤ MAX_LENGTH → games ≡ game_count c → IsLaidOut t games ns
   whole-laid_out games short e =
-      let count : length ns ≡ node_count c = nodes-held t (record { closed = c; unclosed = [] }) ns ps vs read.held in
+      let count : length ns ≡ node_count c = nodes-held t (record { closed = c; unclosed = [] }) ns read.held in
       record {
         short = short;
+        spelled = subst (λ g. Spells g t) (sym whole-games) whole-spelled;
         games_counted = e ∙ ap game_count (sym whole-games);
-        same_rows = ap rows_of whole-games ∙ read.held.same_rows;
-        properties_end = read.held.properties_end;
-        values_end = read.held.values_end;
-        identifiers_within = read.held.identifiers_within;
-        values_within = read.held.values_within;
+        same_rows = ap (λ g. map outline (rows_of g)) whole-games ∙ read.held.same_rows;
         games_numbered = λ i n k here is.
             ap (λ g. game_of g i) whole-games
             ∙ whole-root i k (omega (arith, slice_get_within ns i n here)) (read.held.roots i n k here is);
@@ -51,5 +45,4 @@ module _ (t : List ℕ) (c : Games) (ns : List NodeEntry) (ps : List PropertyEnt
             subst (λ g. IsLastBelow g i n.last_below) (sym whole-games)
             (lasts-below c i n.last_below (ap (λ ls. slice_get ls i) read.held.same_lasts ∙ slice_get-map mark_of ns i ∙ ap (option_map mark_of) here));
         places_within = read.held.places_within;
-        places_rise = subst PlacesRise (sym whole-games) (places-rise c t whole-spelled);
       }

@@ -1,7 +1,7 @@
 pub mod TreeCode
 pub mod Machine
-pub mod Ends
 pub mod Layout
+pub mod NodeText
 pub mod Progress
 pub mod PropertiesRead
 pub mod GamesRead

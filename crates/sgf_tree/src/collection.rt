@@ -1,13 +1,13 @@
 //! A collection that was read: its nodes in file order, which number them from 0.
 
-ghost use Rattle.std.specs.Prelude.{◌≡◌, ◌<◌, ◌↔◌, ℕ, IsTrue, length};
+ghost use Rattle.std.specs.Prelude.{◌≡◌, ◌<◌, ◌↔◌, ℕ, IsTrue};
 ghost use Rattle.sgf_tree.specs.declared.fault.TheConstants.{MAX_LENGTH};
 ghost use Rattle.sgf_tree.specs.Tree.{game_count, node_count};
-ghost use Rattle.sgf_tree.specs.inner.Ends.{end_before};
 ghost use Rattle.sgf_tree.specs.FileOrder.{node_at, place_at, parent_at, IsLeaf, game_of, IsLastBelow, PlacesRise};
 
-use crate::layout::{Entries, Link, NodeEntry, PropertyEntry, ValueEntry, part};
-use crate::node::{NodeRef, values_start};
+use crate::layout::{Link, NodeEntry};
+use crate::node::NodeRef;
+use crate::reader::scan::rest_from;
 use std::marker::Model;
 
 /// The collection that a text spells (SGF FF[4], EBNF).
@@ -18,8 +18,6 @@ pub struct Collection<'a> {
     text: &'a [u8],
     games: u32,
     nodes: Vec<NodeEntry>,
-    properties: Vec<PropertyEntry>,
-    values: Vec<ValueEntry>,
 }
 
 impl<'a> Model for Collection<'a> {
@@ -34,31 +32,18 @@ impl<'a> Model for Collection<'a> {
 
     ghost view = { λ c. games_in c.text.now };
 
-    ghost invariant = { λ c.
-        IsLaidOut c.text.now c.games c.nodes.items c.properties.items c.values.items };
+    ghost invariant = { λ c. IsLaidOut c.text.now c.games c.nodes.items };
 }
 
 impl<'a> Collection<'a> {
     ghost use Rattle.sgf_tree.specs.inner.Layout.{games_in, IsLaidOut};
 
     /// The collection of the text, which the entries hold.
-    pub(crate) fn new(text: &'a [u8], games: u32, entries: Entries) -> Collection<'a>
-        requires { IsLaidOut text.now games
-            entries.nodes.items entries.properties.items entries.values.items }
+    pub(crate) fn new(text: &'a [u8], games: u32, nodes: Vec<NodeEntry>) -> Collection<'a>
+        requires { IsLaidOut text.now games nodes.items }
         ensures { result ≡ games_in text.now }
     {
-        let Entries {
-            nodes,
-            properties,
-            values,
-        } = entries;
-        Collection {
-            text,
-            games,
-            nodes,
-            properties,
-            values,
-        }
+        Collection { text, games, nodes }
     }
 
     /// The number of games.
@@ -79,18 +64,14 @@ impl<'a> Collection<'a> {
     }
 
     /// Node `i`, counted from 0 in file order.
-    pub fn node(&self, i: usize) -> NodeRef<'_, 'a>
+    pub fn node(&self, i: usize) -> NodeRef<'a>
         requires { i < node_count self.now }
         ensures { node_at self.now i ≡ Some result }
     {
         let entry = self.nodes[i];
-        let start = properties_start(&self.nodes, i);
         NodeRef {
-            text: self.text,
             place: entry.place,
-            values_start: values_start(&self.properties, 0, start as usize),
-            properties: part(&self.properties, start, entry.properties_end),
-            values: &self.values,
+            text: rest_from(self.text, entry.place as usize + 1),
         }
     }
 
@@ -145,17 +126,5 @@ impl<'a> Collection<'a> {
         ensures { IsLastBelow self.now i result }
     {
         self.nodes[i].last_below as usize
-    }
-}
-
-/// Where the properties of node `i` begin.
-fn properties_start(nodes: &[NodeEntry], i: usize) -> u32
-    requires { i < length nodes.now }
-    ensures { result ≡ end_before (λ n. n.properties_end) 0 nodes.now i }
-{
-    if i == 0 {
-        0
-    } else {
-        nodes[i - 1].properties_end
     }
 }

@@ -1,26 +1,22 @@
 //! A node of a collection.
 
-ghost use Rattle.std.specs.Prelude.{◌≡◌, ◌<◌, ◌≤◌, ◌+◌, length, slice_get, find, Some};
+ghost use Rattle.std.specs.Prelude.{◌≡◌, ◌<◌, length, slice_get, find, Some};
 ghost use Rattle.std.specs.Str.{bytes_eq};
-ghost use Rattle.sgf_tree.specs.inner.Ends.{end_before};
 
-use crate::layout::{PropertyEntry, ValueEntry, part};
 use crate::property::PropRef;
 use crate::walk::Properties;
 use std::marker::Model;
 
 /// A node, seen as its place and its properties.
-/// No call on it takes memory.
+/// No call on it takes memory. Its properties are read from the text, so a call costs what the part of the node's text
+/// costs that it goes over.
 #[derive(Drop)]
-pub struct NodeRef<'c, 'a> {
-    pub(crate) text: &'a [u8],
+pub struct NodeRef<'a> {
     pub(crate) place: u32,
-    pub(crate) values_start: u32,
-    pub(crate) properties: &'c [PropertyEntry],
-    pub(crate) values: &'c [ValueEntry],
+    pub(crate) text: &'a [u8],
 }
 
-impl<'c, 'a> Model for NodeRef<'c, 'a> {
+impl<'a> Model for NodeRef<'a> {
     ghost use Rattle.sgf_tree.specs.Tree.{Node};
     ghost use Rattle.sgf_tree.specs.inner.TreeCode.{node_code};
 
@@ -28,74 +24,58 @@ impl<'c, 'a> Model for NodeRef<'c, 'a> {
 
     ghost coded = { node_code };
 
-    ghost use Rattle.sgf_tree.specs.inner.Layout.{properties_of, IsNodeHeld};
+    ghost use Rattle.sgf_tree.specs.inner.NodeText.{properties_in, ArePropertiesIn};
 
-    ghost view = { λ n. record {
-      place = n.place;
-      properties = properties_of n.text.now n.values.now n.values_start n.properties.now;
-    } };
+    ghost view = { λ n. record { place = n.place; properties = properties_in n.text.now } };
 
-    ghost invariant = { λ n. IsNodeHeld n.text.now n.properties.now n.values.now n.values_start };
+    ghost invariant = { λ n. ArePropertiesIn n.text.now };
 }
 
-impl<'c, 'a> NodeRef<'c, 'a> {
+impl<'a> NodeRef<'a> {
     /// Its properties, to be taken off one after another.
-    pub fn walk(&self) -> Properties<'c, 'a>
+    pub fn walk(&self) -> Properties<'a>
         ensures { result ≡ self.now.properties }
     {
-        Properties {
-            text: self.text,
-            values_start: self.values_start,
-            properties: self.properties,
-            values: self.values,
-        }
+        Properties { rest: self.text }
     }
 
     /// The number of its properties.
+    /// It goes over all of them.
     pub fn props(&self) -> usize
         ensures { result ≡ length self.now.properties }
     {
-        self.properties.len()
+        let mut left = Properties { rest: self.text };
+        let mut count = 0;
+        while let Some(_property) = left.next() {
+            count += 1;
+        }
+        count
     }
 
     /// Property `i`, counted from 0 in file order.
-    pub fn prop(&self, i: usize) -> PropRef<'c, 'a>
+    /// It goes over the properties before it, so whoever wants them all takes `walk`.
+    pub fn prop(&self, i: usize) -> PropRef<'a>
         requires { i < length self.now.properties }
         ensures { slice_get self.now.properties i ≡ Some result }
     {
-        let properties = self.properties;
-        let entry = properties[i];
-        let start = values_start(properties, self.values_start, i);
-        PropRef {
-            text: self.text,
-            identifier: part(self.text, entry.name_start, entry.name_end),
-            values: part(self.values, start, entry.values_end),
+        let mut left = self.walk();
+        for _before in 0..i {
+            left.next().unwrap();
         }
+        left.next().unwrap()
     }
 
     /// The first property of that name.
     /// None only where the node has none.
-    pub fn first(&self, name: &[u8]) -> Option<PropRef<'c, 'a>>
+    pub fn first(&self, name: &[u8]) -> Option<PropRef<'a>>
         ensures { result ≡ find (λ p. bytes_eq p.name name.now) self.now.properties }
     {
-        for i in 0..self.props() {
-            let property = self.prop(i);
+        let mut left = self.walk();
+        while let Some(property) = left.next() {
             if property.is(name) {
                 return Some(property);
             }
         }
         None
-    }
-}
-
-/// Where the values of property `i` begin, if those of the first one begin at `first`.
-pub(crate) fn values_start(properties: &[PropertyEntry], first: u32, i: usize) -> u32
-    requires { i ≤ length properties.now }
-    ensures { result ≡ end_before (λ p. p.values_end) first properties.now i }
-{
-    if i == 0 {
-        first
-    } else {
-        properties[i - 1].values_end
     }
 }

@@ -4,20 +4,18 @@ ghost use Rattle.std.specs.Prelude.{◌≡◌, ◌<◌, ◌≤◌, ◌↔◌, �
 ghost use Rattle.sgf_tree.specs.Tree.{values};
 
 use crate::fault::MemoryFault;
-use crate::layout::{ValueEntry, part};
 use crate::walk::Values;
 use std::marker::Model;
 
 /// A property, seen as its name and its raw values.
 /// Only `push_name` takes memory.
 #[derive(Drop)]
-pub struct PropRef<'c, 'a> {
-    pub(crate) text: &'a [u8],
+pub struct PropRef<'a> {
     pub(crate) identifier: &'a [u8],
-    pub(crate) values: &'c [ValueEntry],
+    pub(crate) values: &'a [u8],
 }
 
-impl<'c, 'a> Model for PropRef<'c, 'a> {
+impl<'a> Model for PropRef<'a> {
     ghost use Rattle.sgf_tree.specs.Tree.{Property};
     ghost use Rattle.sgf_tree.specs.inner.TreeCode.{property_code};
 
@@ -25,14 +23,14 @@ impl<'c, 'a> Model for PropRef<'c, 'a> {
 
     ghost coded = { property_code };
 
-    ghost use Rattle.sgf_tree.specs.inner.Layout.{property_from, name_in, raw_values, IsPropertyHeld};
+    ghost use Rattle.sgf_tree.specs.inner.NodeText.{property_from, name_in, values_in, IsPropertyHeld};
 
-    ghost view = { λ p. property_from (name_in p.identifier.now) (raw_values p.text.now p.values.now) };
+    ghost view = { λ p. property_from (name_in p.identifier.now) (values_in p.values.now) };
 
-    ghost invariant = { λ p. IsPropertyHeld p.text.now p.values.now };
+    ghost invariant = { λ p. IsPropertyHeld p.values.now };
 }
 
-impl<'c, 'a> PropRef<'c, 'a> {
+impl<'a> PropRef<'a> {
     /// Whether `name` is its name.
     /// The name is the upper-case letters of the identifier: `GaMe` is named `GM` (this project's choice).
     pub fn is(&self, name: &[u8]) -> bool
@@ -70,30 +68,36 @@ impl<'c, 'a> PropRef<'c, 'a> {
     }
 
     /// Its raw values, to be taken off one after another.
-    pub fn walk(&self) -> Values<'c, 'a>
+    pub fn walk(&self) -> Values<'a>
         ensures { result ≡ values self.now }
     {
-        Values {
-            text: self.text,
-            values: self.values,
-        }
+        Values { rest: self.values }
     }
 
     /// The number of its values, at least 1.
+    /// It goes over all of them.
     pub fn values(&self) -> usize
         ensures { result ≡ length (values self.now) }
     {
-        self.values.len()
+        let mut left = Values { rest: self.values };
+        let mut count = 0;
+        while let Some(_value) = left.next() {
+            count += 1;
+        }
+        count
     }
 
     /// Raw value `i`, counted from 0 in file order: the bytes between the `[` and the `]`.
     /// It is a part of the text that was read.
+    /// It goes over the values before it, so whoever wants them all takes `walk`.
     pub fn value(&self, i: usize) -> &'a [u8]
         requires { i < length (values self.now) }
         ensures { slice_get (values self.now) i ≡ Some result.now }
     {
-        let values = self.values;
-        let entry = values[i];
-        part(self.text, entry.start, entry.end)
+        let mut left = self.walk();
+        for _before in 0..i {
+            left.next().unwrap();
+        }
+        left.next().unwrap()
     }
 }

@@ -1,23 +1,23 @@
 //! Reading a text.
 //!
-//! The text is gone over once. Each node, property and value that ends is pushed to a vector, and a fault is
+//! The text is gone over once. Each node that ends is pushed to a vector, and a fault is
 //! reported at the first byte that no text of the grammar goes on with.
 
-ghost use Rattle.std.specs.Prelude.{◌≡◌, ◌<◌, ◌≤◌, ◌↔◌, length, Err, IfOk, IfErr};
+ghost use Rattle.std.specs.Prelude.{◌≡◌, ◌<◌, ◌≤◌, ◌↔◌, [], length, Err, IfOk, IfErr};
 ghost use Rattle.sgf_tree.specs.Spelling.{Spells};
 ghost use Rattle.sgf_tree.specs.Refusal.{IsFaultyWhereNotSgf};
 ghost use Rattle.sgf_tree.specs.inner.Progress.{IsTrueFault};
-ghost use Rattle.sgf_tree.specs.inner.GamesRead.{AreEmpty, ReadsWhole};
+ghost use Rattle.sgf_tree.specs.inner.GamesRead.{ReadsWhole};
 
 mod fault;
 mod games;
 mod mark;
 mod properties;
-mod scan;
+pub(crate) mod scan;
 
 use crate::collection::Collection;
 use crate::fault::{MAX_LENGTH, ReadFault};
-use crate::layout::Entries;
+use crate::layout::NodeEntry;
 use crate::reader::fault::Fault;
 use crate::reader::games::read_games;
 use crate::reader::mark::mark_end;
@@ -38,27 +38,23 @@ pub fn read<'a>(alloc: Global, text: &'a [u8]) -> Result<Collection<'a>, ReadFau
     if text.len() > MAX_LENGTH {
         return Err(ReadFault::TooLong);
     }
-    let mut entries = Entries {
-        nodes: Vec::new(alloc),
-        properties: Vec::new(alloc),
-        values: Vec::new(alloc),
-    };
-    match read_whole(text, &mut entries) {
-        Ok(games) => Ok(Collection::new(text, games, entries)),
+    let mut nodes = Vec::new(alloc);
+    match read_whole(text, &mut nodes) {
+        Ok(games) => Ok(Collection::new(text, games, nodes)),
         Err(Fault::NotSgf(at)) => Err(ReadFault::NotSgf { at }),
         Err(Fault::Memory) => Err(ReadFault::Memory),
     }
 }
 
 /// Reads a whole text. The result is the number of its games.
-fn read_whole(text: &[u8], entries: &mut Entries) -> Result<u32, Fault>
+fn read_whole(text: &[u8], nodes: &mut Vec<NodeEntry>) -> Result<u32, Fault>
     requires short { length text.now ≤ MAX_LENGTH }
-    requires nothing_read { AreEmpty entries.old }
-    ensures read { IfOk result (ReadsWhole text.now entries.new) }
+    requires nothing_read { nodes.old.items ≡ [] }
+    ensures read { IfOk result (ReadsWhole text.now nodes.new.items) }
     ensures fault { IfErr result (IsTrueFault text.now) }
 {
     let mark = mark_end(text)?;
-    read_games(text, skip_white(text, mark), entries)
+    read_games(text, skip_white(text, mark), nodes)
 }
 
 #[cfg(test)]

@@ -2,22 +2,20 @@
 //! All steps over a node together cost what its text costs, however many properties and values it has.
 
 ghost use Rattle.std.specs.Prelude.{◌≡◌, [], ◌∷◌, MatchOption};
+ghost use Rattle.sgf_tree.specs.inner.NodeText.{AreValuesIn, IsPastValues, IsNoPropValue, IsFirstValue};
 
-use crate::layout::{PropertyEntry, ValueEntry, part};
 use crate::property::PropRef;
+use crate::reader::scan::{letters_end, part, rest_from, skip_white, value_end};
 use std::marker::Model;
 
 /// The properties of a node that are left, in file order.
 /// No call on it takes memory.
 #[derive(Drop)]
-pub struct Properties<'c, 'a> {
-    pub(crate) text: &'a [u8],
-    pub(crate) values_start: u32,
-    pub(crate) properties: &'c [PropertyEntry],
-    pub(crate) values: &'c [ValueEntry],
+pub struct Properties<'a> {
+    pub(crate) rest: &'a [u8],
 }
 
-impl<'c, 'a> Model for Properties<'c, 'a> {
+impl<'a> Model for Properties<'a> {
     ghost use Rattle.std.specs.Prelude.{List};
     ghost use Rattle.sgf_tree.specs.Tree.{Property};
     ghost use Rattle.sgf_tree.specs.inner.TreeCode.{properties_code};
@@ -26,30 +24,30 @@ impl<'c, 'a> Model for Properties<'c, 'a> {
 
     ghost coded = { properties_code };
 
-    ghost use Rattle.sgf_tree.specs.inner.Layout.{properties_of, IsNodeHeld};
+    ghost use Rattle.sgf_tree.specs.inner.NodeText.{properties_in, ArePropertiesIn};
 
-    ghost view = { λ n. properties_of n.text.now n.values.now n.values_start n.properties.now };
+    ghost view = { λ n. properties_in n.rest.now };
 
-    ghost invariant = { λ n. IsNodeHeld n.text.now n.properties.now n.values.now n.values_start };
+    ghost invariant = { λ n. ArePropertiesIn n.rest.now };
 }
 
-impl<'c, 'a> Properties<'c, 'a> {
+impl<'a> Properties<'a> {
     /// Takes off the next property.
     /// None after the last one, again and again.
-    pub fn next(&mut self) -> Option<PropRef<'c, 'a>>
+    pub fn next(&mut self) -> Option<PropRef<'a>>
         ensures { MatchOption result ((self.old ≡ []) × (self.new ≡ [])) (λ p. self.old ≡ p ∷ self.new) }
     {
-        let text = self.text;
-        let start = self.values_start;
-        let [entry, rest @ ..] = self.properties else {
+        let text = self.rest;
+        let start = skip_white(text, 0);
+        if start == text.len() || !text[start].is_ascii_uppercase() {
             return None;
-        };
-        self.properties = rest;
-        self.values_start = entry.values_end;
+        }
+        let end = letters_end(text, start);
+        let values = rest_from(text, end);
+        self.rest = after_values(values);
         Some(PropRef {
-            text,
-            identifier: part(text, entry.name_start, entry.name_end),
-            values: part(self.values, start, entry.values_end),
+            identifier: part(text, start, end),
+            values,
         })
     }
 }
@@ -57,12 +55,11 @@ impl<'c, 'a> Properties<'c, 'a> {
 /// The raw values of a property that are left, in file order.
 /// No call on it takes memory.
 #[derive(Drop)]
-pub struct Values<'c, 'a> {
-    pub(crate) text: &'a [u8],
-    pub(crate) values: &'c [ValueEntry],
+pub struct Values<'a> {
+    pub(crate) rest: &'a [u8],
 }
 
-impl<'c, 'a> Model for Values<'c, 'a> {
+impl<'a> Model for Values<'a> {
     ghost use Rattle.std.specs.Prelude.{ℕ, List};
     ghost use Rattle.sgf_tree.specs.inner.TreeCode.{values_code};
 
@@ -70,23 +67,48 @@ impl<'c, 'a> Model for Values<'c, 'a> {
 
     ghost coded = { values_code };
 
-    ghost use Rattle.sgf_tree.specs.inner.Layout.{raw_values, AreValuesHeld};
+    ghost use Rattle.sgf_tree.specs.inner.NodeText.{values_in, AreValuesIn};
 
-    ghost view = { λ p. raw_values p.text.now p.values.now };
+    ghost view = { λ p. values_in p.rest.now };
 
-    ghost invariant = { λ p. AreValuesHeld p.text.now p.values.now };
+    ghost invariant = { λ p. AreValuesIn p.rest.now };
 }
 
-impl<'c, 'a> Values<'c, 'a> {
+impl<'a> Values<'a> {
     /// Takes off the next raw value: the bytes between its `[` and its `]`, which are a part of the text that was read.
     /// None after the last one, again and again.
     pub fn next(&mut self) -> Option<&'a [u8]>
         ensures { MatchOption result ((self.old ≡ []) × (self.new ≡ [])) (λ v. self.old ≡ v.now ∷ self.new) }
     {
-        let [entry, rest @ ..] = self.values else {
+        let Some((value, rest)) = split_value(self.rest) else {
             return None;
         };
-        self.values = rest;
-        Some(part(self.text, entry.start, entry.end))
+        self.rest = rest;
+        Some(value)
     }
+}
+
+/// The raw value in front, after white space and a `[`, and what is left after its `]`.
+fn split_value(text: &[u8]) -> Option<(&[u8], &[u8])>
+    ensures { MatchOption result (IsNoPropValue text.now) (λ parts. IsFirstValue text.now parts.0.now parts.1.now) }
+{
+    let bracket = skip_white(text, 0);
+    if bracket == text.len() || text[bracket] != b'[' {
+        return None;
+    }
+    let Some(end) = value_end(text, bracket + 1) else {
+        return None;
+    };
+    Some((part(text, bracket + 1, end), rest_from(text, end + 1)))
+}
+
+/// What is left after the values in front.
+fn after_values(text: &[u8]) -> &[u8]
+    ensures { IsPastValues text.now result.now }
+{
+    let mut rest = text;
+    while let Some((_value, after)) = split_value(rest) {
+        rest = after;
+    }
+    rest
 }

@@ -4,16 +4,12 @@ use Rattle.sgf_tree.specs.Tree.{Games, no_games, game, game_count, node_count}
 use Rattle.sgf_tree.specs.Spelling.{is_white}
 use Rattle.sgf_tree.specs.FileOrder.{Row, further_rows, rows, game_of}
 use Rattle.sgf_tree.specs.inner.Machine.{OpenGame, Stack, MachineState, opened, after_game, between_games, step, accepted}
-use Rattle.sgf_tree.specs.inner.Ends.{EndsRise}
-use Rattle.sgf_tree.specs.inner.Layout.{IsSpan, properties_of, parent_by, opens_by, rows_by}
+use Rattle.sgf_tree.specs.inner.Layout.{parent_by, opens_by, outline, outlines_by}
 use Rattle.sgf_tree.specs.inner.Progress.{ComesTo, IsTrueFault}
 use Rattle.sgf_tree.specs.inner.PropertiesRead.{ArePropertiesRead}
-use Rattle.sgf_tree.specs.declared.layout.Entries.{Entries}
 use Rattle.sgf_tree.specs.declared.layout.Link.{Link}
 use Rattle.sgf_tree.specs.declared.layout.Link.TheVariants.{Root, Branch, Next}
 use Rattle.sgf_tree.specs.declared.layout.NodeEntry.{NodeEntry}
-use Rattle.sgf_tree.specs.declared.layout.PropertyEntry.{PropertyEntry}
-use Rattle.sgf_tree.specs.declared.layout.ValueEntry.{ValueEntry}
 use Rattle.sgf_tree.specs.declared.reader.fault.Fault.{Fault}
 
 -- how many nodes whole and open games have
@@ -55,22 +51,12 @@ abbrev pub IsRootOf : Games → ℕ → ℕ → Type 0
 IsRootOf closed i g =
     ((i < node_count closed) × (game_of closed i ≡ g)) ⊎ ((i ≡ node_count closed) × (g ≡ game_count closed + 1))
 
--- the vectors hold the games of the stack k
-pub record HoldStack (t : List ℕ) (k : Stack) (nodes : List NodeEntry) (properties : List PropertyEntry) (values : List ValueEntry) : Type 0 where
-  pub same_rows : open_rows k.closed k.unclosed ≡ rows_by (properties_of t values 0 properties) 0 0 nodes
+-- the entries hold the games of the stack k
+pub record HoldStack (t : List ℕ) (k : Stack) (nodes : List NodeEntry) : Type 0 where
+  pub same_rows : map outline (open_rows k.closed k.unclosed) ≡ outlines_by 0 nodes
   pub same_lasts : open_lasts k.closed k.unclosed ≡ map (λ (n : NodeEntry). n.last_below) nodes
-  pub properties_end : EndsRise (λ (n : NodeEntry). n.properties_end) 0 0 nodes (length properties)
-  pub values_end : EndsRise (λ (p : PropertyEntry). p.values_end) 1 0 properties (length values)
-  pub identifiers_within : All (λ (p : PropertyEntry). IsSpan (length t) p.name_start p.name_end) properties
-  pub values_within : All (λ (v : ValueEntry). IsSpan (length t) v.start v.end) values
   pub places_within : All (λ (n : NodeEntry). n.place < length t) nodes
   pub roots : (i : ℕ) (n : NodeEntry) (g : ℕ) → slice_get nodes i ≡ Some n → n.link ≡ Root g → IsRootOf k.closed i g
-
--- the vectors have no more elements than this number
-pub record AreAtMost (count : ℕ) (nodes : List NodeEntry) (properties : List PropertyEntry) (values : List ValueEntry) : Type 0 where
-  pub nodes_at_most : length nodes ≤ count
-  pub properties_at_most : length properties ≤ count
-  pub values_at_most : length values ≤ count
 
 -- the link of the first node of a game that begins at the stack k
 abbrev pub IsOpening : Stack → Link → Type 0
@@ -87,15 +73,15 @@ pub record StandsBetween (t : List ℕ) (at : ℕ) (k : Stack) : Type 0 where
   pub not_white : at < length t → is_white (slice_index t at) ≡ false
 
 -- the node whose `;` stands at `place` was read up to `end`
-pub record IsNodeRead (t : List ℕ) (place end : ℕ) (link : Link) (ns ns' : List NodeEntry) (ps ps' : List PropertyEntry) (vs vs' : List ValueEntry) : Type 0 where
-  pub properties : ArePropertiesRead t (place + 1) end ps ps' vs vs'
-  pub pushed : ns' ≡ ns ++ record { place = place; properties_end = length ps'; link = link; last_below = 0 } ∷ []
+pub record IsNodeRead (t : List ℕ) (place end : ℕ) (link : Link) (ns ns' : List NodeEntry) : Type 0 where
+  pub properties : ArePropertiesRead t (place + 1) end
+  pub pushed : ns' ≡ ns ++ record { place = place; link = link; last_below = 0 } ∷ []
 
 -- the nodes of a game that began at the stack k were read up to `end`
-pub record IsSequenceRead (t : List ℕ) (end : ℕ) (k : Stack) (ns : List NodeEntry) (ps : List PropertyEntry) (vs : List ValueEntry) : Type 0 where
+pub record IsSequenceRead (t : List ℕ) (end : ℕ) (k : Stack) (ns : List NodeEntry) : Type 0 where
   pub last : OpenGame
   pub stands : StandsBetween t end (record { closed = k.closed; unclosed = last ∷ k.unclosed })
-  pub held : HoldStack t (record { closed = k.closed; unclosed = last ∷ k.unclosed }) ns ps vs
+  pub held : HoldStack t (record { closed = k.closed; unclosed = last ∷ k.unclosed }) ns
   pub nothing_below : last.below ≡ no_games
 
 -- whether the node of an entry is the first after a `(`
@@ -110,7 +96,7 @@ pub record IsOwnRun (nodes : List NodeEntry) (first last : ℕ) : Type 0 where
 
 -- the node without the number of the last one below it
 abbrev pub unmarked : NodeEntry → NodeEntry
-unmarked n = record { place = n.place; properties_end = n.properties_end; link = n.link; last_below = 0 }
+unmarked n = record { place = n.place; link = n.link; last_below = 0 }
 
 -- the nodes from first to last got the number of the last node, and nothing else changed; the parent is that of the first
 pub record ClosesRun (old new : List NodeEntry) (first last : ℕ) (parent : Option ℕ) : Type 0 where
@@ -119,12 +105,12 @@ pub record ClosesRun (old new : List NodeEntry) (first last : ℕ) (parent : Opt
       ≡ take first (map (λ (n : NodeEntry). n.last_below) old) ++ replicate (last + 1 - first) (length old - 1) ++ drop (last + 1) (map (λ (n : NodeEntry). n.last_below) old)
   pub parent_is : option_map (λ (n : NodeEntry). parent_by n.link first) (slice_get old first) ≡ Some parent
 
--- a text that spells the collection c was read, which the vectors hold
-pub record IsRead (t : List ℕ) (c : Games) (ns : List NodeEntry) (ps : List PropertyEntry) (vs : List ValueEntry) : Type 0 where
+-- a text that spells the collection c was read, which the entries hold
+pub record IsRead (t : List ℕ) (c : Games) (ns : List NodeEntry) : Type 0 where
   pub reached : MachineState
   pub whole : ComesTo t (length t) reached
   pub accepts : accepted reached ≡ Some c
-  pub held : HoldStack t (record { closed = c; unclosed = [] }) ns ps vs
+  pub held : HoldStack t (record { closed = c; unclosed = [] }) ns
 
 -- what may stand before the first game was read: the byte order mark, or nothing
 pub record IsMarkRead (t : List ℕ) (at : ℕ) : Type 0 where
@@ -135,35 +121,16 @@ pub record IsMarkRead (t : List ℕ) (at : ℕ) : Type 0 where
       → step at state (slice_index t at) ≡ between_games (record { closed = no_games; unclosed = [] }) (slice_index t at)
   pub end : accepted state ≡ accepted (after_game (record { closed = no_games; unclosed = [] }))
 
--- the same, of all entries
-abbrev pub HoldAtMost : ℕ → Entries → Type 0
-HoldAtMost count entries = AreAtMost count entries.nodes.items entries.properties.items entries.values.items
-
-abbrev pub HoldsStack : List ℕ → Stack → Entries → Type 0
-HoldsStack t k entries = HoldStack t k entries.nodes.items entries.properties.items entries.values.items
-
-abbrev pub ReadsNode : List ℕ → ℕ → ℕ → Link → Entries → Entries → Type 0
-ReadsNode t place end link old new =
-    IsNodeRead t place end link old.nodes.items new.nodes.items old.properties.items new.properties.items old.values.items new.values.items
-
 -- where the machine has the games of a stack and stands after a `(` at `at`, the game's own nodes were read up to `end`
-abbrev pub ReadsSequence : List ℕ → ℕ → ℕ → Link → Entries → Entries → Type 0
+abbrev pub ReadsSequence : List ℕ → ℕ → ℕ → Link → List NodeEntry → List NodeEntry → Type 0
 ReadsSequence t at end link old new =
-    (k : Stack) → ComesTo t at (opened k) → HoldsStack t k old → IsOpening k link
-    → IsSequenceRead t end k new.nodes.items new.properties.items new.values.items
+    (k : Stack) → ComesTo t at (opened k) → HoldStack t k old → IsOpening k link → IsSequenceRead t end k new
 
 -- there a fault is the first one of the text
-abbrev pub IsFaultInSequence : List ℕ → ℕ → Link → Entries → Fault → Type 0
+abbrev pub IsFaultInSequence : List ℕ → ℕ → Link → List NodeEntry → Fault → Type 0
 IsFaultInSequence t at link old fault =
-    (k : Stack) → ComesTo t at (opened k) → HoldsStack t k old → IsOpening k link → IsTrueFault t fault
+    (k : Stack) → ComesTo t at (opened k) → HoldStack t k old → IsOpening k link → IsTrueFault t fault
 
 -- a whole text was read, and has so many games
-abbrev pub ReadsWhole : List ℕ → Entries → ℕ → Type 0
-ReadsWhole t new games =
-    (c : Games) × (games ≡ game_count c) × IsRead t c new.nodes.items new.properties.items new.values.items
-
--- nothing was read yet
-pub record AreEmpty (entries : Entries) : Type 0 where
-  pub no_nodes : entries.nodes.items ≡ []
-  pub no_properties : entries.properties.items ≡ []
-  pub no_values : entries.values.items ≡ []
+abbrev pub ReadsWhole : List ℕ → List NodeEntry → ℕ → Type 0
+ReadsWhole t new games = (c : Games) × (games ≡ game_count c) × IsRead t c new

@@ -1,7 +1,7 @@
 -- How far a text was read: the words of the contracts inside `reader`.
-use Rattle.std.specs.Prelude.{◌≡◌, ℕ, ◌<◌, ◌≤◌, Bool, false, not, ◌||◌, ◌&&◌, ◌==◌, List, [], length, slice_index, slice_range, take, Some, IsTrue}
+use Rattle.std.specs.Prelude.{◌≡◌, ℕ, ◌<◌, ◌≤◌, Bool, false, not, ◌&&◌, ◌==◌, List, [], ◌∷◌, length, slice_index, slice_range, take, drop, Some, IsTrue}
 use Rattle.sgf_tree.specs.Bytes.{backslash, close_bracket}
-use Rattle.sgf_tree.specs.Spelling.{is_upper, is_lower}
+use Rattle.sgf_tree.specs.RawValue.{IsValue}
 use Rattle.sgf_tree.specs.inner.Machine.{Started, MachineState, start, in_value, run}
 use Rattle.sgf_tree.specs.Refusal.{IsFaultyAt}
 use Rattle.sgf_tree.specs.declared.reader.fault.Fault.{Fault}
@@ -23,10 +23,6 @@ pub record IsRun (test : ℕ → Bool) (t : List ℕ) (at end : ℕ) : Type 0 wh
   pub passing : (i : ℕ) → at ≤ i → i < end → IsTrue (test (slice_index t i))
   pub stops : end < length t → test (slice_index t end) ≡ false
 
--- a letter of an identifier
-abbrev pub is_letter : ℕ → Bool
-is_letter b = is_upper b || is_lower b
-
 -- a byte of a value that neither ends it nor begins an escape
 abbrev pub is_plain : ℕ → Bool
 is_plain b = not (b == close_bracket) && not (b == backslash)
@@ -38,6 +34,14 @@ pub record IsValueEnd (t : List ℕ) (at end : ℕ) : Type 0 where
   pub bracket : slice_index t end ≡ close_bracket
   pub value : (n : Started) (name : List ℕ) (before : List (List ℕ)) → ComesTo t at (in_value n name before [])
       → ComesTo t end (in_value n name before (slice_range t at end))
+
+-- its bytes are units of a value, up to the `]`
+abbrev pub SpellsValue : List ℕ → ℕ → ℕ → Type 0
+SpellsValue t at end = IsValue (slice_range t at end) (drop at t) (drop end t)
+
+-- no raw value begins at `at`
+abbrev pub SpellsNoValue : List ℕ → ℕ → Type 0
+SpellsNoValue t at = (v r : List ℕ) → ¬ IsValue v (drop at t) (close_bracket ∷ r)
 
 -- it doesn't end in the text
 abbrev pub IsUnended : List ℕ → ℕ → Type 0

@@ -5,28 +5,32 @@ ghost use Rattle.sgf_tree.specs.Tree.{no_games, game_count};
 ghost use Rattle.sgf_tree.specs.inner.Machine.{Stack};
 ghost use Rattle.sgf_tree.specs.inner.Progress.{IsTrueFault};
 ghost use Rattle.sgf_tree.specs.inner.PropertiesRead.{IsFaultInNode};
-ghost use Rattle.sgf_tree.specs.inner.GamesRead.{tip, HoldAtMost, IsOpening, IsOwnRun, ClosesRun};
-ghost use Rattle.sgf_tree.specs.inner.GamesRead.{StandsBetween, AreEmpty, ReadsNode, ReadsSequence, ReadsWhole, IsFaultInSequence};
+ghost use Rattle.sgf_tree.specs.inner.GamesRead.{tip, IsOpening, IsOwnRun, ClosesRun};
+ghost use Rattle.sgf_tree.specs.inner.GamesRead.{StandsBetween, IsNodeRead, ReadsSequence, ReadsWhole, IsFaultInSequence};
 
 use crate::fault::MAX_LENGTH;
-use crate::layout::{Entries, Link, NodeEntry};
+use crate::layout::{Link, NodeEntry};
 use crate::reader::fault::Fault;
 use crate::reader::properties::read_properties;
 use crate::reader::scan::skip_white;
 
 /// Reads the node whose `;` stands at `place`.
 /// The result is the offset of the byte after it and the white space there.
-fn read_node(text: &[u8], place: usize, link: Link, entries: &mut Entries) -> Result<usize, Fault>
+fn read_node(
+    text: &[u8],
+    place: usize,
+    link: Link,
+    nodes: &mut Vec<NodeEntry>,
+) -> Result<usize, Fault>
     requires short { length text.now ≤ MAX_LENGTH }
     requires within { place < length text.now }
-    requires room { HoldAtMost place entries.old }
-    ensures read { IfOk result (λ end. ReadsNode text.now place end link entries.old entries.new) }
+    requires room { length nodes.old.items ≤ place }
+    ensures read { IfOk result (λ end. IsNodeRead text.now place end link nodes.old.items nodes.new.items) }
     ensures fault { IfErr result (IsFaultInNode text.now (place + 1)) }
 {
-    let end = read_properties(text, place + 1, entries)?;
-    entries.nodes.push(NodeEntry {
+    let end = read_properties(text, place + 1)?;
+    nodes.push(NodeEntry {
         place: place as u32,
-        properties_end: entries.properties.len() as u32,
         link,
         last_below: 0,
     })?;
@@ -35,23 +39,28 @@ fn read_node(text: &[u8], place: usize, link: Link, entries: &mut Entries) -> Re
 
 /// Reads the own nodes of the game whose `(` stands before `at`. The first one gets that link.
 /// The result is the offset of the byte after them and the white space there.
-fn read_sequence(text: &[u8], at: usize, link: Link, entries: &mut Entries) -> Result<usize, Fault>
+fn read_sequence(
+    text: &[u8],
+    at: usize,
+    link: Link,
+    nodes: &mut Vec<NodeEntry>,
+) -> Result<usize, Fault>
     requires short { length text.now ≤ MAX_LENGTH }
     requires within { at ≤ length text.now }
-    requires room { HoldAtMost at entries.old }
-    ensures read { IfOk result (λ end. ReadsSequence text.now at end link entries.old entries.new) }
-    ensures room { IfOk result (λ end. HoldAtMost end entries.new) }
+    requires room { length nodes.old.items ≤ at }
+    ensures read { IfOk result (λ end. ReadsSequence text.now at end link nodes.old.items nodes.new.items) }
+    ensures room { IfOk result (λ end. length nodes.new.items ≤ end) }
     ensures rises { IfOk result (λ end. at ≤ end) }
     ensures within { IfOk result (λ end. end ≤ length text.now) }
-    ensures fault { IfErr result (IsFaultInSequence text.now at link entries.old) }
+    ensures fault { IfErr result (IsFaultInSequence text.now at link nodes.old.items) }
 {
     let place = skip_white(text, at);
     if place == text.len() || text[place] != b';' {
         return Err(Fault::NotSgf(place));
     }
-    let mut end = read_node(text, place, link, entries)?;
+    let mut end = read_node(text, place, link, nodes)?;
     'nodes: while end < text.len() && text[end] == b';' {
-        end = read_node(text, end, Link::Next, entries)?;
+        end = read_node(text, end, Link::Next, nodes)?;
     }
     Ok(end)
 }
@@ -92,12 +101,12 @@ fn opening_link(games: u32, innermost: Option<u32>) -> Link
 
 /// Reads all games, of which the first `(` may stand at `at`.
 /// The result is their number.
-pub(crate) fn read_games(text: &[u8], at: usize, entries: &mut Entries) -> Result<u32, Fault>
+pub(crate) fn read_games(text: &[u8], at: usize, nodes: &mut Vec<NodeEntry>) -> Result<u32, Fault>
     requires short { length text.now ≤ MAX_LENGTH }
     requires within { at ≤ length text.now }
     requires begins { StandsBetween text.now at (record { closed = no_games; unclosed = [] }) }
-    requires nothing_read { AreEmpty entries.old }
-    ensures read { IfOk result (ReadsWhole text.now entries.new) }
+    requires nothing_read { nodes.old.items ≡ [] }
+    ensures read { IfOk result (ReadsWhole text.now nodes.new.items) }
     ensures fault { IfErr result (IsTrueFault text.now) }
 {
     let mut at = at;
@@ -106,14 +115,14 @@ pub(crate) fn read_games(text: &[u8], at: usize, entries: &mut Entries) -> Resul
     'games: while at < text.len() {
         match text[at] {
             b'(' => {
-                at = read_sequence(text, at + 1, opening_link(games, tip), entries)?;
-                tip = Some((entries.nodes.len() - 1) as u32);
+                at = read_sequence(text, at + 1, opening_link(games, tip), nodes)?;
+                tip = Some((nodes.len() - 1) as u32);
             }
             b')' => {
                 let Some(last) = tip else {
                     return Err(Fault::NotSgf(at));
                 };
-                tip = close_game(&mut entries.nodes, last);
+                tip = close_game(nodes, last);
                 if tip.is_none() {
                     games += 1;
                 }
@@ -123,7 +132,7 @@ pub(crate) fn read_games(text: &[u8], at: usize, entries: &mut Entries) -> Resul
         }
     }
     if tip.is_some() || games == 0 {
-        return Err(Fault::NotSgf(at));
+        return Err(Fault::NotSgf(text.len()));
     }
     Ok(games)
 }

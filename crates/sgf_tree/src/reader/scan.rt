@@ -1,13 +1,31 @@
 //! Where spans of a text end.
 
-ghost use Rattle.std.specs.Prelude.{◌≡◌, ◌≤◌, length, MatchOption};
+ghost use Rattle.std.specs.Prelude.{◌≡◌, ◌≤◌, length, drop, slice_range, MatchOption};
 ghost use Rattle.sgf_tree.specs.Spelling.{is_white};
-ghost use Rattle.sgf_tree.specs.inner.Progress.{IsRun, IsValueEnd, IsUnended, is_letter, is_plain};
+ghost use Rattle.sgf_tree.specs.inner.NodeText.{is_letter};
+ghost use Rattle.sgf_tree.specs.inner.Progress.{IsRun, IsValueEnd, IsUnended, SpellsValue, SpellsNoValue, is_plain};
 
 use memchr::memchr2;
 
 /// How many bytes of a value are tried one by one. Most values are a point of two letters.
 const TRIED: usize = 4;
+
+/// The text from an offset on.
+pub(crate) fn rest_from(text: &[u8], at: usize) -> &[u8]
+    requires { at ≤ length text.now }
+    ensures { result.now ≡ drop at text.now }
+{
+    &text[at..]
+}
+
+/// The part of a text between two offsets.
+pub(crate) fn part(text: &[u8], start: usize, end: usize) -> &[u8]
+    requires rises { start ≤ end }
+    requires within { end ≤ length text.now }
+    ensures { result.now ≡ slice_range text.now start end }
+{
+    &text[start..end]
+}
 
 /// Space, tab, line feed, carriage return, vertical tab, form feed.
 fn is_white_space(byte: u8) -> bool
@@ -62,7 +80,8 @@ fn plain_end(text: &[u8], at: usize) -> usize
 /// None where the text ends before it.
 pub(crate) fn value_end(text: &[u8], at: usize) -> Option<usize>
     requires { at ≤ length text.now }
-    ensures { MatchOption result (IsUnended text.now at) (λ end. IsValueEnd text.now at end) }
+    ensures read { MatchOption result (IsUnended text.now at) (λ end. IsValueEnd text.now at end) }
+    ensures spelled { MatchOption result (SpellsNoValue text.now at) (λ end. SpellsValue text.now at end) }
 {
     let mut end = at;
     'units: loop {

@@ -4,12 +4,12 @@ use Rattle.sgf_tree.specs.Tree.{Games}
 use Rattle.sgf_tree.proofs.WholeRead.{whole-games, whole-spelled, whole-laid_out}
 use Rattle.sgf_tree.proofs.reader.read.Goals as goal
 
-pub new-requires-in-Ok : goal.new-requires-in-Ok
-new-requires-in-Ok c =
+pub new-requires : goal.new-requires
+new-requires c =
     let read = c.in-Ok.ensures.read in
-    whole-laid_out c.args.text.now read.0 _ _ _ read.2 c.in-Ok.games c.if-text-gt-MAX_LENGTH.false read.1
+    whole-laid_out c.args.text.now read.0 _ read.2 c.in-Ok.games c.if-text-gt-MAX_LENGTH.false read.1
 
 pub returns-in-Ok-clause-spelled : goal.returns-in-Ok-clause-spelled
 returns-in-Ok-clause-spelled c =
     let read = c.in-Ok.ensures.read in
-    subst (λ (g : Games). Spells g c.args.text.now) (sym (c.new-in-Ok.ensures ∙ whole-games c.args.text.now read.0 _ _ _ read.2)) (whole-spelled c.args.text.now read.0 _ _ _ read.2)
+    subst (λ (g : Games). Spells g c.args.text.now) (sym (c.new.ensures ∙ whole-games c.args.text.now read.0 _ read.2)) (whole-spelled c.args.text.now read.0 _ read.2)

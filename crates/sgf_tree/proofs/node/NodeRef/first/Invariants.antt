@@ -1,9 +1,9 @@
-use Rattle.std.proofs.Common.{◌≡◌, length, take, find, None}
+use Rattle.std.proofs.Common.{◌≡◌, length, find}
 use Rattle.std.specs.Str.{bytes_eq}
 use Rattle.sgf_tree.proofs.node.NodeRef.first.Given as goal
 
-abbrev pub invariant-loop-i : goal.invariant-loop-i
-invariant-loop-i l = record {
-  all : l.i-end ≡ length l.self.properties;
-  none_before : find (λ p. bytes_eq p.name l.name) (take l.i l.self.properties) ≡ None;
-}
+abbrev pub invariant-loop-property : goal.invariant-loop-property
+invariant-loop-property l = find (λ p. bytes_eq p.name l.name) l.self.properties ≡ find (λ p. bytes_eq p.name l.name) l.left
+
+abbrev pub decreases-loop-property : goal.decreases-loop-property
+decreases-loop-property l = length l.left

@@ -1,42 +1,22 @@
-use Rattle.std.proofs.Common.{ap, arith}
-use Rattle.sgf_tree.specs.Tree.{Node}
-use Rattle.sgf_tree.proofs.HeldProperties.{properties-held, values-held, identifier-held, property-held, property-fields}
+use Rattle.std.proofs.Common.{◌≡◌, arith}
+use Rattle.sgf_tree.specs.Tree.{Property}
+use Rattle.sgf_tree.proofs.Taking.{step-some, step-element, step-left}
 use Rattle.sgf_tree.proofs.node.NodeRef.prop.Goals as goal
 
-pub bounds-properties-i : goal.bounds-properties-i
-bounds-properties-i c = omega (arith, properties-held c.self.inside c.self.invariant c.args.self.now (ap (λ (n : Node). n.properties) c.self.view_is))
+pub unwrap-requires : goal.unwrap-requires
+unwrap-requires c =
+    step-some (λ (p : Property). p) c.args.self.now.properties c.loop-before._before (omega arith) _ _ _ c.loop-before.invariant c.next.ensures
 
-pub offset_bounds-properties-i : goal.offset_bounds-properties-i
-offset_bounds-properties-i c = omega (arith, properties-held c.self.inside c.self.invariant c.args.self.now (ap (λ (n : Node). n.properties) c.self.view_is))
+pub loop-before-preserved : goal.loop-before-preserved
+loop-before-preserved c =
+    step-left (λ (p : Property). p) c.args.self.now.properties c.loop-before._before (omega arith) _ _ _ _ c.loop-before.invariant c.next.ensures c.unwrap.ensures
 
-pub values_start-start-requires : goal.values_start-start-requires
-values_start-start-requires c = omega (arith, properties-held c.self.inside c.self.invariant c.args.self.now (ap (λ (n : Node). n.properties) c.self.view_is))
-
-pub part-requires-clause-rises : goal.part-requires-clause-rises
-part-requires-clause-rises c =
-    (identifier-held c.self.inside c.self.invariant c.args.self.now (ap (λ (n : Node). n.properties) c.self.view_is) c.args.i _ c.requires).rises
-
-pub part-requires-clause-within : goal.part-requires-clause-within
-part-requires-clause-within c =
-    (identifier-held c.self.inside c.self.invariant c.args.self.now (ap (λ (n : Node). n.properties) c.self.view_is) c.args.i _ c.requires).within
-
-pub part-requires-2-clause-rises : goal.part-requires-2-clause-rises
-part-requires-2-clause-rises c =
-    let inside = values-held c.self.inside c.self.invariant c.args.self.now (ap (λ (n : Node). n.properties) c.self.view_is) c.args.i (record { name_start = 0; name_end = 0; values_end = 0 }) c.requires in
-    omega (arith, inside.0, c.values_start-start.ensures)
-
-pub part-requires-2-clause-within : goal.part-requires-2-clause-within
-part-requires-2-clause-within c =
-    let inside = values-held c.self.inside c.self.invariant c.args.self.now (ap (λ (n : Node). n.properties) c.self.view_is) c.args.i (record { name_start = 0; name_end = 0; values_end = 0 }) c.requires in
-    inside.1
-
-pub invariant_of-result : goal.invariant_of-result
-invariant_of-result c =
-    let inside = values-held c.self.inside c.self.invariant c.args.self.now (ap (λ (n : Node). n.properties) c.self.view_is) c.args.i (record { name_start = 0; name_end = 0; values_end = 0 }) c.requires in
-    rw (c.part-2.ensures, c.values_start-start.ensures)
-    (property-fields c.self.inside c.self.invariant c.args.self.now (ap (λ (n : Node). n.properties) c.self.view_is) _ _ inside.0 inside.1)
+pub unwrap-requires-2 : goal.unwrap-requires-2
+unwrap-requires-2 c =
+    step-some (λ (p : Property). p) c.args.self.now.properties c.loop-before._before (omega arith) _ _ _ c.loop-before.invariant c.next-2.ensures
 
 pub returns : goal.returns
 returns c =
-    rw (c.part.ensures, c.part-2.ensures, c.values_start-start.ensures)
-    (property-held c.self.inside c.self.invariant c.args.self.now (ap (λ (n : Node). n.properties) c.self.view_is) c.args.i _ c.requires)
+    let all : c.loop-before._before ≡ c.args.i = omega arith in
+    rw (← all)
+    (step-element (λ (p : Property). p) c.args.self.now.properties c.loop-before._before (omega arith) _ _ _ _ c.loop-before.invariant c.next-2.ensures c.unwrap-2.ensures)

@@ -1,7 +1,8 @@
-use Rattle.std.proofs.Common.{ap}
+use Rattle.std.proofs.Common.{ap, length, arith}
 use Rattle.sgf_tree.specs.Tree.{Node}
-use Rattle.sgf_tree.proofs.HeldProperties.{properties-held}
+use Rattle.sgf_tree.proofs.Walks.{count-properties-held}
 use Rattle.sgf_tree.proofs.node.NodeRef.props.Goals as goal
 
-pub returns : goal.returns
-returns c = properties-held c.self.inside c.self.invariant c.args.self.now (ap (λ (n : Node). n.properties) c.self.view_is)
+pub overflow_add-count : goal.overflow_add-count
+overflow_add-count c =
+    omega (arith, c.self.told, c.loop-property.invariant, ap length c.in-Some.ensures, count-properties-held c.self.invariant, ap (λ (n : Node). length n.properties) c.self.view_is)

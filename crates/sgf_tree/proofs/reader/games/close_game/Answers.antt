@@ -7,11 +7,11 @@ use Rattle.sgf_tree.proofs.reader.games.close_game.Goals.{After-index_mut-node}
 
 -- the node at hand was marked
 marked : (c : After-index_mut-node) → let x : NodeEntry = c.index_mut-node.result.now in
-    Marks c.args.nodes.now.items (set c.own.nodes.items c.own.at (record { place = x.place; properties_end = x.properties_end; link = x.link; last_below = c.len.result - 1 })) c.args.tip c.own.at
+    Marks c.args.nodes.now.items (set c.own.nodes.items c.own.at (record { place = x.place; link = x.link; last_below = c.len.result - 1 })) c.args.tip c.own.at
 marked c =
     let x : NodeEntry = c.index_mut-node.result.now in
     let count : length c.args.nodes.now.items ≡ c.len.result = omega (arith, c.len.ensures, c.args.nodes.now.ok.0) in
-    subst (λ k. Marks c.args.nodes.now.items (set c.own.nodes.items c.own.at (record { place = x.place; properties_end = x.properties_end; link = x.link; last_below = k - 1 })) c.args.tip c.own.at) count
+    subst (λ k. Marks c.args.nodes.now.items (set c.own.nodes.items c.own.at (record { place = x.place; link = x.link; last_below = k - 1 })) c.args.tip c.own.at) count
     (marks-more c.args.nodes.now.items c.own.nodes.items c.args.tip c.own.at x c.own.invariant.low c.requires.within c.index_mut-node.ensures.value c.own.invariant.marks)
 
 pub returns-in-Root : goal.returns-in-Root

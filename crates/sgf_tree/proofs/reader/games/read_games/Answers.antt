@@ -12,41 +12,41 @@ returns-in_err-at-in-40-clause-fault c =
     let p = err_from_is_err_and c.from_residual.result c.from_residual.ensures.1 in
     let so_far = c.games.invariant.so_far in
     rw (p.1, p.2)
-    (c.in_err-at-in-40.ensures.fault so_far.stack (games-open c.args.text.now c.games.at c.games.games c.games.tip _ _ _ so_far c.games-test.true c.in-40.is) so_far.held (c.opening_link.ensures so_far.stack so_far.tip_is so_far.games_are))
+    (c.in_err-at-in-40.ensures.fault so_far.stack (games-open c.args.text.now c.games.at c.games.games c.games.tip _ so_far c.games-test.true c.in-40.is) so_far.held (c.opening_link.ensures so_far.stack so_far.tip_is so_far.games_are))
 
 -- the game's own nodes were read
-sequence : (c : In_ok-at-in-40) → IsSequenceRead c.args.text.now c.in_ok-at-in-40.at c.games.invariant.so_far.stack c.read_sequence.new.entries.nodes.items c.read_sequence.new.entries.properties.items c.read_sequence.new.entries.values.items
+sequence : (c : In_ok-at-in-40) → IsSequenceRead c.args.text.now c.in_ok-at-in-40.at c.games.invariant.so_far.stack c.read_sequence.new.nodes.items
 sequence c =
     let so_far = c.games.invariant.so_far in
-    c.in_ok-at-in-40.ensures.read so_far.stack (games-open c.args.text.now c.games.at c.games.games c.games.tip _ _ _ so_far c.games-test.true c.in-40.is) so_far.held (c.opening_link.ensures so_far.stack so_far.tip_is so_far.games_are)
+    c.in_ok-at-in-40.ensures.read so_far.stack (games-open c.args.text.now c.games.at c.games.games c.games.tip _ so_far c.games-test.true c.in-40.is) so_far.held (c.opening_link.ensures so_far.stack so_far.tip_is so_far.games_are)
 
 pub overflow_sub-tip : goal.overflow_sub-tip
 overflow_sub-tip c =
     let read = sequence (goal.at.overflow_sub-tip c).In_ok-at-in-40 in
     let k = c.games.invariant.so_far.stack in
-    omega (arith, c.len.ensures, c.read_sequence.new.entries.nodes.ok.0, nodes-held c.args.text.now (record { closed = k.closed; unclosed = read.last ∷ k.unclosed }) _ _ _ read.held)
+    omega (arith, c.len.ensures, c.read_sequence.new.nodes.ok.0, nodes-held c.args.text.now (record { closed = k.closed; unclosed = read.last ∷ k.unclosed }) _ read.held)
 
 pub games-preserved-in-40 : goal.games-preserved-in-40
 games-preserved-in-40 c =
     let so_far = c.games.invariant.so_far in
-    let count : length c.read_sequence.new.entries.nodes.items ≡ c.len.result = omega (arith, c.len.ensures, c.read_sequence.new.entries.nodes.ok.0) in
+    let count : length c.read_sequence.new.nodes.items ≡ c.len.result = omega (arith, c.len.ensures, c.read_sequence.new.nodes.ok.0) in
     record {
       within = c.in_ok-at-in-40.ensures.within;
       few = omega (arith, c.games.invariant.few, c.in_ok-at-in-40.ensures.rises);
       room = c.in_ok-at-in-40.ensures.room;
       so_far =
-          subst (λ n. GamesSoFar c.args.text.now c.in_ok-at-in-40.at c.games.games (Some (n - 1)) c.read_sequence.new.entries.nodes.items c.read_sequence.new.entries.properties.items c.read_sequence.new.entries.values.items) count
-          (games-sequence c.args.text.now c.in_ok-at-in-40.at c.games.games so_far.stack _ _ _ (sequence (goal.at.games-preserved-in-40 c).In_ok-at-in-40) so_far.games_are);
+          subst (λ n. GamesSoFar c.args.text.now c.in_ok-at-in-40.at c.games.games (Some (n - 1)) c.read_sequence.new.nodes.items) count
+          (games-sequence c.args.text.now c.in_ok-at-in-40.at c.games.games so_far.stack _ (sequence (goal.at.games-preserved-in-40 c).In_ok-at-in-40) so_far.games_are);
     }
 
 pub returns-in_default-tip-clause-fault : goal.returns-in_default-tip-clause-fault
-returns-in_default-tip-clause-fault c = close-faulty c.args.text.now c.games.at c.games.games c.games.tip _ _ _ c.games.invariant.so_far c.games-test.true c.in-41.is c.in_default-tip.is
+returns-in_default-tip-clause-fault c = close-faulty c.args.text.now c.games.at c.games.games c.games.tip _ c.games.invariant.so_far c.games-test.true c.in-41.is c.in_default-tip.is
 
 pub close_game-tip-requires-clause-within : goal.close_game-tip-requires-clause-within
-close_game-tip-requires-clause-within c = close-within c.args.text.now c.games.at c.games.games c.in-Some.last _ _ _ (rw c.in-Some.is at c.games.invariant.so_far)
+close_game-tip-requires-clause-within c = close-within c.args.text.now c.games.at c.games.games c.in-Some.last _ (rw c.in-Some.is at c.games.invariant.so_far)
 
 pub close_game-tip-requires-clause-own : goal.close_game-tip-requires-clause-own
-close_game-tip-requires-clause-own c = (_, close-own c.args.text.now c.games.at c.games.games c.in-Some.last _ _ _ (rw c.in-Some.is at c.games.invariant.so_far))
+close_game-tip-requires-clause-own c = (_, close-own c.args.text.now c.games.at c.games.games c.in-Some.last _ (rw c.in-Some.is at c.games.invariant.so_far))
 
 pub games-preserved : goal.games-preserved
 games-preserved c =
@@ -64,20 +64,16 @@ games-preserved c =
       | then-is_none w ↦ omega (arith, w.games-is)
       | else-is_none w ↦ omega (arith, w.games-is)
     ] in
-    let same : length c.close_game-tip.new.nodes.items ≡ length c.games.entries.nodes.items = close-count c.args.text.now c.games.at c.games.games c.in-Some.last _ _ _ so_far _ _ c.close_game-tip.ensures in
+    let same : length c.close_game-tip.new.nodes.items ≡ length c.games.nodes.items = close-count c.args.text.now c.games.at c.games.games c.in-Some.last _ so_far _ _ c.close_game-tip.ensures in
     record {
       within = c.skip_white-at.ensures.within;
       few = omega (arith, at_most, c.games.invariant.few, c.skip_white-at.ensures.rises);
-      room = record {
-        nodes_at_most = omega (arith, c.games.invariant.room.nodes_at_most, c.skip_white-at.ensures.rises, same);
-        properties_at_most = omega (arith, c.games.invariant.room.properties_at_most, c.skip_white-at.ensures.rises);
-        values_at_most = omega (arith, c.games.invariant.room.values_at_most, c.skip_white-at.ensures.rises);
-      };
-      so_far = games-close c.args.text.now c.games.at c.games.games c.in-Some.last _ _ _ so_far next c.if-is_none.games _ _ c.games-test.true c.in-41.is c.close_game-tip.ensures c.skip_white-at.ensures if_none if_some;
+      room = omega (arith, c.games.invariant.room, c.skip_white-at.ensures.rises, same);
+      so_far = games-close c.args.text.now c.games.at c.games.games c.in-Some.last _ so_far next c.if-is_none.games _ _ c.games-test.true c.in-41.is c.close_game-tip.ensures c.skip_white-at.ensures if_none if_some;
     }
 
 pub returns-in_default-clause-fault : goal.returns-in_default-clause-fault
-returns-in_default-clause-fault c = games-faulty c.args.text.now c.games.at c.games.games c.games.tip _ _ _ c.games.invariant.so_far c.games-test.true (λ e. omega arith) (λ e. omega arith)
+returns-in_default-clause-fault c = games-faulty c.args.text.now c.games.at c.games.games c.games.tip _ c.games.invariant.so_far c.games-test.true (λ e. omega arith) (λ e. omega arith)
 
 pub returns-then-is_some-clause-fault : goal.returns-then-is_some-clause-fault
 returns-then-is_some-clause-fault c =
@@ -85,8 +81,8 @@ returns-then-is_some-clause-fault c =
       | then-is_some-via-then-is_some w ↦ inl (sym c.is_some.ensures ∙ w.if-is_some.true)
       | then-is_some-via-else-is_some+then-games-eq0 w ↦ inr w.if-games-eq0.true
     ] in
-    games-unfinished c.args.text.now c.games.at c.games.games c.games.tip _ _ _ c.games.invariant.so_far (omega (arith, c.games.invariant.within)) h
+    games-unfinished c.args.text.now c.games.at c.games.games c.games.tip _ c.games.invariant.so_far (omega (arith, c.games.invariant.within)) h
 
 pub returns-clause-read : goal.returns-clause-read
 returns-clause-read c =
-    games-finished c.args.text.now c.games.at c.games.games c.games.tip _ _ _ c.games.invariant.so_far (omega (arith, c.games.invariant.within)) (sym c.is_some.ensures ∙ c.if-is_some.false) (omega arith)
+    games-finished c.args.text.now c.games.at c.games.games c.games.tip _ c.games.invariant.so_far (omega (arith, c.games.invariant.within)) (sym c.is_some.ensures ∙ c.if-is_some.false) (omega arith)

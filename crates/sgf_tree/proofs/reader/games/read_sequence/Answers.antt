@@ -31,15 +31,11 @@ nodes-init c =
     let lt : place < length t = omega (arith, c.skip_white-place.ensures.within) in
     let read = c.in_ok-end.ensures.read in
     record {
-      rises = omega (arith, c.skip_white-place.ensures.rises, read.properties.counted);
+      rises = omega (arith, c.skip_white-place.ensures.rises, read.properties.rises);
       within = read.properties.within;
-      room = node-room t place c.in_ok-end.end c.args.link _ _ _ _ _ _ (record {
-        nodes_at_most = omega (arith, c.requires.room.nodes_at_most, c.skip_white-place.ensures.rises);
-        properties_at_most = omega (arith, c.requires.room.properties_at_most, c.skip_white-place.ensures.rises);
-        values_at_most = omega (arith, c.requires.room.values_at_most, c.skip_white-place.ensures.rises);
-      }) read;
+      room = node-room t place c.in_ok-end.end c.args.link _ _ (omega (arith, c.requires.room, c.skip_white-place.ensures.rises)) read;
       so_far = λ k after held opening.
-          sequence-first t c.args.at place c.in_ok-end.end k c.args.link _ _ _ _ _ _ c.skip_white-place.ensures after held opening lt c.if-text-place-ne59.false read;
+          sequence-first t c.args.at place c.in_ok-end.end k c.args.link _ _ c.skip_white-place.ensures after held opening lt c.if-text-place-ne59.false read;
     }
 
 pub returns-in_err-end-2-clause-fault : goal.returns-in_err-end-2-clause-fault
@@ -47,7 +43,7 @@ returns-in_err-end-2-clause-fault c =
     let p = err_from_is_err_and c.from_residual-in_err-end-2.result c.from_residual-in_err-end-2.ensures.1 in
     rw (p.1, p.2)
     (λ k after held opening.
-    let node = sequence-node c.args.text.now c.nodes.end k _ _ _ (c.nodes.invariant.so_far k after held opening) c.nodes-test.true c.if-text-end-eq59.true in
+    let node = sequence-node c.args.text.now c.nodes.end k _ (c.nodes.invariant.so_far k after held opening) c.nodes-test.true c.if-text-end-eq59.true in
     c.in_err-end-2.ensures.fault node.0 node.1.0 node.1.1)
 
 pub nodes-preserved : goal.nodes-preserved
@@ -55,17 +51,17 @@ nodes-preserved c =
     let t = c.args.text.now in
     let read = c.in_ok-end-2.ensures.read in
     record {
-      rises = omega (arith, c.nodes.invariant.rises, read.properties.counted);
+      rises = omega (arith, c.nodes.invariant.rises, read.properties.rises);
       within = read.properties.within;
-      room = node-room t c.nodes.end c.in_ok-end-2.end _ _ _ _ _ _ _ c.nodes.invariant.room read;
+      room = node-room t c.nodes.end c.in_ok-end-2.end _ _ _ c.nodes.invariant.room read;
       so_far = λ k after held opening.
-          sequence-next t c.nodes.end c.in_ok-end-2.end k _ _ _ _ _ _ (c.nodes.invariant.so_far k after held opening) c.nodes-test.true c.if-text-end-eq59.true read;
+          sequence-next t c.nodes.end c.in_ok-end-2.end k _ _ (c.nodes.invariant.so_far k after held opening) c.nodes-test.true c.if-text-end-eq59.true read;
     }
 
 pub returns-else-text-end-eq59-clause-read : goal.returns-else-text-end-eq59-clause-read
 returns-else-text-end-eq59-clause-read c k after held opening =
-    sequence-done c.args.text.now c.nodes.end k _ _ _ (c.nodes.invariant.so_far k after held opening) (λ _. c.if-text-end-eq59.false)
+    sequence-done c.args.text.now c.nodes.end k _ (c.nodes.invariant.so_far k after held opening) (λ _. c.if-text-end-eq59.false)
 
 pub returns-after-nodes-clause-read : goal.returns-after-nodes-clause-read
 returns-after-nodes-clause-read c k after held opening =
-    sequence-done c.args.text.now c.nodes.end k _ _ _ (c.nodes.invariant.so_far k after held opening) (λ lt. absurd (omega (arith, c.nodes-test.false)))
+    sequence-done c.args.text.now c.nodes.end k _ (c.nodes.invariant.so_far k after held opening) (λ lt. absurd (omega (arith, c.nodes-test.false)))

@@ -1,7 +1,7 @@
 use Rattle.std.proofs.Common.{◌-◌, ◌≤◌, length}
 use Rattle.sgf_tree.specs.inner.Machine.{Stack, opened}
 use Rattle.sgf_tree.specs.inner.Progress.{ComesTo}
-use Rattle.sgf_tree.specs.inner.GamesRead.{HoldStack, AreAtMost, IsOpening}
+use Rattle.sgf_tree.specs.inner.GamesRead.{HoldStack, IsOpening}
 use Rattle.sgf_tree.proofs.SequencesRead.{SequenceSoFar}
 use Rattle.sgf_tree.proofs.reader.games.read_sequence.Given as goal
 
@@ -9,9 +9,9 @@ abbrev pub invariant-nodes : goal.invariant-nodes
 invariant-nodes l = record {
   rises : l.at ≤ l.end;
   within : l.end ≤ length l.text;
-  room : AreAtMost l.end l.entries.nodes.items l.entries.properties.items l.entries.values.items;
-  so_far : (k : Stack) → ComesTo l.text l.at (opened k) → HoldStack l.text k l.fn.entries.nodes.items l.fn.entries.properties.items l.fn.entries.values.items → IsOpening k l.fn.link
-      → SequenceSoFar l.text l.end k l.entries.nodes.items l.entries.properties.items l.entries.values.items;
+  room : length l.nodes.items ≤ l.end;
+  so_far : (k : Stack) → ComesTo l.text l.at (opened k) → HoldStack l.text k l.fn.nodes.items → IsOpening k l.fn.link
+      → SequenceSoFar l.text l.end k l.nodes.items;
 }
 
 abbrev pub decreases-nodes : goal.decreases-nodes

@@ -3,10 +3,10 @@ use Rattle.sgf_tree.proofs.ValuesRead.{ValuesBefore, values-step, values-more, v
 use Rattle.sgf_tree.proofs.reader.properties.read_values.Goals as goal
 use Rattle.sgf_tree.proofs.reader.properties.read_values.Goals.{After-skip_white-at, then-at-text-via-then-at-text, then-at-text-via-else-at-text+then-text-at-ne91}
 
--- the value was pushed
-pushed : (c : After-skip_white-at) → ValuesBefore c.args.text.now c.args.bracket c.skip_white-at.result c.args.values.now.items c.push.new.self.items
-pushed c =
-    values-step c.args.text.now c.args.bracket c.values.at c.in-Some.end c.skip_white-at.result c.args.values.now.items c.values.values.items c.push.new.self.items c.values.invariant.so_far c.in-Some.ensures c.in_ok-push.ensures.items c.skip_white-at.ensures
+-- the value was read
+read : (c : After-skip_white-at) → ValuesBefore c.args.text.now c.args.bracket c.skip_white-at.result
+read c =
+    values-step c.args.text.now c.args.bracket c.values.at c.in-Some.end c.skip_white-at.result c.values.invariant.so_far c.in-Some.ensures.read c.skip_white-at.ensures
 
 pub returns-then-at-text-clause-read : goal.returns-then-at-text-clause-read
 returns-then-at-text-clause-read c =
@@ -16,7 +16,7 @@ returns-then-at-text-clause-read c =
       | then-at-text-via-then-at-text w ↦ λ lt. absurd (omega (arith, w.if-at-text.true))
       | then-at-text-via-else-at-text+then-text-at-ne91 w ↦ λ _. w.if-text-at-ne91.true
     ] in
-    values-done t c.args.bracket at c.args.values.now.items c.push.new.self.items (pushed (goal.at.returns-then-at-text-clause-read c).After-skip_white-at) other
+    values-done t c.args.bracket at (read (goal.at.returns-then-at-text-clause-read c).After-skip_white-at) other
 
 pub values-preserved : goal.values-preserved
 values-preserved c =
@@ -25,5 +25,5 @@ values-preserved c =
     let lt : at < length t = omega (arith, c.skip_white-at.ensures.within) in
     record {
       within = lt;
-      so_far = values-more t c.args.bracket at c.args.values.now.items c.push.new.self.items (pushed (goal.at.values-preserved c).After-skip_white-at) lt c.if-text-at-ne91.false;
+      so_far = values-more t c.args.bracket at (read (goal.at.values-preserved c).After-skip_white-at) lt c.if-text-at-ne91.false;
     }

@@ -5,7 +5,7 @@ use Rattle.sgf_tree.proofs.reader.properties.read_values.Given as goal
 abbrev pub invariant-values : goal.invariant-values
 invariant-values l = record {
   within : l.at < length l.text;
-  so_far : ValuesSoFar l.text l.bracket l.at l.fn.values.items l.values.items;
+  so_far : ValuesSoFar l.text l.bracket l.at;
 }
 
 abbrev pub decreases-values : goal.decreases-values

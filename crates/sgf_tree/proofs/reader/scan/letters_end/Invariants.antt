@@ -1,5 +1,5 @@
 use Rattle.std.proofs.Common.{◌≡◌, ℕ, ◌-◌, ◌<◌, ◌≤◌, true, length, get_or}
-use Rattle.sgf_tree.specs.inner.Progress.{is_letter}
+use Rattle.sgf_tree.specs.inner.NodeText.{is_letter}
 use Rattle.sgf_tree.proofs.reader.scan.letters_end.Given as goal
 
 abbrev pub invariant-letters : goal.invariant-letters

@@ -1,4 +1,5 @@
 use Rattle.std.proofs.Common.{◌-◌, ◌≤◌, length}
+use Rattle.sgf_tree.specs.inner.Progress.{SpellsValue}
 use Rattle.sgf_tree.proofs.ValueEnds.{AreUnits}
 use Rattle.sgf_tree.proofs.reader.scan.value_end.Given as goal
 
@@ -7,6 +8,7 @@ invariant-units l = record {
   rises : l.at ≤ l.end;
   within : l.end ≤ length l.text;
   units : AreUnits l.text l.at l.end;
+  spelled : SpellsValue l.text l.at l.end;
 }
 
 abbrev pub decreases-units : goal.decreases-units

@@ -1,0 +1,179 @@
+-- A step forward over the properties in front of a text, or over the values.
+use Rattle.std.proofs.Common.{◌≡◌, ◌≢◌, ℕ, zero, suc, ◌+◌, ◌-◌, ◌<◌, ◌≤◌, Bool, true, false, IsTrue, List, [], ◌∷◌, ◌++◌, length, get_or, take, drop, slice_range, filter, refl, sym, ap, subst, ◌∙◌, inl, inr, arith, add-one, get_or-drop, length-drop}
+use Rattle.std.proofs.lemmas.Bool.{cases_lt, false≢true}
+use Rattle.std.proofs.Math.Seq.{drop-cons}
+use Rattle.std.proofs.lemmas.List.{drop-drop, drop_all}
+use Rattle.sgf_tree.specs.Tree.{Property, values}
+use Rattle.sgf_tree.specs.RawValue.{IsValue}
+use Rattle.sgf_tree.specs.Spelling.{is_white, is_upper, White, IsPropValue, prop_value, ArePropValues, no_value, value, property, AreProperties, no_property, properties}
+use Rattle.sgf_tree.specs.inner.NodeText.{is_letter, left_after, front, values_in, property_from, name_in, properties_in, EndsValues, EndsNode, AreValuesIn, ArePropertiesIn, IsNoPropValue, IsPastValues, IsPropertyHeld}
+use Rattle.sgf_tree.specs.inner.Progress.{IsRun, SpellsValue, SpellsNoValue}
+use Rattle.sgf_tree.proofs.Classes.{upper-not_white}
+use Rattle.sgf_tree.proofs.NodeTexts.{white-same, white-none, prop-same, ends-value, past-same, white-left, values-in, ends-values, property-is, properties-in, count-values, count-properties}
+
+module _ (test : ℕ → Bool) where
+  run-tail : (b : ℕ) (s : List ℕ) (k : ℕ) → IsRun test (b ∷ s) 0 (suc k) → IsRun test s 0 k
+  run-tail b s k run =
+      record {
+        rises = omega arith;
+        within = omega (arith, run.within);
+        passing = λ i low lt. run.passing (suc i) (omega arith) (omega arith);
+        stops = λ lt. run.stops (omega arith);
+      }
+
+  -- a run by offsets is the front that passes the test
+  pub run-front : (s : List ℕ) (k : ℕ) → IsRun test s 0 k → (front test s ≡ take k s) × (left_after test s ≡ drop k s)
+  unfolding front left_after
+  run-front [] zero run = (refl, refl)
+  run-front [] (suc k) run = absurd (omega (arith, run.within))
+  run-front (b ∷ s) zero run = (rw (run.stops (omega arith)), rw (run.stops (omega arith)))
+  run-front (b ∷ s) (suc k) run =
+      let here : test b ≡ true = run.passing 0 (omega arith) (omega arith) in
+      let rest = run-front s k (run-tail b s k run) in
+      (rw here (ap (λ u. b ∷ u) rest.0), rw here rest.1)
+
+  -- a run further on
+  run-drop : (s : List ℕ) (k e : ℕ) → IsRun test s k e → IsRun test (drop k s) 0 (e - k)
+  run-drop s k e run =
+      let rises : k ≤ e = run.rises in
+      let long : length (drop k s) ≡ length s - k = length-drop k s in
+      record {
+        rises = omega arith;
+        within = omega (arith, run.within);
+        passing = λ i low lt.
+            subst (λ b. IsTrue (test b)) (sym (get_or-drop k s i 0)) (run.passing (k + i) (omega arith) (omega arith));
+        stops = λ lt.
+            let at : k + (e - k) ≡ e = omega arith in
+            ap test (get_or-drop k s (e - k) 0 ∙ ap (λ i. get_or s i 0) at) ∙ run.stops (omega (arith, run.within));
+      }
+
+-- the byte at an offset, and what is after it
+byte-at : (s : List ℕ) (k : ℕ) → k < length s → drop k s ≡ get_or s k 0 ∷ drop (k + 1) s
+byte-at s k lt = rw (add-one, drop-cons s k 0)
+
+module _ (s : List ℕ) (k : ℕ) (run : IsRun is_white s 0 k) where
+  white-run : White s (drop k s)
+  white-run = subst (White s) (run-front is_white s k run).1 (white-left s)
+
+  white-to : k < length s → White s (get_or s k 0 ∷ drop (k + 1) s)
+  white-to lt = subst (White s) (byte-at s k lt) white-run
+
+  white-all : length s ≤ k → White s []
+  white-all le = subst (White s) (drop_all k s le) white-run
+
+  -- no `[` there
+  pub no-bracket : (k < length s → get_or s k 0 ≢ 91) → IsNoPropValue s
+  no-bracket other v r (prop_value {t} w h) =
+      elim (cases_lt k (length s)) [
+        | inl lt ↦ other lt (white-same (white-to lt) w (run.stops lt) refl).0
+        | inr le ↦ white-none (white-all le) w refl
+      ]
+
+  pub no-end : k < length s → get_or s k 0 ≡ 91 → SpellsNoValue s (k + 1) → IsNoPropValue s
+  no-end lt e none v r (prop_value {t} w h) =
+      let same : drop (k + 1) s ≡ t = (white-same (white-to lt) w (run.stops lt) refl).1 in
+      none v r (subst (λ u. IsValue v u (93 ∷ r)) (sym same) h)
+
+  pub first-value : (end : ℕ) → k < length s → get_or s k 0 ≡ 91 → end < length s → get_or s end 0 ≡ 93 → SpellsValue s (k + 1) end
+      → IsPropValue (slice_range s (k + 1) end) s (drop (end + 1) s)
+  first-value end lt e inside close spelled =
+      prop_value (subst (λ b. White s (b ∷ drop (k + 1) s)) e (white-to lt))
+      (subst (λ b. IsValue (slice_range s (k + 1) end) (drop (k + 1) s) (b ∷ drop (end + 1) s)) close
+      (subst (IsValue (slice_range s (k + 1) end) (drop (k + 1) s)) (byte-at s end inside) spelled))
+
+  -- no property there
+  pub no-property : ArePropertiesIn s → (k < length s → is_upper (get_or s k 0) ≡ false) → properties_in s ≡ []
+  no-property held other = none held.properties held.rest held.spelled held.ends
+    where
+      none : (ps : List Property) (r : List ℕ) → AreProperties ps s r → EndsNode r → properties_in s ≡ []
+      none [] r are ends = properties-in are ends
+      none (p ∷ ps) r (properties (property {b} {t = t} w h l v vs) are) ends =
+          elim (cases_lt k (length s)) [
+            | inl lt ↦
+                let same : get_or s k 0 ≡ b = (white-same (white-to lt) w (run.stops lt) (upper-not_white b h)).0 in
+                absurd (false≢true (sym (other lt) ∙ ap is_upper same ∙ h))
+            | inr le ↦ absurd (white-none (white-all le) w (upper-not_white b h))
+          ]
+
+  -- a property there, whose identifier ends at `end`, and whose values r is left after
+  pub record IsNextProperty (end : ℕ) (r : List ℕ) : Type 0 where
+    pub held : IsPropertyHeld (drop end s)
+    pub left : ArePropertiesIn r
+    pub is : properties_in s ≡ property_from (name_in (slice_range s k end)) (values_in (drop end s)) ∷ properties_in r
+
+  pub next-property : (end : ℕ) (r : List ℕ) → ArePropertiesIn s → k < length s → IsTrue (is_upper (get_or s k 0)) → IsRun is_letter s k end → IsPastValues (drop end s) r
+      → IsNextProperty end r
+  next-property end r held lt capital letters past = next held.properties held.rest held.spelled held.ends
+    where
+      next : (ps : List Property) (q : List ℕ) → AreProperties ps s q → EndsNode q → IsNextProperty end r
+      next [] q no_property ends =
+          absurd (false≢true (sym (ends (get_or s k 0) (drop (k + 1) s) (white-to lt)).1 ∙ capital))
+      next (p ∷ ps) q (properties {t = m} (property {b} {name} {v} {t = t} {u} {vs = vs} w h l first more) are) ends =
+          let same = white-same (white-to lt) w (run.stops lt) (upper-not_white b h) in
+          let here : drop k s ≡ b ∷ t = byte-at s k lt ∙ ap (λ c. c ∷ drop (k + 1) s) same.0 ∙ ap (λ x. b ∷ x) same.1 in
+          let identifier = run-front is_letter (drop k s) (end - k) (run-drop is_letter s k end letters) in
+          let parts = property-is {b = b} h l first more (ends-values are ends) in
+          let rises : k ≤ end = letters.rises in
+          let to : k + (end - k) ≡ end = omega arith in
+          let values_at : drop end s ≡ u =
+          sym (drop-drop (end - k) k s ∙ ap (λ i. drop i s) to) ∙ sym identifier.1 ∙ ap (left_after is_letter) here ∙ parts.0 in
+          let name_is : name_in (slice_range s k end) ≡ b ∷ name =
+          ap (filter is_upper) (sym identifier.0 ∙ ap (front is_letter) here) ∙ parts.1 in
+          let all : ArePropValues (v ∷ vs) (drop end s) m = subst (λ x. ArePropValues (v ∷ vs) x m) (sym values_at) (value first more) in
+          let rest : m ≡ r = past-same all (ends-values are ends) past.spelled past.none_left in
+          let left : AreProperties ps r q = subst (λ x. AreProperties ps x q) rest are in
+          let p_is : property_from (name_in (slice_range s k end)) (values_in (drop end s)) ≡ record { name = b ∷ name; first = v; more = vs } =
+          ap (λ n. property_from n (values_in (drop end s))) name_is ∙ ap (property_from (b ∷ name)) (ap values_in values_at ∙ parts.2) in
+          record {
+            held = record { first = v; more = vs; rest = m; spelled = all; ends = ends-values are ends };
+            left = record { properties = ps; rest = q; spelled = left; ends = ends };
+            is =
+                properties-in (properties (property w h l first more) are) ends
+                ∙ ap (λ x. x ∷ ps) (sym p_is)
+                ∙ ap (λ xs. property_from (name_in (slice_range s k end)) (values_in (drop end s)) ∷ xs) (sym (properties-in left ends));
+          }
+
+-- one more value after others
+pub values-more : {vs : List (List ℕ)} {v s m r : List ℕ} → ArePropValues vs s m → IsPropValue v m r → ArePropValues (vs ++ v ∷ []) s r
+values-more no_value h = value h no_value
+values-more (value u us) h = value u (values-more us h)
+
+pub no-value : {s : List ℕ} → AreValuesIn s → IsNoPropValue s → values_in s ≡ []
+no-value {s} held none = no held.values held.rest held.spelled held.ends
+  where
+    no : (vs : List (List ℕ)) (r : List ℕ) → ArePropValues vs s r → EndsValues r → values_in s ≡ []
+    no [] r are ends = values-in are ends
+    no (v ∷ vs) r (value {t} first more) ends = absurd (none v t first)
+
+pub next-value : {v s r : List ℕ} → AreValuesIn s → IsPropValue v s r → (values_in s ≡ v ∷ values_in r) × AreValuesIn r
+next-value {v} {s} {r} held h = next held.values held.rest held.spelled held.ends
+  where
+    next : (vs : List (List ℕ)) (q : List ℕ) → ArePropValues vs s q → EndsValues q → (values_in s ≡ v ∷ values_in r) × AreValuesIn r
+    next [] q no_value ends = absurd (ends-value ends h)
+    next (u ∷ us) q (value {t} first more) ends =
+        let same = prop-same first h in
+        let left : ArePropValues us r q = subst (λ x. ArePropValues us x q) same.1 more in (
+          values-in (value first more) ends ∙ ap (λ x. x ∷ us) same.0 ∙ ap (λ xs. v ∷ xs) (sym (values-in left ends)),
+          record { values = us; rest = q; spelled = left; ends = ends },
+        )
+
+-- a property's values, which are all of its own
+pub values-held : {s : List ℕ} → IsPropertyHeld s → AreValuesIn s
+values-held held = record { values = held.first ∷ held.more; rest = held.rest; spelled = held.spelled; ends = held.ends }
+
+pub values-shown : {s : List ℕ} (name : List ℕ) → IsPropertyHeld s → values (property_from name (values_in s)) ≡ values_in s
+values-shown name held =
+    let is = values-in held.spelled held.ends in rw is
+
+pub name-shown : (name : List ℕ) (vs : List (List ℕ)) → (property_from name vs).name ≡ name
+name-shown name [] = refl
+name-shown name (v ∷ vs) = refl
+
+-- there are no more of them than bytes
+pub count-properties-held : {s : List ℕ} → ArePropertiesIn s → length (properties_in s) ≤ length s
+count-properties-held held =
+    let is = properties-in held.spelled held.ends in omega (arith, ap length is, count-properties held.spelled)
+
+pub count-values-held : {s : List ℕ} → AreValuesIn s → length (values_in s) ≤ length s
+count-values-held held =
+    let is = values-in held.spelled held.ends in omega (arith, ap length is, count-values held.spelled)

@@ -1,6 +1,0 @@
-use Rattle.std.proofs.Common.{arith}
-use Rattle.sgf_tree.proofs.Ends.{end_before-at}
-use Rattle.sgf_tree.proofs.collection.properties_start.Goals as goal
-
-pub returns-else-i-eq0 : goal.returns-else-i-eq0
-returns-else-i-eq0 c = end_before-at _ 0 c.args.nodes.now c.args.i _ c.if-i-eq0.false (omega arith)

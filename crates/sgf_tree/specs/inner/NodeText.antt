@@ -1,0 +1,129 @@
+-- The properties and the raw values that stand at the front of a text, as functions, so that they may be what is seen of a
+-- part of the text. `ArePropertiesIn` and `AreValuesIn` tie them to the grammar.
+use Rattle.std.specs.Prelude.{◌≡◌, ◌≢◌, ℕ, zero, suc, Bool, false, ◌||◌, ◌==◌, if◌then◌else◌, List, [], ◌∷◌, length, filter}
+use Rattle.sgf_tree.specs.Bytes.{open_bracket, backslash, close_bracket}
+use Rattle.sgf_tree.specs.Tree.{Property}
+use Rattle.sgf_tree.specs.Spelling.{White, is_white, is_upper, is_lower, IsPropValue, ArePropValues, AreProperties}
+
+-- a letter of an identifier
+abbrev pub is_letter : ℕ → Bool
+is_letter b = is_upper b || is_lower b
+
+-- what is left after the elements in front that pass a test
+unfoldable pub left_after : (ℕ → Bool) → List ℕ → List ℕ
+left_after test [] = []
+left_after test (b ∷ t) = if test b then left_after test t else b ∷ t
+
+-- those elements
+unfoldable pub front : (ℕ → Bool) → List ℕ → List ℕ
+front test [] = []
+front test (b ∷ t) = if test b then b ∷ front test t else []
+
+-- the raw value in front of the `]` that ends it
+unfoldable pub raw_value : List ℕ → List ℕ
+raw_value [] = []
+raw_value (a ∷ []) = []
+raw_value (a ∷ b ∷ t) =
+    if a == close_bracket then []
+    else (if a == backslash then a ∷ b ∷ raw_value t
+    else a ∷ raw_value (b ∷ t))
+
+-- what is left after that `]`
+unfoldable pub after_value : List ℕ → List ℕ
+after_value [] = []
+after_value (a ∷ []) = []
+after_value (a ∷ b ∷ t) =
+    if a == close_bracket then b ∷ t
+    else (if a == backslash then after_value t
+    else after_value (b ∷ t))
+
+-- what f gives of a first byte and the bytes after it, and `none` where there is no byte
+abbrev pub by_front : {A : Type 0} → (ℕ → List ℕ → A) → A → List ℕ → A
+by_front f none [] = none
+by_front f none (b ∷ t) = f b t
+
+-- up to n values, each after white space and a `[`
+unfoldable pub values_up_to : ℕ → List ℕ → List (List ℕ)
+values_up_to zero s = []
+values_up_to (suc n) s =
+    by_front (λ b t. if b == open_bracket then raw_value t ∷ values_up_to n (after_value t) else []) [] (left_after is_white s)
+
+-- what is left after them
+unfoldable pub after_values_up_to : ℕ → List ℕ → List ℕ
+after_values_up_to zero s = s
+after_values_up_to (suc n) s =
+    by_front (λ b t. if b == open_bracket then after_values_up_to n (after_value t) else s) s (left_after is_white s)
+
+-- all values in front
+unfoldable pub values_in : List ℕ → List (List ℕ)
+values_in s = values_up_to (length s) s
+
+-- the property of a name and raw values, of which there is one at least
+abbrev pub property_from : List ℕ → List (List ℕ) → Property
+property_from name [] = record { name = name; first = []; more = [] }
+property_from name (v ∷ vs) = record { name = name; first = v; more = vs }
+
+-- the name that an identifier spells
+abbrev pub name_in : List ℕ → List ℕ
+name_in identifier = filter is_upper identifier
+
+-- up to n properties, each after white space
+unfoldable pub properties_up_to : ℕ → List ℕ → List Property
+properties_up_to zero s = []
+properties_up_to (suc n) s =
+    by_front
+    (λ b t.
+    let values = left_after is_letter (b ∷ t) in
+    if is_upper b
+    then property_from (name_in (front is_letter (b ∷ t))) (values_in values) ∷ properties_up_to n (after_values_up_to (length t) values)
+    else [])
+    []
+    (left_after is_white s)
+
+-- all properties in front
+unfoldable pub properties_in : List ℕ → List Property
+properties_in s = properties_up_to (length s) s
+
+-- no value follows
+abbrev pub EndsValues : List ℕ → Type 0
+EndsValues r = (b : ℕ) (t : List ℕ) → White r (b ∷ t) → b ≢ open_bracket
+
+-- no value and no property follows
+abbrev pub EndsNode : List ℕ → Type 0
+EndsNode r = (b : ℕ) (t : List ℕ) → White r (b ∷ t) → (b ≢ open_bracket) × (is_upper b ≡ false)
+
+-- whole values stand in front
+pub record AreValuesIn (s : List ℕ) : Type 0 where
+  pub values : List (List ℕ)
+  pub rest : List ℕ
+  pub spelled : ArePropValues values s rest
+  pub ends : EndsValues rest
+
+-- whole properties, up to the end of a node
+pub record ArePropertiesIn (s : List ℕ) : Type 0 where
+  pub properties : List Property
+  pub rest : List ℕ
+  pub spelled : AreProperties properties s rest
+  pub ends : EndsNode rest
+
+-- no value is in front
+abbrev pub IsNoPropValue : List ℕ → Type 0
+IsNoPropValue s = (v r : List ℕ) → ¬ IsPropValue v s r
+
+-- a value is in front, with what is left after it
+abbrev pub IsFirstValue : List ℕ → List ℕ → List ℕ → Type 0
+IsFirstValue s v r = IsPropValue v s r
+
+-- what is left after as many values as there are in front
+pub record IsPastValues (s r : List ℕ) : Type 0 where
+  pub values : List (List ℕ)
+  pub spelled : ArePropValues values s r
+  pub none_left : IsNoPropValue r
+
+-- whole values stand in front, one at least
+pub record IsPropertyHeld (s : List ℕ) : Type 0 where
+  pub first : List ℕ
+  pub more : List (List ℕ)
+  pub rest : List ℕ
+  pub spelled : ArePropValues (first ∷ more) s rest
+  pub ends : EndsValues rest
