@@ -49,9 +49,10 @@ def main():
         text = mmap.mmap(file.fileno(), 0, access=mmap.ACCESS_READ)
     games_before = 0
     for begin, end, games in parts(text, most):
-        run = subprocess.run([program, "split"], input=text[begin:end], stdout=subprocess.PIPE)
+        run = subprocess.run([program, "split"], input=text[begin:end], stdout=subprocess.PIPE, stderr=subprocess.PIPE)
         if run.returncode != 0:
-            sys.exit(f"beyond_the_limit.py: in the part that begins at byte {begin}: status {run.returncode}")
+            sys.stderr.write(re.sub(r"byte (\d+)", lambda place: f"byte {int(place[1]) + begin}", run.stderr.decode()))
+            sys.exit(run.returncode)
         for row in run.stdout.decode().splitlines():
             print(raised(row, begin, games_before))
         games_before += games
