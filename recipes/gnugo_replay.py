@@ -31,7 +31,7 @@ def side_of(script):
     for line in script:
         if line.startswith("boardsize "):
             side = int(line.split()[1])
-            return side if 2 <= side <= 19 else 0
+            return side if side <= 19 else 0
     return 0
 
 

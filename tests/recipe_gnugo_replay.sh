@@ -7,10 +7,11 @@ needs_form gtp
     printf '(;SZ[9]C[%s];B[cc])' "$(head -c 3000 /dev/zero | tr '\0' 'x')"
     printf '(;SZ[4]AB[ba][ab][bc]AW[ca][db][cc][bb];B[cb];W[bb])'
     printf '(;SZ[3]AB[aa]AW[ab][bb][ca]PL[B];B[ba])'
+    printf '(;SZ[1];B[];W[])'
 } > more.sgf
 "$top/recipes/gnugo_replay.py" "$top"/examples/*.sgf more.sgf > got
 tail -n 1 got > last
-echo '22 lines agree, 0 differ, 2 left out' > want
+echo '23 lines agree, 0 differ, 2 left out' > want
 same want last
 
 # Against a program that lies about the score the recipe must speak up.
