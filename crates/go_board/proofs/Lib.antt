@@ -12,6 +12,10 @@ pub mod CaptureLemmas
 pub mod FrontLemmas
 pub mod SearchLemmas
 pub mod RowLemmas
+pub mod WordLemmas
+pub mod GrowLemmas
+pub mod RegionLemmas
+pub mod CountLemmas
 pub mod NeighbourLemmas
 pub mod FloodLemmas
 pub mod ColourFloodLemmas

@@ -1,26 +1,24 @@
 -- proofs/SweepLemmas.antt
 -- Passes over the cells, as the rules' own words on points.
-use Rattle.std.proofs.Common.{◌≡◌, ℕ, ◌+◌, ◌*◌, ◌<◌, ◌≤◌, Bool, true, false, ◌||◌, cond, List, [], ◌∷◌, ◌++◌, map, length, get_or, take, set, subst, count_by, refl, sym, ap, ◌∙◌, arith, below_more, IsTrue, ◌↔◌}
+use Rattle.std.proofs.Common.{◌≡◌, ℕ, ◌+◌, ◌*◌, ◌<◌, ◌≤◌, Bool, true, false, ◌||◌, List, [], ◌∷◌, ◌++◌, map, length, get_or, take, set, subst, refl, sym, ap, ◌∙◌, arith, below_more, IsTrue, ◌↔◌}
 use Rattle.std.specs.List.{range_with_len, list_any}
 use Rattle.std.proofs.lemmas.List.{length-take-le, get_or_default, get_or-set_same, get_or-set_other}
 use Rattle.std.proofs.Math.Seq.{take-append_seam}
 use Rattle.std.proofs.lemmas.List.Elements.{All-from_get_or}
 use Rattle.std.proofs.lemmas.List.Folds.{list_any_at, list_any_none}
-use Rattle.std.proofs.lemmas.List.FromFn.{length-range_with_len, get_or-range_with_len, length-map-range_with_len, get_or-map-range_with_len, fill_by_all, sum_by-map-range_with_len_more}
-use Rattle.std.proofs.lemmas.List.Sums.{count_by-le-length, sum_by-cons}
+use Rattle.std.proofs.lemmas.List.FromFn.{length-range_with_len, get_or-range_with_len, length-map-range_with_len, get_or-map-range_with_len, fill_by_all}
 use Rattle.std.proofs.lemmas.Bool.Decides.{same_from_decides}
 use Rattle.go_board.specs.declared.stones.Cell.{Cell}
 use Rattle.go_board.specs.declared.stones.Cell.TheVariants.{Black, Empty}
 use Rattle.go_board.specs.declared.stones.Colour.{Colour}
 use Rattle.go_board.specs.declared.points.Point.{Point}
-use Rattle.go_board.specs.Colour.{opponent, stone_of}
+use Rattle.go_board.specs.Colour.{stone_of}
 use Rattle.go_board.specs.Point.{IsOn, index_of, point_at, points}
 use Rattle.go_board.specs.Grid.{Grid, cell_at}
 use Rattle.go_board.specs.Marking.{Marking, is_marked}
 use Rattle.go_board.specs.Reaching.{Reaches, reaches}
 use Rattle.go_board.specs.Clearing.{cleared_cell, clear, has_unreaching}
-use Rattle.go_board.specs.Score.{counts_for, score_of}
-use Rattle.go_board.specs.inner.Sweep.{cleared, is_unreaching, counts, cell_in, mark_in, all_cleared, any_unreaching, count_of}
+use Rattle.go_board.specs.inner.Sweep.{cleared, is_unreaching, cell_in, mark_in, all_cleared, any_unreaching}
 use Rattle.go_board.proofs.PointLemmas.{IsOn-point_at, index_of-point_at, is_map-points}
 use Rattle.go_board.proofs.GridLemmas.{same_grid}
 use Rattle.go_board.proofs.FrontLemmas.{grid_in}
@@ -61,24 +59,9 @@ any_unreaching-none cells marks none =
     ap (λ j. is_unreaching (cell_in cells j) (mark_in marks j)) (get_or-range_with_len 0 (length cells) k 0 within ∙ omega arith)
     ∙ none k within)))
 
--- one place more is counted
-pub count-more : (test : ℕ → Bool) (n a b : ℕ) → a ≡ count_by (λ x. x) (map test (range_with_len 0 n)) → b ≡ a + cond (test n) 1 0 → b ≡ count_by (λ x. x) (map test (range_with_len 0 (n + 1)))
-count-more test n a b counted is =
-    omega (arith, counted, is, sum_by-map-range_with_len_more (λ x. cond {A = ℕ} x 1 0) test 0 n n (omega arith))
-
-pub count-le : (test : ℕ → Bool) (n a : ℕ) → a ≡ count_by (λ x. x) (map test (range_with_len 0 n)) → a ≤ n
-count-le test n a counted =
-    omega (arith, counted, count_by-le-length (λ x. x) (map test (range_with_len 0 n)), length-map-range_with_len test 0 n)
-
 list_any-map : {X : Type 0} (p : X → Bool) (xs : List X) → list_any p xs ≡ list_any (λ b. b) (map p xs)
 list_any-map p [] = refl
 list_any-map p (x ∷ xs) = ap (λ b. p x || b) (list_any-map p xs)
-
-count_by-map : {X : Type 0} (p : X → Bool) (xs : List X) → count_by p xs ≡ count_by (λ b. b) (map p xs)
-count_by-map p [] = refl
-count_by-map p (x ∷ xs) =
-    sum_by-cons (λ y. cond (p y) 1 0) x xs ∙ ap (λ n. cond (p x) 1 0 + n) (count_by-map p xs)
-    ∙ sym (sum_by-cons (λ b. cond b 1 0) (p x) (map p xs))
 
 -- what a flood's marking says
 unfoldable pub Marks : Grid → Cell → Marking → Type 0
@@ -125,19 +108,6 @@ module _ (g : Grid) (all : length g.cells ≡ g.side * g.side) where
       ap (λ c. is_unreaching c (mark_in m.marks i)) (cell_in-cell_at i below)
       ∙ ap (is_unreaching (cell_at g (point_at g.side i))) (mark_in-reaches Empty m i side marks below)))
       ∙ sym (list_any-map _ (points g.side))
-
-  pub count_of-score_of : (k : Colour) (m n : Marking) → m.side ≡ g.side → n.side ≡ g.side → Marks g (stone_of k) m → Marks g (stone_of (opponent k)) n → count_of g.cells (stone_of k) m.marks n.marks ≡ score_of g k
-  unfolding count_of score_of counts_for
-  count_of-score_of k m n m_side n_side own other =
-      ap (count_by (λ b. b))
-      (as_points _ (counts_for g k) false
-      (λ i below.
-      ap (λ c. counts c (stone_of k) (mark_in m.marks i) (mark_in n.marks i)) (cell_in-cell_at i below)
-      ∙ ap (λ b. counts (cell_at g (point_at g.side i)) (stone_of k) b (mark_in n.marks i))
-      (mark_in-reaches (stone_of k) m i m_side own below)
-      ∙ ap (counts (cell_at g (point_at g.side i)) (stone_of k) (reaches g (stone_of k) (point_at g.side i)))
-      (mark_in-reaches (stone_of (opponent k)) n i n_side other below)))
-      ∙ sym (count_by-map (counts_for g k) (points g.side))
 
 -- the grid that the front of an array holds, once that front was cleared
 grid_in-cleared : (side : ℕ) (cells new rest : List Cell) (k : Colour) (m : Marking) → side * side ≤ length cells → m.side ≡ side → Marks (grid_in side cells) Empty m → new ≡ all_cleared (take (side * side) cells) (stone_of k) m.marks → grid_in side (new ++ rest) ≡ clear (grid_in side cells) k

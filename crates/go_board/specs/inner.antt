@@ -1,6 +1,7 @@
 -- Words of private contracts alone.
 pub mod Neighbour
 pub mod Rows
+pub mod Regions
 pub mod Search
 pub mod Flood
 pub mod Groups

@@ -2,9 +2,11 @@
 
 mod areas;
 mod capture;
+mod fill;
 mod flood;
 #[cfg(test)]
 mod move_tests;
+mod regions;
 mod search;
 mod sweep;
 #[cfg(test)]
@@ -13,6 +15,7 @@ mod tests;
 ghost use Rattle.std.specs.Prelude.{◌≡◌, replicate};
 ghost use Rattle.go_board.specs.declared.stones.Cell.TheVariants.{Empty};
 
+use crate::board::regions::{count_apart, no_rows};
 use crate::points::Point;
 use crate::size::{MAX_POINTS, Size};
 use crate::stones::{Cell, Colour};
@@ -218,12 +221,13 @@ impl Board {
         ensures black { result.0 ≡ score_of self.now Black }
         ensures white { result.1 ≡ score_of self.now White }
     {
-        let black = self.reached(Cell::Black);
-        let white = self.reached(Cell::White);
-        (
-            sweep::count(self.cells(), Cell::Black, &black, &white),
-            sweep::count(self.cells(), Cell::White, &white, &black),
-        )
+        let side = usize::from(self.size.side());
+        let (mut black_rows, mut white_rows) = (no_rows(), no_rows());
+        let black = &mut black_rows[..side];
+        let white = &mut white_rows[..side];
+        self.reaching_through(Cell::Empty, Cell::Black, black);
+        self.reaching_through(Cell::Empty, Cell::White, white);
+        (count_apart(black, white), count_apart(white, black))
     }
 
     /// Whether some stone doesn't reach empty, as a setup can leave one.

@@ -1,9 +1,61 @@
 -- specs/inner/Rows.antt
 -- A set of points as a number for each row, with a bit for each column.
-use Rattle.std.specs.Prelude.{ℕ, Bool, ◌==◌, List, slice_index}
+use Rattle.std.specs.Prelude.{◌≡◌, ℕ, zero, suc, ◌-◌, ◌^◌, Bool, true, false, ◌==◌, IsTrue, List, slice_index, sum_by}
 use Rattle.std.specs.Int.{bit_at}
 use Rattle.go_board.specs.declared.points.Point.{Point}
+use Rattle.go_board.specs.Point.{DifferByOne, AreAdjacent}
 
--- whether the bit of a point is set
+-- the bit of a column is set
+abbrev pub has_bit : ℕ → ℕ → Bool
+has_bit word col = bit_at word col == 1
+
+-- the bit of a point is set
 abbrev pub is_set : List ℕ → Point → Bool
-is_set rows p = bit_at (slice_index rows p.row) p.col == 1
+is_set rows p = has_bit (slice_index rows p.row) p.col
+
+-- the row above one, with no bit above the first
+abbrev pub row_above : List ℕ → ℕ → ℕ
+row_above rows zero = 0
+row_above rows (suc row) = slice_index rows row
+
+-- Sets of columns of one row.
+
+-- each column of the one set is in the other
+abbrev pub IsPart : (ℕ → Bool) → (ℕ → Bool) → Type 0
+IsPart some all = (col : ℕ) → IsTrue (some col) → IsTrue (all col)
+
+-- with a column the set has each column beside it that there is room for
+abbrev pub HasBeside : (ℕ → Bool) → (ℕ → Bool) → Type 0
+HasBeside room set =
+    (col beside : ℕ) → DifferByOne col beside → IsTrue (room col) → IsTrue (set beside) → IsTrue (set col)
+
+-- Sets of points.
+
+-- each point of the one set is in the other
+abbrev pub IsAmong : (Point → Bool) → (Point → Bool) → Type 0
+IsAmong some all = (p : Point) → IsTrue (some p) → IsTrue (all p)
+
+-- with a point the set has each adjacent point that there is room for
+abbrev pub IsClosed : (Point → Bool) → (Point → Bool) → Type 0
+IsClosed room set =
+    (p q : Point) → AreAdjacent p q → IsTrue (room p) → IsTrue (set q) → IsTrue (set p)
+
+-- the same for the points of one row alone
+abbrev pub IsRowClosed : (Point → Bool) → (Point → Bool) → ℕ → Type 0
+IsRowClosed room set row =
+    (p q : Point) → p.row ≡ row → AreAdjacent p q → IsTrue (room p) → IsTrue (set q) → IsTrue (set p)
+
+-- new is old and points that each closed set with old has, too, all of them within the room
+pub record Grows (room old new : Point → Bool) : Type 0 where
+  pub within : IsAmong new room
+  pub kept : IsAmong old new
+  pub least : (set : Point → Bool) → IsClosed room set → IsAmong old set → IsAmong new set
+
+-- what the words lack to be full: less, the more bits are set
+abbrev pub lacking : List ℕ → ℕ
+lacking rows = sum_by (λ word. 2 ^ 64 - word) rows
+
+-- the row that a pass over n rows comes to at a step, downwards or upwards
+abbrev pub row_at : Bool → ℕ → ℕ → ℕ
+row_at true n step = n - 1 - step
+row_at false n step = step

@@ -1,6 +1,6 @@
 -- specs/inner/Sweep.antt
 -- Passes over the cells of a board, row by row, with the marks of the points that reach a colour.
-use Rattle.std.specs.Prelude.{ℕ, Bool, false, not, ◌&&◌, ◌||◌, List, map, length, count_by, slice_index_or, if◌then◌else◌}
+use Rattle.std.specs.Prelude.{ℕ, Bool, false, not, ◌&&◌, List, map, length, slice_index_or, if◌then◌else◌}
 use Rattle.std.specs.List.{range_with_len, list_any}
 use Rattle.go_board.specs.declared.stones.Cell.{Cell}
 use Rattle.go_board.specs.declared.stones.Cell.TheVariants.{Empty}
@@ -13,10 +13,6 @@ cleared cell stone reaches = if same_cell cell stone && not reaches then Empty e
 -- whether a cell has a stone and doesn't reach empty
 abbrev pub is_unreaching : Cell → Bool → Bool
 is_unreaching cell reaches = not (same_cell cell Empty) && not reaches
-
--- whether a cell counts for a player, by whether it reaches her colour and the other's
-abbrev pub counts : Cell → Cell → Bool → Bool → Bool
-counts cell stone own other = same_cell cell stone || (same_cell cell Empty && (own && not other))
 
 -- the cell and the mark at an index
 abbrev pub cell_in : List Cell → ℕ → Cell
@@ -33,8 +29,3 @@ all_cleared cells stone marks =
 unfoldable pub any_unreaching : List Cell → List Bool → Bool
 any_unreaching cells marks =
     list_any (λ i. is_unreaching (cell_in cells i) (mark_in marks i)) (range_with_len 0 (length cells))
-
-unfoldable pub count_of : List Cell → Cell → List Bool → List Bool → ℕ
-count_of cells stone own other =
-    count_by (λ b. b)
-    (map (λ i. counts (cell_in cells i) stone (mark_in own i) (mark_in other i)) (range_with_len 0 (length cells)))

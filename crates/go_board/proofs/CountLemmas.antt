@@ -1,0 +1,155 @@
+-- proofs/CountLemmas.antt
+-- Counting points by the bits of words.
+use Rattle.std.proofs.Common.{◌≡◌, inl, inr, ℕ, zero, suc, ◌+◌, ◌-◌, ◌*◌, ◌^◌, ◌%◌, min, ◌<◌, ◌≤◌, ◌==◌, ◌||◌, ◌&&◌, Bool, true, not, cond, IsTrue, List, [], map, get_or, bit_and, count_ones, count_by, sum, sum_by, refl, sym, ap, ◌∙◌, arith, w64}
+use Rattle.std.specs.Int.{bit_at, bit_not}
+use Rattle.std.specs.List.{range_with_len}
+use lib.Count.{ones}
+use Rattle.std.proofs.lemmas.Bool.{and_parts, cases_lt}
+use Rattle.std.proofs.lemmas.Nat.{ones_cat, mod-pow-add, mod_below, pow_pos}
+use Rattle.std.proofs.lemmas.Nat.Bits.{bit_at-lt, bit_at_above, bit_at_and, bit_at_not, same_from_bits}
+use Rattle.std.proofs.lemmas.List.{length-map}
+use Rattle.std.proofs.lemmas.List.Sums.{sum-map}
+use Rattle.std.proofs.lemmas.List.FromFn.{sum_by-map-range_with_len_more}
+use Rattle.go_board.specs.declared.stones.Cell.{Cell}
+use Rattle.go_board.specs.declared.stones.Cell.TheVariants.{Black as BlackStone, White as WhiteStone, Empty}
+use Rattle.go_board.specs.declared.stones.Colour.{Colour}
+use Rattle.go_board.specs.declared.stones.Colour.TheVariants.{Black, White}
+use Rattle.go_board.specs.declared.points.Point.{Point}
+use Rattle.go_board.specs.Colour.{opponent, stone_of, same_cell}
+use Rattle.go_board.specs.Grid.{Grid, cell_at}
+use Rattle.go_board.specs.Reaching.{reaches}
+use Rattle.go_board.specs.Score.{score_of, counts_for}
+use Rattle.go_board.proofs.ReachingLemmas.{Decides-reaches}
+use Rattle.go_board.specs.Point.{IsOn, point_at, points}
+use Rattle.go_board.specs.inner.Rows.{has_bit, is_set}
+use Rattle.go_board.specs.inner.Regions.{is_either, AreRowsOf, reaches_through_own, count_apart}
+use Rattle.go_board.proofs.PointLemmas.{point_at-index_of, is_map-points, length-points, IsOn-point_at, index_of-point_at, get_or-map-points}
+use Rattle.go_board.proofs.WordLemmas.{has_bit-and, bit_at-mod}
+
+ones_of_bit : (n : ℕ) → n < 2 → count_ones n ≡ cond (n == 1) 1 0
+unfolding ones
+ones_of_bit zero h = refl
+ones_of_bit (suc zero) h = refl
+ones_of_bit (suc (suc n)) h = absurd (omega arith)
+
+-- one column more
+ones_more : (n c : ℕ) → count_ones (n % 2 ^ (1 + c)) ≡ count_ones (n % 2 ^ c) + cond (has_bit n c) 1 0
+ones_more n c =
+    ap count_ones (mod-pow-add n 1 c)
+    ∙ ones_cat c (bit_at n c) (n % 2 ^ c) (mod_below n (2 ^ c) (pow_pos c))
+    ∙ ap (λ m. m + count_ones (n % 2 ^ c)) (ones_of_bit (bit_at n c) (bit_at-lt n c))
+    ∙ omega arith
+
+-- a word whose bits are all below k
+below_from_bits : (n k : ℕ) → ((c : ℕ) → has_bit n c ≡ true → c < k) → n % 2 ^ k ≡ n
+below_from_bits n k each =
+    same_from_bits (n % 2 ^ k) n
+    (λ i.
+    elim (cases_lt i k) [
+      | inl below ↦ bit_at-mod n k i below
+      | inr above ↦ bit_at_above (n % 2 ^ k) k i (mod_below n (2 ^ k) (pow_pos k)) above ∙ sym (none (bit_at n i) (bit_at-lt n i) (λ is. omega (arith, each i is, above)))
+    ])
+  where
+    none : (b : ℕ) → b < 2 → ((b == 1) ≡ true → ⊥) → b ≡ 0
+    none zero low not_one = refl
+    none (suc zero) low not_one = absurd (not_one refl)
+    none (suc (suc b)) low not_one = absurd (omega arith)
+
+-- a bit of the one word and not of the other
+test_without : (a b : ℕ) → a < 2 → b < 2 → (min a (1 - b) == 1) ≡ ((a == 1) && not (b == 1))
+test_without zero zero ha hb = refl
+test_without zero (suc zero) ha hb = refl
+test_without zero (suc (suc b)) ha hb = absurd (omega arith)
+test_without (suc zero) zero ha hb = refl
+test_without (suc zero) (suc zero) ha hb = refl
+test_without (suc zero) (suc (suc b)) ha hb = absurd (omega arith)
+test_without (suc (suc a)) b ha hb = absurd (omega arith)
+
+has_bit-without : (word other c : ℕ) → other < 2 ^ 64 → c < 64 → has_bit (bit_and word (bit_not w64 other)) c ≡ (has_bit word c && not (has_bit other c))
+has_bit-without word other c low column =
+    ap (λ n. n == 1)
+    (bit_at_and word (bit_not w64 other) c ∙ ap (λ b. min (bit_at word c) b) (bit_at_not w64 other c low column))
+    ∙ test_without (bit_at word c) (bit_at other c) (bit_at-lt word c) (bit_at-lt other c)
+
+sum_at : (a b c : ℕ) → a + b + c ≡ a + (b + c)
+sum_at a b c = omega arith
+
+module _ (side : ℕ) (test : Point → Bool) where
+  counted : ℕ → ℕ
+  counted n = sum_by (λ p. cond (test p) 1 0) (map (point_at side) (range_with_len 0 n))
+
+  counted_row : (row word c : ℕ) → row < side → c ≤ side → ((col : ℕ) → col < side → test (record { col = col; row = row }) ≡ has_bit word col) → counted (row * side + c) ≡ counted (row * side) + count_ones (word % 2 ^ c)
+  unfolding counted
+  counted_row row word zero on fits same =
+      let none : word % 2 ^ 0 ≡ 0 = omega arith in
+      let base : row * side + 0 ≡ row * side = omega arith in
+      let first = ap counted base in
+      let last = ap count_ones none ∙ ones_of_bit 0 (omega arith) in
+      omega (arith, first, last)
+  counted_row row word (suc c) on fits same =
+      let before = counted_row row word c on (omega arith) same in
+      let at : point_at side (row * side + c) ≡ record { col = c; row = row } = point_at-index_of side (record { col = c; row = row }) (omega arith, on) in
+      let next : row * side + suc c ≡ (row * side + c) + 1 = omega arith in
+      let more = ones_more word c in
+      let width : suc c ≡ 1 + c = omega arith in
+      ap counted next
+      ∙ sum_by-map-range_with_len_more (λ p. cond (test p) 1 0) (point_at side) 0 (row * side + c) (row * side + c) (omega arith)
+      ∙ ap (λ b. counted (row * side + c) + cond b 1 0) (ap test at ∙ same c (omega arith))
+      ∙ ap (λ m. m + cond (has_bit word c) 1 0) before
+      ∙ sum_at (counted (row * side)) (count_ones (word % 2 ^ c)) (cond (has_bit word c) 1 0)
+      ∙ ap (λ m. counted (row * side) + m) (sym more ∙ ap (λ k. count_ones (word % 2 ^ k)) (sym width))
+
+-- how many of the points of the first rows are set in the one and not in the other
+abbrev pub apart_before : ℕ → List ℕ → List ℕ → ℕ → ℕ
+apart_before side rows others n =
+    count_by (λ p. is_set rows p && not (is_set others p)) (map (point_at side) (range_with_len 0 (n * side)))
+
+pub apart_more : (side : ℕ) (rows others : List ℕ) (row : ℕ) → side ≤ 52 → row < side → get_or others row 0 < 2 ^ 64 → ((p : Point) → IsTrue (is_set rows p) → IsOn side p) → apart_before side rows others (row + 1) ≡ apart_before side rows others row + count_ones (bit_and (get_or rows row 0) (bit_not w64 (get_or others row 0)))
+unfolding counted
+apart_more side rows others row small on low board =
+    let word = bit_and (get_or rows row 0) (bit_not w64 (get_or others row 0)) in
+    let test : Point → Bool = λ p. is_set rows p && not (is_set others p) in
+    let all : word % 2 ^ side ≡ word =
+    below_from_bits word side (λ c is. (board (record { col = c; row = row }) (and_parts _ _ (sym (has_bit-and _ _ c) ∙ is)).0).0) in
+    let next : (row + 1) * side ≡ row * side + side = omega arith in
+    ap (λ n. count_by test (map (point_at side) (range_with_len 0 n))) next
+    ∙ counted_row side test row word side on (omega arith)
+    (λ col below. sym (has_bit-without (get_or rows row 0) (get_or others row 0) col low (omega (arith, below, small))))
+    ∙ ap (λ w. apart_before side rows others row + count_ones w) all
+
+pub count_apart-all : (side : ℕ) (rows others : List ℕ) → apart_before side rows others side ≡ count_apart side rows others
+unfolding count_apart points
+count_apart-all side rows others = refl
+
+-- two tests that agree on the points of the grid count the same
+count_alike : (side : ℕ) (p q : Point → Bool) → ((r : Point) → IsOn side r → p r ≡ q r) → count_by p (points side) ≡ count_by q (points side)
+count_alike side p q alike =
+    let f : Point → ℕ = λ r. cond (p r) 1 0 in
+    let g : Point → ℕ = λ r. cond (q r) 1 0 in
+    let same : map f (points side) ≡ map g (points side) =
+    is_map-points g side (map f (points side)) 0 (length-map (points side) f ∙ length-points side)
+    (λ i below.
+    let on = IsOn-point_at side i below in
+    ap (λ j. get_or (map f (points side)) j 0) (sym (index_of-point_at side i below))
+    ∙ get_or-map-points f side (point_at side i) 0 on
+    ∙ ap (λ b. cond b 1 0) (alike (point_at side i) on)) in
+    sym (sum-map f (points side)) ∙ ap sum same ∙ sum-map g (points side)
+
+-- the points of the player's colour or reaching it, and not reaching the other's
+counts_alike : (k : Colour) (c : Cell) (own other : Bool) → (c ≡ stone_of k → own ≡ true) → ((is_either c Empty (stone_of k) && own) && not (is_either c Empty (stone_of (opponent k)) && other)) ≡ (same_cell c (stone_of k) || (same_cell c Empty && (own && not other)))
+counts_alike Black BlackStone own other by_itself = rw (by_itself refl) refl
+counts_alike Black WhiteStone own other by_itself = refl
+counts_alike Black Empty own other by_itself = refl
+counts_alike White BlackStone own other by_itself = refl
+counts_alike White WhiteStone own other by_itself = rw (by_itself refl) refl
+counts_alike White Empty own other by_itself = refl
+
+pub score_by_rows : (g : Grid) (k : Colour) (rows others : List ℕ) → AreRowsOf g.side (reaches_through_own g Empty (stone_of k)) rows → AreRowsOf g.side (reaches_through_own g Empty (stone_of (opponent k))) others → count_apart g.side rows others ≡ score_of g k
+unfolding count_apart score_of counts_for
+score_by_rows g k rows others is_own is_other =
+    count_alike g.side _ _
+    (λ p on.
+    ap (λ b. b && not (is_set others p)) (is_own.on p on)
+    ∙ ap (λ b. reaches_through_own g Empty (stone_of k) p && not b) (is_other.on p on)
+    ∙ counts_alike k (cell_at g p) (reaches g (stone_of k) p) (reaches g (stone_of (opponent k)) p)
+    (λ own. (Decides-reaches g (stone_of k) p on).1 ([], (on, own))))

@@ -1,0 +1,165 @@
+-- proofs/RegionLemmas.antt
+-- Rows of words that have the points of a grid with certain cells, and those that reach a colour through them.
+use Rattle.std.proofs.Common.{◌≡◌, ◌≢◌, ◌⊎◌, inl, inr, ℕ, ◌+◌, ◌*◌, ◌^◌, ◌%◌, ◌<◌, ◌≤◌, ◌==◌, ◌||◌, ◌&&◌, Bool, true, false, Some, None, List, [], ◌∷◌, length, get_or, set, slice_get, slice_range, slice_index, bit_or, w64, refl, sym, ap, ◌∙◌, arith, subst, rules}
+use Rattle.std.proofs.lemmas.Bool.{or_cases, and_parts, and_from, false≢true, cases_lt, cases_eq}
+use Rattle.std.proofs.lemmas.Nat.{row_fits}
+use Rattle.std.proofs.lemmas.List.{places, get_or-set_same, get_or-set_other}
+use Rattle.std.proofs.lemmas.Option.{slice_get-get_or, slice_get_past}
+use Rattle.std.proofs.lemmas.Nat.Bits.{bit_at_set_same, bit_at_set_other}
+use Rattle.go_board.specs.declared.stones.Cell.{Cell}
+use Rattle.go_board.specs.declared.stones.Cell.TheVariants.{Empty}
+use Rattle.go_board.specs.declared.points.Point.{Point}
+use Rattle.go_board.specs.Point.{IsOn, AreAdjacent}
+use Rattle.go_board.specs.Grid.{Grid, cell_at}
+use Rattle.go_board.specs.Reaching.{Leads, Reaches, reaches}
+use Rattle.go_board.specs.inner.Rows.{has_bit, is_set, IsAmong, IsClosed, Grows}
+use Rattle.go_board.specs.inner.Regions.{is_either, is_either_there, AreRowsOf, reaches_through_own}
+use Rattle.go_board.proofs.GridLemmas.{Decides-same_cell}
+use Rattle.go_board.proofs.GrowLemmas.{row_below}
+use Rattle.go_board.proofs.ReachingLemmas.{Decides-reaches}
+
+or_right : (x y : Bool) → y ≡ true → (x || y) ≡ true
+or_right true y h = refl
+or_right false y h = h
+
+or_left : (x y : Bool) → x ≡ true → (x || y) ≡ true
+or_left x y h = rw h refl
+
+-- a word with one bit set
+pub has_bit-set_there : (word col : ℕ) (b : Bool) → b ≡ true → col < 64 → has_bit (bit_or word (1 * 2 ^ col % 2 ^ 64)) col ≡ (has_bit word col || b)
+has_bit-set_there word col b is low =
+    ap (λ n. n == 1) (bit_at_set_same w64 word col low) ∙ sym (or_right (has_bit word col) b is)
+
+pub has_bit-set_elsewhere : (word col : ℕ) → col < 64 → (k : ℕ) → k ≢ col → has_bit (bit_or word (1 * 2 ^ col % 2 ^ 64)) k ≡ has_bit word k
+has_bit-set_elsewhere word col low k other = ap (λ n. n == 1) (bit_at_set_other w64 word col low k other)
+
+-- a row of the cells
+part_at : (xs : List Cell) (a n i : ℕ) (d : Cell) → i < n → a + n ≤ length xs → get_or (slice_range xs a (a + n)) i d ≡ get_or xs (a + i) d
+part_at xs a n i d below fits = search (rules, places)
+
+length-part : (xs : List Cell) (a n : ℕ) → a + n ≤ length xs → length (slice_range xs a (a + n)) ≡ n
+length-part xs a n fits = search (rules, places)
+
+row_ends : (side row : ℕ) (cells : List Cell) → length cells ≡ side * side → row < side → row * side + side ≤ length cells
+row_ends side row cells all below = rw all (row_fits row side side side below (omega arith))
+
+cell_of_row : (side row col : ℕ) (cells : List Cell) → length cells ≡ side * side → row < side → col < side → slice_get (slice_range cells (row * side) (row * side + side)) col ≡ Some (get_or cells (row * side + col) Empty)
+cell_of_row side row col cells all below in_row =
+    let fits = row_ends side row cells all below in
+    let long : length (slice_range cells (row * side) (row * side + side)) ≡ side = length-part cells (row * side) side fits in
+    let within : col < length (slice_range cells (row * side) (row * side + side)) = rw long in_row in
+    slice_get-get_or (slice_range cells (row * side) (row * side + side)) col Empty within
+    ∙ ap Some (part_at cells (row * side) side col Empty in_row fits)
+
+past_row : (side row col : ℕ) (cells : List Cell) → length cells ≡ side * side → row < side → side ≤ col → slice_get (slice_range cells (row * side) (row * side + side)) col ≡ None
+past_row side row col cells all below past =
+    let fits = row_ends side row cells all below in
+    let long : length (slice_range cells (row * side) (row * side + side)) ≡ side = length-part cells (row * side) side fits in
+    slice_get_past (slice_range cells (row * side) (row * side + side)) col (rw long past)
+
+-- one row more is written
+abbrev pub RowsBelow : ℕ → List Cell → Cell → Cell → ℕ → List ℕ → Type 0
+RowsBelow side cells one other n rows =
+    (r col : ℕ) → r < n
+    → has_bit (slice_index rows r) col ≡ is_either_there (slice_get (slice_range cells (r * side) (r * side + side)) col) one other
+
+pub rows_more : (side : ℕ) (cells : List Cell) (one other : Cell) (rows : List ℕ) (row word : ℕ) → row < length rows → RowsBelow side cells one other row rows → ((col : ℕ) → has_bit word col ≡ is_either_there (slice_get (slice_range cells (row * side) (row * side + side)) col) one other) → RowsBelow side cells one other (row + 1) (set rows row word)
+rows_more side cells one other rows row word within before is =
+    λ r col below.
+    elim (cases_eq r row) [
+      | inl same ↦
+          ap (λ k. has_bit (get_or (set rows row word) k 0) col) same
+          ∙ ap (λ w. has_bit w col) (get_or-set_same rows row word 0 within)
+          ∙ is col
+          ∙ ap (λ k. is_either_there (slice_get (slice_range cells (k * side) (k * side + side)) col) one other) (sym same)
+      | inr apart ↦
+          ap (λ w. has_bit w col) (get_or-set_other rows row r word 0 apart) ∙ before r col (omega (arith, apart))
+    ]
+
+pub AreRowsOf-cells : (side : ℕ) (cells : List Cell) (one other : Cell) (rows : List ℕ) → length cells ≡ side * side → length rows ≡ side → RowsBelow side cells one other side rows → AreRowsOf side (λ p. is_either (cell_at (record { side = side; cells = cells }) p) one other) rows
+AreRowsOf-cells side cells one other rows all long each = record {
+  on = λ p on.
+      each p.row p.col on.1
+      ∙ ap (λ c. is_either_there c one other) (cell_of_row side p.row p.col cells all on.1 on.0);
+  off = λ p is.
+      let row : p.row < side = rw (← long) (row_below rows p is) in
+      elim (cases_lt p.col side) [
+        | inl col ↦ (col, row)
+        | inr past ↦
+            absurd (false≢true (sym (each p.row p.col row ∙ ap (λ c. is_either_there c one other) (past_row side p.row p.col cells all row past)) ∙ is))
+      ];
+}
+
+same_bools : (a b : Bool) → (a ≡ true → b ≡ true) → (b ≡ true → a ≡ true) → a ≡ b
+same_bools true b there back = sym (there refl)
+same_bools false true there back = back refl
+same_bools false false there back = refl
+
+either_is : (c one other : Cell) → is_either c one other ≡ true → (c ≡ one) ⊎ (c ≡ other)
+either_is c one other is =
+    elim (or_cases _ _ is)
+    [ inl first ↦ inl ((Decides-same_cell c one).0 first) | inr second ↦ inr ((Decides-same_cell c other).0 second) ]
+
+either_first : (c one other : Cell) → c ≡ one → is_either c one other ≡ true
+either_first c one other is = or_left _ _ ((Decides-same_cell c one).1 is)
+
+either_second : (c one other : Cell) → c ≡ other → is_either c one other ≡ true
+either_second c one other is = or_right _ _ ((Decides-same_cell c other).1 is)
+
+module _ (g : Grid) (own wanted : Cell) (room seed result : List ℕ) (is_room : AreRowsOf g.side (λ p. is_either (cell_at g p) own wanted) room) (is_seed : AreRowsOf g.side (λ p. is_either (cell_at g p) wanted wanted) seed) (grows : Grows (is_set room) (is_set seed) (is_set result)) (closed : IsClosed (is_set room) (is_set result)) where
+  -- those of the room that reach the colour
+  reaching_in : Point → Bool
+  reaching_in p = is_set room p && reaches g wanted p
+
+  step_back : (p q : Point) → IsOn g.side p → IsOn g.side q → AreAdjacent p q → (cell_at g p ≡ own) ⊎ (cell_at g p ≡ wanted) → (cell_at g q ≡ own) ⊎ (cell_at g q ≡ wanted) → Reaches g wanted q → Reaches g wanted p
+  step_back p q on at adjacent (inr goal) cell way = ([], (on, goal))
+  step_back p q on at adjacent (inl own_p) (inr goal) way = (q ∷ [], (on, refl, adjacent, (at, goal)))
+  step_back p q on at adjacent (inl own_p) (inl own_q) way =
+      (q ∷ way.0, (on, refl, adjacent, subst (λ k. Leads g k wanted q way.0) (own_q ∙ sym own_p) way.1))
+
+  reaching_closed : IsClosed (is_set room) reaching_in
+  unfolding reaching_in
+  reaching_closed =
+      λ p q adjacent there is.
+      let both = and_parts _ _ is in
+      let on = is_room.off p there in
+      let at = is_room.off q both.0 in
+      let cell_p = either_is _ own wanted (sym (is_room.on p on) ∙ there) in
+      let cell_q = either_is _ own wanted (sym (is_room.on q at) ∙ both.0) in
+      and_from _ _ there
+      ((Decides-reaches g wanted p on).1 (step_back p q on at adjacent cell_p cell_q ((Decides-reaches g wanted q at).0 both.1)))
+
+  seed_reaches : IsAmong (is_set seed) reaching_in
+  unfolding reaching_in
+  seed_reaches =
+      λ p is.
+      let on = is_seed.off p is in
+      let goal : cell_at g p ≡ wanted =
+      elim (either_is _ wanted wanted (sym (is_seed.on p on) ∙ is)) [ inl e ↦ e | inr e ↦ e ] in
+      and_from _ _ (is_room.on p on ∙ either_second _ own wanted goal) ((Decides-reaches g wanted p on).1 ([], (on, goal)))
+
+  goal_in : (p : Point) → IsOn g.side p → cell_at g p ≡ wanted → is_set result p ≡ true
+  goal_in p on goal = grows.kept p (is_seed.on p on ∙ either_first _ wanted wanted goal)
+
+  along : (p : Point) (path : List Point) → Leads g own wanted p path → is_set result p ≡ true
+  along p [] way = goal_in p way.0 way.1
+  along p (q ∷ path) way =
+      closed p q way.2 (is_room.on p way.0 ∙ either_first _ own wanted way.1) (along q path way.3)
+
+  pub AreRowsOf-filled : AreRowsOf g.side (reaches_through_own g own wanted) result
+  unfolding reaching_in
+  AreRowsOf-filled = record {
+    on = λ p on.
+        same_bools _ _
+        (λ is.
+        let both = and_parts _ _ (grows.least reaching_in reaching_closed seed_reaches p is) in
+        and_from _ _ (sym (is_room.on p on) ∙ both.0) both.1)
+        (λ is.
+        let both = and_parts _ _ is in
+        let way = (Decides-reaches g wanted p on).0 both.1 in
+        elim (either_is _ own wanted both.0) [
+          | inl own_p ↦ along p way.0 (subst (λ k. Leads g k wanted p way.0) own_p way.1)
+          | inr goal ↦ goal_in p on goal
+        ]);
+    off = λ p is. is_room.off p (grows.within p is);
+  }

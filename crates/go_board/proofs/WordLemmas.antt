@@ -1,0 +1,162 @@
+-- proofs/WordLemmas.antt
+-- Words as sets of columns: what the operations on words make of their bits.
+use Rattle.std.proofs.Common.{◌≡◌, ◌≢◌, ◌⊎◌, inl, inr, ℕ, zero, suc, ◌+◌, ◌-◌, ◌*◌, ◌/◌, ◌%◌, ◌^◌, ◌<◌, ◌≤◌, ◌==◌, ◌||◌, ◌&&◌, min, max, Bool, true, false, bit_and, bit_or, refl, sym, ap, ◌∙◌, arith, subst}
+use Rattle.std.specs.Int.{bit_at}
+use Rattle.std.proofs.lemmas.Bool.{or_cases, and_parts, and_from, false≢true, cases_lt}
+use Rattle.std.proofs.lemmas.Nat.{le_or_l, and_le_r, and_mask, mod_below, pow_pos}
+use Rattle.std.proofs.lemmas.Nat.Bits.{bit_at_and, bit_at_or, bit_at-lt, bit_at-suc, bit_at-zero, bit_at_above, bit_at_ones, bit_at_cat_high, bit_at_cat_low, same_from_bits}
+use Rattle.go_board.specs.Point.{DifferByOne}
+use Rattle.go_board.specs.inner.Rows.{has_bit, IsPart, HasBeside}
+
+test_max : (x y : ℕ) → x < 2 → y < 2 → (max x y == 1) ≡ ((x == 1) || (y == 1))
+test_max zero zero hx hy = refl
+test_max zero (suc zero) hx hy = refl
+test_max zero (suc (suc y)) hx hy = absurd (omega arith)
+test_max (suc zero) zero hx hy = refl
+test_max (suc zero) (suc zero) hx hy = refl
+test_max (suc zero) (suc (suc y)) hx hy = absurd (omega arith)
+test_max (suc (suc x)) y hx hy = absurd (omega arith)
+
+test_min : (x y : ℕ) → x < 2 → y < 2 → (min x y == 1) ≡ ((x == 1) && (y == 1))
+test_min zero zero hx hy = refl
+test_min zero (suc zero) hx hy = refl
+test_min zero (suc (suc y)) hx hy = absurd (omega arith)
+test_min (suc zero) zero hx hy = refl
+test_min (suc zero) (suc zero) hx hy = refl
+test_min (suc zero) (suc (suc y)) hx hy = absurd (omega arith)
+test_min (suc (suc x)) y hx hy = absurd (omega arith)
+
+max_part : (x y : ℕ) → x < 2 → y < 2 → ((x == 1) ≡ true → (y == 1) ≡ true) → max x y ≡ y
+max_part zero zero hx hy part = refl
+max_part zero (suc zero) hx hy part = refl
+max_part zero (suc (suc y)) hx hy part = absurd (omega arith)
+max_part (suc zero) zero hx hy part = absurd (false≢true (part refl))
+max_part (suc zero) (suc zero) hx hy part = refl
+max_part (suc zero) (suc (suc y)) hx hy part = absurd (omega arith)
+max_part (suc (suc x)) y hx hy part = absurd (omega arith)
+
+pub has_bit-or : (a b c : ℕ) → has_bit (bit_or a b) c ≡ (has_bit a c || has_bit b c)
+has_bit-or a b c = ap (λ n. n == 1) (bit_at_or a b c) ∙ test_max (bit_at a c) (bit_at b c) (bit_at-lt a c) (bit_at-lt b c)
+
+pub has_bit-and : (a b c : ℕ) → has_bit (bit_and a b) c ≡ (has_bit a c && has_bit b c)
+has_bit-and a b c = ap (λ n. n == 1) (bit_at_and a b c) ∙ test_min (bit_at a c) (bit_at b c) (bit_at-lt a c) (bit_at-lt b c)
+
+pub has_bit-zero : (c : ℕ) → has_bit 0 c ≡ false
+has_bit-zero c = ap (λ n. n == 1) (bit_at-zero c)
+
+-- a column of a word of k bits is below k
+pub column_below : (k a c : ℕ) → a < 2 ^ k → has_bit a c ≡ true → c < k
+column_below k a c low is =
+    elim (cases_lt c k) [
+      | inl below ↦ below
+      | inr above ↦ absurd (false≢true (sym (ap (λ n. n == 1) (bit_at_above a k c low above)) ∙ is))
+    ]
+
+min_one : (x : ℕ) → x < 2 → min x 1 ≡ x
+min_one zero h = refl
+min_one (suc zero) h = refl
+min_one (suc (suc x)) h = absurd (omega arith)
+
+-- the low bits stay where the others are cut off
+pub bit_at-mod : (n k i : ℕ) → i < k → bit_at (n % 2 ^ k) i ≡ bit_at n i
+bit_at-mod n k i low =
+    ap (λ m. bit_at m i) (sym (and_mask n k))
+    ∙ bit_at_and n (2 ^ k - 1) i
+    ∙ ap (λ b. min (bit_at n i) b) (bit_at_ones k i low)
+    ∙ min_one (bit_at n i) (bit_at-lt n i)
+
+-- bits shifted by one column
+has_bit-low : (n c : ℕ) → c < 64 → has_bit (n % 2 ^ 64) c ≡ has_bit n c
+has_bit-low n c low = ap (λ x. x == 1) (bit_at-mod n 64 c low)
+
+pub has_bit-left : (a c : ℕ) → c + 1 < 64 → has_bit (a * 2 ^ 1 % 2 ^ 64) (c + 1) ≡ has_bit a c
+has_bit-left a c low =
+    has_bit-low (a * 2 ^ 1) (c + 1) low
+    ∙ ap (λ x. x == 1) (ap (λ n. bit_at n (c + 1)) (omega arith) ∙ bit_at_cat_high a 1 0 (c + 1) (omega arith) (omega arith) ∙ ap (bit_at a) (omega arith))
+
+has_bit-left_first : (a : ℕ) → has_bit (a * 2 ^ 1 % 2 ^ 64) 0 ≡ false
+has_bit-left_first a =
+    has_bit-low (a * 2 ^ 1) 0 (omega arith)
+    ∙ ap (λ x. x == 1) (ap (λ n. bit_at n 0) (omega arith) ∙ bit_at_cat_low a 1 0 0 (omega arith) ∙ bit_at-zero 0)
+
+pub from_left : (a c : ℕ) → has_bit (a * 2 ^ 1 % 2 ^ 64) c ≡ true → (d : ℕ) × (d + 1 ≡ c) × (has_bit a d ≡ true)
+from_left a zero is = absurd (false≢true (sym (has_bit-left_first a) ∙ is))
+from_left a (suc d) is =
+    let low : suc d < 64 = column_below 64 (a * 2 ^ 1 % 2 ^ 64) (suc d) (mod_below (a * 2 ^ 1) (2 ^ 64) (pow_pos 64)) is in
+    (d, omega arith, sym (has_bit-left a d (omega arith)) ∙ ap (has_bit (a * 2 ^ 1 % 2 ^ 64)) (omega arith) ∙ is)
+
+pub has_bit-right : (a c : ℕ) → has_bit (a / 2 ^ 1) c ≡ has_bit a (suc c)
+has_bit-right a c = ap (λ x. x == 1) (sym (bit_at-suc a c))
+
+-- a part of a set of columns is no greater a number
+pub le_from_part : (a b : ℕ) → IsPart (has_bit a) (has_bit b) → a ≤ b
+le_from_part a b part =
+    subst (λ n. a ≤ n)
+    (same_from_bits (bit_or a b) b
+    (λ i. bit_at_or a b i ∙ max_part (bit_at a i) (bit_at b i) (bit_at-lt a i) (bit_at-lt b i) (part i)))
+    (le_or_l a b)
+
+or_left : (x y : Bool) → x ≡ true → (x || y) ≡ true
+or_left x y h = rw h refl
+
+or_right : (x y : Bool) → y ≡ true → (x || y) ≡ true
+or_right true y h = refl
+or_right false y h = h
+
+-- a set of columns with those beside it that there is room for
+abbrev pub wider : ℕ → ℕ → ℕ
+wider word room = bit_and (bit_or (bit_or word (word * 2 ^ 1 % 2 ^ 64)) (word / 2 ^ 1)) room
+
+beside_from : (word c : ℕ) → has_bit (bit_or (bit_or word (word * 2 ^ 1 % 2 ^ 64)) (word / 2 ^ 1)) c ≡ true → (has_bit word c ≡ true) ⊎ ((d : ℕ) × DifferByOne c d × (has_bit word d ≡ true))
+beside_from word c is =
+    elim (or_cases _ _ (sym (has_bit-or (bit_or word (word * 2 ^ 1 % 2 ^ 64)) (word / 2 ^ 1) c) ∙ is)) [
+      | inl low ↦
+          elim (or_cases _ _ (sym (has_bit-or word (word * 2 ^ 1 % 2 ^ 64) c) ∙ low)) [
+            | inl same ↦ inl same
+            | inr left ↦ (let from = from_left word c left in inr (from.0, inr from.1, from.2))
+          ]
+      | inr right ↦ inr (suc c, inl (omega arith), sym (has_bit-right word c) ∙ right)
+    ]
+
+pub wider-within : (word room : ℕ) → IsPart (has_bit (wider word room)) (has_bit room)
+wider-within word room = λ c is. (and_parts _ _ (sym (has_bit-and _ room c) ∙ is)).1
+
+pub wider-kept : (word room : ℕ) → IsPart (has_bit word) (has_bit room) → IsPart (has_bit word) (has_bit (wider word room))
+wider-kept word room part =
+    λ c is.
+    has_bit-and _ room c
+    ∙ and_from _ _ (has_bit-or _ (word / 2 ^ 1) c ∙ or_left _ _ (has_bit-or word _ c ∙ or_left _ _ is)) (part c is)
+
+pub wider-least : (word room : ℕ) (set : ℕ → Bool) → HasBeside (has_bit room) set → IsPart (has_bit word) set → IsPart (has_bit (wider word room)) set
+wider-least word room set beside part =
+    λ c is.
+    let both = and_parts _ _ (sym (has_bit-and _ room c) ∙ is) in
+    elim (beside_from word c both.0) [
+      | inl same ↦ part c same
+      | inr w ↦ beside c w.0 w.1 both.1 (part w.0 w.2)
+    ]
+
+-- a set that doesn't grow any more has each column beside it
+pub wider-closed : (word room : ℕ) → room < 2 ^ 64 → wider word room ≡ word → HasBeside (has_bit room) (has_bit word)
+wider-closed word room low same =
+    λ c d differ in_room is.
+    let below = column_below 64 room c low in_room in
+    ap (λ w. has_bit w c) (sym same)
+    ∙ has_bit-and _ room c
+    ∙ and_from _ _
+    (has_bit-or _ (word / 2 ^ 1) c
+    ∙ (elim differ [
+      | inl right ↦
+          or_right _ _ (has_bit-right word c ∙ ap (has_bit word) (omega arith) ∙ is)
+      | inr left ↦
+          or_left _ _
+          (has_bit-or word _ c
+          ∙ or_right _ _ (ap (has_bit (word * 2 ^ 1 % 2 ^ 64)) (sym left) ∙ has_bit-left word d (omega arith) ∙ is))
+    ]))
+    in_room
+
+pub wider-more : (word room : ℕ) → room < 2 ^ 64 → IsPart (has_bit word) (has_bit room) → wider word room ≢ word → 2 ^ 64 - wider word room < 2 ^ 64 - word
+wider-more word room low part other =
+    let at_least : word ≤ wider word room = le_from_part word (wider word room) (wider-kept word room part) in
+    let at_most : wider word room ≤ room = and_le_r _ room in
+    omega (arith, other)

@@ -1,0 +1,32 @@
+-- specs/inner/Regions.antt
+-- Sets of a board's points by what stands on them, as rows of words.
+use Rattle.std.specs.Prelude.{◌≡◌, ℕ, Bool, false, not, ◌&&◌, ◌||◌, IsTrue, Option, Some, None, List, count_by}
+use Rattle.go_board.specs.declared.stones.Cell.{Cell}
+use Rattle.go_board.specs.declared.points.Point.{Point}
+use Rattle.go_board.specs.Colour.{same_cell}
+use Rattle.go_board.specs.Point.{IsOn, points}
+use Rattle.go_board.specs.Grid.{Grid, cell_at}
+use Rattle.go_board.specs.Reaching.{reaches}
+use Rattle.go_board.specs.inner.Rows.{is_set}
+
+-- a cell is one of two
+abbrev pub is_either : Cell → Cell → Cell → Bool
+is_either cell one other = same_cell cell one || same_cell cell other
+
+-- there is a cell, and it is one of two
+abbrev pub is_either_there : Option Cell → Cell → Cell → Bool
+is_either_there None one other = false
+is_either_there (Some cell) one other = is_either cell one other
+
+-- the rows have exactly the points of the grid that pass a test
+pub record AreRowsOf (side : ℕ) (test : Point → Bool) (rows : List ℕ) : Type 0 where
+  pub on : (p : Point) → IsOn side p → is_set rows p ≡ test p
+  pub off : (p : Point) → IsTrue (is_set rows p) → IsOn side p
+
+-- a point of the wanted colour, or one of the own colour that reaches it
+abbrev pub reaches_through_own : Grid → Cell → Cell → Point → Bool
+reaches_through_own grid own wanted p = is_either (cell_at grid p) own wanted && reaches grid wanted p
+
+-- how many points of a square are set in the one and not in the other
+unfoldable pub count_apart : ℕ → List ℕ → List ℕ → ℕ
+count_apart side rows others = count_by (λ p. is_set rows p && not (is_set others p)) (points side)
