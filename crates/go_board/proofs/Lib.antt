@@ -26,3 +26,6 @@ pub mod AreaLemmas
 pub mod TurnLemmas
 pub mod PrintLemmas
 pub mod PrintPastLemmas
+pub mod ChangesLemmas
+pub mod ColouringsLemmas
+pub mod TableLemmas

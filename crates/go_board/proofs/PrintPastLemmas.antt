@@ -1,48 +1,72 @@
 -- proofs/PrintPastLemmas.antt
 -- The prints of past colourings.
-use Rattle.std.proofs.Common.{◌≡◌, ℕ, zero, suc, ◌-◌, ◌<◌, Bool, true, false, cond, eqb, List, [], ◌∷◌, length, get_or, reverse, Contains, IsTrue, ◌↔◌, sym, ap, ◌∙◌, inl, inr, arith}
-use Rattle.std.specs.List.{list_any}
-use Rattle.std.proofs.lemmas.List.{get_or-reverse, length-reverse}
-use Rattle.std.proofs.lemmas.List.Folds.{list_any_at}
-use Rattle.std.proofs.Common.{eq-eqb}
-use Rattle.std.proofs.lemmas.Bool.{false≢true}
+use Rattle.std.proofs.Common.{◌≡◌, ◌≢◌, ℕ, zero, suc, ◌-◌, ◌<◌, ◌≤◌, List, [], ◌∷◌, Some, length, get_or, map, take, drop, reverse, Contains, sym, ap, ◌∙◌, arith}
+use Rattle.std.proofs.lemmas.List.{get_or-reverse, length-reverse, length-map}
 use Rattle.go_board.specs.Grid.{Grid}
-use Rattle.go_board.specs.Past.{Held, present_stretch}
+use Rattle.go_board.specs.Past.{Held, newest, present_stretch}
 use Rattle.go_board.specs.inner.Print.{print_of, prints_of}
-use Rattle.go_board.proofs.EntryLemmas.{Contains-cases, Contains-none}
 
--- a list has the number
-HasPrint : List ℕ → ℕ → Type 0
-HasPrint prints p = (k : ℕ) × (k < length prints) × (get_or prints k 0 ≡ p)
+-- the colouring at a place of the list, newest first
+abbrev pub IsAt : List Held → ℕ → Grid → Type 0
+IsAt held j g = newest (drop j held) ≡ Some g
 
-later : (p q : ℕ) (prints : List ℕ) → HasPrint prints p → HasPrint (q ∷ prints) p
-unfolding HasPrint
-later p q prints h = (suc h.0, omega (arith, h.1), h.2)
+some_same : (a b : Grid) → Some a ≡ Some b → a ≡ b
+some_same a b e = cc
 
-after : (b : Bool) (hs : List Held) (g : Grid) → Contains (cond b [] (present_stretch hs)) g → Contains (present_stretch hs) g
-after true hs g h = absurd (Contains-none g h)
-after false hs g h = h
+-- its print is at that place of the prints
+print-at : (held : List Held) (j : ℕ) (g : Grid) → j < length held → IsAt held j g → get_or (prints_of held) j 0 ≡ print_of g.cells
+print-at [] j g h at = absurd (omega (arith, h))
+print-at (x ∷ xs) zero g h at = ap (λ (c : Grid). print_of c.cells) (some_same x.colouring g at)
+print-at (x ∷ xs) (suc j) g h at = print-at xs j g (omega (arith, h)) at
 
--- a colouring of the stretch has its print among the prints
-stretch_print : (held : List Held) (g : Grid) → Contains (present_stretch held) g → HasPrint (prints_of held) (print_of g.cells)
-unfolding HasPrint
-stretch_print [] g h = absurd (Contains-none g h)
-stretch_print (h ∷ hs) g c =
-    elim (Contains-cases h.colouring g (cond h.begins [] (present_stretch hs)) c) [
-      | inl e ↦ (zero, omega arith, ap (λ (x : Grid). print_of x.cells) e)
-      | inr l ↦ later (print_of g.cells) (print_of h.colouring.cells) (prints_of hs) (stretch_print hs g (after h.begins hs g l))
-    ]
+-- a colouring among the newest n is at one of these places, and the other way round
+place-of : (n : ℕ) (held : List Held) (g : Grid) → Contains (map (λ (h : Held). h.colouring) (take n held)) g → (j : ℕ) × (j < n) × (j < length held) × IsAt held j g
+place-of zero held g c = absurd (omega (arith, c.1))
+place-of (suc n) [] g c = absurd (omega (arith, c.1))
+place-of (suc n) (x ∷ xs) g (zero, h, e) = (zero, omega arith, omega arith, ap (λ (c : Grid). Some c) e)
+place-of (suc n) (x ∷ xs) g (suc k, h, e) =
+    let rest = place-of n xs g (k, omega (arith, h), e) in
+    (suc rest.0, omega (arith, rest.1), omega (arith, rest.2), rest.3)
 
-pub stretch-print : (prints : List ℕ) (held : List Held) (g : Grid) → reverse prints ≡ prints_of held → Contains (present_stretch held) g → list_any (λ y. eqb y (print_of g.cells)) prints ≡ true
-unfolding HasPrint
-stretch-print prints held g e c =
-    let has = stretch_print held g c in
-    let k = has.0 in
-    let lt : k < length prints = omega (arith, ap length e, length-reverse prints, has.1) in
-    let same : get_or prints (length prints - 1 - k) 0 ≡ print_of g.cells = sym (get_or-reverse prints k 0 lt) ∙ ap (λ xs. get_or xs k 0) e ∙ has.2 in
-    list_any_at (λ y. eqb y (print_of g.cells)) prints (length prints - 1 - k) 0 (omega arith) (eq-eqb _ _ same)
+of-place : (n j : ℕ) (held : List Held) (g : Grid) → j < n → j < length held → IsAt held j g → Contains (map (λ (h : Held). h.colouring) (take n held)) g
+of-place zero j held g h l at = absurd (omega (arith, h))
+of-place (suc n) j [] g h l at = absurd (omega (arith, l))
+of-place (suc n) zero (x ∷ xs) g h l at = (zero, omega arith, some_same x.colouring g at)
+of-place (suc n) (suc j) (x ∷ xs) g h l at =
+    let rest = of-place n j xs g (omega (arith, h)) (omega (arith, l)) at in
+    (suc rest.0, omega (arith, rest.1), rest.2)
 
--- so where none is that of a colouring, the stretch doesn't have it
-pub unseen : (r : Bool) (prints : List ℕ) (held : List Held) (g : Grid) → reverse prints ≡ prints_of held → r ≡ false → r ≡ list_any (λ y. eqb y (print_of g.cells)) prints → IsTrue r ↔ Contains (present_stretch held) g
-unseen r prints held g e answer any =
-    (λ t. absurd (false≢true (sym answer ∙ t)), λ h. absurd (false≢true (sym answer ∙ any ∙ stretch-print prints held g e h)))
+-- that number's colouring, counted from the oldest
+abbrev pub IsNumber : List Held → ℕ → Grid → Type 0
+IsNumber held y g = IsAt held (length held - 1 - y) g
+
+module _ (held : List Held) (prints : List ℕ) (kept : reverse prints ≡ prints_of held) where
+  pub same_length : length prints ≡ length held
+  same_length = sym (length-reverse prints) ∙ ap (λ (xs : List ℕ). length xs) kept ∙ length-map held (λ (h : Held). print_of h.colouring.cells)
+
+  -- a colouring has its print at its number
+  pub print-number : (y : ℕ) (g : Grid) → y < length held → IsNumber held y g → get_or prints y 0 ≡ print_of g.cells
+  print-number y g h at =
+      let j = length held - 1 - y in
+      let lt : j < length prints = omega (arith, same_length) in
+      let back : length prints - 1 - j ≡ y = omega (arith, same_length) in
+      sym (ap (λ k. get_or prints k 0) back) ∙ sym (get_or-reverse prints j 0 lt) ∙ ap (λ xs. get_or xs j 0) kept
+      ∙ print-at held j g (omega arith) at
+
+  -- so where that print is another one, it isn't that colouring
+  pub missing : (y print : ℕ) (g : Grid) → print ≡ print_of g.cells → y < length held → get_or prints y 0 ≢ print → IsNumber held y g → ⊥
+  missing y print g is h other at = other (print-number y g h at ∙ sym is)
+
+  -- a stretch from a number on has the colouring of a number in it
+  pub seen : (start y : ℕ) (g : Grid) → present_stretch held ≡ map (λ (h : Held). h.colouring) (take (length held - start) held) → start ≤ y → y < length held → IsNumber held y g → Contains (present_stretch held) g
+  seen start y g stretch low high at =
+      rw stretch (of-place (length held - start) (length held - 1 - y) held g (omega arith) (omega arith) at)
+
+  -- and no other
+  pub unseen : (start : ℕ) (g : Grid) → present_stretch held ≡ map (λ (h : Held). h.colouring) (take (length held - start) held) → ((y : ℕ) → start ≤ y → y < length held → IsNumber held y g → ⊥) → Contains (present_stretch held) g → ⊥
+  unseen start g stretch never has =
+      let there = place-of (length held - start) held g (rw stretch at has) in
+      let j = there.0 in
+      let y = length held - 1 - j in
+      let turned : length held - 1 - y ≡ j = omega (arith, there.2) in
+      never y (omega (arith, there.1, there.2)) (omega (arith, there.2)) (rw turned there.3)

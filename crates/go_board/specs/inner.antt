@@ -9,3 +9,5 @@ pub mod Sweep
 pub mod Entries
 pub mod Earlier
 pub mod Print
+pub mod Changes
+pub mod Table

@@ -1,8 +1,11 @@
 //! The colourings that a game has been through.
 
+mod changes;
+mod colourings;
 mod list_past;
 mod print;
 mod print_past;
+mod table;
 #[cfg(test)]
 mod tests;
 

@@ -1,19 +1,27 @@
 //! The past with prints.
 
+ghost use Rattle.std.specs.Prelude.{◌≡◌, ◌↔◌, IsTrue, Contains};
+ghost use Rattle.go_board.specs.Past.{present_stretch, HaveSide};
+
 use crate::board::Board;
 use crate::fault::MemoryFault;
 use crate::past::Past;
-use crate::past::list_past::ListPast;
+use crate::past::colourings::Colourings;
 use crate::past::print::print_of;
+use crate::past::table::Table;
 use std::alloc::Global;
 use std::marker::Model;
 
-/// A past that compares prints before points.
+/// A past that keeps the newest colouring whole, and of each older one the changes that lead back to it. A colouring is
+/// looked up by its print, and only in the present stretch; where the prints are the same, all points are compared.
+///
+/// A colouring with one stone more than the one before it takes some 30 bytes. No past is given memory for more than
+/// 4,294,967,295 colourings: a call that would add one more is refused as if there were none.
 #[derive(Drop)]
 pub struct PrintPast {
-    list: ListPast,
+    colourings: Colourings,
     /// The prints of the colourings, oldest first.
-    prints: Vec<u64>,
+    prints: Table,
 }
 
 impl Model for PrintPast {
@@ -23,45 +31,68 @@ impl Model for PrintPast {
 
     ghost Value = { List Held };
 
-    ghost view = { λ p. p.list };
+    ghost view = { λ p. p.colourings };
 
-    ghost invariant = { λ p. reverse p.prints.items ≡ prints_of p.list };
+    ghost invariant = { λ p. reverse p.prints ≡ prints_of p.colourings };
 }
 
 impl Past for PrintPast {
     ghost held = { λ past. past };
 
     fn new(alloc: Global, board: &Board) -> Result<PrintPast, MemoryFault> {
-        let list = ListPast::new(alloc, board)?;
-        let mut prints = Vec::new(alloc);
-        prints.push(print_of(board.cells()))?;
-        Ok(PrintPast { list, prints })
+        Ok(PrintPast {
+            colourings: Colourings::new(alloc, board),
+            prints: Table::new(alloc, print_of(board.cells()))?,
+        })
     }
 
     fn holds(&self, board: &Board) -> bool {
-        self.prints.contains(&print_of(board.cells())) && self.list.holds(board)
+        let print = print_of(board.cells());
+        let start = self.colourings.stretch_start();
+        let mut end = self.prints.len();
+        while let Some(number) = self.prints.last_between(print, start, end) {
+            if self.colourings.is_at(number, board) {
+                return true;
+            }
+            end = number;
+        }
+        false
     }
 
     fn newest(&self) -> &Board {
-        self.list.newest()
+        self.colourings.newest()
     }
 
     fn push(&mut self, board: &Board) -> Result<(), MemoryFault> {
-        self.prints.reserve(1)?;
-        self.list.push(board)?;
-        self.prints.push(print_of(board.cells())).unwrap();
-        Ok(())
+        self.add(board, false)
     }
 
     fn restart(&mut self, board: &Board) -> Result<(), MemoryFault> {
-        self.prints.reserve(1)?;
-        self.list.restart(board)?;
-        self.prints.push(print_of(board.cells())).unwrap();
-        Ok(())
+        self.add(board, true)
     }
 
     fn pop(&mut self) {
-        self.list.pop();
+        self.colourings.pop();
         let _ = self.prints.pop();
+    }
+}
+
+impl PrintPast {
+    ghost use Rattle.std.specs.Prelude.{◌≡◌, ◌∷◌, OnOk, OnErr};
+    ghost use Rattle.go_board.specs.Past.{HaveSide};
+
+    /// Adds a colouring, which begins a stretch or goes on in the present one.
+    fn add(&mut self, board: &Board, begins: bool) -> Result<(), MemoryFault>
+        requires { HaveSide board.now.side self.old }
+        ensures ok { OnOk result (self.new
+            ≡ record { colouring = board.now; begins = begins } ∷ self.old) }
+        ensures err { OnErr result (self.new ≡ self.old) }
+    {
+        self.prints.push(print_of(board.cells()))?;
+        if self.colourings.add(board, begins).is_err() {
+            let _ = self.prints.pop();
+            return Err(MemoryFault);
+        }
+        Ok(())
     }
 }

@@ -1,0 +1,87 @@
+-- proofs/ChangesLemmas.antt
+-- Changes that lead back from one grid to another.
+use Rattle.std.proofs.Common.{◌≡◌, ℕ, ◌+◌, ◌-◌, ◌<◌, ◌≤◌, List, [], ◌∷◌, ◌++◌, length, get_or, set, take, drop, slice_range, refl, sym, ap, ◌∙◌, arith, append_assoc, length-append, length-take}
+use Rattle.std.proofs.lemmas.List.{take_more, drop_more, set_at, drop-append-le, take-append-drop, drop-drop, take-take}
+use Rattle.std.proofs.lemmas.List.Elements.{All-push}
+use Rattle.std.proofs.lemmas.Slice.{between_is}
+use Rattle.go_board.specs.declared.stones.Cell.{Cell}
+use Rattle.go_board.specs.declared.stones.Cell.TheVariants.{Black}
+use Rattle.go_board.specs.declared.past.changes.Change.{Change}
+use Rattle.go_board.specs.Point.{IsOn, index_of}
+use Rattle.go_board.specs.Grid.{Grid, with_cell}
+use Rattle.go_board.specs.inner.Changes.{after_changes, LeadsBack}
+
+-- the last of the changes comes last
+pub after-push : (g : Grid) (cs : List Change) (c : Change) → after_changes g (cs ++ c ∷ []) ≡ with_cell (after_changes g cs) c.point c.cell
+after-push g [] c = refl
+after-push g (x ∷ xs) c = after-push (with_cell g x.point x.cell) xs c
+
+-- the side stays
+pub after-side : (g : Grid) (cs : List Change) → (after_changes g cs).side ≡ g.side
+after-side g [] = refl
+after-side g (x ∷ xs) = after-side (with_cell g x.point x.cell) xs
+
+-- the first n old cells, and then the new ones
+abbrev mixed : List Cell → List Cell → ℕ → List Cell
+mixed old new n = take n old ++ drop n new
+
+mixed-set : (old new : List Cell) (i : ℕ) → i < length old → i < length new → set (mixed old new i) i (get_or old i Black) ≡ mixed old new (i + 1)
+mixed-set old new i in_old in_new =
+    let front : length (take i old) ≡ i = length-take i old ∙ omega arith in
+    ap (λ xs. set (take i old ++ xs) i (get_or old i Black)) (drop_more new i Black in_new)
+    ∙ set_at (take i old) (get_or new i Black) (drop (i + 1) new) (get_or old i Black) i front
+    ∙ sym (append_assoc (take i old) (get_or old i Black ∷ []) (drop (i + 1) new))
+    ∙ ap (λ xs. xs ++ drop (i + 1) new) (sym (take_more old i Black in_old))
+
+mixed-same : (old new : List Cell) (i : ℕ) → i < length old → i < length new → get_or old i Black ≡ get_or new i Black → mixed old new i ≡ mixed old new (i + 1)
+mixed-same old new i in_old in_new same =
+    ap (λ xs. take i old ++ xs) (drop_more new i Black in_new ∙ ap (λ x. x ∷ drop (i + 1) new) (sym same))
+    ∙ sym (append_assoc (take i old) (get_or old i Black ∷ []) (drop (i + 1) new))
+    ∙ ap (λ xs. xs ++ drop (i + 1) new) (sym (take_more old i Black in_old))
+
+-- a range joins the front before it and the back after it
+front-range : (xs : List Cell) (a b : ℕ) → a ≤ b → take b xs ≡ take a xs ++ slice_range xs a b
+front-range xs a b h =
+    sym (take-append-drop a (take b xs)) ∙ ap (λ ys. ys ++ drop a (take b xs)) (take-take a b xs h) ∙ ap (λ ys. take a xs ++ ys) (sym (between_is xs a b))
+
+back-range : (xs : List Cell) (a b : ℕ) → a ≤ b → drop a xs ≡ slice_range xs a b ++ drop b xs
+back-range xs a b h =
+    let there : a + (b - a) ≡ b = omega arith in
+    sym (take-append-drop (b - a) (drop a xs)) ∙ ap (λ ys. take (b - a) (drop a xs) ++ ys) (drop-drop (b - a) a xs ∙ ap (λ n. drop n xs) there)
+
+mixed-range : (old new : List Cell) (a b : ℕ) → a ≤ b → slice_range old a b ≡ slice_range new a b → mixed old new a ≡ mixed old new b
+mixed-range old new a b h same =
+    ap (λ xs. take a old ++ xs) (back-range new a b h ∙ ap (λ xs. xs ++ drop b new) (sym same))
+    ∙ sym (append_assoc (take a old) (slice_range old a b) (drop b new))
+    ∙ ap (λ xs. xs ++ drop b new) (sym (front-range old a b h))
+
+module _ (side start : ℕ) (old new : List Cell) where
+  -- a change added, of the next point
+  pub leads-more : (i : ℕ) (changes : List Change) (c : Change) → i < length old → i < length new → IsOn side c.point → index_of side c.point ≡ i → c.cell ≡ get_or old i Black → LeadsBack side old new start i changes → LeadsBack side old new start (i + 1) (changes ++ c ∷ [])
+  leads-more i changes c in_old in_new on at cell leads =
+      let g : Grid = record { side = side; cells = new } in
+      let parts : drop start (changes ++ c ∷ []) ≡ drop start changes ++ c ∷ [] = drop-append-le start changes (c ∷ []) leads.starts in
+      let so_far : after_changes g (drop start changes) ≡ record { side = side; cells = mixed old new i } = leads.back in
+      let one : with_cell (record { side = side; cells = mixed old new i }) c.point c.cell ≡ record { side = side; cells = set (mixed old new i) i (get_or old i Black) } = rw (at, cell) refl in
+      record {
+        starts = omega (arith, leads.starts, length-append changes (c ∷ []));
+        back = ap (after_changes g) parts ∙ after-push g (drop start changes) c ∙ ap (λ (x : Grid). with_cell x c.point c.cell) so_far ∙ one ∙ ap (λ (xs : List Cell). record { side = side; cells = xs }) (mixed-set old new i in_old in_new);
+        few = omega (arith, leads.few, length-append changes (c ∷ []));
+        on_grid = All-push (λ (x : Change). IsOn side x.point) changes c leads.on_grid on;
+      }
+
+  -- no change, where the next cells are the same
+  leads-on : (i j : ℕ) (changes : List Change) → i ≤ j → mixed old new i ≡ mixed old new j → LeadsBack side old new start i changes → LeadsBack side old new start j changes
+  leads-on i j changes h same leads = record {
+    starts = leads.starts;
+    back = leads.back ∙ ap (λ (xs : List Cell). record { side = side; cells = xs }) same;
+    few = omega (arith, leads.few);
+    on_grid = leads.on_grid;
+  }
+
+  pub leads-same : (i : ℕ) (changes : List Change) → i < length old → i < length new → get_or old i Black ≡ get_or new i Black → LeadsBack side old new start i changes → LeadsBack side old new start (i + 1) changes
+  leads-same i changes in_old in_new same leads =
+      leads-on i (i + 1) changes (omega arith) (mixed-same old new i in_old in_new same) leads
+
+  pub leads-range : (a b : ℕ) (changes : List Change) → a ≤ b → slice_range old a b ≡ slice_range new a b → LeadsBack side old new start a changes → LeadsBack side old new start b changes
+  leads-range a b changes h same leads = leads-on a b changes h (mixed-range old new a b h same) leads

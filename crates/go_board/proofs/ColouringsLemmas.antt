@@ -1,0 +1,99 @@
+-- proofs/ColouringsLemmas.antt
+-- Past colourings, as what is kept of them tells them.
+use Rattle.std.proofs.Common.{◌≡◌, ◌==◌, ℕ, zero, suc, ◌+◌, ◌-◌, ◌<◌, ◌≤◌, List, [], ◌∷◌, ◌++◌, Some, false, length, get_or, map, take, drop, reverse, slice_range, refl, sym, ap, subst, ◌∙◌, arith, length-take}
+use Rattle.std.proofs.lemmas.List.{take_more, drop-drop, take-take, reverse-append}
+use Rattle.std.proofs.lemmas.List.Elements.{All-take}
+use Rattle.std.proofs.lemmas.Bool.Decides.{nat_tests}
+use Rattle.std.proofs.lemmas.Slice.{between_is}
+use Rattle.go_board.specs.declared.past.changes.Change.{Change}
+use Rattle.go_board.specs.declared.past.changes.Older.{Older}
+use Rattle.go_board.specs.Point.{IsOn}
+use Rattle.go_board.specs.Grid.{Grid}
+use Rattle.go_board.specs.Past.{Held, newest, present_stretch}
+use Rattle.go_board.specs.inner.Changes.{after_changes, before, changes_before, held_before, AreKept, AreCounted, IsPast}
+use Rattle.go_board.proofs.ChangesLemmas.{after-side}
+
+-- a stretch has no more older colourings than there are
+pub counted-le : (since : ℕ) (os : List Older) → AreCounted since os → since ≤ length os
+counted-le since [] h = omega arith
+counted-le zero (o ∷ os) h = omega arith
+counted-le (suc n) (o ∷ os) h =
+    let one : suc n ≡ suc o.since = h.0 (omega arith) in
+    omega (arith, one, counted-le o.since os h.1)
+
+pub length-held : (g : Grid) (os : List Older) (changes : List Change) → length (held_before g os changes) ≡ length os
+length-held g [] changes = refl
+length-held g (o ∷ os) changes = ap suc (length-held (before g o changes) os (changes_before o changes))
+
+-- the colourings, newest first
+abbrev pub all_held : Grid → ℕ → List Older → List Change → List Held
+all_held g since os changes = record { colouring = g; begins = since == 0 } ∷ held_before g os changes
+
+-- the present stretch is the newest colouring and as many older ones as are counted
+pub stretch-is : (g : Grid) (since : ℕ) (os : List Older) (changes : List Change) → AreCounted since os → present_stretch (all_held g since os changes) ≡ map (λ (h : Held). h.colouring) (take (suc since) (all_held g since os changes))
+stretch-is g zero os changes h = refl
+stretch-is g (suc n) [] changes h = absurd (omega arith)
+stretch-is g (suc n) (o ∷ os) changes h =
+    let one : suc n ≡ suc o.since = h.0 (omega arith) in
+    let less : n ≡ o.since = omega arith in
+    let goes_on : (suc n == 0) ≡ false = grind (arith, nat_tests) in
+    rw goes_on
+    (ap (λ (gs : List Grid). g ∷ gs)
+    (stretch-is (before g o changes) o.since os (changes_before o changes) h.1
+    ∙ ap (λ k. map (λ (x : Held). x.colouring) (take (suc k) (held_before g (o ∷ os) changes))) (sym less)))
+
+-- one colouring less
+pub past-pop : (g : Grid) (since : ℕ) (older older' : List Older) (o : Older) (changes : List Change) → older ≡ older' ++ o ∷ [] → IsPast g since older changes → IsPast (before g o changes) o.since older' (changes_before o changes)
+past-pop g since older older' o changes parts past =
+    let turned : reverse older ≡ o ∷ reverse older' = ap reverse parts ∙ reverse-append older' (o ∷ []) in
+    let kept = subst (λ (os : List Older). AreKept g os changes) turned past.kept in
+    let counted = subst (λ (os : List Older). AreCounted since os) turned past.counted in
+    let side : (before g o changes).side ≡ g.side = after-side g (drop (length changes - o.changes) changes) in
+    record {
+      kept = kept.2;
+      counted = counted.1;
+      on_grid = rw side (All-take (λ (c : Change). IsOn g.side c.point) (length changes - o.changes) changes past.on_grid);
+    }
+
+-- going back by one colouring
+turned-take : (older : List Older) (i : ℕ) (d : Older) → i < length older → reverse (take (i + 1) older) ≡ get_or older i d ∷ reverse (take i older)
+turned-take older i d h = ap reverse (take_more older i d h) ∙ reverse-append (take i older) (get_or older i d ∷ [])
+
+module _ (held : List Held) (older : List Older) (changes : List Change) (board : Grid) (n end : ℕ) (d : Older) (is_one : n < length older) (within : end ≤ length changes) (earlier : drop (length older - (n + 1) + 1) held ≡ held_before board (reverse (take (n + 1) older)) (take end changes)) (kept : AreKept board (reverse (take (n + 1) older)) (take end changes)) where
+  abbrev one : Older
+  one = get_or older n d
+
+  -- the board once the changes of that colouring are taken back
+  abbrev pub board_before : Grid
+  board_before = after_changes board (slice_range changes (end - one.changes) end)
+
+  same_board : before board one (take end changes) ≡ board_before
+  same_board =
+      let count : length (take end changes) ≡ end = length-take end changes ∙ omega arith in
+      ap (λ k. after_changes board (drop (k - one.changes) (take end changes))) count
+      ∙ ap (after_changes board) (sym (between_is changes (end - one.changes) end))
+
+  same_changes : changes_before one (take end changes) ≡ take (end - one.changes) changes
+  same_changes =
+      let count : length (take end changes) ≡ end = length-take end changes ∙ omega arith in
+      ap (λ k. take (k - one.changes) (take end changes)) count ∙ take-take (end - one.changes) end changes (omega arith)
+
+  whole : drop (length older - n) held ≡ record { colouring = board_before; begins = one.since == 0 } ∷ held_before board_before (reverse (take n older)) (take (end - one.changes) changes)
+  whole =
+      let count : length older - n ≡ length older - (n + 1) + 1 = omega arith in
+      ap (λ k. drop k held) count ∙ earlier
+      ∙ ap (λ os. held_before board os (take end changes)) (turned-take older n d is_one)
+      ∙ ap (λ (b : Grid). record { colouring = b; begins = one.since == 0 } ∷ held_before b (reverse (take n older)) (changes_before one (take end changes))) same_board
+      ∙ ap (λ cs. record { colouring = board_before; begins = one.since == 0 } ∷ held_before board_before (reverse (take n older)) cs) same_changes
+
+  pub there-back : newest (drop (length older - n) held) ≡ Some board_before
+  there-back = ap newest whole
+
+  pub earlier-back : drop (length older - n + 1) held ≡ held_before board_before (reverse (take n older)) (take (end - one.changes) changes)
+  earlier-back = sym (drop-drop 1 (length older - n) held) ∙ ap (λ (hs : List Held). drop 1 hs) whole
+
+  pub kept-back : AreKept board_before (reverse (take n older)) (take (end - one.changes) changes)
+  kept-back =
+      let rest = subst (λ (os : List Older). AreKept board os (take end changes)) (turned-take older n d is_one) kept in
+      let on_board = subst (λ (b : Grid). AreKept b (reverse (take n older)) (changes_before one (take end changes))) same_board rest.2 in
+      subst (λ (cs : List Change). AreKept board_before (reverse (take n older)) cs) same_changes on_board

@@ -1,0 +1,9 @@
+-- proofs/past/table/Table/empty/Answers.antt
+use Rattle.std.proofs.Common.{lit<}
+use Rattle.go_board.proofs.TableLemmas.{table-empty}
+use Rattle.go_board.proofs.past.table.Table.empty.Goals as goal
+
+pub invariant_of-result : goal.invariant_of-result
+invariant_of-result c =
+    rw (c.new.ensures.items, c.new-2.ensures.items)
+    (table-empty c.in_ok-no_heads.field-0.items 128 (lit< tt) c.in_ok-no_heads.ensures)

@@ -1,0 +1,32 @@
+-- specs/inner/Table.antt
+-- A list of prints, oldest first, in which those with one key are linked. A number in a link or a head is one more than
+-- an index; 0 stands for none.
+use Rattle.std.specs.Prelude.{◌≡◌, ◌≢◌, ℕ, ◌-◌, ◌<◌, ◌≤◌, Option, Some, None, List, length, slice_index, bit_and}
+
+-- a print's key in a table of that many heads
+abbrev pub key_of : ℕ → ℕ → ℕ
+key_of size print = bit_and print (size - 1)
+
+-- the number of the newest of the first n prints that has the key
+pub record IsNewest (size : ℕ) (prints : List ℕ) (n key number : ℕ) : Type 0 where
+  pub within : number ≤ n
+  pub there : 0 < number → key_of size (slice_index prints (number - 1)) ≡ key
+  pub newest : (y : ℕ) → number ≤ y → y < n → key_of size (slice_index prints y) ≢ key
+
+-- the first n prints are linked: each head has the newest of its key, and each link the newest before it of the same key
+pub record AreLinked (prints : List ℕ) (n : ℕ) (heads links : List ℕ) : Type 0 where
+  pub by_head : (k : ℕ) → k < length heads → IsNewest (length heads) prints n k (slice_index heads k)
+  pub by_link : (x : ℕ) → x < n → IsNewest (length heads) prints x (key_of (length heads) (slice_index prints x)) (slice_index links x)
+
+-- a table of those prints
+pub record IsTable (heads prints links : List ℕ) : Type 0 where
+  pub some : 0 < length heads
+  pub one_each : length links ≡ length prints
+  pub linked : AreLinked prints (length prints) heads links
+
+-- the index of the last print of a range that is that one, none where the range doesn't have it
+abbrev pub IsLastOf : List ℕ → ℕ → ℕ → ℕ → Option ℕ → Type 0
+IsLastOf prints print start end None = (y : ℕ) → start ≤ y → y < end → slice_index prints y ≢ print
+IsLastOf prints print start end (Some x) =
+    (start ≤ x) × (x < end) × (slice_index prints x ≡ print)
+    × ((y : ℕ) → x < y → y < end → slice_index prints y ≢ print)

@@ -1,0 +1,138 @@
+//! Past colourings: the newest whole, and of each older one the changes that lead back to it.
+
+ghost use Rattle.std.specs.Prelude.{◌≡◌, ◌+◌, ◌-◌, ◌*◌, ◌<◌, ◌≤◌, length, take, drop, IfOk, OnOk, OnErr};
+ghost use Rattle.go_board.specs.Point.{IsOn, index_of};
+ghost use Rattle.go_board.specs.inner.Changes.{after_changes, AreOn, LeadsBack};
+
+use crate::board::Board;
+use crate::fault::MemoryFault;
+use crate::points::Point;
+use crate::size::Size;
+use crate::stones::Cell;
+use std::alloc::AllocError;
+
+/// A point, and what stood on it before.
+#[derive(Clone, Copy)]
+pub(crate) struct Change {
+    pub point: Point,
+    pub cell: Cell,
+}
+
+/// What is kept of an older colouring, besides its changes.
+#[derive(Clone, Copy)]
+pub(crate) struct Older {
+    /// How many older colourings its stretch has: none, where it begins one.
+    pub since: u32,
+    /// How many changes lead back to it from the colouring after it.
+    pub changes: u16,
+    /// Whether it is known that every stone reaches empty.
+    pub settled: bool,
+}
+
+/// Takes a board back by changes, one after another.
+pub(crate) fn take_back(board: &mut Board, changes: &[Change])
+    requires { AreOn board.old.side changes.now }
+    ensures { board.new ≡ after_changes board.old changes.now }
+{
+    for change in changes {
+        board.set(change.point, change.cell);
+    }
+}
+
+/// Adds changes that lead back from the new board to the old one, and tells how many.
+pub(crate) fn lead_back(
+    old: &Board,
+    new: &Board,
+    changes: &mut Vec<Change>,
+) -> Result<u16, MemoryFault>
+    requires side { old.now.side ≡ new.now.side }
+    requires on_grid { AreOn old.now.side changes.old.items }
+    ensures count { IfOk result (λ count. count ≤ length changes.new.items) }
+    ensures back { IfOk result (λ count.
+        after_changes new.now (drop (length changes.new.items - count) changes.new.items) ≡ old.now) }
+    ensures front { IfOk result (λ count.
+        take (length changes.new.items - count) changes.new.items ≡ changes.old.items) }
+    ensures on_grid { OnOk result (AreOn old.now.side changes.new.items) }
+    ensures err { OnErr result (changes.new.items ≡ changes.old.items) }
+{
+    let start = changes.len();
+    if add_rows(old.size(), old.cells(), new.cells(), start, changes).is_err() {
+        changes.truncate(start);
+        return Err(MemoryFault);
+    }
+    Ok((changes.len() - start) as u16)
+}
+
+/// Adds the changes that lead back from the new cells to the old ones.
+fn add_rows(
+    size: Size,
+    old: &[Cell],
+    new: &[Cell],
+    start: usize,
+    changes: &mut Vec<Change>,
+) -> Result<(), AllocError>
+    requires old { length old.now ≡ size * size }
+    requires new { length new.now ≡ size * size }
+    requires start { start ≡ length changes.old.items }
+    requires on_grid { AreOn size changes.old.items }
+    ensures ok { OnOk result (LeadsBack size old.now new.now start (size * size) changes.new.items) }
+    ensures front { take start changes.new.items ≡ changes.old.items }
+{
+    for row in 0..size.side() {
+        add_row(size, row, old, new, start, changes)?;
+    }
+    Ok(())
+}
+
+/// Adds the changes of one row.
+fn add_row(
+    size: Size,
+    row: u8,
+    old: &[Cell],
+    new: &[Cell],
+    start: usize,
+    changes: &mut Vec<Change>,
+) -> Result<(), AllocError>
+    requires row { row < size }
+    requires old { length old.now ≡ size * size }
+    requires new { length new.now ≡ size * size }
+    requires above { LeadsBack size old.now new.now start (row * size) changes.old.items }
+    ensures ok { OnOk result (LeadsBack size old.now new.now start ((row + 1) * size) changes.new.items) }
+    ensures front { take start changes.new.items ≡ take start changes.old.items }
+{
+    let side = usize::from(size.side());
+    let first = usize::from(row) * side;
+    if &old[first..first + side] == &new[first..first + side] {
+        return Ok(());
+    }
+    for col in 0..size.side() {
+        add_point(size, Point { col, row }, old, new, start, changes)?;
+    }
+    Ok(())
+}
+
+/// Adds the change of one point, if there is one.
+fn add_point(
+    size: Size,
+    point: Point,
+    old: &[Cell],
+    new: &[Cell],
+    start: usize,
+    changes: &mut Vec<Change>,
+) -> Result<(), AllocError>
+    requires on { IsOn size point }
+    requires old { length old.now ≡ size * size }
+    requires new { length new.now ≡ size * size }
+    requires before { LeadsBack size old.now new.now start (index_of size point) changes.old.items }
+    ensures ok { OnOk result (LeadsBack size old.now new.now start (index_of size point + 1) changes.new.items) }
+    ensures front { take start changes.new.items ≡ take start changes.old.items }
+{
+    let index = point.index(size);
+    if old[index] != new[index] {
+        changes.push(Change {
+            point,
+            cell: old[index],
+        })?;
+    }
+    Ok(())
+}

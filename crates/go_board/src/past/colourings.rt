@@ -1,0 +1,134 @@
+//! Past colourings, of which the newest is kept whole, and of each older one the changes that lead back to it.
+
+ghost use Rattle.std.specs.Prelude.{◌≡◌, ◌+◌, ◌-◌, ◌<◌, ◌≤◌, ◌↔◌, [], ◌∷◌, Some, true, IsTrue, IfOk, OnOk, OnErr, if◌then◌else◌, length, map, take, drop};
+ghost use Rattle.go_board.specs.Past.{Held, newest, present_stretch, HaveSide};
+
+use crate::board::Board;
+use crate::fault::MemoryFault;
+use crate::past::changes::{Change, Older, lead_back, take_back};
+use std::alloc::Global;
+use std::marker::Model;
+
+/// The colourings of a past. They are numbered from 0, the oldest, in the order in which they were added.
+#[derive(Drop)]
+pub(crate) struct Colourings {
+    newest: Board,
+    /// How many older colourings the newest one's stretch has.
+    since: u32,
+    /// What is kept of the older colourings, oldest first.
+    older: Vec<Older>,
+    /// Their changes, oldest first.
+    changes: Vec<Change>,
+}
+
+impl Model for Colourings {
+    ghost use Rattle.std.specs.Prelude.{◌==◌, ◌∷◌, List, reverse};
+    ghost use Rattle.go_board.specs.Past.{Held};
+
+    ghost Value = { List Held };
+
+    ghost use Rattle.go_board.specs.inner.Changes.{held_before, IsPast};
+
+    ghost view = { λ p. record { colouring = p.newest; begins = p.since == 0 }
+        ∷ held_before p.newest (reverse p.older.items) p.changes.items };
+
+    ghost invariant = { λ p. IsPast p.newest p.since p.older.items p.changes.items };
+}
+
+impl Colourings {
+    /// That one colouring, which begins a stretch.
+    pub(crate) fn new(alloc: Global, board: &Board) -> Colourings
+        ensures { result ≡ record { colouring = board.now; begins = true } ∷ [] }
+    {
+        Colourings {
+            newest: board.copy(),
+            since: 0,
+            older: Vec::new(alloc),
+            changes: Vec::new(alloc),
+        }
+    }
+
+    /// The newest colouring.
+    pub(crate) fn newest(&self) -> &Board
+        ensures { newest self.now ≡ Some result.now }
+    {
+        &self.newest
+    }
+
+    /// The number of the first colouring of the present stretch.
+    pub(crate) fn stretch_start(&self) -> usize
+        ensures below { result < length self.now }
+        ensures stretch { present_stretch self.now
+            ≡ map (λ (h : Held). h.colouring) (take (length self.now - result) self.now) }
+    {
+        self.older.len() - self.since as usize
+    }
+
+    /// The colouring of that number.
+    fn colouring(&self, number: usize) -> Board
+        requires { number < length self.now }
+        ensures { newest (drop (length self.now - 1 - number) self.now) ≡ Some result }
+    {
+        let mut board = self.newest.copy();
+        let mut end = self.changes.len();
+        for i in (number..self.older.len()).rev() {
+            let start = end - usize::from(self.older[i].changes);
+            take_back(&mut board, &self.changes[start..end]);
+            end = start;
+        }
+        board
+    }
+
+    /// Whether that is the colouring of that number.
+    pub(crate) fn is_at(&self, number: usize, board: &Board) -> bool
+        requires { number < length self.now }
+        ensures { IsTrue result ↔ (newest (drop (length self.now - 1 - number) self.now) ≡ Some board.now) }
+    {
+        self.colouring(number).same(board)
+    }
+
+    /// Adds a colouring, which begins a stretch or goes on in the present one. After a refusal nothing is changed. It
+    /// is refused memory, too, for more than 4,294,967,296 colourings of one stretch.
+    pub(crate) fn add(&mut self, board: &Board, begins: bool) -> Result<(), MemoryFault>
+        requires { HaveSide board.now.side self.old }
+        ensures ok { OnOk result (self.new
+            ≡ record { colouring = board.now; begins = begins } ∷ self.old) }
+        ensures err { OnErr result (self.new ≡ self.old) }
+    {
+        let since = next_since(self.since, begins)?;
+        self.older.reserve(1)?;
+        let changes = lead_back(&self.newest, board, &mut self.changes)?;
+        let kept = Older {
+            since: self.since,
+            changes,
+            settled: self.newest.is_settled(),
+        };
+        self.older.push(kept).unwrap();
+        self.newest.copy_from(board);
+        self.since = since;
+        Ok(())
+    }
+
+    /// Takes the newest colouring back.
+    pub(crate) fn pop(&mut self)
+        requires { 2 ≤ length self.old }
+        ensures { self.new ≡ drop 1 self.old }
+    {
+        let kept = self.older.pop().unwrap();
+        let start = self.changes.len() - usize::from(kept.changes);
+        take_back(&mut self.newest, &self.changes[start..]);
+        self.newest.restore_settled(kept.settled);
+        self.changes.truncate(start);
+        self.since = kept.since;
+    }
+}
+
+/// How many older colourings the stretch of a colouring has that comes after one with so many.
+fn next_since(since: u32, begins: bool) -> Result<u32, MemoryFault>
+    ensures { IfOk result (λ next. next ≡ (if begins then 0 else since + 1)) }
+{
+    if begins {
+        return Ok(0);
+    }
+    since.checked_add(1).ok_or(MemoryFault)
+}

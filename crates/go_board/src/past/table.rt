@@ -1,0 +1,176 @@
+//! A list of prints in which one print is found without a look at most of the others.
+
+ghost use Rattle.std.specs.Prelude.{◌≡◌, ◌+◌, ◌<◌, ◌≤◌, ◌^◌, [], ◌∷◌, ◌++◌, IfOk, OnOk, OnErr, length, replicate};
+ghost use Rattle.go_board.specs.inner.Table.{key_of, AreLinked, IsLastOf};
+
+use crate::fault::MemoryFault;
+use std::alloc::Global;
+use std::marker::Model;
+
+/// How many heads the table of a new past has.
+const FIRST_HEADS: usize = 128;
+
+/// Prints, oldest first. Those with one key, the low bits of a print, are linked from the newest to the oldest. There
+/// are at least half as many keys as prints, once there are many.
+#[derive(Drop)]
+pub(crate) struct Table {
+    /// For each key the number of the newest print that has it: one more than its index, or 0 where there is none.
+    heads: Vec<u32>,
+    prints: Vec<u64>,
+    /// For each print the number of the newest one before it that has its key.
+    links: Vec<u32>,
+}
+
+impl Model for Table {
+    ghost use Rattle.std.specs.Prelude.{ℕ, List};
+
+    ghost Value = { List ℕ };
+
+    ghost use Rattle.go_board.specs.inner.Table.{IsTable};
+
+    ghost view = { λ t. t.prints.items };
+
+    ghost invariant = { λ t. IsTable t.heads.items t.prints.items t.links.items };
+}
+
+impl Table {
+    /// The list of one print.
+    pub(crate) fn new(alloc: Global, print: u64) -> Result<Table, MemoryFault>
+        ensures { IfOk result (λ table. table ≡ print ∷ []) }
+    {
+        let mut table = Table::empty(alloc)?;
+        table.push(print)?;
+        Ok(table)
+    }
+
+    /// The list of no print.
+    fn empty(alloc: Global) -> Result<Table, MemoryFault>
+        ensures { IfOk result (λ table. table ≡ []) }
+    {
+        Ok(Table {
+            heads: no_heads(alloc, FIRST_HEADS)?,
+            prints: Vec::new(alloc),
+            links: Vec::new(alloc),
+        })
+    }
+
+    /// How many prints there are.
+    pub(crate) fn len(&self) -> usize
+        ensures { result ≡ length self.now }
+    {
+        self.prints.len()
+    }
+
+    /// The index of the last print from one index to another that is that one.
+    pub(crate) fn last_between(&self, print: u64, start: usize, end: usize) -> Option<usize>
+        requires { end ≤ length self.now }
+        ensures { IsLastOf self.now print start end result }
+    {
+        let mut number = self.heads[key_of(self.heads.len(), print)] as usize;
+        while number > start {
+            let index = number - 1;
+            if index < end && self.prints[index] == print {
+                return Some(index);
+            }
+            number = self.links[index] as usize;
+        }
+        None
+    }
+
+    /// Adds a print. After a refusal nothing is changed. Memory is refused, too, for more than 4,294,967,295 prints.
+    pub(crate) fn push(&mut self, print: u64) -> Result<(), MemoryFault>
+        ensures ok { OnOk result (self.new ≡ self.old ++ print ∷ []) }
+        ensures err { OnErr result (self.new ≡ self.old) }
+    {
+        let index = self.prints.len();
+        if index >= u32::MAX as usize {
+            return Err(MemoryFault);
+        }
+        if index / 2 >= self.heads.len() {
+            self.grow()?;
+        }
+        self.add(print)
+    }
+
+    /// Doubles the number of heads, and links all prints anew.
+    fn grow(&mut self) -> Result<(), MemoryFault>
+        requires { length self.old < 2 ^ 32 }
+        ensures { self.new ≡ self.old }
+    {
+        let size = self.heads.len().checked_mul(2).ok_or(MemoryFault)?;
+        let mut heads = no_heads(*self.heads.allocator(), size)?;
+        link_all(&mut heads, &self.prints, &mut self.links);
+        self.heads = heads;
+        Ok(())
+    }
+
+    /// Adds a print, by the heads that there are.
+    fn add(&mut self, print: u64) -> Result<(), MemoryFault>
+        requires { length self.old + 1 < 2 ^ 32 }
+        ensures ok { OnOk result (self.new ≡ self.old ++ print ∷ []) }
+        ensures err { OnErr result (self.new ≡ self.old) }
+    {
+        let index = self.prints.len();
+        self.prints.reserve(1)?;
+        self.links.reserve(1)?;
+        self.prints.push(print).unwrap();
+        self.links.push(0).unwrap();
+        link(&mut self.heads, &self.prints, &mut self.links, index);
+        Ok(())
+    }
+
+    /// Takes the newest print back.
+    pub(crate) fn pop(&mut self) -> u64
+        requires { 0 < length self.old }
+        ensures { self.old ≡ self.new ++ result ∷ [] }
+    {
+        let print = self.prints.pop().unwrap();
+        let number = self.links.pop().unwrap();
+        let key = key_of(self.heads.len(), print);
+        self.heads[key] = number;
+        print
+    }
+}
+
+/// The key of a print where there are so many heads.
+fn key_of(heads: usize, print: u64) -> usize
+    requires { 0 < heads }
+    ensures value { result ≡ key_of heads print }
+    ensures within { result < heads }
+{
+    print as usize & (heads - 1)
+}
+
+/// Heads of keys that no print has.
+fn no_heads(alloc: Global, size: usize) -> Result<Vec<u32>, MemoryFault>
+    ensures { IfOk result (λ heads. heads.items ≡ replicate size 0) }
+{
+    Ok(vec![in alloc; 0; size]?)
+}
+
+/// Links one print more.
+fn link(heads: &mut [u32], prints: &[u64], links: &mut [u32], index: usize)
+    requires some { 0 < length heads.old }
+    requires index { index < length prints.now }
+    requires one_each { length links.old ≡ length prints.now }
+    requires fits { index + 1 < 2 ^ 32 }
+    requires linked { AreLinked prints.now index heads.old links.old }
+    ensures { AreLinked prints.now (index + 1) heads.new links.new }
+{
+    let key = key_of(heads.len(), prints[index]);
+    links[index] = heads[key];
+    heads[key] = (index + 1) as u32;
+}
+
+/// Links all prints, where no key has one yet.
+fn link_all(heads: &mut [u32], prints: &[u64], links: &mut [u32])
+    requires some { 0 < length heads.old }
+    requires none { heads.old ≡ replicate (length heads.old) 0 }
+    requires one_each { length links.old ≡ length prints.now }
+    requires fits { length prints.now < 2 ^ 32 }
+    ensures { AreLinked prints.now (length prints.now) heads.new links.new }
+{
+    for index in 0..prints.len() {
+        link(heads, prints, links, index);
+    }
+}
