@@ -3,7 +3,7 @@
 #
 #   recipes/openings.sh 4 *.sgf | head
 #
-# A row is COUNT SIDE MOVE .. with moves as in GTP (`B:Q16`). Lines in which the referee finds a fault count up to it, those of
+# A row is COUNT SIDE MOVE .. with moves as in GTP (`B-Q16`). Lines in which the referee finds a fault count up to it, those of
 # other games or of sides past 25 don't count; stones set up at the beginning stand as moves too. A file that is refused is named
 # on standard error, and the others go on.
 set -euo pipefail
@@ -14,5 +14,5 @@ for file; do
     "$sgfsplit" split --form gtp "$file" || echo "refused: $file" >&2
 done | awk -v moves="$moves" '
     $1 == "boardsize" { row = $2; left = moves }
-    $1 == "play" && left > 0 { row = row " " $2 ":" $3; left-- }
+    $1 == "play" && left > 0 { row = row " " $2 "-" $3; left-- }
     /^$/ { if (row != "") print row; row = "" }' | sort | uniq -c | sort -k 1,1nr -k 2 | sed 's/^ *//'
