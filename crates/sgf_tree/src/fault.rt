@@ -1,5 +1,6 @@
 //! The ways in which a call may fail.
 
+use std::alloc::{AllocError, AllocFailed};
 use thiserror::Error;
 
 /// The most bytes that a text may have: 64 MiB (this project's choice).
@@ -27,3 +28,15 @@ pub enum ReadFault {
 #[derive(Debug, Drop, Error)]
 #[error("out of memory")]
 pub struct MemoryFault;
+
+impl From<AllocError> for MemoryFault {
+    fn from(_refused: AllocError) -> MemoryFault {
+        MemoryFault
+    }
+}
+
+impl<T: Drop> From<AllocFailed<T>> for MemoryFault {
+    fn from(_refused: AllocFailed<T>) -> MemoryFault {
+        MemoryFault
+    }
+}

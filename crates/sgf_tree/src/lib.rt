@@ -1,9 +1,27 @@
 //! Reads Smart Game Format (SGF FF[4]) texts.
 //!
+//! [`read`] goes over a text once, and answers either the collection that it spells or the first byte at which no text of the
+//! grammar goes on. A [`Collection`] numbers its nodes in file order from 0, and tells of each node its place, its parent
+//! and the last node below it, in 16 bytes a node. A node's properties and their raw values are read from the text again
+//! when they are asked for, one after another, and none of this takes memory.
+//!
+//! ```text
+//! let collection = read(alloc, text)?;
+//! for i in 0..collection.nodes() {
+//!     let mut properties = collection.node(i).walk();
+//!     while let Some(property) = properties.next() {
+//!         if property.is(b"C") {
+//!             push_text(property.value(0), &mut comments)?;
+//!         }
+//!     }
+//! }
+//! ```
+//!
 //! - `fault` has the ways in which a call may fail.
-//! - `layout` has the entries of the flat vectors that hold a collection.
+//! - `layout` has the entries of the flat vector that holds a collection.
 //! - `collection`, `node` and `property` look into a collection that was read.
-//! - `reader` reads one.
+//! - `walk` steps forward over the properties of a node and the values of a property.
+//! - `reader` reads a text.
 //! - `text` decodes the text of a value, and `numbers` has the value of a number.
 //! - `laws` has what holds of all texts.
 #![tactic(auto)]

@@ -56,9 +56,7 @@ impl<'a> PropRef<'a> {
         ensures unchanged { OnErr result (out.new.items ≡ out.old.items) }
     {
         let identifier = self.identifier;
-        if out.reserve(identifier.len()).is_err() {
-            return Err(MemoryFault);
-        }
+        out.reserve(identifier.len())?;
         for letter in identifier {
             if letter.is_ascii_uppercase() {
                 out.push(*letter).unwrap();

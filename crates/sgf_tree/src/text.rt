@@ -17,7 +17,7 @@ pub fn push_text(raw: &[u8], out: &mut Vec<u8>) -> Result<(), MemoryFault>
     ensures decoded { OnOk result (out.new.items ≡ out.old.items ++ text_of raw.now) }
     ensures unchanged { OnErr result (out.new.items ≡ out.old.items) }
 {
-    out.reserve(raw.len()).map_err(|_| MemoryFault)?;
+    out.reserve(raw.len())?;
     let mut rest = raw;
     while !rest.is_empty() {
         let (literal, special) = rest.split_at(literal_length(rest));

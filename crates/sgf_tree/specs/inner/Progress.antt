@@ -1,5 +1,5 @@
 -- How far a text was read: the words of the contracts inside `reader`.
-use Rattle.std.specs.Prelude.{◌≡◌, ℕ, ◌<◌, ◌≤◌, Bool, false, not, ◌&&◌, ◌==◌, List, [], ◌∷◌, length, slice_index, slice_range, take, drop, Some, IsTrue}
+use Rattle.std.specs.Prelude.{◌≡◌, ℕ, ◌+◌, ◌<◌, ◌≤◌, Bool, false, not, ◌&&◌, ◌==◌, List, [], ◌∷◌, length, slice_index, slice_range, take, drop, Some, IsTrue}
 use Rattle.sgf_tree.specs.Bytes.{backslash, close_bracket}
 use Rattle.sgf_tree.specs.RawValue.{IsValue}
 use Rattle.sgf_tree.specs.inner.Machine.{Started, MachineState, start, in_value, run}
@@ -38,6 +38,12 @@ pub record IsValueEnd (t : List ℕ) (at end : ℕ) : Type 0 where
 -- its bytes are units of a value, up to the `]`
 abbrev pub SpellsValue : List ℕ → ℕ → ℕ → Type 0
 SpellsValue t at end = IsValue (slice_range t at end) (drop at t) (drop end t)
+
+-- two plain bytes and a `]`
+pub record SpellsPair (t : List ℕ) (at : ℕ) : Type 0 where
+  pub within : at + 2 < length t
+  pub plain : IsRun is_plain t at (at + 2)
+  pub bracket : slice_index t (at + 2) ≡ close_bracket
 
 -- no raw value begins at `at`
 abbrev pub SpellsNoValue : List ℕ → ℕ → Type 0

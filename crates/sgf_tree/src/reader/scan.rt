@@ -1,9 +1,9 @@
 //! Where spans of a text end.
 
-ghost use Rattle.std.specs.Prelude.{◌≡◌, ◌≤◌, length, drop, slice_range, MatchOption};
+ghost use Rattle.std.specs.Prelude.{◌≡◌, ◌≤◌, length, drop, slice_range, IsTrue, MatchOption};
 ghost use Rattle.sgf_tree.specs.Spelling.{is_white};
 ghost use Rattle.sgf_tree.specs.inner.NodeText.{is_letter};
-ghost use Rattle.sgf_tree.specs.inner.Progress.{IsRun, IsValueEnd, IsUnended, SpellsValue, SpellsNoValue, is_plain};
+ghost use Rattle.sgf_tree.specs.inner.Progress.{IsRun, IsValueEnd, IsUnended, SpellsValue, SpellsNoValue, SpellsPair, is_plain};
 
 use memchr::memchr2;
 
@@ -31,7 +31,7 @@ pub(crate) fn part(text: &[u8], start: usize, end: usize) -> &[u8]
 fn is_white_space(byte: u8) -> bool
     ensures { result ≡ is_white byte }
 {
-    matches!(byte, b' ' | b'\t' | b'\n' | b'\r' | 0x0B | 0x0C)
+    byte <= b' ' && matches!(byte, b' ' | b'\t'..=b'\r')
 }
 
 /// The end of the white space that stands at `at`.
@@ -76,6 +76,19 @@ fn plain_end(text: &[u8], at: usize) -> usize
     }
 }
 
+/// Whether the raw value at `at` is two bytes, as a point is, that stand for themselves.
+fn is_pair(text: &[u8], at: usize) -> bool
+    requires { at ≤ length text.now }
+    ensures { IsTrue result → SpellsPair text.now at }
+{
+    text.len() - at > 2
+        && text[at + 2] == b']'
+        && text[at] != b']'
+        && text[at] != b'\\'
+        && text[at + 1] != b']'
+        && text[at + 1] != b'\\'
+}
+
 /// The `]` that ends the raw value at `at`.
 /// None where the text ends before it.
 pub(crate) fn value_end(text: &[u8], at: usize) -> Option<usize>
@@ -83,6 +96,9 @@ pub(crate) fn value_end(text: &[u8], at: usize) -> Option<usize>
     ensures read { MatchOption result (IsUnended text.now at) (λ end. IsValueEnd text.now at end) }
     ensures spelled { MatchOption result (SpellsNoValue text.now at) (λ end. SpellsValue text.now at end) }
 {
+    if is_pair(text, at) {
+        return Some(at + 2);
+    }
     let mut end = at;
     'units: loop {
         end = plain_end(text, end);

@@ -69,3 +69,18 @@ units-init c =
       units = units-none c.args.text.now c.args.at;
       spelled = spelled-none c.args.text.now c.args.at;
     }
+
+pub returns-then-is_pair : goal.returns-then-is_pair
+returns-then-is_pair c =
+    let t = c.args.text.now in
+    let at = c.args.at in
+    let pair = c.is_pair.ensures c.if-is_pair.true in
+    record {
+      read = record {
+        rises = omega arith;
+        within = pair.within;
+        bracket = pair.bracket;
+        value = units-plain t at at (at + 2) (omega arith) (units-none t at) pair.plain;
+      };
+      spelled = spelled-plain t at at (at + 2) (omega arith) (spelled-none t at) pair.plain;
+    }
