@@ -22,5 +22,9 @@ pub mod Descending
 pub mod Sought
 pub mod Joins
 pub mod Records
+pub mod Gathering
+pub mod Stepping
+pub mod Walking
+pub mod Judged
 pub mod Again
 pub mod Appended

@@ -15,8 +15,10 @@ verdict_text (Illegal turn place reason) =
 verdict_text NotGo = codes "unjudged game"
 verdict_text BadSize = codes "unjudged size"
 
--- the row, without a line feed
+-- the row of a line with this place, in the game of this number, with so many nodes and this verdict; no line feed
+abbrev pub row_text : ℕ → ℕ → ℕ → Verdict → List ℕ
+row_text place game_number count v =
+    decimal place ++ codes " " ++ decimal game_number ++ codes " " ++ decimal count ++ codes " " ++ verdict_text v
+
 abbrev pub list_row : Line → List ℕ
-list_row line =
-    decimal (place_of line) ++ codes " " ++ decimal line.game_number ++ codes " " ++ decimal (length line.nodes)
-    ++ codes " " ++ verdict_text (verdict line)
+list_row line = row_text (place_of line) line.game_number (length line.nodes) (verdict line)

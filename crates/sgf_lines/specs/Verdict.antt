@@ -1,13 +1,14 @@
 -- The verdict of a line: the area score at its end, or the first node that isn't allowed (Tromp-Taylor), or that it is
 -- not judged.
-use Rattle.std.specs.Prelude.{◌+◌, Option, Some, None, List, []}
-use Rattle.sgf_tree.specs.Tree.{Node}
+use Rattle.std.specs.Prelude.{◌≡◌, ℕ, ◌+◌, Option, Some, None, option_map, List, [], slice_get}
+use Rattle.sgf_tree.specs.Tree.{Node, Games}
 use Rattle.go_board.specs.declared.stones.Colour.TheVariants.{Black, White}
 use Rattle.go_board.specs.Score.{score_of}
 use Rattle.go_board.specs.State.{State, is_over}
 use Rattle.sgf_lines.specs.declared.verdict.Verdict.{Verdict}
 use Rattle.sgf_lines.specs.declared.verdict.Verdict.TheVariants.{Score, Illegal, NotGo, BadSize}
-use Rattle.sgf_lines.specs.Lines.{Line}
+use Rattle.sgf_lines.specs.Lines.{Line, lines}
+use Rattle.sgf_lines.specs.Paths.{paths, leaf_of}
 use Rattle.sgf_lines.specs.GameSize.{Opening, other_game, no_board, board, opening, root_properties}
 use Rattle.sgf_lines.specs.Walk.{Fault, Walk, walk, judged_by}
 
@@ -44,3 +45,11 @@ judged_on (board side) nodes = judged_by (walk side nodes)
 
 abbrev pub judged_nodes : Line → List Node
 judged_nodes line = judged_on (opening (root_properties line.nodes)) line.nodes
+
+-- the verdict is that of the line of a collection that ends in the node of this number
+pub record IsVerdictAt (c : Games) (leaf : ℕ) (v : Verdict) : Type 0 where
+  pub index : ℕ
+  pub line : Line
+  pub found : slice_get (lines c) index ≡ Some line
+  pub ends : option_map leaf_of (slice_get (paths c) index) ≡ Some leaf
+  pub verdict_is : v ≡ verdict line

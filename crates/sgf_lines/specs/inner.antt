@@ -3,3 +3,6 @@ pub mod Standing
 pub mod Lending
 pub mod Seeking
 pub mod Following
+pub mod Contents
+pub mod Stepping
+pub mod Shown

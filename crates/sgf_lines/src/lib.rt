@@ -18,20 +18,28 @@
 //! - `split` turns a text into the records of its lines, and `fault` has the ways in which it may fail.
 #![tactic(auto)]
 
+mod contents;
 mod cursor;
 mod fault;
+mod judging;
 pub mod laws;
 mod line;
+mod opening;
 mod options;
 mod record;
+mod row;
 mod seek;
 mod split;
+mod step;
 #[cfg(test)]
 mod tests;
+mod text;
+mod values;
 mod verdict;
 
 pub use cursor::Cursor;
 pub use fault::FirstFault;
+pub use judging::judge;
 pub use line::LineRef;
 pub use options::{Form, Options};
 pub use seek::SeekFault;

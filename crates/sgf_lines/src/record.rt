@@ -5,6 +5,7 @@ ghost use Rattle.sgf_tree.specs.Tree.{Node, node_count};
 ghost use Rattle.sgf_tree.specs.FileOrder.{node_at};
 ghost use Rattle.sgf_lines.specs.Record.{value_text, property_text, node_text, sgf_record};
 
+use crate::text::push_bytes;
 use sgf_tree::{Collection, MemoryFault, NodeRef, PropRef};
 
 /// Appends the nodes of a path between parentheses, and a line feed.
@@ -53,14 +54,4 @@ fn push_value(value: &[u8], output: &mut Vec<u8>) -> Result<(), MemoryFault>
     push_bytes(b"[", output)?;
     push_bytes(value, output)?;
     push_bytes(b"]", output)
-}
-
-/// Appends bytes.
-fn push_bytes(bytes: &[u8], output: &mut Vec<u8>) -> Result<(), MemoryFault>
-    ensures { OnOk result (output.new.items ≡ output.old.items ++ bytes.now) }
-{
-    match output.extend_from_slice(bytes) {
-        Ok(()) => Ok(()),
-        Err(_) => Err(MemoryFault),
-    }
 }

@@ -1,0 +1,109 @@
+-- A walk along a line, node after node.
+use Rattle.std.proofs.Common.{◌≡◌, ℕ, zero, suc, ◌+◌, ◌<◌, ◌≤◌, List, [], ◌∷◌, ◌++◌, length, take, drop, map, slice_get, Option, Some, None, Result, Ok, Err, refl, sym, ap, ◌∙◌, subst, arith, add-one}
+use Rattle.std.specs.Prelude.{fold, IfOk, option_map}
+use Rattle.std.proofs.lemmas.List.Sums.{fold-append}
+use Rattle.std.proofs.lemmas.List.{take_all}
+use Rattle.sgf_tree.specs.Tree.{Node, Games}
+use Rattle.sgf_tree.specs.FileOrder.{Row, rows_of, node_at, place_at}
+use Rattle.sgf_tree.specs.declared.fault.MemoryFault.{MemoryFault}
+use Rattle.go_board.specs.declared.reason.Reason.{Reason}
+use Rattle.go_board.specs.State.{State, States}
+use Rattle.sgf_lines.specs.declared.verdict.Verdict.{Verdict}
+use Rattle.sgf_lines.specs.declared.verdict.Verdict.TheVariants.{Illegal}
+use Rattle.sgf_lines.specs.declared.step.StepFault.{StepFault}
+use Rattle.sgf_lines.specs.declared.step.StepFault.TheVariants.{Illegal as IllegalStep, Memory as MemoryStep}
+use Rattle.sgf_lines.specs.Step.{step}
+use Rattle.sgf_lines.specs.Walk.{Fault, Walk, begun, stepped, next_by, next, walk}
+use Rattle.sgf_lines.specs.Verdict.{verdict_at, score_in}
+use Rattle.sgf_lines.specs.inner.Stepping.{IsStepped, ended_with}
+
+-- the walk has met no fault, and leads to that state
+pub record StandsAfter (w : Walk) (s : State) : Type 0 where
+  pub no_fault : w.fault ≡ None
+  pub state : w.state ≡ s
+
+-- one node later
+pub walk-more : (side : ℕ) (nodes : List Node) (i : ℕ) (n : Node) → slice_get nodes i ≡ Some n → walk side (take (i + 1) nodes) ≡ next (walk side (take i nodes)) n
+walk-more side nodes i n e = ap (fold next (begun side)) (front nodes i e) ∙ fold-append next (begun side) (take i nodes) (n ∷ [])
+  where
+    front : (ns : List Node) (i : ℕ) → slice_get ns i ≡ Some n → take (i + 1) ns ≡ take i ns ++ n ∷ []
+    front ns i e = rw add-one (at_end ns i e)
+      where
+        at_end : (ns : List Node) (i : ℕ) → slice_get ns i ≡ Some n → take (suc i) ns ≡ take i ns ++ n ∷ []
+        at_end [] i e = absurd cc
+        at_end (m ∷ ms) zero e = let same : m ≡ n = cc in ap (λ k. k ∷ []) same
+        at_end (m ∷ ms) (suc i) e = ap (λ ks. m ∷ ks) (at_end ms i e)
+
+module _ (w : Walk) (s : State) (h : StandsAfter w s) (n : Node) where
+  next_is : (r : Result State Reason) → step s n ≡ r → next w n ≡ stepped w n r
+  next_is r e = ap (λ f. next_by w f n) h.no_fault ∙ ap (λ t. stepped w n (step t n)) h.state ∙ ap (stepped w n) e
+
+  pub goes_on : (t : State) → step s n ≡ Ok t → StandsAfter (next w n) t
+  goes_on t e = let is = next_is (Ok t) e in record { no_fault = ap (λ (v : Walk). v.fault) is; state = ap (λ (v : Walk). v.state) is }
+
+  pub ends_at : (r : Reason) → step s n ≡ Err r → verdict_at (next w n) ≡ Illegal (s.turns + 1) n.place r
+  ends_at r e =
+      let is = next_is (Err r) e in
+      ap verdict_at is ∙ ap (λ (t : State). Illegal (t.turns + 1) n.place r) h.state
+
+-- after a fault nothing changes
+after_fault : (w : Walk) (f : Fault) (ns : List Node) → w.fault ≡ Some f → fold next w ns ≡ w
+after_fault w f [] e = refl
+after_fault w f (n ∷ ns) e = ap (λ v. fold next v ns) (ap (λ o. next_by w o n) e) ∙ after_fault w f ns e
+
+-- so the walk ends with the first fault
+pub walk-fault : (side : ℕ) (nodes : List Node) (i : ℕ) (f : Fault) → (walk side (take i nodes)).fault ≡ Some f → walk side nodes ≡ walk side (take i nodes)
+walk-fault side nodes i f e =
+    ap (fold next (begun side)) (sym (parts nodes i)) ∙ fold-append next (begun side) (take i nodes) (drop i nodes) ∙ after_fault (walk side (take i nodes)) f (drop i nodes) e
+  where
+    parts : (ns : List Node) (i : ℕ) → take i ns ++ drop i ns ≡ ns
+    parts [] zero = refl
+    parts [] (suc i) = refl
+    parts (n ∷ ns) zero = refl
+    parts (n ∷ ns) (suc i) = ap (λ ks. n ∷ ks) (parts ns i)
+
+module _ (side : ℕ) (nodes : List Node) (i : ℕ) (s : State) (h : StandsAfter (walk side (take i nodes)) s) where
+  pub one_on : (n : Node) (t : State) → slice_get nodes i ≡ Some n → step s n ≡ Ok t → StandsAfter (walk side (take (i + 1) nodes)) t
+  one_on n t e is = rw (walk-more side nodes i n e) (goes_on (walk side (take i nodes)) s h n t is)
+
+  pub illegal_at : (n : Node) (r : Reason) → slice_get nodes i ≡ Some n → step s n ≡ Err r → verdict_at (walk side nodes) ≡ Illegal (s.turns + 1) n.place r
+  illegal_at n r e is =
+      let w = walk side (take i nodes) in
+      let more : walk side (take (i + 1) nodes) ≡ next w n = walk-more side nodes i n e in
+      let fault : (walk side (take (i + 1) nodes)).fault ≡ Some (record { node = n; reason = r }) =
+      ap (λ (v : Walk). v.fault) (more ∙ next_is w s h n (Err r) is) in
+      ap verdict_at (walk-fault side nodes (i + 1) (record { node = n; reason = r }) fault ∙ more) ∙ ends_at w s h n r is
+
+  pub scored : length nodes ≤ i → verdict_at (walk side nodes) ≡ score_in s
+  scored le =
+      let all : take i nodes ≡ nodes = take_all i nodes le in
+      let g : StandsAfter (walk side nodes) s = subst (λ ns. StandsAfter (walk side ns) s) all h in
+      by (walk side nodes) g
+    where
+      by : (w : Walk) → StandsAfter w s → verdict_at w ≡ score_in s
+      by w g = rw (g.no_fault, g.state)
+
+-- a step that was refused ends the line with its verdict
+pub ends_line : (side : ℕ) (nodes : List Node) (i : ℕ) (old new : States) (n : Node) (fault : StepFault) (turns place : ℕ) (r : Result Verdict MemoryFault)
+    → StandsAfter (walk side (take i nodes)) old.present → slice_get nodes i ≡ Some n → IsStepped (step old.present n) old new (Err fault) → turns ≡ new.present.turns → place ≡ n.place
+    → r ≡ ended_with fault turns place → IfOk r (λ v. v ≡ verdict_at (walk side nodes))
+ends_line side nodes i old new n fault turns place r h e is turns_are place_is result_is =
+    subst (λ q. IfOk q (λ v. v ≡ verdict_at (walk side nodes))) (sym result_is) (by fault is)
+  where
+    by : (f : StepFault) → IsStepped (step old.present n) old new (Err f) → IfOk (ended_with f turns place) (λ v. v ≡ verdict_at (walk side nodes))
+    by (IllegalStep reason) is =
+        let same : turns ≡ old.present.turns = turns_are ∙ ap (λ (s : States). s.present.turns) is.1 in
+        ap (λ t. Illegal (t + 1) place reason) same ∙ ap (λ p. Illegal (old.present.turns + 1) p reason) place_is ∙ sym (illegal_at side nodes i old.present h n reason e is.0)
+    by MemoryStep is = tt
+
+-- the place of a node is that which it has
+pub place_of_node : (c : Games) (i : ℕ) (n : Node) (place : ℕ) → node_at c i ≡ Some n → place_at c i ≡ Some place → place ≡ n.place
+place_of_node c i n place e f = of_row (slice_get (rows_of c) i) e f
+  where
+    of_row : (o : Option Row) → option_map (λ r. r.node) o ≡ Some n → option_map (λ r. r.node.place) o ≡ Some place → place ≡ n.place
+    of_row None e f = absurd cc
+    of_row (Some r) e f = let same : r.node ≡ n = cc in let here : r.node.place ≡ place = cc in sym here ∙ ap (λ (m : Node). m.place) same
+
+pub at_start : (side : ℕ) (nodes : List Node) → StandsAfter (walk side (take 0 nodes)) (begun side).state
+at_start side [] = record { no_fault = refl; state = refl }
+at_start side (n ∷ ns) = record { no_fault = refl; state = refl }

@@ -1,0 +1,69 @@
+-- How a node's contents are gathered, value after value.
+use Rattle.std.specs.Prelude.{◌≡◌, ◌⊎◌, ℕ, Bool, true, false, if◌then◌else◌, Option, Some, None, List, [], ◌∷◌, ◌++◌, map, All, codes}
+use Rattle.sgf_tree.specs.Tree.{Property, Node, values}
+use Rattle.go_board.specs.declared.stones.Colour.{Colour}
+use Rattle.go_board.specs.declared.stones.Colour.TheVariants.{Black, White}
+use Rattle.go_board.specs.declared.stones.Cell.TheVariants.{Black as BlackStone, White as WhiteStone, Empty}
+use Rattle.go_board.specs.declared.referee.plays.SetupOp.{SetupOp}
+use Rattle.go_board.specs.Point.{IsRectOn}
+use Rattle.sgf_lines.specs.declared.contents.Moves.{Moves}
+use Rattle.sgf_lines.specs.declared.contents.Moves.TheVariants.{Nothing, One, Several}
+use Rattle.sgf_lines.specs.declared.contents.Kind.{Kind}
+use Rattle.sgf_lines.specs.declared.contents.Kind.TheVariants.{Move as move_kind, Stones as stones_kind, Player as player_kind}
+use Rattle.sgf_lines.specs.declared.contents.Contents.{Contents}
+use Rattle.sgf_lines.specs.NodeContents.{Move, Stones, is_named, moves, stones, players}
+use Rattle.sgf_lines.specs.Values.{operations, last_player}
+
+-- moves, stones and players
+pub record Lists : Type 0 where
+  pub moves : List Move
+  pub stones : List Stones
+  pub players : List (List ℕ)
+
+abbrev pub empty_lists : Lists
+empty_lists = record { moves = []; stones = []; players = [] }
+
+abbrev pub joined : Lists → Lists → Lists
+joined a b = record { moves = a.moves ++ b.moves; stones = a.stones ++ b.stones; players = a.players ++ b.players }
+
+-- what the values of a property are
+abbrev pub kind_of : Property → Option Kind
+kind_of p =
+    if is_named (codes "B") p then Some (move_kind Black)
+    else (if is_named (codes "W") p then Some (move_kind White)
+    else (if is_named (codes "AB") p then Some (stones_kind BlackStone)
+    else (if is_named (codes "AW") p then Some (stones_kind WhiteStone)
+    else (if is_named (codes "AE") p then Some (stones_kind Empty)
+    else (if is_named (codes "PL") p then Some player_kind else None)))))
+
+-- values of that kind
+abbrev pub lists_of_kind : Kind → List (List ℕ) → Lists
+lists_of_kind (move_kind k) raws = record empty_lists { moves = map (λ raw. record { player = k; raw = raw }) raws }
+lists_of_kind (stones_kind cell) raws = record empty_lists { stones = map (λ raw. record { cell = cell; raw = raw }) raws }
+lists_of_kind player_kind raws = record empty_lists { players = raws }
+
+abbrev pub lists_by : Option Kind → List (List ℕ) → Lists
+lists_by (Some kind) raws = lists_of_kind kind raws
+lists_by None raws = empty_lists
+
+-- those of properties
+abbrev pub lists_in : List Property → Lists
+lists_in [] = empty_lists
+lists_in (p ∷ ps) = joined (lists_by (kind_of p) (values p)) (lists_in ps)
+
+-- the moves, as far as they are told
+abbrev pub AreMoves : Moves → List Move → Type 0
+AreMoves Nothing ms = ms ≡ []
+AreMoves (One k raw) ms = ms ≡ record { player = k; raw = raw.now } ∷ []
+AreMoves Several ms = (m l : Move) × (more : List Move) × (ms ≡ m ∷ l ∷ more)
+
+-- moves, operations, a player and a mark for faults tell of the lists what a step asks for
+pub record AreTold (side : ℕ) (moves : Moves) (ops : List SetupOp) (player : Option Colour) (faulty : Bool) (held : Lists) : Type 0 where
+  pub moves_are : AreMoves moves held.moves
+  pub stones : faulty ≡ false → operations side held.stones ≡ Some ops
+  pub players : faulty ≡ false → last_player None held.players ≡ Some player
+  pub faults : faulty ≡ true → (operations side held.stones ≡ None) ⊎ (last_player None held.players ≡ None)
+  pub on_board : All (λ op. IsRectOn side op.area) ops
+
+abbrev pub IsContents : ℕ → Contents → Lists → Type 0
+IsContents side c held = AreTold side c.moves c.operations.items c.player c.faulty held

@@ -1,0 +1,58 @@
+-- What a node's step does to a referee.
+use Rattle.std.specs.Prelude.{◌≡◌, ◌⊎◌, ◌+◌, ◌<◌, ℕ, Bool, Option, Some, None, List, [], ◌∷◌, length, Result, Ok, Err, MatchBool}
+use Rattle.sgf_tree.specs.Tree.{Node}
+use Rattle.go_board.specs.declared.stones.Colour.{Colour}
+use Rattle.go_board.specs.declared.referee.plays.Play.{Play}
+use Rattle.go_board.specs.declared.reason.Reason.{Reason}
+use Rattle.go_board.specs.declared.fault.TurnFault.{TurnFault}
+use Rattle.go_board.specs.declared.fault.TurnFault.TheVariants.{Illegal as TurnIllegal, Memory as TurnMemory}
+use Rattle.go_board.specs.State.{State, States, followed_by, IsPlayOn}
+use Rattle.sgf_tree.specs.declared.fault.MemoryFault.{MemoryFault}
+use Rattle.sgf_lines.specs.declared.verdict.Verdict.{Verdict}
+use Rattle.sgf_lines.specs.declared.verdict.Verdict.TheVariants.{Illegal as IllegalLine}
+use Rattle.sgf_lines.specs.declared.step.Change.{Change}
+use Rattle.sgf_lines.specs.declared.step.Change.TheVariants.{Nothing, Stones as stones_change, Turn}
+use Rattle.sgf_lines.specs.declared.step.StepFault.{StepFault}
+use Rattle.sgf_lines.specs.declared.step.StepFault.TheVariants.{Illegal, Memory}
+use Rattle.sgf_lines.specs.NodeContents.{Move, Stones, moves, stones}
+use Rattle.sgf_lines.specs.Values.{move_value}
+use Rattle.sgf_lines.specs.inner.Contents.{Lists}
+
+-- why a turn wasn't taken, as the fault of a step
+abbrev pub fault_of : TurnFault → StepFault
+fault_of (TurnIllegal reason) = Illegal reason
+fault_of TurnMemory = Memory
+
+-- the same states, or those and one more
+abbrev pub GrowsByOne : States → States → Type 0
+GrowsByOne old new = (new ≡ old) ⊎ (new ≡ followed_by old new.present)
+
+-- the referee takes the step that was to be taken, or refuses it for its reason and is unchanged, or is refused memory and is unchanged
+abbrev pub IsStepped : Result State Reason → States → States → Result Change StepFault → Type 0
+IsStepped step old new (Ok change) = (step ≡ Ok new.present) × GrowsByOne old new
+IsStepped step old new (Err (Illegal reason)) = (step ≡ Err reason) × (new ≡ old)
+IsStepped step old new (Err Memory) = new ≡ old
+
+-- what moves and stones change
+abbrev pub IsChangeBy : ℕ → List Move → List Stones → Change → Type 0
+IsChangeBy side ms ts Nothing = (ms ≡ []) × (ts ≡ [])
+IsChangeBy side ms ts stones_change = (ms ≡ []) × (0 < length ts)
+IsChangeBy side ms ts (Turn colour play) =
+    (raw : List ℕ) × (ms ≡ record { player = colour; raw = raw } ∷ []) × (ts ≡ []) × (move_value side raw ≡ Some play) × IsPlayOn side play
+
+abbrev pub IsChange : ℕ → Node → Change → Type 0
+IsChange side n change = IsChangeBy side (moves n) (stones n) change
+
+-- a turn of that player with that play
+abbrev pub IsTurnBy : ℕ → Colour → Option Play → Change → Type 0
+IsTurnBy side colour play change = (p : Play) × (play ≡ Some p) × IsPlayOn side p × (change ≡ Turn colour p)
+
+-- whether there are stones or players
+abbrev pub IsSetupMet : Lists → Bool → Type 0
+IsSetupMet held met =
+    MatchBool met (0 < length held.stones + length held.players) ((held.stones ≡ []) × (held.players ≡ []))
+
+-- what a line's verdict is that ends with a fault at a place, after so many turns
+abbrev pub ended_with : StepFault → ℕ → ℕ → Result Verdict MemoryFault
+ended_with (Illegal reason) turns place = Ok (IllegalLine (turns + 1) place reason)
+ended_with Memory turns place = Err (record {})

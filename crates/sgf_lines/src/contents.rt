@@ -1,0 +1,156 @@
+//! What a node holds for the referee: moves, stones and players (SGF FF[4], move and setup properties).
+
+ghost use Rattle.std.specs.Prelude.{◌≡◌, ◌∷◌, ◌++◌, [], ℕ, OnOk, IfOk};
+ghost use Rattle.sgf_tree.specs.Tree.{values};
+ghost use Rattle.sgf_lines.specs.inner.Contents.{Lists, empty_lists, joined, kind_of as kind_of_lem, lists_by, lists_of_kind, lists_in, IsContents};
+
+use crate::values::player_value;
+use go_board::{Cell, Colour, SetupOp, Size, rect};
+use sgf_tree::{MemoryFault, NodeRef, PropRef};
+use std::alloc::Global;
+
+/// The moves of a node, as far as a step asks for them.
+#[derive(Clone, Copy)]
+pub(crate) enum Moves<'a> {
+    Nothing,
+    /// One move: the player, and the raw value that says where.
+    One(Colour, &'a [u8]),
+    /// Two moves or more.
+    Several,
+}
+
+/// What a node holds for the referee.
+#[derive(Drop)]
+pub(crate) struct Contents<'a> {
+    pub(crate) moves: Moves<'a>,
+    /// What its stones set up, in order.
+    pub(crate) operations: Vec<SetupOp>,
+    /// The player that it names last.
+    pub(crate) player: Option<Colour>,
+    /// Whether some stone is no rectangle of the board, or some player is none.
+    pub(crate) faulty: bool,
+}
+
+/// What the values of a property are.
+#[derive(Clone, Copy)]
+pub(crate) enum Kind {
+    Move(Colour),
+    Stones(Cell),
+    Player,
+}
+
+impl<'a> Contents<'a> {
+    /// The contents of a node, on a board of that size.
+    pub(crate) fn of(
+        alloc: Global,
+        node: &NodeRef<'_, 'a>,
+        size: Size,
+    ) -> Result<Contents<'a>, MemoryFault>
+        ensures { IfOk result (λ contents. IsContents size contents (lists_in node.now.properties)) }
+    {
+        let mut contents = Contents {
+            moves: Moves::Nothing,
+            operations: Vec::new(alloc),
+            player: None,
+            faulty: false,
+        };
+        let mut properties = node.walk();
+        while let Some(property) = properties.next() {
+            contents.take_property(&property, size)?;
+        }
+        Ok(contents)
+    }
+
+    /// Takes the values of a property.
+    fn take_property(&mut self, property: &PropRef<'_, 'a>, size: Size) -> Result<(), MemoryFault>
+        ensures { (held : Lists) → IsContents size self.old held
+            → OnOk result (IsContents size self.new
+            (joined held (lists_by (kind_of_lem property.now) (values property.now)))) }
+    {
+        let Some(kind) = kind_of(property) else {
+            return Ok(());
+        };
+        let mut values = property.walk();
+        while let Some(raw) = values.next() {
+            self.take_value(kind, raw, size)?;
+        }
+        Ok(())
+    }
+
+    /// Takes one value.
+    fn take_value(&mut self, kind: Kind, raw: &'a [u8], size: Size) -> Result<(), MemoryFault>
+        ensures { (held : Lists) → IsContents size self.old held
+            → OnOk result (IsContents size self.new (joined held (lists_of_kind kind (raw.now ∷ [])))) }
+    {
+        match kind {
+            Kind::Move(colour) => self.take_move(colour, raw),
+            Kind::Stones(cell) => self.take_stones(cell, raw, size)?,
+            Kind::Player => self.take_player(raw),
+        }
+        Ok(())
+    }
+
+    fn take_move(&mut self, colour: Colour, raw: &'a [u8])
+        ensures { (side : ℕ) (held : Lists) → IsContents side self.old held
+            → IsContents side self.new (joined held (lists_of_kind (Kind.Move colour) (raw.now ∷ []))) }
+    {
+        self.moves = match self.moves {
+            Moves::Nothing => Moves::One(colour, raw),
+            Moves::One(..) | Moves::Several => Moves::Several,
+        };
+    }
+
+    fn take_stones(&mut self, cell: Cell, raw: &[u8], size: Size) -> Result<(), MemoryFault>
+        ensures { (held : Lists) → IsContents size self.old held
+            → OnOk result (IsContents size self.new (joined held (lists_of_kind (Kind.Stones cell) (raw.now ∷ [])))) }
+    {
+        match rect(raw, size) {
+            Some(area) => {
+                push_operation(SetupOp { cell, area }, &mut self.operations)?;
+            }
+            None => self.faulty = true,
+        }
+        Ok(())
+    }
+
+    fn take_player(&mut self, raw: &[u8])
+        ensures { (side : ℕ) (held : Lists) → IsContents side self.old held
+            → IsContents side self.new (joined held (lists_of_kind Kind.Player (raw.now ∷ []))) }
+    {
+        match player_value(raw) {
+            Some(colour) => self.player = Some(colour),
+            None => self.faulty = true,
+        }
+    }
+}
+
+/// Appends an operation.
+fn push_operation(operation: SetupOp, output: &mut Vec<SetupOp>) -> Result<(), MemoryFault>
+    ensures { OnOk result (output.new.items ≡ output.old.items ++ operation ∷ []) }
+{
+    match output.push(operation) {
+        Ok(()) => Ok(()),
+        Err(_) => Err(MemoryFault),
+    }
+}
+
+/// What the values of a property are; none where they are nothing for the referee.
+fn kind_of(property: &PropRef<'_, '_>) -> Option<Kind>
+    ensures { result ≡ kind_of_lem property.now }
+{
+    if property.is(b"B") {
+        Some(Kind::Move(Colour::Black))
+    } else if property.is(b"W") {
+        Some(Kind::Move(Colour::White))
+    } else if property.is(b"AB") {
+        Some(Kind::Stones(Cell::Black))
+    } else if property.is(b"AW") {
+        Some(Kind::Stones(Cell::White))
+    } else if property.is(b"AE") {
+        Some(Kind::Stones(Cell::Empty))
+    } else if property.is(b"PL") {
+        Some(Kind::Player)
+    } else {
+        None
+    }
+}

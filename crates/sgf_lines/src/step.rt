@@ -1,0 +1,175 @@
+//! A node's step on a referee.
+
+ghost use Rattle.std.specs.Prelude.{◌≡◌, [], ℕ, false, length, All, IfOk};
+ghost use Rattle.go_board.specs.Point.{IsRectOn};
+ghost use Rattle.sgf_lines.specs.Values.{move_value as move_value_lem};
+ghost use Rattle.sgf_lines.specs.Step.{step, step_by, move_step};
+ghost use Rattle.sgf_lines.specs.inner.Contents.{Lists, IsContents};
+ghost use Rattle.sgf_lines.specs.inner.Stepping.{IsStepped, IsChange, IsChangeBy, IsTurnBy, IsSetupMet, fault_of};
+
+use crate::contents::{Contents, Moves};
+use crate::values::move_value;
+use go_board::{Colour, Past, Play, Reason, Referee, Size, TurnFault};
+use sgf_tree::{MemoryFault, NodeRef};
+use std::alloc::Global;
+
+/// Why a node's step wasn't taken.
+#[derive(Clone, Copy, Debug)]
+pub(crate) enum StepFault {
+    /// The node isn't allowed.
+    Illegal(Reason),
+    /// Memory was refused.
+    Memory,
+}
+
+impl From<MemoryFault> for StepFault {
+    ghost use Rattle.sgf_lines.specs.declared.step.StepFault.TheVariants.{Memory};
+
+    ghost from_gives = { λ _ fault. fault ≡ Memory };
+
+    fn from(_: MemoryFault) -> Self {
+        StepFault::Memory
+    }
+}
+
+/// What a node did on the board.
+#[derive(Clone, Copy, Debug)]
+pub(crate) enum Change {
+    /// It has no moves and no stones.
+    Nothing,
+    /// It set up stones.
+    Stones,
+    /// It has that move.
+    Turn(Colour, Play),
+}
+
+/// Takes a node's step: plays its move, or sets its stones and its player up.
+/// Where the node isn't allowed, the first reason comes back.
+/// After a refusal the referee is unchanged.
+pub(crate) fn play_node<P: Past>(
+    alloc: Global,
+    referee: &mut Referee<P>,
+    node: &NodeRef<'_, '_>,
+) -> Result<Change, StepFault>
+    ensures stepped { IsStepped (step referee.old.present node.now) referee.old referee.new result }
+    ensures change { IfOk result (IsChange referee.old.present.colouring.side node.now) }
+{
+    let size = referee.board().size();
+    let contents = Contents::of(alloc, node, size)?;
+    play_contents(referee, &contents, size)
+}
+
+/// Takes the step of a node with these contents.
+fn play_contents<P: Past>(
+    referee: &mut Referee<P>,
+    contents: &Contents<'_>,
+    size: Size,
+) -> Result<Change, StepFault>
+    requires side { size ≡ referee.old.present.colouring.side }
+    requires areas { All (λ op. IsRectOn size op.area) contents.now.operations.items }
+    ensures stepped { (held : Lists) → IsContents size contents.now held
+        → IsStepped (step_by referee.old.present held.moves held.stones held.players) referee.old referee.new result }
+    ensures change { (held : Lists) → IsContents size contents.now held
+        → IfOk result (IsChangeBy size held.moves held.stones) }
+{
+    match (contents.moves, has_setup(contents)) {
+        (Moves::Nothing, _) => set_up(referee, contents, size),
+        (_, true) => Err(StepFault::Illegal(Reason::Mixed)),
+        (Moves::One(colour, raw), false) => take_move(referee, colour, raw, size),
+        (Moves::Several, false) => Err(StepFault::Illegal(Reason::TwoMoves)),
+    }
+}
+
+/// Whether contents have stones or players.
+fn has_setup(contents: &Contents<'_>) -> bool
+    ensures { (side : ℕ) (held : Lists) → IsContents side contents.now held → IsSetupMet held result }
+{
+    if contents.faulty {
+        return true;
+    }
+    if contents.player.is_some() {
+        return true;
+    }
+    !contents.operations.as_slice().is_empty()
+}
+
+/// Sets up the stones and the player of contents without moves.
+fn set_up<P: Past>(
+    referee: &mut Referee<P>,
+    contents: &Contents<'_>,
+    size: Size,
+) -> Result<Change, StepFault>
+    requires side { size ≡ referee.old.present.colouring.side }
+    requires areas { All (λ op. IsRectOn size op.area) contents.now.operations.items }
+    ensures stepped { (held : Lists) → IsContents size contents.now held
+        → IsStepped (step_by referee.old.present [] held.stones held.players) referee.old referee.new result }
+    ensures change { (held : Lists) → IsContents size contents.now held
+        → IfOk result (IsChangeBy size [] held.stones) }
+{
+    if contents.faulty {
+        return Err(StepFault::Illegal(Reason::BadSetup));
+    }
+    let operations = contents.operations.as_slice();
+    if operations.is_empty() {
+        return set_player(referee, contents, size);
+    }
+    match referee.setup(operations, contents.player) {
+        Ok(()) => Ok(Change::Stones),
+        Err(_) => Err(StepFault::Memory),
+    }
+}
+
+/// Sets up the player of contents without moves and stones.
+fn set_player<P: Past>(
+    referee: &mut Referee<P>,
+    contents: &Contents<'_>,
+    size: Size,
+) -> Result<Change, StepFault>
+    requires side { size ≡ referee.old.present.colouring.side }
+    requires good { contents.now.faulty ≡ false }
+    requires no_stones { length contents.now.operations.items ≡ 0 }
+    ensures stepped { (held : Lists) → IsContents size contents.now held
+        → IsStepped (step_by referee.old.present [] held.stones held.players) referee.old referee.new result }
+    ensures change { (held : Lists) → IsContents size contents.now held
+        → IfOk result (IsChangeBy size [] held.stones) }
+{
+    if contents.player.is_some() {
+        match referee.setup(&[], contents.player) {
+            Ok(()) => Ok(Change::Nothing),
+            Err(_) => Err(StepFault::Memory),
+        }
+    } else {
+        Ok(Change::Nothing)
+    }
+}
+
+/// Takes the turn of a move.
+fn take_move<P: Past>(
+    referee: &mut Referee<P>,
+    colour: Colour,
+    raw: &[u8],
+    size: Size,
+) -> Result<Change, StepFault>
+    requires { size ≡ referee.old.present.colouring.side }
+    ensures stepped { IsStepped (move_step referee.old.present colour (move_value_lem size raw.now))
+        referee.old referee.new result }
+    ensures change { IfOk result (IsTurnBy size colour (move_value_lem size raw.now)) }
+{
+    let Some(play) = move_value(raw, size) else {
+        return Err(StepFault::Illegal(Reason::BadPoint));
+    };
+    match referee.turn(colour, play) {
+        Ok(()) => Ok(Change::Turn(colour, play)),
+        Err(fault) => Err(step_fault(fault)),
+    }
+}
+
+/// Why a turn wasn't taken, as the fault of a step.
+fn step_fault(fault: TurnFault) -> StepFault
+    ensures { result ≡ fault_of fault }
+{
+    match fault {
+        TurnFault::Illegal(reason) => StepFault::Illegal(reason),
+        TurnFault::Memory => StepFault::Memory,
+    }
+}
