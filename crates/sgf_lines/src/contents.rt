@@ -43,7 +43,7 @@ impl<'a> Contents<'a> {
     /// The contents of a node, on a board of that size.
     pub(crate) fn of(
         alloc: Global,
-        node: &NodeRef<'_, 'a>,
+        node: &NodeRef<'a>,
         size: Size,
     ) -> Result<Contents<'a>, MemoryFault>
         ensures { IfOk result (λ contents. IsContents size contents (lists_in node.now.properties)) }
@@ -62,7 +62,7 @@ impl<'a> Contents<'a> {
     }
 
     /// Takes the values of a property.
-    fn take_property(&mut self, property: &PropRef<'_, 'a>, size: Size) -> Result<(), MemoryFault>
+    fn take_property(&mut self, property: &PropRef<'a>, size: Size) -> Result<(), MemoryFault>
         ensures { (held : Lists) → IsContents size self.old held
             → OnOk result (IsContents size self.new
             (joined held (lists_by (kind_of_lem property.now) (values property.now)))) }
@@ -135,7 +135,7 @@ fn push_operation(operation: SetupOp, output: &mut Vec<SetupOp>) -> Result<(), M
 }
 
 /// What the values of a property are; none where they are nothing for the referee.
-fn kind_of(property: &PropRef<'_, '_>) -> Option<Kind>
+fn kind_of(property: &PropRef<'_>) -> Option<Kind>
     ensures { result ≡ kind_of_lem property.now }
 {
     if property.is(b"B") {

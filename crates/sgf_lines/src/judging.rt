@@ -7,8 +7,8 @@ ghost use Rattle.sgf_lines.specs.GameSize.{board};
 ghost use Rattle.sgf_lines.specs.Verdict.{score_in, verdict_of, verdict_by, IsVerdictAt};
 ghost use Rattle.sgf_lines.specs.inner.Stepping.{ended_with};
 
-use crate::seek::write_way;
 use crate::opening::{Opening, opening_of};
+use crate::seek::write_way;
 use crate::step::{StepFault, play_node};
 use crate::verdict::Verdict;
 use go_board::{ListPast, Past, Referee, Size};

@@ -22,7 +22,7 @@ pub(crate) enum Opening {
 }
 
 /// What a root says of its game. Another game comes before a faulty size.
-pub(crate) fn opening_of(root: &NodeRef<'_, '_>) -> Opening
+pub(crate) fn opening_of(root: &NodeRef<'_>) -> Opening
     ensures { shown_opening result ≡ opening_lem root.now.properties }
 {
     if !is_go(first_value(root, b"GM")) {
@@ -35,7 +35,7 @@ pub(crate) fn opening_of(root: &NodeRef<'_, '_>) -> Opening
 }
 
 /// The first value of a node's first property of that name.
-pub(crate) fn first_value<'a>(node: &NodeRef<'_, 'a>, name: &[u8]) -> Option<&'a [u8]>
+pub(crate) fn first_value<'a>(node: &NodeRef<'a>, name: &[u8]) -> Option<&'a [u8]>
     ensures { option_copied result ≡ first_value_lem name.now node.now.properties }
 {
     let property = node.first(name)?;

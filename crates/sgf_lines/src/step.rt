@@ -49,7 +49,7 @@ pub(crate) enum Change {
 pub(crate) fn play_node<P: Past>(
     alloc: Global,
     referee: &mut Referee<P>,
-    node: &NodeRef<'_, '_>,
+    node: &NodeRef<'_>,
 ) -> Result<Change, StepFault>
     ensures stepped { IsStepped (step referee.old.present node.now) referee.old referee.new result }
     ensures change { IfOk result (IsChange referee.old.present.colouring.side node.now) }
