@@ -25,6 +25,7 @@ pub mod EarlierLemmas
 pub mod AreaLemmas
 pub mod TurnLemmas
 pub mod PrintLemmas
+pub mod PrintSetLemmas
 pub mod PrintPastLemmas
 pub mod ChangesLemmas
 pub mod ColouringsLemmas

@@ -16,6 +16,7 @@ ghost use Rattle.std.specs.Prelude.{◌≡◌, replicate};
 ghost use Rattle.go_board.specs.declared.stones.Cell.TheVariants.{Empty};
 
 use crate::board::regions::{count_apart, no_rows};
+use crate::past::print::{print_of, print_with};
 use crate::points::Point;
 use crate::size::{MAX_POINTS, Size};
 use crate::stones::{Cell, Colour};
@@ -29,6 +30,9 @@ pub struct Board {
     /// Whether it is known that every stone reaches empty. After a move it is; a colouring from outside can have a stone
     /// that doesn't.
     settled: bool,
+    /// The print of the colouring, where it is known.
+    print: u64,
+    printed: bool,
 }
 
 impl Model for Board {
@@ -36,6 +40,7 @@ impl Model for Board {
     ghost use Rattle.go_board.specs.Clearing.{has_unreaching};
     ghost use Rattle.go_board.specs.declared.size.TheConstants.{MAX_POINTS};
     ghost use Rattle.go_board.specs.Grid.{Grid};
+    ghost use Rattle.go_board.specs.inner.Print.{print_of};
 
     ghost Value = { Grid };
 
@@ -44,7 +49,8 @@ impl Model for Board {
     ghost invariant = { λ b. (length b.cells ≡ MAX_POINTS)
         × (b.size * b.size ≤ MAX_POINTS)
         × (IsTrue b.settled
-        → has_unreaching (record { side = b.size; cells = take (b.size * b.size) b.cells }) ≡ false) };
+        → has_unreaching (record { side = b.size; cells = take (b.size * b.size) b.cells }) ≡ false)
+        × (IsTrue b.printed → b.print ≡ print_of (take (b.size * b.size) b.cells)) };
 }
 
 // The cells of the greatest board, on which nothing stands.
@@ -65,6 +71,7 @@ impl Board {
     ghost use Rattle.go_board.specs.Reaching.{Reaches};
     ghost use Rattle.go_board.specs.Clearing.{clear, play, has_unreaching};
     ghost use Rattle.go_board.specs.Score.{score_of};
+    ghost use Rattle.go_board.specs.inner.Print.{print_of};
 
     /// The board of that size on which nothing stands.
     pub fn empty(size: Size) -> Board
@@ -75,6 +82,8 @@ impl Board {
             size,
             cells: nothing(),
             settled: true,
+            print: 0,
+            printed: true,
         }
     }
 
@@ -106,7 +115,10 @@ impl Board {
         requires { IsOn self.old.side point }
         ensures { self.new ≡ with_cell self.old point cell }
     {
-        self.cells[point.index(self.size)] = cell;
+        let index = point.index(self.size);
+        let points = self.size.points();
+        self.print = print_with(self.print, &self.cells[..points], index, cell);
+        self.cells[index] = cell;
         self.settled = false;
     }
 
@@ -117,6 +129,7 @@ impl Board {
     {
         self.cells[..cells.len()].copy_from_slice(cells);
         self.settled = false;
+        self.printed = false;
     }
 
     /// Whether two boards have the same side and the same colouring.
@@ -134,6 +147,8 @@ impl Board {
             size: self.size,
             cells: self.cells,
             settled: self.settled,
+            print: self.print,
+            printed: self.printed,
         }
     }
 
@@ -144,6 +159,8 @@ impl Board {
     {
         self.set_cells(other.cells());
         self.settled = other.settled;
+        self.print = other.print;
+        self.printed = other.printed;
     }
 
     /// Whether it is known that every stone reaches empty: true only where each does.
@@ -161,6 +178,25 @@ impl Board {
         self.settled = settled;
     }
 
+    /// The print of the colouring: kept where points are set one by one, else worked out from all points.
+    pub(crate) fn print(&self) -> u64
+        ensures { result ≡ print_of self.now.cells }
+    {
+        if self.printed {
+            self.print
+        } else {
+            print_of(self.cells())
+        }
+    }
+
+    /// Works the print out, to be kept from then on. Nothing that is seen changes.
+    fn work_print_out(&mut self)
+        ensures { self.new ≡ self.old }
+    {
+        self.print = print_of(self.cells());
+        self.printed = true;
+    }
+
     /// Empties all points of a colour that don't reach empty, each tested on the board as it was.
     pub fn clear(&mut self, colour: Colour)
         ensures value { self.new ≡ clear self.old colour }
@@ -172,6 +208,7 @@ impl Board {
         let points = self.size.points();
         let reaching = self.reached(Cell::Empty);
         sweep::clear_all(&mut self.cells[..points], colour.stone(), &reaching);
+        self.printed = false;
     }
 
     /// The whole move: the point takes the player's colour, then the opponent's colour is cleared, then the player's
@@ -187,6 +224,7 @@ impl Board {
             self.place_settled(colour, point);
         } else {
             self.place_unsettled(colour, point);
+            self.work_print_out();
         }
         self.settled = true;
     }

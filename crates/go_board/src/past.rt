@@ -3,7 +3,7 @@
 mod changes;
 mod colourings;
 mod list_past;
-mod print;
+pub(crate) mod print;
 mod print_past;
 mod table;
 #[cfg(test)]

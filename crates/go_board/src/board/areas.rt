@@ -33,5 +33,6 @@ impl Board {
             self.cells[start + first..start + last + 1].fill(op.cell);
         }
         self.settled = false;
+        self.printed = false;
     }
 }

@@ -1,10 +1,11 @@
 //! The print of a colouring: one number made of what stands on all its points, so that two colourings are mostly told
 //! apart by one comparison.
 
-ghost use Rattle.std.specs.Prelude.{◌≡◌, List};
+ghost use Rattle.std.specs.Prelude.{◌≡◌, ◌<◌, ◌≤◌, List, length, slice_set};
 ghost use Rattle.go_board.specs.declared.stones.Cell.{Cell};
 ghost use Rattle.go_board.specs.inner.Print.{code_of, print_of, short_print_after};
 
+use crate::size::MAX_POINTS;
 use crate::stones::Cell;
 
 /// What each point's code is a digit of.
@@ -34,6 +35,18 @@ pub(crate) fn print_of(cells: &[Cell]) -> u64
         print = print.wrapping_mul(BASE).wrapping_add(code_of(*cell));
     }
     print
+}
+
+/// The print once the point at an index is coloured anew, from the print before.
+pub(crate) fn print_with(print: u64, cells: &[Cell], index: usize, new: Cell) -> u64
+    requires within { index < length cells.now }
+    requires few { length cells.now ≤ MAX_POINTS }
+    ensures { print ≡ print_of cells.now → result ≡ print_of (slice_set cells.now index new) }
+{
+    let weight = BASE.wrapping_pow((cells.len() - 1 - index) as u32);
+    print
+        .wrapping_add(code_of(new).wrapping_mul(weight))
+        .wrapping_sub(code_of(cells[index]).wrapping_mul(weight))
 }
 
 /// The short print of the points with that print: what the same steps give modulo 16,384. It is the print's low 14 bits.

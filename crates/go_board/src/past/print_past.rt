@@ -7,7 +7,6 @@ use crate::board::Board;
 use crate::fault::MemoryFault;
 use crate::past::Past;
 use crate::past::colourings::Colourings;
-use crate::past::print::print_of;
 use crate::past::table::Table;
 use std::alloc::Global;
 use std::marker::Model;
@@ -42,12 +41,12 @@ impl Past for PrintPast {
     fn new(alloc: Global, board: &Board) -> Result<PrintPast, MemoryFault> {
         Ok(PrintPast {
             colourings: Colourings::new(alloc, board),
-            prints: Table::new(alloc, print_of(board.cells()))?,
+            prints: Table::new(alloc, board.print())?,
         })
     }
 
     fn holds(&self, board: &Board) -> bool {
-        let print = print_of(board.cells());
+        let print = board.print();
         let start = self.colourings.stretch_start();
         let mut end = self.prints.len();
         while let Some(number) = self.prints.last_between(print, start, end) {
@@ -88,7 +87,7 @@ impl PrintPast {
             ≡ record { colouring = board.now; begins = begins } ∷ self.old) }
         ensures err { OnErr result (self.new ≡ self.old) }
     {
-        self.prints.push(print_of(board.cells()))?;
+        self.prints.push(board.print())?;
         if self.colourings.add(board, begins).is_err() {
             let _ = self.prints.pop();
             return Err(MemoryFault);

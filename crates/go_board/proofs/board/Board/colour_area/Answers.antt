@@ -28,4 +28,4 @@ returns c =
 pub invariant_of-self : goal.invariant_of-self
 invariant_of-self c =
     let same = c.loop-row.invariant.1.same_length in
-    (same ∙ c.self.invariant.0, rw c.loop-row.invariant.0 c.self.invariant.1, λ settled. cc)
+    (same ∙ c.self.invariant.0, rw c.loop-row.invariant.0 c.self.invariant.1, λ settled. cc, λ printed. cc)

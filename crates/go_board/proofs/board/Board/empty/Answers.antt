@@ -1,10 +1,12 @@
 -- proofs/board/Board/empty/Answers.antt
-use Rattle.std.proofs.Common.{◌≡◌, arith, ap, ◌∙◌, length}
+use Rattle.std.proofs.Common.{◌≡◌, ◌*◌, arith, ap, sym, ◌∙◌, length}
 use Rattle.std.proofs.lemmas.List.{length-replicate}
 use Rattle.go_board.specs.declared.stones.Cell.TheVariants.{Empty}
 use Rattle.go_board.specs.declared.size.TheConstants.{MAX_POINTS}
-use Rattle.go_board.specs.Grid.{empty_grid}
+use Rattle.go_board.specs.Grid.{Grid, empty_grid}
 use Rattle.go_board.specs.Clearing.{has_unreaching}
+use Rattle.go_board.specs.inner.Print.{print_of}
+use Rattle.go_board.proofs.PrintSetLemmas.{print-empty}
 use Rattle.go_board.proofs.FrontLemmas.{grid_in, grid_in-replicate}
 use Rattle.go_board.proofs.SettledLemmas.{settled-empty_grid}
 use Rattle.go_board.proofs.board.Board.empty.Goals as goal
@@ -17,6 +19,7 @@ invariant_of-result c = (
   ap length c.nothing.ensures ∙ length-replicate MAX_POINTS Empty,
   omega arith,
   λ _. ap has_unreaching (empty_front c) ∙ settled-empty_grid c.args.size,
+  λ _. sym (ap (λ (g : Grid). print_of g.cells) (empty_front c) ∙ print-empty (c.args.size * c.args.size)),
 )
 
 pub returns : goal.returns

@@ -1,7 +1,25 @@
 -- proofs/board/Board/set/Answers.antt
+use Rattle.std.proofs.Common.{◌<◌, ◌*◌, take, set, ap, sym, ◌∙◌}
+use Rattle.std.proofs.Math.Seq.{take-set-lt}
+use Rattle.std.proofs.lemmas.List.{length-set}
+use Rattle.go_board.specs.inner.Print.{print_of}
 use Rattle.go_board.proofs.FrontLemmas.{grid_in-set}
 use Rattle.go_board.proofs.board.Board.set.Goals as goal
 
 pub returns : goal.returns
 returns c =
-    grid_in-set c.self.inside.size c.self.inside.cells c.args.self.now c.args.point c.args.cell c.index.result c.self.view_is c.index.ensures.value c.index.ensures.within
+    grid_in-set c.self.inside.size c.self.inside.cells c.args.self.now c.args.point c.args.cell c.index-index.result c.self.view_is c.index-index.ensures.value c.index-index.ensures.within
+
+pub invariant_of-self : goal.invariant_of-self
+invariant_of-self c =
+    let i = c.self.inside in
+    let index = c.index-index.result in
+    let below : index < i.size * i.size = c.index-index.ensures.within in (
+      length-set i.cells index c.args.cell ∙ c.self.invariant.0,
+      c.self.invariant.1,
+      λ settled. cc,
+      λ printed.
+          c.print_with-self-inside.ensures (c.self.invariant.3 printed ∙ ap (λ n. print_of (take n i.cells)) (sym c.points-points.ensures.value))
+          ∙ ap (λ n. print_of (set (take n i.cells) index c.args.cell)) c.points-points.ensures.value
+          ∙ ap print_of (sym (take-set-lt (i.size * i.size) i.cells index c.args.cell below)),
+    )

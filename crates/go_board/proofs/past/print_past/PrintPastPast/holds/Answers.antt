@@ -1,5 +1,5 @@
 -- proofs/past/print_past/PrintPastPast/holds/Answers.antt
-use Rattle.std.proofs.Common.{◌≡◌, ℕ, ◌<◌, ◌≤◌, inl, inr, length, sym, ap, ◌∙◌, refl, arith}
+use Rattle.std.proofs.Common.{◌≡◌, ℕ, ◌<◌, ◌≤◌, inl, inr, length, sym, ◌∙◌, refl, arith}
 use Rattle.std.proofs.lemmas.Bool.{false≢true}
 use Rattle.std.proofs.lemmas.Bool.{cases_lt, cases_eq}
 use Rattle.go_board.specs.inner.Print.{print_of}
@@ -20,7 +20,7 @@ loop-number-preserved c =
     let p = c.self.inside in
     let found = c.in-Some.ensures in
     let number = c.in-Some.number in
-    let print : c.print_of-print.result ≡ print_of c.args.board.now.cells = c.print_of-print.ensures ∙ ap print_of c.cells.ensures.cells in
+    let print : c.print-print.result ≡ print_of c.args.board.now.cells = c.print-print.ensures in
     record {
       within = omega (arith, found.1);
       none = λ y low high at.
@@ -28,7 +28,7 @@ loop-number-preserved c =
             | inr after ↦ c.loop-number.invariant.none y after high at
             | inl before ↦ elim (cases_eq y number) [
               | inl e ↦ false≢true (sym c.if-is_at.false ∙ c.is_at.ensures.1 (rw e at at))
-              | inr other ↦ missing p.colourings p.prints c.self.invariant y c.print_of-print.result c.args.board.now print high (found.3 y (omega (arith, low, other)) before) at
+              | inr other ↦ missing p.colourings p.prints c.self.invariant y c.print-print.result c.args.board.now print high (found.3 y (omega (arith, low, other)) before) at
             ]
           ];
     }
@@ -36,12 +36,12 @@ loop-number-preserved c =
 pub returns : goal.returns
 returns c =
     let p = c.self.inside in
-    let print : c.print_of-print.result ≡ print_of c.args.board.now.cells = c.print_of-print.ensures ∙ ap print_of c.cells.ensures.cells in
+    let print : c.print-print.result ≡ print_of c.args.board.now.cells = c.print-print.ensures in
     let start = c.stretch_start-start.result in
     let never : (y : ℕ) → start ≤ y → y < length p.colourings → IsNumber p.colourings y c.args.board.now → ⊥ = λ y low high at.
     elim (cases_lt y c.loop-number.end) [
       | inr after ↦ c.loop-number.invariant.none y after high at
-      | inl before ↦ missing p.colourings p.prints c.self.invariant y c.print_of-print.result c.args.board.now print high (c.in_default.ensures y low before) at
+      | inl before ↦ missing p.colourings p.prints c.self.invariant y c.print-print.result c.args.board.now print high (c.in_default.ensures y low before) at
     ] in
     rw (← c.self.view_is)
     (λ t. absurd (false≢true t), λ has. absurd (unseen p.colourings p.prints c.self.invariant start c.args.board.now c.stretch_start-start.ensures.stretch never has))
