@@ -30,8 +30,9 @@ fn push_node(node: &NodeRef<'_>, output: &mut Vec<u8>) -> Result<(), MemoryFault
     ensures { OnOk result (output.new.items ≡ output.old.items ++ node_text node.now) }
 {
     push_bytes(b";", output)?;
-    for i in 0..node.props() {
-        push_property(&node.prop(i), output)?;
+    let mut left = node.walk();
+    while let Some(property) = left.next() {
+        push_property(&property, output)?;
     }
     Ok(())
 }
@@ -41,8 +42,9 @@ fn push_property(property: &PropRef<'_>, output: &mut Vec<u8>) -> Result<(), Mem
     ensures { OnOk result (output.new.items ≡ output.old.items ++ property_text property.now) }
 {
     property.push_name(output)?;
-    for i in 0..property.values() {
-        push_value(property.value(i), output)?;
+    let mut left = property.walk();
+    while let Some(value) = left.next() {
+        push_value(value, output)?;
     }
     Ok(())
 }

@@ -1,9 +1,11 @@
--- The properties so far are appended.
-use Rattle.std.proofs.Common.{◌≡◌, ◌++◌, take}
-use Rattle.std.specs.Prelude.{codes}
+-- With the properties that are left, the node is appended.
+use Rattle.std.proofs.Common.{◌≡◌, ◌++◌, length}
 use Rattle.std.specs.List.{flat_map}
-use Rattle.sgf_lines.specs.Record.{property_text}
+use Rattle.sgf_lines.specs.Record.{property_text, node_text}
 use Rattle.sgf_lines.proofs.record.push_node.Given as goal
 
-abbrev pub invariant-loop-i : goal.invariant-loop-i
-invariant-loop-i l = l.output.items ≡ l.fn.output.items ++ (codes ";" ++ flat_map property_text (take l.i l.node.properties))
+abbrev pub invariant-loop-property : goal.invariant-loop-property
+invariant-loop-property l = l.output.items ++ flat_map property_text l.left ≡ l.fn.output.items ++ node_text l.node
+
+abbrev pub decreases-loop-property : goal.decreases-loop-property
+decreases-loop-property l = length l.left

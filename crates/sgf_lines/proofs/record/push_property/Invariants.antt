@@ -1,9 +1,11 @@
--- The values so far are appended.
-use Rattle.std.proofs.Common.{◌≡◌, ◌++◌, take}
+-- With the values that are left, the property is appended.
+use Rattle.std.proofs.Common.{◌≡◌, ◌++◌, length}
 use Rattle.std.specs.List.{flat_map}
-use Rattle.sgf_tree.specs.Tree.{values}
-use Rattle.sgf_lines.specs.Record.{value_text}
+use Rattle.sgf_lines.specs.Record.{value_text, property_text}
 use Rattle.sgf_lines.proofs.record.push_property.Given as goal
 
-abbrev pub invariant-loop-i : goal.invariant-loop-i
-invariant-loop-i l = l.output.items ≡ l.fn.output.items ++ (l.property.name ++ flat_map value_text (take l.i (values l.property)))
+abbrev pub invariant-loop-value : goal.invariant-loop-value
+invariant-loop-value l = l.output.items ++ flat_map value_text l.left ≡ l.fn.output.items ++ property_text l.property
+
+abbrev pub decreases-loop-value : goal.decreases-loop-value
+decreases-loop-value l = length l.left
