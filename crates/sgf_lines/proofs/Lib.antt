@@ -1,5 +1,6 @@
 pub mod Examples
 pub mod ExamplesOfVerdicts
+pub mod ExamplesOfReplay
 pub mod Lists
 pub mod Standing
 pub mod Parents
@@ -28,3 +29,7 @@ pub mod Walking
 pub mod Judged
 pub mod Again
 pub mod Appended
+pub mod ScriptLines
+pub mod ScriptWords
+pub mod Placing
+pub mod Replaying

@@ -1,6 +1,6 @@
 //! Laws of the definitions. A function here does nothing: what it ensures is a law that is proved.
 
-ghost use Rattle.std.specs.Prelude.{◌≡◌, ◌∷◌, ◌++◌, ℕ, List, [], map, length};
+ghost use Rattle.std.specs.Prelude.{◌≡◌, ◌∷◌, ◌++◌, ℕ, false, List, [], Some, map, length};
 ghost use Rattle.std.specs.List.{AllZip, flat_map};
 ghost use Rattle.std.specs.List.Sorted.{IsStrictlyIncreasing};
 ghost use Rattle.sgf_tree.specs.Appending.{raised, BeginsWithMark};
@@ -15,6 +15,10 @@ ghost use Rattle.sgf_lines.specs.declared.options.Form.TheVariants.{List as list
 ghost use Rattle.sgf_lines.specs.Appending.{raised_row};
 ghost use Rattle.sgf_lines.specs.Output.{sgf_output};
 ghost use Rattle.sgf_lines.specs.Record.{record_of};
+ghost use Rattle.sgf_lines.specs.GameSize.{opening, root_properties, board};
+ghost use Rattle.sgf_lines.specs.Walk.{walk};
+ghost use Rattle.sgf_lines.specs.Script.{has_no_commands, script};
+ghost use Rattle.sgf_lines.specs.Replay.{replayed};
 
 /// The places of the lines of a collection that some text spells rise strictly.
 /// So no line comes twice, and each is known by its place.
@@ -68,4 +72,21 @@ pub fn pages()
         × (page (record o { limit = None }) c ≡ Some (front ++ last ∷ rest)) }
 {
     sgf_tree::laws::places_rise();
+}
+
+/// A script that has commands, read from its bytes and taken from the top on an empty board of the line's side: no stone is
+/// played on a point that isn't empty, and the last board is the colouring of the judged line after the nodes before its
+/// first faulty one, or after all of them.
+/// So an engine that plays by the same rules shows the position that was judged.
+pub fn replay()
+    ensures { (line : Line) (side : ℕ) → opening (root_properties line.nodes) ≡ board side
+        → has_no_commands side (walk side line.nodes) ≡ false
+        → replayed side (script line) ≡ Some (walk side line.nodes).state.colouring }
+{
+    go_board::laws::listing();
+    go_board::laws::colouring();
+    go_board::laws::reaching();
+    go_board::laws::setting();
+    go_board::laws::clearing();
+    go_board::laws::unreaching();
 }

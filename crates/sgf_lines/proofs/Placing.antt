@@ -1,0 +1,362 @@
+-- The stones of a colouring in which every stone reaches empty, played one by one, black ones before white ones, make that
+-- colouring: nothing is captured on the way, since a stone reaches empty sooner where fewer stones stand.
+use Rattle.std.proofs.Common.{◌≡◌, ◌≢◌, ◌↔◌, ℕ, zero, suc, ◌+◌, ◌-◌, ◌*◌, ◌<◌, ◌≤◌, List, [], ◌∷◌, ◌++◌, length, map, filter, Option, Some, None, Bool, true, false, IsTrue, slice_get, replicate, codes, refl, sym, ap, ◌∙◌, arith, subst, inl, inr, ◌⊎◌, cond, get_or, add-one, length-set}
+use Rattle.std.specs.List.{flat_map, range_with_len}
+use Rattle.std.proofs.lemmas.Bool.{cases_eq, cases_lt}
+use Rattle.std.proofs.lemmas.List.{get_or-replicate, length-replicate}
+use Rattle.std.proofs.lemmas.Option.{slice_get_within}
+use Rattle.go_board.specs.declared.stones.Cell.{Cell}
+use Rattle.go_board.specs.declared.stones.Cell.TheVariants.{Black, White, Empty}
+use Rattle.go_board.specs.declared.stones.Colour.{Colour}
+use Rattle.go_board.specs.declared.stones.Colour.TheVariants.{Black as BlackPlayer, White as WhitePlayer}
+use Rattle.go_board.specs.declared.points.Point.{Point}
+use Rattle.go_board.specs.declared.referee.plays.Play.TheVariants.{Stone}
+use Rattle.go_board.specs.Colour.{opponent, stone_of, same_cell}
+use Rattle.go_board.specs.Point.{IsOn, index_of, point_at, points}
+use Rattle.go_board.specs.Grid.{Grid, cell_at, with_cell, empty_grid}
+use Rattle.go_board.specs.Reaching.{Leads, Reaches, reaches}
+use Rattle.go_board.specs.Clearing.{clear, play, HasUnreaching, has_unreaching}
+use Rattle.go_board.specs.Vertex.{vertex_of}
+use Rattle.sgf_lines.specs.Script.{colour_letter, vertex_text, play_line, stones_on, stone_lines, board_lines}
+use Rattle.sgf_lines.specs.Replay.{words, command_of, after_command, after_line, after_text}
+use Rattle.sgf_lines.proofs.Lists.{Each}
+use Rattle.sgf_lines.proofs.ScriptLines.{IsWithin, Takes, takes_line, takes_nothing, takes_both, solid_within, within_both}
+use Rattle.sgf_lines.proofs.ScriptWords.{vertex_solid, play_reads}
+
+-- what the board's laws say
+pub record BoardLaws : Type 0 where
+  pub listed : (side : ℕ) → length (points side) ≡ side * side
+  pub once : (side index : ℕ) (point : Point) → ((slice_get (points side) index ≡ Some point) ↔ (IsOn side point × (index ≡ index_of side point)))
+  pub same : (grid other : Grid) → grid.side ≡ other.side → length grid.cells ≡ grid.side * grid.side → length other.cells ≡ other.side * other.side
+      → ((point : Point) → IsOn grid.side point → cell_at grid point ≡ cell_at other point) → grid ≡ other
+  pub reaching : (g : Grid) (k : Cell) (p : Point) → IsOn g.side p → (IsTrue (reaches g k p) ↔ Reaches g k p)
+  pub there : (g : Grid) (p : Point) (c : Cell) → IsOn g.side p → length g.cells ≡ g.side * g.side → cell_at (with_cell g p c) p ≡ c
+  pub elsewhere : (g : Grid) (p q : Point) (c : Cell) → IsOn g.side p → IsOn g.side q → q ≢ p → cell_at (with_cell g p c) q ≡ cell_at g q
+  pub clear_side : (g : Grid) (k : Colour) → (clear g k).side ≡ g.side
+  pub clear_all : (g : Grid) (k : Colour) → length (clear g k).cells ≡ g.side * g.side
+  pub kept : (g : Grid) (k : Colour) (p : Point) → IsOn g.side p → Reaches g Empty p → cell_at (clear g k) p ≡ cell_at g p
+  pub unreaching : (g : Grid) → (IsTrue (has_unreaching g) ↔ HasUnreaching g)
+
+empty_or : (c : Cell) → (c ≡ Empty) ⊎ (c ≢ Empty)
+empty_or Black = inr (λ e. cc)
+empty_or White = inr (λ e. cc)
+empty_or Empty = inl refl
+
+true_or : (b : Bool) → (b ≡ true) ⊎ (b ≡ false)
+true_or true = inl refl
+true_or false = inr refl
+
+pub is_same : (c d : Cell) → same_cell c d ≡ true → c ≡ d
+is_same Black Black e = refl
+is_same White White e = refl
+is_same Empty Empty e = refl
+is_same Black White e = absurd cc
+is_same Black Empty e = absurd cc
+is_same White Black e = absurd cc
+is_same White Empty e = absurd cc
+is_same Empty Black e = absurd cc
+is_same Empty White e = absurd cc
+
+same_itself : (c : Cell) → same_cell c c ≡ true
+same_itself Black = refl
+same_itself White = refl
+same_itself Empty = refl
+
+-- one play line
+play_within : (side : ℕ) (k : Colour) (p : Point) → side ≤ 25 → IsOn side p → Each IsWithin (codes "play " ++ colour_letter k ++ codes " " ++ vertex_text (vertex_of p side))
+play_within side BlackPlayer p small on = within_both (codes "play B ") (vertex_text (vertex_of p side)) (search) (solid_within (vertex_text (vertex_of p side)) (vertex_solid side p small on))
+play_within side WhitePlayer p small on = within_both (codes "play W ") (vertex_text (vertex_of p side)) (search) (solid_within (vertex_text (vertex_of p side)) (vertex_solid side p small on))
+
+pub takes_play : (side : ℕ) (board : Grid) (k : Colour) (p : Point) → side ≤ 25 → IsOn side p → cell_at board p ≡ Empty
+    → Takes side (Some board) (play_line side k (Stone p)) (Some (play board k p))
+takes_play side board k p small on empty rest =
+    let line = codes "play " ++ colour_letter k ++ codes " " ++ vertex_text (vertex_of p side) in
+    let played : after_line side (Some board) line ≡ Some (play board k p) =
+    ap (λ c. after_command side board c) (play_reads side k p small on) ∙ ap (λ c. cond (same_cell c Empty) (Some (play board k p)) None) empty in
+    takes_line side (Some board) line (play_within side k p small on) rest ∙ ap (λ b. after_text side b rest) played
+
+module _ (laws : BoardLaws) where
+  same_point : (side : ℕ) (p q : Point) → IsOn side p → IsOn side q → index_of side p ≡ index_of side q → p ≡ q
+  same_point side p q on also e =
+      let one = (laws.once side (index_of side p) p).1 (on, refl) in
+      let two = (laws.once side (index_of side p) q).1 (also, e) in
+      cc
+
+  point_or : (side : ℕ) (p q : Point) → IsOn side p → IsOn side q → (q ≡ p) ⊎ (q ≢ p)
+  point_or side p q on also =
+      elim (cases_eq (index_of side q) (index_of side p)) [
+        | inl same ↦ inl (same_point side q p also on same)
+        | inr other ↦ inr (λ e. other (ap (λ x. index_of side x) e))
+      ]
+
+  -- ---- fewer stones of a settled grid
+
+  module _ (g : Grid) (full : length g.cells ≡ g.side * g.side) (settled : has_unreaching g ≡ false) where
+    -- on each point stands what stands on the whole grid, or nothing
+    record IsPart (h : Grid) : Type 0 where
+      side : h.side ≡ g.side
+      all : length h.cells ≡ h.side * h.side
+      each : (p : Point) → IsOn g.side p → (cell_at h p ≡ Empty) ⊎ (cell_at h p ≡ cell_at g p)
+
+    on_part : (h : Grid) (p : Point) → IsPart h → IsOn g.side p → IsOn h.side p
+    on_part h p part on = subst (λ n. IsOn n p) (sym part.side) on
+
+    leads_part : (h : Grid) (own : Cell) (p : Point) (path : List Point) → IsPart h → Leads g own Empty p path → (shorter : List Point) × Leads h own Empty p shorter
+    leads_part h own p [] part l =
+        elim (part.each p l.0) [ inl e ↦ ([], (on_part h p part l.0, e)) | inr e ↦ ([], (on_part h p part l.0, e ∙ l.1)) ]
+    leads_part h own p (next ∷ path) part l =
+        elim (part.each p l.0) [
+          | inl e ↦ ([], (on_part h p part l.0, e))
+          | inr e ↦ let rest = leads_part h own next path part l.3 in (next ∷ rest.0, (on_part h p part l.0, e ∙ l.1, l.2, rest.1))
+        ]
+
+    whole_reaches : (p : Point) → IsOn g.side p → Reaches g Empty p
+    whole_reaches p on =
+        elim (true_or (reaches g Empty p)) [
+          | inl h ↦ (laws.reaching g Empty p on).0 h
+          | inr never ↦ elim (empty_or (cell_at g p)) [
+            | inl e ↦ ([], (on, e))
+            | inr some ↦
+                let stuck : HasUnreaching g = (p, on, some, λ r. let does = (laws.reaching g Empty p on).1 r in cc) in
+                let found = (laws.unreaching g).1 stuck in absurd (cc)
+          ]
+        ]
+
+    part_reaches : (h : Grid) (p : Point) → IsPart h → IsOn g.side p → Reaches h Empty p
+    part_reaches h p part on =
+        elim (part.each p on) [
+          | inl e ↦ ([], (on_part h p part on, e))
+          | inr e ↦
+              let path = whole_reaches p on in
+              let found = leads_part h (cell_at g p) p path.0 part path.1 in
+              (found.0, subst (λ c. Leads h c Empty p found.0) (sym e) found.1)
+        ]
+
+    clear_part : (h : Grid) (k : Colour) → IsPart h → clear h k ≡ h
+    clear_part h k part =
+        let side = laws.clear_side h k in
+        laws.same (clear h k) h side (laws.clear_all h k ∙ ap (λ n. n * n) (sym side)) part.all
+        (λ p on. let here : IsOn h.side p = subst (λ n. IsOn n p) side on in
+        laws.kept h k p here (part_reaches h p part (subst (λ n. IsOn n p) part.side here)))
+
+    with_part : (h : Grid) (p : Point) → IsPart h → IsOn g.side p → IsPart (with_cell h p (cell_at g p))
+    with_part h p part on =
+        let here = on_part h p part on in
+        record {
+          side = part.side;
+          all = length-set h.cells (index_of h.side p) (cell_at g p) ∙ part.all;
+          each = λ q also. elim (point_or g.side p q on also) [
+            | inl e ↦ inr (ap (λ x. cell_at (with_cell h p (cell_at g p)) x) e ∙ laws.there h p (cell_at g p) here part.all ∙ ap (λ x. cell_at g x) (sym e))
+            | inr other ↦
+                let kept = laws.elsewhere h p q (cell_at g p) here (on_part h q part also) other in
+                elim (part.each q also) [ inl e ↦ inl (kept ∙ e) | inr e ↦ inr (kept ∙ e) ]
+          ];
+        }
+
+    play_part : (h : Grid) (k : Colour) (p : Point) → IsPart h → IsOn g.side p → cell_at g p ≡ stone_of k → play h k p ≡ with_cell h p (cell_at g p)
+    unfolding play
+    play_part h k p part on stone =
+        let w = with_cell h p (cell_at g p) in
+        let now = with_part h p part on in
+        ap (λ c. clear (clear (with_cell h p c) (opponent k)) k) (sym stone)
+        ∙ ap (λ x. clear x k) (clear_part w (opponent k) now) ∙ clear_part w k now
+
+    -- ---- The order of play: the black stones in the order of the points, and then the white ones.
+
+    rank : Cell → ℕ → ℕ
+    rank Black i = i
+    rank White i = g.side * g.side + i
+    rank Empty i = i
+
+    rank_of : Point → ℕ
+    rank_of p = rank (cell_at g p) (index_of g.side p)
+
+    turn_of : Colour → ℕ → ℕ
+    turn_of BlackPlayer i = i
+    turn_of WhitePlayer i = g.side * g.side + i
+
+    -- the stones of a rank below n are placed, and no others
+    record IsPlaced (h : Grid) (n : ℕ) : Type 0 where
+      side : h.side ≡ g.side
+      all : length h.cells ≡ h.side * h.side
+      done : (p : Point) → IsOn g.side p → rank_of p < n → cell_at h p ≡ cell_at g p
+      left : (p : Point) → IsOn g.side p → n ≤ rank_of p → cell_at h p ≡ Empty
+
+    part_of : (h : Grid) (n : ℕ) → IsPlaced h n → IsPart h
+    part_of h n placed = record {
+      side = placed.side;
+      all = placed.all;
+      each = λ p on. elim (cases_lt (rank_of p) n) [ inl lt ↦ inr (placed.done p on lt) | inr le ↦ inl (placed.left p on le) ];
+    }
+
+    index_within : (p : Point) → IsOn g.side p → index_of g.side p < g.side * g.side
+    index_within p on =
+        let here = (laws.once g.side (index_of g.side p) p).1 (on, refl) in
+        let size = laws.listed g.side in
+        omega (arith, slice_get_within (points g.side) (index_of g.side p) p here)
+
+    rank_same : (k : Colour) (c : Cell) (i : ℕ) → c ≡ stone_of k → rank c i ≡ turn_of k i
+    unfolding rank turn_of
+    rank_same BlackPlayer c i e = ap (λ x. rank x i) e
+    rank_same WhitePlayer c i e = ap (λ x. rank x i) e
+
+    -- a point of the rank whose turn it is has that index, and a stone of that colour or none
+    rank_turn : (k : Colour) (c : Cell) (i j : ℕ) → i < g.side * g.side → j < g.side * g.side → rank c j ≡ turn_of k i → (j ≡ i) × ((c ≡ stone_of k) ⊎ (c ≡ Empty))
+    unfolding rank turn_of
+    rank_turn BlackPlayer Black i j a b e = (e, inl refl)
+    rank_turn BlackPlayer Empty i j a b e = (e, inr refl)
+    rank_turn BlackPlayer White i j a b e = absurd (omega arith)
+    rank_turn WhitePlayer White i j a b e = (omega arith, inl refl)
+    rank_turn WhitePlayer Black i j a b e = absurd (omega arith)
+    rank_turn WhitePlayer Empty i j a b e = absurd (omega arith)
+
+    turn_next : (k : Colour) (i : ℕ) → turn_of k (i + 1) ≡ turn_of k i + 1
+    unfolding turn_of
+    turn_next BlackPlayer i = refl
+    turn_next WhitePlayer i = omega arith
+
+    -- the stone of the present turn is placed
+    placed_more : (h : Grid) (k : Colour) (i : ℕ) (q : Point) → i < g.side * g.side → IsOn g.side q → index_of g.side q ≡ i → cell_at g q ≡ stone_of k
+        → IsPlaced h (turn_of k i) → IsPlaced (with_cell h q (cell_at g q)) (turn_of k (i + 1))
+    unfolding rank_of
+    placed_more h k i q small on here stone placed =
+        let part = with_part h q (part_of h (turn_of k i) placed) on in
+        let now : IsOn h.side q = subst (λ n. IsOn n q) (sym placed.side) on in
+        let mine : rank_of q ≡ turn_of k i = rank_same k (cell_at g q) (index_of g.side q) stone ∙ ap (λ j. turn_of k j) here in
+        let next = turn_next k i in
+        record {
+          side = part.side;
+          all = part.all;
+          done = λ p also lt. elim (point_or g.side q p on also) [
+            | inl e ↦ ap (λ x. cell_at (with_cell h q (cell_at g q)) x) e ∙ laws.there h q (cell_at g q) now placed.all ∙ ap (λ x. cell_at g x) (sym e)
+            | inr other ↦ elim (cases_eq (rank_of p) (turn_of k i)) [
+              | inl same ↦
+                  let t = rank_turn k (cell_at g p) i (index_of g.side p) small (index_within p also) same in
+                  absurd (other (same_point g.side p q also on (t.0 ∙ sym here)))
+              | inr differs ↦
+                  laws.elsewhere h q p (cell_at g q) now (subst (λ n. IsOn n p) (sym placed.side) also) other ∙ placed.done p also (omega arith)
+            ]
+          ];
+          left = λ p also le. elim (point_or g.side q p on also) [
+            | inl e ↦ absurd (let same : rank_of p ≡ rank_of q = ap (λ x. rank_of x) e in omega arith)
+            | inr other ↦ laws.elsewhere h q p (cell_at g q) now (subst (λ n. IsOn n p) (sym placed.side) also) other ∙ placed.left p also (omega arith)
+          ];
+        }
+
+    -- there is no stone of that colour at the present turn
+    placed_same : (h : Grid) (k : Colour) (i : ℕ) (q : Point) → i < g.side * g.side → IsOn g.side q → index_of g.side q ≡ i → (cell_at g q ≢ stone_of k)
+        → IsPlaced h (turn_of k i) → IsPlaced h (turn_of k (i + 1))
+    unfolding rank_of
+    placed_same h k i q small on here none placed =
+        let next = turn_next k i in
+        record {
+          side = placed.side;
+          all = placed.all;
+          done = λ p also lt. elim (cases_eq (rank_of p) (turn_of k i)) [
+            | inr differs ↦ placed.done p also (omega arith)
+            | inl same ↦
+                let t = rank_turn k (cell_at g p) i (index_of g.side p) small (index_within p also) same in
+                let at : p ≡ q = same_point g.side p q also on (t.0 ∙ sym here) in
+                elim t.1 [
+                  | inl stone ↦ absurd (none (ap (λ x. cell_at g x) (sym at) ∙ stone))
+                  | inr empty ↦ placed.left p also (omega arith) ∙ sym empty
+                ]
+          ];
+          left = λ p also le. placed.left p also (omega arith);
+        }
+
+    all_placed : (h : Grid) → IsPlaced h (turn_of WhitePlayer (g.side * g.side)) → h ≡ g
+    unfolding rank_of rank turn_of
+    all_placed h placed = laws.same h g placed.side placed.all full (λ p on. let here : IsOn g.side p = subst (λ n. IsOn n p) placed.side on in placed.done p here (low p here)) where
+      high : (c : Cell) (i : ℕ) → i < g.side * g.side → rank c i < g.side * g.side + g.side * g.side
+      high Black i lt = omega arith
+      high White i lt = omega arith
+      high Empty i lt = omega arith
+
+      low : (p : Point) → IsOn g.side p → rank_of p < turn_of WhitePlayer (g.side * g.side)
+      low p on = high (cell_at g p) (index_of g.side p) (index_within p on)
+
+    none_placed : IsPlaced (empty_grid g.side) (turn_of BlackPlayer 0)
+    unfolding turn_of
+    none_placed = record {
+      side = refl;
+      all = length-replicate (g.side * g.side) Empty;
+      done = λ p on lt. absurd (omega arith);
+      left = λ p on le. get_or-replicate (g.side * g.side) (index_of g.side p) Empty Empty (index_within p on);
+    }
+
+    -- ---- The lines of a colour's stones.
+
+    point_in : (m i j : ℕ) → j < m → slice_get (map (point_at g.side) (range_with_len i m)) j ≡ Some (point_at g.side (i + j))
+    point_in zero i j lt = absurd (omega arith)
+    point_in (suc m) i zero lt = let same : i ≡ i + 0 = omega arith in ap (λ n. Some (point_at g.side n)) same
+    point_in (suc m) i (suc j) lt = let same : i + 1 + j ≡ i + suc j = omega arith in point_in m (i + 1) j (omega arith) ∙ ap (λ n. Some (point_at g.side n)) same
+
+    point_listed : (i : ℕ) → i < g.side * g.side → slice_get (points g.side) i ≡ Some (point_at g.side i)
+    unfolding points
+    point_listed i lt = let same : 0 + i ≡ i = omega arith in point_in (g.side * g.side) 0 i lt ∙ ap (λ n. Some (point_at g.side n)) same
+
+    line_of : Colour → Point → List ℕ
+    line_of k p = play_line g.side k (Stone p)
+
+    lines_of : Colour → List Point → List ℕ
+    unfolding line_of
+    lines_of k ps = flat_map (λ p. play_line g.side k (Stone p)) (filter (λ p. same_cell (cell_at g p) (stone_of k)) ps)
+
+    -- what the lines of the points from one on do to a board on which the earlier stones are placed
+    record IsTaken (k : Colour) (h : Grid) (text : List ℕ) : Type 0 where
+      board : Grid
+      placed : IsPlaced board (turn_of k (g.side * g.side))
+      takes : Takes g.side (Some h) text (Some board)
+
+    module _ (small : g.side ≤ 25) where
+      take_stone : (k : Colour) (i : ℕ) (q : Point) (h : Grid) (ps : List Point) (is_stone : Bool) → i < g.side * g.side → IsOn g.side q → index_of g.side q ≡ i
+          → same_cell (cell_at g q) (stone_of k) ≡ is_stone → IsPlaced h (turn_of k i)
+          → ((next : Grid) → IsPlaced next (turn_of k (i + 1)) → IsTaken k next (lines_of k ps))
+          → IsTaken k h (flat_map (λ p. play_line g.side k (Stone p)) (cond is_stone (q ∷ filter (λ p. same_cell (cell_at g p) (stone_of k)) ps) (filter (λ p. same_cell (cell_at g p) (stone_of k)) ps)))
+      unfolding lines_of rank_of rank
+      take_stone k i q h ps true low on here stone placed goes_on =
+          let is : cell_at g q ≡ stone_of k = is_same (cell_at g q) (stone_of k) stone in
+          let next = with_cell h q (cell_at g q) in
+          let made : play h k q ≡ next = play_part h k q (part_of h (turn_of k i) placed) on is in
+          let at_turn : turn_of k i ≤ rank (cell_at g q) (index_of g.side q) =
+          let e = rank_same k (cell_at g q) (index_of g.side q) is in let f = ap (λ j. turn_of k j) here in omega arith in
+          let free : cell_at h q ≡ Empty = placed.left q on at_turn in
+          let rest = goes_on next (placed_more h k i q low on here is placed) in
+          let one : Takes g.side (Some h) (play_line g.side k (Stone q)) (Some next) =
+          subst (λ b. Takes g.side (Some h) (play_line g.side k (Stone q)) (Some b)) made (takes_play g.side h k q small on free) in
+          record {
+            board = rest.board;
+            placed = rest.placed;
+            takes = takes_both g.side (Some h) (Some next) (Some rest.board) (play_line g.side k (Stone q)) (lines_of k ps) one rest.takes;
+          }
+      take_stone k i q h ps false low on here none placed goes_on =
+          goes_on h (placed_same h k i q low on here (λ e. let same = same_itself (stone_of k) in let alike = ap (λ c. same_cell c (stone_of k)) e in cc) placed)
+
+      take_stones : (k : Colour) (m i : ℕ) (h : Grid) → i + m ≡ g.side * g.side → IsPlaced h (turn_of k i)
+          → IsTaken k h (lines_of k (map (point_at g.side) (range_with_len i m)))
+      unfolding lines_of
+      take_stones k zero i h e placed =
+          let at_end : i ≡ g.side * g.side = omega arith in
+          record { board = h; placed = subst (λ j. IsPlaced h (turn_of k j)) at_end placed; takes = takes_nothing g.side (Some h) }
+      take_stones k (suc m) i h e placed =
+          let q = point_at g.side i in
+          let there : slice_get (points g.side) i ≡ Some q = point_listed i (omega arith) in
+          let is = (laws.once g.side i q).0 there in
+          take_stone k i q h (map (point_at g.side) (range_with_len (i + 1) m)) (same_cell (cell_at g q) (stone_of k)) (omega arith) is.0 (sym is.1) refl placed
+          (λ next now. take_stones k m (i + 1) next (omega arith) now)
+
+      pub takes_board : (before : Grid) → Takes g.side (Some before) (board_lines g) (Some g)
+      unfolding lines_of points turn_of
+      takes_board before =
+          let count = g.side * g.side in
+          let empty = empty_grid g.side in
+          let black = take_stones BlackPlayer count 0 empty (omega arith) none_placed in
+          let same : count ≡ count + 0 = omega arith in
+          let white = take_stones WhitePlayer count 0 black.board (omega arith) (subst (λ n. IsPlaced black.board n) same black.placed) in
+          let cleared : Takes g.side (Some before) (codes "clear_board\n") (Some empty) = takes_line g.side (Some before) (codes "clear_board") (search) in
+          let half : Takes g.side (Some before) (codes "clear_board\n" ++ stone_lines g BlackPlayer) (Some black.board) =
+          takes_both g.side (Some before) (Some empty) (Some black.board) (codes "clear_board\n") (stone_lines g BlackPlayer) cleared black.takes in
+          let done : Takes g.side (Some before) (board_lines g) (Some white.board) =
+          takes_both g.side (Some before) (Some black.board) (Some white.board) (codes "clear_board\n" ++ stone_lines g BlackPlayer) (stone_lines g WhitePlayer) half white.takes in
+          subst (λ b. Takes g.side (Some before) (board_lines g) (Some b)) (all_placed white.board white.placed) done

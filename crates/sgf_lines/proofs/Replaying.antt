@@ -1,0 +1,302 @@
+-- A script that has commands leads to the colouring at the end of its line's walk.
+use Rattle.std.proofs.Common.{◌≡◌, ◌≢◌, ℕ, zero, suc, ◌+◌, ◌-◌, ◌*◌, ◌<◌, ◌≤◌, List, [], ◌∷◌, ◌++◌, length, map, filter, fold, Option, Some, None, Bool, true, false, not, codes, refl, sym, ap, ◌∙◌, arith, subst, inl, inr, cond, append-nil, append_assoc, decimal, ◌||◌, ◌==◌, Result, Ok, Err, option_map, option_and_then, nat_lt, nat_le, ◌&&◌}
+use Rattle.std.specs.List.{flat_map, list_any, slice_split}
+use Rattle.std.proofs.lemmas.List.{length-map, length-replicate}
+use Rattle.std.proofs.lemmas.Bool.Decides.{nat_tests}
+use Rattle.sgf_tree.specs.Tree.{Node}
+use Rattle.go_board.specs.declared.stones.Cell.{Cell}
+use Rattle.go_board.specs.declared.stones.Cell.TheVariants.{Empty}
+use Rattle.go_board.specs.declared.stones.Colour.{Colour}
+use Rattle.go_board.specs.declared.stones.Colour.TheVariants.{Black, White}
+use Rattle.go_board.specs.declared.points.Point.{Point}
+use Rattle.go_board.specs.declared.vertices.TheConstants.{MAX_VERTEX_SIDE}
+use Rattle.go_board.specs.declared.reason.Reason.{Reason}
+use Rattle.go_board.specs.declared.reason.Reason.TheVariants.{Over, Turn, Occupied, Repeat}
+use Rattle.go_board.specs.declared.referee.plays.Play.{Play}
+use Rattle.go_board.specs.declared.referee.plays.Play.TheVariants.{Pass, Stone}
+use Rattle.go_board.specs.declared.referee.plays.SetupOp.{SetupOp}
+use Rattle.go_board.specs.Colour.{opponent, stone_of, same_cell}
+use Rattle.go_board.specs.Point.{IsOn, points}
+use Rattle.go_board.specs.Grid.{Grid, cell_at, with_cell, empty_grid, grid_of}
+use Rattle.go_board.specs.Clearing.{clear, play, has_unreaching}
+use Rattle.go_board.specs.Values.{letter_value, coordinate, point_of, point_value}
+use Rattle.go_board.specs.State.{State, starting, with_area, set_up, turned, is_over}
+use Rattle.go_board.specs.Reason.{must_move, is_occupied, is_repeat, reason_of}
+use Rattle.sgf_lines.specs.Lines.{Line}
+use Rattle.sgf_lines.specs.NodeContents.{Move, Stones, moves, stones, players}
+use Rattle.sgf_lines.specs.Values.{is_pass, move_value, operations, last_player}
+use Rattle.sgf_lines.specs.GameSize.{Opening, other_game, no_board, board, opening, root_properties}
+use Rattle.sgf_lines.specs.Step.{side_in, taken, move_step, setup_step, step_by, step}
+use Rattle.sgf_lines.specs.Walk.{Played, Fault, Walk, begun, stepped, next_by, next, walk}
+use Rattle.sgf_lines.specs.ListRow.{list_row}
+use Rattle.sgf_lines.specs.Script.{comment_line, comment_text, comment_lines, play_line, board_lines, setup_lines, move_lines_by, move_lines, node_script, played_script, leaves_unreaching_by, leaves_unreaching, has_no_commands, board_commands, commands_of, commands_by, script}
+use Rattle.sgf_lines.specs.NodeContents.{first_value}
+use Rattle.sgf_lines.specs.Replay.{is_word, words, leaves, command_of, after_command, after_line, after_text, replayed}
+use Rattle.sgf_lines.proofs.Lists.{Each}
+use Rattle.sgf_lines.proofs.Again.{flat_map-append}
+use Rattle.sgf_lines.proofs.ScriptLines.{IsWithin, Takes, takes_line, takes_nothing, takes_both, takes_comment, takes_text_lines, row_within, decimal_within, decimal_solid, within_both}
+use Rattle.sgf_lines.proofs.ScriptWords.{one_word}
+use Rattle.sgf_lines.proofs.Placing.{BoardLaws, is_same, takes_play, takes_board}
+
+-- ---- What the parts of a test tell.
+
+no_reason : (a : Bool) (r : Reason) (o : Option Reason) → cond a (Some r) o ≡ None → (a ≡ false) × (o ≡ None)
+no_reason true r o e = absurd cc
+no_reason false r o e = (refl, e)
+
+not_false : (b : Bool) → not b ≡ false → b ≡ true
+not_false true e = refl
+not_false false e = absurd cc
+
+or_false : (a b : Bool) → (a || b) ≡ false → (a ≡ false) × (b ≡ false)
+or_false true b e = absurd cc
+or_false false b e = (refl, e)
+
+any_append : {A : Type 0} (p : A → Bool) (xs ys : List A) → list_any p (xs ++ ys) ≡ false → (list_any p xs ≡ false) × (list_any p ys ≡ false)
+any_append p [] ys e = (refl, e)
+any_append p (x ∷ xs) ys e =
+    let h = or_false (p x) (list_any p (xs ++ ys)) e in
+    let rest = any_append p xs ys h.1 in
+    (ap (λ b. b || list_any p xs) h.0 ∙ rest.0, rest.1)
+
+free_point : (s : State) (k : Colour) (p : Point) → reason_of s k (Stone p) ≡ None → cell_at s.colouring p ≡ Empty
+free_point s k p e =
+    let a = no_reason (is_over s) Over (cond (must_move s.player (opponent k)) (Some Turn) (cond (is_occupied s (Stone p)) (Some Occupied) (cond (is_repeat s k (Stone p)) (Some Repeat) None))) e in
+    let b = no_reason (must_move s.player (opponent k)) Turn (cond (is_occupied s (Stone p)) (Some Occupied) (cond (is_repeat s k (Stone p)) (Some Repeat) None)) a.1 in
+    let c = no_reason (is_occupied s (Stone p)) Occupied (cond (is_repeat s k (Stone p)) (Some Repeat) None) b.1 in
+    is_same (cell_at s.colouring p) Empty (not_false (same_cell (cell_at s.colouring p) Empty) c.0)
+
+-- ---- The points that values name are on the board.
+
+on_test : (test : Bool) (side m n : ℕ) → nat_lt m side ≡ test → cond test (Some m) None ≡ Some n → n < side
+on_test true side m n t e = let same : m ≡ n = cc in let lt : m < side = grind (arith, nat_tests) in omega arith
+on_test false side m n t e = absurd cc
+
+on_by : (side : ℕ) (o : Option ℕ) (n : ℕ) → option_and_then (λ m. cond (nat_lt m side) (Some m) None) o ≡ Some n → n < side
+on_by side None n e = absurd cc
+on_by side (Some m) n e = on_test (nat_lt m side) side m n refl e
+
+coordinate_on : (side b n : ℕ) → coordinate side b ≡ Some n → n < side
+coordinate_on side b n e = on_by side (letter_value b) n e
+
+point_by : (side : ℕ) (a b : Option ℕ) (p : Point) → ((n : ℕ) → a ≡ Some n → n < side) → ((n : ℕ) → b ≡ Some n → n < side)
+    → option_and_then (λ col. option_and_then (λ row. Some (record { col = col; row = row })) b) a ≡ Some p → IsOn side p
+point_by side None b p f g e = absurd cc
+point_by side (Some c) None p f g e = absurd cc
+point_by side (Some c) (Some r) p f g e =
+    let made : Point = record { col = c; row = r } in
+    let same : made ≡ p = cc in
+    subst (λ x. IsOn side x) same (f c refl, g r refl)
+
+point_on : (side : ℕ) (raw : List ℕ) (p : Point) → point_value raw side ≡ Some p → IsOn side p
+unfolding point_value
+point_on side [] p e = absurd cc
+point_on side (c ∷ []) p e = absurd cc
+point_on side (c ∷ r ∷ []) p e = point_by side (coordinate side c) (coordinate side r) p (coordinate_on side c) (coordinate_on side r) e
+point_on side (c ∷ r ∷ d ∷ more) p e = absurd cc
+
+-- ---- A node's step.
+
+-- a grid with a cell for each point
+abbrev IsFull : ℕ → Grid → Type 0
+IsFull side g = (g.side ≡ side) × (length g.cells ≡ side * side)
+
+pass_leaves : (side : ℕ) (now : Option Grid) (k : Colour) → Takes side now (play_line side k Pass) now
+pass_leaves side None Black = takes_line side None (codes "play B pass") (search)
+pass_leaves side None White = takes_line side None (codes "play W pass") (search)
+pass_leaves side (Some g) Black = takes_line side (Some g) (codes "play B pass") (search)
+pass_leaves side (Some g) White = takes_line side (Some g) (codes "play W pass") (search)
+
+module _ (laws : BoardLaws) (side : ℕ) (small : side ≤ 25) where
+  -- a step leads to a grid with a cell for each point, and its node's lines lead there
+  record Leads (s t : State) (ts : List Stones) (ms : List Move) : Type 0 where
+    full : IsFull side t.colouring
+    middle : Option Grid
+    set : Takes side (Some s.colouring) (setup_lines t.colouring ts) middle
+    moved : Takes side middle (move_lines t.colouring.side ms) (Some t.colouring)
+
+  stays : (s t : State) → IsFull side s.colouring → t.colouring ≡ s.colouring → Leads s t [] []
+  stays s t full e = record {
+    full = subst (λ g. IsFull side g) (sym e) full;
+    middle = Some s.colouring;
+    set = takes_nothing side (Some s.colouring);
+    moved = subst (λ g. Takes side (Some s.colouring) [] (Some g)) (sym e) (takes_nothing side (Some s.colouring));
+  }
+
+  play_full : (g : Grid) (k : Colour) (p : Point) → IsFull side g → IsFull side (play g k p)
+  unfolding play
+  play_full g k p full =
+      let w = with_cell g p (stone_of k) in
+      let one = laws.clear_side w (opponent k) in
+      let two = laws.clear_side (clear w (opponent k)) k in
+      let all = laws.clear_all (clear w (opponent k)) k in
+      (two ∙ one ∙ full.0, all ∙ ap (λ n. n * n) (one ∙ full.0))
+
+  setup_full : (g : Grid) (ops : List SetupOp) → IsFull side g → IsFull side (fold with_area g ops)
+  unfolding with_area
+  setup_full g [] full = full
+  setup_full g (op ∷ ops) full =
+      let listed : (colour : Point → Cell) → length (map colour (points g.side)) ≡ side * side =
+      λ colour. length-map (points g.side) colour ∙ laws.listed g.side ∙ ap (λ n. n * n) full.0 in
+      setup_full (with_area g op) ops (full.0, listed _)
+
+  set_full : (s : State) (ops : List SetupOp) (player : Option Colour) → IsFull side s.colouring → IsFull side (set_up s ops player).colouring
+  set_full s [] player full = full
+  set_full s (op ∷ ops) player full = setup_full s.colouring (op ∷ ops) full
+
+  player_leads : (s t : State) (last : Option (Option Colour)) → IsFull side s.colouring → setup_step s (Some []) last ≡ Ok t → Leads s t [] []
+  player_leads s t None full is = absurd cc
+  player_leads s t (Some player) full is =
+      let after : t ≡ set_up s [] player = cc in stays s t full (ap (λ u. u.colouring) after)
+
+  stone_by : (n : ℕ) (raw : List ℕ) (p : Point) (passes : Bool) → cond passes (Some Pass) (option_map Stone (point_value raw n)) ≡ Some (Stone p) → IsOn n p
+  stone_by n raw p true e = absurd cc
+  stone_by n raw p false e = stone_from n raw p (point_value raw n) refl e where
+    stone_from : (n : ℕ) (raw : List ℕ) (p : Point) (o : Option Point) → point_value raw n ≡ o → option_map Stone o ≡ Some (Stone p) → IsOn n p
+    stone_from n raw p None h e = absurd cc
+    stone_from n raw p (Some q) h e = let same : q ≡ p = cc in point_on n raw p (h ∙ ap Some same)
+
+  stone_on : (n : ℕ) (raw : List ℕ) (p : Point) → move_value n raw ≡ Some (Stone p) → IsOn n p
+  stone_on n raw p e = stone_by n raw p (is_pass n raw) e
+
+  -- the lines of a play that is allowed
+  plays_on : (s t : State) (k : Colour) (raw : List ℕ) (x : Play) → IsFull side s.colouring → move_value (side_in s) raw ≡ Some x → reason_of s k x ≡ None
+      → t ≡ turned s k x → Takes side (Some s.colouring) (play_line side k x) (Some t.colouring) × IsFull side t.colouring
+  plays_on s t k raw Pass full value none is =
+      let same : t.colouring ≡ s.colouring = ap (λ u. u.colouring) is in
+      (subst (λ g. Takes side (Some s.colouring) (play_line side k Pass) (Some g)) (sym same) (pass_leaves side (Some s.colouring) k), subst (λ g. IsFull side g) (sym same) full)
+  plays_on s t k raw (Stone p) full value none is =
+      let same : t.colouring ≡ play s.colouring k p = ap (λ u. u.colouring) is in
+      let on : IsOn side p = subst (λ n. IsOn n p) full.0 (stone_on (side_in s) raw p value) in (
+        subst (λ g. Takes side (Some s.colouring) (play_line side k (Stone p)) (Some g)) (sym same) (takes_play side s.colouring k p small on (free_point s k p none)),
+        subst (λ g. IsFull side g) (sym same) (play_full s.colouring k p full),
+      )
+
+  turn_leads : (s t : State) (m : Move) (x : Play) (reason : Option Reason) → IsFull side s.colouring → move_value (side_in s) m.raw ≡ Some x
+      → reason_of s m.player x ≡ reason → taken s m.player x reason ≡ Ok t → Leads s t [] (m ∷ [])
+  turn_leads s t m x (Some reason) full e r is = absurd cc
+  turn_leads s t m x None full e r is =
+      let after : t ≡ turned s m.player x = cc in
+      let does = plays_on s t m.player m.raw x full e r after in
+      let line : move_lines t.colouring.side (m ∷ []) ≡ play_line side m.player x =
+      append-nil (move_lines_by t.colouring.side m.player (move_value t.colouring.side m.raw))
+      ∙ ap (λ n. move_lines_by n m.player (move_value n m.raw)) (does.1.0 ∙ sym full.0)
+      ∙ ap (λ o. move_lines_by (side_in s) m.player o) e
+      ∙ ap (λ n. play_line n m.player x) full.0 in
+      record {
+        full = does.1;
+        middle = Some s.colouring;
+        set = takes_nothing side (Some s.colouring);
+        moved = subst (λ text. Takes side (Some s.colouring) text (Some t.colouring)) (sym line) does.0;
+      }
+
+  move_leads : (s t : State) (m : Move) (value : Option Play) → IsFull side s.colouring → move_value (side_in s) m.raw ≡ value
+      → move_step s m.player value ≡ Ok t → Leads s t [] (m ∷ [])
+  move_leads s t m None full e is = absurd cc
+  move_leads s t m (Some x) full e is = turn_leads s t m x (reason_of s m.player x) full e refl is
+
+  setup_leads : (s t : State) (first : Stones) (others : List Stones) (ops : Option (List SetupOp)) (last : Option (Option Colour)) → IsFull side s.colouring
+      → has_unreaching t.colouring ≡ false → setup_step s ops last ≡ Ok t → Leads s t (first ∷ others) []
+  setup_leads s t first others None last full settled is = absurd cc
+  setup_leads s t first others (Some ops) None full settled is = absurd cc
+  setup_leads s t first others (Some ops) (Some player) full settled is =
+      let after : t ≡ set_up s ops player = cc in
+      let now : IsFull side t.colouring = subst (λ u. IsFull side u.colouring) (sym after) (set_full s ops player full) in
+      let cells : length t.colouring.cells ≡ t.colouring.side * t.colouring.side = now.1 ∙ ap (λ n. n * n) (sym now.0) in
+      let low : t.colouring.side ≤ 25 = rw now.0 small in
+      record {
+        full = now;
+        middle = Some t.colouring;
+        set = subst (λ n. Takes n (Some s.colouring) (board_lines t.colouring) (Some t.colouring)) now.0 (takes_board laws t.colouring cells settled low s.colouring);
+        moved = takes_nothing side (Some t.colouring);
+      }
+
+  step_leads : (s t : State) (ms : List Move) (ts : List Stones) (ps : List (List ℕ)) → IsFull side s.colouring → leaves_unreaching_by t.colouring ts ≡ false
+      → step_by s ms ts ps ≡ Ok t → Leads s t ts ms
+  step_leads s t [] [] [] full settled is = let same : s ≡ t = cc in stays s t full (ap (λ u. u.colouring) (sym same))
+  step_leads s t (m ∷ ms) (first ∷ others) ps full settled is = absurd cc
+  step_leads s t (m ∷ ms) [] (p ∷ ps) full settled is = absurd cc
+  step_leads s t (m ∷ l ∷ ms) [] [] full settled is = absurd cc
+  step_leads s t (m ∷ []) [] [] full settled is = move_leads s t m (move_value (side_in s) m.raw) full refl is
+  step_leads s t [] (first ∷ others) ps full settled is =
+      setup_leads s t first others (operations (side_in s) (first ∷ others)) (last_player None ps) full settled is
+  step_leads s t [] [] (p ∷ ps) full settled is = player_leads s t (last_player None (p ∷ ps)) full is
+
+  node_leads : (s t : State) (n : Node) → IsFull side s.colouring → leaves_unreaching (record { node = n; after = t }) ≡ false → step s n ≡ Ok t
+      → Takes side (Some s.colouring) (node_script t n) (Some t.colouring) × IsFull side t.colouring
+  node_leads s t n full settled is =
+      let leads = step_leads s t (moves n) (stones n) (players n) full settled is in
+      let comments = takes_text_lines side (Some s.colouring) (comment_text (first_value (codes "C") n.properties)) in
+      let start = comment_lines n in
+      let middle = start ++ setup_lines t.colouring (stones n) in
+      let half : Takes side (Some s.colouring) middle leads.middle =
+      takes_both side (Some s.colouring) (Some s.colouring) leads.middle start (setup_lines t.colouring (stones n)) comments leads.set in
+      (takes_both side (Some s.colouring) leads.middle (Some t.colouring) middle (move_lines t.colouring.side (moves n)) half leads.moved, leads.full)
+
+  -- ---- A walk.
+
+  -- what the walk so far says in commands leads to its board
+  abbrev IsSaid : Walk → Type 0
+  IsSaid w = list_any leaves_unreaching w.played ≡ false
+      → Takes side (Some (empty_grid side)) (flat_map played_script w.played) (Some w.state.colouring) × IsFull side w.state.colouring
+
+  stepped_said : (w : Walk) (n : Node) (result : Result State Reason) → step w.state n ≡ result → IsSaid w → IsSaid (stepped w n result)
+  stepped_said w n (Err reason) e said = said
+  stepped_said w n (Ok t) e said = λ settled.
+      let p : Played = record { node = n; after = t } in
+      let parts = any_append leaves_unreaching w.played (p ∷ []) settled in
+      let before = said parts.0 in
+      let one = node_leads w.state t n before.1 (or_false (leaves_unreaching p) false parts.1).0 e in
+      let empty = Some (empty_grid side) in
+      let both = takes_both side empty (Some w.state.colouring) (Some t.colouring) (flat_map played_script w.played) (node_script t n) before.0 one.0 in
+      let texts : flat_map played_script (w.played ++ p ∷ []) ≡ flat_map played_script w.played ++ node_script t n =
+      flat_map-append played_script w.played (p ∷ []) ∙ ap (λ x. flat_map played_script w.played ++ x) (append-nil (node_script t n)) in
+      (subst (λ x. Takes side empty x (Some t.colouring)) (sym texts) both, one.1)
+
+  next_said : (w : Walk) (fault : Option Fault) (n : Node) → IsSaid w → IsSaid (next_by w fault n)
+  next_said w (Some fault) n said = said
+  next_said w None n said = stepped_said w n (step w.state n) refl said
+
+  walk_said : (w : Walk) (nodes : List Node) → IsSaid w → IsSaid (fold next w nodes)
+  walk_said w [] said = said
+  walk_said w (n ∷ ns) said = walk_said (next w n) ns (next_said w w.fault n said)
+
+  begun_said : IsSaid (begun side)
+  begun_said = λ settled. (takes_nothing side (Some (empty_grid side)), (refl, length-replicate (side * side) Empty))
+
+  -- ---- The whole script.
+
+  two_words : (word : List ℕ) → command_of side (codes "boardsize" ∷ filter is_word (word ∷ [])) ≡ leaves
+  two_words [] = refl
+  two_words (b ∷ bs) = refl
+
+  takes_commands : (now : Grid) → Takes side (Some now) (board_commands side) (Some (empty_grid side))
+  takes_commands now =
+      let line = codes "boardsize " ++ decimal side in
+      let within : Each IsWithin line = within_both (codes "boardsize ") (decimal side) (search) (decimal_within side) in
+      let read : after_line side (Some now) line ≡ Some now =
+      ap (λ ls. after_command side now (command_of side (codes "boardsize" ∷ filter is_word ls))) (one_word (decimal side) (decimal_solid side))
+      ∙ ap (λ c. after_command side now c) (two_words (decimal side)) in
+      let sized : Takes side (Some now) (line ++ (10 ∷ [])) (Some now) =
+      subst (λ b. Takes side (Some now) (line ++ (10 ∷ [])) b) read (takes_line side (Some now) line within) in
+      let cleared : Takes side (Some now) (codes "clear_board\n") (Some (empty_grid side)) = takes_line side (Some now) (codes "clear_board") (search) in
+      subst (λ x. Takes side (Some now) x (Some (empty_grid side))) (append_assoc line (10 ∷ []) (codes "clear_board\n"))
+      (takes_both side (Some now) (Some now) (Some (empty_grid side)) (line ++ (10 ∷ [])) (codes "clear_board\n") sized cleared)
+
+pub script_replayed : BoardLaws → (line : Line) (side : ℕ) → opening (root_properties line.nodes) ≡ board side
+    → has_no_commands side (walk side line.nodes) ≡ false → replayed side (script line) ≡ Some (walk side line.nodes).state.colouring
+script_replayed laws line side opens says =
+    let w = walk side line.nodes in
+    let parts = or_false (nat_lt MAX_VERTEX_SIDE side) (list_any leaves_unreaching w.played) says in
+    let small : side ≤ 25 = grind (arith, nat_tests, parts.0) in
+    let empty = Some (empty_grid side) in
+    let said = walk_said laws side small (begun side) line.nodes (begun_said laws side small) parts.1 in
+    let played = flat_map played_script w.played in
+    let all : Takes side empty (board_commands side ++ played) (Some w.state.colouring) =
+    takes_both side empty empty (Some w.state.colouring) (board_commands side) played (takes_commands laws side small (empty_grid side)) said.0 in
+    let commands : commands_by (opening (root_properties line.nodes)) line.nodes ≡ board_commands side ++ played =
+    ap (λ o. commands_by o line.nodes) opens ∙ ap (λ b. cond b [] (board_commands side ++ played)) says in
+    let row : Takes side empty (comment_line (list_row line)) empty = takes_comment side empty (list_row line) (row_within line) in
+    let both : Takes side empty (comment_line (list_row line) ++ (board_commands side ++ played)) (Some w.state.colouring) =
+    takes_both side empty empty (Some w.state.colouring) (comment_line (list_row line)) (board_commands side ++ played) row all in
+    ap (λ x. after_text side empty (comment_line (list_row line) ++ x ++ codes "\n")) commands ∙ both (codes "\n")

@@ -1,0 +1,126 @@
+-- The lines of plays, as they are read.
+use Rattle.std.proofs.Common.{◌≡◌, ℕ, zero, suc, ◌+◌, ◌-◌, ◌<◌, ◌≤◌, List, [], ◌∷◌, ◌++◌, length, map, fold, filter, Option, Some, None, Bool, true, false, codes, refl, sym, ap, ◌∙◌, arith, append_assoc, decimal, nat_lt, nat_le, cond, ◌==◌, ◌&&◌, slice_index, option_and_then, inl, inr}
+use Rattle.std.specs.List.{slice_split, onto_first, position}
+use Rattle.std.proofs.lemmas.List.Splits.{slice_split_none}
+use Rattle.std.proofs.lemmas.List.Elements.{All-from_recursion}
+use Rattle.std.specs.Fmt.{digits}
+use Rattle.sgf_tree.specs.Number.{magnitude_of}
+use Rattle.go_board.specs.declared.stones.Colour.{Colour}
+use Rattle.go_board.specs.declared.stones.Colour.TheVariants.{Black, White}
+use Rattle.go_board.specs.declared.points.Point.{Point}
+use Rattle.go_board.specs.Point.{IsOn}
+use Rattle.go_board.specs.Vertex.{column_letters, vertex_of}
+use Rattle.sgf_lines.specs.Script.{colour_letter, vertex_text}
+use Rattle.sgf_lines.specs.Replay.{before_comment, is_word, words, capital, point_there, point_named, Command, plays, leaves, play_of, command_of}
+use Rattle.std.proofs.lemmas.Bool.{cases_eq, cases_lt}
+use Rattle.std.proofs.lemmas.Bool.Decides.{nat_tests}
+use Rattle.sgf_lines.proofs.Lists.{Each, each_append}
+use Rattle.sgf_lines.proofs.ScriptLines.{IsSolid, decimal_solid, IsWithin}
+
+-- ---- a fact of each number below a small one, by trying all
+
+all_below : (ℕ → Bool) → ℕ → Bool
+all_below p zero = true
+all_below p (suc n) = p n && all_below p n
+
+both : (a b : Bool) → (a && b) ≡ true → (a ≡ true) × (b ≡ true)
+both true b e = (refl, e)
+both false b e = absurd cc
+
+below_each : (p : ℕ → Bool) (n k : ℕ) → all_below p n ≡ true → k < n → p k ≡ true
+unfolding all_below
+below_each p zero k e lt = absurd (omega arith)
+below_each p (suc n) k e lt =
+    let h = both (p n) (all_below p n) e in
+    elim (cases_eq k n) [ inl same ↦ rw same h.0 | inr other ↦ below_each p n k h.1 (omega arith) ]
+
+is_some : Option ℕ → ℕ → Bool
+is_some None n = false
+is_some (Some m) n = m == n
+
+some_from : (o : Option ℕ) (n : ℕ) → is_some o n ≡ true → o ≡ Some n
+unfolding is_some
+some_from None n e = absurd cc
+some_from (Some m) n e = let same : m ≡ n = grind (arith, e) in ap Some same
+
+-- ---- the letter of a column and the number of a row
+
+letter_reads : ℕ → Bool
+letter_reads col =
+    nat_le 48 (slice_index column_letters col) && is_some (position (λ l. l == capital (slice_index column_letters col)) column_letters) col
+
+pub letter_solid : (col : ℕ) → col < 25 → IsSolid (slice_index column_letters col)
+unfolding letter_reads all_below is_some
+letter_solid col lt =
+    let h = both (nat_le 48 (slice_index column_letters col)) (is_some (position (λ l. l == capital (slice_index column_letters col)) column_letters) col) (below_each letter_reads 25 col refl lt) in
+    grind (arith, h.0)
+
+letter_names : (col : ℕ) → col < 25 → position (λ l. l == capital (slice_index column_letters col)) column_letters ≡ Some col
+unfolding letter_reads all_below is_some
+letter_names col lt =
+    let h = both (nat_le 48 (slice_index column_letters col)) (is_some (position (λ l. l == capital (slice_index column_letters col)) column_letters) col) (below_each letter_reads 25 col refl lt) in
+    some_from (position (λ l. l == capital (slice_index column_letters col)) column_letters) col h.1
+
+row_reads : ℕ → Bool
+row_reads n = is_some (magnitude_of (decimal n)) n
+
+row_names : (n : ℕ) → n < 26 → magnitude_of (decimal n) ≡ Some n
+unfolding row_reads all_below is_some digits
+row_names n lt = some_from (magnitude_of (decimal n)) n (below_each row_reads 26 n refl lt)
+
+point_back : (side : ℕ) (p : Point) → IsOn side p → point_there side p.col (side - p.row) ≡ Some p
+point_back side p on =
+    let there : (nat_lt p.col side && (nat_le 1 (side - p.row) && nat_le (side - p.row) side)) ≡ true = grind (arith, nat_tests, on.0, on.1) in
+    let row : side - (side - p.row) ≡ p.row = omega (arith, on.1) in
+    ap (λ t. cond t (Some (record { col = p.col; row = side - (side - p.row) })) None) there ∙ ap (λ r. Some (record { col = p.col; row = r })) row
+
+pub point_names : (side : ℕ) (p : Point) → side ≤ 25 → IsOn side p → point_named side (vertex_text (vertex_of p side)) ≡ Some p
+unfolding vertex_of
+point_names side p small on =
+    let letter = slice_index column_letters p.col in
+    let number = side - p.row in
+    ap (λ o. option_and_then (λ col. option_and_then (point_there side col) (magnitude_of (decimal number))) o) (letter_names p.col (omega (arith, on.0)))
+    ∙ ap (λ o. option_and_then (point_there side p.col) o) (row_names number (omega arith))
+    ∙ point_back side p on
+
+-- ---- a play's words
+
+solid_space : (b : ℕ) → IsSolid b → (b == 32) ≡ false
+solid_space b h = grind (arith, h)
+
+no_spaces : (bs : List ℕ) → Each IsSolid bs → Each (λ b. (b == 32) ≡ false) bs
+no_spaces [] h = tt
+no_spaces (b ∷ bs) h = (solid_space b h.0, no_spaces bs h.1)
+
+solid_hash : (b : ℕ) → IsSolid b → (b == 35) ≡ false
+solid_hash b h = grind (arith, h)
+
+no_comment : (bs : List ℕ) → Each IsSolid bs → before_comment bs ≡ bs
+no_comment [] h = refl
+no_comment (b ∷ bs) h =
+    ap (λ e. cond e [] (b ∷ before_comment bs)) (solid_hash b h.0) ∙ ap (λ t. b ∷ t) (no_comment bs h.1)
+
+pub one_word : (bs : List ℕ) → Each IsSolid bs → slice_split (λ b. b == 32) (before_comment bs) ≡ bs ∷ []
+one_word bs h =
+    ap (λ t. slice_split (λ b. b == 32) t) (no_comment bs h) ∙ slice_split_none (λ b. b == 32) bs (All-from_recursion (λ b. (b == 32) ≡ false) bs (no_spaces bs h))
+
+play_words : (k : Colour) (b : ℕ) (bs : List ℕ) → Each IsSolid (b ∷ bs)
+    → words (codes "play " ++ colour_letter k ++ codes " " ++ (b ∷ bs)) ≡ codes "play" ∷ colour_letter k ∷ (b ∷ bs) ∷ []
+play_words Black b bs h = ap (λ ls. codes "play" ∷ codes "B" ∷ filter is_word ls) (one_word (b ∷ bs) h)
+play_words White b bs h = ap (λ ls. codes "play" ∷ codes "W" ∷ filter is_word ls) (one_word (b ∷ bs) h)
+
+pub vertex_solid : (side : ℕ) (p : Point) → side ≤ 25 → IsOn side p → Each IsSolid (vertex_text (vertex_of p side))
+unfolding vertex_of
+vertex_solid side p small on = (letter_solid p.col (omega (arith, on.0)), decimal_solid (side - p.row))
+
+named_back : (side : ℕ) (k : Colour) (o : Option Point) (p : Point) → o ≡ Some p → play_of (Some k) o ≡ plays k p
+named_back side k o p e = ap (λ x. play_of (Some k) x) e
+
+pub play_reads : (side : ℕ) (k : Colour) (p : Point) → side ≤ 25 → IsOn side p
+    → command_of side (words (codes "play " ++ colour_letter k ++ codes " " ++ vertex_text (vertex_of p side))) ≡ plays k p
+play_reads side Black p small on =
+    ap (λ ws. command_of side ws) (play_words Black (vertex_of p side).letter (decimal (vertex_of p side).row) (vertex_solid side p small on))
+    ∙ named_back side Black (point_named side (vertex_text (vertex_of p side))) p (point_names side p small on)
+play_reads side White p small on =
+    ap (λ ws. command_of side ws) (play_words White (vertex_of p side).letter (decimal (vertex_of p side).row) (vertex_solid side p small on))
+    ∙ named_back side White (point_named side (vertex_text (vertex_of p side))) p (point_names side p small on)

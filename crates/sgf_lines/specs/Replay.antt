@@ -1,0 +1,88 @@
+-- How a script is taken by an engine of the Go Text Protocol (GTP 2), from the bytes of the script: a command a line, from
+-- the top, on a board of a given side, where a stone is played by the Tromp-Taylor rules.
+use Rattle.std.specs.Prelude.{ℕ, Bool, true, false, ◌+◌, ◌-◌, ◌==◌, ◌||◌, ◌&&◌, nat_le, nat_lt, if◌then◌else◌, Option, Some, None, option_and_then, List, [], ◌∷◌, filter, map, fold, codes, bytes_eq}
+use Rattle.std.specs.List.{slice_split, position}
+use Rattle.sgf_tree.specs.Number.{magnitude_of}
+use Rattle.go_board.specs.declared.stones.Cell.TheVariants.{Empty}
+use Rattle.go_board.specs.declared.stones.Colour.{Colour}
+use Rattle.go_board.specs.declared.stones.Colour.TheVariants.{Black, White}
+use Rattle.go_board.specs.declared.points.Point.{Point}
+use Rattle.go_board.specs.Colour.{same_cell}
+use Rattle.go_board.specs.Grid.{Grid, cell_at, empty_grid}
+use Rattle.go_board.specs.Clearing.{play}
+use Rattle.go_board.specs.Vertex.{column_letters}
+
+-- what stands before a comment, which a `#` begins
+abbrev pub before_comment : List ℕ → List ℕ
+before_comment [] = []
+before_comment (b ∷ bs) = if b == 35 then [] else b ∷ before_comment bs
+
+abbrev pub is_word : List ℕ → Bool
+is_word [] = false
+is_word (b ∷ bs) = true
+
+-- the words of a line, between spaces
+abbrev pub words : List ℕ → List (List ℕ)
+words line = filter is_word (slice_split (λ b. b == 32) (before_comment line))
+
+-- a letter as a capital, any other byte as it is: colours and vertices may be written in either case
+abbrev pub capital : ℕ → ℕ
+capital b = if nat_le 97 b && nat_le b 122 then b - 32 else b
+
+-- the player that a word names
+abbrev pub colour_named : List ℕ → Option Colour
+colour_named word =
+    let name = map capital word in
+    if bytes_eq name (codes "B") || bytes_eq name (codes "BLACK") then Some Black
+    else (if bytes_eq name (codes "W") || bytes_eq name (codes "WHITE") then Some White else None)
+
+-- the point of that column from the left and that row's number from the bottom, from 1, where the board has it
+abbrev pub point_there : ℕ → ℕ → ℕ → Option Point
+point_there side col number =
+    if nat_lt col side && (nat_le 1 number && nat_le number side) then Some (record { col = col; row = side - number }) else None
+
+-- the point that a word names: the letter of its column and its row's number; `pass` names none
+abbrev pub point_named : ℕ → List ℕ → Option Point
+point_named side [] = None
+point_named side (letter ∷ digits) =
+    option_and_then (λ col. option_and_then (point_there side col) (magnitude_of digits))
+    (position (λ l. l == capital letter) column_letters)
+
+-- what a line does to the board: it empties it, plays a stone, or leaves it
+pub data Command : Type 0 where
+  clears : Command
+  plays : (colour : Colour) (point : Point) → Command
+  leaves : Command
+
+abbrev pub play_of : Option Colour → Option Point → Command
+play_of (Some colour) (Some point) = plays colour point
+play_of (Some colour) None = leaves
+play_of None point = leaves
+
+-- the command of words: `clear_board`, `play` with a colour and a point, or another
+abbrev pub command_of : ℕ → List (List ℕ) → Command
+command_of side [] = leaves
+command_of side (name ∷ []) = if bytes_eq name (codes "clear_board") then clears else leaves
+command_of side (name ∷ first ∷ []) = leaves
+command_of side (name ∷ first ∷ second ∷ []) =
+    if bytes_eq name (codes "play") then play_of (colour_named first) (point_named side second) else leaves
+command_of side (name ∷ first ∷ second ∷ third ∷ more) = leaves
+
+-- the board after a command; none where a stone is played on a point that isn't empty
+abbrev pub after_command : ℕ → Grid → Command → Option Grid
+after_command side board clears = Some (empty_grid side)
+after_command side board (plays colour point) =
+    if same_cell (cell_at board point) Empty then Some (play board colour point) else None
+after_command side board leaves = Some board
+
+-- one line later
+abbrev pub after_line : ℕ → Option Grid → List ℕ → Option Grid
+after_line side board line = option_and_then (λ (g : Grid). after_command side g (command_of side (words line))) board
+
+-- the lines of a text taken from the top
+abbrev pub after_text : ℕ → Option Grid → List ℕ → Option Grid
+after_text side board text = fold (after_line side) board (slice_split (λ b. b == 10) text)
+
+-- the board after a whole script, which begins with an empty one; none where a stone is played on a point that isn't empty
+abbrev pub replayed : ℕ → List ℕ → Option Grid
+replayed side script = after_text side (Some (empty_grid side)) script
