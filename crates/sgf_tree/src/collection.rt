@@ -93,7 +93,8 @@ impl<'a> Collection<'a> {
         requires { i < node_count self.now }
         ensures { IsTrue result ↔ IsLeaf self.now i }
     {
-        let count = self.nodes.len();
+        let nodes = &self.nodes;
+        let count = nodes.len();
         i + 1 == count || self.parent(i + 1) != Some(i)
     }
 
