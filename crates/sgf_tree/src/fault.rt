@@ -10,7 +10,7 @@ pub const MAX_LENGTH: usize = 67_108_864;
 #[derive(Debug, Drop, Error)]
 pub enum ReadFault {
     /// The text is longer than `MAX_LENGTH` bytes.
-    #[error("the text is longer than 67108864 bytes")]
+    #[error("the text is longer than {MAX_LENGTH} bytes")]
     TooLong,
 
     /// No collection is spelled by the text (SGF FF[4], EBNF).

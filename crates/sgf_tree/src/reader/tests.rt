@@ -173,9 +173,35 @@ fn reads_deep_nesting(rt: HostRuntime) -> Result<(), Fail> {
 #[test]
 fn reads_up_to_the_limit(rt: HostRuntime) -> Result<(), Fail> {
     let mut text = b"(;)".to_vec(rt.alloc())?;
-    text.resize(67_108_864, b' ')?;
+    text.resize(MAX_LENGTH, b' ')?;
     assert_eq!(rt; read(rt.alloc(), &text)?.nodes(), 1);
     text.push(b' ')?;
     assert!(rt; matches!(read(rt.alloc(), &text), Err(ReadFault::TooLong)));
+    Ok(())
+}
+
+#[test]
+fn steps_forward(rt: HostRuntime) -> Result<(), Fail> {
+    let c = read(rt.alloc(), b"(; AB [aa]\n[bb] C[x\\]y] ;PL[B])")?;
+    assert_eq!(rt; c.nodes(), 2);
+    let mut properties = c.node(0).walk();
+    let mut seen = Vec::new(rt.alloc());
+    for _ in 0..3 {
+        let Some(property) = properties.next() else {
+            seen.push(b'.')?;
+            continue;
+        };
+        property.push_name(&mut seen)?;
+        let mut values = property.walk();
+        for _ in 0..3 {
+            let Some(value) = values.next() else {
+                seen.push(b';')?;
+                continue;
+            };
+            seen.push(b' ')?;
+            seen.extend_from_slice(value)?;
+        }
+    }
+    assert_eq!(rt; seen.as_slice(), b"AB aa bb;C x\\]y;;.".as_slice());
     Ok(())
 }
