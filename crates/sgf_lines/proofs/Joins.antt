@@ -5,7 +5,7 @@ use Rattle.std.proofs.lemmas.List.{take_all}
 use Rattle.std.specs.List.{flat_map}
 
 -- one more element
-more_texts : {X : Type 0} (f : X → List ℕ) (xs : List X) (i : ℕ) (x : X) → slice_get xs i ≡ Some x → flat_map f (take i xs) ++ f x ≡ flat_map f (take (suc i) xs)
+pub more_texts : {X : Type 0} (f : X → List ℕ) (xs : List X) (i : ℕ) (x : X) → slice_get xs i ≡ Some x → flat_map f (take i xs) ++ f x ≡ flat_map f (take (suc i) xs)
 more_texts f [] i x e = absurd cc
 more_texts f (y ∷ ys) zero x e = let same : y ≡ x = cc in ap f (sym same) ∙ sym (append-nil (f y))
 more_texts f (y ∷ ys) (suc i) x e = append_assoc (f y) (flat_map f (take i ys)) (f x) ∙ ap (λ bs. f y ++ bs) (more_texts f ys i x e)

@@ -33,3 +33,9 @@ pub mod ScriptLines
 pub mod ScriptWords
 pub mod Placing
 pub mod Replaying
+pub mod Pages
+pub mod Running
+pub mod SliceEnds
+pub mod LineCounts
+pub mod Paging
+pub mod CountAnswers

@@ -6,3 +6,4 @@ pub mod Following
 pub mod Contents
 pub mod Stepping
 pub mod Shown
+pub mod Running

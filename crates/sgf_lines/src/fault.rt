@@ -46,3 +46,39 @@ impl From<MemoryFault> for FirstFault {
         FirstFault::Memory
     }
 }
+
+/// Why a run ended before it had done all that was asked.
+#[derive(Clone, Copy, Debug, PartialEq, Eq, Error)]
+pub enum RunFault {
+    /// The source failed.
+    /// Nothing was written.
+    #[error("read failed")]
+    Read,
+
+    /// The source gave more than `sgf_tree::MAX_LENGTH` bytes.
+    /// Nothing was written.
+    #[error("input is longer than 67108864 bytes")]
+    TooLong,
+
+    /// No collection is spelled by what the source gave, which is `len` bytes (SGF FF[4], EBNF).
+    /// Its first `at` bytes begin some text of the grammar, and no more of them do.
+    /// So where `at` is `len`, the input ends too early.
+    /// Nothing was written.
+    #[error("byte {at}: not SGF")]
+    NotSgf { at: usize, len: usize },
+
+    /// No line has the place that was asked for.
+    /// Nothing was written.
+    #[error("no line ends at {place}")]
+    NoSuchLine { place: u64 },
+
+    /// The sink failed, at a put or at the flush.
+    /// It has taken the records of the first `lines` lines whole, and less than the whole of the next.
+    #[error("write failed")]
+    Write { lines: u64 },
+
+    /// More memory was wanted and refused.
+    /// The sink has taken exactly the records of the first `lines` lines, and was not flushed.
+    #[error("out of memory")]
+    Memory { lines: u64 },
+}

@@ -15,10 +15,14 @@
 //! - `verdict` has what a referee says of a line.
 //! - `record` writes the text of a line.
 //! - `laws` has laws of the definitions.
-//! - `split` turns a text into the records of its lines, and `fault` has the ways in which it may fail.
+//! - `source` and `sink` are the ends of a run.
+//! - `run` splits what a source gives into the records of its lines, which a sink takes; `writing` writes them.
+//! - `counting` counts the games, nodes and lines of what a source gives.
+//! - `whole` turns a text into the records of its lines, and `fault` has the ways in which a call may fail.
 #![tactic(auto)]
 
 mod contents;
+mod counting;
 mod cursor;
 mod fault;
 mod judging;
@@ -28,21 +32,29 @@ mod opening;
 mod options;
 mod record;
 mod row;
+mod run;
 mod seek;
-mod split;
+mod sink;
+mod source;
 mod step;
 #[cfg(test)]
 mod tests;
 mod text;
 mod values;
 mod verdict;
+mod whole;
+mod writing;
 
+pub use counting::{Counts, count, write_counts};
 pub use cursor::Cursor;
-pub use fault::FirstFault;
+pub use fault::{FirstFault, RunFault};
 pub use judging::judge;
 pub use line::LineRef;
 pub use options::{Form, Options};
+pub use run::split;
 pub use seek::SeekFault;
 pub use sgf_tree::MAX_LENGTH;
-pub use split::first_split;
+pub use sink::{ArraySink, Sink, SinkFault, WriteSink};
+pub use source::{ReadSource, SliceSource, Source, SourceFault};
 pub use verdict::Verdict;
+pub use whole::first_split;

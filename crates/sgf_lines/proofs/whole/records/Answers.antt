@@ -1,6 +1,6 @@
 -- One line's record more is appended.
 use Rattle.sgf_lines.proofs.Records.{gives_line, goes_on, path_within, is_line_of, fewer_left, writes, all_written}
-use Rattle.sgf_lines.proofs.split.records.Goals as goal
+use Rattle.sgf_lines.proofs.whole.records.Goals as goal
 
 pub push_record-requires : goal.push_record-requires
 push_record-requires c =

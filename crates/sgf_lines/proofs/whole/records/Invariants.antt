@@ -2,7 +2,7 @@
 use Rattle.std.proofs.Common.{◌-◌, length}
 use Rattle.sgf_lines.specs.Lines.{lines}
 use Rattle.sgf_lines.proofs.Records.{IsWritten}
-use Rattle.sgf_lines.proofs.split.records.Given as goal
+use Rattle.sgf_lines.proofs.whole.records.Given as goal
 
 abbrev pub invariant-loop-cursor : goal.invariant-loop-cursor
 invariant-loop-cursor l = IsWritten l.collection l.cursor l.output.items

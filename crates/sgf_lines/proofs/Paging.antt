@@ -1,0 +1,139 @@
+-- The loop that writes the lines of a page, one record after the other.
+use Rattle.std.proofs.Common.{◌≡◌, ℕ, suc, ◌+◌, ◌-◌, ◌<◌, ◌≤◌, inl, inr, List, [], ◌++◌, length, take, drop, slice_get, Option, Some, None, Result, Ok, Err, refl, sym, ap, ◌∙◌, arith, append-nil}
+use Rattle.std.specs.Prelude.{unwrap_or}
+use Rattle.std.specs.Io.KnownBytes.{Keeps, Appends}
+use Rattle.std.proofs.KnownBytes.{Appends-nil, Appends-trans}
+use Rattle.std.proofs.lemmas.List.{take_all, length-take, length-drop}
+use Rattle.std.proofs.lemmas.Bool.{cases_lt}
+use Rattle.sgf_tree.specs.Tree.{Games, node_count}
+use Rattle.sgf_tree.specs.FileOrder.{PlacesRise}
+use Rattle.sgf_lines.specs.Lines.{Line, lines, place_of}
+use Rattle.sgf_lines.specs.Page.{limited}
+use Rattle.sgf_lines.specs.Record.{record_of}
+use Rattle.sgf_lines.specs.Output.{output}
+use Rattle.sgf_lines.specs.Ends.{SinkState, IsFlush, Takes, TakesNothing}
+use Rattle.sgf_lines.specs.Answer.{IsCutShort, IsCutBetween}
+use Rattle.sgf_lines.specs.Cursor.{Position, advanced}
+use Rattle.sgf_lines.specs.inner.Running.{AnswersLines, WritesLines, HasRecord}
+use Rattle.sgf_lines.specs.declared.options.Form.{Form}
+use Rattle.sgf_lines.specs.declared.fault.RunFault.{RunFault}
+use Rattle.sgf_lines.specs.declared.fault.RunFault.TheVariants.{Write, Memory}
+use Rattle.sgf_lines.proofs.Lists.{element}
+use Rattle.sgf_lines.proofs.Pages.{get_dropped, get_taken, get_none, get_some, limited_is}
+use Rattle.sgf_lines.proofs.LineCounts.{lines_within}
+use Rattle.sgf_lines.proofs.Running.{one_more, cut_in, all_taken}
+
+-- at most `limit` of the lines from the index `first` on
+abbrev pub page_from : Games → ℕ → ℕ → List Line
+page_from c first limit = take limit (drop first (lines c))
+
+-- k lines of the page were written, and the cursor stands after them
+pub record IsSoFar (form : Form) (c : Games) (first limit : ℕ) (old : SinkState) (k : ℕ) (at : Position) (now : SinkState) : Type 0 where
+  pub same : at.games ≡ c
+  pub given : at.given ≡ first + k
+  pub within : k ≤ length (page_from c first limit)
+  pub takes : Appends old.taken now.taken (output form (take k (page_from c first limit)))
+  pub failures : now.failures ≡ old.failures
+
+pub none_yet : (form : Form) (c : Games) (at : Position) (limit : ℕ) (old : SinkState) → at.games ≡ c → IsSoFar form c at.given limit old 0 at old
+none_yet form c at limit old same = record {
+  same = same;
+  given = omega arith;
+  within = omega arith;
+  takes = Appends-nil old.taken;
+  failures = refl;
+}
+
+module _ (form : Form) (c : Games) (first limit : ℕ) (old : SinkState) (k : ℕ) (at : Position) (now : SinkState) (h : IsSoFar form c first limit old k at now) where
+  next_of_page : (line : Line) → k < limit → slice_get (lines at.games) at.given ≡ Some line → slice_get (page_from c first limit) k ≡ Some line
+  next_of_page line lt found =
+      let there : slice_get (lines c) (first + k) ≡ Some line = rw (h.same, h.given) at found in
+      get_taken (drop first (lines c)) limit k lt ∙ get_dropped (lines c) first k ∙ there
+
+  -- the next record is written too
+  pub one_written : (new : Position) (sink : SinkState) (bytes : List ℕ) → k < limit → HasRecord form at new bytes → Appends now.taken sink.taken bytes → sink.failures ≡ now.failures
+      → IsSoFar form c first limit old (k + 1) new sink
+  one_written new sink bytes lt r more failures =
+      let there = next_of_page r.line lt r.found in
+      let text : output form (take (k + 1) (page_from c first limit)) ≡ output form (take k (page_from c first limit)) ++ bytes =
+      one_more form (page_from c first limit) k r.line there ∙ ap (λ bs. output form (take k (page_from c first limit)) ++ bs) (sym r.bytes_are) in
+      record {
+        same = ap (λ p. p.games) r.goes_on ∙ h.same;
+        given = ap (λ p. p.given) r.goes_on ∙ omega (arith, h.given);
+        within = omega (arith, get_some (page_from c first limit) k r.line there);
+        takes = rw text (Appends-trans old.taken now.taken sink.taken (output form (take k (page_from c first limit))) bytes h.takes more);
+        failures = failures ∙ h.failures;
+      }
+
+  -- the sink failed within the next record
+  pub cut_short : (new : Position) (sink : SinkState) (bytes : List ℕ) (n : ℕ) → k < limit → HasRecord form at new bytes → n < length bytes
+      → Appends now.taken sink.taken (take n bytes) → WritesLines form (page_from c first limit) old sink (Err (Write k))
+  cut_short new sink bytes n lt r less more =
+      let there = next_of_page r.line lt r.found in
+      let fewer : n < length (record_of form r.line) = rw (← r.bytes_are) less in
+      let front = output form (take k (page_from c first limit)) in
+      let taken : Appends now.taken sink.taken (take n (record_of form r.line)) = rw r.bytes_are at more in
+      record {
+        taken = front ++ take n (record_of form r.line);
+        takes = Appends-trans old.taken now.taken sink.taken front (take n (record_of form r.line)) h.takes taken;
+        answers = cut_in form (page_from c first limit) k r.line n there fewer;
+      }
+
+  -- no memory for the next record
+  pub cut_between : WritesLines form (page_from c first limit) old now (Err (Memory k))
+  cut_between = record {
+    taken = output form (take k (page_from c first limit));
+    takes = h.takes;
+    answers = record { lines = h.within; taken_is = refl };
+  }
+
+  all_of : length (page_from c first limit) ≤ k → WritesLines form (page_from c first limit) old now (Ok k)
+  all_of le =
+      let all : take k (page_from c first limit) ≡ page_from c first limit = take_all k (page_from c first limit) le in
+      record {
+        taken = output form (take k (page_from c first limit));
+        takes = h.takes;
+        answers = (ap (output form) all, omega (arith, h.within));
+      }
+
+  -- no line is left
+  pub none_left : slice_get (lines at.games) at.given ≡ None → WritesLines form (page_from c first limit) old now (Ok k)
+  none_left none =
+      let past : slice_get (drop first (lines c)) k ≡ None = get_dropped (lines c) first k ∙ (rw (h.same, h.given) at none) in
+      all_of (omega (arith, get_none (drop first (lines c)) k past, length-take limit (drop first (lines c))))
+
+  -- as many lines were written as were asked for
+  pub limit_met : limit ≤ k → WritesLines form (page_from c first limit) old now (Ok k)
+  limit_met le = all_of (omega (arith, length-take limit (drop first (lines c))))
+
+-- the page by the options
+pub for_options : (form : Form) (c : Games) (first : ℕ) (asked : Option ℕ) (limit : ℕ) (old new : SinkState) (result : Result ℕ RunFault) → limit ≡ unwrap_or asked (node_count c)
+    → WritesLines form (page_from c first limit) old new result → WritesLines form (limited asked (drop first (lines c))) old new result
+for_options form c first asked limit old new result is h =
+    let fewer : length (drop first (lines c)) ≤ node_count c = omega (arith, lines_within c, length_dropped first (lines c)) in
+    rw (limited_is asked (node_count c) (drop first (lines c)) fewer, ← is) h
+  where
+    length_dropped : (n : ℕ) (xs : List Line) → length (drop n xs) ≤ length xs
+    length_dropped n xs = omega (arith, length-drop n xs)
+
+-- the flush after the last record was answered
+pub flushed : (form : Form) (ls : List Line) (old now new : SinkState) (k : ℕ) → WritesLines form ls old now (Ok k) → Takes now new [] → WritesLines form ls old new (Ok k)
+flushed form ls old now new k h f = record {
+  taken = h.taken;
+  takes = rw append-nil at (Appends-trans old.taken now.taken new.taken h.taken [] h.takes f.taken);
+  answers = h.answers;
+}
+
+-- and where the flush failed all records were taken
+pub not_flushed : (form : Form) (ls : List Line) (old now new : SinkState) (k : ℕ) → WritesLines form ls old now (Ok k) → TakesNothing now new → WritesLines form ls old new (Err (Write k))
+not_flushed form ls old now new k h f = record {
+  taken = h.taken;
+  takes = kept old.taken now.taken new.taken h.taken h.takes f.taken;
+  answers = rw (h.answers.0, h.answers.1) (all_taken form ls);
+}
+  where
+    kept : (a b c : Option (List ℕ)) (bs : List ℕ) → Appends a b bs → Keeps b c → Appends a c bs
+    kept None b c bs p q = tt
+    kept (Some x) None c bs p q = absurd p
+    kept (Some x) (Some y) None bs p q = absurd q
+    kept (Some x) (Some y) (Some z) bs p q = q ∙ p

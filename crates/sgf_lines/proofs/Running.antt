@@ -1,0 +1,167 @@
+-- The answers of a run and of its parts.
+use Rattle.std.proofs.Common.{◌≡◌, ◌≢◌, ℕ, suc, ◌+◌, ◌<◌, ◌≤◌, ◌⊎◌, inl, inr, List, [], ◌++◌, length, take, drop, slice_get, Option, Some, None, Result, Ok, Err, refl, sym, ap, ◌∙◌, arith, add-one, append_assoc, append-nil, length-append}
+use Rattle.std.specs.Prelude.{option_map}
+use Rattle.std.specs.List.{flat_map}
+use Rattle.std.specs.Io.KnownBytes.{Keeps, Appends, Consumes, IsAtEnd}
+use Rattle.std.proofs.KnownBytes.{Appends-nil, Appends-trans, Consumes-nil, Keeps-trans}
+use Rattle.std.proofs.lemmas.List.{take_all, take-append-drop, length-take-le}
+use Rattle.std.proofs.lemmas.Grind.{flat_map-append}
+use Rattle.sgf_tree.specs.Tree.{Games}
+use Rattle.sgf_tree.specs.Spelling.{Spells}
+use Rattle.sgf_lines.specs.Lines.{Line, lines}
+use Rattle.sgf_lines.specs.Page.{page, limited, lines_from_place}
+use Rattle.sgf_lines.specs.Record.{record_of}
+use Rattle.sgf_lines.specs.Output.{output}
+use Rattle.sgf_lines.specs.Ends.{SourceState, SinkState}
+use Rattle.sgf_lines.specs.Answer.{IsWhole, HasPage, Answers, IsCutShort, IsCutBetween, IsRun, read_failures, write_failures}
+use Rattle.sgf_lines.specs.inner.Running.{AnswersReading, IsReading, Finishes, IsSplit, IsSplitOf, AnswersLines, WritesLines, IsStart}
+use Rattle.sgf_lines.specs.declared.options.Form.{Form}
+use Rattle.sgf_lines.specs.declared.options.Options.{Options}
+use Rattle.sgf_lines.specs.declared.fault.RunFault.{RunFault}
+use Rattle.sgf_lines.specs.declared.fault.RunFault.TheVariants.{Read, TooLong, NotSgf, NoSuchLine, Write, Memory}
+use Rattle.sgf_lines.specs.Cursor.{Position}
+use Rattle.sgf_lines.proofs.Joins.{more_texts}
+use Rattle.sgf_lines.proofs.Pages.{get_some}
+
+appends_nothing : (a : Option (List ℕ)) → Appends a a []
+appends_nothing a = Appends-nil a
+
+-- a fault of the reading is the run's
+answers_fault : (A : Type 0) (o : Options) (given : List ℕ) (to_come : Option (List ℕ)) (text : List ℕ) (fault : RunFault)
+    → AnswersReading {A = A} given to_come text (Err fault) → Answers o given to_come [] (Err fault)
+answers_fault A o given to_come text Read h = (h, refl)
+answers_fault A o given to_come text TooLong h = (h, refl)
+answers_fault A o given to_come text (NotSgf at len) h = absurd h
+answers_fault A o given to_come text (NoSuchLine place) h = absurd h
+answers_fault A o given to_come text (Write k) h = absurd h
+answers_fault A o given to_come text (Memory k) h = inr (h, refl)
+
+pub run_of_fault : {A : Type 0} (o : Options) (source new_source : SourceState) (sink : SinkState) (text : List ℕ) (fault : RunFault)
+    → IsReading {A = A} source new_source text (Err fault) → IsRun o source new_source sink sink (Err fault)
+run_of_fault {A = A} o source new_source sink text fault h = record {
+  given = h.given;
+  taken = [];
+  gives = h.gives;
+  consumes = h.consumes;
+  takes = appends_nothing sink.taken;
+  answers = answers_fault A o h.given new_source.to_come text fault h.answers;
+}
+
+reading_no_write : (A : Type 0) (given : List ℕ) (to_come : Option (List ℕ)) (text : List ℕ) (fault : RunFault) → AnswersReading {A = A} given to_come text (Err fault)
+    → write_failures {A = A} (Err fault) ≡ 0
+reading_no_write A given to_come text Read h = refl
+reading_no_write A given to_come text TooLong h = refl
+reading_no_write A given to_come text (NotSgf at len) h = absurd h
+reading_no_write A given to_come text (NoSuchLine place) h = absurd h
+reading_no_write A given to_come text (Write k) h = absurd h
+reading_no_write A given to_come text (Memory k) h = refl
+
+pub no_write : {A : Type 0} (source new_source : SourceState) (text : List ℕ) (fault : RunFault) → IsReading {A = A} source new_source text (Err fault)
+    → write_failures {A = A} (Err fault) ≡ 0
+no_write {A = A} source new_source text fault h = reading_no_write A h.given new_source.to_come text fault h.answers
+
+-- where the source was read to its end, the answer is that for the text
+pub run_of_text : {A : Type 0} (o : Options) (source new_source : SourceState) (sink new_sink : SinkState) (text : List ℕ) (u : A) (result : Result ℕ RunFault)
+    → IsReading {A = A} source new_source text (Ok u) → IsSplit o text sink new_sink result → IsRun o source new_source sink new_sink result
+run_of_text o source new_source sink new_sink text u result h split =
+    let same : h.given ≡ text = sym h.answers.1 in
+    let whole : IsWhole text new_source.to_come = rw same at h.answers.0 in
+    let end = split new_source.to_come whole in
+    record {
+      given = text;
+      taken = end.taken;
+      gives = rw same at h.gives;
+      consumes = rw same at h.consumes;
+      takes = end.takes;
+      answers = end.answers;
+    }
+
+-- the answer for lines that are the page
+pub answers_of_lines : (o : Options) (text : List ℕ) (to_come : Option (List ℕ)) (c : Games) (ls : List Line) (taken : List ℕ) (result : Result ℕ RunFault)
+    → Spells c text → IsWhole text to_come → page o c ≡ Some ls → AnswersLines o.form ls taken result → Answers o text to_come taken result
+answers_of_lines o text to_come c ls taken (Ok k) spelled whole is h = (whole, (ls, record { games = c; spelled = spelled; page_is = is }, h.0, h.1))
+answers_of_lines o text to_come c ls taken (Err Read) spelled whole is h = absurd h
+answers_of_lines o text to_come c ls taken (Err TooLong) spelled whole is h = absurd h
+answers_of_lines o text to_come c ls taken (Err (NotSgf at len)) spelled whole is h = absurd h
+answers_of_lines o text to_come c ls taken (Err (NoSuchLine place)) spelled whole is h = absurd h
+answers_of_lines o text to_come c ls taken (Err (Write k)) spelled whole is h = (whole, (ls, record { games = c; spelled = spelled; page_is = is }, h))
+answers_of_lines o text to_come c ls taken (Err (Memory k)) spelled whole is h = inl (whole, (ls, record { games = c; spelled = spelled; page_is = is }, h))
+
+lines_no_read : (form : Form) (ls : List Line) (taken : List ℕ) (result : Result ℕ RunFault) → AnswersLines form ls taken result → read_failures result ≡ 0
+lines_no_read form ls taken (Ok k) h = refl
+lines_no_read form ls taken (Err Read) h = absurd h
+lines_no_read form ls taken (Err TooLong) h = refl
+lines_no_read form ls taken (Err (NotSgf at len)) h = refl
+lines_no_read form ls taken (Err (NoSuchLine place)) h = refl
+lines_no_read form ls taken (Err (Write k)) h = refl
+lines_no_read form ls taken (Err (Memory k)) h = refl
+
+pub no_read : (form : Form) (ls : List Line) (sink new_sink : SinkState) (result : Result ℕ RunFault) → WritesLines form ls sink new_sink result → read_failures result ≡ 0
+no_read form ls sink new_sink result h = lines_no_read form ls h.taken result h.answers
+
+-- the run over a collection, from a cursor that stands before the page
+pub split_of_lines : (o : Options) (c : Games) (at : Position) (sink new_sink : SinkState) (result : Result ℕ RunFault) → ((text : List ℕ) → Spells c text → lines_from_place (lines c) o.after ≡ Some (drop at.given (lines c)))
+    → WritesLines o.form (limited o.limit (drop at.given (lines c))) sink new_sink result → IsSplitOf o c sink new_sink result
+split_of_lines o c at sink new_sink result start h = λ text spelled to_come whole.
+    let ls = limited o.limit (drop at.given (lines c)) in
+    let is : page o c ≡ Some ls = ap (λ found. option_map (limited o.limit) found) (start text spelled) in
+    record { taken = h.taken; takes = h.takes; answers = answers_of_lines o text to_come c ls h.taken result spelled whole is h.answers }
+
+answers_start : (o : Options) (text : List ℕ) (to_come : Option (List ℕ)) (c : Games) (fault : RunFault) → Spells c text → IsWhole text to_come → IsStart c o.after (Err fault)
+    → Answers o text to_come [] (Err fault)
+answers_start o text to_come c Read spelled whole h = absurd h
+answers_start o text to_come c TooLong spelled whole h = absurd h
+answers_start o text to_come c (NotSgf at len) spelled whole h = absurd h
+answers_start o text to_come c (NoSuchLine place) spelled whole h = (whole, record { games = c; spelled = spelled; asked = h.0; none = h.1 }, refl)
+answers_start o text to_come c (Write k) spelled whole h = absurd h
+answers_start o text to_come c (Memory k) spelled whole h = inr (h, refl)
+
+-- the run over a collection where no cursor stands before the page
+pub split_of_no_start : (o : Options) (c : Games) (sink : SinkState) (fault : RunFault) → ((text : List ℕ) → Spells c text → IsStart c o.after (Err fault)) → IsSplitOf o c sink sink (Err fault)
+split_of_no_start o c sink fault h = λ text spelled to_come whole.
+    record { taken = []; takes = appends_nothing sink.taken; answers = answers_start o text to_come c fault spelled whole (h text spelled) }
+
+-- one record more
+pub one_more : (form : Form) (ls : List Line) (k : ℕ) (line : Line) → slice_get ls k ≡ Some line
+    → output form (take (k + 1) ls) ≡ output form (take k ls) ++ record_of form line
+one_more form ls k line e = rw add-one (sym (more_texts (record_of form) ls k line e))
+
+-- the first records and the rest are all
+pub parts : (form : Form) (ls : List Line) (k : ℕ) → output form ls ≡ output form (take k ls) ++ output form (drop k ls)
+parts form ls k =
+    ap (flat_map (record_of form)) (sym (take-append-drop k ls)) ∙ flat_map-append (record_of form) (take k ls) (drop k ls)
+
+-- the first n bytes of the next record were taken, but not all of it
+pub cut_in : (form : Form) (ls : List Line) (k : ℕ) (line : Line) (n : ℕ) → slice_get ls k ≡ Some line → n < length (record_of form line)
+    → IsCutShort form ls k (output form (take k ls) ++ take n (record_of form line))
+cut_in form ls k line n e lt =
+    let text = record_of form line in
+    let front = output form (take k ls) in
+    let rest = output form (drop (k + 1) ls) in
+    let more = one_more form ls k line e in
+    let cut : take n text ++ drop n text ≡ text = take-append-drop n text in
+    let joined : output form ls ≡ (front ++ take n text) ++ (drop n text ++ rest) =
+    parts form ls (k + 1) ∙ ap (λ bs. bs ++ rest) more
+    ∙ append_assoc front text rest
+    ∙ ap (λ bs. front ++ (bs ++ rest)) (sym cut)
+    ∙ ap (λ bs. front ++ bs) (append_assoc (take n text) (drop n text) rest)
+    ∙ sym (append_assoc front (take n text) (drop n text ++ rest)) in
+    let count : length (take n text) ≡ n = length-take-le n text (omega arith) in
+    let next : length (output form (take (k + 1) ls)) ≡ length front + length text = ap length more ∙ length-append front text in
+    record {
+      front = (drop n text ++ rest, joined);
+      lines = omega (arith, get_some ls k line e);
+      whole = omega (arith, length-append front (take n text));
+      no_more = λ lt_k. omega (arith, length-append front (take n text), count, next);
+    }
+
+-- all records were taken
+pub all_taken : (form : Form) (ls : List Line) → IsCutShort form ls (length ls) (output form ls)
+all_taken form ls =
+    let same : take (length ls) ls ≡ ls = take_all (length ls) ls (omega arith) in
+    record {
+      front = ([], sym (append-nil (output form ls)));
+      lines = omega arith;
+      whole = rw same (omega arith);
+      no_more = λ lt. absurd (omega arith);
+    }

@@ -1,0 +1,69 @@
+-- The three pieces of the row, one after the other.
+use Rattle.std.proofs.Common.{◌≡◌, List, ℕ, [], ◌++◌, ◌∙◌, sym}
+use Rattle.std.specs.Prelude.{codes, decimal}
+use Rattle.std.specs.Io.KnownBytes.{Appends}
+use Rattle.std.proofs.KnownBytes.{Appends-nil, Appends-trans}
+use Rattle.sgf_lines.specs.Counts.{counts_row}
+use Rattle.sgf_lines.proofs.CountAnswers.{row_cut, row_flushed, row_not_flushed, row_pieces, row_end}
+use Rattle.sgf_lines.proofs.counting.write_counts.Goals as goal
+
+pub returns-in_default-clause-answer : goal.returns-in_default-clause-answer
+returns-in_default-clause-answer g c =
+    let counts = c.args.counts.now in
+    let old = g.T.Sink.state c.args.sink.now in
+    let cut = c.in_default.ensures in
+    row_cut (counts_row counts) old old (g.T.Sink.state c.put_number.new.sink) [] (decimal counts.games ++ codes " ")
+    ((decimal counts.nodes ++ codes " ") ++ (decimal counts.lines ++ codes "\n")) cut.0 (row_pieces (decimal counts.games) (decimal counts.nodes) (decimal counts.lines))
+    (Appends-nil old.taken) cut.2
+
+pub returns-in_default-put_number-clause-answer : goal.returns-in_default-put_number-clause-answer
+returns-in_default-put_number-clause-answer g c =
+    let counts = c.args.counts.now in
+    let old = g.T.Sink.state c.args.sink.now in
+    let cut = c.in_default-put_number.ensures in
+    row_cut (counts_row counts) old (g.T.Sink.state c.put_number.new.sink) (g.T.Sink.state c.put_number-2.new.sink) (decimal counts.games ++ codes " ")
+    (decimal counts.nodes ++ codes " ") (decimal counts.lines ++ codes "\n") cut.0 (row_pieces (decimal counts.games) (decimal counts.nodes) (decimal counts.lines))
+    c.in-Ok.ensures.0 cut.2
+
+pub returns-in_default-put_number-2-clause-answer : goal.returns-in_default-put_number-2-clause-answer
+returns-in_default-put_number-2-clause-answer g c =
+    let counts = c.args.counts.now in
+    let old = g.T.Sink.state c.args.sink.now in
+    let first = g.T.Sink.state c.put_number.new.sink in
+    let second = g.T.Sink.state c.put_number-2.new.sink in
+    let games = decimal counts.games ++ codes " " in
+    let nodes = decimal counts.nodes ++ codes " " in
+    let cut = c.in_default-put_number-2.ensures in
+    row_cut (counts_row counts) old second (g.T.Sink.state c.put_number-3.new.sink) (games ++ nodes) (decimal counts.lines ++ codes "\n") [] cut.0
+    (row_end (decimal counts.games) (decimal counts.nodes) (decimal counts.lines))
+    (Appends-trans old.taken first.taken second.taken games nodes c.in-Ok.ensures.0 c.in-Ok-put_number.ensures.0) cut.2
+
+pub returns-in-Ok-flush-clause-answer : goal.returns-in-Ok-flush-clause-answer
+returns-in-Ok-flush-clause-answer g c =
+    let counts = c.args.counts.now in
+    let old = g.T.Sink.state c.args.sink.now in
+    let first = g.T.Sink.state c.put_number.new.sink in
+    let second = g.T.Sink.state c.put_number-2.new.sink in
+    let third = g.T.Sink.state c.put_number-3.new.sink in
+    let games = decimal counts.games ++ codes " " in
+    let nodes = decimal counts.nodes ++ codes " " in
+    let lines = decimal counts.lines ++ codes "\n" in
+    let more = Appends-trans first.taken second.taken third.taken nodes lines c.in-Ok-put_number.ensures.0 c.in-Ok-put_number-2.ensures.0 in
+    let all : Appends old.taken third.taken (counts_row counts) =
+    rw (row_pieces (decimal counts.games) (decimal counts.nodes) (decimal counts.lines)) (Appends-trans old.taken first.taken third.taken games (nodes ++ lines) c.in-Ok.ensures.0 more) in
+    row_flushed (counts_row counts) old third (g.T.Sink.state c.flush.new.self) tt all c.in-Ok-flush.ensures
+
+pub returns-in-Err-clause-answer : goal.returns-in-Err-clause-answer
+returns-in-Err-clause-answer g c =
+    let counts = c.args.counts.now in
+    let old = g.T.Sink.state c.args.sink.now in
+    let first = g.T.Sink.state c.put_number.new.sink in
+    let second = g.T.Sink.state c.put_number-2.new.sink in
+    let third = g.T.Sink.state c.put_number-3.new.sink in
+    let games = decimal counts.games ++ codes " " in
+    let nodes = decimal counts.nodes ++ codes " " in
+    let lines = decimal counts.lines ++ codes "\n" in
+    let more = Appends-trans first.taken second.taken third.taken nodes lines c.in-Ok-put_number.ensures.0 c.in-Ok-put_number-2.ensures.0 in
+    let all : Appends old.taken third.taken (counts_row counts) =
+    rw (row_pieces (decimal counts.games) (decimal counts.nodes) (decimal counts.lines)) (Appends-trans old.taken first.taken third.taken games (nodes ++ lines) c.in-Ok.ensures.0 more) in
+    row_not_flushed (counts_row counts) old third (g.T.Sink.state c.flush.new.self) all c.in-Err.ensures

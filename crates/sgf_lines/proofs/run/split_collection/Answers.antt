@@ -1,0 +1,6 @@
+-- Where there is no cursor nothing was written.
+use Rattle.sgf_lines.proofs.Running.{split_of_no_start}
+use Rattle.sgf_lines.proofs.run.split_collection.Goals as goal
+
+pub returns-in-Err-clause-answer : goal.returns-in-Err-clause-answer
+returns-in-Err-clause-answer g c = split_of_no_start c.args.options.now c.args.collection.now (g.T.Sink.state c.args.sink.now) c.in-Err.fault c.in-Err.ensures.start

@@ -1,0 +1,76 @@
+-- The answer of a run: what its source gave, what its sink took, and what the result says of both.
+use Rattle.std.specs.Prelude.{◌≡◌, ℕ, ◌+◌, ◌<◌, ◌≤◌, ◌⊎◌, List, [], ◌++◌, length, take, Option, Some, None, Result, Ok, Err}
+use Rattle.std.specs.Io.KnownBytes.{Appends, Consumes, IsAtEnd}
+use Rattle.sgf_tree.specs.Tree.{Games}
+use Rattle.sgf_tree.specs.Spelling.{Spells}
+use Rattle.sgf_tree.specs.Refusal.{IsFaultyAt}
+use Rattle.sgf_tree.specs.declared.fault.TheConstants.{MAX_LENGTH}
+use Rattle.sgf_lines.specs.Lines.{Line, lines}
+use Rattle.sgf_lines.specs.Page.{page, lines_after}
+use Rattle.sgf_lines.specs.Output.{output}
+use Rattle.sgf_lines.specs.Ends.{SourceState, SinkState}
+use Rattle.sgf_lines.specs.declared.options.Form.{Form}
+use Rattle.sgf_lines.specs.declared.options.Options.{Options}
+use Rattle.sgf_lines.specs.declared.fault.RunFault.{RunFault}
+use Rattle.sgf_lines.specs.declared.fault.RunFault.TheVariants.{Read, TooLong, NotSgf, NoSuchLine, Write, Memory}
+
+-- the source is at its end, and what it gave is within the limit
+pub record IsWhole (given : List ℕ) (to_come : Option (List ℕ)) : Type 0 where
+  pub at_end : IsAtEnd to_come
+  pub within : length given ≤ MAX_LENGTH
+
+-- what the source gave spells a collection of which these lines are the page
+pub record HasPage (options : Options) (given : List ℕ) (ls : List Line) : Type 0 where
+  pub games : Games
+  pub spelled : Spells games given
+  pub page_is : page options games ≡ Some ls
+
+-- what the source gave spells a collection that has no line with the place that is asked for
+pub record HasNoLine (options : Options) (given : List ℕ) (place : ℕ) : Type 0 where
+  pub games : Games
+  pub spelled : Spells games given
+  pub asked : options.after ≡ Some place
+  pub none : lines_after (lines games) place ≡ None
+
+-- a front of the output: the records of the first k lines whole, and of the next less than the whole
+pub record IsCutShort (form : Form) (ls : List Line) (k : ℕ) (taken : List ℕ) : Type 0 where
+  pub front : (rest : List ℕ) × (output form ls ≡ taken ++ rest)
+  pub lines : k ≤ length ls
+  pub whole : length (output form (take k ls)) ≤ length taken
+  pub no_more : k < length ls → length taken < length (output form (take (k + 1) ls))
+
+-- exactly the records of the first k lines
+pub record IsCutBetween (form : Form) (ls : List Line) (k : ℕ) (taken : List ℕ) : Type 0 where
+  pub lines : k ≤ length ls
+  pub taken_is : taken ≡ output form (take k ls)
+
+-- What holds of the bytes that the source gave, of those that are to come, and of the bytes that the sink took.
+abbrev pub Answers : Options → List ℕ → Option (List ℕ) → List ℕ → Result ℕ RunFault → Type 0
+Answers o given to_come taken (Ok k) =
+    IsWhole given to_come × ((ls : List Line) × HasPage o given ls × (taken ≡ output o.form ls) × (k ≡ length ls))
+Answers o given to_come taken (Err Read) = (length given ≤ MAX_LENGTH) × (taken ≡ [])
+Answers o given to_come taken (Err TooLong) = (MAX_LENGTH < length given) × (taken ≡ [])
+Answers o given to_come taken (Err (NotSgf at len)) = IsWhole given to_come × IsFaultyAt given at × (len ≡ length given) × (taken ≡ [])
+Answers o given to_come taken (Err (NoSuchLine place)) = IsWhole given to_come × HasNoLine o given place × (taken ≡ [])
+Answers o given to_come taken (Err (Write k)) = IsWhole given to_come × ((ls : List Line) × HasPage o given ls × IsCutShort o.form ls k taken)
+Answers o given to_come taken (Err (Memory k)) =
+    (IsWhole given to_come × ((ls : List Line) × HasPage o given ls × IsCutBetween o.form ls k taken)) ⊎ ((k ≡ 0) × (taken ≡ []))
+
+-- The answer of a run, by how it finds its ends and how it leaves them.
+pub record IsRun (o : Options) (source new_source : SourceState) (sink new_sink : SinkState) (result : Result ℕ RunFault) : Type 0 where
+  pub given : List ℕ
+  pub taken : List ℕ
+  pub gives : Appends source.given new_source.given given
+  pub consumes : Consumes source.to_come new_source.to_come given
+  pub takes : Appends sink.taken new_sink.taken taken
+  pub answers : Answers o given new_source.to_come taken result
+
+-- how many failures of the source a result tells of
+abbrev pub read_failures : {A : Type 0} → Result A RunFault → ℕ
+read_failures (Err Read) = 1
+read_failures _ = 0
+
+-- how many failures of the sink a result tells of
+abbrev pub write_failures : {A : Type 0} → Result A RunFault → ℕ
+write_failures (Err (Write k)) = 1
+write_failures _ = 0

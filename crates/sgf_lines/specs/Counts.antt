@@ -1,0 +1,54 @@
+-- The counts of a collection, and how they are written.
+use Rattle.std.specs.Prelude.{◌≡◌, ℕ, ◌+◌, ◌<◌, ◌≤◌, List, ◌++◌, length, Option, Result, Ok, Err, codes, decimal}
+use Rattle.std.specs.Io.KnownBytes.{Appends, Consumes}
+use Rattle.sgf_tree.specs.Tree.{Games, game_count, node_count}
+use Rattle.sgf_tree.specs.Spelling.{Spells}
+use Rattle.sgf_tree.specs.Refusal.{IsFaultyAt}
+use Rattle.sgf_tree.specs.declared.fault.TheConstants.{MAX_LENGTH}
+use Rattle.sgf_lines.specs.Lines.{lines}
+use Rattle.sgf_lines.specs.Ends.{SourceState, SinkState}
+use Rattle.sgf_lines.specs.Answer.{IsWhole}
+use Rattle.sgf_lines.specs.declared.counting.Counts.{Counts}
+use Rattle.sgf_lines.specs.declared.fault.RunFault.{RunFault}
+use Rattle.sgf_lines.specs.declared.fault.RunFault.TheVariants.{Read, TooLong, NotSgf, NoSuchLine, Write, Memory}
+
+-- the games of a collection, its nodes at every depth, and its lines
+abbrev pub counts_of : Games → Counts
+counts_of c = record { games = game_count c; nodes = node_count c; lines = length (lines c) }
+
+-- the three counts in one row
+abbrev pub counts_row : Counts → List ℕ
+counts_row counts = decimal counts.games ++ codes " " ++ decimal counts.nodes ++ codes " " ++ decimal counts.lines ++ codes "\n"
+
+-- What holds of the bytes that the source gave, and of those that are to come.
+abbrev pub AnswersCount : List ℕ → Option (List ℕ) → Result Counts RunFault → Type 0
+AnswersCount given to_come (Ok counts) = IsWhole given to_come × ((c : Games) × Spells c given × (counts ≡ counts_of c))
+AnswersCount given to_come (Err Read) = length given ≤ MAX_LENGTH
+AnswersCount given to_come (Err TooLong) = MAX_LENGTH < length given
+AnswersCount given to_come (Err (NotSgf at len)) = IsWhole given to_come × IsFaultyAt given at × (len ≡ length given)
+AnswersCount given to_come (Err (NoSuchLine place)) = ⊥
+AnswersCount given to_come (Err (Write k)) = ⊥
+AnswersCount given to_come (Err (Memory k)) = k ≡ 0
+
+-- The answer of a count, by how it finds its source and how it leaves it.
+pub record IsCount (source new_source : SourceState) (result : Result Counts RunFault) : Type 0 where
+  pub given : List ℕ
+  pub gives : Appends source.given new_source.given given
+  pub consumes : Consumes source.to_come new_source.to_come given
+  pub answers : AnswersCount given new_source.to_come result
+
+-- what a sink took of a row: all of it, or a front of it
+abbrev pub AnswersRow : {A : Type 0} → List ℕ → List ℕ → Result A RunFault → Type 0
+AnswersRow row taken (Ok _) = taken ≡ row
+AnswersRow row taken (Err Read) = ⊥
+AnswersRow row taken (Err TooLong) = ⊥
+AnswersRow row taken (Err (NotSgf at len)) = ⊥
+AnswersRow row taken (Err (NoSuchLine place)) = ⊥
+AnswersRow row taken (Err (Write k)) = (k ≡ 0) × ((rest : List ℕ) × (row ≡ taken ++ rest))
+AnswersRow row taken (Err (Memory k)) = ⊥
+
+-- The answer of writing a row, by how it finds its sink and how it leaves it.
+pub record IsRow {A : Type 0} (row : List ℕ) (sink new_sink : SinkState) (result : Result A RunFault) : Type 0 where
+  pub taken : List ℕ
+  pub takes : Appends sink.taken new_sink.taken taken
+  pub answers : AnswersRow row taken result

@@ -1,0 +1,53 @@
+-- What the two ends of a run, its source and its sink, show to contracts, and what their calls do.
+use Rattle.std.specs.Prelude.{◌≡◌, ℕ, ◌+◌, ◌<◌, ◌≤◌, List, [], length, take, Option, Result, Ok, Err}
+use Rattle.std.specs.Io.KnownBytes.{Keeps, Appends, Consumes, IsAtEnd}
+
+-- A source: how often it has failed, the bytes that it has given so far, and those that are still to come.
+-- Each list is none where the source doesn't tell it; then nothing is said of it.
+pub record SourceState : Type 0 where
+  pub failures : ℕ
+  pub given : Option (List ℕ)
+  pub to_come : Option (List ℕ)
+
+-- a source gave these bytes, and none only where no more are to come
+pub record Gives (old new : SourceState) (bytes : List ℕ) : Type 0 where
+  pub failures : new.failures ≡ old.failures
+  pub given : Appends old.given new.given bytes
+  pub to_come : Consumes old.to_come new.to_come bytes
+  pub none_at_end : bytes ≡ [] → IsAtEnd new.to_come
+
+-- a source failed: it counts that, and gave nothing
+pub record GivesNothing (old new : SourceState) : Type 0 where
+  pub failures : new.failures ≡ old.failures + 1
+  pub given : Keeps old.given new.given
+  pub to_come : Keeps old.to_come new.to_come
+
+-- the answer of a source that was asked to fill a buffer: how many bytes at the buffer's front it gave
+abbrev pub IsGet : {E : Type 0} → SourceState → SourceState → List ℕ → Result ℕ E → Type 0
+IsGet old new buffer (Ok n) = (n ≤ length buffer) × Gives old new (take n buffer)
+IsGet old new buffer (Err _) = GivesNothing old new
+
+-- A sink: how often it has failed, and the bytes that it has taken so far, which are none where it doesn't tell them.
+pub record SinkState : Type 0 where
+  pub failures : ℕ
+  pub taken : Option (List ℕ)
+
+-- a sink took these bytes
+pub record Takes (old new : SinkState) (bytes : List ℕ) : Type 0 where
+  pub failures : new.failures ≡ old.failures
+  pub taken : Appends old.taken new.taken bytes
+
+-- a sink failed: it counts that, and took nothing
+pub record TakesNothing (old new : SinkState) : Type 0 where
+  pub failures : new.failures ≡ old.failures + 1
+  pub taken : Keeps old.taken new.taken
+
+-- the answer of a sink that was handed bytes: how many at their front it took, which is at least one
+abbrev pub IsPut : {E : Type 0} → SinkState → SinkState → List ℕ → Result ℕ E → Type 0
+IsPut old new bytes (Ok n) = (0 < n) × (n ≤ length bytes) × Takes old new (take n bytes)
+IsPut old new bytes (Err _) = TakesNothing old new
+
+-- the answer of a sink that was asked to flush
+abbrev pub IsFlush : {A E : Type 0} → SinkState → SinkState → Result A E → Type 0
+IsFlush old new (Ok _) = Takes old new []
+IsFlush old new (Err _) = TakesNothing old new

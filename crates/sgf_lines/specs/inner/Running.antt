@@ -1,0 +1,84 @@
+-- What the parts of a run do.
+use Rattle.std.specs.Prelude.{◌≡◌, ℕ, ◌<◌, ◌≤◌, ◌+◌, List, length, drop, take, Option, Some, None, Result, Ok, Err, slice_get}
+use Rattle.std.specs.Io.KnownBytes.{Appends, Consumes}
+use Rattle.sgf_tree.specs.Tree.{Games}
+use Rattle.sgf_tree.specs.Spelling.{Spells}
+use Rattle.sgf_tree.specs.declared.fault.TheConstants.{MAX_LENGTH}
+use Rattle.sgf_lines.specs.Lines.{Line, lines}
+use Rattle.sgf_lines.specs.Page.{lines_after, lines_from_place}
+use Rattle.sgf_lines.specs.Output.{output}
+use Rattle.sgf_lines.specs.Ends.{SourceState, SinkState}
+use Rattle.sgf_lines.specs.Cursor.{Position, advanced}
+use Rattle.sgf_lines.specs.Record.{record_of}
+use Rattle.sgf_lines.specs.Answer.{IsWhole, Answers, IsCutShort, IsCutBetween}
+use Rattle.sgf_lines.specs.declared.options.Form.{Form}
+use Rattle.sgf_lines.specs.declared.options.Options.{Options}
+use Rattle.sgf_lines.specs.declared.fault.RunFault.{RunFault}
+use Rattle.sgf_lines.specs.declared.fault.RunFault.TheVariants.{Read, TooLong, NotSgf, NoSuchLine, Write, Memory}
+
+-- what reading says of the bytes that the source gave, and of the text that they made
+abbrev pub AnswersReading : {A : Type 0} → List ℕ → Option (List ℕ) → List ℕ → Result A RunFault → Type 0
+AnswersReading given to_come text (Ok _) = IsWhole given to_come × (text ≡ given)
+AnswersReading given to_come text (Err Read) = length given ≤ MAX_LENGTH
+AnswersReading given to_come text (Err TooLong) = MAX_LENGTH < length given
+AnswersReading given to_come text (Err (NotSgf at len)) = ⊥
+AnswersReading given to_come text (Err (NoSuchLine place)) = ⊥
+AnswersReading given to_come text (Err (Write k)) = ⊥
+AnswersReading given to_come text (Err (Memory k)) = k ≡ 0
+
+pub record IsReading {A : Type 0} (source new_source : SourceState) (text : List ℕ) (result : Result A RunFault) : Type 0 where
+  pub given : List ℕ
+  pub gives : Appends source.given new_source.given given
+  pub consumes : Consumes source.to_come new_source.to_come given
+  pub answers : AnswersReading given new_source.to_come text result
+
+-- the answer of a run whose source gave this text
+pub record Finishes (o : Options) (text : List ℕ) (to_come : Option (List ℕ)) (sink new_sink : SinkState) (result : Result ℕ RunFault) : Type 0 where
+  pub taken : List ℕ
+  pub takes : Appends sink.taken new_sink.taken taken
+  pub answers : Answers o text to_come taken result
+
+-- that answer, where the source is at its end
+abbrev pub IsSplit : Options → List ℕ → SinkState → SinkState → Result ℕ RunFault → Type 0
+IsSplit o text sink new_sink result = (to_come : Option (List ℕ)) → IsWhole text to_come → Finishes o text to_come sink new_sink result
+
+-- that answer, for each text that spells the collection
+abbrev pub IsSplitOf : Options → Games → SinkState → SinkState → Result ℕ RunFault → Type 0
+IsSplitOf o c sink new_sink result = (text : List ℕ) → Spells c text → IsSplit o text sink new_sink result
+
+-- where a cursor stands before the page, or why there is none
+abbrev pub IsStart : Games → Option ℕ → Result Position RunFault → Type 0
+IsStart c after (Ok at) = lines_from_place (lines c) after ≡ Some (drop at.given (lines c))
+IsStart c after (Err Read) = ⊥
+IsStart c after (Err TooLong) = ⊥
+IsStart c after (Err (NotSgf at len)) = ⊥
+IsStart c after (Err (NoSuchLine place)) = (after ≡ Some place) × (lines_after (lines c) place ≡ None)
+IsStart c after (Err (Write k)) = ⊥
+IsStart c after (Err (Memory k)) = k ≡ 0
+
+-- what writing lines says of the bytes that the sink took
+abbrev pub AnswersLines : Form → List Line → List ℕ → Result ℕ RunFault → Type 0
+AnswersLines form ls taken (Ok k) = (taken ≡ output form ls) × (k ≡ length ls)
+AnswersLines form ls taken (Err Read) = ⊥
+AnswersLines form ls taken (Err TooLong) = ⊥
+AnswersLines form ls taken (Err (NotSgf at len)) = ⊥
+AnswersLines form ls taken (Err (NoSuchLine place)) = ⊥
+AnswersLines form ls taken (Err (Write k)) = IsCutShort form ls k taken
+AnswersLines form ls taken (Err (Memory k)) = IsCutBetween form ls k taken
+
+pub record WritesLines (form : Form) (ls : List Line) (sink new_sink : SinkState) (result : Result ℕ RunFault) : Type 0 where
+  pub taken : List ℕ
+  pub takes : Appends sink.taken new_sink.taken taken
+  pub answers : AnswersLines form ls taken result
+
+-- the record of the line at the cursor, which went on by one line
+pub record HasRecord (form : Form) (old new : Position) (bytes : List ℕ) : Type 0 where
+  pub line : Line
+  pub found : slice_get (lines old.games) old.given ≡ Some line
+  pub bytes_are : bytes ≡ record_of form line
+  pub goes_on : new ≡ advanced old
+
+-- a sink took all of these bytes, or failed after less than all of them
+abbrev pub PutsAll : {A E : Type 0} → SinkState → SinkState → List ℕ → Result A E → Type 0
+PutsAll old new bytes (Ok _) = Appends old.taken new.taken bytes × (new.failures ≡ old.failures)
+PutsAll old new bytes (Err _) = (n : ℕ) × (n < length bytes) × Appends old.taken new.taken (take n bytes) × (new.failures ≡ old.failures + 1)

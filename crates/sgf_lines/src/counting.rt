@@ -1,0 +1,115 @@
+//! How much a collection holds.
+
+ghost use Rattle.std.specs.Prelude.{◌≡◌, ◌<◌, ◌+◌, ◌++◌, length, decimal};
+ghost use Rattle.sgf_lines.specs.Lines.{lines};
+ghost use Rattle.sgf_lines.specs.Answer.{read_failures, write_failures};
+ghost use Rattle.sgf_lines.specs.Counts.{IsCount, IsRow, counts_of, counts_row};
+ghost use Rattle.sgf_lines.specs.inner.Running.{PutsAll};
+
+use crate::fault::RunFault;
+use crate::run::read_all;
+use crate::sink::{Sink, SinkFault};
+use crate::source::Source;
+use crate::writing::put_all;
+use itoa::Buffer;
+use sgf_tree::{Collection, ReadFault, read};
+use std::alloc::Global;
+
+/// The counts of a collection.
+#[derive(Clone, Copy, Debug, PartialEq, Eq)]
+pub struct Counts {
+    /// The number of its games.
+    pub games: u64,
+    /// The number of their nodes, at every depth.
+    pub nodes: u64,
+    /// The number of its lines.
+    pub lines: u64,
+}
+
+/// Reads a source to its end, and counts what the collection holds that its bytes spell (SGF FF[4], EBNF).
+///
+/// The faults come in this order: `Read` where the source failed, or `TooLong` where it gave too much, whichever comes first;
+/// `NotSgf`.
+/// Where memory was refused `Memory { lines: 0 }` comes in place of an answer or of a fault that wasn't met yet.
+pub fn count<S: Source>(alloc: Global, source: &mut S) -> Result<Counts, RunFault>
+    requires { (S.state source.old).failures < u64.MAX }
+    ensures answer { IsCount (S.state source.old) (S.state source.new) result }
+    ensures failures { (S.state source.new).failures
+        ≡ (S.state source.old).failures + read_failures result }
+{
+    let mut text = Vec::new(alloc);
+    match read_all(source, &mut text) {
+        Ok(()) => {}
+        Err(fault) => return Err(fault),
+    }
+    match read(alloc, &text) {
+        Ok(collection) => Ok(counted(&collection)),
+        Err(ReadFault::TooLong) => Err(RunFault::TooLong),
+        Err(ReadFault::NotSgf { at }) => Err(RunFault::NotSgf {
+            at,
+            len: text.len(),
+        }),
+        Err(ReadFault::Memory) => Err(RunFault::Memory { lines: 0 }),
+    }
+}
+
+/// The counts of a collection.
+fn counted(collection: &Collection<'_>) -> Counts
+    ensures { result ≡ counts_of collection.now }
+{
+    Counts {
+        games: collection.games() as u64,
+        nodes: collection.nodes() as u64,
+        lines: line_count(collection),
+    }
+}
+
+/// The number of lines of a collection, each of which ends at a leaf of its own.
+fn line_count(collection: &Collection<'_>) -> u64
+    ensures { result ≡ length (lines collection.now) }
+{
+    let mut count = 0;
+    for node in 0..collection.nodes() {
+        if collection.is_leaf(node) {
+            count += 1;
+        }
+    }
+    count
+}
+
+/// Writes the counts of games, nodes and lines in decimal digits, with a space between them and a line feed after them, and
+/// flushes the sink.
+/// It takes no memory.
+///
+/// Where the sink failed it answers `Write { lines: 0 }`, and a front of the row was written.
+pub fn write_counts<T: Sink>(sink: &mut T, counts: &Counts) -> Result<(), RunFault>
+    requires { (T.state sink.old).failures < u64.MAX }
+    ensures answer { IsRow (counts_row counts.now) (T.state sink.old) (T.state sink.new) result }
+    ensures failures { (T.state sink.new).failures
+        ≡ (T.state sink.old).failures + write_failures result }
+{
+    let fault = RunFault::Write { lines: 0 };
+    let Ok(()) = put_number(counts.games, b" ", sink) else {
+        return Err(fault);
+    };
+    let Ok(()) = put_number(counts.nodes, b" ", sink) else {
+        return Err(fault);
+    };
+    let Ok(()) = put_number(counts.lines, b"\n", sink) else {
+        return Err(fault);
+    };
+    match sink.flush() {
+        Ok(()) => Ok(()),
+        Err(SinkFault) => Err(fault),
+    }
+}
+
+/// Puts a number in decimal digits, and what ends it.
+fn put_number<T: Sink>(number: u64, end: &[u8], sink: &mut T) -> Result<(), SinkFault>
+    requires { (T.state sink.old).failures < u64.MAX }
+    ensures { PutsAll (T.state sink.old) (T.state sink.new) (decimal number ++ end.now) result }
+{
+    let mut buffer = Buffer::new();
+    put_all(buffer.format(number).as_bytes(), sink)?;
+    put_all(end, sink)
+}

@@ -1,0 +1,147 @@
+//! Where the bytes of a run go.
+
+ghost use Rattle.std.specs.Prelude.{◌≡◌, ◌<◌, ◌≤◌, List, ℕ, [], length, take, Some, None};
+ghost use Rattle.sgf_lines.specs.Ends.{SinkState, IsPut, IsFlush};
+
+use std::io::Write;
+use thiserror::Error;
+
+/// A sink failed, and took nothing.
+#[derive(Clone, Copy, Debug, PartialEq, Eq, Error)]
+#[error("the sink failed")]
+pub struct SinkFault;
+
+/// Takes bytes, in order.
+pub trait Sink {
+    /// How often it has failed, and the bytes that it has taken.
+    ghost state: { Self → SinkState };
+
+    /// Takes bytes at the front of `bytes`, and answers how many; that is at least one.
+    ///
+    /// Where it fails it takes nothing, and its count of failures rises by one.
+    fn put(&mut self, bytes: &[u8]) -> Result<usize, SinkFault>
+        requires some { 0 < length bytes.now }
+        requires countable { (state self.old).failures < u64.MAX }
+        ensures { IsPut (state self.old) (state self.new) bytes.now result };
+
+    /// Passes on what it still holds back; it takes nothing.
+    ///
+    /// Where it fails, its count of failures rises by one.
+    fn flush(&mut self) -> Result<(), SinkFault>
+        requires countable { (state self.old).failures < u64.MAX }
+        ensures { IsFlush (state self.old) (state self.new) result };
+
+    /// How often it has failed.
+    fn failures(&self) -> u64
+        ensures { result ≡ (state self.now).failures };
+}
+
+/// A sink over any writer, which may be a `&mut Vec<u8>`.
+/// Each write that fails counts as a failure, one that was interrupted and one of 0 bytes too, and so does each flush
+/// that fails.
+/// It tells the bytes that it has taken where the writer does.
+#[derive(Debug, Drop)]
+pub struct WriteSink<W: Write + Drop> {
+    writer: W,
+    failures: u64,
+}
+
+impl<W: Write + Drop> WriteSink<W> {
+    /// A sink that writes to the writer.
+    pub fn new(writer: W) -> WriteSink<W>
+        ensures { ⟦<WriteSink<W> as Sink>⟧.state result ≡ record { failures = 0; taken = W.contents writer } }
+    {
+        WriteSink {
+            writer,
+            failures: 0,
+        }
+    }
+
+    /// The writer.
+    pub fn into_inner(self) -> W
+        ensures { W.contents result ≡ (⟦<WriteSink<W> as Sink>⟧.state self).taken }
+    {
+        self.writer
+    }
+}
+
+impl<W: Write + Drop> Sink for WriteSink<W> {
+    ghost state = { λ s. record { failures = s.failures; taken = W.contents s.writer } };
+
+    fn put(&mut self, bytes: &[u8]) -> Result<usize, SinkFault> {
+        match self.writer.write(bytes) {
+            Ok(0) | Err(_) => {
+                self.failures += 1;
+                Err(SinkFault)
+            }
+            Ok(count) => Ok(count),
+        }
+    }
+
+    fn flush(&mut self) -> Result<(), SinkFault> {
+        match self.writer.flush() {
+            Ok(()) => Ok(()),
+            Err(_) => {
+                self.failures += 1;
+                Err(SinkFault)
+            }
+        }
+    }
+
+    fn failures(&self) -> u64 {
+        self.failures
+    }
+}
+
+/// A sink over an array, which takes no memory, and fails where the array is full.
+#[derive(Clone, Copy, Debug)]
+pub struct ArraySink<const N: usize> {
+    bytes: [u8; N],
+    taken: usize,
+    failures: u64,
+    ghost within: { taken ≤ N },
+}
+
+impl<const N: usize> ArraySink<N> {
+    /// An empty sink with room for `N` bytes.
+    pub fn new() -> ArraySink<N>
+        ensures { ⟦<ArraySink<N> as Sink>⟧.state result ≡ record { failures = 0; taken = Some [] } }
+    {
+        ArraySink {
+            bytes: [0; N],
+            taken: 0,
+            failures: 0,
+        }
+    }
+
+    /// The bytes that it has taken.
+    pub fn as_slice(&self) -> &[u8]
+        ensures { Some result.now ≡ (⟦<ArraySink<N> as Sink>⟧.state self.now).taken }
+    {
+        &self.bytes[..self.taken]
+    }
+}
+
+impl<const N: usize> Sink for ArraySink<N> {
+    ghost state = { λ s. record { failures = s.failures; taken = Some (take s.taken s.bytes) } };
+
+    fn put(&mut self, bytes: &[u8]) -> Result<usize, SinkFault> {
+        let count = bytes.len().min(N - self.taken);
+        if count == 0 {
+            self.failures += 1;
+            return Err(SinkFault);
+        }
+        let room = &mut self.bytes[..];
+        room[self.taken..self.taken + count].copy_from_slice(&bytes[..count]);
+        self.taken += count;
+        Ok(count)
+    }
+
+    fn flush(&mut self) -> Result<(), SinkFault> {
+        Ok(())
+    }
+
+    fn failures(&self) -> u64 {
+        self.failures
+    }
+}

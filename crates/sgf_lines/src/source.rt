@@ -1,0 +1,108 @@
+//! Where the bytes of a run come from.
+
+ghost use Rattle.std.specs.Prelude.{◌≡◌, ◌<◌, ◌≤◌, List, ℕ, [], length, take, drop, Some, None};
+ghost use Rattle.sgf_lines.specs.Ends.{SourceState, IsGet};
+
+use std::io::Read;
+use thiserror::Error;
+
+/// A source failed, and gave nothing.
+#[derive(Clone, Copy, Debug, PartialEq, Eq, Error)]
+#[error("the source failed")]
+pub struct SourceFault;
+
+/// Gives bytes, in order, up to an end.
+pub trait Source {
+    /// How often it has failed, the bytes that it has given, and those that are still to come.
+    ghost state: { Self → SourceState };
+
+    /// Writes the next bytes to the front of `buffer`, and answers how many.
+    /// It gives 0 bytes only at its end, and no others there.
+    ///
+    /// Where it fails it gives nothing, and its count of failures rises by one.
+    fn get(&mut self, buffer: &mut [u8]) -> Result<usize, SourceFault>
+        requires room { 0 < length buffer.old }
+        requires countable { (state self.old).failures < u64.MAX }
+        ensures { IsGet (state self.old) (state self.new) buffer.new result };
+
+    /// How often it has failed.
+    fn failures(&self) -> u64
+        ensures { result ≡ (state self.now).failures };
+}
+
+/// A source over bytes in memory, which never fails and takes no memory.
+#[derive(Clone, Copy, Debug)]
+pub struct SliceSource<'a> {
+    bytes: &'a [u8],
+    given: usize,
+    ghost within: { given ≤ length bytes.now },
+}
+
+impl<'a> SliceSource<'a> {
+    /// A source that gives these bytes.
+    pub fn new(bytes: &'a [u8]) -> SliceSource<'a>
+        ensures { ⟦<SliceSource<'a> as Source>⟧.state result
+            ≡ record { failures = 0; given = Some []; to_come = Some bytes.now } }
+    {
+        SliceSource { bytes, given: 0 }
+    }
+}
+
+impl<'a> Source for SliceSource<'a> {
+    ghost state = { λ s. record {
+      failures = 0;
+      given = Some (take s.given s.bytes.now);
+      to_come = Some (drop s.given s.bytes.now);
+    } };
+
+    fn get(&mut self, buffer: &mut [u8]) -> Result<usize, SourceFault> {
+        let count = buffer.len().min(self.bytes.len() - self.given);
+        buffer[..count].copy_from_slice(&self.bytes[self.given..self.given + count]);
+        self.given += count;
+        Ok(count)
+    }
+
+    fn failures(&self) -> u64 {
+        0
+    }
+}
+
+/// A source over any reader.
+/// Each read that fails counts as a failure, one that was interrupted too.
+/// It tells the bytes that are to come where the reader does.
+#[derive(Debug, Drop)]
+pub struct ReadSource<R: Read + Drop> {
+    reader: R,
+    failures: u64,
+}
+
+impl<R: Read + Drop> ReadSource<R> {
+    /// A source that gives what the reader reads.
+    pub fn new(reader: R) -> ReadSource<R>
+        ensures { ⟦<ReadSource<R> as Source>⟧.state result
+            ≡ record { failures = 0; given = None; to_come = R.remaining reader } }
+    {
+        ReadSource {
+            reader,
+            failures: 0,
+        }
+    }
+}
+
+impl<R: Read + Drop> Source for ReadSource<R> {
+    ghost state = { λ s. record { failures = s.failures; given = None; to_come = R.remaining s.reader } };
+
+    fn get(&mut self, buffer: &mut [u8]) -> Result<usize, SourceFault> {
+        match self.reader.read(buffer) {
+            Ok(count) => Ok(count),
+            Err(_) => {
+                self.failures += 1;
+                Err(SourceFault)
+            }
+        }
+    }
+
+    fn failures(&self) -> u64 {
+        self.failures
+    }
+}

@@ -1,0 +1,118 @@
+//! The records of lines are written to a sink, each by as many puts as it takes.
+
+ghost use Rattle.std.specs.Prelude.{◌≡◌, ◌<◌, ◌+◌, length, drop, slice_get, IfOk, MatchBool};
+ghost use Rattle.sgf_lines.specs.Lines.{lines};
+ghost use Rattle.sgf_lines.specs.Page.{limited};
+ghost use Rattle.sgf_lines.specs.Answer.{write_failures};
+ghost use Rattle.sgf_lines.specs.inner.Running.{WritesLines, HasRecord, PutsAll};
+
+use crate::cursor::Cursor;
+use crate::fault::RunFault;
+use crate::options::{Form, Options};
+use crate::record::push_record;
+use crate::sink::{Sink, SinkFault};
+use sgf_tree::{Collection, MemoryFault};
+use std::alloc::Global;
+
+/// Writes the records of the lines after the cursor, as many as the options allow, and flushes the sink.
+/// The answer is the number of lines that were written.
+pub(crate) fn deliver<T: Sink>(
+    alloc: Global,
+    collection: &Collection<'_>,
+    cursor: &mut Cursor<'_, '_>,
+    options: &Options,
+    sink: &mut T,
+) -> Result<u64, RunFault>
+    requires same { cursor.old.games ≡ collection.now }
+    requires countable { (T.state sink.old).failures < u64.MAX }
+    ensures answer { WritesLines options.now.form
+        (limited options.now.limit (drop cursor.old.given (lines collection.now)))
+        (T.state sink.old) (T.state sink.new) result }
+    ensures failures { (T.state sink.new).failures
+        ≡ (T.state sink.old).failures + write_failures result }
+{
+    let lines = match write_lines(alloc, collection, cursor, options, sink) {
+        Ok(lines) => lines,
+        Err(fault) => return Err(fault),
+    };
+    match sink.flush() {
+        Ok(()) => Ok(lines),
+        Err(SinkFault) => Err(RunFault::Write { lines }),
+    }
+}
+
+/// Writes the records of the lines after the cursor, as many as the options allow.
+/// A record is built whole before the first of its bytes is put.
+fn write_lines<T: Sink>(
+    alloc: Global,
+    collection: &Collection<'_>,
+    cursor: &mut Cursor<'_, '_>,
+    options: &Options,
+    sink: &mut T,
+) -> Result<u64, RunFault>
+    requires same { cursor.old.games ≡ collection.now }
+    requires countable { (T.state sink.old).failures < u64.MAX }
+    ensures answer { WritesLines options.now.form
+        (limited options.now.limit (drop cursor.old.given (lines collection.now)))
+        (T.state sink.old) (T.state sink.new) result }
+    ensures failures { (T.state sink.new).failures
+        ≡ (T.state sink.old).failures + write_failures result }
+{
+    // There are no more lines than nodes.
+    let limit = options.limit.unwrap_or(collection.nodes() as u64);
+    let mut bytes = Vec::new(alloc);
+    let mut lines = 0u64;
+    'page: while lines < limit {
+        match next_record(alloc, collection, options.form, cursor, &mut bytes) {
+            Ok(true) => {}
+            Ok(false) => return Ok(lines),
+            Err(MemoryFault) => return Err(RunFault::Memory { lines }),
+        }
+        match put_all(&bytes, sink) {
+            Ok(()) => lines += 1,
+            Err(SinkFault) => return Err(RunFault::Write { lines }),
+        }
+    }
+    Ok(lines)
+}
+
+/// Goes on by one line, and has its record in place of what stood in `bytes`; false where no line is left.
+fn next_record(
+    alloc: Global,
+    collection: &Collection<'_>,
+    form: Form,
+    cursor: &mut Cursor<'_, '_>,
+    bytes: &mut Vec<u8>,
+) -> Result<bool, MemoryFault>
+    requires same { cursor.old.games ≡ collection.now }
+    ensures { IfOk result (λ found. MatchBool found
+        (HasRecord form cursor.old cursor.new bytes.new.items)
+        (slice_get (lines cursor.old.games) cursor.old.given ≡ None)) }
+{
+    bytes.clear();
+    match cursor.next()? {
+        Some(line) => {
+            match form {
+                Form::Sgf => push_record(collection, line.path(), bytes)?,
+                Form::List | Form::Gtp => return Err(MemoryFault),
+            }
+            Ok(true)
+        }
+        None => Ok(false),
+    }
+}
+
+/// Puts all of `bytes`.
+pub(crate) fn put_all<T: Sink>(bytes: &[u8], sink: &mut T) -> Result<(), SinkFault>
+    requires countable { (T.state sink.old).failures < u64.MAX }
+    ensures { PutsAll (T.state sink.old) (T.state sink.new) bytes.now result }
+{
+    let mut done = 0;
+    'puts: while done < bytes.len() {
+        match sink.put(&bytes[done..]) {
+            Ok(count) => done += count,
+            Err(fault) => return Err(fault),
+        }
+    }
+    Ok(())
+}
