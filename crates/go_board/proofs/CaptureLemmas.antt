@@ -142,6 +142,12 @@ IsLooking-step g k from s p looking next none =
       step.1.same_taken,
     )
 
+-- a stone beside an empty point reaches it
+pub reaches_liberty : (g : Grid) (p : Point) → IsOn g.side p → has_liberty g p ≡ true → Reaches g Empty p
+reaches_liberty g p on some =
+    let w = (Decides-has_liberty g p on).0 some in
+    (w.0 ∷ [], (on, refl, w.2, (w.1, w.3)))
+
 -- a liberty of a stone of the group is one of the group
 pub liberty_found : (g : Grid) (k : Colour) (from : Point) (s : Searched) (p : Point) → IsLooking g k from s → IsNext g s p → has_liberty g p ≡ true → Reaches g Empty from
 liberty_found g k from s p looking next some =

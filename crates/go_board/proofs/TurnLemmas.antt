@@ -1,6 +1,6 @@
 -- proofs/TurnLemmas.antt
 -- What the tests on turns say.
-use Rattle.std.proofs.Common.{◌≡◌, ℕ, Bool, false, inl, inr, ◌↔◌, List, [], ◌∷◌, Option, Some, None, Contains, IsTrue, refl, sym, ap, ◌∙◌, cond, arith, unwrap_or, ◌<◌, ◌+◌, slice_index_or, subst, Decides}
+use Rattle.std.proofs.Common.{◌≡◌, ℕ, Bool, false, inl, inr, ◌↔◌, List, [], ◌∷◌, Option, Some, None, Contains, IsTrue, refl, sym, ap, ◌∙◌, cond, arith, unwrap_or, ◌<◌, ◌+◌, slice_index_or, subst, Decides, Result, OnErr, Ok, Err}
 use Rattle.std.specs.List.{list_any}
 use Rattle.std.proofs.lemmas.Bool.{false≢true, cases_lt, cases_Bool}
 use Rattle.std.proofs.lemmas.Bool.Decides.{Decides-or, Decides-and, Decides-not, Decides-like, Decides-eqb, same_from_decides, not_from_Decides}
@@ -19,7 +19,6 @@ use Rattle.go_board.specs.Grid.{Grid, cell_at}
 use Rattle.go_board.specs.Clearing.{play}
 use Rattle.go_board.specs.State.{State, is_over, set_up, turned}
 use Rattle.go_board.specs.Reason.{must_move, is_occupied, is_repeat, same_grid, reason_of, Forbids, IsFirstReason, rank_of}
-use Rattle.go_board.specs.inner.Earlier.{made_by}
 use Rattle.go_board.proofs.GridLemmas.{Decides-same_cell}
 use Rattle.go_board.proofs.RuleLemmas.{side-clear, false_from_Decides}
 use Rattle.go_board.proofs.AreaLemmas.{side-with_areas}
@@ -51,6 +50,11 @@ Decides-is_repeat s k p = Decides-has (same_grid (play s.colouring k p)) _ (Deci
 pub reason_of-last : (s : State) (k : Colour) (x : Play) (b : Bool) → is_over s ≡ false → must_move s.player (opponent k) ≡ false → is_occupied s x ≡ false → is_repeat s k x ≡ b → reason_of s k x ≡ cond b (Some Repeat) None
 reason_of-last s k x b on turn free repeats = rw (on, turn, free, repeats) refl
 
+-- what holds in any case holds where a call failed
+pub on_err : {A E : Type 0} (r : Result A E) (P : Type 0) → P → OnErr r P
+on_err (Ok v) P h = tt
+on_err (Err e) P h = h
+
 -- a move leaves the side
 pub side-play : (g : Grid) (k : Colour) (p : Point) → (play g k p).side ≡ g.side
 unfolding play
@@ -60,11 +64,6 @@ side-play g k p = side-clear _ k ∙ side-clear _ (opponent k)
 pub reason_by_past : (s : State) (k : Colour) (p : Point) (b : Bool) (seen : List Grid) (made : Grid) → seen ≡ s.seen → made ≡ play s.colouring k p → is_over s ≡ false → must_move s.player (opponent k) ≡ false → is_occupied s (Stone p) ≡ false → (IsTrue b ↔ Contains seen made) → reason_of s k (Stone p) ≡ cond b (Some Repeat) None
 reason_by_past s k p b seen made same_seen same_made on turn free has =
     reason_of-last s k (Stone p) b on turn free (same_from_decides _ b (Decides-is_repeat s k p) (rw (same_seen, same_made) at has))
-
--- a turn leaves the side
-pub side-made : (s : State) (k : Colour) (x : Play) (made : Grid) → Some made ≡ made_by s k x → made.side ≡ s.colouring.side
-side-made s k Pass made e = absurd (cc)
-side-made s k (Stone p) made e = ap (λ (o : Option Grid). (unwrap_or o made).side) e ∙ side-play s.colouring k p
 
 -- The law of reasons: for any facts that four tests decide, the first test that passes names the first fact that holds.
 

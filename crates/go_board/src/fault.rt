@@ -52,6 +52,14 @@ impl fmt::Display for TurnFault {
 
 impl Error for TurnFault {}
 
+impl From<AllocError> for TurnFault {
+    ghost from_gives = { λ _ fault. fault ≡ Memory };
+
+    fn from(_refused: AllocError) -> TurnFault {
+        TurnFault::Memory
+    }
+}
+
 impl From<MemoryFault> for TurnFault {
     ghost from_gives = { λ _ fault. fault ≡ Memory };
 

@@ -7,6 +7,8 @@ mod setup;
 mod tests;
 mod turn;
 
+ghost use Rattle.std.specs.Prelude.{◌≡◌, IsTrue};
+
 use crate::board::Board;
 use crate::fault::MemoryFault;
 use crate::past::Past;
@@ -22,6 +24,10 @@ use std::marker::Model;
 #[derive(Drop)]
 pub struct Referee<P: Past> {
     past: P,
+    /// A second board, on which stones are tried and areas coloured.
+    spare: Board,
+    /// Whether it is known that the spare board has the present colouring.
+    in_step: bool,
     player: Option<Colour>,
     passes: u8,
     turns: u64,
@@ -30,7 +36,7 @@ pub struct Referee<P: Past> {
 }
 
 impl<P: Past> Model for Referee<P> {
-    ghost use Rattle.std.specs.Prelude.{reverse};
+    ghost use Rattle.std.specs.Prelude.{IsTrue, reverse};
     ghost use Rattle.go_board.specs.State.{States};
     ghost use Rattle.go_board.specs.inner.Earlier.{states_of, IsKept};
 
@@ -38,7 +44,7 @@ impl<P: Past> Model for Referee<P> {
 
     ghost view = { λ r. states_of (P.held r.past) r.player r.passes r.turns r.earlier.items };
 
-    ghost invariant = { λ r. IsKept (P.held r.past) r.player r.passes r.turns (reverse r.earlier.items) };
+    ghost invariant = { λ r. IsKept (P.held r.past) r.spare (IsTrue r.in_step) r.player r.passes r.turns (reverse r.earlier.items) };
 }
 
 impl<P: Past> Referee<P> {
@@ -52,8 +58,11 @@ impl<P: Past> Referee<P> {
     pub fn new(alloc: Global, size: Size) -> Result<Referee<P>, MemoryFault>
         ensures { IfOk result (λ referee. referee ≡ begun size) }
     {
+        let spare = Board::empty(size);
         Ok(Referee {
-            past: P::new(alloc, &Board::empty(size))?,
+            past: P::new(alloc, &spare)?,
+            spare,
+            in_step: true,
             player: Some(Colour::Black),
             passes: 0,
             turns: 0,
@@ -79,6 +88,7 @@ impl<P: Past> Referee<P> {
         let left = self.earlier.pop().unwrap();
         if left.grew {
             self.past.pop();
+            self.in_step = false;
         }
         self.player = left.player;
         self.passes = left.passes;
@@ -130,5 +140,16 @@ impl<P: Past> Referee<P> {
             passes: self.passes,
             grew,
         }
+    }
+}
+
+/// Gives the spare board the newest colouring, unless it is known to have it.
+fn bring_in_step(spare: &mut Board, newest: &Board, in_step: bool)
+    requires side { spare.old.side ≡ newest.now.side }
+    requires known { IsTrue in_step → spare.old ≡ newest.now }
+    ensures { spare.new ≡ newest.now }
+{
+    if !in_step {
+        spare.copy_from(newest);
     }
 }

@@ -1,15 +1,14 @@
 -- specs/inner/Earlier.antt
 -- A referee's states, from a past and from what it keeps of each earlier state besides.
-use Rattle.std.specs.Prelude.{◌≡◌, ℕ, ◌+◌, ◌≤◌, ◌<◌, Option, List, [], ◌∷◌, if◌then◌else◌, unwrap_or, length, reverse, drop, Some, None}
+use Rattle.std.specs.Prelude.{◌≡◌, ℕ, ◌+◌, ◌≤◌, ◌<◌, Option, List, [], ◌∷◌, if◌then◌else◌, unwrap_or, length, reverse, drop, false}
 use Rattle.go_board.specs.declared.stones.Colour.{Colour}
 use Rattle.go_board.specs.declared.referee.plays.Play.{Play}
-use Rattle.go_board.specs.declared.referee.plays.Play.TheVariants.{Pass, Stone}
 use Rattle.go_board.specs.declared.referee.earlier.Earlier.{Earlier}
 use Rattle.go_board.specs.Colour.{opponent}
 use Rattle.go_board.specs.Grid.{Grid, empty_grid}
-use Rattle.go_board.specs.Clearing.{play}
 use Rattle.go_board.specs.Past.{Held, newest, present_stretch, HaveSide}
-use Rattle.go_board.specs.State.{State, States, starting, oldest_of}
+use Rattle.go_board.specs.State.{State, States, starting, oldest_of, is_over}
+use Rattle.go_board.specs.Reason.{must_move, is_occupied}
 
 -- the newest of the past colourings, of which there is one
 abbrev pub newest_grid : List Held → Grid
@@ -41,21 +40,10 @@ abbrev pub states_of : List Held → Option Colour → ℕ → ℕ → List Earl
 states_of held player passes turns earlier =
     record { present = state_of held player passes turns; earlier = states_before held (reverse earlier) }
 
--- the state once a stone made a colouring
-abbrev pub with_stone : State → Colour → Grid → State
-with_stone state colour grid =
-    record {
-      colouring = grid;
-      seen = grid ∷ state.seen;
-      player = Some (opponent colour);
-      passes = 0;
-      turns = state.turns + 1;
-    }
-
--- the colouring that a turn makes, none for a pass
-abbrev pub made_by : State → Colour → Play → Option Grid
-made_by state colour Pass = None
-made_by state colour (Stone point) = Some (play state.colouring colour point)
+-- no reason but that of a repeat can forbid the turn
+abbrev pub MayOnlyRepeat : State → Colour → Play → Type 0
+MayOnlyRepeat state colour play =
+    (is_over state ≡ false) × (must_move state.player (opponent colour) ≡ false) × (is_occupied state play ≡ false)
 
 -- the state once a setup made a colouring
 abbrev pub with_setup : State → Grid → Option Colour → State
@@ -73,10 +61,13 @@ AreBounded [] = Unit {0}
 AreBounded (left ∷ others) = (left.passes ≤ 2) × (left.turns ≤ length others) × AreBounded others
 
 -- what a referee keeps, of its earlier states newest first: past colourings of one side, one more at least than calls that
--- made them grow; at most two passes, and at most as many turns as earlier states; the oldest state is the starting one
-pub record IsKept (held : List Held) (player : Option Colour) (passes turns : ℕ) (earlier : List Earlier) : Type 0 where
+-- made them grow; a spare board of that side, with the newest colouring where the two are in step; at most two passes, and
+-- at most as many turns as earlier states; the oldest state is the starting one
+pub record IsKept (held : List Held) (spare : Grid) (InStep : Type 0) (player : Option Colour) (passes turns : ℕ) (earlier : List Earlier) : Type 0 where
   pub one_side : HaveSide (newest_grid held).side held
   pub enough : grown earlier < length held
+  pub spare_side : spare.side ≡ (newest_grid held).side
+  pub in_step : InStep → spare ≡ newest_grid held
   pub few_passes : passes ≤ 2
   pub few_turns : turns ≤ length earlier
   pub bounded : AreBounded earlier

@@ -8,16 +8,15 @@ impl Board {
     ghost use Rattle.go_board.specs.Point.{IsRectOn};
     ghost use Rattle.go_board.specs.State.{with_area};
 
-    /// The board with areas coloured in order, whatever stood there. Nothing is cleared.
-    pub(crate) fn with_areas(&self, ops: &[SetupOp]) -> Board
-        requires { All (λ op. IsRectOn self.now.side op.area) ops.now }
-        ensures { result ≡ fold with_area self.now ops.now }
+    /// Colours areas in order, whatever stood there. Nothing is cleared.
+    pub(crate) fn colour_areas(&mut self, ops: &[SetupOp])
+        requires { All (λ op. IsRectOn self.old.side op.area) ops.now }
+        ensures value { self.new ≡ fold with_area self.old ops.now }
+        ensures side { self.new.side ≡ self.old.side }
     {
-        let mut board = self.copy();
         for op in ops {
-            board.colour_area(*op);
+            self.colour_area(*op);
         }
-        board
     }
 
     /// Colours the points of an area.

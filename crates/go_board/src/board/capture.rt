@@ -65,6 +65,10 @@ impl Board {
         ensures taken { LosesDead self.old self.new colour }
         ensures settled { ReachesIfStone self.new colour from }
     {
+        // most stones have a liberty of their own: no search is made ready for these
+        if self.has_liberty(from) {
+            return;
+        }
         if self.capture_group::<FEW_POINTS>(colour, from) {
             return;
         }

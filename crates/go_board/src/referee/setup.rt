@@ -1,15 +1,14 @@
 //! A referee's setups.
 
-use crate::board::Board;
 use crate::fault::MemoryFault;
 use crate::past::Past;
-use crate::referee::{Referee, SetupOp};
+use crate::referee::{Referee, SetupOp, bring_in_step};
 use crate::stones::Colour;
 
 impl<P: Past> Referee<P> {
-    ghost use Rattle.std.specs.Prelude.{◌≡◌, ◌<◌, ◌⊎◌, All, IsSome, OnOk, OnErr, length};
+    ghost use Rattle.std.specs.Prelude.{◌≡◌, ◌<◌, ◌⊎◌, All, IsSome, OnOk, OnErr, fold, length};
     ghost use Rattle.go_board.specs.Point.{IsRectOn};
-    ghost use Rattle.go_board.specs.State.{followed_by, set_up};
+    ghost use Rattle.go_board.specs.State.{followed_by, set_up, with_area};
     ghost use Rattle.go_board.specs.inner.Earlier.{with_setup};
 
     /// Sets stones or the player up (SGF FF[4]). With operations, these colour their areas in order, whatever stood
@@ -26,8 +25,7 @@ impl<P: Past> Referee<P> {
         if ops.is_empty() {
             self.set_player(player)
         } else {
-            let board = self.board().with_areas(ops);
-            self.begin_anew(&board, player)
+            self.begin_anew(ops, player)
         }
     }
 
@@ -43,17 +41,21 @@ impl<P: Past> Referee<P> {
         Ok(())
     }
 
-    /// Begins the past anew with a board.
-    fn begin_anew(&mut self, board: &Board, player: Option<Colour>) -> Result<(), MemoryFault>
-        requires { board.now.side ≡ self.old.present.colouring.side }
-        ensures ok { OnOk result (self.new
-            ≡ followed_by self.old (with_setup self.old.present board.now player)) }
+    /// Colours areas on the spare board, and begins the past anew with it.
+    fn begin_anew(&mut self, ops: &[SetupOp], player: Option<Colour>) -> Result<(), MemoryFault>
+        requires { All (λ op. IsRectOn self.old.present.colouring.side op.area) ops.now }
+        ensures ok { OnOk result (self.new ≡ followed_by self.old
+            (with_setup self.old.present (fold with_area self.old.present.colouring ops.now) player)) }
         ensures err { OnErr result (self.new ≡ self.old) }
     {
+        bring_in_step(&mut self.spare, self.past.newest(), self.in_step);
+        self.in_step = false;
+        self.spare.colour_areas(ops);
         let left = self.present_kept(true);
         self.earlier.reserve(1)?;
-        self.past.restart(board)?;
+        self.past.restart(&self.spare)?;
         self.earlier.push(left).unwrap();
+        self.in_step = true;
         self.player = player;
         self.passes = 0;
         Ok(())

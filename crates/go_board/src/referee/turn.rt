@@ -1,19 +1,21 @@
 //! A referee's turns.
 
-use crate::board::Board;
 use crate::fault::{MemoryFault, TurnFault};
 use crate::past::Past;
+use crate::points::Point;
 use crate::reason::Reason;
-use crate::referee::{Play, Referee};
+use crate::referee::{Play, Referee, bring_in_step};
 use crate::stones::{Cell, Colour};
 
 impl<P: Past> Referee<P> {
-    ghost use Rattle.std.specs.Prelude.{◌≡◌, ◌≢◌, ◌↔◌, None, Some, IfOk, IfErr, IsErrOf, OnOk, OnErr};
+    ghost use Rattle.std.specs.Prelude.{◌≡◌, ◌≢◌, ◌↔◌, if◌then◌else◌, None, Some, IfNone, IfOk, IfSome, IsErrOf, OnOk, OnErr};
     ghost use Rattle.go_board.specs.declared.reason.Reason.{Reason};
-    ghost use Rattle.go_board.specs.declared.referee.plays.Play.TheVariants.{Pass};
+    ghost use Rattle.go_board.specs.declared.reason.Reason.TheVariants.{Repeat};
+    ghost use Rattle.go_board.specs.declared.referee.plays.Play.TheVariants.{Pass, Stone};
+    ghost use Rattle.go_board.specs.Point.{IsOn};
     ghost use Rattle.go_board.specs.State.{IsPlayOn, followed_by, turned};
     ghost use Rattle.go_board.specs.Reason.{reason_of};
-    ghost use Rattle.go_board.specs.inner.Earlier.{with_stone, made_by};
+    ghost use Rattle.go_board.specs.inner.Earlier.{MayOnlyRepeat};
 
     /// Takes a player's turn. It is refused with the first reason of `Over`, `Turn`, `Occupied` and `Repeat` that holds,
     /// without taking memory; else with `Memory`, only where memory was refused. After a refusal nothing is changed.
@@ -24,39 +26,38 @@ impl<P: Past> Referee<P> {
         ensures ok { OnOk result (self.new ≡ followed_by self.old (turned self.old.present colour play)) }
         ensures err { OnErr result (self.new ≡ self.old) }
     {
-        match self.judge(colour, play) {
-            Err(reason) => return Err(TurnFault::Illegal(reason)),
-            Ok(None) => self.take_pass(colour)?,
-            Ok(Some(board)) => self.take_stone(colour, &board)?,
+        if let Some(reason) = self.reason_before_repeat(colour, play) {
+            return Err(TurnFault::Illegal(reason));
+        }
+        match play {
+            Play::Pass => self.take_pass(colour)?,
+            Play::Stone(point) => {
+                if !self.take_stone(colour, point)? {
+                    return Err(TurnFault::Illegal(Reason::Repeat));
+                }
+            }
         }
         Ok(())
     }
 
-    /// The board that a turn makes, none for a pass; or the first reason why the turn isn't allowed.
-    fn judge(&self, colour: Colour, play: Play) -> Result<Option<Board>, Reason>
+    /// The first reason but the last for which a turn isn't allowed.
+    fn reason_before_repeat(&self, colour: Colour, play: Play) -> Option<Reason>
         requires { IsPlayOn self.now.present.colouring.side play }
-        ensures allowed { IfOk result (λ made. reason_of self.now.present colour play ≡ None) }
-        ensures made { IfOk result (λ made. made ≡ made_by self.now.present colour play) }
-        ensures refused { IfErr result (λ reason. reason_of self.now.present colour play ≡ Some reason) }
+        ensures known { IfSome result (λ reason. reason_of self.now.present colour play ≡ Some reason) }
+        ensures left { IfNone result (MayOnlyRepeat self.now.present colour play) }
     {
         if self.over() {
-            return Err(Reason::Over);
+            return Some(Reason::Over);
         }
         if self.player == Some(colour.opponent()) {
-            return Err(Reason::Turn);
+            return Some(Reason::Turn);
         }
-        let Play::Stone(point) = play else {
-            return Ok(None);
-        };
-        if self.board().at(point) != Cell::Empty {
-            return Err(Reason::Occupied);
+        if let Play::Stone(point) = play {
+            if self.board().at(point) != Cell::Empty {
+                return Some(Reason::Occupied);
+            }
         }
-        let mut board = self.board().copy();
-        board.place(colour, point);
-        if self.past.holds(&board) {
-            return Err(Reason::Repeat);
-        }
-        Ok(Some(board))
+        None
     }
 
     /// Takes a pass.
@@ -73,20 +74,32 @@ impl<P: Past> Referee<P> {
         Ok(())
     }
 
-    /// Takes the turn of a stone that makes that board.
-    fn take_stone(&mut self, colour: Colour, board: &Board) -> Result<(), MemoryFault>
-        requires { board.now.side ≡ self.old.present.colouring.side }
-        ensures ok { OnOk result (self.new
-            ≡ followed_by self.old (with_stone self.old.present colour board.now)) }
+    /// Takes the turn of a stone, which is tried on the spare board, unless it repeats a colouring. Tells whether the
+    /// turn was taken.
+    fn take_stone(&mut self, colour: Colour, point: Point) -> Result<bool, MemoryFault>
+        requires on_board { IsOn self.old.present.colouring.side point }
+        requires left { MayOnlyRepeat self.old.present colour (Stone point) }
+        ensures known { IfOk result (λ taken. reason_of self.old.present colour (Stone point)
+            ≡ (if taken then None else Some Repeat)) }
+        ensures allowed { OnErr result (reason_of self.old.present colour (Stone point) ≡ None) }
+        ensures ok { IfOk result (λ taken. self.new
+            ≡ (if taken then followed_by self.old (turned self.old.present colour (Stone point)) else self.old)) }
         ensures err { OnErr result (self.new ≡ self.old) }
     {
+        bring_in_step(&mut self.spare, self.past.newest(), self.in_step);
+        self.in_step = false;
+        self.spare.place(colour, point);
+        if self.past.holds(&self.spare) {
+            return Ok(false);
+        }
         let left = self.present_kept(true);
         self.earlier.reserve(1)?;
-        self.past.push(board)?;
+        self.past.push(&self.spare)?;
         self.earlier.push(left).unwrap();
+        self.in_step = true;
         self.player = Some(colour.opponent());
         self.passes = 0;
         self.turns += 1;
-        Ok(())
+        Ok(true)
     }
 }

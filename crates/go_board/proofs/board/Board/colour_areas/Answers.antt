@@ -1,6 +1,6 @@
--- proofs/board/Board/with_areas/Answers.antt
+-- proofs/board/Board/colour_areas/Answers.antt
 use Rattle.go_board.proofs.AreaLemmas.{areas_more}
-use Rattle.go_board.proofs.board.Board.with_areas.Goals as goal
+use Rattle.go_board.proofs.board.Board.colour_areas.Goals as goal
 
 pub colour_area-requires : goal.colour_area-requires
 colour_area-requires c = rw c.loop-op.invariant.0 (c.requires c.loop-op.op-index _ c.loop-op-test.true)
