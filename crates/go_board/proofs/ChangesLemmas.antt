@@ -1,15 +1,15 @@
 -- proofs/ChangesLemmas.antt
 -- Changes that lead back from one grid to another.
-use Rattle.std.proofs.Common.{◌≡◌, ℕ, ◌+◌, ◌-◌, ◌<◌, ◌≤◌, List, [], ◌∷◌, ◌++◌, length, get_or, set, take, drop, slice_range, refl, sym, ap, ◌∙◌, arith, append_assoc, length-append, length-take}
-use Rattle.std.proofs.lemmas.List.{take_more, drop_more, set_at, drop-append-le, take-append-drop, drop-drop, take-take}
+use Rattle.std.proofs.Common.{◌≡◌, ℕ, ◌+◌, ◌<◌, ◌≤◌, List, [], ◌∷◌, ◌++◌, length, get_or, set, take, drop, slice_range, refl, sym, ap, ◌∙◌, arith, append_assoc, length-append, length-take}
+use Rattle.std.proofs.lemmas.List.{take_more, drop_more, set_at, drop-append-le}
 use Rattle.std.proofs.lemmas.List.Elements.{All-push}
-use Rattle.std.proofs.lemmas.Slice.{between_is}
 use Rattle.go_board.specs.declared.stones.Cell.{Cell}
 use Rattle.go_board.specs.declared.stones.Cell.TheVariants.{Black}
 use Rattle.go_board.specs.declared.past.changes.Change.{Change}
 use Rattle.go_board.specs.Point.{IsOn, index_of}
 use Rattle.go_board.specs.Grid.{Grid, with_cell}
 use Rattle.go_board.specs.inner.Changes.{after_changes, LeadsBack}
+use Rattle.go_board.proofs.RangeLemmas.{front-range, back-range}
 
 -- the last of the changes comes last
 pub after-push : (g : Grid) (cs : List Change) (c : Change) → after_changes g (cs ++ c ∷ []) ≡ with_cell (after_changes g cs) c.point c.cell
@@ -22,7 +22,7 @@ after-side g [] = refl
 after-side g (x ∷ xs) = after-side (with_cell g x.point x.cell) xs
 
 -- the first n old cells, and then the new ones
-abbrev mixed : List Cell → List Cell → ℕ → List Cell
+abbrev pub mixed : List Cell → List Cell → ℕ → List Cell
 mixed old new n = take n old ++ drop n new
 
 mixed-set : (old new : List Cell) (i : ℕ) → i < length old → i < length new → set (mixed old new i) i (get_or old i Black) ≡ mixed old new (i + 1)
@@ -39,17 +39,7 @@ mixed-same old new i in_old in_new same =
     ∙ sym (append_assoc (take i old) (get_or old i Black ∷ []) (drop (i + 1) new))
     ∙ ap (λ xs. xs ++ drop (i + 1) new) (sym (take_more old i Black in_old))
 
--- a range joins the front before it and the back after it
-front-range : (xs : List Cell) (a b : ℕ) → a ≤ b → take b xs ≡ take a xs ++ slice_range xs a b
-front-range xs a b h =
-    sym (take-append-drop a (take b xs)) ∙ ap (λ ys. ys ++ drop a (take b xs)) (take-take a b xs h) ∙ ap (λ ys. take a xs ++ ys) (sym (between_is xs a b))
-
-back-range : (xs : List Cell) (a b : ℕ) → a ≤ b → drop a xs ≡ slice_range xs a b ++ drop b xs
-back-range xs a b h =
-    let there : a + (b - a) ≡ b = omega arith in
-    sym (take-append-drop (b - a) (drop a xs)) ∙ ap (λ ys. take (b - a) (drop a xs) ++ ys) (drop-drop (b - a) a xs ∙ ap (λ n. drop n xs) there)
-
-mixed-range : (old new : List Cell) (a b : ℕ) → a ≤ b → slice_range old a b ≡ slice_range new a b → mixed old new a ≡ mixed old new b
+pub mixed-range : (old new : List Cell) (a b : ℕ) → a ≤ b → slice_range old a b ≡ slice_range new a b → mixed old new a ≡ mixed old new b
 mixed-range old new a b h same =
     ap (λ xs. take a old ++ xs) (back-range new a b h ∙ ap (λ xs. xs ++ drop b new) (sym same))
     ∙ sym (append_assoc (take a old) (slice_range old a b) (drop b new))

@@ -27,6 +27,7 @@ pub mod TurnLemmas
 pub mod PrintLemmas
 pub mod PrintSetLemmas
 pub mod PrintPastLemmas
+pub mod RangeLemmas
 pub mod ChangesLemmas
 pub mod ColouringsLemmas
 pub mod TableLemmas

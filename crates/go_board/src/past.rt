@@ -2,6 +2,7 @@
 
 mod changes;
 mod colourings;
+mod differences;
 mod list_past;
 pub(crate) mod print;
 mod print_past;

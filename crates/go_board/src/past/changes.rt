@@ -6,6 +6,7 @@ ghost use Rattle.go_board.specs.inner.Changes.{after_changes, AreOn, LeadsBack};
 
 use crate::board::Board;
 use crate::fault::MemoryFault;
+use crate::past::differences::next_difference;
 use crate::points::Point;
 use crate::size::Size;
 use crate::stones::Cell;
@@ -56,7 +57,7 @@ pub(crate) fn lead_back(
     ensures err { OnErr result (changes.new.items ≡ changes.old.items) }
 {
     let start = changes.len();
-    if add_rows(old.size(), old.cells(), new.cells(), start, changes).is_err() {
+    if add_changes(old.size(), old.cells(), new.cells(), start, changes).is_err() {
         changes.truncate(start);
         return Err(MemoryFault);
     }
@@ -64,7 +65,7 @@ pub(crate) fn lead_back(
 }
 
 /// Adds the changes that lead back from the new cells to the old ones.
-fn add_rows(
+fn add_changes(
     size: Size,
     old: &[Cell],
     new: &[Cell],
@@ -78,61 +79,26 @@ fn add_rows(
     ensures ok { OnOk result (LeadsBack size old.now new.now start (size * size) changes.new.items) }
     ensures front { take start changes.new.items ≡ changes.old.items }
 {
-    for row in 0..size.side() {
-        add_row(size, row, old, new, start, changes)?;
-    }
-    Ok(())
-}
-
-/// Adds the changes of one row.
-fn add_row(
-    size: Size,
-    row: u8,
-    old: &[Cell],
-    new: &[Cell],
-    start: usize,
-    changes: &mut Vec<Change>,
-) -> Result<(), AllocError>
-    requires row { row < size }
-    requires old { length old.now ≡ size * size }
-    requires new { length new.now ≡ size * size }
-    requires above { LeadsBack size old.now new.now start (row * size) changes.old.items }
-    ensures ok { OnOk result (LeadsBack size old.now new.now start ((row + 1) * size) changes.new.items) }
-    ensures front { take start changes.new.items ≡ take start changes.old.items }
-{
-    let side = usize::from(size.side());
-    let first = usize::from(row) * side;
-    if &old[first..first + side] == &new[first..first + side] {
-        return Ok(());
-    }
-    for col in 0..size.side() {
-        add_point(size, Point { col, row }, old, new, start, changes)?;
-    }
-    Ok(())
-}
-
-/// Adds the change of one point, if there is one.
-fn add_point(
-    size: Size,
-    point: Point,
-    old: &[Cell],
-    new: &[Cell],
-    start: usize,
-    changes: &mut Vec<Change>,
-) -> Result<(), AllocError>
-    requires on { IsOn size point }
-    requires old { length old.now ≡ size * size }
-    requires new { length new.now ≡ size * size }
-    requires before { LeadsBack size old.now new.now start (index_of size point) changes.old.items }
-    ensures ok { OnOk result (LeadsBack size old.now new.now start (index_of size point + 1) changes.new.items) }
-    ensures front { take start changes.new.items ≡ take start changes.old.items }
-{
-    let index = point.index(size);
-    if old[index] != new[index] {
+    let mut index = next_difference(old, new, 0);
+    while index < old.len() {
         changes.push(Change {
-            point,
+            point: point_at(size, index),
             cell: old[index],
         })?;
+        index = next_difference(old, new, index + 1);
     }
     Ok(())
+}
+
+/// The point of an index.
+fn point_at(size: Size, index: usize) -> Point
+    requires { index < size * size }
+    ensures on { IsOn size result }
+    ensures value { index_of size result ≡ index }
+{
+    let side = usize::from(size.side());
+    Point {
+        col: (index % side) as u8,
+        row: (index / side) as u8,
+    }
 }

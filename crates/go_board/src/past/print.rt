@@ -1,6 +1,9 @@
 //! The print of a colouring: one number made of what stands on all its points, so that two colourings are mostly told
 //! apart by one comparison.
 
+#[cfg(test)]
+mod tests;
+
 ghost use Rattle.std.specs.Prelude.{◌≡◌, ◌<◌, ◌≤◌, List, length, slice_set};
 ghost use Rattle.go_board.specs.declared.stones.Cell.{Cell};
 ghost use Rattle.go_board.specs.inner.Print.{code_of, print_of, short_print_after};

@@ -89,7 +89,7 @@ impl PrintPast {
     {
         self.prints.push(board.print())?;
         if self.colourings.add(board, begins).is_err() {
-            let _ = self.prints.pop();
+            self.prints.pop();
             return Err(MemoryFault);
         }
         Ok(())

@@ -53,12 +53,24 @@ fn past_begins_anew<P: Past>(rt: &impl Abort, alloc: Global) -> Result<(), Fail>
     Ok(())
 }
 
+/// Two colourings whose prints have the same low bits are two.
+fn prints_alike<P: Past>(rt: &impl Abort, alloc: Global) -> Result<(), Fail> {
+    let empty = Board::empty(size(rt, 25));
+    let inner = with_stone(&empty, at(12, 4), Cell::Black);
+    let last = with_stone(&empty, at(24, 24), Cell::Black);
+    let past = P::new(alloc, &inner)?;
+    assert_eq!(rt; (past.holds(&inner), past.holds(&last)), (true, false));
+    Ok(())
+}
+
 #[test]
 fn list_past(rt: HostRuntime) -> Result<(), Fail> {
-    past_begins_anew::<ListPast>(&rt, rt.alloc())
+    past_begins_anew::<ListPast>(&rt, rt.alloc())?;
+    prints_alike::<ListPast>(&rt, rt.alloc())
 }
 
 #[test]
 fn print_past(rt: HostRuntime) -> Result<(), Fail> {
-    past_begins_anew::<PrintPast>(&rt, rt.alloc())
+    past_begins_anew::<PrintPast>(&rt, rt.alloc())?;
+    prints_alike::<PrintPast>(&rt, rt.alloc())
 }

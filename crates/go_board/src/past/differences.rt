@@ -1,0 +1,56 @@
+//! Where two lists of cells differ.
+
+ghost use Rattle.std.specs.Prelude.{◌≡◌, ◌≢◌, ◌+◌, ◌<◌, ◌≤◌, ◌↔◌, IsTrue, length, slice_range, slice_index_or};
+ghost use Rattle.go_board.specs.declared.past.differences.TheConstants.{CHUNK};
+ghost use Rattle.go_board.specs.declared.stones.Cell.TheVariants.{Empty};
+
+use crate::stones::Cell;
+
+/// How many cells are compared at once.
+const CHUNK: usize = 32;
+
+/// The first index from `from` on at which the cells differ, or their number where none does.
+pub(crate) fn next_difference(old: &[Cell], new: &[Cell], from: usize) -> usize
+    requires lengths { length new.now ≡ length old.now }
+    requires from { from ≤ length old.now }
+    ensures from { from ≤ result }
+    ensures within { result ≤ length old.now }
+    ensures same { slice_range old.now from result ≡ slice_range new.now from result }
+    ensures differ { result < length old.now
+        → slice_index_or old.now result Empty ≢ slice_index_or new.now result Empty }
+{
+    let mut index = past_same_chunks(old, new, from);
+    while index < old.len() && old[index] == new[index] {
+        index += 1;
+    }
+    index
+}
+
+/// An index from `from` on, so that all cells up to there are the same.
+fn past_same_chunks(old: &[Cell], new: &[Cell], from: usize) -> usize
+    requires lengths { length new.now ≡ length old.now }
+    requires from { from ≤ length old.now }
+    ensures from { from ≤ result }
+    ensures within { result ≤ length old.now }
+    ensures same { slice_range old.now from result ≡ slice_range new.now from result }
+{
+    let mut index = from;
+    while index + CHUNK <= old.len() && is_same_chunk(old, new, index) {
+        index += CHUNK;
+    }
+    index
+}
+
+/// Whether the cells of a chunk are the same. All are compared, so that they can be compared at once.
+fn is_same_chunk(old: &[Cell], new: &[Cell], start: usize) -> bool
+    requires old { start + CHUNK ≤ length old.now }
+    requires new { start + CHUNK ≤ length new.now }
+    ensures { IsTrue result
+        ↔ (slice_range old.now start (start + CHUNK) ≡ slice_range new.now start (start + CHUNK)) }
+{
+    let mut same = true;
+    for i in 0..CHUNK {
+        same &= old[start + i] == new[start + i];
+    }
+    same
+}
