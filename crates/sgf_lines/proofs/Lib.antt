@@ -27,6 +27,8 @@ pub mod Gathering
 pub mod Stepping
 pub mod Walking
 pub mod Judged
+pub mod Played
+pub mod Along
 pub mod Again
 pub mod Appended
 pub mod ScriptLines

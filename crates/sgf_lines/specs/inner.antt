@@ -7,3 +7,5 @@ pub mod Contents
 pub mod Stepping
 pub mod Shown
 pub mod Running
+pub mod Played
+pub mod Followed

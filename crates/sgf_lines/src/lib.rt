@@ -17,6 +17,7 @@
 //! - `laws` has laws of the definitions.
 //! - `source` and `sink` are the ends of a run.
 //! - `run` splits what a source gives into the records of its lines, which a sink takes; `writing` writes them.
+//! - `followed` follows lines one after the other, over a `game` that is played on from the nodes that they share.
 //! - `counting` counts the games, nodes and lines of what a source gives.
 //! - `whole` turns a text into the records of its lines, and `fault` has the ways in which a call may fail.
 #![tactic(auto)]
@@ -25,6 +26,8 @@ mod contents;
 mod counting;
 mod cursor;
 mod fault;
+mod followed;
+mod game;
 mod judging;
 pub mod laws;
 mod line;

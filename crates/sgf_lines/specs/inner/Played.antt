@@ -1,0 +1,37 @@
+-- A game that is played along the nodes of a line, and what it keeps to go back.
+use Rattle.std.specs.Prelude.{◌≡◌, ℕ, ◌≤◌, nat_le, if◌then◌else◌, List, [], ◌∷◌, length, take, Option, Some, None, option_map, slice_get}
+use Rattle.sgf_tree.specs.Tree.{Node}
+use Rattle.go_board.specs.State.{State, States}
+use Rattle.sgf_lines.specs.Walk.{Fault, Walk, walk}
+use Rattle.sgf_lines.specs.declared.game.Fault.{Fault as Met}
+use Rattle.sgf_lines.specs.declared.game.Mark.{Mark}
+use Rattle.sgf_lines.specs.declared.game.Game.{Game}
+
+-- the states of a referee when it had accepted at most so many setups and turns
+abbrev pub back_from : State → List State → ℕ → States
+back_from s [] depth = record { present = s; earlier = [] }
+back_from s (e ∷ es) depth = if nat_le (length (e ∷ es)) depth then record { present = s; earlier = e ∷ es } else back_from e es depth
+
+abbrev pub back_to : States → ℕ → States
+back_to states depth = back_from states.present states.earlier depth
+
+-- what is kept of a fault
+abbrev pub met : Fault → Met
+met f = record { place = f.node.place; reason = f.reason }
+
+-- the referee stands where a walk leads, and this is its fault
+pub record IsAt (w : Walk) (states : States) (fault : Option Met) : Type 0 where
+  pub state : states.present ≡ w.state
+  pub fault_is : fault ≡ option_map met w.fault
+
+-- a mark leads back to where the walk along the first i nodes leads
+pub record LeadsBack (side : ℕ) (nodes : List Node) (states : States) (i : ℕ) (mark : Mark) : Type 0 where
+  pub depth : mark.depth ≤ length states.earlier
+  pub at : IsAt (walk side (take i nodes)) (back_to states mark.depth) mark.fault
+
+-- the game was played along the nodes, and each of its marks leads back to before its node
+pub record IsPlayed (side : ℕ) (nodes : List Node) (game : Game) : Type 0 where
+  pub at : IsAt (walk side nodes) game.referee game.fault
+  pub count : length game.marks.items ≡ length nodes
+  pub marks : (i : ℕ) (mark : Mark) → slice_get game.marks.items i ≡ Some mark → LeadsBack side nodes game.referee i mark
+  pub order : (i j : ℕ) (early late : Mark) → i ≤ j → slice_get game.marks.items i ≡ Some early → slice_get game.marks.items j ≡ Some late → early.depth ≤ late.depth

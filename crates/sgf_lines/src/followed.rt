@@ -1,0 +1,138 @@
+//! The lines of a run are followed one after the other: what a line shares with the one before it is not played again.
+
+ghost use Rattle.std.specs.Prelude.{◌≡◌, ◌≤◌, ◌<◌, ℕ, List, [], Some, map, take, length, All, IfOk, OnOk};
+ghost use Rattle.sgf_tree.specs.Tree.{Node, node_count};
+ghost use Rattle.sgf_tree.specs.FileOrder.{node_at};
+ghost use Rattle.sgf_lines.specs.GameSize.{Opening as OpeningSaid, opening, root_properties};
+ghost use Rattle.sgf_lines.specs.Verdict.{verdict_of};
+ghost use Rattle.sgf_lines.specs.inner.Played.{IsPlayed};
+ghost use Rattle.sgf_lines.specs.inner.Followed.{IsHeld, IsFollowed};
+
+use crate::game::Game;
+use crate::opening::{Opening, opening_of};
+use crate::verdict::Verdict;
+use sgf_tree::{Collection, MemoryFault};
+use std::alloc::Global;
+
+/// What is held of the line that was followed last.
+#[derive(Drop)]
+pub(crate) enum Followed {
+    /// Its game isn't Go; so it is before the first line.
+    OtherGame,
+
+    /// There is no board of the game's size.
+    NoBoard,
+
+    /// It is played.
+    Judged(Game),
+}
+
+impl Followed {
+    /// Follows the line of a path, of which the first `shared` nodes are those of the line that was followed last.
+    /// After a refusal of memory nothing is said of it.
+    pub(crate) fn follow(
+        &mut self,
+        alloc: Global,
+        collection: &Collection<'_>,
+        path: &[usize],
+        shared: usize,
+    ) -> Result<(), MemoryFault>
+        requires some_node { 0 < length path.now }
+        requires within { All (λ i. i < node_count collection.now) path.now }
+        ensures { (old nodes : List Node) → (0 < shared → IsFollowed old self.old) → shared ≤ length old
+            → map Some nodes ≡ map (node_at collection.now) path.now → take shared old ≡ take shared nodes
+            → OnOk result (IsFollowed nodes self.new) }
+    {
+        self.keep(alloc, collection, path[0], shared)?;
+        self.go_on(alloc, collection, path, shared)
+    }
+
+    /// Keeps the first `shared` nodes; where there are none the game of this root begins.
+    fn keep(
+        &mut self,
+        alloc: Global,
+        collection: &Collection<'_>,
+        root: usize,
+        shared: usize,
+    ) -> Result<(), MemoryFault>
+        requires { root < node_count collection.now }
+        ensures { (old nodes : List Node) (node : Node) → (0 < shared → IsFollowed old self.old) → shared ≤ length old
+            → take shared old ≡ take shared nodes → node_at collection.now root ≡ Some node
+            → root_properties nodes ≡ node.properties
+            → OnOk result (IsHeld (opening (root_properties nodes)) (take shared nodes) self.new) }
+    {
+        if shared == 0 {
+            *self = begin(alloc, collection, root)?;
+            return Ok(());
+        }
+        match self {
+            Followed::Judged(game) => {
+                game.cut_back(shared);
+                Ok(())
+            }
+            Followed::OtherGame => Ok(()),
+            Followed::NoBoard => Ok(()),
+        }
+    }
+
+    /// Goes on along a path from its first `shared` nodes.
+    fn go_on(
+        &mut self,
+        alloc: Global,
+        collection: &Collection<'_>,
+        path: &[usize],
+        shared: usize,
+    ) -> Result<(), MemoryFault>
+        requires { All (λ i. i < node_count collection.now) path.now }
+        ensures { (said : OpeningSaid) (nodes : List Node) → map Some nodes ≡ map (node_at collection.now) path.now
+            → IsHeld said (take shared nodes) self.old → OnOk result (IsHeld said nodes self.new) }
+    {
+        match self {
+            Followed::Judged(game) => play_from(alloc, collection, game, path, shared),
+            Followed::OtherGame => Ok(()),
+            Followed::NoBoard => Ok(()),
+        }
+    }
+
+    /// The verdict of the line that was followed last.
+    pub(crate) fn verdict(&self) -> Verdict
+        ensures { (nodes : List Node) → IsFollowed nodes self.now → result ≡ verdict_of nodes }
+    {
+        match self {
+            Followed::OtherGame => Verdict::NotGo,
+            Followed::NoBoard => Verdict::BadSize,
+            Followed::Judged(game) => game.verdict(),
+        }
+    }
+}
+
+/// The game of a root, before it.
+fn begin(alloc: Global, collection: &Collection<'_>, root: usize) -> Result<Followed, MemoryFault>
+    requires { root < node_count collection.now }
+    ensures { (node : Node) → node_at collection.now root ≡ Some node
+        → IfOk result (IsHeld (opening node.properties) []) }
+{
+    match opening_of(&collection.node(root)) {
+        Opening::OtherGame => Ok(Followed::OtherGame),
+        Opening::NoBoard => Ok(Followed::NoBoard),
+        Opening::Board(size) => Ok(Followed::Judged(Game::new(alloc, size)?)),
+    }
+}
+
+/// Plays the nodes of a path from the index `from` on.
+fn play_from(
+    alloc: Global,
+    collection: &Collection<'_>,
+    game: &mut Game,
+    path: &[usize],
+    from: usize,
+) -> Result<(), MemoryFault>
+    requires { All (λ i. i < node_count collection.now) path.now }
+    ensures { (side : ℕ) (nodes : List Node) → map Some nodes ≡ map (node_at collection.now) path.now
+        → IsPlayed side (take from nodes) game.old → OnOk result (IsPlayed side nodes game.new) }
+{
+    for i in from..path.len() {
+        game.play(alloc, collection, path[i])?;
+    }
+    Ok(())
+}

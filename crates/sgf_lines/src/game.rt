@@ -1,0 +1,132 @@
+//! A game that is played along a line, node after node, and goes back to where the next line leaves it.
+
+ghost use Rattle.std.specs.Prelude.{◌≡◌, ◌≤◌, ◌<◌, ◌++◌, ◌∷◌, [], ℕ, List, Some, take, length, IfOk, OnOk};
+ghost use Rattle.sgf_tree.specs.Tree.{Node, node_count};
+ghost use Rattle.sgf_tree.specs.FileOrder.{node_at};
+ghost use Rattle.sgf_lines.specs.Walk.{walk};
+ghost use Rattle.sgf_lines.specs.Verdict.{verdict_at};
+ghost use Rattle.sgf_lines.specs.inner.Played.{back_to, IsPlayed};
+
+use crate::judging::score;
+use crate::step::{Change, StepFault, play_node};
+use crate::verdict::Verdict;
+use go_board::{PrintPast, Reason, Referee, Size};
+use sgf_tree::{Collection, MemoryFault};
+use std::alloc::Global;
+
+/// The first node that isn't allowed, by its place, and why it isn't.
+#[derive(Clone, Copy)]
+pub(crate) struct Fault {
+    place: usize,
+    reason: Reason,
+}
+
+/// How the game stood before a node.
+#[derive(Clone, Copy)]
+struct Mark {
+    // how many setups and turns the referee had accepted
+    depth: usize,
+
+    fault: Option<Fault>,
+}
+
+/// A game that was played along some nodes, the root first.
+/// Nodes after one that isn't allowed are passed over.
+#[derive(Drop)]
+pub(crate) struct Game {
+    referee: Referee<PrintPast>,
+
+    fault: Option<Fault>,
+
+    // one for each node
+    marks: Vec<Mark>,
+}
+
+impl Game {
+    /// A game before its root.
+    pub(crate) fn new(alloc: Global, size: Size) -> Result<Game, MemoryFault>
+        ensures { IfOk result (IsPlayed size []) }
+    {
+        match Referee::new(alloc, size) {
+            Ok(referee) => Ok(Game {
+                referee,
+                fault: None,
+                marks: Vec::new(alloc),
+            }),
+            Err(_) => Err(MemoryFault),
+        }
+    }
+
+    /// Plays one node more, and tells what it changed; None where it isn't allowed, or one before it wasn't.
+    /// After a refusal of memory the game must not be used again.
+    pub(crate) fn play(
+        &mut self,
+        alloc: Global,
+        collection: &Collection<'_>,
+        number: usize,
+    ) -> Result<Option<Change>, MemoryFault>
+        requires { number < node_count collection.now }
+        ensures { (side : ℕ) (nodes : List Node) (node : Node) → IsPlayed side nodes self.old
+            → node_at collection.now number ≡ Some node
+            → OnOk result (IsPlayed side (nodes ++ node ∷ []) self.new) }
+    {
+        let mark = Mark {
+            depth: self.referee.depth(),
+            fault: self.fault,
+        };
+        let Ok(()) = self.marks.push(mark) else {
+            return Err(MemoryFault);
+        };
+        let None = self.fault else {
+            return Ok(None);
+        };
+        match play_node(alloc, &mut self.referee, &collection.node(number)) {
+            Ok(change) => Ok(Some(change)),
+            Err(StepFault::Memory) => Err(MemoryFault),
+            Err(StepFault::Illegal(reason)) => {
+                self.fault = Some(Fault {
+                    place: collection.place(number),
+                    reason,
+                });
+                Ok(None)
+            }
+        }
+    }
+
+    /// Goes back to the first `kept` nodes.
+    pub(crate) fn cut_back(&mut self, kept: usize)
+        ensures { (side : ℕ) (nodes : List Node) → IsPlayed side nodes self.old
+            → kept ≤ length nodes → IsPlayed side (take kept nodes) self.new }
+    {
+        if kept < self.marks.len() {
+            let mark = self.marks[kept];
+            undo_to(&mut self.referee, mark.depth);
+            self.fault = mark.fault;
+            self.marks.truncate(kept);
+        }
+    }
+
+    /// The verdict of the line of these nodes.
+    pub(crate) fn verdict(&self) -> Verdict
+        ensures { (side : ℕ) (nodes : List Node) → IsPlayed side nodes self.now
+            → result ≡ verdict_at (walk side nodes) }
+    {
+        match self.fault {
+            Some(Fault { place, reason }) => Verdict::Illegal {
+                turn: self.referee.turns() + 1,
+                place,
+                reason,
+            },
+            None => score(&self.referee),
+        }
+    }
+}
+
+/// Takes setups and turns back until only the first `depth` are left.
+fn undo_to(referee: &mut Referee<PrintPast>, depth: usize)
+    ensures { referee.new ≡ back_to referee.old depth }
+{
+    'undo: while depth < referee.depth() {
+        referee.undo();
+    }
+}
