@@ -1,3 +1,3 @@
-pub mod Reading
 pub mod CommandLine
 pub mod PlainWords
+pub mod Ends

@@ -1,33 +1,30 @@
--- The status and the line on standard error of a run that does not write the whole answer.
-use Rattle.std.specs.Prelude.{◌≡◌, ℕ, length, Option, ◌++◌, List, codes, decimal, if◌then◌else◌, ◌==◌}
-use Rattle.sgf_lines.specs.Faults.{IsFaultyAt}
-use Rattle.sgfsplit.specs.Input.{IsWhole, HasMore}
-use Rattle.sgfsplit.specs.declared.fault.RunFault.{RunFault}
-use Rattle.sgfsplit.specs.declared.fault.RunFault.TheVariants.{Read, TooLong, NotSgf, Write, Memory}
+-- Why the program ends with another status than 0: the status, and the line on standard error.
+use Rattle.std.specs.Prelude.{ℕ, ◌++◌, ◌==◌, List, codes, decimal, if◌then◌else◌}
+use Rattle.sgf_lines.specs.declared.fault.RunFault.{RunFault}
+use Rattle.sgf_lines.specs.declared.fault.RunFault.TheVariants.{Read, TooLong, NotSgf, NoSuchLine, Write, Memory}
+use Rattle.sgfsplit.specs.declared.fault.Fault.{Fault}
+use Rattle.sgfsplit.specs.declared.fault.Fault.TheVariants.{Open, Run}
 
--- 1 for a fault of the input, 3 for a failed read or write, 4 for want of memory
-abbrev pub status_of : RunFault → ℕ
-status_of Read = 3
-status_of TooLong = 1
-status_of (NotSgf at len) = 1
-status_of Write = 3
-status_of Memory = 4
+-- 1 for a fault of the input, 3 for a file that isn't opened, read or written, 4 for want of memory
+abbrev pub status_of : Fault → ℕ
+status_of Open = 3
+status_of (Run Read) = 3
+status_of (Run TooLong) = 1
+status_of (Run (NotSgf at len)) = 1
+status_of (Run (NoSuchLine place)) = 1
+status_of (Run (Write lines)) = 3
+status_of (Run (Memory lines)) = 4
 
--- the line, without the program's name before it and the line feed behind it
-abbrev pub line_of : RunFault → List ℕ
-line_of Read = codes "read failed"
-line_of TooLong = codes "input is longer than 67108864 bytes"
-line_of (NotSgf at len) =
+abbrev pub message_of : Fault → List ℕ
+message_of Open = codes "open failed"
+message_of (Run Read) = codes "read failed"
+message_of (Run TooLong) = codes "input is longer than 67108864 bytes"
+message_of (Run (NotSgf at len)) =
     codes "byte " ++ decimal at ++ (if at == len then codes ": input ends too early" else codes ": not SGF")
-line_of Write = codes "write failed"
-line_of Memory = codes "out of memory"
+message_of (Run (NoSuchLine place)) = codes "no line ends at " ++ decimal place
+message_of (Run (Write lines)) = codes "write failed"
+message_of (Run (Memory lines)) = codes "out of memory"
 
--- What a fault says of the bytes that the reader had, where it tells these: that there were more than the limit, or
--- that they are no SGF from their first fault on.
-abbrev pub IsInputFault : Option (List ℕ) → RunFault → Type 0
-IsInputFault left Read = Unit {0}
-IsInputFault left TooLong = HasMore left 67108864
-IsInputFault left (NotSgf at len) =
-    (text : List ℕ) × IsWhole left text × IsFaultyAt text at × (len ≡ length text)
-IsInputFault left Write = Unit {0}
-IsInputFault left Memory = Unit {0}
+-- the line, with its line feed
+abbrev pub line_of : Fault → List ℕ
+line_of fault = codes "sgfsplit: " ++ message_of fault ++ codes "\n"

@@ -1,5 +1,5 @@
-pub mod Input
-pub mod Fault
 pub mod CommandLine
 pub mod PlainWords
+pub mod Fault
+pub mod Act
 pub mod inner

@@ -1,57 +1,70 @@
-//! How a run ends that does not write the whole answer: its status and its line on standard error.
+//! Why the program ends with another status than 0: the status, and the line on standard error.
 
-ghost use Rattle.std.specs.Prelude.{◌≡◌, Some};
-ghost use Rattle.sgfsplit.specs.Fault.{status_of, line_of};
+ghost use Rattle.std.specs.Prelude.{◌≡◌, ◌<◌, ◌≤◌, ◌+◌, ◌++◌, length};
 
-use std::fmt;
+use crate::line::Line;
+use sgf_lines::{RunFault, Sink};
 
-/// How a run ends that doesn't write the whole answer.
+/// Why the program ends with another status than 0.
 #[derive(Clone, Copy, Debug, PartialEq, Eq)]
-pub enum RunFault {
-    /// A read failed.
-    Read,
-    /// The input has more than 67,108,864 bytes.
-    TooLong,
-    /// The input is no collection; `at` is its first faulty byte, and equals the length where the input ends too early.
-    NotSgf { at: usize, len: usize },
-    /// A write or the flush failed.
-    Write,
-    /// A growth was refused.
-    Memory,
+pub enum Fault {
+    /// FILE can't be opened.
+    Open,
+    /// The run ended before it had done all that was asked.
+    Run(RunFault),
 }
 
-impl RunFault {
-    /// The exit status.
+impl Fault {
+    ghost use Rattle.sgfsplit.specs.Fault.{status_of, message_of, line_of};
+    ghost use Rattle.sgfsplit.specs.inner.Line.{number_text};
+    ghost use Rattle.sgfsplit.specs.inner.Line.{text_of};
+
+    /// The exit status: 1 for an input that is refused, 3 for a file that isn't opened, read or written, 4 for want of
+    /// memory.
     pub fn status(&self) -> u8
         ensures { result ≡ status_of self.now }
     {
         match self {
-            RunFault::TooLong => 1,
-            RunFault::NotSgf { .. } => 1,
-            RunFault::Read => 3,
-            RunFault::Write => 3,
-            RunFault::Memory => 4,
+            Fault::Open => 3,
+            Fault::Run(RunFault::Read) => 3,
+            Fault::Run(RunFault::Write { .. }) => 3,
+            Fault::Run(RunFault::Memory { .. }) => 4,
+            Fault::Run(RunFault::TooLong) => 1,
+            Fault::Run(RunFault::NotSgf { .. }) => 1,
+            Fault::Run(RunFault::NoSuchLine { .. }) => 1,
         }
     }
-}
 
-/// The line on standard error, without the program's name.
-impl fmt::Display for RunFault {
-    ghost output = { λ f. Some (line_of f) };
-
-    fn fmt<W: fmt::Write>(&self, f: &mut fmt::Formatter<W>) -> fmt::Result {
+    /// The message in three parts: words, a number or none, more words.
+    fn message(&self) -> (&'static str, Option<u64>, &'static str)
+        ensures text { result.0.now ++ (number_text result.1 ++ result.2.now) ≡ message_of self.now }
+        ensures short { length result.0.now + length result.2.now ≤ 40 }
+    {
         match self {
-            RunFault::Read => write!(f, "read failed"),
-            RunFault::TooLong => write!(f, "input is longer than 67108864 bytes"),
-            RunFault::NotSgf { at, len } => {
-                if at == len {
-                    write!(f, "byte {at}: input ends too early")
-                } else {
-                    write!(f, "byte {at}: not SGF")
-                }
+            Fault::Open => ("open failed", None, ""),
+            Fault::Run(RunFault::Read) => ("read failed", None, ""),
+            Fault::Run(RunFault::TooLong) => ("input is longer than 67108864 bytes", None, ""),
+            Fault::Run(RunFault::NotSgf { at, len }) if at == len => {
+                ("byte ", Some(*at as u64), ": input ends too early")
             }
-            RunFault::Write => write!(f, "write failed"),
-            RunFault::Memory => write!(f, "out of memory"),
+            Fault::Run(RunFault::NotSgf { at, .. }) => ("byte ", Some(*at as u64), ": not SGF"),
+            Fault::Run(RunFault::NoSuchLine { place }) => ("no line ends at ", Some(*place), ""),
+            Fault::Run(RunFault::Write { .. }) => ("write failed", None, ""),
+            Fault::Run(RunFault::Memory { .. }) => ("out of memory", None, ""),
         }
+    }
+
+    /// The line on standard error, with its line feed.
+    pub(crate) fn line(&self) -> Line
+        ensures { text_of result ≡ line_of self.now }
+    {
+        let (before, number, after) = self.message();
+        let mut line = Line::new();
+        line.push("sgfsplit: ");
+        line.push(before);
+        line.push_number(number);
+        line.push(after);
+        line.push("\n");
+        line
     }
 }

@@ -17,6 +17,25 @@ pub enum Job {
     },
 }
 
+impl Job {
+    ghost use Rattle.std.specs.Prelude.{◌≡◌, option_map, string_bytes};
+    ghost use Rattle.sgfsplit.specs.Act.{file_named};
+
+    /// The name of the file; none for standard input.
+    pub fn file(&self) -> Option<&str>
+        ensures { option_map (λ name. name.now) result ≡ option_map string_bytes (file_named self.now) }
+    {
+        let file = match self {
+            Job::Split { file, .. } => file,
+            Job::Count { file } => file,
+        };
+        match file {
+            Some(name) => Some(name.as_str()),
+            None => None,
+        }
+    }
+}
+
 /// Why there is no job.
 #[derive(Debug, Drop)]
 pub enum JobFault {

@@ -1,0 +1,36 @@
+-- What a put says of the line that is put, and the answers of counting of failures.
+use Rattle.std.proofs.Common.{◌≡◌, ◌∙◌, ℕ, ◌-◌, ◌≤◌, List, ◌++◌, length, take, drop, Result, Ok, Err, Option, Some, refl, sym, ap, arith, append_assoc, length-drop}
+use Rattle.std.proofs.Math.Seq.{take-length}
+use Rattle.std.proofs.lemmas.List.{take-append-drop}
+use Rattle.std.specs.Result.{result_err}
+use Rattle.sgf_lines.specs.Counts.{AnswersCount, AnswersRow}
+use Rattle.sgf_lines.specs.declared.fault.RunFault.{RunFault}
+use Rattle.sgf_lines.specs.declared.fault.RunFault.TheVariants.{Read, TooLong, NotSgf, NoSuchLine, Write, Memory}
+use Rattle.sgfsplit.specs.Act.{reads_failed, writes_failed}
+
+-- one more part was put
+pub part_put : (line front rest : List ℕ) (n : ℕ) → line ≡ front ++ rest → n ≤ length rest
+    → line ≡ (front ++ take n rest) ++ take (length rest - n) (drop n rest)
+part_put line front rest n parts within =
+    let left : length rest - n ≡ length (drop n rest) = omega (arith, length-drop n rest) in
+    let whole : take (length rest - n) (drop n rest) ≡ drop n rest = rw left (take-length (drop n rest)) in
+    parts ∙ (ap (λ r. front ++ r) (sym (take-append-drop n rest)) ∙ (sym (append_assoc front (take n rest) (drop n rest)) ∙ ap (λ r. (front ++ take n rest) ++ r) (sym whole)))
+
+-- the writing of a row reads nothing
+pub row_reads_nothing : (row taken : List ℕ) (r : Result (Unit {0}) RunFault) → AnswersRow row taken r → reads_failed (result_err r) ≡ 0
+row_reads_nothing row taken (Ok x) h = refl
+row_reads_nothing row taken (Err Read) h = absurd h
+row_reads_nothing row taken (Err TooLong) h = refl
+row_reads_nothing row taken (Err (NotSgf at len)) h = refl
+row_reads_nothing row taken (Err (NoSuchLine place)) h = refl
+row_reads_nothing row taken (Err (Write lines)) h = refl
+row_reads_nothing row taken (Err (Memory lines)) h = refl
+
+-- counting writes nothing
+pub count_writes_nothing : (given : List ℕ) (to_come : Option (List ℕ)) (fault : RunFault) → AnswersCount given to_come (Err fault) → writes_failed (Some fault) ≡ 0
+count_writes_nothing given to_come Read h = refl
+count_writes_nothing given to_come TooLong h = refl
+count_writes_nothing given to_come (NotSgf at len) h = refl
+count_writes_nothing given to_come (NoSuchLine place) h = refl
+count_writes_nothing given to_come (Write lines) h = absurd h
+count_writes_nothing given to_come (Memory lines) h = refl

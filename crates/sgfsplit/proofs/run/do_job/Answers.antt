@@ -1,0 +1,23 @@
+use Rattle.std.proofs.Common.{◌+◌, ◌∙◌, ap, sym, subst, refl, arith, Ok}
+use Rattle.std.specs.Result.{result_err}
+use Rattle.sgfsplit.specs.Act.{DoesJob}
+use Rattle.sgfsplit.specs.declared.request.Job.{Job}
+use Rattle.sgfsplit.proofs.Ends.{count_writes_nothing, row_reads_nothing}
+use Rattle.sgfsplit.proofs.run.do_job.Goals as goal
+
+pub returns-in-Ok-count-clause-does : goal.returns-in-Ok-count-clause-does
+returns-in-Ok-count-clause-does g c =
+    subst (λ (j : Job). DoesJob j (g.S.Source.state c.args.source.now) (g.S.Source.state c.count.new.source) (g.T.Sink.state c.args.output.now)
+    (g.T.Sink.state c.write_counts.new.sink) (result_err c.write_counts.result)) (sym c.in-Count.is)
+    (Ok c.in-Ok-count.counts, c.in-Ok-count.ensures.answer, (c.write_counts.result, c.write_counts.ensures.answer, refl))
+
+pub returns-in-Ok-count-clause-reads : goal.returns-in-Ok-count-clause-reads
+returns-in-Ok-count-clause-reads g c =
+    let written = c.write_counts.ensures.answer in
+    c.in-Ok-count.ensures.failures ∙ ap (λ n. (g.S.Source.state c.args.source.now).failures + n) (sym (row_reads_nothing _ written.taken c.write_counts.result written.answers))
+
+pub returns-in-Err-count-clause-writes : goal.returns-in-Err-count-clause-writes
+returns-in-Err-count-clause-writes g c =
+    let counted = c.in-Err-count.ensures.answer in
+    let none = count_writes_nothing counted.given (g.S.Source.state c.count.new.source).to_come c.in-Err-count.fault counted.answers in
+    omega (arith, none)

@@ -1,0 +1,80 @@
+-- What the doing of a job comes to: the bytes read and written, the status, and the line on standard error.
+use Rattle.std.specs.Prelude.{◌≡◌, ◌⊎◌, ℕ, ◌+◌, List, [], ◌++◌, Option, Some, None, Result, Ok, Err, String}
+use Rattle.std.specs.declared.alloc.Global.{Global}
+use Rattle.std.specs.Option.{option_map_or}
+use Rattle.std.specs.Result.{result_err}
+use Rattle.std.specs.Io.KnownBytes.{Appends}
+use Rattle.sgf_lines.specs.Ends.{SinkState, SourceState, Takes, TakesNothing}
+use Rattle.sgf_lines.specs.Answer.{IsRun}
+use Rattle.sgf_lines.specs.Counts.{IsCount, IsRow, counts_row}
+use Rattle.sgf_lines.specs.declared.counting.Counts.{Counts}
+use Rattle.sgf_lines.specs.declared.fault.RunFault.{RunFault}
+use Rattle.sgf_lines.specs.declared.fault.RunFault.TheVariants.{Read, Write, Memory}
+use Rattle.sgfsplit.specs.Fault.{line_of, status_of}
+use Rattle.sgfsplit.specs.declared.fault.Fault.{Fault}
+use Rattle.sgfsplit.specs.declared.fault.Fault.TheVariants.{Run}
+use Rattle.sgfsplit.specs.declared.request.Job.{Job}
+use Rattle.sgfsplit.specs.declared.request.Job.TheVariants.{Split, Count}
+
+-- the counts are written where the counting gave them
+abbrev pub WritesCounts : Result Counts RunFault → SinkState → SinkState → Option RunFault → Type 0
+WritesCounts (Ok counts) output new_output fault =
+    (written : Result (Unit {0}) RunFault) × IsRow (counts_row counts) output new_output written × (fault ≡ result_err written)
+WritesCounts (Err met) output new_output fault = (new_output ≡ output) × (fault ≡ Some met)
+
+-- A job was done over a source and a sink, whole or up to a fault: a split has the answer of a run, by its options, and a
+-- count that of a count.
+abbrev pub DoesJob : Job → SourceState → SourceState → SinkState → SinkState → Option RunFault → Type 0
+DoesJob (Split options file) source new_source output new_output fault =
+    (result : Result ℕ RunFault) × IsRun options source new_source output new_output result × (fault ≡ result_err result)
+DoesJob (Count file) source new_source output new_output fault =
+    (counted : Result Counts RunFault) × IsCount source new_source counted × WritesCounts counted output new_output fault
+
+-- how often the source failed, and the sink, before this fault
+abbrev pub reads_failed : Option RunFault → ℕ
+reads_failed (Some Read) = 1
+reads_failed _ = 0
+
+abbrev pub writes_failed : Option RunFault → ℕ
+writes_failed (Some (Write lines)) = 1
+writes_failed _ = 0
+
+-- a sink was flushed, whatever that answered
+abbrev pub FlushesAnyway : SinkState → SinkState → Type 0
+FlushesAnyway old new = Takes old new [] ⊎ TakesNothing old new
+
+-- after want of memory the sink is flushed; else nothing more is done with it
+abbrev pub FlushesAfter : Option RunFault → SinkState → SinkState → Type 0
+FlushesAfter (Some (Memory lines)) old new = FlushesAnyway old new
+FlushesAfter _ old new = new ≡ old
+
+-- a sink took the line, or a front of it where it failed
+pub record TakesLine (line : List ℕ) (old new : SinkState) : Type 0 where
+  pub taken : List ℕ
+  pub takes : Appends old.taken new.taken taken
+  pub whole_or_front : ((taken ≡ line) × (new.failures ≡ old.failures))
+      ⊎ ((rest : List ℕ) × (line ≡ taken ++ rest) × (new.failures ≡ old.failures + 1))
+
+-- how a fault is told: by its status, and its line on the sink for faults
+pub record Tells (fault : Fault) (old new : SinkState) (status : ℕ) : Type 0 where
+  pub status_is : status ≡ status_of fault
+  pub line : TakesLine (line_of fault) old new
+
+-- how a run's end is told: with no fault by status 0 and no line
+abbrev pub TellsEnd : Option RunFault → SinkState → SinkState → ℕ → Type 0
+TellsEnd None old new status = (status ≡ 0) × (new ≡ old)
+TellsEnd (Some fault) old new status = Tells (Run fault) old new status
+
+pub record IsAct (job : Job) (source new_source : SourceState) (output new_output faults new_faults : SinkState) (status : ℕ) : Type 0 where
+  pub fault : Option RunFault
+  pub written : SinkState
+  pub does : DoesJob job source new_source output written fault
+  pub reads : new_source.failures ≡ source.failures + reads_failed fault
+  pub writes : written.failures ≡ output.failures + writes_failed fault
+  pub flushes : FlushesAfter fault written new_output
+  pub tells : TellsEnd fault faults new_faults status
+
+-- the file that a job names
+abbrev pub file_named : Job → Option (String Global)
+file_named (Split options file) = file
+file_named (Count file) = file

@@ -1,0 +1,98 @@
+#!/usr/bin/env bash
+# Refuses each request of the built program in turn: each growth of memory, each read, each write; then it runs the program
+# under a limit on memory, in steps. A run then gives its whole answer, or ends with the status and the line of what was
+# refused, after whole records only. The last line is `N passed, N failed, N skipped`.
+. "$(dirname "$0")/lib.sh"
+needs cc
+set +e
+cc -shared -fPIC -O1 -o refuse.so "$top/tests/refuse.c" -ldl 2> cc.txt || skipped 'the C compiler makes no shared library'
+passed=0 failed=0
+
+check() {
+    if [ "$2" = "$3" ]; then
+        passed=$((passed + 1))
+    else
+        failed=$((failed + 1))
+        printf 'FAILED: %s\n  wanted: %s\n  got:    %s\n' "$1" "$2" "$3"
+    fi
+}
+
+# What is wrong with the files out and err after a run with this status, where NAME is the whole answer's files and a
+# refusal may end the run with STATUS and LINE: nothing, if the whole answer came, or the refusal after whole records.
+wrong() {
+    local name=$1 status=$2 line=$3 got=$4 end=$5
+    if [ "$got" = "$(cat "$name.status")" ] && cmp -s out "$name.out" && cmp -s err "$name.err"; then
+        return
+    fi
+    [ "$got" = "$status" ] || { echo "status $got"; return; }
+    [ "$(cat err)" = "sgfsplit: $line" ] || { echo "line $(cat err)"; return; }
+    head -c "$(stat -c %s out)" "$name.out" | cmp -s - out || { echo 'no front of the answer'; return; }
+    [ ! -s out ] || [ "$(tail -c "${#end}" out; printf .)" = "$end." ] || [ "$status" = 3 ] || echo 'a record is cut'
+}
+
+# each NAME VARIABLE STATUS LINE END WORDS..: the whole answer first, then each request refused, until a run meets no refusal.
+# The files of a run without refusals are NAME.out, NAME.err and NAME.status.
+each() {
+    local name=$1 variable=$2 status=$3 line=$4 end=$5 number=0 problem problems=''
+    shift 5
+    "$SGFSPLIT" "$@" < input.sgf > "$name.out" 2> "$name.err"
+    echo $? > "$name.status"
+    while :; do
+        number=$((number + 1))
+        rm -f mark
+        env LD_PRELOAD="$PWD/refuse.so" REFUSE_MARK=mark "$variable=$number" "$SGFSPLIT" "$@" < input.sgf > out 2> err
+        problem=$(wrong "$name" "$status" "$line" $? "$end")
+        [ -z "$problem" ] || problems+="$number: $problem; "
+        [ -e mark ] && [ "$number" -lt 3000 ] || break
+    done
+    check "$name, $variable 1 to $number" '' "$problems"
+    check "$name, $variable: some were refused" 1 "$([ "$number" -gt 1 ] && echo 1)"
+}
+
+nl=$'\n'
+memory='out of memory'
+printf '(;SZ[5]AB[ab][ba]AW[cc]C[one\ntwo];W[](;B[ee](;W[ed])(;W[de]))(;B[dd]C[%0400d]))(;GM[2])(;SZ[3];B[aa];W[aa])' 7 > input.sgf
+for form in list sgf; do
+    each "$form" REFUSE_MEMORY 4 "$memory" "$nl" split --form "$form" input.sgf
+    each "$form" REFUSE_READ 3 'read failed' '' split --form "$form"
+    each "$form" REFUSE_WRITE 3 'write failed' '' split --form "$form"
+done
+each gtp REFUSE_MEMORY 4 "$memory" "$nl$nl" split --form gtp
+each page REFUSE_MEMORY 4 "$memory" "$nl" split --after 42 --limit 2
+each count REFUSE_MEMORY 4 "$memory" "$nl" count
+each count REFUSE_WRITE 3 'write failed' '' count
+cp input.sgf good.sgf
+printf ')' >> input.sgf
+each faulty REFUSE_MEMORY 4 "$memory" '' split
+each faulty REFUSE_READ 3 'read failed' '' split
+cp good.sgf input.sgf
+
+# Short writes change nothing.
+SHORT_WRITES=1 LD_PRELOAD="$PWD/refuse.so" "$SGFSPLIT" split input.sgf > out 2> err
+check 'short writes: status' 0 $?
+check 'short writes: output' '' "$(cmp out list.out 2>&1)"
+
+# Under a limit on memory, in steps of 256 KiB and then wider: the answer, or want of memory after whole records.
+{
+    printf '(;SZ[19]'
+    for at in $(seq 3000); do printf '(;B[%c%c];W[ss]C[%d])' "$(printf "\\$(printf %o $((97 + at % 18)))")" c "$at"; done
+    printf ')'
+} > input.sgf
+"$SGFSPLIT" split --form gtp input.sgf > large.out 2> large.err
+echo $? > large.status
+limits=0 problems=''
+for limit in $(seq 2048 256 8192) $(seq 9216 1024 32768); do
+    (ulimit -v "$limit" && exec "$SGFSPLIT" split --form gtp input.sgf) > out 2> err
+    status=$?
+    # The program isn't started where the loader finds no memory for its libraries.
+    if [ "$status" = 127 ] || grep -q 'error while loading' err || { [ "$status" -ge 128 ] && [ ! -s out ] && [ "$limit" -lt 4096 ]; }; then
+        continue
+    fi
+    limits=$((limits + 1))
+    problem=$(wrong large 4 "$memory" "$status" "$nl$nl")
+    [ -z "$problem" ] || problems+="$limit KiB: $problem; "
+done
+check "$limits limits on memory" '' "$problems"
+
+echo "$passed passed, $failed failed, 0 skipped"
+[ "$failed" = 0 ]
