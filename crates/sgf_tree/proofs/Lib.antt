@@ -40,3 +40,4 @@ pub mod NodesSpelled
 pub mod NodeTexts
 pub mod Walks
 pub mod Taking
+pub mod WrittenParts

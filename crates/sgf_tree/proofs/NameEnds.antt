@@ -15,7 +15,7 @@ use Rattle.sgf_tree.proofs.Spans.{run-white, run-letters}
 use Rattle.sgf_tree.proofs.ValueEnds.{span-join, ends-faulty, refused-faulty}
 
 -- one byte
-span-one : (t : List ℕ) (at : ℕ) → at < length t → slice_range t at (at + 1) ≡ get_or t at 0 ∷ []
+pub span-one : (t : List ℕ) (at : ℕ) → at < length t → slice_range t at (at + 1) ≡ get_or t at 0 ∷ []
 span-one t at lt =
     let e : at + 1 - at ≡ 0 + 1 = omega arith in
     let f : at + 0 ≡ at = omega arith in

@@ -33,7 +33,7 @@ module _ (test : ℕ → Bool) where
       (rw here (ap (λ u. b ∷ u) rest.0), rw here rest.1)
 
   -- a run further on
-  run-drop : (s : List ℕ) (k e : ℕ) → IsRun test s k e → IsRun test (drop k s) 0 (e - k)
+  pub run-drop : (s : List ℕ) (k e : ℕ) → IsRun test s k e → IsRun test (drop k s) 0 (e - k)
   run-drop s k e run =
       let rises : k ≤ e = run.rises in
       let long : length (drop k s) ≡ length s - k = length-drop k s in
@@ -48,17 +48,17 @@ module _ (test : ℕ → Bool) where
       }
 
 -- the byte at an offset, and what is after it
-byte-at : (s : List ℕ) (k : ℕ) → k < length s → drop k s ≡ get_or s k 0 ∷ drop (k + 1) s
+pub byte-at : (s : List ℕ) (k : ℕ) → k < length s → drop k s ≡ get_or s k 0 ∷ drop (k + 1) s
 byte-at s k lt = rw (add-one, drop-cons s k 0)
 
 module _ (s : List ℕ) (k : ℕ) (run : IsRun is_white s 0 k) where
   white-run : White s (drop k s)
   white-run = subst (White s) (run-front is_white s k run).1 (white-left s)
 
-  white-to : k < length s → White s (get_or s k 0 ∷ drop (k + 1) s)
+  pub white-to : k < length s → White s (get_or s k 0 ∷ drop (k + 1) s)
   white-to lt = subst (White s) (byte-at s k lt) white-run
 
-  white-all : length s ≤ k → White s []
+  pub white-all : length s ≤ k → White s []
   white-all le = subst (White s) (drop_all k s le) white-run
 
   -- no `[` there

@@ -1,11 +1,12 @@
 //! Steps forward over the properties of a node, and over the values of a property.
 //! All steps over a node together cost what its text costs, however many properties and values it has.
 
-ghost use Rattle.std.specs.Prelude.{◌≡◌, [], ◌∷◌, MatchOption};
-ghost use Rattle.sgf_tree.specs.inner.NodeText.{AreValuesIn, IsPastValues, IsNoPropValue, IsFirstValue};
+ghost use Rattle.std.specs.Prelude.{◌≡◌, ◌≤◌, [], ◌∷◌, length, IfSome, MatchOption};
+ghost use Rattle.sgf_tree.specs.Written.{IsWrittenFront};
+ghost use Rattle.sgf_tree.specs.inner.NodeText.{AreValuesIn, AreValuesWritten, IsPropertyWritten, IsPastValues, IsNoPropValue, IsFirstValue};
 
 use crate::property::PropRef;
-use crate::reader::scan::{letters_end, part, rest_from, skip_white, value_end};
+use crate::reader::scan::{capitals_end, letters_end, part, rest_from, skip_white, value_end};
 use std::marker::Model;
 
 /// The properties of a node that are left, in file order.
@@ -50,6 +51,55 @@ impl<'a> Properties<'a> {
             values,
         })
     }
+
+    /// Takes off the properties in front that stand as the sgf form writes them, with no white space and no small letter
+    /// between their parts, and answers their text. It is empty where the first one doesn't.
+    pub fn written(&mut self) -> &'a [u8]
+        ensures { IsWrittenFront self.old self.new result.now }
+    {
+        let text = self.rest;
+        let mut end = 0;
+        'properties: while let Some(next) = written_end(text, end) {
+            end = next;
+        }
+        self.rest = rest_from(text, end);
+        part(text, 0, end)
+    }
+}
+
+/// The end of the values at `at`, as far as they stand as the sgf form writes them, with nothing between them.
+fn written_values_end(text: &[u8], at: usize) -> Option<usize>
+    requires { at ≤ length text.now }
+    ensures { IfSome result (AreValuesWritten text.now at) }
+{
+    let mut end = at;
+    'values: while end < text.len() && text[end] == b'[' {
+        let Some(close) = value_end(text, end + 1) else {
+            return None;
+        };
+        end = close + 1;
+    }
+    Some(end)
+}
+
+/// The end of the property at `at`.
+/// None where none is there, or one that doesn't stand as the sgf form writes it.
+fn written_end(text: &[u8], at: usize) -> Option<usize>
+    requires { at ≤ length text.now }
+    ensures { IfSome result (IsPropertyWritten text.now at) }
+{
+    let name_end = capitals_end(text, at);
+    let Some(end) = written_values_end(text, name_end) else {
+        return None;
+    };
+    if name_end == at || end == name_end {
+        return None;
+    }
+    let next = skip_white(text, end);
+    if next < text.len() && text[next] == b'[' {
+        return None;
+    }
+    Some(end)
 }
 
 /// The raw values of a property that are left, in file order.

@@ -1,9 +1,11 @@
 -- The properties and the raw values that stand at the front of a text, as functions, so that they may be what is seen of a
 -- part of the text. `ArePropertiesIn` and `AreValuesIn` tie them to the grammar.
-use Rattle.std.specs.Prelude.{◌≡◌, ◌≢◌, ℕ, zero, suc, Bool, false, ◌||◌, ◌==◌, if◌then◌else◌, List, [], ◌∷◌, length, filter}
+use Rattle.std.specs.Prelude.{◌≡◌, ◌≢◌, ℕ, zero, suc, ◌<◌, ◌≤◌, Bool, false, ◌||◌, ◌==◌, if◌then◌else◌, List, [], ◌∷◌, length, drop, slice_range, filter}
+use Rattle.std.specs.List.{flat_map}
 use Rattle.sgf_tree.specs.Bytes.{open_bracket, backslash, close_bracket}
 use Rattle.sgf_tree.specs.Tree.{Property}
-use Rattle.sgf_tree.specs.Spelling.{White, is_white, is_upper, is_lower, IsPropValue, ArePropValues, AreProperties}
+use Rattle.sgf_tree.specs.Spelling.{White, is_white, is_upper, is_lower, IsPropValue, ArePropValues, IsProperty, AreProperties}
+use Rattle.sgf_tree.specs.Written.{value_text, property_text}
 
 -- a letter of an identifier
 abbrev pub is_letter : ℕ → Bool
@@ -127,3 +129,20 @@ pub record IsPropertyHeld (s : List ℕ) : Type 0 where
   pub rest : List ℕ
   pub spelled : ArePropValues (first ∷ more) s rest
   pub ends : EndsValues rest
+
+-- values stand from one offset to another as the sgf form writes them
+pub record AreValuesWritten (t : List ℕ) (from end : ℕ) : Type 0 where
+  pub rises : from ≤ end
+  pub within : end ≤ length t
+  pub values : List (List ℕ)
+  pub spelled : ArePropValues values (drop from t) (drop end t)
+  pub text : slice_range t from end ≡ flat_map value_text values
+
+-- and so does a whole property
+pub record IsPropertyWritten (t : List ℕ) (at end : ℕ) : Type 0 where
+  pub rises : at < end
+  pub within : end ≤ length t
+  pub property : Property
+  pub spelled : IsProperty property (drop at t) (drop end t)
+  pub ends : EndsValues (drop end t)
+  pub text : slice_range t at end ≡ property_text property

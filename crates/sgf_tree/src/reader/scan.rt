@@ -1,7 +1,7 @@
 //! Where spans of a text end.
 
 ghost use Rattle.std.specs.Prelude.{◌≡◌, ◌≤◌, length, drop, slice_range, IsTrue, MatchOption};
-ghost use Rattle.sgf_tree.specs.Spelling.{is_white};
+ghost use Rattle.sgf_tree.specs.Spelling.{is_white, is_upper};
 ghost use Rattle.sgf_tree.specs.inner.NodeText.{is_letter};
 ghost use Rattle.sgf_tree.specs.inner.Progress.{IsRun, IsValueEnd, IsUnended, SpellsValue, SpellsNoValue, SpellsPair, is_plain};
 
@@ -53,6 +53,18 @@ pub(crate) fn letters_end(text: &[u8], at: usize) -> usize
 {
     let mut end = at;
     'letters: while end < text.len() && text[end].is_ascii_alphabetic() {
+        end += 1;
+    }
+    end
+}
+
+/// The end of the capitals that stand at `at`.
+pub(crate) fn capitals_end(text: &[u8], at: usize) -> usize
+    requires { at ≤ length text.now }
+    ensures { IsRun is_upper text.now at result }
+{
+    let mut end = at;
+    'capitals: while end < text.len() && text[end].is_ascii_uppercase() {
         end += 1;
     }
     end

@@ -205,3 +205,22 @@ fn steps_forward(rt: HostRuntime) -> Result<(), Fail> {
     assert_eq!(rt; seen.as_slice(), b"AB aa bb;C x\\]y;;.".as_slice());
     Ok(())
 }
+
+#[test]
+fn takes_off_what_is_written(rt: HostRuntime) -> Result<(), Fail> {
+    for (text, want) in [
+        (
+            b"(;B[aa]C[x\\]][y] W[bb])".as_slice(),
+            b"B[aa]C[x\\]][y]".as_slice(),
+        ),
+        (b"(;B[aa]AB[a] [b])".as_slice(), b"B[aa]".as_slice()),
+        (b"(;GaMe[1]B[aa])".as_slice(), b"".as_slice()),
+        (b"(; B[aa])".as_slice(), b"".as_slice()),
+        (b"(;)".as_slice(), b"".as_slice()),
+    ] {
+        let c = read(rt.alloc(), text)?;
+        assert_eq!(rt; c.nodes(), 1);
+        assert_eq!(rt; c.node(0).walk().written(), want, "of {text:?}");
+    }
+    Ok(())
+}

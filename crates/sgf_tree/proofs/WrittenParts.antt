@@ -1,0 +1,172 @@
+-- Parts of a text that stand as the sgf form writes them.
+use Rattle.std.proofs.Common.{◌≡◌, ◌≢◌, ℕ, zero, suc, ◌+◌, ◌-◌, ◌<◌, ◌≤◌, true, IsTrue, List, [], ◌∷◌, ◌++◌, length, get_or, take, drop, slice_range, refl, sym, ap, subst, ◌∙◌, inl, inr, arith, append_assoc, append-nil, get_or-drop, length-drop, length-take}
+use Rattle.std.proofs.lemmas.Bool.{cases_lt, false≢true}
+use Rattle.std.proofs.lemmas.Grind.{flat_map-append}
+use Rattle.std.proofs.lemmas.List.{drop-drop}
+use Rattle.std.specs.List.{flat_map}
+use Rattle.sgf_tree.specs.Tree.{Property}
+use Rattle.sgf_tree.specs.RawValue.{IsValue}
+use Rattle.sgf_tree.specs.Spelling.{is_white, is_upper, White, no_white, Letters, no_letter, upper, IsPropValue, prop_value, ArePropValues, no_value, value, IsProperty, property, AreProperties, no_property, properties}
+use Rattle.sgf_tree.specs.Written.{value_text, property_text, IsWrittenFront}
+use Rattle.sgf_tree.specs.inner.NodeText.{is_letter, left_after, front, values_in, property_from, name_in, after_values_up_to, properties_in, EndsValues, EndsNode, ArePropertiesIn, AreValuesWritten, IsPropertyWritten}
+use Rattle.sgf_tree.specs.inner.Progress.{IsRun, SpellsValue}
+use Rattle.sgf_tree.proofs.Classes.{upper-not_white}
+use Rattle.sgf_tree.proofs.NameEnds.{span-one}
+use Rattle.sgf_tree.proofs.NodesSpelled.{white-byte}
+use Rattle.sgf_tree.proofs.NodeTexts.{white-same, white-none, ends-values, property-is, properties-in}
+use Rattle.sgf_tree.proofs.ValueEnds.{span-join}
+use Rattle.sgf_tree.proofs.Walks.{white-to, white-all, byte-at, run-drop, values-more}
+
+-- capitals are letters of a name
+capitals : (n : ℕ) (s : List ℕ) → n ≤ length s → ((i : ℕ) → i < n → IsTrue (is_upper (get_or s i 0))) → Letters (take n s) s (drop n s)
+capitals zero s le h = no_letter
+capitals (suc n) [] le h = absurd (omega arith)
+capitals (suc n) (b ∷ s) le h = upper (h 0 (omega arith)) (capitals n s (omega arith) (λ i lt. h (suc i) (omega arith)))
+
+-- no value follows a run of white space before another byte
+ends-run : (s : List ℕ) (k : ℕ) → IsRun is_white s 0 k → (k < length s → get_or s k 0 ≢ 91) → EndsValues s
+ends-run s k run other b u w e =
+    elim (cases_lt k (length s)) [
+      | inl lt ↦
+          elim (white-byte (white-to s k run lt) w (run.stops lt)) [
+            | inl white ↦ false≢true (subst (λ c. is_white c ≡ true) e white)
+            | inr same ↦ other lt (sym same ∙ e)
+          ]
+      | inr le ↦ nothing (white-all s k run le) (subst (λ c. White s (c ∷ u)) e w)
+    ]
+  where
+    nothing : {r x : List ℕ} → White r [] → ¬ White r (91 ∷ x)
+    nothing v z = white-none v z refl
+
+-- the first property has one form
+head-same : {p q : Property} {qs : List Property} {s r m : List ℕ} → IsProperty p s r → EndsValues r → AreProperties (q ∷ qs) s m → EndsNode m
+    → (q ≡ p) × AreProperties qs r m
+head-same {qs = qs} {m = m} (property {b} {name} {v} {t = t} {u} {r = r} {vs = vs} w h l first more) ends (properties (property {b = c} {name = other} {v = x} {t = k} {u = z} {r = j} {vs = xs} w2 h2 l2 first2 more2) are) done =
+    let same = white-same w w2 (upper-not_white b h) (upper-not_white c h2) in
+    let e : b ∷ t ≡ c ∷ k = ap (λ a. a ∷ t) same.0 ∙ ap (λ a. c ∷ a) same.1 in
+    let i = property-is {b = b} h l first more ends in
+    let o = property-is {b = c} h2 l2 first2 more2 (ends-values are done) in
+    let at : u ≡ z = sym i.0 ∙ ap (left_after is_letter) e ∙ o.0 in
+    let names : c ∷ other ≡ b ∷ name = sym o.1 ∙ ap (λ a. name_in (front is_letter a)) (sym e) ∙ i.1 in
+    let all : x ∷ xs ≡ v ∷ vs = sym o.2 ∙ ap values_in (sym at) ∙ i.2 in
+    let left : j ≡ r = sym o.3 ∙ ap (λ a. after_values_up_to (length a) z) (sym same.1) ∙ ap (after_values_up_to (length t)) (sym at) ∙ i.3 in (
+      ap (λ n. property_from n (x ∷ xs)) names ∙ ap (property_from (b ∷ name)) all,
+      subst (λ a. AreProperties qs a m) left are,
+    )
+
+-- a node doesn't end before a property
+upper-first : {p : Property} {s r : List ℕ} → IsProperty p s r → ¬ EndsNode s
+upper-first (property {b} {t = t} w h l first more) done = false≢true (sym (done b t w).1 ∙ h)
+
+left-after : {p : Property} {s r : List ℕ} → ArePropertiesIn s → IsProperty p s r → EndsValues r → (properties_in s ≡ p ∷ properties_in r) × ArePropertiesIn r
+left-after {p} {s} {r} held is ends = after held.properties held.rest held.spelled held.ends
+  where
+    after : (ps : List Property) (m : List ℕ) → AreProperties ps s m → EndsNode m → (properties_in s ≡ p ∷ properties_in r) × ArePropertiesIn r
+    after [] m no_property done = absurd (upper-first is done)
+    after (q ∷ qs) m are done =
+        let both = head-same is ends are done in (
+          properties-in are done ∙ ap (λ x. x ∷ qs) both.0 ∙ ap (λ xs. p ∷ xs) (sym (properties-in both.1 done)),
+          record { properties = qs; rest = m; spelled = both.1; ends = done },
+        )
+
+module _ (t : List ℕ) where
+  pub values-none : (from : ℕ) → from ≤ length t → AreValuesWritten t from from
+  values-none from le =
+      let e : from - from ≡ 0 = omega arith in
+      record { rises = omega arith; within = le; values = []; spelled = no_value; text = rw e }
+
+  -- one more value
+  pub values-one : (from at close : ℕ) → AreValuesWritten t from at → at < length t → get_or t at 0 ≡ 91 → at + 1 ≤ close → close < length t → get_or t close 0 ≡ 93 → SpellsValue t (at + 1) close
+      → AreValuesWritten t from (close + 1)
+  values-one from at close before lt e rises inside f spelled =
+      let v : List ℕ = slice_range t (at + 1) close in
+      let open_at : drop at t ≡ 91 ∷ drop (at + 1) t = byte-at t at lt ∙ ap (λ b. b ∷ drop (at + 1) t) e in
+      let close_at : drop close t ≡ 93 ∷ drop (close + 1) t = byte-at t close inside ∙ ap (λ b. b ∷ drop (close + 1) t) f in
+      let one : IsPropValue v (drop at t) (drop (close + 1) t) =
+      prop_value (subst (λ s. White s (91 ∷ drop (at + 1) t)) (sym open_at) no_white) (subst (IsValue v (drop (at + 1) t)) close_at spelled) in
+      let first : slice_range t at (at + 1) ≡ 91 ∷ [] = span-one t at lt ∙ ap (λ b. b ∷ []) e in
+      let last : slice_range t close (close + 1) ≡ 93 ∷ [] = span-one t close inside ∙ ap (λ b. b ∷ []) f in
+      let whole : slice_range t at (close + 1) ≡ value_text v =
+      sym (span-join t at close (close + 1) (omega arith) (omega arith))
+      ∙ ap (λ s. s ++ slice_range t close (close + 1)) (sym (span-join t at (at + 1) close (omega arith) rises) ∙ ap (λ s. s ++ v) first)
+      ∙ ap (λ s. (91 ∷ [] ++ v) ++ s) last in
+      record {
+        rises = omega (arith, before.rises);
+        within = omega arith;
+        values = before.values ++ v ∷ [];
+        spelled = values-more before.spelled one;
+        text =
+            sym (span-join t from at (close + 1) before.rises (omega arith)) ∙ ap (λ s. s ++ slice_range t at (close + 1)) before.text
+            ∙ ap (λ s. flat_map value_text before.values ++ s) (whole ∙ sym (append-nil (value_text v)))
+            ∙ sym (flat_map-append value_text before.values (v ∷ []));
+      }
+
+  pub property-one : (at name_end end next : ℕ) → IsRun is_upper t at name_end → AreValuesWritten t name_end end → name_end ≢ at → end ≢ name_end
+      → IsRun is_white t end next → (next < length t → get_or t next 0 ≢ 91) → IsPropertyWritten t at end
+  property-one at name_end end next run written named some white other =
+      whole written.values written.spelled written.text
+    where
+      whole : (vs : List (List ℕ)) → ArePropValues vs (drop name_end t) (drop end t) → slice_range t name_end end ≡ flat_map value_text vs → IsPropertyWritten t at end
+      whole [] are text =
+          let rises : name_end ≤ end = written.rises in
+          let none : length (slice_range t name_end end) ≡ 0 = ap length text in
+          absurd (some (omega (arith, none, length-take (end - name_end) (drop name_end t), length-drop name_end t, written.within)))
+      whole (v ∷ vs) (value first more) text =
+          let low : at ≤ name_end = run.rises in
+          let lt : at < name_end = omega arith in
+          let b : ℕ = get_or t at 0 in
+          let name : List ℕ = slice_range t (at + 1) name_end in
+          let capital : IsTrue (is_upper b) = run.passing at (omega arith) lt in
+          let there : drop (name_end - (at + 1)) (drop (at + 1) t) ≡ drop name_end t =
+          drop-drop (name_end - (at + 1)) (at + 1) t ∙ (let to : (at + 1) + (name_end - (at + 1)) ≡ name_end = omega arith in ap (λ i. drop i t) to) in
+          let letters : Letters name (drop (at + 1) t) (drop name_end t) =
+          subst (Letters name (drop (at + 1) t)) there
+          (capitals (name_end - (at + 1)) (drop (at + 1) t) (omega (arith, run.within, length-drop (at + 1) t))
+          (λ i small. subst (λ c. IsTrue (is_upper c)) (sym (get_or-drop (at + 1) t i 0)) (run.passing (at + 1 + i) (omega arith) (omega arith)))) in
+          let starts : White (drop at t) (b ∷ drop (at + 1) t) = subst (λ s. White s (b ∷ drop (at + 1) t)) (sym (byte-at t at (omega (arith, run.within)))) no_white in
+          let head : slice_range t at name_end ≡ b ∷ name =
+          sym (span-join t at (at + 1) name_end (omega arith) (omega arith)) ∙ ap (λ s. s ++ name) (span-one t at (omega (arith, run.within))) in
+          record {
+            rises = omega (arith, written.rises);
+            within = written.within;
+            property = record { name = b ∷ name; first = v; more = vs };
+            spelled = property starts capital letters first more;
+            ends = ends-run (drop end t) (next - end) (run-drop is_white t end next white) (λ small e. other (omega (arith, white.rises, length-drop end t)) (sym (here small) ∙ e));
+            text =
+                sym (span-join t at name_end end low written.rises) ∙ ap (λ s. s ++ slice_range t name_end end) head
+                ∙ ap (λ s. (b ∷ name) ++ s) text;
+          }
+        where
+          here : next - end < length (drop end t) → get_or (drop end t) (next - end) 0 ≡ get_or t next 0
+          here small =
+              let rises : end ≤ next = white.rises in
+              let to : end + (next - end) ≡ next = omega arith in get_or-drop end t (next - end) 0 ∙ ap (λ i. get_or t i 0) to
+
+  -- properties were taken off up to `end`
+  pub record WrittenSoFar (end : ℕ) : Type 0 where
+    pub within : end ≤ length t
+    pub left : ArePropertiesIn (drop end t)
+    pub front : IsWrittenFront (properties_in t) (properties_in (drop end t)) (slice_range t 0 end)
+
+  pub front-none : ArePropertiesIn t → WrittenSoFar 0
+  front-none held =
+      record { within = omega arith; left = held; front = record { taken = []; front = refl; written = refl } }
+
+  pub front-more : (at end : ℕ) → WrittenSoFar at → IsPropertyWritten t at end → WrittenSoFar end
+  front-more at end before one =
+      let after = left-after before.left one.spelled one.ends in
+      let rises : at < end = one.rises in
+      let p : Property = one.property in
+      record {
+        within = one.within;
+        left = after.1;
+        front = record {
+          taken = before.front.taken ++ p ∷ [];
+          front =
+              before.front.front ∙ ap (λ ps. before.front.taken ++ ps) after.0 ∙ sym (append_assoc before.front.taken (p ∷ []) (properties_in (drop end t)));
+          written =
+              sym (span-join t 0 at end (omega arith) (omega arith)) ∙ ap (λ s. s ++ slice_range t at end) before.front.written
+              ∙ ap (λ s. flat_map property_text before.front.taken ++ s) (one.text ∙ sym (append-nil (property_text p)))
+              ∙ sym (flat_map-append property_text before.front.taken (p ∷ []));
+        };
+      }
