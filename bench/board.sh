@@ -1,8 +1,10 @@
 #!/bin/sh
-# Times a flood of the empty board, and moves in three ways, on sides 9, 19 and 52, by bench/board/main.rt.in: with the groups
-# around the point looked at, the same on a copy of the board, and with the whole grid cleared. The program is no crate of
-# this repository, so that the gate doesn't prove it: it is built in a folder of its own beside a copy of go_board, which
-# BENCH_FOLDER names. The first run proves both, which takes minutes; a later one in the same folder takes seconds.
+# Prints the nanoseconds of a referee's turn, undo and score over both pasts, in games of random points, and of a flood of the
+# empty board, on sides 9, 19 and 52, by bench/board/main.rt.in: a turn's time is that of all tries, refused ones included, by
+# the turns taken. The program is no crate of this repository, so that the gate doesn't prove it: it is built in a folder of
+# its own beside a copy of go_board, which BENCH_FOLDER names. The first run proves both, which takes minutes; a later one in
+# the same folder takes seconds. Numbers of a busy machine are worth little: the built program lies in
+# BENCH_FOLDER/crates/bench_board/out.
 set -eu
 top=$(cd "$(dirname "$0")/.." && pwd)
 folder=${BENCH_FOLDER:-${TMPDIR:-/tmp}/sgfsplit-bench-board}
