@@ -29,6 +29,9 @@ pub mod Walking
 pub mod Judged
 pub mod Played
 pub mod Along
+pub mod Cut
+pub mod Commanding
+pub mod Lined
 pub mod Again
 pub mod Appended
 pub mod ScriptLines

@@ -35,7 +35,7 @@ walk-more side nodes i n e = ap (fold next (begun side)) (front nodes i e) ∙ f
         at_end (m ∷ ms) (suc i) e = ap (λ ks. m ∷ ks) (at_end ms i e)
 
 module _ (w : Walk) (s : State) (h : StandsAfter w s) (n : Node) where
-  next_is : (r : Result State Reason) → step s n ≡ r → next w n ≡ stepped w n r
+  pub next_is : (r : Result State Reason) → step s n ≡ r → next w n ≡ stepped w n r
   next_is r e = ap (λ f. next_by w f n) h.no_fault ∙ ap (λ t. stepped w n (step t n)) h.state ∙ ap (stepped w n) e
 
   pub goes_on : (t : State) → step s n ≡ Ok t → StandsAfter (next w n) t

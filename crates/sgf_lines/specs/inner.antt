@@ -9,3 +9,4 @@ pub mod Shown
 pub mod Running
 pub mod Played
 pub mod Followed
+pub mod Cutting

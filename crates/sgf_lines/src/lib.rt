@@ -13,7 +13,8 @@
 //! - `seek` looks for the line with a place.
 //! - `options` has what a run is asked for.
 //! - `verdict` has what a referee says of a line.
-//! - `record` writes the text of a line.
+//! - `judging` judges a line: `opening` reads its root, `contents` and `values` a node, and `step` plays it.
+//! - `record` writes the text of a line, with its `row` or its `script` out of pieces of `text`.
 //! - `laws` has laws of the definitions.
 //! - `source` and `sink` are the ends of a run.
 //! - `run` splits what a source gives into the records of its lines, which a sink takes; `writing` writes them.
@@ -22,6 +23,7 @@
 //! - `whole` turns a text into the records of its lines, and `fault` has the ways in which a call may fail.
 #![tactic(auto)]
 
+mod commands;
 mod contents;
 mod counting;
 mod cursor;
@@ -31,11 +33,13 @@ mod game;
 mod judging;
 pub mod laws;
 mod line;
+mod lines;
 mod opening;
 mod options;
 mod record;
 mod row;
 mod run;
+mod script;
 mod seek;
 mod sink;
 mod source;

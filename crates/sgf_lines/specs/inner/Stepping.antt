@@ -56,3 +56,8 @@ IsSetupMet held met =
 abbrev pub ended_with : StepFault → ℕ → ℕ → Result Verdict MemoryFault
 ended_with (Illegal reason) turns place = Ok (IllegalLine (turns + 1) place reason)
 ended_with Memory turns place = Err (record {})
+
+-- whether a line stops at a fault, or memory was refused
+abbrev pub stopped_with : StepFault → Result (Unit {0}) MemoryFault
+stopped_with (Illegal reason) = Ok tt
+stopped_with Memory = Err (record {})

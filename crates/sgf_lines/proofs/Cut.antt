@@ -1,0 +1,115 @@
+-- The parts of a script, appended one after another.
+use Rattle.std.proofs.Common.{◌≡◌, ℕ, zero, suc, ◌+◌, ◌*◌, ◌/◌, ◌%◌, ◌<◌, ◌≤◌, ◌==◌, Bool, true, false, cond, List, [], ◌∷◌, ◌++◌, length, take, map, slice_get, get_or, Option, Some, None, refl, sym, ap, ◌∙◌, inl, inr, subst, arith, append_assoc, append-nil, Result, Ok, Err}
+use Rattle.std.specs.Prelude.{codes, filter, option_map, OnOk}
+use Rattle.std.specs.List.{flat_map, slice_split, onto_first, range_with_len}
+use Rattle.std.proofs.lemmas.Bool.{cases_Bool}
+use Rattle.std.proofs.lemmas.Option.{slice_get-map}
+use Rattle.std.proofs.lemmas.List.{length-map}
+use Rattle.std.proofs.lemmas.List.FromFn.{length-range_with_len}
+use Rattle.go_board.specs.declared.stones.Colour.{Colour}
+use Rattle.go_board.specs.declared.points.Point.{Point}
+use Rattle.go_board.specs.declared.referee.plays.Play.TheVariants.{Stone}
+use Rattle.go_board.specs.Colour.{stone_of, same_cell}
+use Rattle.go_board.specs.Point.{points, point_at}
+use Rattle.go_board.specs.Grid.{Grid, cell_at}
+use Rattle.sgf_tree.specs.Tree.{Node}
+use Rattle.go_board.specs.State.{State}
+use Rattle.sgf_lines.specs.NodeContents.{Stones, moves, stones}
+use Rattle.sgf_lines.specs.Script.{comment_line, text_lines, comment_lines, play_line, stones_on, stone_lines, board_lines, setup_lines, move_lines, node_script}
+use Rattle.sgf_lines.specs.inner.Cutting.{cut_byte, lines_at}
+
+-- the pieces of a text, as a first one and more
+record Pieces (bs : List ℕ) : Type 0 where
+  first : List ℕ
+  more : List (List ℕ)
+  are : slice_split (λ c. c == 10) bs ≡ first ∷ more
+  text : flat_map cut_byte bs ++ codes "\n" ≡ (first ++ codes "\n") ++ flat_map comment_line more
+
+more_pieces : (b : ℕ) (bs : List ℕ) → Pieces bs → Pieces (b ∷ bs)
+more_pieces b bs r =
+    let S = slice_split (λ c. c == 10) bs in
+    let F = flat_map cut_byte bs in
+    elim (cases_Bool (b == 10)) [
+      | inl e ↦ record {
+        first = [];
+        more = r.first ∷ r.more;
+        are = subst (λ t. cond t ([] ∷ S) (onto_first b S) ≡ [] ∷ r.first ∷ r.more) (sym e) (ap (λ ps. [] ∷ ps) r.are);
+        text = subst (λ t. (cond t (codes "\n# ") (b ∷ []) ++ F) ++ codes "\n" ≡ ([] ++ codes "\n") ++ flat_map comment_line (r.first ∷ r.more)) (sym e) (ap (λ rest. 10 ∷ 35 ∷ 32 ∷ rest) r.text);
+      }
+      | inr e ↦ record {
+        first = b ∷ r.first;
+        more = r.more;
+        are = subst (λ t. cond t ([] ∷ S) (onto_first b S) ≡ (b ∷ r.first) ∷ r.more) (sym e) (ap (onto_first b) r.are);
+        text = subst (λ t. (cond t (codes "\n# ") (b ∷ []) ++ F) ++ codes "\n" ≡ ((b ∷ r.first) ++ codes "\n") ++ flat_map comment_line r.more) (sym e) (ap (λ rest. b ∷ rest) r.text);
+      }
+    ]
+
+pieces : (bs : List ℕ) → Pieces bs
+pieces [] = record { first = []; more = []; are = refl; text = refl }
+pieces (b ∷ bs) = more_pieces b bs (pieces bs)
+
+-- the comment lines of a text that isn't empty
+pub text-cut : (bs : List ℕ) → (length bs ≡ 0 → ⊥) → text_lines bs ≡ codes "# " ++ (flat_map cut_byte bs ++ codes "\n")
+text-cut [] some = absurd (some refl)
+text-cut (b ∷ bs) some = let p = pieces (b ∷ bs) in ap (flat_map comment_line) p.are ∙ ap (λ rest. 35 ∷ 32 ∷ rest) (sym p.text)
+
+pub no_text : (bs : List ℕ) → length bs ≡ 0 → text_lines bs ≡ []
+no_text [] e = refl
+no_text (b ∷ bs) e = absurd (omega (arith, e))
+
+pub at_index : (xs : List ℕ) (i : ℕ) → i < length xs → slice_get xs i ≡ Some (get_or xs i 0)
+at_index [] i lt = absurd (omega arith)
+at_index (x ∷ xs) zero lt = refl
+at_index (x ∷ xs) (suc i) lt = at_index xs i (omega arith)
+
+-- the stones of a colour, point by point
+lines_of_points : (g : Grid) (k : Colour) (ps : List Point)
+    → flat_map (λ p. play_line g.side k (Stone p)) (filter (λ p. same_cell (cell_at g p) (stone_of k)) ps) ≡ flat_map (lines_at g k) ps
+lines_of_points g k [] = refl
+lines_of_points g k (p ∷ ps) =
+    let line : Point → List ℕ = λ q. play_line g.side k (Stone q) in
+    let rest = filter (λ q. same_cell (cell_at g q) (stone_of k)) ps in
+    let h = lines_of_points g k ps in
+    elim (cases_Bool (same_cell (cell_at g p) (stone_of k))) [
+      | inl e ↦ subst (λ t. flat_map line (cond t (p ∷ rest) rest) ≡ cond t (line p) [] ++ flat_map (lines_at g k) ps) (sym e) (ap (λ bs. line p ++ bs) h)
+      | inr e ↦ subst (λ t. flat_map line (cond t (p ∷ rest) rest) ≡ cond t (line p) [] ++ flat_map (lines_at g k) ps) (sym e) h
+    ]
+
+pub stones-by_point : (g : Grid) (k : Colour) → flat_map (lines_at g k) (points g.side) ≡ stone_lines g k
+stones-by_point g k = sym (lines_of_points g k (points g.side))
+
+range-get : (a n i : ℕ) → i < n → slice_get (range_with_len a n) i ≡ Some (a + i)
+range-get a zero i lt = absurd (omega arith)
+range-get a (suc n) zero lt = ap Some (omega arith)
+range-get a (suc n) (suc i) lt = let more : a + 1 + i ≡ a + suc i = omega arith in range-get (a + 1) n i (omega arith) ∙ ap Some more
+
+nothing_more : (i : ℕ) → 0 + i ≡ i
+nothing_more i = omega arith
+
+-- the points in their order
+pub points-get : (side i : ℕ) → i < side * side → slice_get (points side) i ≡ Some (point_at side i)
+unfolding points
+points-get side i lt = slice_get-map (point_at side) (range_with_len 0 (side * side)) i ∙ ap (option_map (point_at side)) (range-get 0 (side * side) i lt) ∙ ap (λ n. Some (point_at side n)) (nothing_more i)
+
+pub length-points : (side : ℕ) → length (points side) ≡ side * side
+unfolding points
+length-points side = length-map (range_with_len 0 (side * side)) (point_at side) ∙ length-range_with_len 0 (side * side)
+
+-- two and three texts, appended one after another
+pub joins_two : {E : Type 0} (r : Result (Unit {0}) E) (old mid new a b : List ℕ) → mid ≡ old ++ a → OnOk r (new ≡ mid ++ b) → OnOk r (new ≡ old ++ (a ++ b))
+joins_two (Ok u) old mid new a b e f = f ∙ ap (λ t. t ++ b) e ∙ append_assoc old a b
+joins_two (Err fault) old mid new a b e f = tt
+
+pub joins_three : {E : Type 0} (r : Result (Unit {0}) E) (old first second new a b d : List ℕ) → first ≡ old ++ a → second ≡ first ++ b → OnOk r (new ≡ second ++ d)
+    → OnOk r (new ≡ old ++ ((a ++ b) ++ d))
+joins_three r old first second new a b d e f g = joins_two r old second new (a ++ b) d (f ∙ ap (λ t. t ++ b) e ∙ append_assoc old a b) g
+
+-- what a node with stones adds
+pub script-stones : (after : State) (g : Grid) (n : Node) → after.colouring ≡ g → moves n ≡ [] → 0 < length (stones n) → node_script after n ≡ comment_lines n ++ board_lines g
+script-stones after g n e none some =
+    let front = comment_lines n ++ setup_lines after.colouring (stones n) in
+    ap (λ ms. front ++ move_lines after.colouring.side ms) none ∙ append-nil front ∙ ap (λ t. comment_lines n ++ t) (of_stones (stones n) some) ∙ ap (λ b. comment_lines n ++ board_lines b) e
+  where
+    of_stones : (ts : List Stones) → 0 < length ts → setup_lines after.colouring ts ≡ board_lines after.colouring
+    of_stones [] lt = absurd (omega arith)
+    of_stones (t ∷ ts) lt = refl

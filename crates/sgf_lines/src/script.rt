@@ -1,0 +1,174 @@
+//! The script of a line: commands of the Go Text Protocol (GTP 2).
+
+ghost use Rattle.std.specs.Prelude.{◌≡◌, ◌++◌, ◌≤◌, ◌<◌, ◌*◌, Some, slice_get, OnOk};
+ghost use Rattle.go_board.specs.Point.{IsOn, points};
+ghost use Rattle.go_board.specs.State.{State, IsPlayOn};
+ghost use Rattle.sgf_lines.specs.Script.{text_lines, comment_lines, colour_letter, vertex_text, play_line, stone_lines, board_lines, node_script, board_commands};
+ghost use Rattle.sgf_lines.specs.inner.Stepping.{IsChange};
+ghost use Rattle.sgf_lines.specs.inner.Cutting.{cut_byte, lines_at};
+
+use crate::opening::first_value;
+use crate::step::Change;
+use crate::text::{push_bytes, push_number};
+use go_board::{Board, Colour, MAX_VERTEX_SIDE, Play, Point, Size, Vertex, vertex};
+use sgf_tree::{MemoryFault, NodeRef, push_text};
+use std::alloc::Global;
+
+/// Appends the commands before those of the first node: the size of the board, and that it is cleared.
+pub(crate) fn push_board_commands(size: Size, output: &mut Vec<u8>) -> Result<(), MemoryFault>
+    ensures { OnOk result (output.new.items ≡ output.old.items ++ board_commands size) }
+{
+    push_bytes(b"boardsize ", output)?;
+    push_number(u64::from(size.side()), output)?;
+    push_bytes(b"\nclear_board\n", output)
+}
+
+/// Appends what a node adds to the script of a line, where the node made that change and left that board.
+pub(crate) fn push_node_script(
+    alloc: Global,
+    node: &NodeRef<'_>,
+    change: Change,
+    board: &Board,
+    output: &mut Vec<u8>,
+) -> Result<(), MemoryFault>
+    requires letters { board.now.side ≤ MAX_VERTEX_SIDE }
+    requires change { IsChange board.now.side node.now change }
+    ensures { (after : State) → after.colouring ≡ board.now
+        → OnOk result (output.new.items ≡ output.old.items ++ node_script after node.now) }
+{
+    push_comment(alloc, node, output)?;
+    match change {
+        Change::Nothing => Ok(()),
+        Change::Stones => push_board(board, output),
+        Change::Turn(colour, play) => push_play(board.size(), colour, play, output),
+    }
+}
+
+/// Appends the comment of a node, a line for each of its own.
+fn push_comment(alloc: Global, node: &NodeRef<'_>, output: &mut Vec<u8>) -> Result<(), MemoryFault>
+    ensures { OnOk result (output.new.items ≡ output.old.items ++ comment_lines node.now) }
+{
+    let Some(raw) = first_value(node, b"C") else {
+        return Ok(());
+    };
+    let mut text = Vec::new(alloc);
+    push_text(raw, &mut text)?;
+    push_text_lines(&text, output)
+}
+
+/// Appends a comment line for each piece of a text that is cut at its line feeds; none for an empty text.
+fn push_text_lines(text: &[u8], output: &mut Vec<u8>) -> Result<(), MemoryFault>
+    ensures { OnOk result (output.new.items ≡ output.old.items ++ text_lines text.now) }
+{
+    if text.is_empty() {
+        return Ok(());
+    }
+    push_bytes(b"# ", output)?;
+    for byte in text {
+        push_cut(*byte, output)?;
+    }
+    push_bytes(b"\n", output)
+}
+
+/// Appends a byte of a comment; after a line feed a further comment line begins.
+fn push_cut(byte: u8, output: &mut Vec<u8>) -> Result<(), MemoryFault>
+    ensures { OnOk result (output.new.items ≡ output.old.items ++ cut_byte byte) }
+{
+    if byte == b'\n' {
+        push_bytes(b"\n# ", output)
+    } else {
+        push_bytes(&[byte], output)
+    }
+}
+
+/// Appends a whole board: that it is cleared, then all black stones, then all white ones.
+fn push_board(board: &Board, output: &mut Vec<u8>) -> Result<(), MemoryFault>
+    requires { board.now.side ≤ MAX_VERTEX_SIDE }
+    ensures { OnOk result (output.new.items ≡ output.old.items ++ board_lines board.now) }
+{
+    push_bytes(b"clear_board\n", output)?;
+    push_stones(board, Colour::Black, output)?;
+    push_stones(board, Colour::White, output)
+}
+
+/// Appends the stones of a colour, row by row from the top, from left to right.
+fn push_stones(board: &Board, colour: Colour, output: &mut Vec<u8>) -> Result<(), MemoryFault>
+    requires { board.now.side ≤ MAX_VERTEX_SIDE }
+    ensures { OnOk result (output.new.items ≡ output.old.items ++ stone_lines board.now colour) }
+{
+    let size = board.size();
+    for index in 0..size.points() {
+        push_stone_at(board, colour, point_at(index, size), output)?;
+    }
+    Ok(())
+}
+
+/// Appends the stone on a point, if it is of that colour.
+fn push_stone_at(
+    board: &Board,
+    colour: Colour,
+    point: Point,
+    output: &mut Vec<u8>,
+) -> Result<(), MemoryFault>
+    requires letters { board.now.side ≤ MAX_VERTEX_SIDE }
+    requires on_board { IsOn board.now.side point }
+    ensures { OnOk result (output.new.items ≡ output.old.items ++ lines_at board.now colour point) }
+{
+    if board.at(point) == colour.stone() {
+        push_play(board.size(), colour, Play::Stone(point), output)
+    } else {
+        Ok(())
+    }
+}
+
+/// The point of that index in a list that goes row by row from the top, from left to right.
+fn point_at(index: usize, size: Size) -> Point
+    requires { index < size * size }
+    ensures value { slice_get (points size) index ≡ Some result }
+    ensures on_board { IsOn size result }
+{
+    let side = usize::from(size.side());
+    Point {
+        col: (index % side) as u8,
+        row: (index / side) as u8,
+    }
+}
+
+/// Appends a play line.
+fn push_play(
+    size: Size,
+    colour: Colour,
+    play: Play,
+    output: &mut Vec<u8>,
+) -> Result<(), MemoryFault>
+    requires letters { size ≤ MAX_VERTEX_SIDE }
+    requires on_board { IsPlayOn size play }
+    ensures { OnOk result (output.new.items ≡ output.old.items ++ play_line size colour play) }
+{
+    push_bytes(b"play ", output)?;
+    push_bytes(letter_of(colour), output)?;
+    push_bytes(b" ", output)?;
+    match play {
+        Play::Pass => push_bytes(b"pass", output)?,
+        Play::Stone(point) => push_vertex(vertex(point, size), output)?,
+    }
+    push_bytes(b"\n", output)
+}
+
+/// A player's letter.
+fn letter_of(colour: Colour) -> &'static [u8]
+    ensures { result.now ≡ colour_letter colour }
+{
+    match colour {
+        Colour::Black => b"B".as_slice(),
+        Colour::White => b"W".as_slice(),
+    }
+}
+
+/// Appends a vertex: the letter of the column, and the number of the row.
+fn push_vertex(vertex: Vertex, output: &mut Vec<u8>) -> Result<(), MemoryFault>
+    ensures { OnOk result (output.new.items ≡ output.old.items ++ vertex_text vertex) }
+{
+    push_bytes(&[vertex.letter], output)?;
+    push_number(u64::from(vertex.row), output)
+}
