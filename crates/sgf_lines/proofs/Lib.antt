@@ -44,3 +44,4 @@ pub mod SliceEnds
 pub mod LineCounts
 pub mod Paging
 pub mod CountAnswers
+pub mod Recorded

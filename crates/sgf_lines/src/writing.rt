@@ -8,8 +8,8 @@ ghost use Rattle.sgf_lines.specs.inner.Running.{WritesLines, HasRecord, PutsAll}
 
 use crate::cursor::Cursor;
 use crate::fault::RunFault;
+use crate::lines::push_line;
 use crate::options::{Form, Options};
-use crate::record::push_record;
 use crate::sink::{Sink, SinkFault};
 use sgf_tree::{Collection, MemoryFault};
 use std::alloc::Global;
@@ -92,10 +92,7 @@ fn next_record(
     bytes.clear();
     match cursor.next()? {
         Some(line) => {
-            match form {
-                Form::Sgf => push_record(collection, line.path(), bytes)?,
-                Form::List | Form::Gtp => return Err(MemoryFault),
-            }
+            push_line(alloc, collection, form, &line, bytes)?;
             Ok(true)
         }
         None => Ok(false),
