@@ -11,7 +11,7 @@ use crate::opening::{Opening, opening_of};
 use crate::seek::write_way;
 use crate::step::{StepFault, play_node};
 use crate::verdict::Verdict;
-use go_board::{ListPast, Past, Referee, Size};
+use go_board::{Past, PrintPast, Referee, Size};
 use sgf_tree::{Collection, MemoryFault};
 use std::alloc::Global;
 
@@ -64,7 +64,7 @@ fn judge_on(
     ensures { (nodes : List Node) → map Some nodes ≡ map (node_at collection.now) path.now
         → IfOk result (λ verdict. verdict ≡ verdict_by (board size) nodes) }
 {
-    let Ok(mut referee) = Referee::<ListPast>::new(alloc, size) else {
+    let Ok(mut referee) = Referee::<PrintPast>::new(alloc, size) else {
         return Err(MemoryFault);
     };
     for number in path {
