@@ -2,7 +2,6 @@
 # Laws of the program over the examples: splitting the sgf output again gives the same bytes; appending a collection leaves the
 # rows of the first and raises those of the second; pages join to the whole; counts fit.
 . "$(dirname "$0")/lib.sh"
-needs_form list
 for file in "$top"/examples/*.sgf; do
     "$SGFSPLIT" split --form sgf "$file" > once
     "$SGFSPLIT" split --form sgf once > twice

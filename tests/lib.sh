@@ -33,9 +33,3 @@ same() {
 }
 
 [ -x "$SGFSPLIT" ] || failed "no program at $SGFSPLIT: run make first"
-
-# Goes on only where the program has this form.
-needs_form() {
-    printf '(;)' > probe.sgf
-    "$SGFSPLIT" split --form "$1" probe.sgf > /dev/null 2>&1 || skipped "the program doesn't write the form $1 from a file"
-}

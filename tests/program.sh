@@ -2,8 +2,6 @@
 # Drives the built program as users do: files, pipes, full devices, closed streams, endless inputs, wrong words.
 # The last line is `N passed, N failed, N skipped`. A run that lost output may never end with status 0.
 . "$(dirname "$0")/lib.sh"
-needs_form list
-needs_form gtp
 set +e
 passed=0 failed=0 not_run=0
 

@@ -1,7 +1,6 @@
 #!/usr/bin/env bash
 # Rows that grow with a library equal those of one run; a library that was changed before the last place is refused.
 . "$(dirname "$0")/lib.sh"
-needs_form list
 cat "$top/examples/corner.sgf" > library.sgf
 "$top/recipes/go_on.sh" rows library.sgf
 cat "$top/examples/two_games.sgf" >> library.sgf

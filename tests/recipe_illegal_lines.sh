@@ -1,7 +1,6 @@
 #!/usr/bin/env bash
 # Illegal lines with their reasons, and a refused file that is named.
 . "$(dirname "$0")/lib.sh"
-needs_form list
 printf '(;SZ[9];B[aa](;W[bb])(;W[aa]))(;SZ[9];W[aa])' > some.sgf
 printf '(;SZ[9]' > broken.sgf
 cat > want <<'WANT'

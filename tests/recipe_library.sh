@@ -2,7 +2,6 @@
 # A library on all cores: rows and fault lines of each file, and a second run that has nothing left to do.
 . "$(dirname "$0")/lib.sh"
 needs parallel
-needs_form list
 mkdir library
 cp "$top"/examples/*.sgf library
 printf '(;SZ[9]' > library/broken.sgf

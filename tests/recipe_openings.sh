@@ -1,7 +1,6 @@
 #!/usr/bin/env bash
 # The opening table of some examples.
 . "$(dirname "$0")/lib.sh"
-needs_form gtp
 cat > want <<'WANT'
 2 13 B-K10 B-D4
 2 9 B-C7 W-C3

@@ -3,7 +3,6 @@
 . "$(dirname "$0")/lib.sh"
 needs sgf2dg
 perl -e 'use PostScript::File' 2> /dev/null || skipped "PostScript::File isn't installed"
-needs_form list
 "$top/recipes/picture.sh" 159 "$top/examples/corner.sgf" > picture.ps
 head -c 4 picture.ps | grep -q '^%!PS' || failed "no PostScript"
 "$top/recipes/picture.sh" 95 "$top/examples/corner.sgf" > other.ps

@@ -4,8 +4,6 @@
 # refused, after whole records only. The last line is `N passed, N failed, N skipped`.
 . "$(dirname "$0")/lib.sh"
 needs cc
-needs_form list
-needs_form gtp
 set +e
 cc -shared -fPIC -O1 -o refuse.so "$top/tests/refuse.c" -ldl 2> cc.txt || skipped 'the C compiler makes no shared library'
 passed=0 failed=0
