@@ -20,7 +20,7 @@
 //! - `run` splits what a source gives into the records of its lines, which a sink takes; `writing` writes them.
 //! - `followed` follows lines one after the other, over a `game` that is played on from the nodes that they share.
 //! - `counting` counts the games, nodes and lines of what a source gives.
-//! - `whole` turns a text into the records of its lines, and `fault` has the ways in which a call may fail.
+//! - `fault` has the ways in which a run may fail.
 #![tactic(auto)]
 
 mod commands;
@@ -44,17 +44,14 @@ mod seek;
 mod sink;
 mod source;
 mod step;
-#[cfg(test)]
-mod tests;
 mod text;
 mod values;
 mod verdict;
-mod whole;
 mod writing;
 
 pub use counting::{Counts, count, write_counts};
 pub use cursor::Cursor;
-pub use fault::{FirstFault, RunFault};
+pub use fault::RunFault;
 pub use judging::judge;
 pub use line::LineRef;
 pub use options::{Form, Options};
@@ -64,4 +61,3 @@ pub use sgf_tree::MAX_LENGTH;
 pub use sink::{ArraySink, Sink, SinkFault, WriteSink};
 pub use source::{ReadSource, SliceSource, Source, SourceFault};
 pub use verdict::Verdict;
-pub use whole::first_split;
