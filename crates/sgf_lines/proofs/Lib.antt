@@ -1,5 +1,6 @@
 pub mod Examples
 pub mod ExamplesOfVerdicts
+pub mod ExamplesOfPlays
 pub mod ExamplesOfReplay
 pub mod Lists
 pub mod Standing
