@@ -1,7 +1,8 @@
 -- The record of a line: what is written for it, in each form.
 use Rattle.std.specs.Prelude.{ℕ, List, ◌++◌, codes}
 use Rattle.std.specs.List.{flat_map}
-use Rattle.sgf_tree.specs.Tree.{Property, Node, values}
+pub use Rattle.sgf_tree.specs.Written.{value_text, property_text}
+use Rattle.sgf_tree.specs.Tree.{Node}
 use Rattle.sgf_lines.specs.declared.options.Form.{Form}
 use Rattle.sgf_lines.specs.declared.options.Form.TheVariants.{List as list_form, Sgf as sgf_form, Gtp as gtp_form}
 use Rattle.sgf_lines.specs.Lines.{Line}
@@ -10,14 +11,7 @@ use Rattle.sgf_lines.specs.Script.{script}
 
 -- The line as a game of its own (SGF FF[4], with no white space between its parts).
 
--- a raw value between brackets, as it stood in the text
-abbrev pub value_text : List ℕ → List ℕ
-value_text value = codes "[" ++ value ++ codes "]"
-
--- a property's name and its values
-abbrev pub property_text : Property → List ℕ
-property_text p = p.name ++ flat_map value_text (values p)
-
+-- a `;` and the properties
 abbrev pub node_text : Node → List ℕ
 node_text n = codes ";" ++ flat_map property_text n.properties
 

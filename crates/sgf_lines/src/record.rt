@@ -31,6 +31,7 @@ fn push_node(node: &NodeRef<'_>, output: &mut Vec<u8>) -> Result<(), MemoryFault
 {
     push_bytes(b";", output)?;
     let mut left = node.walk();
+    push_bytes(left.written(), output)?;
     while let Some(property) = left.next() {
         push_property(&property, output)?;
     }
