@@ -33,6 +33,7 @@ pub mod Along
 pub mod Cut
 pub mod Commanding
 pub mod Lined
+pub mod Judgement
 pub mod Again
 pub mod Appended
 pub mod ScriptLines

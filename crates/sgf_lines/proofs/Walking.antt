@@ -47,7 +47,7 @@ module _ (w : Walk) (s : State) (h : StandsAfter w s) (n : Node) where
       ap verdict_at is ∙ ap (λ (t : State). Illegal (t.turns + 1) n.place r) h.state
 
 -- after a fault nothing changes
-after_fault : (w : Walk) (f : Fault) (ns : List Node) → w.fault ≡ Some f → fold next w ns ≡ w
+pub after_fault : (w : Walk) (f : Fault) (ns : List Node) → w.fault ≡ Some f → fold next w ns ≡ w
 after_fault w f [] e = refl
 after_fault w f (n ∷ ns) e = ap (λ v. fold next v ns) (ap (λ o. next_by w o n) e) ∙ after_fault w f ns e
 

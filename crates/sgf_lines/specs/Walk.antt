@@ -1,5 +1,5 @@
 -- How far a line is played: node after node, up to the first one whose step is refused.
-use Rattle.std.specs.Prelude.{ℕ, Option, Some, None, option_to_list, List, [], ◌∷◌, ◌++◌, map, fold, Result, Ok, Err}
+use Rattle.std.specs.Prelude.{◌≡◌, ℕ, Option, Some, None, option_to_list, List, [], ◌∷◌, ◌++◌, map, fold, Result, Ok, Err}
 use Rattle.sgf_tree.specs.Tree.{Node}
 use Rattle.go_board.specs.declared.reason.Reason.{Reason}
 use Rattle.go_board.specs.State.{State, starting}
@@ -45,3 +45,19 @@ walk side nodes = fold next (begun side) nodes
 -- the nodes that were judged: those whose steps were taken, and the faulty one
 abbrev pub judged_by : Walk → List Node
 judged_by w = map (λ (p : Played). p.node) w.played ++ map (λ (f : Fault). f.node) (option_to_list w.fault)
+
+-- the state after nodes whose steps are taken one after another, from a state on
+pub data IsAfter : State → List Node → State → Type 0 where
+  no_node : {s : State} → IsAfter s [] s
+  one_node : {s t u : State} {n : Node} {ns : List Node} → step s n ≡ Ok t → IsAfter t ns u → IsAfter s (n ∷ ns) u
+
+-- nodes among which one is the first that isn't allowed, in the state after those before it
+pub record HasFault (from : State) (nodes : List Node) : Type 0 where
+  pub before : List Node
+  pub faulty : Node
+  pub after : List Node
+  pub are : nodes ≡ before ++ faulty ∷ after
+  pub state : State
+  pub leads : IsAfter from before state
+  pub reason : Reason
+  pub refused : step state faulty ≡ Err reason

@@ -1,6 +1,6 @@
 //! Laws of the definitions. A function here does nothing: what it ensures is a law that is proved.
 
-ghost use Rattle.std.specs.Prelude.{◌≡◌, ◌∷◌, ◌++◌, ℕ, false, List, [], Some, map, length};
+ghost use Rattle.std.specs.Prelude.{◌≡◌, ◌∷◌, ◌++◌, ◌+◌, ◌⊎◌, ℕ, Err, false, List, [], Some, map, length};
 ghost use Rattle.std.specs.List.{AllZip, flat_map};
 ghost use Rattle.std.specs.List.Sorted.{IsStrictlyIncreasing};
 ghost use Rattle.sgf_tree.specs.Appending.{raised, BeginsWithMark};
@@ -16,7 +16,13 @@ ghost use Rattle.sgf_lines.specs.Appending.{raised_row};
 ghost use Rattle.sgf_lines.specs.Output.{sgf_output};
 ghost use Rattle.sgf_lines.specs.Record.{record_of};
 ghost use Rattle.sgf_lines.specs.GameSize.{opening, root_properties, board};
-ghost use Rattle.sgf_lines.specs.Walk.{walk};
+ghost use Rattle.sgf_tree.specs.Tree.{Node};
+ghost use Rattle.go_board.specs.declared.reason.Reason.{Reason};
+ghost use Rattle.go_board.specs.State.{State, starting};
+ghost use Rattle.sgf_lines.specs.declared.verdict.Verdict.TheVariants.{Illegal};
+ghost use Rattle.sgf_lines.specs.Step.{step};
+ghost use Rattle.sgf_lines.specs.Verdict.{score_in, verdict_by};
+ghost use Rattle.sgf_lines.specs.Walk.{walk, IsAfter, HasFault};
 ghost use Rattle.sgf_lines.specs.Script.{has_no_commands, script};
 ghost use Rattle.sgf_lines.specs.Replay.{replayed};
 
@@ -90,3 +96,17 @@ pub fn replay()
     go_board::laws::clearing();
     go_board::laws::unreaching();
 }
+
+/// What the verdict of a line is, on a board of a side, from the state in which a game begins.
+/// Where the step of each node is taken, it is the score of the state after them.
+/// Else it names the first node whose step is refused, in the state after the nodes before it: with that node's place,
+/// its reason, and the turns made before it plus 1. Each list of nodes is of one of these two kinds.
+pub fn judged()
+    ensures scored { (side : ℕ) (nodes : List Node) (s : State) → IsAfter (starting side) nodes s
+        → verdict_by (board side) nodes ≡ score_in s }
+    ensures faulty { (side : ℕ) (before after : List Node) (n : Node) (s : State) (reason : Reason)
+        → IsAfter (starting side) before s → step s n ≡ Err reason
+        → verdict_by (board side) (before ++ n ∷ after) ≡ Illegal (s.turns + 1) n.place reason }
+    ensures one_of_two { (side : ℕ) (nodes : List Node)
+        → ((s : State) × IsAfter (starting side) nodes s) ⊎ HasFault (starting side) nodes }
+{}
