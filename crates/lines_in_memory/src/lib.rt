@@ -1,0 +1,27 @@
+//! How `sgf_lines` is used by a program that has a text in memory and wants the records of its lines there.
+#![tactic(auto)]
+
+ghost use Rattle.std.specs.Prelude.{◌≡◌, List, IfOk};
+ghost use Rattle.sgf_lines.specs.Lines.{Line};
+ghost use Rattle.sgf_lines.specs.Output.{output};
+ghost use Rattle.sgf_lines.specs.Answer.{HasPage};
+
+use sgf_lines::{Options, RunFault, SliceSource, WriteSink, split};
+use std::alloc::Global;
+
+#[cfg(test)]
+mod tests;
+
+/// The records of the lines that the options ask for, of the collection that a text spells.
+/// See `sgf_lines::split` for the faults.
+pub fn records(alloc: Global, text: &[u8], options: &Options) -> Result<Vec<u8>, RunFault>
+    ensures { IfOk result (λ records. (ls : List Line)
+        × HasPage options.now text.now ls × (records.items ≡ output options.now.form ls)) }
+{
+    let mut source = SliceSource::new(text);
+    let mut sink = WriteSink::new(Vec::new(alloc));
+    match split(alloc, &mut source, &mut sink, options) {
+        Ok(_) => Ok(sink.into_inner()),
+        Err(fault) => Err(fault),
+    }
+}
