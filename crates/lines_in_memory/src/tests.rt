@@ -12,7 +12,7 @@ fn two_lines(rt: HostRuntime) -> Result<(), Fail> {
     let written = records(rt.alloc(), b"(;SZ[3](;B[aa])(;B[bb];W[aa]))", &options)?;
     assert_eq!(rt;
         written.as_slice(),
-        b"(;SZ[3];B[aa])\n(;SZ[3];B[bb];W[aa])\n"
+        b"(;SZ[3];B[aa])\n(;SZ[3];B[bb];W[aa])\n".as_slice()
     );
     Ok(())
 }

@@ -44,6 +44,8 @@ mod seek;
 mod sink;
 mod source;
 mod step;
+#[cfg(test)]
+mod tests;
 mod text;
 mod values;
 mod verdict;

@@ -1,0 +1,199 @@
+//! What no clause says: worked examples with ample memory, and ends that fail.
+
+use crate::{
+    ArraySink, Counts, Form, Options, ReadSource, RunFault, SliceSource, WriteSink, count, split,
+    write_counts,
+};
+use std::alloc::Global;
+use std::io::{self, ErrorKind, Read, Write};
+
+/// A game of two lines, which end at the places 8 and 22.
+const BRANCHES: &[u8] = b"(;SZ[3](;B[aa])(;B[bb];W[aa]))";
+
+const FIRST: &[u8] = b"(;SZ[3];B[aa])\n";
+
+const SECOND: &[u8] = b"(;SZ[3];B[bb];W[aa])\n";
+
+const BOTH: &[u8] = b"(;SZ[3];B[aa])\n(;SZ[3];B[bb];W[aa])\n";
+
+/// Lines as games, after a place and up to a limit.
+const fn games(after: Option<u64>, limit: Option<u64>) -> Options {
+    Options {
+        form: Form::Sgf,
+        after,
+        limit,
+    }
+}
+
+/// What a run over a text writes, and its answer.
+fn run(alloc: Global, text: &[u8], options: &Options) -> (Vec<u8>, Result<u64, RunFault>) {
+    let mut source = SliceSource::new(text);
+    let mut sink = WriteSink::new(Vec::new(alloc));
+    let answer = split(alloc, &mut source, &mut sink, options);
+    (sink.into_inner(), answer)
+}
+
+#[test]
+fn pages(rt: HostRuntime) {
+    for (after, limit, written, answer) in [
+        (None, None, BOTH, Ok(2)),
+        (None, Some(u64::MAX), BOTH, Ok(2)),
+        (None, Some(1), FIRST, Ok(1)),
+        (None, Some(0), b"".as_slice(), Ok(0)),
+        (Some(8), None, SECOND, Ok(1)),
+        (Some(8), Some(1), SECOND, Ok(1)),
+        (Some(22), None, b"", Ok(0)),
+        (
+            Some(16),
+            Some(0),
+            b"",
+            Err(RunFault::NoSuchLine { place: 16 }),
+        ),
+        (
+            Some(u64::MAX),
+            None,
+            b"",
+            Err(RunFault::NoSuchLine { place: u64::MAX }),
+        ),
+    ] {
+        let (output, result) = run(rt.alloc(), BRANCHES, &games(after, limit));
+        assert_eq!(rt; output.as_slice(), written);
+        assert_eq!(rt; result, answer);
+    }
+}
+
+#[test]
+fn rows(rt: HostRuntime) {
+    let options = Options {
+        form: Form::List,
+        after: None,
+        limit: None,
+    };
+    for (text, written) in [
+        (
+            BRANCHES,
+            b"8 1 2 score 9 0 open\n22 1 3 score 1 1 open\n".as_slice(),
+        ),
+        (b"(;SZ[1];B[aa])", b"7 1 2 illegal 1 7 repeat\n"),
+    ] {
+        let (output, result) = run(rt.alloc(), text, &options);
+        assert_eq!(rt; output.as_slice(), written);
+        assert!(rt; result.is_ok());
+    }
+}
+
+#[test]
+fn single_lines(rt: HostRuntime) {
+    for (text, written) in [
+        (
+            b"(;GaMe[1]C[a\\]b] ;B[aa])".as_slice(),
+            b"(;GM[1]C[a\\]b];B[aa])\n".as_slice(),
+        ),
+        (b"(;SZ[1])(;SZ[2])", b"(;SZ[1])\n(;SZ[2])\n"),
+        (b"(;)", b"(;)\n"),
+    ] {
+        let (output, result) = run(rt.alloc(), text, &games(None, None));
+        assert_eq!(rt; output.as_slice(), written);
+        assert!(rt; result.is_ok());
+    }
+}
+
+#[test]
+fn faulty_texts(rt: HostRuntime) {
+    for (text, at, len) in [
+        (b"".as_slice(), 0, 0),
+        (b"(;C[a\\", 6, 6),
+        (b"(;SZ[3])x", 8, 9),
+        (b"(;B[aa](;W[bb]);B[cc])", 15, 22),
+    ] {
+        let (output, result) = run(rt.alloc(), text, &games(None, None));
+        assert!(rt; output.is_empty());
+        assert_eq!(rt; result, Err(RunFault::NotSgf { at, len }));
+    }
+}
+
+/// Takes one byte a call while there is room, and then fails, as each flush does.
+#[derive(Drop)]
+struct Trickle {
+    room: usize,
+}
+
+impl Write for Trickle {
+    fn write(&mut self, buf: &[u8]) -> io::Result<usize> {
+        if self.room == 0 {
+            return Err(io::Error::from(ErrorKind::Interrupted));
+        }
+        self.room -= 1;
+        Ok(buf.len().min(1))
+    }
+
+    fn flush(&mut self) -> io::Result<()> {
+        Err(io::Error::from(ErrorKind::Other))
+    }
+}
+
+#[test]
+fn sinks_that_fail(rt: HostRuntime) {
+    for (room, lines) in [(0, 0), (14, 0), (15, 1), (35, 1), (36, 2), (40, 2)] {
+        let mut source = SliceSource::new(BRANCHES);
+        let mut sink = WriteSink::new(Trickle { room });
+        let result = split(rt.alloc(), &mut source, &mut sink, &games(None, None));
+        assert_eq!(rt; result, Err(RunFault::Write { lines }));
+    }
+    let mut sink = ArraySink::<20>::new();
+    let mut source = SliceSource::new(BRANCHES);
+    let result = split(rt.alloc(), &mut source, &mut sink, &games(None, None));
+    assert_eq!(rt; result, Err(RunFault::Write { lines: 1 }));
+    assert_eq!(rt; sink.as_slice(), b"(;SZ[3];B[aa])\n(;SZ[".as_slice());
+}
+
+/// Gives two bytes a call, so often, and then fails.
+#[derive(Drop)]
+struct Failing {
+    calls: usize,
+}
+
+impl Read for Failing {
+    fn read(&mut self, buf: &mut [u8]) -> io::Result<usize> {
+        if self.calls == 0 {
+            return Err(io::Error::from(ErrorKind::Interrupted));
+        }
+        self.calls -= 1;
+        let count = buf.len().min(2);
+        buf[..count].fill(b' ');
+        Ok(count)
+    }
+}
+
+#[test]
+fn sources_that_fail(rt: HostRuntime) {
+    for calls in 0usize..3 {
+        let mut source = ReadSource::new(Failing { calls });
+        let mut sink = ArraySink::<8>::new();
+        let result = split(rt.alloc(), &mut source, &mut sink, &games(None, None));
+        assert_eq!(rt; result, Err(RunFault::Read));
+        assert!(rt; sink.as_slice().is_empty());
+        let mut source = ReadSource::new(Failing { calls });
+        assert_eq!(rt; count(rt.alloc(), &mut source), Err(RunFault::Read));
+    }
+}
+
+#[test]
+fn small_counts(rt: HostRuntime) {
+    let mut source = SliceSource::new(BRANCHES);
+    let counts = Counts {
+        games: 1,
+        nodes: 4,
+        lines: 2,
+    };
+    assert_eq!(rt; count(rt.alloc(), &mut source), Ok(counts));
+    let mut sink = ArraySink::<6>::new();
+    assert_eq!(rt; write_counts(&mut sink, &counts), Ok(()));
+    assert_eq!(rt; sink.as_slice(), b"1 4 2\n".as_slice());
+    let mut sink = ArraySink::<3>::new();
+    assert_eq!(rt;
+        write_counts(&mut sink, &counts),
+        Err(RunFault::Write { lines: 0 })
+    );
+    assert_eq!(rt; sink.as_slice(), b"1 4".as_slice());
+}
