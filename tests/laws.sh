@@ -27,3 +27,19 @@ for file in "$top"/examples/*.sgf; do
         same want got "$file with $other appended"
     done
 done
+# Texts with white space, lower case and escapes, as they are written the first and the second time.
+again() {
+    printf '%s' "$1" | "$SGFSPLIT" split --form sgf > once
+    printf '%s\n' "${@:2}" > want
+    same want once "the lines of $1"
+    "$SGFSPLIT" split --form sgf once > twice
+    same once twice "the lines of $1, split again,"
+}
+again '(;SZ[3](;B[aa])(;B[bb];W[aa]))' '(;SZ[3];B[aa])' '(;SZ[3];B[bb];W[aa])'
+again '(;GaMe[1]C[a\]b] ;B[aa])' '(;GM[1]C[a\]b];B[aa])'
+again ' ( ; SZ [3] ; B [bb] ) ' '(;SZ[3];B[bb])'
+# A game after another: its rows are those of the game alone, further on.
+[ "$(printf '(;SZ[1];B[aa])' | "$SGFSPLIT" split)" = '7 1 2 illegal 1 7 repeat' ] || failed 'the game alone'
+printf '(;SZ[1])(;SZ[1];B[aa])' | "$SGFSPLIT" split > got
+printf '1 1 1 score 0 0 open\n15 2 2 illegal 1 15 repeat\n' > want
+same want got 'the game after another'
