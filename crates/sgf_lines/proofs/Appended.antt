@@ -11,7 +11,7 @@ use Rattle.sgf_lines.specs.declared.verdict.Verdict.{Verdict}
 use Rattle.sgf_lines.specs.Lines.{Line, through, node_lines, lines_of_game, lines_from, lines, last_number, place_of}
 use Rattle.sgf_lines.specs.GameSize.{Opening, other_game, no_board, board, opening, root_properties}
 use Rattle.sgf_lines.specs.Step.{step}
-use Rattle.sgf_lines.specs.Walk.{Played, Fault, Walk, begun, stepped, next_by, next, walk}
+use Rattle.sgf_lines.specs.Walk.{Played, Fault, Walk, before_root, stepped, next_by, next, walk}
 use Rattle.sgf_lines.specs.Verdict.{verdict_with, verdict_by, verdict_of}
 use Rattle.sgf_lines.specs.ListRow.{verdict_text}
 use Rattle.sgf_lines.specs.Record.{record_of}
@@ -131,7 +131,7 @@ verdict_by-raised : (by : ℕ) (o : Opening) (nodes : List Node) → verdict_by 
 verdict_by-raised by other_game nodes = refl
 verdict_by-raised by no_board nodes = refl
 verdict_by-raised by (board side) nodes =
-    ap (λ w. verdict_with w.state w.fault) (walk-raised by (begun side) nodes)
+    ap (λ w. verdict_with w.state w.fault) (walk-raised by (before_root side) nodes)
     ∙ verdict_with-raised by (walk side nodes).state (walk side nodes).fault
 
 verdict-raised : (by : ℕ) (nodes : List Node) → verdict_of (map (raised_node by) nodes) ≡ raised_verdict by (verdict_of nodes)

@@ -21,7 +21,7 @@ use Rattle.go_board.specs.Reason.{reason_of}
 use Rattle.sgf_lines.specs.NodeContents.{Move, Stones, moves, stones, players}
 use Rattle.sgf_lines.specs.Values.{move_value, operations, last_player}
 use Rattle.sgf_lines.specs.Step.{side_in, taken, move_step, setup_step, step_by, step}
-use Rattle.sgf_lines.specs.Walk.{Played, Fault, Walk, begun, stepped, next_by, next, walk}
+use Rattle.sgf_lines.specs.Walk.{Played, Fault, Walk, before_root, stepped, next_by, next, walk}
 use Rattle.sgf_lines.specs.Script.{node_script, played_script, leaves_unreaching_by, leaves_unreaching, has_no_commands, board_commands, commands_of}
 use Rattle.sgf_lines.proofs.Walking.{StandsAfter, goes_on, next_is, walk-more, walk-fault}
 
@@ -73,10 +73,6 @@ pub record IsScripted (side : ℕ) (w : Walk) (s : State) (text : List ℕ) : Ty
   pub stands : StandsAfter w s
   pub text_is : text ≡ board_commands side ++ flat_map played_script w.played
   pub reaching : list_any leaves_unreaching w.played ≡ false
-
-pub scripted_first : (side : ℕ) (nodes : List Node) (text : List ℕ) → text ≡ board_commands side → IsScripted side (walk side (take 0 nodes)) (begun side).state text
-scripted_first side [] text e = record { stands = record { no_fault = refl; state = refl }; text_is = e ∙ sym (append-nil (board_commands side)); reaching = refl }
-scripted_first side (n ∷ ns) text e = record { stands = record { no_fault = refl; state = refl }; text_is = e ∙ sym (append-nil (board_commands side)); reaching = refl }
 
 any-push : (ps : List Played) (p : Played) → list_any leaves_unreaching (ps ++ p ∷ []) ≡ (list_any leaves_unreaching ps || (leaves_unreaching p || false))
 any-push ps p = list_any-append leaves_unreaching ps (p ∷ [])
@@ -132,16 +128,11 @@ parts (n ∷ ns) (suc i) = ap (λ ks. n ∷ ks) (parts ns i)
 or_true : (a b : Bool) → a ≡ true → (a || b) ≡ true
 or_true a b e = ap (λ x. x || b) e
 
-pub no_letters : (side : ℕ) (w : Walk) → MAX_VERTEX_SIDE < side → [] ≡ commands_of side w
-no_letters side w lt =
-    let all = board_commands side ++ flat_map played_script w.played in
-    sym (ap (λ b. cond (b || list_any leaves_unreaching w.played) [] all) (lt-ltb MAX_VERTEX_SIDE side lt))
-
 pub unreaching_stays : (side : ℕ) (nodes : List Node) (i : ℕ) → side ≤ MAX_VERTEX_SIDE → list_any leaves_unreaching (walk side (take i nodes)).played ≡ true → [] ≡ commands_of side (walk side nodes)
 unreaching_stays side nodes i le e =
     let front = walk side (take i nodes) in
     let more = extends front (drop i nodes) in
-    let whole : walk side nodes ≡ fold next front (drop i nodes) = ap (fold next (begun side)) (sym (parts nodes i)) ∙ fold-append next (begun side) (take i nodes) (drop i nodes) in
+    let whole : walk side nodes ≡ fold next front (drop i nodes) = ap (fold next (before_root side)) (sym (parts nodes i)) ∙ fold-append next (before_root side) (take i nodes) (drop i nodes) in
     let any : list_any leaves_unreaching (walk side nodes).played ≡ true =
     ap (λ (v : Walk). list_any leaves_unreaching v.played) whole ∙ ap (list_any leaves_unreaching) more.1 ∙ list_any-append leaves_unreaching front.played more.0
     ∙ or_true (list_any leaves_unreaching front.played) (list_any leaves_unreaching more.0) e in

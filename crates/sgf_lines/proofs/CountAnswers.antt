@@ -25,16 +25,6 @@ answers_fault A given to_come text (NoSuchLine place) h = absurd h
 answers_fault A given to_come text (Write k) h = absurd h
 answers_fault A given to_come text (Memory k) h = h
 
--- a fault of the reading is the count's
-pub count_of_fault : {A : Type 0} (source new_source : SourceState) (text : List ℕ) (fault : RunFault) → IsReading {A = A} source new_source text (Err fault)
-    → IsCount source new_source (Err fault)
-count_of_fault {A = A} source new_source text fault h = record {
-  given = h.given;
-  gives = h.gives;
-  consumes = h.consumes;
-  answers = answers_fault A h.given new_source.to_come text fault h.answers;
-}
-
 module _ {A : Type 0} (source new_source : SourceState) (text : List ℕ) (u : A) (h : IsReading {A = A} source new_source text (Ok u)) where
   same : h.given ≡ text
   same = sym h.answers.1
@@ -58,10 +48,6 @@ module _ {A : Type 0} (source new_source : SourceState) (text : List ℕ) (u : A
 
   pub text_within : length text ≤ 67108864
   text_within = whole.within
-
--- a piece was put after what was taken before
-pub put_after : (old now new : SinkState) (done piece : List ℕ) → Appends old.taken now.taken done → Appends now.taken new.taken piece → Appends old.taken new.taken (done ++ piece)
-put_after old now new done piece h k = Appends-trans old.taken now.taken new.taken done piece h k
 
 -- the sink failed within a piece of the row
 pub row_cut : {A : Type 0} (row : List ℕ) (old now new : SinkState) (done piece rest : List ℕ) (n : ℕ) → row ≡ done ++ (piece ++ rest) → Appends old.taken now.taken done

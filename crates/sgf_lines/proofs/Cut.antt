@@ -53,10 +53,6 @@ pub text-cut : (bs : List ℕ) → (length bs ≡ 0 → ⊥) → text_lines bs �
 text-cut [] some = absurd (some refl)
 text-cut (b ∷ bs) some = let p = pieces (b ∷ bs) in ap (flat_map comment_line) p.are ∙ ap (λ rest. 35 ∷ 32 ∷ rest) (sym p.text)
 
-pub no_text : (bs : List ℕ) → length bs ≡ 0 → text_lines bs ≡ []
-no_text [] e = refl
-no_text (b ∷ bs) e = absurd (omega (arith, e))
-
 pub at_index : (xs : List ℕ) (i : ℕ) → i < length xs → slice_get xs i ≡ Some (get_or xs i 0)
 at_index [] i lt = absurd (omega arith)
 at_index (x ∷ xs) zero lt = refl

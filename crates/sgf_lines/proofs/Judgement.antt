@@ -7,7 +7,7 @@ use Rattle.go_board.specs.declared.reason.Reason.{Reason}
 use Rattle.go_board.specs.State.{State, starting}
 use Rattle.sgf_lines.specs.declared.verdict.Verdict.TheVariants.{Illegal}
 use Rattle.sgf_lines.specs.Step.{step}
-use Rattle.sgf_lines.specs.Walk.{Fault, Walk, begun, stepped, next, walk, IsAfter, no_node, one_node, HasFault}
+use Rattle.sgf_lines.specs.Walk.{Fault, Walk, before_root, stepped, next, walk, IsAfter, no_node, one_node, HasFault}
 use Rattle.sgf_lines.specs.Verdict.{verdict_at, score_in}
 use Rattle.sgf_lines.proofs.Walking.{StandsAfter, goes_on, next_is, ends_at, after_fault}
 
@@ -15,11 +15,11 @@ goes_along : {s u : State} {ns : List Node} → IsAfter s ns u → (w : Walk) �
 goes_along no_node w h = h
 goes_along (one_node {s = s} {t = t} {n = n} e rest) w h = goes_along rest (next w n) (goes_on w s h n t e)
 
-at_beginning : (side : ℕ) → StandsAfter (begun side) (starting side)
+at_beginning : (side : ℕ) → StandsAfter (before_root side) (starting side)
 at_beginning side = record { no_fault = refl; state = refl }
 
 pub scores : (side : ℕ) (nodes : List Node) (s : State) → IsAfter (starting side) nodes s → verdict_at (walk side nodes) ≡ score_in s
-scores side nodes s h = by (walk side nodes) (goes_along h (begun side) (at_beginning side))
+scores side nodes s h = by (walk side nodes) (goes_along h (before_root side) (at_beginning side))
   where
     by : (w : Walk) → StandsAfter w s → verdict_at w ≡ score_in s
     by w g = rw (g.no_fault, g.state)
@@ -28,9 +28,9 @@ pub faults : (side : ℕ) (before after : List Node) (n : Node) (s : State) (rea
     → verdict_at (walk side (before ++ n ∷ after)) ≡ Illegal (s.turns + 1) n.place reason
 faults side before after n s reason h e =
     let w = walk side before in
-    let g : StandsAfter w s = goes_along h (begun side) (at_beginning side) in
+    let g : StandsAfter w s = goes_along h (before_root side) (at_beginning side) in
     let fault : (next w n).fault ≡ Some (record { node = n; reason = reason }) = ap (λ (v : Walk). v.fault) (next_is w s g n (Err reason) e) in
-    let whole : walk side (before ++ n ∷ after) ≡ next w n = fold-append next (begun side) before (n ∷ after) ∙ after_fault (next w n) (record { node = n; reason = reason }) after fault in
+    let whole : walk side (before ++ n ∷ after) ≡ next w n = fold-append next (before_root side) before (n ∷ after) ∙ after_fault (next w n) (record { node = n; reason = reason }) after fault in
     ap verdict_at whole ∙ ends_at w s g n reason e
 
 -- each list of nodes is of one kind or the other

@@ -20,7 +20,7 @@ use Rattle.go_board.specs.Vertex.{vertex_of}
 use Rattle.sgf_lines.specs.Script.{colour_letter, vertex_text, play_line, stones_on, stone_lines, board_lines}
 use Rattle.sgf_lines.specs.Replay.{words, command_of, after_command, after_line, after_text}
 use Rattle.sgf_lines.proofs.Lists.{Each}
-use Rattle.sgf_lines.proofs.ScriptLines.{IsWithin, Takes, takes_line, takes_nothing, takes_both, solid_within, within_both}
+use Rattle.sgf_lines.proofs.ScriptLines.{IsWithin, CarriesBoard, takes_line, takes_nothing, takes_both, solid_within, within_both}
 use Rattle.sgf_lines.proofs.ScriptWords.{vertex_solid, play_reads}
 
 -- what the board's laws say
@@ -68,7 +68,7 @@ play_within side BlackPlayer p small on = within_both (codes "play B ") (vertex_
 play_within side WhitePlayer p small on = within_both (codes "play W ") (vertex_text (vertex_of p side)) (search) (solid_within (vertex_text (vertex_of p side)) (vertex_solid side p small on))
 
 pub takes_play : (side : ℕ) (board : Grid) (k : Colour) (p : Point) → side ≤ 25 → IsOn side p → cell_at board p ≡ Empty
-    → Takes side (Some board) (play_line side k (Stone p)) (Some (play board k p))
+    → CarriesBoard side (Some board) (play_line side k (Stone p)) (Some (play board k p))
 takes_play side board k p small on empty rest =
     let line = codes "play " ++ colour_letter k ++ codes " " ++ vertex_text (vertex_of p side) in
     let played : after_line side (Some board) line ≡ Some (play board k p) =
@@ -307,7 +307,7 @@ module _ (laws : BoardLaws) where
     record IsTaken (k : Colour) (h : Grid) (text : List ℕ) : Type 0 where
       board : Grid
       placed : IsPlaced board (turn_of k (g.side * g.side))
-      takes : Takes g.side (Some h) text (Some board)
+      takes : CarriesBoard g.side (Some h) text (Some board)
 
     module _ (small : g.side ≤ 25) where
       take_stone : (k : Colour) (i : ℕ) (q : Point) (h : Grid) (ps : List Point) (is_stone : Bool) → i < g.side * g.side → IsOn g.side q → index_of g.side q ≡ i
@@ -323,8 +323,8 @@ module _ (laws : BoardLaws) where
           let e = rank_same k (cell_at g q) (index_of g.side q) is in let f = ap (λ j. turn_of k j) here in omega arith in
           let free : cell_at h q ≡ Empty = placed.left q on at_turn in
           let rest = goes_on next (placed_more h k i q low on here is placed) in
-          let one : Takes g.side (Some h) (play_line g.side k (Stone q)) (Some next) =
-          subst (λ b. Takes g.side (Some h) (play_line g.side k (Stone q)) (Some b)) made (takes_play g.side h k q small on free) in
+          let one : CarriesBoard g.side (Some h) (play_line g.side k (Stone q)) (Some next) =
+          subst (λ b. CarriesBoard g.side (Some h) (play_line g.side k (Stone q)) (Some b)) made (takes_play g.side h k q small on free) in
           record {
             board = rest.board;
             placed = rest.placed;
@@ -346,7 +346,7 @@ module _ (laws : BoardLaws) where
           take_stone k i q h (map (point_at g.side) (range_with_len (i + 1) m)) (same_cell (cell_at g q) (stone_of k)) (omega arith) is.0 (sym is.1) refl placed
           (λ next now. take_stones k m (i + 1) next (omega arith) now)
 
-      pub takes_board : (before : Grid) → Takes g.side (Some before) (board_lines g) (Some g)
+      pub takes_board : (before : Grid) → CarriesBoard g.side (Some before) (board_lines g) (Some g)
       unfolding lines_of points turn_of
       takes_board before =
           let count = g.side * g.side in
@@ -354,9 +354,9 @@ module _ (laws : BoardLaws) where
           let black = take_stones BlackPlayer count 0 empty (omega arith) none_placed in
           let same : count ≡ count + 0 = omega arith in
           let white = take_stones WhitePlayer count 0 black.board (omega arith) (subst (λ n. IsPlaced black.board n) same black.placed) in
-          let cleared : Takes g.side (Some before) (codes "clear_board\n") (Some empty) = takes_line g.side (Some before) (codes "clear_board") (search) in
-          let half : Takes g.side (Some before) (codes "clear_board\n" ++ stone_lines g BlackPlayer) (Some black.board) =
+          let cleared : CarriesBoard g.side (Some before) (codes "clear_board\n") (Some empty) = takes_line g.side (Some before) (codes "clear_board") (search) in
+          let half : CarriesBoard g.side (Some before) (codes "clear_board\n" ++ stone_lines g BlackPlayer) (Some black.board) =
           takes_both g.side (Some before) (Some empty) (Some black.board) (codes "clear_board\n") (stone_lines g BlackPlayer) cleared black.takes in
-          let done : Takes g.side (Some before) (board_lines g) (Some white.board) =
+          let done : CarriesBoard g.side (Some before) (board_lines g) (Some white.board) =
           takes_both g.side (Some before) (Some black.board) (Some white.board) (codes "clear_board\n" ++ stone_lines g BlackPlayer) (stone_lines g WhitePlayer) half white.takes in
-          subst (λ b. Takes g.side (Some before) (board_lines g) (Some b)) (all_placed white.board white.placed) done
+          subst (λ b. CarriesBoard g.side (Some before) (board_lines g) (Some b)) (all_placed white.board white.placed) done

@@ -10,7 +10,7 @@ use Rattle.sgf_tree.specs.Tree.{Node}
 use Rattle.go_board.specs.declared.reason.Reason.{Reason}
 use Rattle.go_board.specs.State.{State, States, followed_by}
 use Rattle.sgf_lines.specs.Step.{step}
-use Rattle.sgf_lines.specs.Walk.{Fault, Walk, begun, stepped, next_by, next, walk}
+use Rattle.sgf_lines.specs.Walk.{Fault, Walk, before_root, stepped, next_by, next, walk}
 use Rattle.sgf_lines.specs.Verdict.{verdict_at, score_in}
 use Rattle.sgf_lines.specs.declared.verdict.Verdict.TheVariants.{Illegal}
 use Rattle.sgf_lines.specs.declared.game.Fault.{Fault as Met}
@@ -68,7 +68,7 @@ back_length states depth le = by states.present states.earlier le
 
 -- one node more
 walk_more : (side : ℕ) (nodes : List Node) (n : Node) → walk side (nodes ++ n ∷ []) ≡ next (walk side nodes) n
-walk_more side nodes n = fold-append next (begun side) nodes (n ∷ [])
+walk_more side nodes n = fold-append next (before_root side) nodes (n ∷ [])
 
 module _ (w : Walk) (n : Node) (states new : States) where
   met_none : None ≡ option_map met w.fault → w.fault ≡ None
@@ -199,7 +199,7 @@ pub stays_whole : (side : ℕ) (nodes : List Node) (game : Game) (kept : ℕ) �
 stays_whole side nodes game kept h le = let whole : take kept nodes ≡ nodes = take_all kept nodes (omega (arith, h.count)) in rw whole h
 
 -- before the root
-pub begins : (side : ℕ) (game : Game) → game.referee ≡ record { present = (begun side).state; earlier = [] } → game.fault ≡ None → game.marks.items ≡ [] → IsPlayed side [] game
+pub begins : (side : ℕ) (game : Game) → game.referee ≡ record { present = (before_root side).state; earlier = [] } → game.fault ≡ None → game.marks.items ≡ [] → IsPlayed side [] game
 begins side game referee fault marks = record {
   at = rw (referee, fault) (record { state = refl; fault_is = refl });
   count = ap length marks;

@@ -4,7 +4,7 @@ use Rattle.std.proofs.lemmas.List.Elements.{All-from_recursion}
 use Rattle.sgf_tree.specs.Tree.{Games, node_count}
 use Rattle.sgf_tree.specs.declared.fault.MemoryFault.{MemoryFault}
 use Rattle.sgf_lines.specs.Paths.{paths}
-use Rattle.sgf_lines.specs.Cursor.{Position, advanced, shown, IsLine, Gives, Leaves}
+use Rattle.sgf_lines.specs.Cursor.{Position, advanced, shown, IsLine, GivesLine, LeavesCursor}
 use Rattle.sgf_lines.specs.inner.Ways.{top}
 use Rattle.sgf_lines.specs.declared.line.LineRef.{LineRef}
 use Rattle.sgf_lines.proofs.Lists.{each_get}
@@ -12,10 +12,10 @@ use Rattle.sgf_lines.proofs.Ways.{IsDescent, each_path}
 use Rattle.sgf_lines.proofs.Standings.{within_way}
 
 -- what a call of `next` did that gave a line
-pub gives_line : (at : Position) (o : Option LineRef) (line : LineRef) → o ≡ Some line → Gives at o → IsLine at.games at.given line
+pub gives_line : (at : Position) (o : Option LineRef) (line : LineRef) → o ≡ Some line → GivesLine at o → IsLine at.games at.given line
 gives_line at o line is h = rw is at h
 
-pub goes_on : (at new : Position) (r : Result (Option LineRef) MemoryFault) (o : Option LineRef) (line : LineRef) → r ≡ Ok o → o ≡ Some line → Leaves at r new → new ≡ advanced at
+pub goes_on : (at new : Position) (r : Result (Option LineRef) MemoryFault) (o : Option LineRef) (line : LineRef) → r ≡ Ok o → o ≡ Some line → LeavesCursor at r new → new ≡ advanced at
 goes_on at new r o line ok is h = rw (ok, is) at h
 
 -- each number on a line's path is that of a node

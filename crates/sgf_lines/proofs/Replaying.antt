@@ -27,14 +27,14 @@ use Rattle.sgf_lines.specs.NodeContents.{Move, Stones, moves, stones, players}
 use Rattle.sgf_lines.specs.Values.{is_pass, move_value, operations, last_player}
 use Rattle.sgf_lines.specs.GameSize.{Opening, other_game, no_board, board, opening, root_properties}
 use Rattle.sgf_lines.specs.Step.{side_in, taken, move_step, setup_step, step_by, step}
-use Rattle.sgf_lines.specs.Walk.{Played, Fault, Walk, begun, stepped, next_by, next, walk}
+use Rattle.sgf_lines.specs.Walk.{Played, Fault, Walk, before_root, stepped, next_by, next, walk}
 use Rattle.sgf_lines.specs.ListRow.{list_row}
 use Rattle.sgf_lines.specs.Script.{comment_line, comment_text, comment_lines, play_line, board_lines, setup_lines, move_lines_by, move_lines, node_script, played_script, leaves_unreaching_by, leaves_unreaching, has_no_commands, board_commands, commands_of, commands_by, script}
 use Rattle.sgf_lines.specs.NodeContents.{first_value}
 use Rattle.sgf_lines.specs.Replay.{is_word, words, leaves, command_of, after_command, after_line, after_text, replayed}
 use Rattle.sgf_lines.proofs.Lists.{Each}
 use Rattle.sgf_lines.proofs.Again.{flat_map-append}
-use Rattle.sgf_lines.proofs.ScriptLines.{IsWithin, Takes, takes_line, takes_nothing, takes_both, takes_comment, takes_text_lines, row_within, decimal_within, decimal_solid, within_both}
+use Rattle.sgf_lines.proofs.ScriptLines.{IsWithin, CarriesBoard, takes_line, takes_nothing, takes_both, takes_comment, takes_text_lines, row_within, decimal_within, decimal_solid, within_both}
 use Rattle.sgf_lines.proofs.ScriptWords.{one_word}
 use Rattle.sgf_lines.proofs.Placing.{BoardLaws, is_same, takes_play, takes_board}
 
@@ -101,7 +101,7 @@ point_on side (c ∷ r ∷ d ∷ more) p e = absurd cc
 abbrev IsFull : ℕ → Grid → Type 0
 IsFull side g = (g.side ≡ side) × (length g.cells ≡ side * side)
 
-pass_leaves : (side : ℕ) (now : Option Grid) (k : Colour) → Takes side now (play_line side k Pass) now
+pass_leaves : (side : ℕ) (now : Option Grid) (k : Colour) → CarriesBoard side now (play_line side k Pass) now
 pass_leaves side None Black = takes_line side None (codes "play B pass") (search)
 pass_leaves side None White = takes_line side None (codes "play W pass") (search)
 pass_leaves side (Some g) Black = takes_line side (Some g) (codes "play B pass") (search)
@@ -109,18 +109,18 @@ pass_leaves side (Some g) White = takes_line side (Some g) (codes "play W pass")
 
 module _ (laws : BoardLaws) (side : ℕ) (small : side ≤ 25) where
   -- a step leads to a grid with a cell for each point, and its node's lines lead there
-  record Leads (s t : State) (ts : List Stones) (ms : List Move) : Type 0 where
+  record StepReplayed (s t : State) (ts : List Stones) (ms : List Move) : Type 0 where
     full : IsFull side t.colouring
     middle : Option Grid
-    set : Takes side (Some s.colouring) (setup_lines t.colouring ts) middle
-    moved : Takes side middle (move_lines t.colouring.side ms) (Some t.colouring)
+    set : CarriesBoard side (Some s.colouring) (setup_lines t.colouring ts) middle
+    moved : CarriesBoard side middle (move_lines t.colouring.side ms) (Some t.colouring)
 
-  stays : (s t : State) → IsFull side s.colouring → t.colouring ≡ s.colouring → Leads s t [] []
+  stays : (s t : State) → IsFull side s.colouring → t.colouring ≡ s.colouring → StepReplayed s t [] []
   stays s t full e = record {
     full = subst (λ g. IsFull side g) (sym e) full;
     middle = Some s.colouring;
     set = takes_nothing side (Some s.colouring);
-    moved = subst (λ g. Takes side (Some s.colouring) [] (Some g)) (sym e) (takes_nothing side (Some s.colouring));
+    moved = subst (λ g. CarriesBoard side (Some s.colouring) [] (Some g)) (sym e) (takes_nothing side (Some s.colouring));
   }
 
   play_full : (g : Grid) (k : Colour) (p : Point) → IsFull side g → IsFull side (play g k p)
@@ -144,7 +144,7 @@ module _ (laws : BoardLaws) (side : ℕ) (small : side ≤ 25) where
   set_full s [] player full = full
   set_full s (op ∷ ops) player full = setup_full s.colouring (op ∷ ops) full
 
-  player_leads : (s t : State) (last : Option (Option Colour)) → IsFull side s.colouring → setup_step s (Some []) last ≡ Ok t → Leads s t [] []
+  player_leads : (s t : State) (last : Option (Option Colour)) → IsFull side s.colouring → setup_step s (Some []) last ≡ Ok t → StepReplayed s t [] []
   player_leads s t None full is = absurd cc
   player_leads s t (Some player) full is =
       let after : t ≡ set_up s [] player = cc in stays s t full (ap (λ u. u.colouring) after)
@@ -161,19 +161,19 @@ module _ (laws : BoardLaws) (side : ℕ) (small : side ≤ 25) where
 
   -- the lines of a play that is allowed
   plays_on : (s t : State) (k : Colour) (raw : List ℕ) (x : Play) → IsFull side s.colouring → move_value (side_in s) raw ≡ Some x → reason_of s k x ≡ None
-      → t ≡ turned s k x → Takes side (Some s.colouring) (play_line side k x) (Some t.colouring) × IsFull side t.colouring
+      → t ≡ turned s k x → CarriesBoard side (Some s.colouring) (play_line side k x) (Some t.colouring) × IsFull side t.colouring
   plays_on s t k raw Pass full value none is =
       let same : t.colouring ≡ s.colouring = ap (λ u. u.colouring) is in
-      (subst (λ g. Takes side (Some s.colouring) (play_line side k Pass) (Some g)) (sym same) (pass_leaves side (Some s.colouring) k), subst (λ g. IsFull side g) (sym same) full)
+      (subst (λ g. CarriesBoard side (Some s.colouring) (play_line side k Pass) (Some g)) (sym same) (pass_leaves side (Some s.colouring) k), subst (λ g. IsFull side g) (sym same) full)
   plays_on s t k raw (Stone p) full value none is =
       let same : t.colouring ≡ play s.colouring k p = ap (λ u. u.colouring) is in
       let on : IsOn side p = subst (λ n. IsOn n p) full.0 (stone_on (side_in s) raw p value) in (
-        subst (λ g. Takes side (Some s.colouring) (play_line side k (Stone p)) (Some g)) (sym same) (takes_play side s.colouring k p small on (free_point s k p none)),
+        subst (λ g. CarriesBoard side (Some s.colouring) (play_line side k (Stone p)) (Some g)) (sym same) (takes_play side s.colouring k p small on (free_point s k p none)),
         subst (λ g. IsFull side g) (sym same) (play_full s.colouring k p full),
       )
 
   turn_leads : (s t : State) (m : Move) (x : Play) (reason : Option Reason) → IsFull side s.colouring → move_value (side_in s) m.raw ≡ Some x
-      → reason_of s m.player x ≡ reason → taken s m.player x reason ≡ Ok t → Leads s t [] (m ∷ [])
+      → reason_of s m.player x ≡ reason → taken s m.player x reason ≡ Ok t → StepReplayed s t [] (m ∷ [])
   turn_leads s t m x (Some reason) full e r is = absurd cc
   turn_leads s t m x None full e r is =
       let after : t ≡ turned s m.player x = cc in
@@ -187,16 +187,16 @@ module _ (laws : BoardLaws) (side : ℕ) (small : side ≤ 25) where
         full = does.1;
         middle = Some s.colouring;
         set = takes_nothing side (Some s.colouring);
-        moved = subst (λ text. Takes side (Some s.colouring) text (Some t.colouring)) (sym line) does.0;
+        moved = subst (λ text. CarriesBoard side (Some s.colouring) text (Some t.colouring)) (sym line) does.0;
       }
 
   move_leads : (s t : State) (m : Move) (value : Option Play) → IsFull side s.colouring → move_value (side_in s) m.raw ≡ value
-      → move_step s m.player value ≡ Ok t → Leads s t [] (m ∷ [])
+      → move_step s m.player value ≡ Ok t → StepReplayed s t [] (m ∷ [])
   move_leads s t m None full e is = absurd cc
   move_leads s t m (Some x) full e is = turn_leads s t m x (reason_of s m.player x) full e refl is
 
   setup_leads : (s t : State) (first : Stones) (others : List Stones) (ops : Option (List SetupOp)) (last : Option (Option Colour)) → IsFull side s.colouring
-      → has_unreaching t.colouring ≡ false → setup_step s ops last ≡ Ok t → Leads s t (first ∷ others) []
+      → has_unreaching t.colouring ≡ false → setup_step s ops last ≡ Ok t → StepReplayed s t (first ∷ others) []
   setup_leads s t first others None last full settled is = absurd cc
   setup_leads s t first others (Some ops) None full settled is = absurd cc
   setup_leads s t first others (Some ops) (Some player) full settled is =
@@ -207,12 +207,12 @@ module _ (laws : BoardLaws) (side : ℕ) (small : side ≤ 25) where
       record {
         full = now;
         middle = Some t.colouring;
-        set = subst (λ n. Takes n (Some s.colouring) (board_lines t.colouring) (Some t.colouring)) now.0 (takes_board laws t.colouring cells settled low s.colouring);
+        set = subst (λ n. CarriesBoard n (Some s.colouring) (board_lines t.colouring) (Some t.colouring)) now.0 (takes_board laws t.colouring cells settled low s.colouring);
         moved = takes_nothing side (Some t.colouring);
       }
 
   step_leads : (s t : State) (ms : List Move) (ts : List Stones) (ps : List (List ℕ)) → IsFull side s.colouring → leaves_unreaching_by t.colouring ts ≡ false
-      → step_by s ms ts ps ≡ Ok t → Leads s t ts ms
+      → step_by s ms ts ps ≡ Ok t → StepReplayed s t ts ms
   step_leads s t [] [] [] full settled is = let same : s ≡ t = cc in stays s t full (ap (λ u. u.colouring) (sym same))
   step_leads s t (m ∷ ms) (first ∷ others) ps full settled is = absurd cc
   step_leads s t (m ∷ ms) [] (p ∷ ps) full settled is = absurd cc
@@ -223,13 +223,13 @@ module _ (laws : BoardLaws) (side : ℕ) (small : side ≤ 25) where
   step_leads s t [] [] (p ∷ ps) full settled is = player_leads s t (last_player None (p ∷ ps)) full is
 
   node_leads : (s t : State) (n : Node) → IsFull side s.colouring → leaves_unreaching (record { node = n; after = t }) ≡ false → step s n ≡ Ok t
-      → Takes side (Some s.colouring) (node_script t n) (Some t.colouring) × IsFull side t.colouring
+      → CarriesBoard side (Some s.colouring) (node_script t n) (Some t.colouring) × IsFull side t.colouring
   node_leads s t n full settled is =
       let leads = step_leads s t (moves n) (stones n) (players n) full settled is in
       let comments = takes_text_lines side (Some s.colouring) (comment_text (first_value (codes "C") n.properties)) in
       let start = comment_lines n in
       let middle = start ++ setup_lines t.colouring (stones n) in
-      let half : Takes side (Some s.colouring) middle leads.middle =
+      let half : CarriesBoard side (Some s.colouring) middle leads.middle =
       takes_both side (Some s.colouring) (Some s.colouring) leads.middle start (setup_lines t.colouring (stones n)) comments leads.set in
       (takes_both side (Some s.colouring) leads.middle (Some t.colouring) middle (move_lines t.colouring.side (moves n)) half leads.moved, leads.full)
 
@@ -238,7 +238,7 @@ module _ (laws : BoardLaws) (side : ℕ) (small : side ≤ 25) where
   -- what the walk so far says in commands leads to its board
   abbrev IsSaid : Walk → Type 0
   IsSaid w = list_any leaves_unreaching w.played ≡ false
-      → Takes side (Some (empty_grid side)) (flat_map played_script w.played) (Some w.state.colouring) × IsFull side w.state.colouring
+      → CarriesBoard side (Some (empty_grid side)) (flat_map played_script w.played) (Some w.state.colouring) × IsFull side w.state.colouring
 
   stepped_said : (w : Walk) (n : Node) (result : Result State Reason) → step w.state n ≡ result → IsSaid w → IsSaid (stepped w n result)
   stepped_said w n (Err reason) e said = said
@@ -251,7 +251,7 @@ module _ (laws : BoardLaws) (side : ℕ) (small : side ≤ 25) where
       let both = takes_both side empty (Some w.state.colouring) (Some t.colouring) (flat_map played_script w.played) (node_script t n) before.0 one.0 in
       let texts : flat_map played_script (w.played ++ p ∷ []) ≡ flat_map played_script w.played ++ node_script t n =
       flat_map-append played_script w.played (p ∷ []) ∙ ap (λ x. flat_map played_script w.played ++ x) (append-nil (node_script t n)) in
-      (subst (λ x. Takes side empty x (Some t.colouring)) (sym texts) both, one.1)
+      (subst (λ x. CarriesBoard side empty x (Some t.colouring)) (sym texts) both, one.1)
 
   next_said : (w : Walk) (fault : Option Fault) (n : Node) → IsSaid w → IsSaid (next_by w fault n)
   next_said w (Some fault) n said = said
@@ -261,7 +261,7 @@ module _ (laws : BoardLaws) (side : ℕ) (small : side ≤ 25) where
   walk_said w [] said = said
   walk_said w (n ∷ ns) said = walk_said (next w n) ns (next_said w w.fault n said)
 
-  begun_said : IsSaid (begun side)
+  begun_said : IsSaid (before_root side)
   begun_said = λ settled. (takes_nothing side (Some (empty_grid side)), (refl, length-replicate (side * side) Empty))
 
   -- ---- The whole script.
@@ -270,17 +270,17 @@ module _ (laws : BoardLaws) (side : ℕ) (small : side ≤ 25) where
   two_words [] = refl
   two_words (b ∷ bs) = refl
 
-  takes_commands : (now : Grid) → Takes side (Some now) (board_commands side) (Some (empty_grid side))
+  takes_commands : (now : Grid) → CarriesBoard side (Some now) (board_commands side) (Some (empty_grid side))
   takes_commands now =
       let line = codes "boardsize " ++ decimal side in
       let within : Each IsWithin line = within_both (codes "boardsize ") (decimal side) (search) (decimal_within side) in
       let read : after_line side (Some now) line ≡ Some now =
       ap (λ ls. after_command side now (command_of side (codes "boardsize" ∷ filter is_word ls))) (one_word (decimal side) (decimal_solid side))
       ∙ ap (λ c. after_command side now c) (two_words (decimal side)) in
-      let sized : Takes side (Some now) (line ++ (10 ∷ [])) (Some now) =
-      subst (λ b. Takes side (Some now) (line ++ (10 ∷ [])) b) read (takes_line side (Some now) line within) in
-      let cleared : Takes side (Some now) (codes "clear_board\n") (Some (empty_grid side)) = takes_line side (Some now) (codes "clear_board") (search) in
-      subst (λ x. Takes side (Some now) x (Some (empty_grid side))) (append_assoc line (10 ∷ []) (codes "clear_board\n"))
+      let sized : CarriesBoard side (Some now) (line ++ (10 ∷ [])) (Some now) =
+      subst (λ b. CarriesBoard side (Some now) (line ++ (10 ∷ [])) b) read (takes_line side (Some now) line within) in
+      let cleared : CarriesBoard side (Some now) (codes "clear_board\n") (Some (empty_grid side)) = takes_line side (Some now) (codes "clear_board") (search) in
+      subst (λ x. CarriesBoard side (Some now) x (Some (empty_grid side))) (append_assoc line (10 ∷ []) (codes "clear_board\n"))
       (takes_both side (Some now) (Some now) (Some (empty_grid side)) (line ++ (10 ∷ [])) (codes "clear_board\n") sized cleared)
 
 pub script_replayed : BoardLaws → (line : Line) (side : ℕ) → opening (root_properties line.nodes) ≡ board side
@@ -290,13 +290,13 @@ script_replayed laws line side opens says =
     let parts = or_false (nat_lt MAX_VERTEX_SIDE side) (list_any leaves_unreaching w.played) says in
     let small : side ≤ 25 = grind (arith, nat_tests, parts.0) in
     let empty = Some (empty_grid side) in
-    let said = walk_said laws side small (begun side) line.nodes (begun_said laws side small) parts.1 in
+    let said = walk_said laws side small (before_root side) line.nodes (begun_said laws side small) parts.1 in
     let played = flat_map played_script w.played in
-    let all : Takes side empty (board_commands side ++ played) (Some w.state.colouring) =
+    let all : CarriesBoard side empty (board_commands side ++ played) (Some w.state.colouring) =
     takes_both side empty empty (Some w.state.colouring) (board_commands side) played (takes_commands laws side small (empty_grid side)) said.0 in
     let commands : commands_by (opening (root_properties line.nodes)) line.nodes ≡ board_commands side ++ played =
     ap (λ o. commands_by o line.nodes) opens ∙ ap (λ b. cond b [] (board_commands side ++ played)) says in
-    let row : Takes side empty (comment_line (list_row line)) empty = takes_comment side empty (list_row line) (row_within line) in
-    let both : Takes side empty (comment_line (list_row line) ++ (board_commands side ++ played)) (Some w.state.colouring) =
+    let row : CarriesBoard side empty (comment_line (list_row line)) empty = takes_comment side empty (list_row line) (row_within line) in
+    let both : CarriesBoard side empty (comment_line (list_row line) ++ (board_commands side ++ played)) (Some w.state.colouring) =
     takes_both side empty empty (Some w.state.colouring) (comment_line (list_row line)) (board_commands side ++ played) row all in
     ap (λ x. after_text side empty (comment_line (list_row line) ++ x ++ codes "\n")) commands ∙ both (codes "\n")

@@ -22,18 +22,18 @@ abbrev pub IsWithin : ℕ → Type 0
 IsWithin b = (b == 10) ≡ false
 
 -- a text of whole lines takes one board to another
-abbrev pub Takes : ℕ → Option Grid → List ℕ → Option Grid → Type 0
-Takes side before text after = (rest : List ℕ) → after_text side before (text ++ rest) ≡ after_text side after rest
+abbrev pub CarriesBoard : ℕ → Option Grid → List ℕ → Option Grid → Type 0
+CarriesBoard side before text after = (rest : List ℕ) → after_text side before (text ++ rest) ≡ after_text side after rest
 
-pub takes_line : (side : ℕ) (before : Option Grid) (line : List ℕ) → Each IsWithin line → Takes side before (line ++ (10 ∷ [])) (after_line side before line)
+pub takes_line : (side : ℕ) (before : Option Grid) (line : List ℕ) → Each IsWithin line → CarriesBoard side before (line ++ (10 ∷ [])) (after_line side before line)
 takes_line side before line h rest =
     ap (λ t. after_text side before t) (append_assoc line (10 ∷ []) rest)
     ∙ ap (λ ls. fold (after_line side) before ls) (slice_split_at (λ b. b == 10) line 10 rest (All-from_recursion IsWithin line h) refl)
 
-pub takes_nothing : (side : ℕ) (board : Option Grid) → Takes side board [] board
+pub takes_nothing : (side : ℕ) (board : Option Grid) → CarriesBoard side board [] board
 takes_nothing side board rest = refl
 
-pub takes_both : (side : ℕ) (a b c : Option Grid) (t u : List ℕ) → Takes side a t b → Takes side b u c → Takes side a (t ++ u) c
+pub takes_both : (side : ℕ) (a b c : Option Grid) (t u : List ℕ) → CarriesBoard side a t b → CarriesBoard side b u c → CarriesBoard side a (t ++ u) c
 takes_both side a b c t u first then rest = ap (λ x. after_text side a x) (append_assoc t u rest) ∙ first (u ++ rest) ∙ then rest
 
 -- ---- comments
@@ -42,7 +42,7 @@ comment_leaves : (side : ℕ) (board : Option Grid) (piece : List ℕ) → after
 comment_leaves side None piece = refl
 comment_leaves side (Some g) piece = refl
 
-pub takes_comment : (side : ℕ) (board : Option Grid) (piece : List ℕ) → Each IsWithin piece → Takes side board (comment_line piece) board
+pub takes_comment : (side : ℕ) (board : Option Grid) (piece : List ℕ) → Each IsWithin piece → CarriesBoard side board (comment_line piece) board
 takes_comment side board piece h rest =
     takes_line side board (codes "# " ++ piece) (refl, (refl, h)) rest ∙ ap (λ b. after_text side b rest) (comment_leaves side board piece)
 
@@ -60,12 +60,12 @@ pieces_within : (text : List ℕ) → Each (λ p. Each IsWithin p) (slice_split 
 pieces_within [] = (tt, tt)
 pieces_within (b ∷ bs) = pieces_by b bs (b == 10) refl (pieces_within bs)
 
-takes_comments : (side : ℕ) (board : Option Grid) (pieces : List (List ℕ)) → Each (λ p. Each IsWithin p) pieces → Takes side board (flat_map comment_line pieces) board
+takes_comments : (side : ℕ) (board : Option Grid) (pieces : List (List ℕ)) → Each (λ p. Each IsWithin p) pieces → CarriesBoard side board (flat_map comment_line pieces) board
 takes_comments side board [] h = takes_nothing side board
 takes_comments side board (p ∷ ps) h =
     takes_both side board board board (comment_line p) (flat_map comment_line ps) (takes_comment side board p h.0) (takes_comments side board ps h.1)
 
-pub takes_text_lines : (side : ℕ) (board : Option Grid) (text : List ℕ) → Takes side board (text_lines text) board
+pub takes_text_lines : (side : ℕ) (board : Option Grid) (text : List ℕ) → CarriesBoard side board (text_lines text) board
 takes_text_lines side board [] = takes_nothing side board
 takes_text_lines side board (b ∷ bs) = takes_comments side board (slice_split (λ c. c == 10) (b ∷ bs)) (pieces_within (b ∷ bs))
 

@@ -13,7 +13,7 @@ use Rattle.sgf_lines.specs.declared.verdict.Verdict.TheVariants.{Illegal}
 use Rattle.sgf_lines.specs.declared.step.StepFault.{StepFault}
 use Rattle.sgf_lines.specs.declared.step.StepFault.TheVariants.{Illegal as IllegalStep, Memory as MemoryStep}
 use Rattle.sgf_lines.specs.Step.{step}
-use Rattle.sgf_lines.specs.Walk.{Fault, Walk, begun, stepped, next_by, next, walk}
+use Rattle.sgf_lines.specs.Walk.{Fault, Walk, before_root, stepped, next_by, next, walk}
 use Rattle.sgf_lines.specs.Verdict.{verdict_at, score_in}
 use Rattle.sgf_lines.specs.inner.Stepping.{IsStepped, ended_with}
 
@@ -24,7 +24,7 @@ pub record StandsAfter (w : Walk) (s : State) : Type 0 where
 
 -- one node later
 pub walk-more : (side : ℕ) (nodes : List Node) (i : ℕ) (n : Node) → slice_get nodes i ≡ Some n → walk side (take (i + 1) nodes) ≡ next (walk side (take i nodes)) n
-walk-more side nodes i n e = ap (fold next (begun side)) (front nodes i e) ∙ fold-append next (begun side) (take i nodes) (n ∷ [])
+walk-more side nodes i n e = ap (fold next (before_root side)) (front nodes i e) ∙ fold-append next (before_root side) (take i nodes) (n ∷ [])
   where
     front : (ns : List Node) (i : ℕ) → slice_get ns i ≡ Some n → take (i + 1) ns ≡ take i ns ++ n ∷ []
     front ns i e = rw add-one (at_end ns i e)
@@ -54,7 +54,7 @@ after_fault w f (n ∷ ns) e = ap (λ v. fold next v ns) (ap (λ o. next_by w o 
 -- so the walk ends with the first fault
 pub walk-fault : (side : ℕ) (nodes : List Node) (i : ℕ) (f : Fault) → (walk side (take i nodes)).fault ≡ Some f → walk side nodes ≡ walk side (take i nodes)
 walk-fault side nodes i f e =
-    ap (fold next (begun side)) (sym (parts nodes i)) ∙ fold-append next (begun side) (take i nodes) (drop i nodes) ∙ after_fault (walk side (take i nodes)) f (drop i nodes) e
+    ap (fold next (before_root side)) (sym (parts nodes i)) ∙ fold-append next (before_root side) (take i nodes) (drop i nodes) ∙ after_fault (walk side (take i nodes)) f (drop i nodes) e
   where
     parts : (ns : List Node) (i : ℕ) → take i ns ++ drop i ns ≡ ns
     parts [] zero = refl
@@ -104,6 +104,6 @@ place_of_node c i n place e f = of_row (slice_get (rows_of c) i) e f
     of_row None e f = absurd cc
     of_row (Some r) e f = let same : r.node ≡ n = cc in let here : r.node.place ≡ place = cc in sym here ∙ ap (λ (m : Node). m.place) same
 
-pub at_start : (side : ℕ) (nodes : List Node) → StandsAfter (walk side (take 0 nodes)) (begun side).state
+pub at_start : (side : ℕ) (nodes : List Node) → StandsAfter (walk side (take 0 nodes)) (before_root side).state
 at_start side [] = record { no_fault = refl; state = refl }
 at_start side (n ∷ ns) = record { no_fault = refl; state = refl }

@@ -31,15 +31,15 @@ pub record IsLine (games : Games) (index : ℕ) (line : LineRef) : Type 0 where
   pub place : option_map place_of (slice_get (lines games) index) ≡ Some (shown line).place
 
 -- the line at a position, or none after the last one
-abbrev pub Gives : Position → Option LineRef → Type 0
-Gives at None = slice_get (lines at.games) at.given ≡ None
-Gives at (Some line) = IsLine at.games at.given line
+abbrev pub GivesLine : Position → Option LineRef → Type 0
+GivesLine at None = slice_get (lines at.games) at.given ≡ None
+GivesLine at (Some line) = IsLine at.games at.given line
 
 -- a line takes the cursor one line on; at the end and after a refusal it is unchanged
-abbrev pub Leaves : Position → Result (Option LineRef) MemoryFault → Position → Type 0
-Leaves old (Ok (Some line)) new = new ≡ advanced old
-Leaves old (Ok None) new = new ≡ old
-Leaves old (Err fault) new = new ≡ old
+abbrev pub LeavesCursor : Position → Result (Option LineRef) MemoryFault → Position → Type 0
+LeavesCursor old (Ok (Some line)) new = new ≡ advanced old
+LeavesCursor old (Ok None) new = new ≡ old
+LeavesCursor old (Err fault) new = new ≡ old
 
 -- the position directly after the line with this place
 pub record IsAfterPlace (place : ℕ) (old new : Position) : Type 0 where

@@ -22,8 +22,8 @@ pub record Walk : Type 0 where
   pub fault : Option Fault
 
 -- before the first node, on a board of that side
-abbrev pub begun : ℕ → Walk
-begun side = record { played = []; state = starting side; fault = None }
+abbrev pub before_root : ℕ → Walk
+before_root side = record { played = []; state = starting side; fault = None }
 
 -- a step that was taken goes on, and one that was refused is the fault
 abbrev pub stepped : Walk → Node → Result State Reason → Walk
@@ -40,7 +40,7 @@ next w n = next_by w w.fault n
 
 -- along nodes, from the state in which a game on a board of that side begins
 abbrev pub walk : ℕ → List Node → Walk
-walk side nodes = fold next (begun side) nodes
+walk side nodes = fold next (before_root side) nodes
 
 -- the nodes that were judged: those whose steps were taken, and the faulty one
 abbrev pub judged_by : Walk → List Node

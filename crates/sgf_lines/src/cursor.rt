@@ -41,7 +41,7 @@ impl<'c, 'a> Model for Cursor<'c, 'a> {
 
 impl<'c, 'a> Cursor<'c, 'a> {
     ghost use Rattle.std.specs.Borrow.{sem};
-    ghost use Rattle.sgf_lines.specs.Cursor.{Gives, Leaves, IsAfterPlace, IsSeekFault};
+    ghost use Rattle.sgf_lines.specs.Cursor.{GivesLine, LeavesCursor, IsAfterPlace, IsSeekFault};
     ghost use Rattle.sgf_lines.specs.inner.Lending.{OnceReturned};
 
     /// A cursor before the first line.
@@ -59,8 +59,8 @@ impl<'c, 'a> Cursor<'c, 'a> {
     /// The next line; after the last one None, again and again.
     /// After a refusal of memory the cursor is unchanged.
     pub fn next<'l>(&'l mut self) -> Result<Option<LineRef<'l>>, MemoryFault>
-        ensures* goes_on { sem 𝓛 (OnceReturned self.entry (Leaves self.entry.now result)) }
-        ensures line { IfOk result (Gives self.old) }
+        ensures* goes_on { sem 𝓛 (OnceReturned self.entry (LeavesCursor self.entry.now result)) }
+        ensures line { IfOk result (GivesLine self.old) }
     {
         match self.advance()? {
             Some(_) => Ok(Some(self.line())),

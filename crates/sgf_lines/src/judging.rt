@@ -103,3 +103,6 @@ pub(crate) fn score<P: Past>(referee: &Referee<P>) -> Verdict
         over: referee.over(),
     }
 }
+
+#[cfg(test)]
+mod tests;

@@ -82,6 +82,52 @@ fn rows(rt: HostRuntime) {
     }
 }
 
+/// A script has its row, the board, the comments, the stones of each setup and the moves, up to the first fault.
+#[test]
+fn scripts(rt: HostRuntime) {
+    let options = Options {
+        form: Form::Gtp,
+        after: None,
+        limit: None,
+    };
+    for (text, written) in [
+        (
+            b"(;SZ[3];B[bb])".as_slice(),
+            b"# 7 1 2 score 9 0 open\nboardsize 3\nclear_board\nplay B B2\n\n".as_slice(),
+        ),
+        (
+            b"(;SZ[5]AB[ab][ba]AW[cc]C[one\ntwo];W[];B[ee])",
+            b"# 37 1 3 score 4 1 open\nboardsize 5\nclear_board\n# one\n# two\nclear_board\nplay B B5\nplay B A4\nplay W C3\nplay W pass\nplay B E1\n\n",
+        ),
+        (
+            b"(;SZ[1];B[aa])",
+            b"# 7 1 2 illegal 1 7 repeat\nboardsize 1\nclear_board\n\n",
+        ),
+        (
+            b"(;SZ[3]AB[aa]AW[ba][ab]AE[cc];B[cc])",
+            b"# 29 1 2 score 1 3 open\n\n",
+        ),
+        (b"(;GM[2]SZ[26])", b"# 1 1 1 unjudged game\n\n"),
+        (
+            b"(;SZ[3]C[x];B[aa]C[y];W[aa]C[z])",
+            b"# 21 1 3 illegal 2 21 occupied\nboardsize 3\nclear_board\n# x\n# y\nplay B A3\n\n",
+        ),
+        (
+            b"(;SZ[1]C[a\n\nb])",
+            b"# 1 1 1 score 0 0 open\nboardsize 1\nclear_board\n# a\n# \n# b\n\n",
+        ),
+        (
+            b"(;SZ[3];B[];W[];AE[aa];W[bb])",
+            b"# 22 1 5 score 0 9 open\nboardsize 3\nclear_board\nplay B pass\nplay W pass\nclear_board\nplay W B2\n\n",
+        ),
+        (b"(;SZ[26]C[x];B[aa])", b"# 12 1 2 score 676 0 open\n\n"),
+    ] {
+        let (output, result) = run(rt.alloc(), text, &options);
+        assert_eq!(rt; output.as_slice(), written);
+        assert_eq!(rt; result, Ok(1));
+    }
+}
+
 #[test]
 fn single_lines(rt: HostRuntime) {
     for (text, written) in [
