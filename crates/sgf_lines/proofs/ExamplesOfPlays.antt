@@ -1,6 +1,6 @@
 -- Which places small collections touch, and which are judged, computed.
-use Rattle.std.proofs.Common.{◌≡◌, ℕ, List, [], ◌∷◌, drop, length, refl}
-use Rattle.std.specs.Prelude.{codes}
+use Rattle.std.proofs.Common.{◌≡◌, ℕ, List, [], ◌∷◌, length, Option, Some, None, refl}
+use Rattle.std.specs.Prelude.{codes, option_map}
 use Rattle.sgf_tree.specs.Tree.{Property, Node, Games, no_games, game}
 use Rattle.go_board.specs.Point.{points}
 use Rattle.go_board.specs.Reaching.{reaches, reaching_within, spread}
@@ -9,7 +9,12 @@ use Rattle.go_board.specs.Score.{score_of, counts_for}
 use Rattle.go_board.specs.State.{with_area}
 use Rattle.go_board.specs.Values.{point_value, rect_value}
 use Rattle.sgf_lines.specs.Lines.{lines}
+use Rattle.sgf_lines.specs.Page.{page}
 use Rattle.sgf_lines.specs.Plays.{touched, judged}
+use Rattle.sgf_lines.specs.CountedRun.{plays_of}
+use Rattle.sgf_lines.specs.declared.options.Form.{Form}
+use Rattle.sgf_lines.specs.declared.options.Form.TheVariants.{List as list_form, Sgf as sgf_form, Gtp as gtp_form}
+use Rattle.sgf_lines.specs.declared.options.Options.{Options}
 
 abbrev node : ℕ → List ℕ → List ℕ → Node
 node place name value = record { place = place; properties = record { name = name; first = value; more = [] } ∷ [] }
@@ -30,9 +35,23 @@ each_node_is_judged_once : judged (lines variations) ≡ 1 ∷ 8 ∷ 16 ∷ 22 �
 unfolding reaching_within spread points reaches clear cleared_cell play score_of counts_for with_area point_value rect_value
 each_node_is_judged_once = refl
 
-the_second_line_alone : judged (drop 1 (lines variations)) ≡ 1 ∷ 16 ∷ 22 ∷ []
+-- how many nodes are played for the page after a place, or for all lines
+abbrev plays : Form → Option ℕ → Games → Option ℕ
+plays form after c = option_map (plays_of form) (page (record { form = form; after = after; limit = None }) c)
+
+each_node_is_played_once : plays list_form None variations ≡ Some 4
+unfolding reaching_within spread points reaches clear cleared_cell play score_of counts_for with_area point_value rect_value
+each_node_is_played_once = refl
+
+the_second_line_alone : plays gtp_form (Some 8) variations ≡ Some 3
 unfolding reaching_within spread points reaches clear cleared_cell play score_of counts_for with_area point_value rect_value
 the_second_line_alone = refl
+
+no_line : plays list_form (Some 22) variations ≡ Some 0
+no_line = refl
+
+no_play_in_sgf_form : plays sgf_form None variations ≡ Some 0
+no_play_in_sgf_form = refl
 
 -- (;SZ[1];B[aa](;W[])(;C[x]))
 abbrev suicide : Games
@@ -48,6 +67,32 @@ up_to_the_fault : judged (lines suicide) ≡ 1 ∷ 7 ∷ []
 unfolding reaching_within spread points reaches clear cleared_cell play score_of counts_for with_area point_value rect_value
 up_to_the_fault = refl
 
+no_play_after_the_fault : plays list_form None suicide ≡ Some 2
+unfolding reaching_within spread points reaches clear cleared_cell play score_of counts_for with_area point_value rect_value
+no_play_after_the_fault = refl
+
+-- (;SZ[3];B[](;W[])(;W[bb])(;AE[aa];W[]))
+abbrev passes : Games
+passes =
+    game (node 1 (codes "SZ") (codes "3")) (node 7 (codes "B") [] ∷ [])
+    (game (node 12 (codes "W") []) [] no_games
+    (game (node 18 (codes "W") (codes "bb")) [] no_games
+    (game (node 26 (codes "AE") (codes "aa")) (node 33 (codes "W") [] ∷ []) no_games
+    no_games)))
+    no_games
+
+a_setup_is_played : plays list_form None passes ≡ Some 6
+unfolding reaching_within spread points reaches clear cleared_cell play score_of counts_for with_area point_value rect_value
+a_setup_is_played = refl
+
+-- (;SZ[1])(;SZ[2])
+abbrev two_games : Games
+two_games = game (node 1 (codes "SZ") (codes "1")) [] no_games (game (node 9 (codes "SZ") (codes "2")) [] no_games no_games)
+
+each_game_is_played : plays gtp_form None two_games ≡ Some 2
+unfolding reaching_within spread points reaches clear cleared_cell play score_of counts_for with_area point_value rect_value
+each_game_is_played = refl
+
 -- (;GM[2](;)(;))
 abbrev other_game : Games
 other_game =
@@ -59,3 +104,6 @@ other_game =
 
 another_game_is_not_judged : judged (lines other_game) ≡ []
 another_game_is_not_judged = refl
+
+another_game_is_not_played : plays list_form None other_game ≡ Some 0
+another_game_is_not_played = refl
