@@ -110,3 +110,6 @@ pub fn judged()
     ensures one_of_two { (side : ℕ) (nodes : List Node)
         → ((s : State) × IsAfter (starting side) nodes s) ⊎ HasFault (starting side) nodes }
 {}
+
+#[cfg(test)]
+mod tests;
