@@ -15,6 +15,9 @@ pub mod LinesRise
 pub mod Following
 pub mod Different
 pub mod Touched
+pub mod JudgedFront
+pub mod Rising
+pub mod PlayCounts
 pub mod PagesJoin
 pub mod Seeking
 pub mod Loops
