@@ -6,6 +6,7 @@ use Rattle.std.proofs.KnownBytes.{Appends-nil, Appends-trans}
 use Rattle.std.proofs.lemmas.List.{take-append-drop, take-append-le}
 use Rattle.std.proofs.Math.Seq.{take-append-add}
 use Rattle.sgf_tree.specs.Tree.{Games}
+use Rattle.sgf_tree.specs.declared.fault.TheConstants.{MAX_LENGTH}
 use Rattle.sgf_tree.specs.Spelling.{Spells}
 use Rattle.sgf_tree.specs.Refusal.{IsFaultyAt}
 use Rattle.sgf_lines.specs.Ends.{SourceState, SinkState, Takes, TakesNothing}
@@ -46,7 +47,7 @@ module _ {A : Type 0} (source new_source : SourceState) (text : List ℕ) (u : A
   pub count_of_none : IsCount source new_source (Err (Memory 0))
   count_of_none = of_text (Err (Memory 0)) refl
 
-  pub text_within : length text ≤ 67108864
+  pub text_within : length text ≤ MAX_LENGTH
   text_within = whole.within
 
 -- the sink failed within a piece of the row

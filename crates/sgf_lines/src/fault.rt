@@ -1,5 +1,6 @@
 //! The ways in which a run may fail.
 
+use sgf_tree::MAX_LENGTH;
 use thiserror::Error;
 
 /// Why a run ended before it had done all that was asked.
@@ -12,7 +13,7 @@ pub enum RunFault {
 
     /// The source gave more than `sgf_tree::MAX_LENGTH` bytes.
     /// Nothing was written.
-    #[error("input is longer than 67108864 bytes")]
+    #[error("input is longer than {MAX_LENGTH} bytes")]
     TooLong,
 
     /// No collection is spelled by what the source gave, which is `len` bytes (SGF FF[4], EBNF).

@@ -1,5 +1,6 @@
 -- Why the program ends with another status than 0: the status, and the line on standard error.
 use Rattle.std.specs.Prelude.{ℕ, ◌++◌, ◌==◌, List, codes, decimal, if◌then◌else◌}
+use Rattle.sgf_lines.specs.Answer.{MAX_LENGTH}
 use Rattle.sgf_lines.specs.declared.fault.RunFault.{RunFault}
 use Rattle.sgf_lines.specs.declared.fault.RunFault.TheVariants.{Read, TooLong, NotSgf, NoSuchLine, Write, Memory}
 use Rattle.sgfsplit.specs.declared.fault.Fault.{Fault}
@@ -18,7 +19,7 @@ status_of (Run (Memory lines)) = 4
 abbrev pub message_of : Fault → List ℕ
 message_of Open = codes "open failed"
 message_of (Run Read) = codes "read failed"
-message_of (Run TooLong) = codes "input is longer than 67108864 bytes"
+message_of (Run TooLong) = codes "input is longer than " ++ decimal MAX_LENGTH ++ codes " bytes"
 message_of (Run (NotSgf at len)) =
     codes "byte " ++ decimal at ++ (if at == len then codes ": input ends too early" else codes ": not SGF")
 message_of (Run (NoSuchLine place)) = codes "no line ends at " ++ decimal place

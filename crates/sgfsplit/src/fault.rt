@@ -3,7 +3,7 @@
 ghost use Rattle.std.specs.Prelude.{◌≡◌, ◌<◌, ◌≤◌, ◌+◌, ◌++◌, length};
 
 use crate::line::Line;
-use sgf_lines::{RunFault, Sink};
+use sgf_lines::{MAX_LENGTH, RunFault, Sink};
 
 /// Why the program ends with another status than 0.
 #[derive(Clone, Copy, Debug, PartialEq, Eq)]
@@ -43,7 +43,11 @@ impl Fault {
         match self {
             Fault::Open => ("open failed", None, ""),
             Fault::Run(RunFault::Read) => ("read failed", None, ""),
-            Fault::Run(RunFault::TooLong) => ("input is longer than 67108864 bytes", None, ""),
+            Fault::Run(RunFault::TooLong) => (
+                "input is longer than ",
+                Some(MAX_LENGTH as u64),
+                " bytes",
+            ),
             Fault::Run(RunFault::NotSgf { at, len }) if at == len => {
                 ("byte ", Some(*at as u64), ": input ends too early")
             }
