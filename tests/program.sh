@@ -123,15 +123,17 @@ lost() {
 if [ -w /dev/full ]; then
     lost 'a full device' '"$SGFSPLIT" split two.sgf > /dev/full'
     lost 'a full device, counting' '"$SGFSPLIT" count two.sgf > /dev/full'
+    lost 'a full device, for the help' '"$SGFSPLIT" --help > /dev/full'
     run 3 'a full device for both streams' bash -c '"$SGFSPLIT" split two.sgf > /dev/full 2> /dev/full'
     run 1 'a full device for the fault line' bash -c '"$SGFSPLIT" split tail.sgf 2> /dev/full'
     writes 'a full device for the fault line' ''
 else
-    not_run=$((not_run + 4))
+    not_run=$((not_run + 5))
     echo 'skipped: there is no /dev/full'
 fi
 lost 'a closed standard output' '"$SGFSPLIT" split two.sgf >&-'
 lost 'a closed standard output, counting' '"$SGFSPLIT" count two.sgf >&-'
+lost 'a closed standard output, for the help' '"$SGFSPLIT" split --help >&-'
 run 0 'a closed standard error' bash -c '"$SGFSPLIT" split two.sgf 2>&-'
 writes 'a closed standard error' "$rows"
 run 1 'a closed standard error, at a fault' bash -c '"$SGFSPLIT" split tail.sgf 2>&-'
