@@ -13,7 +13,7 @@ use crate::opening::{Opening, opening_of};
 use crate::script::{push_board_commands, push_node_script};
 use crate::step::{Change, StepFault, play_node};
 use crate::text::push_bytes;
-use go_board::{Board, ListPast, MAX_VERTEX_SIDE, Referee, Size};
+use go_board::{Board, MAX_VERTEX_SIDE, PrintPast, Referee, Size};
 use sgf_tree::{Collection, MemoryFault};
 use std::alloc::Global;
 
@@ -56,7 +56,7 @@ fn commands_on(
     }
     let mut commands = Vec::new(alloc);
     push_board_commands(size, &mut commands)?;
-    let Ok(mut referee) = Referee::<ListPast>::new(alloc, size) else {
+    let Ok(mut referee) = Referee::<PrintPast>::new(alloc, size) else {
         return Err(MemoryFault);
     };
     for number in path {
