@@ -19,6 +19,7 @@ pub mod JudgedFront
 pub mod Rising
 pub mod PlayCounts
 pub mod PagesJoin
+pub mod PagePlays
 pub mod Seeking
 pub mod Loops
 pub mod Standings

@@ -52,12 +52,12 @@ ends_list (l ∷ ls) place tail e = by (place_of l == place) refl (λ later. end
     by true is below = let here : Some ls ≡ Some tail = rw is at e in let same : ls ≡ tail = cc in (l ∷ [], ap (λ xs. l ∷ xs) same)
     by false is below = let f = below (rw is at e) in (l ∷ f.0, ap (λ xs. l ∷ xs) f.1)
 
-tail_of : (ls : List Line) (after : Option ℕ) (tail : List Line) → lines_from_place ls after ≡ Some tail → (before : List Line) × (ls ≡ before ++ tail)
+pub tail_of : (ls : List Line) (after : Option ℕ) (tail : List Line) → lines_from_place ls after ≡ Some tail → (before : List Line) × (ls ≡ before ++ tail)
 tail_of ls None tail e = ([], cc)
 tail_of ls (Some place) tail e = ends_list ls place tail e
 
 -- a limit leaves a front
-front_of : (limit : Option ℕ) (tail front : List Line) → limited limit tail ≡ front → (rest : List Line) × (tail ≡ front ++ rest)
+pub front_of : (limit : Option ℕ) (tail front : List Line) → limited limit tail ≡ front → (rest : List Line) × (tail ≡ front ++ rest)
 front_of None tail front e = ([], e ∙ sym (append-nil front))
 front_of (Some n) tail front e = (drop n tail, sym (take-append-drop n tail) ∙ ap (λ xs. xs ++ drop n tail) e)
 

@@ -1,16 +1,16 @@
 //! Laws of the definitions. A function here does nothing: what it ensures is a law that is proved.
 
-ghost use Rattle.std.specs.Prelude.{◌≡◌, ◌∷◌, ◌++◌, ◌+◌, ◌⊎◌, ℕ, Err, false, List, [], Some, map, length};
+ghost use Rattle.std.specs.Prelude.{◌≡◌, ◌≤◌, ◌∷◌, ◌++◌, ◌+◌, ◌⊎◌, ℕ, Err, false, List, [], Some, map, length};
 ghost use Rattle.std.specs.List.{AllZip, flat_map};
 ghost use Rattle.std.specs.List.Sorted.{IsStrictlyIncreasing};
 ghost use Rattle.sgf_tree.specs.Appending.{raised, BeginsWithMark};
-ghost use Rattle.sgf_tree.specs.Tree.{Games, game_count, joined};
+ghost use Rattle.sgf_tree.specs.Tree.{Games, game_count, node_count, joined};
 ghost use Rattle.sgf_tree.specs.Spelling.{Spells};
 ghost use Rattle.sgf_lines.specs.Lines.{Line, lines, place_of};
 ghost use Rattle.sgf_lines.specs.Paths.{paths, IsPathOf};
 ghost use Rattle.sgf_lines.specs.Page.{page};
 ghost use Rattle.sgf_lines.specs.declared.options.Options.{Options};
-ghost use Rattle.sgf_lines.specs.Plays.{touched as touched_places, node_places};
+ghost use Rattle.sgf_lines.specs.Plays.{touched as touched_places, judged as judged_places, node_places};
 ghost use Rattle.sgf_lines.specs.declared.options.Form.TheVariants.{List as list_form};
 ghost use Rattle.sgf_lines.specs.Appending.{raised_row};
 ghost use Rattle.sgf_lines.specs.Output.{sgf_output};
@@ -61,9 +61,11 @@ pub fn append()
 }
 
 /// The places that the lines of a collection touch are the places of all its nodes, in file order.
-/// So a run over all lines plays at most as many nodes as there are.
+/// On no page are more nodes judged than there are, so no run plays more.
 pub fn touched()
-    ensures { (c : Games) (t : List ℕ) → Spells c t → touched_places (lines c) ≡ node_places c }
+    ensures places { (c : Games) (t : List ℕ) → Spells c t → touched_places (lines c) ≡ node_places c }
+    ensures plays { (c : Games) (t : List ℕ) → Spells c t → (o : Options) (ls : List Line) → page o c ≡ Some ls
+        → length (judged_places ls) ≤ node_count c }
 {
     sgf_tree::laws::places_rise();
 }

@@ -1,6 +1,10 @@
--- The lines touch the nodes one after the other.
+-- The lines touch the nodes one after the other, and a page plays no more of them.
 use Rattle.sgf_lines.proofs.Touched.{touched_all}
+use Rattle.sgf_lines.proofs.PagePlays.{page_plays}
 use Rattle.sgf_lines.proofs.laws.touched.Goals as goal
 
-pub returns : goal.returns
-returns c = λ games text spelled. touched_all games (c.places_rise.ensures games text spelled)
+pub returns-clause-places : goal.returns-clause-places
+returns-clause-places c = λ games text spelled. touched_all games (c.places_rise.ensures games text spelled)
+
+pub returns-clause-plays : goal.returns-clause-plays
+returns-clause-plays c = λ games text spelled options ls is. page_plays games (c.places_rise.ensures games text spelled) options ls is
