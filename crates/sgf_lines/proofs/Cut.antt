@@ -16,42 +16,7 @@ use Rattle.sgf_tree.specs.Tree.{Node}
 use Rattle.go_board.specs.State.{State}
 use Rattle.sgf_lines.specs.NodeContents.{Stones, moves, stones}
 use Rattle.sgf_lines.specs.Script.{comment_line, text_lines, comment_lines, play_line, stones_on, stone_lines, board_lines, setup_lines, move_lines, node_script}
-use Rattle.sgf_lines.specs.inner.Cutting.{cut_byte, lines_at}
-
--- the pieces of a text, as a first one and more
-record Pieces (bs : List ℕ) : Type 0 where
-  first : List ℕ
-  more : List (List ℕ)
-  are : slice_split (λ c. c == 10) bs ≡ first ∷ more
-  text : flat_map cut_byte bs ++ codes "\n" ≡ (first ++ codes "\n") ++ flat_map comment_line more
-
-more_pieces : (b : ℕ) (bs : List ℕ) → Pieces bs → Pieces (b ∷ bs)
-more_pieces b bs r =
-    let S = slice_split (λ c. c == 10) bs in
-    let F = flat_map cut_byte bs in
-    elim (cases_Bool (b == 10)) [
-      | inl e ↦ record {
-        first = [];
-        more = r.first ∷ r.more;
-        are = subst (λ t. cond t ([] ∷ S) (onto_first b S) ≡ [] ∷ r.first ∷ r.more) (sym e) (ap (λ ps. [] ∷ ps) r.are);
-        text = subst (λ t. (cond t (codes "\n# ") (b ∷ []) ++ F) ++ codes "\n" ≡ ([] ++ codes "\n") ++ flat_map comment_line (r.first ∷ r.more)) (sym e) (ap (λ rest. 10 ∷ 35 ∷ 32 ∷ rest) r.text);
-      }
-      | inr e ↦ record {
-        first = b ∷ r.first;
-        more = r.more;
-        are = subst (λ t. cond t ([] ∷ S) (onto_first b S) ≡ (b ∷ r.first) ∷ r.more) (sym e) (ap (onto_first b) r.are);
-        text = subst (λ t. (cond t (codes "\n# ") (b ∷ []) ++ F) ++ codes "\n" ≡ ((b ∷ r.first) ++ codes "\n") ++ flat_map comment_line r.more) (sym e) (ap (λ rest. b ∷ rest) r.text);
-      }
-    ]
-
-pieces : (bs : List ℕ) → Pieces bs
-pieces [] = record { first = []; more = []; are = refl; text = refl }
-pieces (b ∷ bs) = more_pieces b bs (pieces bs)
-
--- the comment lines of a text that isn't empty
-pub text-cut : (bs : List ℕ) → (length bs ≡ 0 → ⊥) → text_lines bs ≡ codes "# " ++ (flat_map cut_byte bs ++ codes "\n")
-text-cut [] some = absurd (some refl)
-text-cut (b ∷ bs) some = let p = pieces (b ∷ bs) in ap (flat_map comment_line) p.are ∙ ap (λ rest. 35 ∷ 32 ∷ rest) (sym p.text)
+use Rattle.sgf_lines.specs.inner.Cutting.{lines_at}
 
 pub at_index : (xs : List ℕ) (i : ℕ) → i < length xs → slice_get xs i ≡ Some (get_or xs i 0)
 at_index [] i lt = absurd (omega arith)

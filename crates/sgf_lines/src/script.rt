@@ -3,9 +3,9 @@
 ghost use Rattle.std.specs.Prelude.{◌≡◌, ◌++◌, ◌≤◌, ◌<◌, ◌*◌, Some, slice_get, OnOk};
 ghost use Rattle.go_board.specs.Point.{IsOn, points};
 ghost use Rattle.go_board.specs.State.{State, IsPlayOn};
-ghost use Rattle.sgf_lines.specs.Script.{text_lines, comment_lines, colour_letter, vertex_text, play_line, stone_lines, board_lines, node_script, board_commands};
+ghost use Rattle.sgf_lines.specs.Script.{text_lines, comment_line, comment_lines, colour_letter, vertex_text, play_line, stone_lines, board_lines, node_script, board_commands};
 ghost use Rattle.sgf_lines.specs.inner.Stepping.{IsChange};
-ghost use Rattle.sgf_lines.specs.inner.Cutting.{cut_byte, lines_at};
+ghost use Rattle.sgf_lines.specs.inner.Cutting.{lines_at};
 
 use crate::opening::first_value;
 use crate::step::Change;
@@ -63,22 +63,19 @@ fn push_text_lines(text: &[u8], output: &mut Vec<u8>) -> Result<(), MemoryFault>
     if text.is_empty() {
         return Ok(());
     }
-    push_bytes(b"# ", output)?;
-    for byte in text {
-        push_cut(*byte, output)?;
+    for piece in text.split(|byte| *byte == b'\n') {
+        push_comment_line(piece, output)?;
     }
-    push_bytes(b"\n", output)
+    Ok(())
 }
 
-/// Appends a byte of a comment; after a line feed a further comment line begins.
-fn push_cut(byte: u8, output: &mut Vec<u8>) -> Result<(), MemoryFault>
-    ensures { OnOk result (output.new.items ≡ output.old.items ++ cut_byte byte) }
+/// Appends a comment line.
+fn push_comment_line(piece: &[u8], output: &mut Vec<u8>) -> Result<(), MemoryFault>
+    ensures { OnOk result (output.new.items ≡ output.old.items ++ comment_line piece.now) }
 {
-    if byte == b'\n' {
-        push_bytes(b"\n# ", output)
-    } else {
-        push_bytes(&[byte], output)
-    }
+    push_bytes(b"# ", output)?;
+    push_bytes(piece, output)?;
+    push_bytes(b"\n", output)
 }
 
 /// Appends a whole board: that it is cleared, then all black stones, then all white ones.

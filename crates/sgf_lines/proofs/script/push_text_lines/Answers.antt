@@ -1,16 +1,29 @@
-use Rattle.std.proofs.Common.{◌≡◌, ◌≤◌, ◌++◌, ◌∷◌, [], length, sym, ◌∙◌, subst, arith}
-use Rattle.std.specs.Prelude.{OnOk}
+-- After the last piece the whole text is appended.
+use Rattle.std.proofs.Common.{◌≡◌, ◌++◌, ◌==◌, List, [], ◌∷◌, Option, None, map, length, refl, sym, ap, ◌∙◌, subst, rules, tests, ℕ}
+use Rattle.std.specs.Iterator.{Yields}
+use Rattle.std.specs.List.{flat_map, slice_split}
 use Rattle.std.proofs.lemmas.Bool.{eqb-false}
-use Rattle.sgf_lines.specs.inner.Cutting.{cut_byte}
-use Rattle.sgf_lines.proofs.Joins.{ends}
-use Rattle.sgf_lines.proofs.Cut.{text-cut}
+use Rattle.std.proofs.lemmas.Iterator.{YieldsList}
+use Rattle.std.proofs.lemmas.Iterator.Consumers.{YieldsList-end, YieldsList-at}
+use Rattle.std.proofs.lemmas.Iterator.Splits.{YieldsList-from_slice_split}
+use Rattle.sgf_lines.specs.Script.{text_lines, comment_line}
 use Rattle.sgf_lines.proofs.script.push_text_lines.Goals as goal
+
+-- the comment lines of a text that isn't empty
+of_pieces : (bs : List ℕ) → (length bs ≡ 0 → ⊥) → text_lines bs ≡ flat_map comment_line (slice_split (λ c. c == 10) bs)
+of_pieces [] some = absurd (some refl)
+of_pieces (b ∷ bs) some = refl
+
+-- a loop that has ended has yielded all
+ended : {S A B : Type 0} {steps : S → Option A → S → Type 0} {v : A → B} {s : S} (all : List B) (xs : List A) (t : S) → Yields steps s xs t → (r : Option A) (u : S)
+    → r ≡ None → steps t r u → YieldsList steps v s all → map v xs ≡ all
+ended all xs t y r u none last e = (YieldsList-end e xs t y r u none last).0
 
 pub returns : goal.returns
 returns c =
     let text = c.args.text.now in
-    let old = c.args.output.now.items in
     let some : length text ≡ 0 → ⊥ = eqb-false (length text) 0 (sym c.is_empty.ensures ∙ c.if-is_empty.false) in
-    let le : length text ≤ c.loop-byte.byte-index = omega arith in
-    subst (λ t. OnOk c.push_bytes-2.result (c.push_bytes-2.new.output.items ≡ old ++ t)) (sym (text-cut text some))
-    (ends cut_byte c.push_bytes-2.result old (35 ∷ 32 ∷ []) (10 ∷ []) text c.loop-byte.byte-index c.loop-byte.output.items c.push_bytes-2.new.output.items le c.loop-byte.invariant c.push_bytes-2.ensures)
+    let split = c.split-piece-items.ensures in
+    let pieces = ended {v = λ p. p.now} (slice_split (λ b. b == 10) text) c.loop-piece.yielded _ c.loop-piece.yielded_by c.next.result _ c.in-None.is c.next.ensures.steps
+        (YieldsList-at (cc) (YieldsList-from_slice_split {s = c.split-piece-items.result} _ _ text split.rest split.done split.closure (λ x r q k. search (rules, tests)))) in
+    subst (λ t. c.loop-piece.output.items ≡ c.args.output.now.items ++ t) (ap (flat_map comment_line) pieces ∙ sym (of_pieces text some)) c.loop-piece.invariant
