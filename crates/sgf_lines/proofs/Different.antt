@@ -17,7 +17,7 @@ abbrev pub has : List ℕ → ℕ → Bool
 has xs n = list_any (λ x. x == n) xs
 
 -- whether it doesn't
-abbrev is_new : List ℕ → ℕ → Bool
+abbrev pub is_new : List ℕ → ℕ → Bool
 is_new xs n = if has xs n then false else true
 
 filter_both : (p q r : ℕ → Bool) → ((n : ℕ) → r n ≡ cond (q n) (p n) false) → (l : List ℕ) → filter p (filter q l) ≡ filter r l
@@ -52,7 +52,7 @@ each_different P [] h = tt
 each_different P (n ∷ l) h = (h.0, each_filter P (differ n) (different l) (each_different P l h.1))
 
 -- of two lists joined: what the first has, and then what the second has besides
-different-append : (xs ys : List ℕ) → different (xs ++ ys) ≡ different xs ++ filter (is_new xs) (different ys)
+pub different-append : (xs ys : List ℕ) → different (xs ++ ys) ≡ different xs ++ filter (is_new xs) (different ys)
 different-append [] ys = sym (filter_all (is_new []) (different ys) (all (different ys)))
   where
     all : (l : List ℕ) → Each (λ n. is_new [] n ≡ true) l

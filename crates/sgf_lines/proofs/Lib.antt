@@ -49,5 +49,7 @@ pub mod Running
 pub mod SliceEnds
 pub mod LineCounts
 pub mod Paging
+pub mod CountedPaging
+pub mod CountedRunning
 pub mod CountAnswers
 pub mod Recorded

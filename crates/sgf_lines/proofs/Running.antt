@@ -23,11 +23,11 @@ use Rattle.sgf_lines.specs.Cursor.{Position}
 use Rattle.sgf_lines.proofs.Joins.{more_texts}
 use Rattle.sgf_lines.proofs.Pages.{get_some}
 
-appends_nothing : (a : Option (List ℕ)) → Appends a a []
+pub appends_nothing : (a : Option (List ℕ)) → Appends a a []
 appends_nothing a = Appends-nil a
 
 -- a fault of the reading is the run's
-answers_fault : (A : Type 0) (o : Options) (given : List ℕ) (to_come : Option (List ℕ)) (text : List ℕ) (fault : RunFault)
+pub answers_fault : (A : Type 0) (o : Options) (given : List ℕ) (to_come : Option (List ℕ)) (text : List ℕ) (fault : RunFault)
     → AnswersReading {A = A} given to_come text (Err fault) → Answers o given to_come [] (Err fault)
 answers_fault A o given to_come text Read h = (h, refl)
 answers_fault A o given to_come text TooLong h = (h, refl)
@@ -36,7 +36,7 @@ answers_fault A o given to_come text (NoSuchLine place) h = absurd h
 answers_fault A o given to_come text (Write k) h = absurd h
 answers_fault A o given to_come text (Memory k) h = inr (h, refl)
 
-pub run_of_fault : {A : Type 0} (o : Options) (source new_source : SourceState) (sink : SinkState) (text : List ℕ) (fault : RunFault)
+abbrev pub run_of_fault : {A : Type 0} (o : Options) (source new_source : SourceState) (sink : SinkState) (text : List ℕ) (fault : RunFault)
     → IsReading {A = A} source new_source text (Err fault) → IsRun o source new_source sink sink (Err fault)
 run_of_fault {A = A} o source new_source sink text fault h = record {
   given = h.given;
@@ -61,7 +61,7 @@ pub no_write : {A : Type 0} (source new_source : SourceState) (text : List ℕ) 
 no_write {A = A} source new_source text fault h = reading_no_write A h.given new_source.to_come text fault h.answers
 
 -- where the source was read to its end, the answer is that for the text
-pub run_of_text : {A : Type 0} (o : Options) (source new_source : SourceState) (sink new_sink : SinkState) (text : List ℕ) (u : A) (result : Result ℕ RunFault)
+abbrev pub run_of_text : {A : Type 0} (o : Options) (source new_source : SourceState) (sink new_sink : SinkState) (text : List ℕ) (u : A) (result : Result ℕ RunFault)
     → IsReading {A = A} source new_source text (Ok u) → IsSplit o text sink new_sink result → IsRun o source new_source sink new_sink result
 run_of_text o source new_source sink new_sink text u result h split =
     let same : h.given ≡ text = sym h.answers.1 in

@@ -7,6 +7,7 @@ pub mod Contents
 pub mod Stepping
 pub mod Shown
 pub mod Running
+pub mod CountedLines
 pub mod Played
 pub mod Followed
 pub mod Cutting
