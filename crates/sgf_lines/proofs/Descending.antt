@@ -57,7 +57,7 @@ up_from {n = n} front way e =
     rw (snoc_front front f.0 n n f.2) f.1
 
 -- a way has no more nodes than stand before its last one, and that one
-way_length : {c : Games} {at : Option ℕ} {ns : List ℕ} → IsWayTo c at ns → (i : ℕ) → at ≡ Some i → length ns ≤ i + 1
+pub way_length : {c : Games} {at : Option ℕ} {ns : List ℕ} → IsWayTo c at ns → (i : ℕ) → at ≡ Some i → length ns ≤ i + 1
 way_length top i e = absurd cc
 way_length {c = c} (step {i = j} {parent = None} {above = above} e top is) i f = omega (arith, ap length is)
 way_length {c = c} (step {i = j} {parent = Some p} {above = above} e up is) i f =

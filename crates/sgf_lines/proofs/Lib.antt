@@ -34,6 +34,7 @@ pub mod Walking
 pub mod Judged
 pub mod Played
 pub mod Along
+pub mod Counted
 pub mod Cut
 pub mod Commanding
 pub mod Lined
@@ -53,3 +54,4 @@ pub mod CountedPaging
 pub mod CountedRunning
 pub mod CountAnswers
 pub mod Recorded
+pub mod Keeping

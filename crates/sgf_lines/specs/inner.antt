@@ -10,4 +10,5 @@ pub mod Running
 pub mod CountedLines
 pub mod Played
 pub mod Followed
+pub mod Keeping
 pub mod Cutting

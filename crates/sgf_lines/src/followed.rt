@@ -1,15 +1,16 @@
 //! The lines of a run are followed one after the other: what a line shares with the one before it is not played again.
 
-ghost use Rattle.std.specs.Prelude.{◌≡◌, ◌≤◌, ◌<◌, ℕ, List, [], Some, map, take, length, All, IfOk, OnOk};
+ghost use Rattle.std.specs.Prelude.{◌≡◌, ◌≤◌, ◌<◌, ◌+◌, ◌-◌, ℕ, List, [], Some, map, take, length, All, IfOk, OnOk};
 ghost use Rattle.sgf_tree.specs.Tree.{Node, node_count};
 ghost use Rattle.sgf_tree.specs.FileOrder.{node_at};
 ghost use Rattle.sgf_lines.specs.GameSize.{Opening as OpeningSaid, opening, root_properties};
 ghost use Rattle.sgf_lines.specs.Verdict.{verdict_of};
-ghost use Rattle.sgf_lines.specs.inner.Played.{IsPlayed};
-ghost use Rattle.sgf_lines.specs.inner.Followed.{IsHeld, IsFollowed};
+ghost use Rattle.sgf_lines.specs.inner.Played.{IsPlayed, Counts};
+ghost use Rattle.sgf_lines.specs.inner.Followed.{IsHeld, IsFollowed, CountsOn, CountsFresh};
 
 use crate::game::Game;
 use crate::opening::{Opening, opening_of};
+use crate::plays::Plays;
 use crate::verdict::Verdict;
 use sgf_tree::{Collection, MemoryFault};
 use std::alloc::Global;
@@ -29,6 +30,7 @@ pub(crate) enum Followed {
 
 impl Followed {
     /// Follows the line of a path, of which the first `shared` nodes are those of the line that was followed last.
+    /// `plays` counts the nodes that are played for it.
     /// After a refusal of memory nothing is said of it.
     pub(crate) fn follow(
         &mut self,
@@ -36,15 +38,20 @@ impl Followed {
         collection: &Collection<'_>,
         path: &[usize],
         shared: usize,
+        plays: &mut Plays,
     ) -> Result<(), MemoryFault>
         requires some_node { 0 < length path.now }
         requires within { All (λ i. i < node_count collection.now) path.now }
-        ensures { (old nodes : List Node) → (0 < shared → IsFollowed old self.old) → shared ≤ length old
+        requires countable { plays.old + (length path.now - shared) ≤ u64.MAX }
+        ensures followed { (old nodes : List Node) → (0 < shared → IsFollowed old self.old) → shared ≤ length old
             → map Some nodes ≡ map (node_at collection.now) path.now → take shared old ≡ take shared nodes
             → OnOk result (IsFollowed nodes self.new) }
+        ensures counted { (old nodes : List Node) → (0 < shared → IsFollowed old self.old) → shared ≤ length old
+            → map Some nodes ≡ map (node_at collection.now) path.now → take shared old ≡ take shared nodes
+            → CountsFresh plays.old plays.new nodes shared result }
     {
         self.keep(alloc, collection, path[0], shared)?;
-        self.go_on(alloc, collection, path, shared)
+        self.go_on(alloc, collection, path, shared, plays)
     }
 
     /// Keeps the first `shared` nodes; where there are none the game of this root begins.
@@ -82,13 +89,18 @@ impl Followed {
         collection: &Collection<'_>,
         path: &[usize],
         shared: usize,
+        plays: &mut Plays,
     ) -> Result<(), MemoryFault>
-        requires { All (λ i. i < node_count collection.now) path.now }
-        ensures { (said : OpeningSaid) (nodes : List Node) → map Some nodes ≡ map (node_at collection.now) path.now
+        requires within { All (λ i. i < node_count collection.now) path.now }
+        requires countable { plays.old + (length path.now - shared) ≤ u64.MAX }
+        ensures held { (said : OpeningSaid) (nodes : List Node) → map Some nodes ≡ map (node_at collection.now) path.now
             → IsHeld said (take shared nodes) self.old → OnOk result (IsHeld said nodes self.new) }
+        ensures counted { (said : OpeningSaid) (nodes : List Node) → map Some nodes ≡ map (node_at collection.now) path.now
+            → IsHeld said (take shared nodes) self.old
+            → CountsOn plays.old plays.new said (take shared nodes) nodes result }
     {
         match self {
-            Followed::Judged(game) => play_from(alloc, collection, game, path, shared),
+            Followed::Judged(game) => play_from(alloc, collection, game, path, shared, plays),
             Followed::OtherGame => Ok(()),
             Followed::NoBoard => Ok(()),
         }
@@ -126,13 +138,17 @@ fn play_from(
     game: &mut Game,
     path: &[usize],
     from: usize,
+    plays: &mut Plays,
 ) -> Result<(), MemoryFault>
-    requires { All (λ i. i < node_count collection.now) path.now }
-    ensures { (side : ℕ) (nodes : List Node) → map Some nodes ≡ map (node_at collection.now) path.now
+    requires within { All (λ i. i < node_count collection.now) path.now }
+    requires countable { plays.old + (length path.now - from) ≤ u64.MAX }
+    ensures played { (side : ℕ) (nodes : List Node) → map Some nodes ≡ map (node_at collection.now) path.now
         → IsPlayed side (take from nodes) game.old → OnOk result (IsPlayed side nodes game.new) }
+    ensures counted { (side : ℕ) (nodes : List Node) → map Some nodes ≡ map (node_at collection.now) path.now
+        → IsPlayed side (take from nodes) game.old → Counts plays.old plays.new side (take from nodes) nodes result }
 {
     for i in from..path.len() {
-        game.play(alloc, collection, path[i])?;
+        game.play(alloc, collection, path[i], plays)?;
     }
     Ok(())
 }

@@ -1,13 +1,14 @@
 //! A game that is played along a line, node after node, and goes back to where the next line leaves it.
 
-ghost use Rattle.std.specs.Prelude.{◌≡◌, ◌≤◌, ◌<◌, ◌++◌, ◌∷◌, [], ℕ, List, Some, take, length, IfOk, OnOk};
+ghost use Rattle.std.specs.Prelude.{◌≡◌, ◌≤◌, ◌<◌, ◌+◌, ◌++◌, ◌∷◌, [], ℕ, List, Some, take, length, IfOk, OnOk};
 ghost use Rattle.sgf_tree.specs.Tree.{Node, node_count};
 ghost use Rattle.sgf_tree.specs.FileOrder.{node_at};
 ghost use Rattle.sgf_lines.specs.Walk.{walk};
 ghost use Rattle.sgf_lines.specs.Verdict.{verdict_at};
-ghost use Rattle.sgf_lines.specs.inner.Played.{back_to, IsPlayed};
+ghost use Rattle.sgf_lines.specs.inner.Played.{back_to, IsPlayed, Counts};
 
 use crate::judging::score;
+use crate::plays::Plays;
 use crate::step::{Change, StepFault, play_node};
 use crate::verdict::Verdict;
 use go_board::{PrintPast, Reason, Referee, Size};
@@ -58,17 +59,23 @@ impl Game {
     }
 
     /// Plays one node more, and tells what it changed; None where it isn't allowed, or one before it wasn't.
+    /// `plays` counts it where its step is worked out.
     /// After a refusal of memory the game must not be used again.
     pub(crate) fn play(
         &mut self,
         alloc: Global,
         collection: &Collection<'_>,
         number: usize,
+        plays: &mut Plays,
     ) -> Result<Option<Change>, MemoryFault>
-        requires { number < node_count collection.now }
-        ensures { (side : ℕ) (nodes : List Node) (node : Node) → IsPlayed side nodes self.old
+        requires within { number < node_count collection.now }
+        requires countable { plays.old < u64.MAX }
+        ensures played { (side : ℕ) (nodes : List Node) (node : Node) → IsPlayed side nodes self.old
             → node_at collection.now number ≡ Some node
             → OnOk result (IsPlayed side (nodes ++ node ∷ []) self.new) }
+        ensures counted { (side : ℕ) (nodes : List Node) (node : Node) → IsPlayed side nodes self.old
+            → Counts plays.old plays.new side nodes (nodes ++ node ∷ []) result }
+        ensures one_at_most { plays.new ≤ plays.old + 1 }
     {
         let mark = Mark {
             depth: self.referee.depth(),
@@ -80,6 +87,7 @@ impl Game {
         let None = self.fault else {
             return Ok(None);
         };
+        plays.add_one();
         match play_node(alloc, &mut self.referee, &collection.node(number)) {
             Ok(change) => Ok(Some(change)),
             Err(StepFault::Memory) => Err(MemoryFault),

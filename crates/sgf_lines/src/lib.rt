@@ -17,8 +17,10 @@
 //! - `record` writes the text of a line, with its `row` or its `script` out of pieces of `text`.
 //! - `laws` has laws of the definitions.
 //! - `source` and `sink` are the ends of a run.
-//! - `run` splits what a source gives into the records of its lines, which a sink takes; `writing` writes them.
-//! - `followed` follows lines one after the other, over a `game` that is played on from the nodes that they share.
+//! - `run` splits what a source gives into the records of its lines, which a sink takes; `writing` writes them, and a `writer`
+//!   keeps what lines share.
+//! - `followed` follows lines one after the other, over a `game` that is played on from the nodes that they share; `plays`
+//!   counts the nodes that are played.
 //! - `counting` counts the games, nodes and lines of what a source gives.
 //! - `fault` has the ways in which a run may fail.
 #![tactic(auto)]
@@ -36,6 +38,7 @@ mod line;
 mod lines;
 mod opening;
 mod options;
+mod plays;
 mod record;
 mod row;
 mod run;
@@ -49,6 +52,7 @@ mod tests;
 mod text;
 mod values;
 mod verdict;
+mod writer;
 mod writing;
 
 pub use counting::{Counts, count, write_counts};

@@ -10,6 +10,7 @@ use crate::cursor::Cursor;
 use crate::fault::RunFault;
 use crate::laws::rise;
 use crate::options::Options;
+use crate::plays::Plays;
 use crate::seek::SeekFault;
 use crate::sink::Sink;
 use crate::source::Source;
@@ -117,7 +118,12 @@ fn split_collection<T: Sink>(
         ≡ (T.state sink.old).failures + write_failures result }
 {
     match cursor_after(alloc, collection, options.after) {
-        Ok(mut cursor) => deliver(alloc, collection, &mut cursor, options, sink),
+        Ok(mut cursor) => {
+            // Nodes are counted by a number, so plays are too.
+            let _nodes = collection.nodes();
+            let mut plays = Plays::new();
+            deliver(alloc, collection, &mut cursor, options, sink, &mut plays)
+        }
         Err(fault) => Err(fault),
     }
 }

@@ -1,16 +1,18 @@
 //! The records of lines are written to a sink, each by as many puts as it takes.
 
-ghost use Rattle.std.specs.Prelude.{◌≡◌, ◌<◌, ◌+◌, length, drop, slice_get, IfOk, MatchBool};
+ghost use Rattle.std.specs.Prelude.{◌≡◌, ◌<◌, ◌≤◌, ◌+◌, length, drop};
+ghost use Rattle.sgf_tree.specs.Tree.{node_count};
 ghost use Rattle.sgf_lines.specs.Lines.{lines};
 ghost use Rattle.sgf_lines.specs.Page.{limited};
 ghost use Rattle.sgf_lines.specs.Answer.{write_failures};
-ghost use Rattle.sgf_lines.specs.inner.Running.{WritesLines, HasRecord, PutsAll};
+ghost use Rattle.sgf_lines.specs.inner.Running.{WritesLines, PutsAll};
 
 use crate::cursor::Cursor;
 use crate::fault::RunFault;
-use crate::lines::push_line;
-use crate::options::{Form, Options};
+use crate::options::Options;
+use crate::plays::Plays;
 use crate::sink::{Sink, SinkFault};
+use crate::writer::Writer;
 use sgf_tree::{Collection, MemoryFault};
 use std::alloc::Global;
 
@@ -22,16 +24,18 @@ pub(crate) fn deliver<T: Sink>(
     cursor: &mut Cursor<'_, '_>,
     options: &Options,
     sink: &mut T,
+    plays: &mut Plays,
 ) -> Result<u64, RunFault>
     requires same { cursor.old.games ≡ collection.now }
     requires countable { (T.state sink.old).failures < u64.MAX }
+    requires plays_countable { plays.old + node_count collection.now ≤ u64.MAX }
     ensures answer { WritesLines options.now.form
         (limited options.now.limit (drop cursor.old.given (lines collection.now)))
         (T.state sink.old) (T.state sink.new) result }
     ensures failures { (T.state sink.new).failures
         ≡ (T.state sink.old).failures + write_failures result }
 {
-    let lines = match write_lines(alloc, collection, cursor, options, sink) {
+    let lines = match write_lines(alloc, collection, cursor, options, sink, plays) {
         Ok(lines) => lines,
         Err(fault) => return Err(fault),
     };
@@ -49,9 +53,11 @@ fn write_lines<T: Sink>(
     cursor: &mut Cursor<'_, '_>,
     options: &Options,
     sink: &mut T,
+    plays: &mut Plays,
 ) -> Result<u64, RunFault>
     requires same { cursor.old.games ≡ collection.now }
     requires countable { (T.state sink.old).failures < u64.MAX }
+    requires plays_countable { plays.old + node_count collection.now ≤ u64.MAX }
     ensures answer { WritesLines options.now.form
         (limited options.now.limit (drop cursor.old.given (lines collection.now)))
         (T.state sink.old) (T.state sink.new) result }
@@ -60,43 +66,20 @@ fn write_lines<T: Sink>(
 {
     // There are no more lines than nodes.
     let limit = options.limit.unwrap_or(collection.nodes() as u64);
-    let mut bytes = Vec::new(alloc);
+    let mut writer = Writer::new(alloc, options.form);
     let mut lines = 0u64;
     'page: while lines < limit {
-        match next_record(alloc, collection, options.form, cursor, &mut bytes) {
+        match writer.next(alloc, collection, cursor, plays) {
             Ok(true) => {}
             Ok(false) => return Ok(lines),
             Err(MemoryFault) => return Err(RunFault::Memory { lines }),
         }
-        match put_all(&bytes, sink) {
+        match put_all(writer.bytes(), sink) {
             Ok(()) => lines += 1,
             Err(SinkFault) => return Err(RunFault::Write { lines }),
         }
     }
     Ok(lines)
-}
-
-/// Goes on by one line, and has its record in place of what stood in `bytes`; false where no line is left.
-fn next_record(
-    alloc: Global,
-    collection: &Collection<'_>,
-    form: Form,
-    cursor: &mut Cursor<'_, '_>,
-    bytes: &mut Vec<u8>,
-) -> Result<bool, MemoryFault>
-    requires same { cursor.old.games ≡ collection.now }
-    ensures { IfOk result (λ found. MatchBool found
-        (HasRecord form cursor.old cursor.new bytes.new.items)
-        (slice_get (lines cursor.old.games) cursor.old.given ≡ None)) }
-{
-    bytes.clear();
-    match cursor.next()? {
-        Some(line) => {
-            push_line(alloc, collection, form, &line, bytes)?;
-            Ok(true)
-        }
-        None => Ok(false),
-    }
 }
 
 /// Puts all of `bytes`.

@@ -1,10 +1,11 @@
 -- What is held of the line that a run followed last.
-use Rattle.std.specs.Prelude.{◌≡◌, ℕ, List}
+use Rattle.std.specs.Prelude.{◌≡◌, ◌≤◌, ◌+◌, ◌-◌, ℕ, List, length, Result, OnOk}
 use Rattle.sgf_tree.specs.Tree.{Node}
 use Rattle.sgf_lines.specs.GameSize.{Opening, other_game, no_board, board, opening, root_properties}
 use Rattle.sgf_lines.specs.declared.followed.Followed.{Followed}
 use Rattle.sgf_lines.specs.declared.followed.Followed.TheVariants.{OtherGame, NoBoard, Judged}
-use Rattle.sgf_lines.specs.inner.Played.{IsPlayed}
+use Rattle.sgf_lines.specs.Verdict.{judged_on}
+use Rattle.sgf_lines.specs.inner.Played.{IsPlayed, Counts}
 
 -- what the root says of the game, and the game played along the nodes, where it is judged
 abbrev pub IsHeld : Opening → List Node → Followed → Type 0
@@ -15,3 +16,19 @@ IsHeld said nodes (Judged game) = (side : ℕ) × (said ≡ board side) × IsPla
 -- it is held of all nodes of the line
 abbrev pub IsFollowed : List Node → Followed → Type 0
 IsFollowed nodes followed = IsHeld (opening (root_properties nodes)) nodes followed
+
+-- plays went from `old` to `new` where nodes of a game whose root says this became more of them
+abbrev pub CountsOn : {A E : Type 0} → ℕ → ℕ → Opening → List Node → List Node → Result A E → Type 0
+CountsOn old new other_game nodes more result = new ≡ old
+CountsOn old new no_board nodes more result = new ≡ old
+CountsOn old new (board side) nodes more result = Counts old new side nodes more result
+
+-- how many nodes are played for the line of these nodes, of which the first `shared` are played already
+abbrev pub fresh_plays : List Node → ℕ → ℕ
+fresh_plays nodes shared = length (judged_on (opening (root_properties nodes)) nodes) - shared
+
+-- plays went from `old` to `new` for that line: each of its fresh nodes counts, and not more than each where memory was refused
+pub record CountsFresh {A E : Type 0} (old new : ℕ) (nodes : List Node) (shared : ℕ) (result : Result A E) : Type 0 where
+  pub not_fewer : old ≤ new
+  pub not_more : new ≤ old + fresh_plays nodes shared
+  pub each : OnOk result (new ≡ old + fresh_plays nodes shared)

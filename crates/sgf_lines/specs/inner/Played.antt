@@ -1,8 +1,8 @@
 -- A game that is played along the nodes of a line, and what it keeps to go back.
-use Rattle.std.specs.Prelude.{◌≡◌, ℕ, ◌≤◌, nat_le, if◌then◌else◌, List, [], ◌∷◌, length, take, Option, Some, None, option_map, slice_get}
+use Rattle.std.specs.Prelude.{◌≡◌, ℕ, ◌+◌, ◌≤◌, nat_le, if◌then◌else◌, List, [], ◌∷◌, length, take, Option, Some, None, option_map, slice_get, Result, OnOk}
 use Rattle.sgf_tree.specs.Tree.{Node}
 use Rattle.go_board.specs.State.{State, States}
-use Rattle.sgf_lines.specs.Walk.{Fault, Walk, walk}
+use Rattle.sgf_lines.specs.Walk.{Fault, Walk, walk, judged_by}
 use Rattle.sgf_lines.specs.declared.game.Fault.{Fault as Met}
 use Rattle.sgf_lines.specs.declared.game.Mark.{Mark}
 use Rattle.sgf_lines.specs.declared.game.Game.{Game}
@@ -35,3 +35,14 @@ pub record IsPlayed (side : ℕ) (nodes : List Node) (game : Game) : Type 0 wher
   pub count : length game.marks.items ≡ length nodes
   pub marks : (i : ℕ) (mark : Mark) → slice_get game.marks.items i ≡ Some mark → LeadsBack side nodes game.referee i mark
   pub order : (i j : ℕ) (early late : Mark) → i ≤ j → slice_get game.marks.items i ≡ Some early → slice_get game.marks.items j ≡ Some late → early.depth ≤ late.depth
+
+-- how many of some nodes are judged
+abbrev pub judged_count : ℕ → List Node → ℕ
+judged_count side nodes = length (judged_by (walk side nodes))
+
+-- Plays went from `old` to `new` where nodes that were played became more of them: each judged one of those counts, and not more
+-- than each where memory was refused.
+pub record Counts {A E : Type 0} (old new side : ℕ) (nodes more : List Node) (result : Result A E) : Type 0 where
+  pub not_fewer : old ≤ new
+  pub not_more : new + judged_count side nodes ≤ old + judged_count side more
+  pub each : OnOk result (new + judged_count side nodes ≡ old + judged_count side more)

@@ -1,10 +1,19 @@
--- So many records were written, and the cursor stands after their lines.
-use Rattle.std.proofs.Common.{◌-◌}
+-- So many records were written, the cursor stands after their lines, and of the last of them it is known what is kept.
+use Rattle.std.proofs.Common.{◌≡◌, ◌+◌, ◌-◌, ◌≤◌, ◌<◌, true, false}
+use Rattle.sgf_tree.specs.Tree.{node_count}
+use Rattle.sgf_lines.specs.inner.Keeping.{KeepsBefore, left}
 use Rattle.sgf_lines.proofs.Paging.{IsSoFar}
 use Rattle.sgf_lines.proofs.writing.write_lines.Given as goal
 
 abbrev pub invariant-page : goal.invariant-page
-invariant-page g l = IsSoFar l.options.form l.collection l.initial.cursor.given l.limit (g.T.Sink.state l.initial.sink) l.lines l.cursor (g.T.Sink.state l.sink)
+invariant-page g l = record {
+  written : IsSoFar l.options.form l.collection l.initial.cursor.given l.limit (g.T.Sink.state l.initial.sink) l.lines l.cursor (g.T.Sink.state l.sink);
+  form : l.writer.form ≡ l.options.form;
+  first : l.lines ≡ 0 → l.writer.begun ≡ false;
+  later : 0 < l.lines → l.writer.begun ≡ true;
+  keeps : KeepsBefore l.writer.begun l.writer.form l.cursor l.writer.followed;
+  countable : l.plays + left l.writer.begun l.cursor ≤ l.initial.plays + node_count l.collection;
+}
 
 abbrev pub decreases-page : goal.decreases-page
 decreases-page g l = l.limit - l.lines

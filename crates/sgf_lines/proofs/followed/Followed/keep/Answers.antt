@@ -1,5 +1,5 @@
 -- Lines that share a node have the same root.
-use Rattle.std.proofs.Common.{◌≡◌, ◌<◌, ap, sym, ◌∙◌, arith}
+use Rattle.std.proofs.Common.{◌≡◌, ap, sym, ◌∙◌}
 use Rattle.sgf_lines.specs.GameSize.{opening, other_game, no_board, root_properties}
 use Rattle.sgf_lines.proofs.Along.{same_root, not_zero}
 use Rattle.sgf_lines.proofs.followed.Followed.keep.Goals as goal

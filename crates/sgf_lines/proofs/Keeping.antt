@@ -1,0 +1,187 @@
+-- One line more of a run.
+use Rattle.std.proofs.Common.{◌≡◌, ℕ, zero, suc, ◌+◌, ◌-◌, ◌<◌, ◌≤◌, Bool, true, false, List, [], ◌∷◌, ◌++◌, length, take, drop, map, slice_get, Option, Some, None, option_map, Result, Ok, Err, inl, inr, refl, sym, ap, subst, ◌∙◌, arith, add-one, All, length-append}
+use Rattle.std.specs.Prelude.{MatchBool}
+use Rattle.std.specs.List.{range_with_len}
+use Rattle.std.specs.Result.{IsErr}
+use Rattle.std.proofs.Math.Seq.{take-append_seam}
+use Rattle.std.proofs.lemmas.List.{take-map, length-take-le}
+use Rattle.std.proofs.lemmas.List.FromFn.{length-range_with_len}
+use Rattle.sgf_tree.specs.Tree.{Node, Games, node_count}
+use Rattle.sgf_tree.specs.FileOrder.{node_at}
+use Rattle.sgf_tree.specs.declared.fault.MemoryFault.{MemoryFault}
+use Rattle.sgf_lines.specs.Lines.{Line, lines, last_number}
+use Rattle.sgf_lines.specs.Paths.{Path, paths}
+use Rattle.sgf_lines.specs.Cursor.{Position, advanced, shown, IsLine}
+use Rattle.sgf_lines.specs.GameSize.{Opening, other_game, no_board, board, opening, root_properties}
+use Rattle.sgf_lines.specs.Walk.{before_root}
+use Rattle.sgf_lines.specs.Verdict.{judged_on}
+use Rattle.sgf_lines.specs.declared.line.LineRef.{LineRef}
+use Rattle.sgf_lines.specs.declared.options.Form.{Form}
+use Rattle.sgf_lines.specs.declared.options.Form.TheVariants.{List as list_form, Sgf as sgf_form, Gtp as gtp_form}
+use Rattle.sgf_lines.specs.declared.followed.Followed.{Followed}
+use Rattle.sgf_lines.specs.inner.Ways.{IsWayTo, top}
+use Rattle.sgf_lines.specs.inner.Shown.{IsShownAs}
+use Rattle.sgf_lines.specs.inner.Running.{HasRecord}
+use Rattle.sgf_lines.specs.inner.Followed.{CountsFresh, fresh_plays}
+use Rattle.sgf_lines.specs.inner.Following.{Continues, first_after, numbers_of, path_before}
+use Rattle.sgf_lines.specs.inner.Keeping.{Keeps, KeepsAt, KeepsBefore, CountsIn, CountsLine, IsShared, HasPlays, plays_in, left}
+use Rattle.sgf_lines.proofs.Lists.{Each, each_get}
+use Rattle.sgf_lines.proofs.Joins.{as_many}
+use Rattle.sgf_lines.proofs.Ways.{IsDescent, each_path}
+use Rattle.sgf_lines.proofs.Descending.{way_length}
+use Rattle.sgf_lines.proofs.Standings.{within_way}
+use Rattle.sgf_lines.proofs.Following.{after_new}
+use Rattle.sgf_lines.proofs.Recorded.{path_filled, line_shown_in}
+use Rattle.sgf_lines.proofs.Records.{path_within}
+use Rattle.sgf_lines.proofs.Counted.{within}
+
+-- as many nodes are played as are judged, and these are among those of the line
+fresh_within : (nodes : List Node) (shared : ℕ) → fresh_plays nodes shared ≤ length nodes - shared
+fresh_within nodes shared = by (opening (root_properties nodes))
+  where
+    by : (o : Opening) → length (judged_on o nodes) - shared ≤ length nodes - shared
+    by other_game = omega arith
+    by no_board = omega arith
+    by (board side) = omega (arith, within (before_root side) nodes)
+
+-- the line that the cursor shows once it went on
+line_on : (at new : Position) (line : LineRef) → new ≡ advanced at → IsLine new.games (new.given - 1) line → IsLine at.games at.given line
+line_on at new line is h =
+    let there : IsLine at.games (at.given + 1 - 1) line = rw is at h in
+    let less : at.given + 1 - 1 ≡ at.given = omega arith in
+    rw less at there
+
+-- its path is the one before the new position
+path_on : (at : Position) (line : LineRef) → IsLine at.games at.given line → path_before (advanced at) ≡ line.path.now
+path_on at line h = let one : at.given + 1 ≡ suc at.given = add-one at.given in rw one (ap numbers_of h.path)
+
+some_inj : (xs ys : List Node) → map Some xs ≡ map Some ys → xs ≡ ys
+some_inj [] [] e = refl
+some_inj [] (y ∷ ys) e = absurd cc
+some_inj (x ∷ xs) [] e = absurd cc
+some_inj (x ∷ xs) (y ∷ ys) e = let head : x ≡ y = cc in let rest = some_inj xs ys cc in cc
+
+-- paths that share a front name the same nodes there
+same_front : (f : ℕ → Option Node) (old new : List ℕ) (was nodes : List Node) (kept : ℕ) → map Some was ≡ map f old → map Some nodes ≡ map f new → Continues old kept new
+    → take kept was ≡ take kept nodes
+same_front f old new was nodes kept e g h =
+    let count = length-take-le kept old h.kept_within in
+    let front : take kept new ≡ take kept old =
+    ap (take kept) h.new_is ∙ ap (λ k. take k (take kept old ++ range_with_len (first_after old) (h.more + 1))) (sym count) ∙ take-append_seam (take kept old) (range_with_len (first_after old) (h.more + 1)) in
+    some_inj (take kept was) (take kept nodes)
+    (sym (take-map Some kept was) ∙ ap (take kept) e ∙ take-map f kept old ∙ ap (map f) (sym front) ∙ sym (take-map f kept new) ∙ ap (take kept) (sym g) ∙ take-map Some kept nodes)
+
+-- what the run kept, for the line that comes
+pub record Shares (form : Form) (followed : Followed) (shared : ℕ) (nodes : List Node) : Type 0 where
+  pub old : List Node
+  pub held : 0 < shared → Keeps form old followed
+  pub within : shared ≤ length old
+  pub same : take shared old ≡ take shared nodes
+
+shares_with : (b : Bool) (form : Form) (at : Position) (followed : Followed) (shared : ℕ) (line : LineRef) (l : Line) → KeepsBefore b form at followed → IsShared b at shared
+    → IsLine at.games at.given line → IsShownAs at.games l line → Shares form followed shared l.nodes
+shares_with true form at followed shared line l keeps is shows named =
+    let new : map Some l.nodes ≡ map (node_at at.games) (path_before (advanced at)) = named.nodes ∙ ap (map (node_at at.games)) (sym (path_on at line shows)) in
+    record {
+      old = keeps.nodes;
+      held = λ lt. keeps.keeps;
+      within = omega (arith, is.kept_within, as_many (node_at at.games) keeps.nodes (path_before at) keeps.named);
+      same = same_front (node_at at.games) (path_before at) (path_before (advanced at)) keeps.nodes l.nodes shared keeps.named new is;
+    }
+shares_with false form at followed shared line l keeps is shows named = record {
+  old = [];
+  held = λ lt. absurd (omega (arith, is));
+  within = omega (arith, is);
+  same = rw is refl;
+}
+
+-- there is room for its nodes
+each_last : (P : ℕ → Type 0) (n : ℕ) (ns : List ℕ) → Each P (n ∷ ns) → P (last_number (n ∷ ns))
+each_last P n [] h = h.0
+each_last P n (m ∷ ms) h = each_last P m ms h.1
+
+last_within : (c : Games) (k : ℕ) (line : LineRef) → IsLine c k line → (first_after line.path.now ≤ node_count c) × (length line.path.now ≤ first_after line.path.now)
+last_within c k line h =
+    let path = (shown line).path in
+    let descent : IsDescent c None path.numbers = each_get (λ p. IsDescent c None p.numbers) (paths c) k path (each_path c) h.path in
+    by path.numbers descent
+  where
+    by : (ns : List ℕ) → IsDescent c None ns → (first_after ns ≤ node_count c) × (length ns ≤ first_after ns)
+    by [] d = absurd (d.filled refl)
+    by (n ∷ ns) d =
+        let way : IsWayTo c (Some (last_number (n ∷ ns))) (n ∷ ns) = d.up [] top in
+        (omega (arith, each_last (λ n. n < node_count c) n ns (within_way way)), way_length way (last_number (n ∷ ns)) refl)
+
+room_left : (b : Bool) (at : Position) (shared : ℕ) (line : LineRef) → IsShared b at shared → IsLine at.games at.given line
+    → (length line.path.now - shared) + left true (advanced at) ≤ left b at
+room_left true at shared line is shows =
+    let last = last_within at.games at.given line shows in
+    let path = path_on at line shows in
+    let old = path_before at in
+    let range = range_with_len (first_after old) (is.more + 1) in
+    let count : length line.path.now ≡ shared + (is.more + 1) =
+    ap length (sym path ∙ is.new_is) ∙ length-append (take shared old) range ∙ omega (arith, length-take-le shared old is.kept_within, length-range_with_len (first_after old) (is.more + 1)) in
+    let first : first_after (path_before (advanced at)) ≡ first_after old + (is.more + 1) = ap first_after is.new_is ∙ after_new old shared (first_after old) is.more in
+    omega (arith, last.0, count, first, ap first_after path)
+room_left false at shared line is shows =
+    let last = last_within at.games at.given line shows in
+    omega (arith, last.0, last.1, is, ap first_after (path_on at line shows))
+
+-- how many nodes are known of a line that shares so many
+pub known_are : (b : Bool) (at new : Position) (shared known : ℕ) → new ≡ advanced at → Continues (path_before at) shared (path_before new) → MatchBool b (known ≡ shared) (known ≡ 0) → IsShared b at known
+known_are true at new shared known on is e =
+    subst (λ p. Continues (path_before at) known (path_before p)) on (subst (λ k. Continues (path_before at) k (path_before new)) (sym e) is)
+known_are false at new shared known on is e = e
+
+-- the cursor went on by a line
+module _ (c : Games) (at new : Position) (line : LineRef) (same : at.games ≡ c) (on : new ≡ advanced at) (shows : IsLine new.games (new.given - 1) line) where
+  here : IsLine at.games at.given line
+  here = line_on at new line on shows
+
+  here_in : IsLine c at.given line
+  here_in = rw same at here
+
+  pub line_next : (l : Line) × (slice_get (lines at.games) at.given ≡ Some l) × IsShownAs c l line
+  line_next = line_shown_in c at.games at.given line same here
+
+  pub next_filled : 0 < length line.path.now
+  next_filled = path_filled c at.given line here_in
+
+  pub next_within : All (λ n. n < node_count c) line.path.now
+  next_within = path_within c at.given line here_in
+
+  module _ (b : Bool) (form : Form) (followed : Followed) (shared : ℕ) (is : IsShared b at shared) where
+    pub next_room : (length line.path.now - shared) + left true new ≤ left b at
+    next_room = rw on (room_left b at shared line is here)
+
+    pub next_shares : KeepsBefore b form at followed → (l : Line) → IsShownAs c l line → Shares form followed shared l.nodes
+    next_shares keeps l named = shares_with b form at followed shared line l keeps is here (rw (← same) at named)
+
+    pub next_keeps : (l : Line) (new_followed : Followed) → IsShownAs c l line → Keeps form l.nodes new_followed → KeepsAt form new new_followed
+    next_keeps l new_followed named keeps =
+        let path : path_before new ≡ line.path.now = ap path_before on ∙ path_on at line here in
+        let games : new.games ≡ c = ap (λ (p : Position). p.games) on ∙ same in
+        record { nodes = l.nodes; named = rw (path, games) named.nodes; keeps = keeps }
+
+    pub next_plays : (l : Line) → slice_get (lines at.games) at.given ≡ Some l → HasPlays form b at (plays_in form (fresh_plays l.nodes shared))
+    next_plays l found = record { line = l; found = found; shared = shared; shares = is; count_is = refl }
+
+-- what was counted for it
+pub counts_line : {A : Type 0} (form : Form) (b : Bool) (at : Position) (old new : ℕ) (nodes : List Node) (shared : ℕ) (u : A) → HasPlays form b at (plays_in form (fresh_plays nodes shared))
+    → CountsIn {E = MemoryFault} form old new nodes shared (Ok u) → (n : ℕ) × HasPlays form b at n × (new ≡ old + n)
+counts_line list_form b at old new nodes shared u h counts = (fresh_plays nodes shared, h, counts.each)
+counts_line sgf_form b at old new nodes shared u h counts = (0, h, omega (arith, counts))
+counts_line gtp_form b at old new nodes shared u h counts = (fresh_plays nodes shared, h, counts.each)
+
+pub counts_refused : {E F : Type 0} (A : Type 0) (form : Form) (b : Bool) (at : Position) (old new : ℕ) (nodes : List Node) (shared : ℕ) (e : E) (r : Result Bool F) → IsErr r → HasPlays form b at (plays_in form (fresh_plays nodes shared))
+    → CountsIn {A = A} form old new nodes shared (Err e) → CountsLine form b at old new r
+counts_refused A form b at old new nodes shared e (Ok x) bad h counts = absurd cc
+counts_refused A list_form b at old new nodes shared e (Err f) is h counts = inr (fresh_plays nodes shared, h, counts.not_fewer, counts.not_more)
+counts_refused A sgf_form b at old new nodes shared e (Err f) is h counts = inl counts
+counts_refused A gtp_form b at old new nodes shared e (Err f) is h counts = inr (fresh_plays nodes shared, h, counts.not_fewer, counts.not_more)
+
+-- and not more than its nodes
+pub counts_within : {A E : Type 0} (form : Form) (old new : ℕ) (nodes : List Node) (shared : ℕ) (r : Result A E) → CountsIn form old new nodes shared r → new ≤ old + (length nodes - shared)
+counts_within list_form old new nodes shared r counts = omega (arith, counts.not_more, fresh_within nodes shared)
+counts_within sgf_form old new nodes shared r counts = omega (arith, counts)
+counts_within gtp_form old new nodes shared r counts = omega (arith, counts.not_more, fresh_within nodes shared)

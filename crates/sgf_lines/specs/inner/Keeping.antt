@@ -1,0 +1,65 @@
+-- What a run keeps from one line to the next, and how many nodes it plays for each.
+use Rattle.std.specs.Prelude.{◌≡◌, ◌⊎◌, ℕ, ◌+◌, ◌-◌, ◌≤◌, Bool, true, false, List, map, Option, Some, slice_get, Result, Ok, Err}
+use Rattle.sgf_tree.specs.Tree.{Node, node_count}
+use Rattle.sgf_tree.specs.FileOrder.{node_at}
+use Rattle.sgf_lines.specs.Lines.{Line, lines}
+use Rattle.sgf_lines.specs.Cursor.{Position, advanced}
+use Rattle.sgf_lines.specs.declared.options.Form.{Form}
+use Rattle.sgf_lines.specs.declared.options.Form.TheVariants.{List as list_form, Sgf as sgf_form, Gtp as gtp_form}
+use Rattle.sgf_lines.specs.declared.followed.Followed.{Followed}
+use Rattle.sgf_lines.specs.inner.Followed.{IsFollowed, CountsFresh, fresh_plays}
+use Rattle.sgf_lines.specs.inner.Following.{Continues, first_after, path_before}
+
+-- what a run in that form keeps of the nodes of a line: where it judges, the game played along them
+abbrev pub Keeps : Form → List Node → Followed → Type 0
+Keeps list_form nodes followed = IsFollowed nodes followed
+Keeps sgf_form nodes followed = Unit {0}
+Keeps gtp_form nodes followed = IsFollowed nodes followed
+
+-- it is kept of the line before a position
+pub record KeepsAt (form : Form) (at : Position) (followed : Followed) : Type 0 where
+  pub nodes : List Node
+  pub named : map Some nodes ≡ map (node_at at.games) (path_before at)
+  pub keeps : Keeps form nodes followed
+
+-- once a run has written a line
+abbrev pub KeepsBefore : Bool → Form → Position → Followed → Type 0
+KeepsBefore true form at followed = KeepsAt form at followed
+KeepsBefore false form at followed = Unit {0}
+
+-- in sgf form nothing is played
+abbrev pub plays_in : Form → ℕ → ℕ
+plays_in list_form n = n
+plays_in sgf_form n = 0
+plays_in gtp_form n = n
+
+-- plays went from `old` to `new` for the line of these nodes, of which the first `shared` are played already
+abbrev pub CountsIn : {A E : Type 0} → Form → ℕ → ℕ → List Node → ℕ → Result A E → Type 0
+CountsIn list_form old new nodes shared result = CountsFresh old new nodes shared result
+CountsIn sgf_form old new nodes shared result = new ≡ old
+CountsIn gtp_form old new nodes shared result = CountsFresh old new nodes shared result
+
+-- how many nodes of the line at a position are played already: those that it shares with the line before it, if the run wrote that one
+abbrev pub IsShared : Bool → Position → ℕ → Type 0
+IsShared true at shared = Continues (path_before at) shared (path_before (advanced at))
+IsShared false at shared = shared ≡ 0
+
+-- the line at a position, and how many of its nodes are played for it
+pub record HasPlays (form : Form) (begun : Bool) (at : Position) (count : ℕ) : Type 0 where
+  pub line : Line
+  pub found : slice_get (lines at.games) at.given ≡ Some line
+  pub shared : ℕ
+  pub shares : IsShared begun at shared
+  pub count_is : count ≡ plays_in form (fresh_plays line.nodes shared)
+
+-- plays went from `old` to `new` where the line at a position was to be written: those of that line, if there is one; none or some
+-- of them where memory was refused
+abbrev pub CountsLine : {E : Type 0} → Form → Bool → Position → ℕ → ℕ → Result Bool E → Type 0
+CountsLine form begun at old new (Ok true) = (n : ℕ) × HasPlays form begun at n × (new ≡ old + n)
+CountsLine form begun at old new (Ok false) = new ≡ old
+CountsLine form begun at old new (Err fault) = (new ≡ old) ⊎ ((n : ℕ) × HasPlays form begun at n × (old ≤ new) × (new ≤ old + n))
+
+-- how many nodes a run can still play: those after the line before a position, or all before its first line
+abbrev pub left : Bool → Position → ℕ
+left true at = node_count at.games - first_after (path_before at)
+left false at = node_count at.games

@@ -1,0 +1,46 @@
+//! How many nodes were played.
+
+ghost use Rattle.std.specs.Prelude.{◌≡◌, ◌<◌, ◌+◌};
+
+use std::marker::Model;
+
+/// The number of nodes that were played.
+#[derive(Drop)]
+pub struct Plays {
+    count: u64,
+}
+
+impl Model for Plays {
+    ghost use Rattle.std.specs.Prelude.{ℕ};
+    ghost use Rattle.std.specs.Coded.{coded_ℕ};
+
+    ghost Value = { ℕ };
+
+    ghost coded = { coded_ℕ };
+
+    ghost view = { λ s. s.count };
+}
+
+impl Plays {
+    /// None so far.
+    pub fn new() -> Plays
+        ensures { result ≡ 0 }
+    {
+        Plays { count: 0 }
+    }
+
+    /// The number so far.
+    pub fn count(&self) -> u64
+        ensures { result ≡ self.now }
+    {
+        self.count
+    }
+
+    /// One node more was played.
+    pub(crate) fn add_one(&mut self)
+        requires { self.old < u64.MAX }
+        ensures { self.new ≡ self.old + 1 }
+    {
+        self.count += 1;
+    }
+}
