@@ -1,0 +1,200 @@
+//! Runs between ends that give or take little at a time, and fail.
+
+ghost use Rattle.std.specs.Prelude.{◌≡◌, ◌≤◌, None};
+
+use crate::runs::{FIRST, SECOND};
+use crate::seen::{Seen, Wrong, right, wrong_in};
+use crate::tree::TWO;
+use sgf_lines::{
+    ArraySink, Form, Options, RunFault, Sink, SinkFault, SliceSource, Source, SourceFault, count,
+    split,
+};
+use std::alloc::Global;
+
+/// All lines as rows.
+const ROWS: Options = Options {
+    form: Form::List,
+    after: None,
+    limit: None,
+};
+
+/// How many bytes the two rows have.
+const LENGTH: usize = FIRST.len() + SECOND.len();
+
+/// Makes the runs.
+pub fn calls(alloc: Global, seen: &mut Seen) -> Result<(), Wrong> {
+    for calls in 0..TWO.len() + 2 {
+        source_fails(alloc, calls, seen)?;
+    }
+    for step in [1, 7] {
+        for room in 0..LENGTH + 1 {
+            sink_fails(alloc, step, room, seen)?;
+        }
+    }
+    Ok(())
+}
+
+/// A source that gives one byte of a text a call, so often, and then fails.
+#[derive(Drop)]
+struct Trickle<'a> {
+    left: &'a [u8],
+    calls: usize,
+    failures: u64,
+}
+
+/// A source of the game of two lines.
+fn byte_by_byte(calls: usize) -> Trickle<'static>
+    ensures { result.failures ≡ 0 }
+{
+    Trickle {
+        left: TWO,
+        calls,
+        failures: 0,
+    }
+}
+
+impl Source for Trickle<'_> {
+    ghost state = { λ s. record { failures = s.failures; given = None; to_come = None } };
+
+    fn get(&mut self, buffer: &mut [u8]) -> Result<usize, SourceFault> {
+        if self.calls == 0 {
+            self.failures += 1;
+            return Err(SourceFault);
+        }
+        self.calls -= 1;
+        let Some((first, rest)) = self.left.split_first() else {
+            return Ok(0);
+        };
+        buffer[0] = *first;
+        self.left = rest;
+        Ok(1)
+    }
+
+    fn failures(&self) -> u64 {
+        self.failures
+    }
+}
+
+/// A run and a count from a source that fails after so many calls: they fail, and nothing is written, unless the source comes
+/// to its end.
+fn source_fails(alloc: Global, calls: usize, seen: &mut Seen) -> Result<(), Wrong> {
+    seen.call();
+    let mut source = byte_by_byte(calls);
+    let mut sink = ArraySink::<64>::new();
+    let answer = split(alloc, &mut source, &mut sink, &ROWS);
+    let fails = calls <= TWO.len();
+    match answer {
+        Err(RunFault::Memory { .. }) => seen.want(),
+        Err(RunFault::Read) => right(fails && sink.as_slice().is_empty(), "a failed read")?,
+        Ok(2) => right(!fails && sink.as_slice().len() == LENGTH, "a byte a read")?,
+        _ => return wrong_in("a run whose source fails"),
+    }
+    seen.call();
+    let mut source = byte_by_byte(calls);
+    match count(alloc, &mut source) {
+        Err(RunFault::Memory { .. }) => seen.want(),
+        Err(RunFault::Read) => right(fails, "a failed read of a count")?,
+        Ok(counts) => right(!fails && counts.lines == 2, "a count by a byte a read")?,
+        Err(_) => return wrong_in("a count whose source fails"),
+    }
+    Ok(())
+}
+
+/// A sink that takes at most `step` bytes a call and `room` bytes in all, and then fails, as its flush may.
+#[derive(Drop)]
+struct Narrow {
+    bytes: [u8; 64],
+    taken: usize,
+    step: usize,
+    room: usize,
+    can_flush: bool,
+    failures: u64,
+    ghost within: { taken ≤ 64 },
+}
+
+/// A sink that has taken nothing.
+fn sink_of(step: usize, room: usize, can_flush: bool) -> Narrow
+    ensures { result.failures ≡ 0 }
+{
+    Narrow {
+        bytes: [0; 64],
+        taken: 0,
+        step,
+        room,
+        can_flush,
+        failures: 0,
+    }
+}
+
+impl Sink for Narrow {
+    ghost state = { λ s. record { failures = s.failures; taken = None } };
+
+    fn put(&mut self, bytes: &[u8]) -> Result<usize, SinkFault> {
+        let count = bytes
+            .len()
+            .min(self.step)
+            .min(self.room)
+            .min(64 - self.taken);
+        if count == 0 {
+            self.failures += 1;
+            return Err(SinkFault);
+        }
+        self.bytes[self.taken..self.taken + count].copy_from_slice(&bytes[..count]);
+        self.taken += count;
+        self.room -= count;
+        Ok(count)
+    }
+
+    fn flush(&mut self) -> Result<(), SinkFault> {
+        if self.can_flush {
+            return Ok(());
+        }
+        self.failures += 1;
+        Err(SinkFault)
+    }
+
+    fn failures(&self) -> u64 {
+        self.failures
+    }
+}
+
+/// A run to a sink with that room, whose flush fails: what fits stands, and the fault names the whole records of it.
+fn sink_fails(alloc: Global, step: usize, room: usize, seen: &mut Seen) -> Result<(), Wrong> {
+    seen.call();
+    let mut source = SliceSource::new(TWO);
+    let mut sink = sink_of(step, room, false);
+    let lines = match split(alloc, &mut source, &mut sink, &ROWS) {
+        Err(RunFault::Memory { .. }) => {
+            seen.want();
+            return Ok(());
+        }
+        Err(RunFault::Write { lines }) => lines,
+        _ => return wrong_in("a run whose sink fails"),
+    };
+    let whole = u64::from(room >= FIRST.len()) + u64::from(room >= LENGTH);
+    right(lines == whole, "the lines before a failed write")?;
+    let taken = &sink.bytes[..sink.taken];
+    right(is_front(taken, room), "what stands after a failed write")?;
+    seen.call();
+    let mut source = SliceSource::new(TWO);
+    let mut sink = sink_of(step, room, true);
+    match split(alloc, &mut source, &mut sink, &ROWS) {
+        Err(RunFault::Memory { .. }) => seen.want(),
+        Err(RunFault::Write { lines }) => right(lines == whole && room < LENGTH, "a failed write")?,
+        Ok(lines) => right(lines == 2 && room >= LENGTH, "little at a time")?,
+        Err(_) => return wrong_in("a run whose sink is narrow"),
+    }
+    Ok(())
+}
+
+/// Whether these are the first bytes of the two rows, so many.
+fn is_front(bytes: &[u8], count: usize) -> bool {
+    if bytes.len() != count || count > LENGTH {
+        return false;
+    }
+    if count <= FIRST.len() {
+        return bytes == &FIRST[..count];
+    }
+    let (first, second) = bytes.split_at(FIRST.len());
+    first == FIRST && second == &SECOND[..second.len()]
+}

@@ -1,0 +1,120 @@
+//! The calls of a past that take memory.
+
+ghost use Rattle.std.specs.Prelude.{◌≡◌, [], ◌∷◌, true, false, IfOk, OnOk};
+ghost use Rattle.go_board.specs.Past.{HaveSide};
+ghost use Rattle.go_board.specs.Point.{IsOn};
+
+use crate::seen::{Seen, Wrong, right, wrong_in};
+use go_board::{Board, Cell, Past, Point, Size};
+use std::alloc::Global;
+
+/// Adds a colouring to a past's stretch and begins another with a third, and takes that back.
+pub fn calls<P: Past>(alloc: Global, seen: &mut Seen) -> Result<(), Wrong> {
+    let Some(size) = Size::new(3) else {
+        return wrong_in("no board of side 3");
+    };
+    let empty = Board::empty(size);
+    let black = with_stone(&empty, Point { col: 0, row: 0 }, Cell::Black);
+    let white = with_stone(&empty, Point { col: 1, row: 1 }, Cell::White);
+    let mut past = begin::<P>(alloc, &empty, seen)?;
+    push(&mut past, &empty, &black, seen)?;
+    right(past.holds(&empty), "a past after a push")?;
+    restart(&mut past, &empty, &black, &white, seen)?;
+    right(
+        !past.holds(&empty) && !past.holds(&black),
+        "a stretch before a restart",
+    )?;
+    right(past.holds(&white), "a stretch after a restart")?;
+    past.pop();
+    right(
+        past.holds(&empty) && past.holds(&black),
+        "a past after a pop",
+    )?;
+    right(!past.holds(&white), "what was taken back")
+}
+
+/// The board with one stone more.
+fn with_stone(board: &Board, point: Point, cell: Cell) -> Board
+    requires { IsOn board.now.side point }
+    ensures { result.side ≡ board.now.side }
+{
+    let mut copy = board.copy();
+    copy.set(point, cell);
+    copy
+}
+
+/// A past of that colouring, asked for once more where memory was refused.
+fn begin<P: Past>(alloc: Global, board: &Board, seen: &mut Seen) -> Result<P, Wrong>
+    ensures { IfOk result (λ past. P.held past
+        ≡ record { colouring = board.now; begins = true } ∷ []) }
+{
+    seen.call();
+    if let Ok(past) = P::new(alloc, board) {
+        return Ok(past);
+    }
+    seen.want();
+    match P::new(alloc, board) {
+        Ok(past) => Ok(past),
+        Err(_) => wrong_in("a past was refused twice"),
+    }
+}
+
+/// Adds a colouring to a past of another one, and once more where memory was refused; nothing was added then.
+fn push<P: Past>(past: &mut P, only: &Board, board: &Board, seen: &mut Seen) -> Result<(), Wrong>
+    requires past { HaveSide board.now.side (P.held past.old) }
+    requires only { HaveSide only.now.side (P.held past.old) }
+    ensures { OnOk result (P.held past.new
+        ≡ record { colouring = board.now; begins = false } ∷ P.held past.old) }
+{
+    seen.call();
+    if past.push(board).is_ok() {
+        return Ok(());
+    }
+    seen.want();
+    right(
+        past.newest().same(only),
+        "the newest colouring after a refused push",
+    )?;
+    right(
+        past.holds(only) && !past.holds(board),
+        "a past after a refused push",
+    )?;
+    match past.push(board) {
+        Ok(()) => Ok(()),
+        Err(_) => wrong_in("a push was refused twice"),
+    }
+}
+
+/// Begins a stretch, and once more where memory was refused; the past is the same then.
+fn restart<P: Past>(
+    past: &mut P,
+    first: &Board,
+    second: &Board,
+    board: &Board,
+    seen: &mut Seen,
+) -> Result<(), Wrong>
+    requires past { HaveSide board.now.side (P.held past.old) }
+    requires first { HaveSide first.now.side (P.held past.old) }
+    requires second { HaveSide second.now.side (P.held past.old) }
+    ensures { OnOk result (P.held past.new
+        ≡ record { colouring = board.now; begins = true } ∷ P.held past.old) }
+{
+    seen.call();
+    if past.restart(board).is_ok() {
+        return Ok(());
+    }
+    seen.want();
+    right(
+        past.newest().same(second),
+        "the newest colouring after a refused restart",
+    )?;
+    right(
+        past.holds(first) && past.holds(second),
+        "a stretch after a refused restart",
+    )?;
+    right(!past.holds(board), "a past after a refused restart")?;
+    match past.restart(board) {
+        Ok(()) => Ok(()),
+        Err(_) => wrong_in("a restart was refused twice"),
+    }
+}

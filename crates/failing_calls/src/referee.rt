@@ -1,0 +1,190 @@
+//! The calls of a referee that take memory.
+
+use crate::seen::{Seen, Wrong, right, wrong_in};
+use go_board::{
+    Board, Cell, Colour, Past, Play, Point, Reason, Rect, Referee, SetupOp, Size, TurnFault,
+};
+use std::alloc::Global;
+
+/// Plays two games.
+pub fn calls<P: Past>(alloc: Global, seen: &mut Seen) -> Result<(), Wrong> {
+    on_one::<P>(alloc, seen)?;
+    on_three::<P>(alloc, seen)
+}
+
+const CORNER: Play = Play::Stone(Point { col: 0, row: 0 });
+
+/// Black must move first, on one point every stone repeats the empty board, and two passes end the game.
+fn on_one<P: Past>(alloc: Global, seen: &mut Seen) -> Result<(), Wrong> {
+    let mut game = begin::<P>(alloc, 1, seen)?;
+    turn(&mut game, Colour::Black, CORNER, Err(Reason::Repeat), seen)?;
+    turn(
+        &mut game,
+        Colour::White,
+        Play::Pass,
+        Err(Reason::Turn),
+        seen,
+    )?;
+    turn(&mut game, Colour::Black, Play::Pass, Ok(()), seen)?;
+    right(game.turns() == 1 && !game.over(), "a game after a pass")?;
+    turn(&mut game, Colour::White, Play::Pass, Ok(()), seen)?;
+    right(game.turns() == 2 && game.over(), "a game after two passes")?;
+    turn(
+        &mut game,
+        Colour::Black,
+        Play::Pass,
+        Err(Reason::Over),
+        seen,
+    )?;
+    undo(&mut game)?;
+    right(
+        !game.over() && game.turns() == 1 && game.depth() == 1,
+        "a game after an undo",
+    )
+}
+
+/// Setup colours an area, lets either player move and is taken back whole.
+fn on_three<P: Past>(alloc: Global, seen: &mut Seen) -> Result<(), Wrong> {
+    let mut game = begin::<P>(alloc, 3, seen)?;
+    set_top_up(&mut game, seen)?;
+    let middle = Play::Stone(Point { col: 1, row: 1 });
+    let last = Play::Stone(Point { col: 2, row: 2 });
+    turn(
+        &mut game,
+        Colour::White,
+        CORNER,
+        Err(Reason::Occupied),
+        seen,
+    )?;
+    turn(&mut game, Colour::White, middle, Ok(()), seen)?;
+    right(game.score() == (0, 9), "the score after a stone")?;
+    turn(&mut game, Colour::White, last, Err(Reason::Turn), seen)?;
+    undo(&mut game)?;
+    undo(&mut game)?;
+    let start = begin::<P>(alloc, 3, seen)?;
+    right(Shown::of(&start).is_of(&game), "a game after all undos")?;
+    turn(
+        &mut game,
+        Colour::White,
+        Play::Pass,
+        Err(Reason::Turn),
+        seen,
+    )
+}
+
+/// What a referee shows.
+#[derive(Drop)]
+struct Shown {
+    board: Board,
+    turns: u64,
+    over: bool,
+    score: (u32, u32),
+    depth: usize,
+}
+
+impl Shown {
+    fn of<P: Past>(game: &Referee<P>) -> Shown {
+        Shown {
+            board: game.board().copy(),
+            turns: game.turns(),
+            over: game.over(),
+            score: game.score(),
+            depth: game.depth(),
+        }
+    }
+
+    fn is_of<P: Past>(&self, game: &Referee<P>) -> bool {
+        self.board.same(game.board())
+            && self.turns == game.turns()
+            && self.over == game.over()
+            && self.score == game.score()
+            && self.depth == game.depth()
+    }
+}
+
+/// A referee, asked for once more where memory was refused.
+fn begin<P: Past>(alloc: Global, side: u8, seen: &mut Seen) -> Result<Referee<P>, Wrong> {
+    let Some(size) = Size::new(side) else {
+        return wrong_in("no board of the side");
+    };
+    seen.call();
+    if let Ok(game) = Referee::<P>::new(alloc, size) {
+        return Ok(game);
+    }
+    seen.want();
+    match Referee::<P>::new(alloc, size) {
+        Ok(game) => Ok(game),
+        Err(_) => wrong_in("a referee was refused twice"),
+    }
+}
+
+/// Takes a turn, and once more where memory was refused; the game is the same then, as it is where a reason forbids the
+/// turn, which takes no memory.
+fn turn<P: Past>(
+    game: &mut Referee<P>,
+    colour: Colour,
+    play: Play,
+    answer: Result<(), Reason>,
+    seen: &mut Seen,
+) -> Result<(), Wrong> {
+    if let Play::Stone(point) = play {
+        let side = game.board().size().side();
+        if point.col >= side || point.row >= side {
+            return wrong_in("a point beside the board");
+        }
+    }
+    let before = Shown::of(game);
+    seen.call();
+    let taken = match game.turn(colour, play) {
+        Err(TurnFault::Memory) => {
+            seen.want();
+            right(before.is_of(game), "a game after a refused turn")?;
+            right(answer.is_ok(), "memory for an illegal turn")?;
+            game.turn(colour, play)
+        }
+        taken => taken,
+    };
+    match (taken, answer) {
+        (Ok(()), Ok(())) => right(game.depth() > before.depth, "a game after a turn"),
+        (Err(TurnFault::Illegal(given)), Err(reason)) => right(
+            given == reason && before.is_of(game),
+            "a game after an illegal turn",
+        ),
+        _ => wrong_in("the answer of a turn"),
+    }
+}
+
+/// Sets white stones up on the top row of three points, and once more where memory was refused; the game is the same then.
+fn set_top_up<P: Past>(game: &mut Referee<P>, seen: &mut Seen) -> Result<(), Wrong> {
+    if game.board().size().side() < 3 {
+        return wrong_in("a board of fewer than three columns");
+    }
+    let area = Rect {
+        first: Point { col: 0, row: 0 },
+        last: Point { col: 2, row: 0 },
+    };
+    let ops = [SetupOp {
+        cell: Cell::White,
+        area,
+    }];
+    let before = Shown::of(game);
+    seen.call();
+    if game.setup(&ops, None).is_ok() {
+        return right(game.depth() == 1, "a game after a setup");
+    }
+    seen.want();
+    right(before.is_of(game), "a game after a refused setup")?;
+    match game.setup(&ops, None) {
+        Ok(()) => right(game.depth() == 1, "a game after a setup"),
+        Err(_) => wrong_in("a setup was refused twice"),
+    }
+}
+
+/// Takes the newest call back.
+fn undo<P: Past>(game: &mut Referee<P>) -> Result<(), Wrong> {
+    if game.depth() == 0 {
+        return wrong_in("nothing to take back");
+    }
+    game.undo();
+    Ok(())
+}
