@@ -1,5 +1,5 @@
 #!/usr/bin/env bash
-# The test command: builds the program, runs the merge gate (`rt ci`), and then every other script of this folder over the program.
+# The test command: builds the programs, runs the merge gate (`rt ci`), and then every other script of this folder over the program.
 # `tests/all.sh --scripts` leaves the gate out, `tests/all.sh NAME..` runs only the scripts named.
 # The last line is `N passed, N failed, N skipped`, summed over all.
 set -uo pipefail
@@ -9,7 +9,10 @@ log=$(mktemp)
 trap 'rm -f "$log"' EXIT
 
 build() {
-    make --no-print-directory program || { echo "FAILED: no program was built"; failed=$((failed + 1)); }
+    local name
+    for name in program failing_calls; do
+        make --no-print-directory "$name" || { echo "FAILED: make $name"; failed=$((failed + 1)); }
+    done
 }
 
 gate() {

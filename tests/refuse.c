@@ -1,6 +1,6 @@
 /* Loaded before the C library: fails one request of the program, so that a script can try each in turn.
  * REFUSE_MEMORY, REFUSE_READ and REFUSE_WRITE are the number of the request that fails, from 1; REFUSE_MARK is a file
- * that is made when it does. SHORT_WRITES makes each write take one byte at most. */
+ * that is made when it does. SHORT_READS and SHORT_WRITES make each read give and each write take one byte at most. */
 #define _GNU_SOURCE
 #include <dlfcn.h>
 #include <errno.h>
@@ -39,7 +39,7 @@ ssize_t read(int file, void *bytes, size_t size) {
     static ssize_t (*real)(int, void *, size_t);
     if (!real) real = next("read");
     if (refused(1)) return errno = EINTR, -1;
-    return real(file, bytes, size);
+    return real(file, bytes, size > 1 && getenv("SHORT_READS") ? 1 : size);
 }
 
 ssize_t write(int file, const void *bytes, size_t size) {

@@ -47,6 +47,7 @@ each() {
     done
     check "$name, $variable 1 to $number" '' "$problems"
     check "$name, $variable: some were refused" 1 "$([ "$number" -gt 1 ] && echo 1)"
+    echo "$number" > "$name.runs"
 }
 
 nl=$'\n'
@@ -67,10 +68,20 @@ each faulty REFUSE_MEMORY 4 "$memory" '' split
 each faulty REFUSE_READ 3 'read failed' '' split
 cp good.sgf input.sgf
 
-# Short writes change nothing.
-SHORT_WRITES=1 LD_PRELOAD="$PWD/refuse.so" "$SGFSPLIT" split input.sgf > out 2> err
-check 'short writes: status' 0 $?
-check 'short writes: output' '' "$(cmp out list.out 2>&1)"
+# Short reads and short writes change nothing, and each of many reads that fails is told.
+for short in SHORT_READS SHORT_WRITES; do
+    for form in list sgf gtp; do
+        env LD_PRELOAD="$PWD/refuse.so" "$short=1" "$SGFSPLIT" split --form "$form" input.sgf > out 2> err
+        check "$short, $form: status" 0 $?
+        check "$short, $form: output" '' "$(cmp out "$form.out" 2>&1)"
+    done
+done
+printf '(;SZ[3](;B[aa])(;B[bb];W[aa]))' > input.sgf
+export SHORT_READS=1
+each bytes REFUSE_READ 3 'read failed' '' split
+each 'counted bytes' REFUSE_READ 3 'read failed' '' count
+unset SHORT_READS
+check 'each byte is a read' 32 "$(cat bytes.runs)"
 
 # Under a limit on memory, in steps of 256 KiB and then wider: the answer, or want of memory after whole records.
 {

@@ -1,0 +1,29 @@
+#!/usr/bin/env bash
+# Refuses each request for memory of the program `failing_calls` in turn. It makes the libraries' calls, each once more after a want of
+# memory, and its status says whether all was as it should be (crates/failing_calls/src/main.rt).
+. "$(dirname "$0")/lib.sh"
+tried=$top/crates/failing_calls/out/failing_calls
+needs cc
+cc -shared -fPIC -O1 -o refuse.so "$top/tests/refuse.c" -ldl 2> cc.txt || skipped 'the C compiler makes no shared library'
+[ -x "$tried" ] || failed "no program at $tried: run make failing_calls first"
+
+number=0 wanted=0
+while :; do
+    number=$((number + 1))
+    rm -f mark
+    status=0
+    LD_PRELOAD="$PWD/refuse.so" REFUSE_MARK=mark REFUSE_MEMORY=$number "$tried" > out 2> err || status=$?
+    case $status in
+        0) said='0 wants of memory' ;;
+        4) said='1 wants of memory' wanted=$((wanted + 1)) ;;
+        *) failed "request $number refused: status $status, $(cat err)" ;;
+    esac
+    grep -q ", $said\$" out || failed "request $number refused: status $status, but $(cat out)"
+    if [ ! -e mark ]; then
+        [ "$status" = 0 ] || failed "want of memory in run $number, in which no request was refused"
+        break
+    fi
+    [ "$number" -lt 20000 ] || failed 'there is no end of requests'
+done
+[ "$wanted" -gt 0 ] || failed 'no call wanted memory'
+echo "$((number - 1)) requests refused in turn, $wanted wants of memory"

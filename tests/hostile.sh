@@ -1,0 +1,91 @@
+#!/usr/bin/env bash
+# Gives the built program inputs that are made to hurt: cut, deep, wide, of one huge part. Each has its answer, and no run takes a
+# minute. bench/hostile.py measures such inputs up to the limit. The last line is `N passed, N failed, N skipped`.
+. "$(dirname "$0")/lib.sh"
+set +e
+passed=0 failed=0
+
+check() {
+    if [ "$2" = "$3" ]; then
+        passed=$((passed + 1))
+    else
+        failed=$((failed + 1))
+        printf 'FAILED: %s\n  wanted: %s\n  got:    %s\n' "$1" "$2" "$3"
+    fi
+}
+
+# answer NAME TEXT WORDS..: over input.sgf the run ends with status 0, writes this text and a line feed, and says nothing.
+answer() {
+    local name=$1 text=$2
+    shift 2
+    timeout 60 "$SGFSPLIT" "$@" < input.sgf > out 2> err
+    check "$name: status" 0 $?
+    check "$name: output" "$text" "$(cat out)"
+    check "$name: fault line" '' "$(cat err)"
+}
+
+# fault NAME LINE WORDS..: over standard input the run ends with status 1 and this line, and writes nothing.
+fault() {
+    local name=$1 line=$2
+    shift 2
+    timeout 60 "$SGFSPLIT" "$@" > out 2> err
+    check "$name: status" 1 $?
+    check "$name: output" '' "$(cat out)"
+    check "$name: fault line" "sgfsplit: $line" "$(cat err)"
+}
+
+# times COUNT TEXT
+times() { yes "$2" | head -n "$1" | tr -d '\n'; }
+
+# ---- cut after each byte
+two='(;SZ[3](;B[aa])(;B[bb];W[aa]))'
+for length in $(seq 0 29); do
+    printf '%s' "${two:0:length}" > input.sgf
+    fault "cut at $length" "byte $length: input ends too early" split < input.sgf
+    fault "counted, cut at $length" "byte $length: input ends too early" count < input.sgf
+done
+fault 'spaces without end' 'input is longer than 67108864 bytes' split < <(tr '\0' ' ' < /dev/zero)
+fault 'parentheses without end' 'input is longer than 67108864 bytes' count < <(yes '(;' | tr -d '\n')
+
+# ---- deep: games inside one another, and a variation at each node of a long line
+{ times 100000 '(;'; times 100000 ')'; } > input.sgf
+answer 'deep' '199999 1 100000 score 0 0 open' split
+answer 'deep, after its line' '' split --after 199999
+fault 'deep, after its root' 'no line ends at 1' split --after 1 < input.sgf
+answer 'deep, counted' '1 100000 1' count
+answer 'deep, as a game' "(\
+$(times 100000 ';'))" split --form sgf
+{ times 100000 '(;(;)'; times 100000 ')'; } > input.sgf
+answer 'a variation at each node, the last line' '499998 1 100001 score 0 0 open' split --after 499993
+answer 'a variation at each node, counted' '1 200000 100000' count
+
+# ---- wide: variations of one node, and games
+{ printf '(;'; times 100000 '(;)'; printf ')'; } > input.sgf
+answer 'wide, the last line' '300000 1 2 score 0 0 open' split --after 299997
+answer 'wide, counted' '1 100001 100000' count
+times 1000000 '(;)' > input.sgf
+answer 'games, the last one' '2999998 1000000 1 score 0 0 open' split --after 2999995
+answer 'games, counted' '1000000 1000000 1000000' count
+
+# ---- one huge part
+{ printf '(;C['; head -c 67108858 /dev/zero | tr '\0' x; printf '])'; } > input.sgf
+answer 'a huge value' '1 1 1 score 0 0 open' split
+timeout 60 "$SGFSPLIT" split --form sgf input.sgf > out 2> err
+check 'a huge value as a game: status' 0 $?
+check 'a huge value as a game' '' "$( { cat input.sgf; echo; } | cmp - out 2>&1)"
+{ printf '(;SZ[19]AB'; times 1000000 '[aa]'; printf ')'; } > input.sgf
+answer 'a million values' '1 1 1 score 361 0 open' split
+{ printf '(;SZ[19]'; times 1000000 'C[]'; printf ')'; } > input.sgf
+answer 'a million properties' '1 1 1 score 0 0 open' split
+{ printf '(;G'; head -c 4000000 /dev/zero | tr '\0' a; printf 'M[1])'; } > input.sgf
+answer 'a huge name' '1 1 1 score 0 0 open' split
+answer 'a huge name as a game' '(;GM[1])' split --form sgf
+
+# ---- long lines: passes and setups that never end a game, and moves after one that isn't allowed
+{ printf '(;SZ[9]'; times 100000 ';B[];W[];AE[aa]'; printf ')'; } > input.sgf
+answer 'passes and setups' '1500000 1 300001 score 0 0 open' split
+{ printf '(;SZ[1];B[aa]'; times 300000 ';B[aa]'; printf ')'; } > input.sgf
+answer 'moves after an illegal one' '1800007 1 300002 illegal 1 7 repeat' split
+
+echo "$passed passed, $failed failed, 0 skipped"
+[ "$failed" = 0 ]
