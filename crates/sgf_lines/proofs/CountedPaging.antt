@@ -1,5 +1,5 @@
 -- The loop that writes the lines of a page counts the nodes that are judged on them.
-use Rattle.std.proofs.Common.{◌≡◌, ℕ, zero, suc, ◌+◌, ◌-◌, ◌<◌, ◌≤◌, Bool, true, false, List, [], ◌++◌, length, take, drop, slice_get, Option, Some, None, Result, Ok, Err, refl, sym, ap, subst, ◌∙◌, arith, add-one, length-append}
+use Rattle.std.proofs.Common.{◌≡◌, ℕ, zero, suc, ◌+◌, ◌-◌, ◌<◌, ◌≤◌, Bool, true, false, List, [], ◌++◌, length, take, drop, slice_get, Option, Some, None, Result, Ok, Err, inl, inr, refl, sym, ap, subst, ◌∙◌, arith, add-one, length-append}
 use Rattle.std.specs.Prelude.{unwrap_or, filter}
 use Rattle.std.specs.List.{flat_map}
 use Rattle.std.proofs.Math.Seq.{take-add}
@@ -7,8 +7,11 @@ use Rattle.std.proofs.lemmas.List.{take_all, length-take, length-drop}
 use Rattle.std.proofs.lemmas.Grind.{flat_map-append}
 use Rattle.sgf_tree.specs.Tree.{Games, node_count}
 use Rattle.sgf_tree.specs.FileOrder.{PlacesRise}
+use Rattle.sgf_tree.specs.declared.fault.MemoryFault.{MemoryFault}
 use Rattle.sgf_lines.specs.Lines.{Line, lines}
 use Rattle.sgf_lines.specs.Page.{limited}
+use Rattle.sgf_lines.specs.Ends.{SinkState}
+use Rattle.sgf_lines.specs.Cursor.{Position}
 use Rattle.sgf_lines.specs.Verdict.{judged_nodes}
 use Rattle.sgf_lines.specs.Plays.{different, judged}
 use Rattle.sgf_lines.specs.CountedRun.{plays_in, plays_of, ArePlaysFor}
@@ -17,12 +20,13 @@ use Rattle.sgf_lines.specs.declared.options.Form.TheVariants.{List as list_form,
 use Rattle.sgf_lines.specs.declared.fault.RunFault.{RunFault}
 use Rattle.sgf_lines.specs.declared.fault.RunFault.TheVariants.{Write, Memory}
 use Rattle.sgf_lines.specs.inner.Following.{Continues, numbers_before}
+use Rattle.sgf_lines.specs.inner.Keeping.{IsShared, HasPlays, CountsLine}
 use Rattle.sgf_lines.specs.inner.CountedLines.{CountsLines}
 use Rattle.sgf_lines.proofs.Pages.{get_dropped, get_taken, get_some, limited_is}
 use Rattle.sgf_lines.proofs.LineCounts.{lines_within}
 use Rattle.sgf_lines.proofs.Different.{is_new, different-append}
 use Rattle.sgf_lines.proofs.PlayCounts.{judged_places, first_plays, next_plays}
-use Rattle.sgf_lines.proofs.Paging.{page_from}
+use Rattle.sgf_lines.proofs.Paging.{page_from, IsSoFar}
 
 -- in a form that judges what is added is added, and in the other nothing is
 added_in : (form : Form) (all some more : ℕ) → all ≡ some + more → plays_in form all ≡ plays_in form some + plays_in form more
@@ -72,60 +76,60 @@ module _ (c : Games) (rise : PlacesRise c) (first limit : ℕ) where
       rw add-one (added_in form (length (judged (take (suc (suc k)) page))) (length (judged (take (suc k) page))) (length (judged_nodes line) - shared)
       (next_plays c rise first page stands k shared line e h))
 
--- whether some line was written
-abbrev pub is_begun : ℕ → Bool
-is_begun zero = false
-is_begun (suc k) = true
+-- what a line shares with the one before it, by where the cursor stands
+shares_by : (c : Games) (rise : PlacesRise c) (first limit k : ℕ) (begun : Bool) (at : Position) (shared : ℕ) → at.games ≡ c → at.given ≡ first + k → (k ≡ 0 → begun ≡ false) → (0 < k → begun ≡ true)
+    → IsShared begun at shared → Shares c rise first limit k shared
+shares_by c rise first limit zero begun at shared same given first_line later h = rw (first_line refl) at h
+shares_by c rise first limit (suc k) begun at shared same given first_line later h =
+    let go : Continues (numbers_before at.games at.given) shared (numbers_before at.games (at.given + 1)) = rw (later (omega arith)) at h in
+    rw (same, given, add-one) at go
 
--- so many nodes were played for the first k lines of the page
-pub record ArePlaysSoFar (form : Form) (c : Games) (first limit count k : ℕ) (begun : Bool) (now : ℕ) : Type 0 where
-  pub begun_is : begun ≡ is_begun k
-  pub counted : now ≡ count + plays_of form (take k (page_from c first limit))
+module _ (form : Form) (c : Games) (rise : PlacesRise c) (first limit count k : ℕ) (begun : Bool) (at : Position) (old sink : SinkState) (written : IsSoFar form c first limit old k at sink)
+    (first_line : k ≡ 0 → begun ≡ false) (later : 0 < k → begun ≡ true) (lt : k < limit) (now : ℕ) (h : now ≡ count + plays_of form (take k (page_from c first limit))) where
+  next_adds : (n : ℕ) → HasPlays form begun at n → plays_of form (take (k + 1) (page_from c first limit)) ≡ plays_of form (take k (page_from c first limit)) + n
+  next_adds n p =
+      let there : slice_get (lines c) (first + k) ≡ Some p.line = rw (written.same, written.given) at p.found in
+      let here : slice_get (page_from c first limit) k ≡ Some p.line = get_taken (drop first (lines c)) limit k lt ∙ get_dropped (lines c) first k ∙ there in
+      rw (← p.count_is) at
+      (adds c rise first limit form k p.shared p.line here (shares_by c rise first limit k begun at p.shared written.same written.given first_line later p.shares))
 
-pub no_plays_yet : (form : Form) (c : Games) (first limit count : ℕ) → ArePlaysSoFar form c first limit count 0 false count
-no_plays_yet form c first limit count = record { begun_is = refl; counted = none form }
-  where
-    none : (form : Form) → count ≡ count + plays_of form []
-    none list_form = omega arith
-    none sgf_form = omega arith
-    none gtp_form = omega arith
-
-module _ (form : Form) (c : Games) (first limit count k : ℕ) (begun : Bool) (now : ℕ) (h : ArePlaysSoFar form c first limit count k begun now) where
   -- the next line was played whole
-  module _ (new more : ℕ) (adds : plays_of form (take (k + 1) (page_from c first limit)) ≡ plays_of form (take k (page_from c first limit)) + more) where
-    pub one_played : new ≡ now + more → ArePlaysSoFar form c first limit count (k + 1) true new
-    one_played is = record { begun_is = rw add-one refl; counted = omega (arith, is, h.counted, adds) }
+  pub one_played : (new : ℕ) → CountsLine {E = MemoryFault} form begun at now new (Ok true) → new ≡ count + plays_of form (take (k + 1) (page_from c first limit))
+  one_played new p = omega (arith, p.2, h, next_adds p.0 p.1)
 
-    -- its record wasn't taken whole
-    pub played_then_cut : new ≡ now + more → CountsLines form (page_from c first limit) count new (Err (Write k))
-    played_then_cut is = record {
-      plays = plays_of form (take (k + 1) (page_from c first limit));
-      counted = omega (arith, is, h.counted, adds);
-      answers = record { at_least = plays_grow form (page_from c first limit) k; at_most = omega arith };
-    }
+  -- but its record wasn't taken whole
+  pub played_then_cut : (new : ℕ) → CountsLine {E = MemoryFault} form begun at now new (Ok true) → CountsLines form (page_from c first limit) count new (Err (Write k))
+  played_then_cut new p = record {
+    plays = plays_of form (take (k + 1) (page_from c first limit));
+    counted = one_played new p;
+    answers = record { at_least = plays_grow form (page_from c first limit) k; at_most = omega arith };
+  }
 
-    -- a front of it was played when memory was refused
-    pub played_in_part : now ≤ new → new ≤ now + more → CountsLines form (page_from c first limit) count new (Err (Memory k))
-    played_in_part least most = record {
-      plays = new - count;
-      counted = omega (arith, least, h.counted);
-      answers = record { at_least = omega (arith, least, h.counted); at_most = omega (arith, most, h.counted, adds) };
-    }
-
-  -- none of it was
-  pub not_played : CountsLines form (page_from c first limit) count now (Err (Memory k))
-  not_played = record {
+  -- no memory for all of it
+  pub played_in_part : (e : MemoryFault) (new : ℕ) → CountsLine form begun at now new (Err e) → CountsLines form (page_from c first limit) count new (Err (Memory k))
+  played_in_part e new (inl none) = record {
     plays = plays_of form (take k (page_from c first limit));
-    counted = h.counted;
+    counted = none ∙ h;
     answers = record { at_least = omega arith; at_most = plays_grow form (page_from c first limit) k };
   }
-
-  pub all_played : length (page_from c first limit) ≤ k → CountsLines form (page_from c first limit) count now (Ok k)
-  all_played le = record {
-    plays = plays_of form (take k (page_from c first limit));
-    counted = h.counted;
-    answers = all_plays form (page_from c first limit) k le;
+  played_in_part e new (inr p) = record {
+    plays = new - count;
+    counted = omega (arith, p.2, h);
+    answers = record { at_least = omega (arith, p.2, h); at_most = omega (arith, p.3, h, next_adds p.0 p.1) };
   }
+
+pub none_played_yet : (form : Form) (c : Games) (first limit count : ℕ) → count ≡ count + plays_of form (take 0 (page_from c first limit))
+none_played_yet list_form c first limit count = omega arith
+none_played_yet sgf_form c first limit count = omega arith
+none_played_yet gtp_form c first limit count = omega arith
+
+pub all_played : (form : Form) (c : Games) (first limit count k now : ℕ) → now ≡ count + plays_of form (take k (page_from c first limit)) → length (page_from c first limit) ≤ k
+    → CountsLines form (page_from c first limit) count now (Ok k)
+all_played form c first limit count k now h le = record {
+  plays = plays_of form (take k (page_from c first limit));
+  counted = h;
+  answers = all_plays form (page_from c first limit) k le;
+}
 
 -- the page by the options
 pub counts_for_options : (form : Form) (c : Games) (first : ℕ) (asked : Option ℕ) (limit count new : ℕ) (result : Result ℕ RunFault) → limit ≡ unwrap_or asked (node_count c)

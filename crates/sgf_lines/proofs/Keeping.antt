@@ -24,7 +24,8 @@ use Rattle.sgf_lines.specs.inner.Shown.{IsShownAs}
 use Rattle.sgf_lines.specs.inner.Running.{HasRecord}
 use Rattle.sgf_lines.specs.inner.Followed.{CountsFresh, fresh_plays}
 use Rattle.sgf_lines.specs.inner.Following.{Continues, first_after, numbers_of, path_before}
-use Rattle.sgf_lines.specs.inner.Keeping.{Keeps, KeepsAt, KeepsBefore, CountsIn, CountsLine, IsShared, HasPlays, plays_in, left}
+use Rattle.sgf_lines.specs.CountedRun.{plays_in}
+use Rattle.sgf_lines.specs.inner.Keeping.{Keeps, KeepsAt, KeepsBefore, CountsIn, CountsLine, IsShared, HasPlays, left}
 use Rattle.sgf_lines.proofs.Lists.{Each, each_get}
 use Rattle.sgf_lines.proofs.Joins.{as_many}
 use Rattle.sgf_lines.proofs.Ways.{IsDescent, each_path}

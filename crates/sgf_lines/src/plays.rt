@@ -4,7 +4,8 @@ ghost use Rattle.std.specs.Prelude.{◌≡◌, ◌<◌, ◌+◌};
 
 use std::marker::Model;
 
-/// The number of nodes that were played.
+/// The number of nodes that runs have played.
+/// A node is played when its step is worked out, whatever it holds.
 #[derive(Drop)]
 pub struct Plays {
     count: u64,
@@ -22,14 +23,14 @@ impl Model for Plays {
 }
 
 impl Plays {
-    /// None so far.
+    /// No node yet.
     pub fn new() -> Plays
         ensures { result ≡ 0 }
     {
         Plays { count: 0 }
     }
 
-    /// The number so far.
+    /// How many nodes were played.
     pub fn count(&self) -> u64
         ensures { result ≡ self.now }
     {

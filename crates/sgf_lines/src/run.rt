@@ -4,7 +4,9 @@ ghost use Rattle.std.specs.Prelude.{◌≡◌, ◌<◌, ◌≤◌, ◌+◌, ℕ,
 ghost use Rattle.sgf_tree.specs.declared.fault.TheConstants.{MAX_LENGTH};
 ghost use Rattle.sgf_tree.specs.Spelling.{Spells};
 ghost use Rattle.sgf_lines.specs.Answer.{IsRun, read_failures, write_failures};
+ghost use Rattle.sgf_lines.specs.CountedRun.{IsCountedRun};
 ghost use Rattle.sgf_lines.specs.inner.Running.{IsReading, IsSplit, IsSplitOf, IsStart};
+ghost use Rattle.sgf_lines.specs.inner.CountedLines.{CountsSplit, CountsSplitOf};
 
 use crate::cursor::Cursor;
 use crate::fault::RunFault;
@@ -47,9 +49,37 @@ pub fn split<S: Source, T: Sink>(
     ensures write_failures { (T.state sink.new).failures
         ≡ (T.state sink.old).failures + write_failures result }
 {
+    let mut plays = Plays::new();
+    split_counted(alloc, source, sink, options, &mut plays)
+}
+
+/// Splits as `split` does, with the same answers, and adds to `plays` the number of nodes that it played.
+/// A node is played when its step is worked out, and not again for another line that shares it.
+///
+/// After Ok the number is that of the different nodes that are judged on the lines written. Of a line these are all nodes, or
+/// those up to the first that isn't allowed, that one among them; or none, where the line's game isn't judged.
+/// After `Write` or `Memory` it is at least that of the first `lines` lines, and at most that of these and the next one.
+/// After each other fault it is 0, and so it is in the form `Form::Sgf`, which has no verdict.
+pub fn split_counted<S: Source, T: Sink>(
+    alloc: Global,
+    source: &mut S,
+    sink: &mut T,
+    options: &Options,
+    plays: &mut Plays,
+) -> Result<u64, RunFault>
+    requires source_countable { (S.state source.old).failures < u64.MAX }
+    requires sink_countable { (T.state sink.old).failures < u64.MAX }
+    requires plays_countable { plays.old + MAX_LENGTH ≤ u64.MAX }
+    ensures answer { IsCountedRun options.now (S.state source.old) (S.state source.new)
+        (T.state sink.old) (T.state sink.new) plays.old plays.new result }
+    ensures read_failures { (S.state source.new).failures
+        ≡ (S.state source.old).failures + read_failures result }
+    ensures write_failures { (T.state sink.new).failures
+        ≡ (T.state sink.old).failures + write_failures result }
+{
     let mut text = Vec::new(alloc);
     match read_all(source, &mut text) {
-        Ok(()) => split_text(alloc, &text, sink, options),
+        Ok(()) => split_text(alloc, &text, sink, options, plays),
         Err(fault) => Err(fault),
     }
 }
@@ -85,16 +115,19 @@ fn split_text<T: Sink>(
     text: &[u8],
     sink: &mut T,
     options: &Options,
+    plays: &mut Plays,
 ) -> Result<u64, RunFault>
     requires short { length text.now ≤ MAX_LENGTH }
     requires countable { (T.state sink.old).failures < u64.MAX }
+    requires plays_countable { plays.old + MAX_LENGTH ≤ u64.MAX }
     ensures answer { IsSplit options.now text.now (T.state sink.old) (T.state sink.new) result }
+    ensures plays { CountsSplit options.now text.now plays.old plays.new result }
     ensures read_failures { read_failures result ≡ 0 }
     ensures write_failures { (T.state sink.new).failures
         ≡ (T.state sink.old).failures + write_failures result }
 {
     match read(alloc, text) {
-        Ok(collection) => split_collection(alloc, &collection, sink, options),
+        Ok(collection) => split_collection(alloc, &collection, sink, options, plays),
         Err(ReadFault::TooLong) => Err(RunFault::TooLong),
         Err(ReadFault::NotSgf { at }) => Err(RunFault::NotSgf {
             at,
@@ -110,19 +143,21 @@ fn split_collection<T: Sink>(
     collection: &Collection<'_>,
     sink: &mut T,
     options: &Options,
+    plays: &mut Plays,
 ) -> Result<u64, RunFault>
     requires countable { (T.state sink.old).failures < u64.MAX }
+    requires plays_countable { plays.old + MAX_LENGTH ≤ u64.MAX }
     ensures answer { IsSplitOf options.now collection.now (T.state sink.old) (T.state sink.new) result }
+    ensures plays { CountsSplitOf options.now collection.now plays.old plays.new result }
     ensures read_failures { read_failures result ≡ 0 }
     ensures write_failures { (T.state sink.new).failures
         ≡ (T.state sink.old).failures + write_failures result }
 {
     match cursor_after(alloc, collection, options.after) {
         Ok(mut cursor) => {
-            // Nodes are counted by a number, so plays are too.
+            // There are no more nodes than bytes.
             let _nodes = collection.nodes();
-            let mut plays = Plays::new();
-            deliver(alloc, collection, &mut cursor, options, sink, &mut plays)
+            deliver(alloc, collection, &mut cursor, options, sink, plays)
         }
         Err(fault) => Err(fault),
     }

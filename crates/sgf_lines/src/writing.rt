@@ -6,6 +6,7 @@ ghost use Rattle.sgf_lines.specs.Lines.{lines};
 ghost use Rattle.sgf_lines.specs.Page.{limited};
 ghost use Rattle.sgf_lines.specs.Answer.{write_failures};
 ghost use Rattle.sgf_lines.specs.inner.Running.{WritesLines, PutsAll};
+ghost use Rattle.sgf_lines.specs.inner.CountedLines.{CountsLines};
 
 use crate::cursor::Cursor;
 use crate::fault::RunFault;
@@ -17,7 +18,7 @@ use sgf_tree::{Collection, MemoryFault};
 use std::alloc::Global;
 
 /// Writes the records of the lines after the cursor, as many as the options allow, and flushes the sink.
-/// The answer is the number of lines that were written.
+/// The answer is the number of lines that were written, and `plays` counts the nodes that are played.
 pub(crate) fn deliver<T: Sink>(
     alloc: Global,
     collection: &Collection<'_>,
@@ -32,6 +33,9 @@ pub(crate) fn deliver<T: Sink>(
     ensures answer { WritesLines options.now.form
         (limited options.now.limit (drop cursor.old.given (lines collection.now)))
         (T.state sink.old) (T.state sink.new) result }
+    ensures plays { CountsLines options.now.form
+        (limited options.now.limit (drop cursor.old.given (lines collection.now)))
+        plays.old plays.new result }
     ensures failures { (T.state sink.new).failures
         ≡ (T.state sink.old).failures + write_failures result }
 {
@@ -61,6 +65,9 @@ fn write_lines<T: Sink>(
     ensures answer { WritesLines options.now.form
         (limited options.now.limit (drop cursor.old.given (lines collection.now)))
         (T.state sink.old) (T.state sink.new) result }
+    ensures plays { CountsLines options.now.form
+        (limited options.now.limit (drop cursor.old.given (lines collection.now)))
+        plays.old plays.new result }
     ensures failures { (T.state sink.new).failures
         ≡ (T.state sink.old).failures + write_failures result }
 {

@@ -4,6 +4,7 @@ use Rattle.sgf_tree.specs.Tree.{Node, node_count}
 use Rattle.sgf_tree.specs.FileOrder.{node_at}
 use Rattle.sgf_lines.specs.Lines.{Line, lines}
 use Rattle.sgf_lines.specs.Cursor.{Position, advanced}
+use Rattle.sgf_lines.specs.CountedRun.{plays_in}
 use Rattle.sgf_lines.specs.declared.options.Form.{Form}
 use Rattle.sgf_lines.specs.declared.options.Form.TheVariants.{List as list_form, Sgf as sgf_form, Gtp as gtp_form}
 use Rattle.sgf_lines.specs.declared.followed.Followed.{Followed}
@@ -26,12 +27,6 @@ pub record KeepsAt (form : Form) (at : Position) (followed : Followed) : Type 0 
 abbrev pub KeepsBefore : Bool → Form → Position → Followed → Type 0
 KeepsBefore true form at followed = KeepsAt form at followed
 KeepsBefore false form at followed = Unit {0}
-
--- in sgf form nothing is played
-abbrev pub plays_in : Form → ℕ → ℕ
-plays_in list_form n = n
-plays_in sgf_form n = 0
-plays_in gtp_form n = n
 
 -- plays went from `old` to `new` for the line of these nodes, of which the first `shared` are played already
 abbrev pub CountsIn : {A E : Type 0} → Form → ℕ → ℕ → List Node → ℕ → Result A E → Type 0

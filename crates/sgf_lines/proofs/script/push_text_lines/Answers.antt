@@ -25,5 +25,5 @@ returns c =
     let some : length text ≡ 0 → ⊥ = eqb-false (length text) 0 (sym c.is_empty.ensures ∙ c.if-is_empty.false) in
     let split = c.split-piece-items.ensures in
     let pieces = ended {v = λ p. p.now} (slice_split (λ b. b == 10) text) c.loop-piece.yielded _ c.loop-piece.yielded_by c.next.result _ c.in-None.is c.next.ensures.steps
-        (YieldsList-at (cc) (YieldsList-from_slice_split {s = c.split-piece-items.result} _ _ text split.rest split.done split.closure (λ x r q k. search (rules, tests)))) in
+    (YieldsList-at (cc) (YieldsList-from_slice_split {s = c.split-piece-items.result} _ _ text split.rest split.done split.closure (λ x r q k. search (rules, tests)))) in
     subst (λ t. c.loop-piece.output.items ≡ c.args.output.now.items ++ t) (ap (flat_map comment_line) pieces ∙ sym (of_pieces text some)) c.loop-piece.invariant

@@ -1,8 +1,9 @@
 -- So many records were written, the cursor stands after their lines, and of the last of them it is known what is kept.
-use Rattle.std.proofs.Common.{◌≡◌, ◌+◌, ◌-◌, ◌≤◌, ◌<◌, true, false}
+use Rattle.std.proofs.Common.{take, ◌≡◌, ◌+◌, ◌-◌, ◌≤◌, ◌<◌, true, false}
 use Rattle.sgf_tree.specs.Tree.{node_count}
 use Rattle.sgf_lines.specs.inner.Keeping.{KeepsBefore, left}
-use Rattle.sgf_lines.proofs.Paging.{IsSoFar}
+use Rattle.sgf_lines.specs.CountedRun.{plays_of}
+use Rattle.sgf_lines.proofs.Paging.{IsSoFar, page_from}
 use Rattle.sgf_lines.proofs.writing.write_lines.Given as goal
 
 abbrev pub invariant-page : goal.invariant-page
@@ -12,6 +13,7 @@ invariant-page g l = record {
   first : l.lines ≡ 0 → l.writer.begun ≡ false;
   later : 0 < l.lines → l.writer.begun ≡ true;
   keeps : KeepsBefore l.writer.begun l.writer.form l.cursor l.writer.followed;
+  plays : l.plays ≡ l.initial.plays + plays_of l.options.form (take l.lines (page_from l.collection l.initial.cursor.given l.limit));
   countable : l.plays + left l.writer.begun l.cursor ≤ l.initial.plays + node_count l.collection;
 }
 
