@@ -1,0 +1,211 @@
+#!/usr/bin/env python3
+"""Measures sgfsplit on inputs that are made to hurt, and prints a table.
+
+  bench/hostile.py [--mib N] [--only NAME,..] [--forms list,sgf,gtp,count] [--limit GIB] [--seconds N] [--table FILE]
+
+  SGFSPLIT   the program (crates/sgfsplit/out/sgfsplit)
+
+Each input is made as large as N MiB allow (64, the program's limit), or smaller where its output would grow with its square. A run has
+GIB of memory at most (16) and N seconds (300). For each input and form: the bytes read and written, the processor seconds, the
+nanoseconds per byte read or written, the peak memory, that memory per byte read, and the status where it isn't 0. Needs /usr/bin/time.
+"""
+import argparse
+import os
+import random
+import re
+import resource
+import subprocess
+import sys
+import tempfile
+
+from compare import PROGRAM, words
+
+LETTERS = "abcdefghijklmnopqrstuvwxyzABCDEFGHIJKLMNOPQRSTUVWXYZ"
+FORMS = ["list", "sgf", "gtp", "count"]
+LIMIT = 67_108_864
+
+
+def point(col, row):
+    return LETTERS[col] + LETTERS[row]
+
+
+def repeated(size, front, unit, behind):
+    """As many units between the front and what is behind as there is room for."""
+    return front + unit * ((size - len(front) - len(behind)) // len(unit)) + behind
+
+
+def nested(size, units):
+    """Games inside one another, each begun by the unit."""
+    count = size // (len(units) + 1)
+    return units * count + ")" * count
+
+
+def regions(side, left, rows):
+    """Regions of a half of a board, with the walls around them."""
+    half = (side - 3) // 2
+    cols = range(half) if left else range(side - half, side)
+    wall = half if left else side - half - 1
+    walls = [point(wall, row) for row in range(side)]
+    found, row = [], 0
+    while row < side:
+        height = min(rows, side - row)
+        found.append([point(col, y) for y in range(row, row + height) for col in cols])
+        row += height
+        if row < side:
+            walls += [point(col, row) for col in cols]
+            row += 1
+    return found, walls
+
+
+def counting(areas):
+    """The stones of a counter whose digits are regions. The first region turns fastest; a full one is emptied by its own suicide, and is
+    filled in the other order the next time, so that no colouring comes twice."""
+    digits = [0] * len(areas)
+    while True:
+        top = 0
+        while digits[top] == len(areas[top]) - 1:
+            top += 1
+        for which in range(top, -1, -1):
+            yield areas[which][digits[which]]
+            digits[which] += 1
+            if digits[which] == len(areas[which]):
+                digits[which] = 0
+                areas[which].reverse()
+
+
+def long_line(size, side):
+    """One line of moves, all legal, after one setup: both players count in regions of their half."""
+    rows = 2 if side < 30 else 8
+    black, white_walls = regions(side, True, rows)
+    white, black_walls = regions(side, False, rows)
+    front = (f"(;SZ[{side}]AW" + "".join(f"[{p}]" for p in white_walls) + "AB" + "".join(f"[{p}]" for p in black_walls) + "PL[B]")
+    blacks, whites = counting(black), counting(white)
+    count = (size - len(front) - 1) // 12
+    return front + "".join(f";B[{next(blacks)}];W[{next(whites)}]" for _ in range(count)) + ")"
+
+
+def equal_keys(size):
+    """One line of moves whose colourings have prints with equal low bits: of two far points with equal weights there, always one is
+    black. White passes."""
+    chance = random.Random(19)
+    pairs, walls = [], set()
+    for row in (1, 4, 7, 10):
+        for col in range(1, 30, 4):
+            pair = []
+            for c, r in ((col, row), (col + 20, row + 39)):
+                pair.append((point(c, r), point(c + 1, r)))
+                walls.update(point(x, y) for x, y in ((c - 1, r), (c + 2, r), (c, r - 1), (c + 1, r - 1), (c, r + 1), (c + 1, r + 1))
+                             if x < 52 and y < 52)
+            pairs.append(pair)
+    text = ["(;SZ[52]AW" + "".join(f"[{p}]" for p in sorted(walls)) + "PL[B]"]
+    text += [f";B[{pair[0][0]}];W[]" for pair in pairs]
+    state = 0
+    seen = {state}
+
+    def flip(which):
+        nonlocal state
+        now = state >> which & 1
+        text.append(f";B[{pairs[which][1 - now][0]}];W[];B[{pairs[which][now][1]}];W[]")
+        state ^= 1 << which
+        seen.add(state)
+
+    for which in range(len(pairs) // 2):
+        flip(which)
+    up = True
+    for _ in range((size - sum(map(len, text)) - 1) // 20):
+        which = chance.choice([i for i in range(len(pairs)) if (state >> i & 1) != up and state ^ 1 << i not in seen])
+        flip(which)
+        up = not up
+    return "".join(text) + ")"
+
+
+def fan(count):
+    """A long line that very many variations share."""
+    return "(;" + ";C[x]" * count + "(;)" * count + ")"
+
+
+def comb(count):
+    """A variation at each node of a long line."""
+    return "(;(;)" * count + ")" * count
+
+
+INPUTS = {
+    # name: what it is, its text, the forms whose output isn't out of proportion
+    "spaces": ("white space after a game", lambda n: repeated(n, "(;)", " ", ""), FORMS),
+    "deep100k": ("nesting of 100,000", lambda n: nested(300_000, "(;"), FORMS),
+    "deep": ("nesting", lambda n: nested(n, "(;"), FORMS),
+    "wide100k": ("100,000 variations of one node", lambda n: repeated(300_002, "(;", "(;)", ")"), FORMS),
+    "wide": ("variations of one node", lambda n: repeated(n, "(;", "(;)", ")"), FORMS),
+    "wide52": ("the same, the board of 52 not empty", lambda n: repeated(n, "(;SZ[52]AB[cc:YY]AW[aa]", "(;)", ")"), FORMS),
+    "games": ("games of one empty node", lambda n: repeated(n, "", "(;)", ""), FORMS),
+    "nodes": ("one line of empty nodes", lambda n: repeated(n, "(", ";", ")"), FORMS),
+    "value": ("one value", lambda n: repeated(n, "(;C[", "x", "])"), FORMS),
+    "escapes": ("one value of escapes", lambda n: repeated(n, "(;C[", "\\\\", "])"), FORMS),
+    "breaks": ("one value of line feeds", lambda n: repeated(n, "(;C[", "\n", "])"), FORMS),
+    "values": ("one property of empty values", lambda n: repeated(n, "(;C", "[]", ")"), FORMS),
+    "stones": ("one property of points", lambda n: repeated(n, "(;AB", "[aa]", ")"), FORMS),
+    "areas": ("one property of whole boards of 52", lambda n: repeated(n, "(;SZ[52]AB", "[aa:ZZ]", ")"), FORMS),
+    "properties": ("one node of properties", lambda n: repeated(n, "(;", "A[]", ")"), FORMS),
+    "name": ("lower-case letters in a name", lambda n: repeated(n, "(;G", "a", "M[1])"), FORMS),
+    "root": ("a root of half the text, and variations of it", lambda n: repeated(n, "(;" + "A[]" * (n // 6), "(;B[aa])", ")"), ["list", "count"]),
+    "long19": ("one line of moves on side 19, one stretch", lambda n: long_line(n, 19), FORMS),
+    "long52": ("one line of moves on side 52, one stretch", lambda n: long_line(n, 52), FORMS),
+    "keys": ("the same, made against the table of the past", equal_keys, ["list", "count"]),
+    "setups": ("whole boards of 52 set up in turn", lambda n: repeated(n, "(;SZ[52]", ";AB[aa:ZZ];AE[aa:ZZ]", ")"), FORMS),
+    "passes": ("passes, and a setup after each two", lambda n: repeated(n, "(", ";B[];W[];AE[aa]", ")"), FORMS),
+    "script": ("setups of one point on a full board of 25", lambda n: repeated(n // 64, "(;SZ[25]AB[aa:yx]", ";AB[aa]", ")"), FORMS),
+    "fan": ("a long line that very many variations share", lambda n: fan(n // 8), ["list", "count"]),
+    "fan2k": ("the same with 2,000 of each", lambda n: fan(2_000), FORMS),
+    "comb": ("a variation at each node of a long line", lambda n: comb(n // 6), ["list", "count"]),
+    "comb5k": ("the same with 5,000 nodes", lambda n: comb(5_000), FORMS),
+}
+
+
+def run(command, gib, seconds):
+    """The status, the bytes written, processor seconds and peak memory in bytes of a run; the status is 'time' where it took too long."""
+    limits = lambda: (resource.setrlimit(resource.RLIMIT_AS, (gib << 30, gib << 30)), resource.setrlimit(resource.RLIMIT_CPU, (seconds, seconds)))
+    with tempfile.NamedTemporaryFile() as told:
+        timed = ["/usr/bin/time", "-q", "-o", told.name, "-f", "%U %S %M"] + command
+        program = subprocess.Popen(timed, stdin=subprocess.DEVNULL, stdout=subprocess.PIPE, stderr=subprocess.DEVNULL, preexec_fn=limits)
+        counter = subprocess.run(["wc", "-c"], stdin=program.stdout, stdout=subprocess.PIPE, check=True)
+        program.stdout.close()
+        status = program.wait()
+        user, system, peak = re.findall(r"[0-9.]+", told.read().decode().split("\n")[-2])
+    taken = float(user) + float(system)
+    return "time" if taken >= seconds - 1 else status, int(counter.stdout), taken, int(peak) * 1024
+
+
+def main():
+    parser = argparse.ArgumentParser()
+    parser.add_argument("--mib", type=int, default=64)
+    parser.add_argument("--only")
+    parser.add_argument("--forms")
+    parser.add_argument("--limit", type=int, default=16)
+    parser.add_argument("--seconds", type=int, default=300)
+    parser.add_argument("--table")
+    arguments = parser.parse_args()
+    names = arguments.only.split(",") if arguments.only else list(INPUTS)
+    table = []
+    print(f"{'input':12}{'form':6}{'bytes':>10}{'written':>12}{'cpu s':>9}{'ns/byte':>9}{'MiB':>9}{'per byte':>9}")
+    with tempfile.TemporaryDirectory() as folder:
+        path = os.path.join(folder, "input.sgf")
+        for name in names:
+            what, make, forms = INPUTS[name]
+            with open(path, "w", encoding="ascii", newline="") as file:
+                file.write(make(min(arguments.mib << 20, LIMIT)))
+            size = os.path.getsize(path)
+            for form in forms:
+                if arguments.forms and form not in arguments.forms.split(","):
+                    continue
+                status, written, seconds, peak = run(words(PROGRAM, form, path), arguments.limit, arguments.seconds)
+                print(f"{name:12}{form:6}{size:10}{written:12}{seconds:9.2f}{seconds * 1e9 / (size + written):9.1f}{peak / 2**20:9.0f}{peak / size:9.1f}"
+                      + (f"  status {status}" if status else ""), flush=True)
+                table.append((name, what, form, size, written, seconds, peak, status))
+    if arguments.table:
+        with open(arguments.table, "w", encoding="utf-8") as file:
+            for row in table:
+                file.write("\t".join(map(str, row)) + "\n")
+
+
+if __name__ == "__main__":
+    main()
