@@ -3,7 +3,7 @@
 use crate::page::Page;
 use crate::seen::{Seen, Wrong, right, wrong_in};
 use crate::tree::TWO;
-use sgf_lines::{Form, Options, RunFault, SliceSource, split};
+use sgf_lines::{Form, Options, Plays, RunFault, SliceSource, split, split_counted};
 use std::alloc::Global;
 
 /// A game with setup, a comment of two lines, a pass and a stone.
@@ -17,6 +17,17 @@ pub const SECOND: &[u8] = b"22 1 3 score 1 1 open\n";
 const SCRIPT: &[u8] =
     b"# 37 1 3 score 4 1 open\nboardsize 5\nclear_board\n# one\n# two\nclear_board\nplay B B5\nplay B A4\nplay W C3\nplay W pass\nplay B E1\n\n";
 
+/// What is run, and what it writes.
+#[derive(Clone, Copy)]
+struct Run<'a> {
+    text: &'a [u8],
+    options: Options,
+    /// Its records, in order.
+    records: &'a [&'a [u8]],
+    /// How many nodes are played for the first none, one, two .. of them.
+    plays: &'a [u64],
+}
+
 /// Makes the runs.
 pub fn calls(alloc: Global, seen: &mut Seen) -> Result<(), Wrong> {
     let rows = Options {
@@ -24,64 +35,123 @@ pub fn calls(alloc: Global, seen: &mut Seen) -> Result<(), Wrong> {
         after: None,
         limit: None,
     };
-    for (after, limit, records) in [
-        (None, None, [FIRST, SECOND].as_slice()),
-        (Some(8), None, &[SECOND]),
-        (Some(22), None, &[]),
-        (None, Some(1), &[FIRST]),
-        (None, Some(0), &[]),
-        (Some(8), Some(1), &[SECOND]),
+    for (after, limit, records, plays) in [
+        (None, None, [FIRST, SECOND].as_slice(), [0, 2, 4].as_slice()),
+        (Some(8), None, &[SECOND], &[0, 3]),
+        (Some(22), None, &[], &[0]),
+        (None, Some(1), &[FIRST], &[0, 2]),
+        (None, Some(0), &[], &[0]),
+        (Some(8), Some(1), &[SECOND], &[0, 3]),
     ] {
-        let options = Options {
-            after,
-            limit,
-            ..rows
+        let run = Run {
+            text: TWO,
+            options: Options {
+                after,
+                limit,
+                ..rows
+            },
+            records,
+            plays,
         };
-        run(alloc, TWO, &options, records, seen)?;
+        splits(alloc, run, seen)?;
+        splits_counted(alloc, run, seen)?;
     }
-    let script = Options {
-        form: Form::Gtp,
-        ..rows
+    let run = Run {
+        text: COMMENT,
+        options: Options {
+            form: Form::Gtp,
+            ..rows
+        },
+        records: &[SCRIPT],
+        plays: &[0, 3],
     };
-    run(alloc, COMMENT, &script, &[SCRIPT], seen)
+    splits(alloc, run, seen)?;
+    splits_counted(alloc, run, seen)
 }
 
-/// Splits a text, and once more where memory was refused: exactly the whole records of the first lines stand then, and no flush
-/// was made.
-fn run(
-    alloc: Global,
-    text: &[u8],
-    options: &Options,
-    records: &[&[u8]],
-    seen: &mut Seen,
-) -> Result<(), Wrong> {
+/// Splits a text, and once more where memory was refused: exactly the whole records of the first lines stand then, and no
+/// flush was made.
+fn splits(alloc: Global, run: Run<'_>, seen: &mut Seen) -> Result<(), Wrong> {
     seen.call();
-    let mut source = SliceSource::new(text);
+    let mut source = SliceSource::new(run.text);
     let mut page = Page::new();
-    match split(alloc, &mut source, &mut page, options) {
+    match split(alloc, &mut source, &mut page, &run.options) {
+        Err(RunFault::Memory { lines }) => is_cut(lines, &page, run, seen)?,
+        answer => return is_whole(answer, &page, run),
+    }
+    let mut source = SliceSource::new(run.text);
+    let mut page = Page::new();
+    let answer = split(alloc, &mut source, &mut page, &run.options);
+    is_whole(answer, &page, run)
+}
+
+/// The same, with the plays counted: where memory was refused, those of the lines that stand, and of the next at most.
+fn splits_counted(alloc: Global, run: Run<'_>, seen: &mut Seen) -> Result<(), Wrong> {
+    seen.call();
+    let mut source = SliceSource::new(run.text);
+    let mut page = Page::new();
+    let mut plays = Plays::new();
+    match split_counted(alloc, &mut source, &mut page, &run.options, &mut plays) {
         Err(RunFault::Memory { lines }) => {
-            seen.want();
-            right(page.flushes() == 0, "a flush after refused memory")?;
+            is_cut(lines, &page, run, seen)?;
+            let next = lines.saturating_add(1).min(run.records.len() as u64);
+            right(plays_of(run, lines) <= plays.count(), "plays of the lines")?;
             right(
-                has_first(page.as_slice(), records, lines),
-                "records after refused memory",
+                plays.count() <= plays_of(run, next),
+                "plays of the next line",
             )?;
         }
-        answer => return is_whole(answer, &page, records),
+        answer => return is_counted(answer, &page, &plays, run),
     }
-    let mut source = SliceSource::new(text);
+    let mut source = SliceSource::new(run.text);
     let mut page = Page::new();
-    let answer = split(alloc, &mut source, &mut page, options);
-    is_whole(answer, &page, records)
+    let mut plays = Plays::new();
+    let answer = split_counted(alloc, &mut source, &mut page, &run.options, &mut plays);
+    is_counted(answer, &page, &plays, run)
+}
+
+/// How many nodes are played for the first records, so many.
+fn plays_of(run: Run<'_>, lines: u64) -> u64 {
+    match run.plays.get(lines as usize) {
+        Some(plays) => *plays,
+        None => u64::MAX,
+    }
+}
+
+/// The run wrote the first records, so many, and didn't flush.
+fn is_cut(lines: u64, page: &Page, run: Run<'_>, seen: &mut Seen) -> Result<(), Wrong> {
+    seen.want();
+    right(page.flushes() == 0, "a flush after refused memory")?;
+    right(
+        has_first(page.as_slice(), run.records, lines),
+        "records after refused memory",
+    )
+}
+
+/// The run wrote all records, flushed once, and counted their plays.
+fn is_counted(
+    answer: Result<u64, RunFault>,
+    page: &Page,
+    plays: &Plays,
+    run: Run<'_>,
+) -> Result<(), Wrong> {
+    is_whole(answer, page, run)?;
+    right(
+        plays.count() == plays_of(run, run.records.len() as u64),
+        "the plays",
+    )
 }
 
 /// The run wrote all records, and flushed once.
-fn is_whole(answer: Result<u64, RunFault>, page: &Page, records: &[&[u8]]) -> Result<(), Wrong> {
+fn is_whole(answer: Result<u64, RunFault>, page: &Page, run: Run<'_>) -> Result<(), Wrong> {
     let Ok(lines) = answer else {
         return wrong_in("a run failed");
     };
-    right(lines == records.len() as u64, "the number of lines")?;
-    right(has_first(page.as_slice(), records, lines), "the records")?;
+    right(lines == run.records.len() as u64, "the number of lines")?;
+    right(
+        has_first(page.as_slice(), run.records, lines),
+        "the records",
+    )?;
     right(page.flushes() == 1, "one flush")
 }
 
