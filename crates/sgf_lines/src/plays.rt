@@ -45,3 +45,6 @@ impl Plays {
         self.count += 1;
     }
 }
+
+#[cfg(test)]
+mod tests;

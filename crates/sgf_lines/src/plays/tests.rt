@@ -1,0 +1,96 @@
+//! How many nodes small runs play.
+
+use crate::{ArraySink, Form, Options, Plays, RunFault, SliceSource, split_counted};
+
+/// A game of two lines, which end at the places 8 and 22.
+const BRANCHES: &[u8] = b"(;SZ[3](;B[aa])(;B[bb];W[aa]))";
+
+/// Two lines that share a node that isn't allowed.
+const FAULTY: &[u8] = b"(;SZ[1];B[aa](;W[])(;C[x]))";
+
+/// Three lines that share a pass, the last one with a setup.
+const PASSES: &[u8] = b"(;SZ[3];B[](;W[])(;W[bb])(;AE[aa];W[]))";
+
+#[test]
+fn small_runs(rt: HostRuntime) {
+    for (text, form, after, written, answer, count) in [
+        (
+            BRANCHES,
+            Form::List,
+            None,
+            b"8 1 2 score 9 0 open\n22 1 3 score 1 1 open\n".as_slice(),
+            Ok(2),
+            4,
+        ),
+        (
+            BRANCHES,
+            Form::List,
+            Some(8),
+            b"22 1 3 score 1 1 open\n",
+            Ok(1),
+            3,
+        ),
+        (BRANCHES, Form::List, Some(22), b"", Ok(0), 0),
+        (
+            FAULTY,
+            Form::List,
+            None,
+            b"14 1 3 illegal 1 7 repeat\n20 1 3 illegal 1 7 repeat\n",
+            Ok(2),
+            2,
+        ),
+        (
+            PASSES,
+            Form::List,
+            None,
+            b"12 1 3 score 0 0 over\n18 1 3 score 0 9 open\n33 1 4 score 0 0 open\n",
+            Ok(3),
+            6,
+        ),
+        (
+            PASSES,
+            Form::Sgf,
+            None,
+            b"(;SZ[3];B[];W[])\n(;SZ[3];B[];W[bb])\n(;SZ[3];B[];AE[aa];W[])\n",
+            Ok(3),
+            0,
+        ),
+        (
+            b"(;SZ[1])(;SZ[2])",
+            Form::Gtp,
+            None,
+            b"# 1 1 1 score 0 0 open\nboardsize 1\nclear_board\n\n# 9 2 1 score 0 0 open\nboardsize 2\nclear_board\n\n",
+            Ok(2),
+            2,
+        ),
+        (
+            b"(;GM[2](;)(;))",
+            Form::List,
+            None,
+            b"8 1 2 unjudged game\n11 1 2 unjudged game\n",
+            Ok(2),
+            0,
+        ),
+        (
+            b"()",
+            Form::List,
+            None,
+            b"",
+            Err(RunFault::NotSgf { at: 1, len: 2 }),
+            0,
+        ),
+    ] {
+        let options = Options {
+            form,
+            after,
+            limit: None,
+        };
+        let mut plays = Plays::new();
+        let mut sink = ArraySink::<100>::new();
+        let mut source = SliceSource::new(text);
+        let result = split_counted(rt.alloc(), &mut source, &mut sink, &options, &mut plays);
+        assert_eq!(rt; result, answer);
+        assert_eq!(rt; sink.as_slice(), written);
+        assert_eq!(rt; plays.count(), count);
+    }
+}
