@@ -1,5 +1,5 @@
 -- How many nodes are judged, as a game goes on.
-use Rattle.std.proofs.Common.{◌≡◌, ℕ, zero, suc, ◌+◌, ◌-◌, ◌<◌, ◌≤◌, ◌⊎◌, inl, inr, List, [], ◌∷◌, ◌++◌, length, take, drop, map, slice_get, Option, Some, None, option_map, Result, Ok, Err, refl, sym, ap, subst, ◌∙◌, arith, length-append}
+use Rattle.std.proofs.Common.{◌≡◌, ℕ, ◌+◌, ◌-◌, ◌≤◌, List, [], ◌∷◌, ◌++◌, length, take, drop, map, slice_get, Option, Some, None, option_map, Result, Ok, Err, refl, sym, ap, ◌∙◌, arith, length-append}
 use Rattle.std.specs.Prelude.{fold, option_to_list, OnOk}
 use Rattle.std.specs.Result.{IsErr}
 use Rattle.std.proofs.lemmas.List.{take_all, take-append-drop, length-map, length-take, length-take-le}
@@ -13,7 +13,6 @@ use Rattle.sgf_lines.specs.Walk.{Played, Fault, Walk, before_root, stepped, next
 use Rattle.sgf_lines.specs.GameSize.{Opening, other_game, no_board, board, opening, root_properties}
 use Rattle.sgf_lines.specs.Verdict.{judged_on}
 use Rattle.sgf_lines.specs.declared.game.Game.{Game}
-use Rattle.sgf_lines.specs.declared.game.Fault.{Fault as Met}
 use Rattle.sgf_lines.specs.inner.Played.{met, IsPlayed, judged_count, Counts}
 use Rattle.sgf_lines.specs.inner.Followed.{CountsOn, CountsFresh, fresh_plays}
 use Rattle.sgf_lines.proofs.Walking.{after_fault}

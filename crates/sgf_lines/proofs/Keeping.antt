@@ -1,5 +1,5 @@
 -- One line more of a run.
-use Rattle.std.proofs.Common.{◌≡◌, ℕ, zero, suc, ◌+◌, ◌-◌, ◌<◌, ◌≤◌, Bool, true, false, List, [], ◌∷◌, ◌++◌, length, take, drop, map, slice_get, Option, Some, None, option_map, Result, Ok, Err, inl, inr, refl, sym, ap, subst, ◌∙◌, arith, add-one, All, length-append}
+use Rattle.std.proofs.Common.{◌≡◌, ℕ, suc, ◌+◌, ◌-◌, ◌<◌, ◌≤◌, Bool, true, false, List, [], ◌∷◌, ◌++◌, length, take, map, slice_get, Option, Some, None, Result, Ok, Err, inl, inr, refl, sym, ap, subst, ◌∙◌, arith, add-one, All, length-append}
 use Rattle.std.specs.Prelude.{MatchBool}
 use Rattle.std.specs.List.{range_with_len}
 use Rattle.std.specs.Result.{IsErr}
@@ -10,7 +10,7 @@ use Rattle.sgf_tree.specs.Tree.{Node, Games, node_count}
 use Rattle.sgf_tree.specs.FileOrder.{node_at}
 use Rattle.sgf_tree.specs.declared.fault.MemoryFault.{MemoryFault}
 use Rattle.sgf_lines.specs.Lines.{Line, lines, last_number}
-use Rattle.sgf_lines.specs.Paths.{Path, paths}
+use Rattle.sgf_lines.specs.Paths.{paths}
 use Rattle.sgf_lines.specs.Cursor.{Position, advanced, shown, IsLine}
 use Rattle.sgf_lines.specs.GameSize.{Opening, other_game, no_board, board, opening, root_properties}
 use Rattle.sgf_lines.specs.Walk.{before_root}
@@ -18,14 +18,13 @@ use Rattle.sgf_lines.specs.Verdict.{judged_on}
 use Rattle.sgf_lines.specs.declared.line.LineRef.{LineRef}
 use Rattle.sgf_lines.specs.declared.options.Form.{Form}
 use Rattle.sgf_lines.specs.declared.options.Form.TheVariants.{List as list_form, Sgf as sgf_form, Gtp as gtp_form}
-use Rattle.sgf_lines.specs.declared.followed.Followed.{Followed}
+use Rattle.sgf_lines.specs.declared.writer.Writer.{Writer}
 use Rattle.sgf_lines.specs.inner.Ways.{IsWayTo, top}
 use Rattle.sgf_lines.specs.inner.Shown.{IsShownAs}
-use Rattle.sgf_lines.specs.inner.Running.{HasRecord}
-use Rattle.sgf_lines.specs.inner.Followed.{CountsFresh, fresh_plays}
+use Rattle.sgf_lines.specs.inner.Followed.{fresh_plays}
 use Rattle.sgf_lines.specs.inner.Following.{Continues, first_after, numbers_of, path_before}
 use Rattle.sgf_lines.specs.CountedRun.{plays_in}
-use Rattle.sgf_lines.specs.inner.Keeping.{Keeps, KeepsAt, KeepsBefore, CountsIn, CountsLine, IsShared, HasPlays, left}
+use Rattle.sgf_lines.specs.inner.Keeping.{KeepsBy, Keeps, KeepsAt, KeepsOnce, KeepsBefore, CountsIn, CountsLine, IsShared, HasPlays, left}
 use Rattle.sgf_lines.proofs.Lists.{Each, each_get}
 use Rattle.sgf_lines.proofs.Joins.{as_many}
 use Rattle.sgf_lines.proofs.Ways.{IsDescent, each_path}
@@ -73,15 +72,20 @@ same_front f old new was nodes kept e g h =
     (sym (take-map Some kept was) ∙ ap (take kept) e ∙ take-map f kept old ∙ ap (map f) (sym front) ∙ sym (take-map f kept new) ∙ ap (take kept) (sym g) ∙ take-map Some kept nodes)
 
 -- what the run kept, for the line that comes
-pub record Shares (form : Form) (followed : Followed) (shared : ℕ) (nodes : List Node) : Type 0 where
+pub record Shares (w : Writer) (shared : ℕ) (nodes : List Node) : Type 0 where
   pub old : List Node
-  pub held : 0 < shared → Keeps form old followed
+  pub held : 0 < shared → Keeps old w
   pub within : shared ≤ length old
   pub same : take shared old ≡ take shared nodes
 
-shares_with : (b : Bool) (form : Form) (at : Position) (followed : Followed) (shared : ℕ) (line : LineRef) (l : Line) → KeepsBefore b form at followed → IsShared b at shared
-    → IsLine at.games at.given line → IsShownAs at.games l line → Shares form followed shared l.nodes
-shares_with true form at followed shared line l keeps is shows named =
+keeps_on : (w : Writer) (form : Form) (nodes : List Node) → KeepsBy form nodes w → KeepsBy form nodes (record w { begun = true })
+keeps_on w list_form nodes h = h
+keeps_on w sgf_form nodes h = h
+keeps_on w gtp_form nodes h = h
+
+shares_with : (b : Bool) (at : Position) (w : Writer) (shared : ℕ) (line : LineRef) (l : Line) → KeepsOnce b at w → IsShared b at shared
+    → IsLine at.games at.given line → IsShownAs at.games l line → Shares w shared l.nodes
+shares_with true at w shared line l keeps is shows named =
     let new : map Some l.nodes ≡ map (node_at at.games) (path_before (advanced at)) = named.nodes ∙ ap (map (node_at at.games)) (sym (path_on at line shows)) in
     record {
       old = keeps.nodes;
@@ -89,12 +93,16 @@ shares_with true form at followed shared line l keeps is shows named =
       within = omega (arith, is.kept_within, as_many (node_at at.games) keeps.nodes (path_before at) keeps.named);
       same = same_front (node_at at.games) (path_before at) (path_before (advanced at)) keeps.nodes l.nodes shared keeps.named new is;
     }
-shares_with false form at followed shared line l keeps is shows named = record {
+shares_with false at w shared line l keeps is shows named = record {
   old = [];
   held = λ lt. absurd (omega (arith, is));
   within = omega (arith, is);
   same = rw is refl;
 }
+
+-- what is kept once a run has begun
+pub keeps_before : (at : Position) (w : Writer) → w.begun ≡ true → KeepsAt at w → KeepsBefore at w
+keeps_before at w is h = subst (λ b. KeepsOnce b at w) (sym is) h
 
 -- there is room for its nodes
 each_last : (P : ℕ → Type 0) (n : ℕ) (ns : List ℕ) → Each P (n ∷ ns) → P (last_number (n ∷ ns))
@@ -151,15 +159,18 @@ module _ (c : Games) (at new : Position) (line : LineRef) (same : at.games ≡ c
   pub next_within : All (λ n. n < node_count c) line.path.now
   next_within = path_within c at.given line here_in
 
-  module _ (b : Bool) (form : Form) (followed : Followed) (shared : ℕ) (is : IsShared b at shared) where
+  module _ (b : Bool) (form : Form) (w : Writer) (shared : ℕ) (is : IsShared b at shared) where
     pub next_room : (length line.path.now - shared) + left true new ≤ left b at
     next_room = rw on (room_left b at shared line is here)
 
-    pub next_shares : KeepsBefore b form at followed → (l : Line) → IsShownAs c l line → Shares form followed shared l.nodes
-    next_shares keeps l named = shares_with b form at followed shared line l keeps is here (rw (← same) at named)
+    -- also once it has begun
+    pub next_shares : KeepsOnce b at w → (l : Line) → IsShownAs c l line → Shares (record w { begun = true }) shared l.nodes
+    next_shares keeps l named =
+        let s = shares_with b at w shared line l keeps is here (rw (← same) at named) in
+        record { old = s.old; held = λ lt. keeps_on w w.form s.old (s.held lt); within = s.within; same = s.same }
 
-    pub next_keeps : (l : Line) (new_followed : Followed) → IsShownAs c l line → Keeps form l.nodes new_followed → KeepsAt form new new_followed
-    next_keeps l new_followed named keeps =
+    pub next_keeps : (l : Line) (new_w : Writer) → IsShownAs c l line → Keeps l.nodes new_w → KeepsAt new new_w
+    next_keeps l new_w named keeps =
         let path : path_before new ≡ line.path.now = ap path_before on ∙ path_on at line here in
         let games : new.games ≡ c = ap (λ (p : Position). p.games) on ∙ same in
         record { nodes = l.nodes; named = rw (path, games) named.nodes; keeps = keeps }

@@ -33,6 +33,7 @@ pub mod Stepping
 pub mod Walking
 pub mod Judged
 pub mod Played
+pub mod KeptTexts
 pub mod Along
 pub mod Counted
 pub mod Cut

@@ -95,7 +95,7 @@ module _ (w : Walk) (n : Node) (states new : States) where
       by (Some f) e = let same : next w n ≡ w = ap (λ o. next_by w o n) e in rw same h
 
 -- an element of a list with one more at its end
-pushed : {A : Type 0} (xs : List A) (x y : A) (i : ℕ) → slice_get (xs ++ x ∷ []) i ≡ Some y → (slice_get xs i ≡ Some y) ⊎ ((i ≡ length xs) × (x ≡ y))
+pub pushed : {A : Type 0} (xs : List A) (x y : A) (i : ℕ) → slice_get (xs ++ x ∷ []) i ≡ Some y → (slice_get xs i ≡ Some y) ⊎ ((i ≡ length xs) × (x ≡ y))
 pushed xs x y i e = elim (split_get xs (x ∷ []) i y e) [
   | inl before ↦ inl before
   | inr last ↦ inr (by last.0 last.1 last.2)

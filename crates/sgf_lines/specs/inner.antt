@@ -10,5 +10,6 @@ pub mod Running
 pub mod CountedLines
 pub mod Played
 pub mod Followed
+pub mod Kept
 pub mod Keeping
 pub mod Cutting

@@ -33,6 +33,7 @@ mod fault;
 mod followed;
 mod game;
 mod judging;
+mod kept;
 pub mod laws;
 mod line;
 mod lines;

@@ -1,28 +1,34 @@
-//! The text of a line in sgf form.
+//! The text of a line's nodes in sgf form.
 
-ghost use Rattle.std.specs.Prelude.{◌≡◌, ◌++◌, ◌<◌, List, Some, map, All, OnOk};
+ghost use Rattle.std.specs.Prelude.{◌≡◌, ◌++◌, ◌<◌, ◌≤◌, List, Some, map, take, length, All, OnOk};
 ghost use Rattle.sgf_tree.specs.Tree.{Node, node_count};
 ghost use Rattle.sgf_tree.specs.FileOrder.{node_at};
-ghost use Rattle.sgf_lines.specs.Record.{value_text, property_text, node_text, sgf_record};
+ghost use Rattle.sgf_lines.specs.Record.{value_text, property_text, node_text};
+ghost use Rattle.sgf_lines.specs.inner.Kept.{IsKept, nodes_text};
 
+use crate::kept::KeptText;
 use crate::text::push_bytes;
 use sgf_tree::{Collection, MemoryFault, NodeRef, PropRef};
 
-/// Appends the nodes of a path between parentheses, and a line feed.
-pub(crate) fn push_record(
+/// Goes on with the text of the nodes of a path, of which the first `shared` are those of the path before.
+/// After a refusal of memory nothing is said of it.
+pub(crate) fn follow_nodes(
     collection: &Collection<'_>,
     path: &[usize],
-    output: &mut Vec<u8>,
+    shared: usize,
+    kept: &mut KeptText,
 ) -> Result<(), MemoryFault>
     requires { All (λ i. i < node_count collection.now) path.now }
-    ensures { (nodes : List Node) → map Some nodes ≡ map (node_at collection.now) path.now
-        → OnOk result (output.new.items ≡ output.old.items ++ sgf_record nodes) }
+    ensures { (old nodes : List Node) → (0 < shared → IsKept nodes_text old kept.old) → shared ≤ length old
+        → map Some nodes ≡ map (node_at collection.now) path.now → take shared old ≡ take shared nodes
+        → OnOk result (IsKept nodes_text nodes kept.new) }
 {
-    push_bytes(b"(", output)?;
-    for number in path {
-        push_node(&collection.node(*number), output)?;
+    kept.cut_back(shared);
+    for i in shared..path.len() {
+        kept.begin_node()?;
+        push_node(&collection.node(path[i]), &mut kept.text)?;
     }
-    push_bytes(b")\n", output)
+    Ok(())
 }
 
 /// Appends a `;` and the properties of a node.

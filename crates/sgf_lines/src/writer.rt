@@ -1,21 +1,25 @@
 //! What a run keeps from one line to the next, and how the record of each line is made from it.
 
-ghost use Rattle.std.specs.Prelude.{◌≡◌, ◌<◌, ◌≤◌, ◌+◌, ◌-◌, ℕ, List, Some, true, false, map, take, length, slice_get, All, IfOk, OnOk, MatchBool};
+ghost use Rattle.std.specs.Prelude.{◌≡◌, ◌<◌, ◌≤◌, ◌+◌, ◌-◌, ◌++◌, ℕ, List, Some, true, false, map, take, length, slice_get, All, IfOk, OnOk, MatchBool};
 ghost use Rattle.sgf_tree.specs.Tree.{Node, node_count};
 ghost use Rattle.sgf_tree.specs.FileOrder.{node_at};
 ghost use Rattle.sgf_lines.specs.Lines.{Line, lines};
 ghost use Rattle.sgf_lines.specs.Record.{record_of};
 ghost use Rattle.sgf_lines.specs.inner.Shown.{IsShownAs};
-ghost use Rattle.sgf_lines.specs.inner.Running.{HasRecord};
-ghost use Rattle.sgf_lines.specs.inner.Keeping.{Keeps, KeepsBefore, CountsIn, CountsLine, left};
+ghost use Rattle.sgf_lines.specs.inner.Running.{HasRecord, PutsAll};
+ghost use Rattle.sgf_lines.specs.inner.Keeping.{record_in, Keeps, KeepsBefore, CountsIn, CountsLine, left};
 
 use crate::cursor::Cursor;
 use crate::followed::Followed;
+use crate::kept::KeptText;
 use crate::line::LineRef;
 use crate::lines::{push_list, push_script};
 use crate::options::Form;
 use crate::plays::Plays;
-use crate::record::push_record;
+use crate::record::follow_nodes;
+use crate::sink::{Sink, SinkFault};
+use crate::text::push_bytes;
+use crate::writing::put_all;
 use sgf_tree::{Collection, MemoryFault};
 use std::alloc::Global;
 
@@ -30,8 +34,11 @@ pub(crate) struct Writer {
     // held of the line that was written last, in the forms that judge
     followed: Followed,
 
-    // the record of that line
-    bytes: Vec<u8>,
+    // the text of that line's nodes, in sgf form
+    nodes: KeptText,
+
+    // what stands first in that line's record
+    head: Vec<u8>,
 }
 
 impl Writer {
@@ -44,15 +51,9 @@ impl Writer {
             form,
             begun: false,
             followed: Followed::OtherGame,
-            bytes: Vec::new(alloc),
+            nodes: KeptText::new(alloc),
+            head: Vec::new(alloc),
         }
-    }
-
-    /// The record of the line that was made last.
-    pub(crate) fn bytes(&self) -> &[u8]
-        ensures { result.now ≡ self.now.bytes.items }
-    {
-        &self.bytes
     }
 
     /// Goes on by one line, and makes its record; false where no line is left.
@@ -66,12 +67,12 @@ impl Writer {
         plays: &mut Plays,
     ) -> Result<bool, MemoryFault>
         requires same { cursor.old.games ≡ collection.now }
-        requires keeps { KeepsBefore self.old.begun self.old.form cursor.old self.old.followed }
+        requires keeps { KeepsBefore cursor.old self.old }
         requires countable { plays.old + left self.old.begun cursor.old ≤ u64.MAX }
         ensures made { IfOk result (λ found. MatchBool found
-            (HasRecord self.old.form cursor.old cursor.new self.new.bytes.items)
+            (HasRecord self.old.form cursor.old cursor.new (record_in self.new))
             (slice_get (lines cursor.old.games) cursor.old.given ≡ None)) }
-        ensures keeps { OnOk result (KeepsBefore self.new.begun self.new.form cursor.new self.new.followed) }
+        ensures keeps { OnOk result (KeepsBefore cursor.new self.new) }
         ensures form { self.new.form ≡ self.old.form }
         ensures begun { IfOk result (λ found. MatchBool found (self.new.begun ≡ true) (self.new.begun ≡ self.old.begun)) }
         ensures counted { CountsLine self.old.form self.old.begun cursor.old plays.old plays.new result }
@@ -107,32 +108,56 @@ impl Writer {
         requires within { All (λ i. i < node_count collection.now) line.now.path.now }
         requires countable { plays.old + (length line.now.path.now - shared) ≤ u64.MAX }
         ensures made { (old : List Node) (l : Line) → IsShownAs collection.now l line.now
-            → (0 < shared → Keeps self.old.form old self.old.followed) → shared ≤ length old
-            → take shared old ≡ take shared l.nodes → OnOk result (self.new.bytes.items ≡ record_of self.old.form l) }
+            → (0 < shared → Keeps old self.old) → shared ≤ length old
+            → take shared old ≡ take shared l.nodes → OnOk result (record_in self.new ≡ record_of self.old.form l) }
         ensures keeps { (old : List Node) (l : Line) → IsShownAs collection.now l line.now
-            → (0 < shared → Keeps self.old.form old self.old.followed) → shared ≤ length old
-            → take shared old ≡ take shared l.nodes → OnOk result (Keeps self.new.form l.nodes self.new.followed) }
+            → (0 < shared → Keeps old self.old) → shared ≤ length old
+            → take shared old ≡ take shared l.nodes → OnOk result (Keeps l.nodes self.new) }
         ensures counted { (old : List Node) (l : Line) → IsShownAs collection.now l line.now
-            → (0 < shared → Keeps self.old.form old self.old.followed) → shared ≤ length old
+            → (0 < shared → Keeps old self.old) → shared ≤ length old
             → take shared old ≡ take shared l.nodes → CountsIn self.old.form plays.old plays.new l.nodes shared result }
         ensures form { self.new.form ≡ self.old.form }
         ensures begun { self.new.begun ≡ self.old.begun }
     {
-        self.bytes.clear();
+        self.head.clear();
         match self.form {
             Form::List => {
                 self.followed
                     .follow(alloc, collection, line.path, shared, plays)?;
                 let verdict = self.followed.verdict();
-                push_list(line, verdict, &mut self.bytes)
+                push_list(line, verdict, &mut self.head)
             }
-            Form::Sgf => push_record(collection, line.path, &mut self.bytes),
+            Form::Sgf => {
+                push_bytes(b"(", &mut self.head)?;
+                follow_nodes(collection, line.path, shared, &mut self.nodes)
+            }
             Form::Gtp => {
                 self.followed
                     .follow(alloc, collection, line.path, shared, plays)?;
                 let verdict = self.followed.verdict();
-                push_script(alloc, collection, line, verdict, &mut self.bytes)
+                push_script(alloc, collection, line, verdict, &mut self.head)
             }
         }
     }
+
+    /// Puts the record of the line that was made last, a part after the other.
+    pub(crate) fn put<T: Sink>(&self, sink: &mut T) -> Result<(), SinkFault>
+        requires countable { (T.state sink.old).failures < u64.MAX }
+        ensures { PutsAll (T.state sink.old) (T.state sink.new) (record_in self.now) result }
+    {
+        put_all(&self.head, sink)?;
+        match self.form {
+            Form::List | Form::Gtp => Ok(()),
+            Form::Sgf => put_both(&self.nodes.text, b")\n", sink),
+        }
+    }
+}
+
+/// Puts all of both.
+fn put_both<T: Sink>(first: &[u8], second: &[u8], sink: &mut T) -> Result<(), SinkFault>
+    requires countable { (T.state sink.old).failures < u64.MAX }
+    ensures { PutsAll (T.state sink.old) (T.state sink.new) (first.now ++ second.now) result }
+{
+    put_all(first, sink)?;
+    put_all(second, sink)
 }

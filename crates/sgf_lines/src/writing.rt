@@ -81,7 +81,7 @@ fn write_lines<T: Sink>(
             Ok(false) => return Ok(lines),
             Err(MemoryFault) => return Err(RunFault::Memory { lines }),
         }
-        match put_all(writer.bytes(), sink) {
+        match writer.put(sink) {
             Ok(()) => lines += 1,
             Err(SinkFault) => return Err(RunFault::Write { lines }),
         }

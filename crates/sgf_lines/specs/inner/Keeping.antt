@@ -1,5 +1,5 @@
 -- What a run keeps from one line to the next, and how many nodes it plays for each.
-use Rattle.std.specs.Prelude.{◌≡◌, ◌⊎◌, ℕ, ◌+◌, ◌-◌, ◌≤◌, Bool, true, false, List, map, Option, Some, slice_get, Result, Ok, Err}
+use Rattle.std.specs.Prelude.{◌≡◌, ◌⊎◌, ℕ, ◌+◌, ◌-◌, ◌≤◌, Bool, true, false, List, ◌++◌, codes, map, Some, slice_get, Result, Ok, Err}
 use Rattle.sgf_tree.specs.Tree.{Node, node_count}
 use Rattle.sgf_tree.specs.FileOrder.{node_at}
 use Rattle.sgf_lines.specs.Lines.{Line, lines}
@@ -7,26 +7,42 @@ use Rattle.sgf_lines.specs.Cursor.{Position, advanced}
 use Rattle.sgf_lines.specs.CountedRun.{plays_in}
 use Rattle.sgf_lines.specs.declared.options.Form.{Form}
 use Rattle.sgf_lines.specs.declared.options.Form.TheVariants.{List as list_form, Sgf as sgf_form, Gtp as gtp_form}
-use Rattle.sgf_lines.specs.declared.followed.Followed.{Followed}
+use Rattle.sgf_lines.specs.declared.writer.Writer.{Writer}
+use Rattle.sgf_lines.specs.inner.Kept.{IsKept, nodes_text}
 use Rattle.sgf_lines.specs.inner.Followed.{IsFollowed, CountsFresh, fresh_plays}
 use Rattle.sgf_lines.specs.inner.Following.{Continues, first_after, path_before}
 
--- what a run in that form keeps of the nodes of a line: where it judges, the game played along them
-abbrev pub Keeps : Form → List Node → Followed → Type 0
-Keeps list_form nodes followed = IsFollowed nodes followed
-Keeps sgf_form nodes followed = Unit {0}
-Keeps gtp_form nodes followed = IsFollowed nodes followed
+-- the record that was made last
+abbrev pub record_by : Form → Writer → List ℕ
+record_by list_form w = w.head.items
+record_by sgf_form w = w.head.items ++ (w.nodes.text.items ++ codes ")\n")
+record_by gtp_form w = w.head.items
+
+abbrev pub record_in : Writer → List ℕ
+record_in w = record_by w.form w
+
+-- what is kept of the nodes of a line: where it is judged, the game played along them; else their text
+abbrev pub KeepsBy : Form → List Node → Writer → Type 0
+KeepsBy list_form nodes w = IsFollowed nodes w.followed
+KeepsBy sgf_form nodes w = IsKept nodes_text nodes w.nodes
+KeepsBy gtp_form nodes w = IsFollowed nodes w.followed
+
+abbrev pub Keeps : List Node → Writer → Type 0
+Keeps nodes w = KeepsBy w.form nodes w
 
 -- it is kept of the line before a position
-pub record KeepsAt (form : Form) (at : Position) (followed : Followed) : Type 0 where
+pub record KeepsAt (at : Position) (w : Writer) : Type 0 where
   pub nodes : List Node
   pub named : map Some nodes ≡ map (node_at at.games) (path_before at)
-  pub keeps : Keeps form nodes followed
+  pub keeps : Keeps nodes w
 
 -- once a run has written a line
-abbrev pub KeepsBefore : Bool → Form → Position → Followed → Type 0
-KeepsBefore true form at followed = KeepsAt form at followed
-KeepsBefore false form at followed = Unit {0}
+abbrev pub KeepsOnce : Bool → Position → Writer → Type 0
+KeepsOnce true at w = KeepsAt at w
+KeepsOnce false at w = Unit {0}
+
+abbrev pub KeepsBefore : Position → Writer → Type 0
+KeepsBefore at w = KeepsOnce w.begun at w
 
 -- plays went from `old` to `new` for the line of these nodes, of which the first `shared` are played already
 abbrev pub CountsIn : {A E : Type 0} → Form → ℕ → ℕ → List Node → ℕ → Result A E → Type 0

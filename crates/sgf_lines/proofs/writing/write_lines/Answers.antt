@@ -6,7 +6,7 @@ use Rattle.sgf_tree.specs.Tree.{node_count}
 use Rattle.sgf_lines.specs.Lines.{lines}
 use Rattle.sgf_tree.specs.declared.fault.MemoryFault.{MemoryFault}
 use Rattle.sgf_lines.specs.inner.Running.{HasRecord}
-use Rattle.sgf_lines.specs.inner.Keeping.{CountsLine, left}
+use Rattle.sgf_lines.specs.inner.Keeping.{record_in, CountsLine, left}
 use Rattle.sgf_lines.specs.declared.fault.RunFault.TheVariants.{Write, Memory}
 use Rattle.sgf_lines.proofs.Paging.{one_written, cut_short, limit_met, for_options}
 use Rattle.sgf_lines.proofs.CountedPaging.{one_played, played_then_cut, played_in_part, all_played, counts_for_options}
@@ -14,8 +14,8 @@ use Rattle.sgf_lines.proofs.writing.write_lines.Goals as goal
 
 pub page-preserved : goal.page-preserved
 page-preserved g c =
-    let made : HasRecord c.page.writer.form c.page.cursor c.next.new.cursor c.next.new.self.bytes.items = rw c.in-Ok-true.field-0-test at c.in-Ok-true.ensures.made in
-    let got : HasRecord c.args.options.now.form c.page.cursor c.next.new.cursor c.next.new.self.bytes.items = rw c.page.invariant.form at made in
+    let made : HasRecord c.page.writer.form c.page.cursor c.next.new.cursor (record_in c.next.new.self) = rw c.in-Ok-true.field-0-test at c.in-Ok-true.ensures.made in
+    let got : HasRecord c.args.options.now.form c.page.cursor c.next.new.cursor (record_in c.next.new.self) = rw c.page.invariant.form at made in
     let begun : c.next.new.self.begun ≡ true = rw c.in-Ok-true.field-0-test at c.in-Ok-true.ensures.begun in
     let room : c.next.new.plays + left true c.next.new.cursor ≤ c.page.plays + left c.page.writer.begun c.page.cursor = rw c.in-Ok-true.field-0-test at c.in-Ok-true.ensures.countable in
     let more : c.next.new.plays + left true c.next.new.cursor ≤ c.args.plays.now + node_count c.args.collection.now = omega (arith, room, c.page.invariant.countable) in
@@ -23,8 +23,8 @@ page-preserved g c =
     let counted : CountsLine {E = MemoryFault} c.args.options.now.form c.page.writer.begun c.page.cursor c.page.plays c.next.new.plays (Ok true) = rw c.page.invariant.form at judged in
     record {
       written = one_written c.args.options.now.form c.args.collection.now c.args.cursor.now.given c.unwrap_or-limit.result (g.T.Sink.state c.args.sink.now) c.page.lines c.page.cursor
-          (g.T.Sink.state c.page.sink) c.page.invariant.written c.next.new.cursor (g.T.Sink.state c.put_all.new.sink) c.next.new.self.bytes.items (omega (arith, c.page-test.true))
-          got (rw c.bytes.ensures at c.in-Ok.ensures.0) c.in-Ok.ensures.1;
+          (g.T.Sink.state c.page.sink) c.page.invariant.written c.next.new.cursor (g.T.Sink.state c.put.new.sink) (record_in c.next.new.self) (omega (arith, c.page-test.true))
+          got c.in-Ok.ensures.0 c.in-Ok.ensures.1;
       form = c.in-Ok-true.ensures.form ∙ c.page.invariant.form;
       first = λ none. absurd (omega (arith, none));
       later = λ some. begun;
@@ -34,21 +34,21 @@ page-preserved g c =
       countable = rw begun more;
     }
 
-pub returns-in-Err-put_all-clause-answer : goal.returns-in-Err-put_all-clause-answer
-returns-in-Err-put_all-clause-answer g c =
-    let made : HasRecord c.page.writer.form c.page.cursor c.next.new.cursor c.next.new.self.bytes.items = rw c.in-Ok-true.field-0-test at c.in-Ok-true.ensures.made in
-    let got : HasRecord c.args.options.now.form c.page.cursor c.next.new.cursor c.next.new.self.bytes.items = rw c.page.invariant.form at made in
+pub returns-in-Err-put-clause-answer : goal.returns-in-Err-put-clause-answer
+returns-in-Err-put-clause-answer g c =
+    let made : HasRecord c.page.writer.form c.page.cursor c.next.new.cursor (record_in c.next.new.self) = rw c.in-Ok-true.field-0-test at c.in-Ok-true.ensures.made in
+    let got : HasRecord c.args.options.now.form c.page.cursor c.next.new.cursor (record_in c.next.new.self) = rw c.page.invariant.form at made in
     let limit : c.unwrap_or-limit.result ≡ unwrap_or c.args.options.now.limit (node_count c.args.collection.now) =
     c.unwrap_or-limit.ensures ∙ ap (unwrap_or c.args.options.now.limit) c.nodes.ensures.count in
-    let cut = c.in-Err-put_all.ensures in
+    let cut = c.in-Err-put.ensures in
     for_options c.args.options.now.form c.args.collection.now c.args.cursor.now.given c.args.options.now.limit c.unwrap_or-limit.result (g.T.Sink.state c.args.sink.now)
-    (g.T.Sink.state c.put_all.new.sink) (Err (Write c.page.lines)) limit
+    (g.T.Sink.state c.put.new.sink) (Err (Write c.page.lines)) limit
     (cut_short c.args.options.now.form c.args.collection.now c.args.cursor.now.given c.unwrap_or-limit.result (g.T.Sink.state c.args.sink.now) c.page.lines c.page.cursor
-    (g.T.Sink.state c.page.sink) c.page.invariant.written c.next.new.cursor (g.T.Sink.state c.put_all.new.sink) c.next.new.self.bytes.items cut.0 (omega (arith, c.page-test.true))
-    got (rw c.bytes.ensures at cut.1) (rw c.bytes.ensures at cut.2))
+    (g.T.Sink.state c.page.sink) c.page.invariant.written c.next.new.cursor (g.T.Sink.state c.put.new.sink) (record_in c.next.new.self) cut.0 (omega (arith, c.page-test.true))
+    got cut.1 cut.2)
 
-pub returns-in-Err-put_all-clause-plays : goal.returns-in-Err-put_all-clause-plays
-returns-in-Err-put_all-clause-plays g c =
+pub returns-in-Err-put-clause-plays : goal.returns-in-Err-put-clause-plays
+returns-in-Err-put-clause-plays g c =
     let judged : CountsLine {E = MemoryFault} c.page.writer.form c.page.writer.begun c.page.cursor c.page.plays c.next.new.plays (Ok true) = rw c.in-Ok-true.field-0-test at c.in-Ok-true.ensures.counted in
     let counted : CountsLine {E = MemoryFault} c.args.options.now.form c.page.writer.begun c.page.cursor c.page.plays c.next.new.plays (Ok true) = rw c.page.invariant.form at judged in
     let limit : c.unwrap_or-limit.result ≡ unwrap_or c.args.options.now.limit (node_count c.args.collection.now) =

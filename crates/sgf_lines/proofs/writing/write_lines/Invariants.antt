@@ -12,7 +12,7 @@ invariant-page g l = record {
   form : l.writer.form ≡ l.options.form;
   first : l.lines ≡ 0 → l.writer.begun ≡ false;
   later : 0 < l.lines → l.writer.begun ≡ true;
-  keeps : KeepsBefore l.writer.begun l.writer.form l.cursor l.writer.followed;
+  keeps : KeepsBefore l.cursor l.writer;
   plays : l.plays ≡ l.initial.plays + plays_of l.options.form (take l.lines (page_from l.collection l.initial.cursor.given l.limit));
   countable : l.plays + left l.writer.begun l.cursor ≤ l.initial.plays + node_count l.collection;
 }

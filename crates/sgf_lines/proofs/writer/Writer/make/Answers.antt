@@ -1,5 +1,9 @@
--- The game is played along the line, whatever comes of the record.
-use Rattle.std.proofs.Common.{◌<◌}
+-- What is kept is kept along the line, whatever comes of the record.
+use Rattle.std.proofs.Common.{◌≡◌, ◌<◌}
+use Rattle.std.specs.Prelude.{codes}
+use Rattle.std.proofs.lemmas.Result.{on_ok_weaker}
+use Rattle.sgf_lines.specs.inner.Kept.{IsKept, nodes_text}
+use Rattle.sgf_lines.proofs.KeptTexts.{game_of_nodes}
 use Rattle.sgf_lines.specs.inner.Followed.{IsFollowed}
 use Rattle.sgf_lines.proofs.Counted.{on_any}
 use Rattle.sgf_lines.proofs.writer.Writer.make.Goals as goal
@@ -13,3 +17,9 @@ pub returns-in_ok-follow-in-Gtp-clause-keeps : goal.returns-in_ok-follow-in-Gtp-
 returns-in_ok-follow-in-Gtp-clause-keeps c = λ old l h held le same.
     let was : 0 < c.args.shared → IsFollowed old c.args.self.now.followed = rw c.in-Gtp.is at held in
     on_any c.push_script.result (rw c.in-Gtp.is (c.in_ok-follow-in-Gtp.ensures.followed old l.nodes was le h.nodes same))
+
+pub returns-in_ok-push_bytes-in-Sgf-clause-made : goal.returns-in_ok-push_bytes-in-Sgf-clause-made
+returns-in_ok-push_bytes-in-Sgf-clause-made c = λ old l h held le same.
+    let was : 0 < c.args.shared → IsKept nodes_text old c.args.self.now.nodes = rw c.in-Sgf.is at held in
+    let head : c.push_bytes.new.output.items ≡ codes "(" = rw c.clear.ensures.items at c.in_ok-push_bytes-in-Sgf.ensures in
+    on_ok_weaker c.follow_nodes.result (λ kept. rw c.in-Sgf.is (game_of_nodes l.nodes c.follow_nodes.new.kept c.push_bytes.new.output.items kept head)) (c.follow_nodes.ensures old l.nodes was le h.nodes same)

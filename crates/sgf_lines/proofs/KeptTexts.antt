@@ -1,0 +1,57 @@
+-- A text of nodes goes on by a node.
+use Rattle.std.proofs.Common.{◌≡◌, ◌⊎◌, ℕ, ◌+◌, ◌≤◌, List, [], ◌∷◌, ◌++◌, length, take, slice_get, Some, inl, inr, sym, ap, ◌∙◌, arith, length-append, append-nil, append_assoc}
+use Rattle.std.specs.Prelude.{codes}
+use Rattle.std.proofs.Math.Seq.{take-append_seam}
+use Rattle.std.proofs.lemmas.List.{take-append-le}
+use Rattle.std.proofs.lemmas.Option.{slice_get_within}
+use Rattle.std.proofs.lemmas.Grind.{flat_map-append}
+use Rattle.sgf_tree.specs.Tree.{Node}
+use Rattle.sgf_lines.specs.Record.{node_text, sgf_record}
+use Rattle.sgf_lines.specs.declared.kept.KeptText.{KeptText}
+use Rattle.sgf_lines.specs.inner.Kept.{IsKept, nodes_text}
+use Rattle.sgf_lines.proofs.Played.{pushed}
+
+module _ (text_of : List Node → List ℕ) (nodes : List Node) (old new : KeptText) (h : IsKept text_of nodes old) where
+  -- one node more
+  module _ (n : Node) (more : List ℕ) (marks : new.marks.items ≡ old.marks.items ++ length old.text.items ∷ []) (text : new.text.items ≡ old.text.items ++ more)
+      (is : text_of (nodes ++ n ∷ []) ≡ text_of nodes ++ more) where
+    long : length new.text.items ≡ length old.text.items + length more
+    long = ap length text ∙ length-append old.text.items more
+
+    stays_within : (i mark : ℕ) → (slice_get old.marks.items i ≡ Some mark) ⊎ ((i ≡ length old.marks.items) × (length old.text.items ≡ mark)) → mark ≤ length old.text.items
+    stays_within i mark (inl e) = h.within i mark e
+    stays_within i mark (inr e) = omega (arith, e.1)
+
+    leads_back : (i mark : ℕ) → (slice_get old.marks.items i ≡ Some mark) ⊎ ((i ≡ length old.marks.items) × (length old.text.items ≡ mark)) → take mark new.text.items ≡ text_of (take i (nodes ++ n ∷ []))
+    leads_back i mark (inl e) =
+        let front : take i (nodes ++ n ∷ []) ≡ take i nodes = take-append-le i nodes (n ∷ []) (omega (arith, h.count, slice_get_within old.marks.items i mark e)) in
+        ap (take mark) text ∙ take-append-le mark old.text.items more (h.within i mark e) ∙ h.marks i mark e ∙ ap text_of (sym front)
+    leads_back i mark (inr e) =
+        let here : i ≡ length nodes = omega (arith, e.0, h.count) in
+        let front : take i (nodes ++ n ∷ []) ≡ nodes = ap (λ k. take k (nodes ++ n ∷ [])) here ∙ take-append_seam nodes (n ∷ []) in
+        ap (λ k. take k new.text.items) (sym e.1) ∙ ap (take (length old.text.items)) text ∙ take-append_seam old.text.items more ∙ h.text ∙ ap text_of (sym front)
+
+    in_order : (i j early late : ℕ) → i ≤ j → (slice_get old.marks.items i ≡ Some early) ⊎ ((i ≡ length old.marks.items) × (length old.text.items ≡ early))
+        → (slice_get old.marks.items j ≡ Some late) ⊎ ((j ≡ length old.marks.items) × (length old.text.items ≡ late)) → early ≤ late
+    in_order i j early late le (inl e) (inl f) = h.order i j early late le e f
+    in_order i j early late le (inl e) (inr f) = omega (arith, h.within i early e, f.1)
+    in_order i j early late le (inr e) (inl f) = absurd (omega (arith, e.0, slice_get_within old.marks.items j late f))
+    in_order i j early late le (inr e) (inr f) = omega (arith, e.1, f.1)
+
+    pub kept_on : IsKept text_of (nodes ++ n ∷ []) new
+    kept_on = record {
+      text = text ∙ ap (λ t. t ++ more) h.text ∙ sym is;
+      count = omega (arith, ap length marks, length-append old.marks.items (length old.text.items ∷ []), h.count, length-append nodes (n ∷ []));
+      within = λ i mark e. omega (arith, long, stays_within i mark (pushed old.marks.items (length old.text.items) mark i (rw marks at e)));
+      marks = λ i mark e. leads_back i mark (pushed old.marks.items (length old.text.items) mark i (rw marks at e));
+      order = λ i j early late le e f. in_order i j early late le (pushed old.marks.items (length old.text.items) early i (rw marks at e)) (pushed old.marks.items (length old.text.items) late j (rw marks at f));
+    }
+
+-- the text of one node more
+pub nodes_text_more : (nodes : List Node) (n : Node) → nodes_text (nodes ++ n ∷ []) ≡ nodes_text nodes ++ node_text n
+nodes_text_more nodes n = flat_map-append node_text nodes (n ∷ []) ∙ ap (λ t. nodes_text nodes ++ t) (append-nil (node_text n))
+
+-- a whole game of these nodes
+pub game_of_nodes : (nodes : List Node) (kept : KeptText) (head : List ℕ) → IsKept nodes_text nodes kept → head ≡ codes "(" → head ++ (kept.text.items ++ codes ")\n") ≡ sgf_record nodes
+game_of_nodes nodes kept head h is =
+    ap (λ t. t ++ (kept.text.items ++ codes ")\n")) is ∙ ap (λ t. codes "(" ++ (t ++ codes ")\n")) h.text ∙ sym (append_assoc (codes "(") (nodes_text nodes) (codes ")\n"))

@@ -1,0 +1,18 @@
+-- The text of a line's nodes, and the marks by which it is cut back.
+use Rattle.std.specs.Prelude.{◌≡◌, ℕ, ◌≤◌, List, length, take, Some, slice_get}
+use Rattle.std.specs.List.{flat_map}
+use Rattle.sgf_tree.specs.Tree.{Node}
+use Rattle.sgf_lines.specs.Record.{node_text}
+use Rattle.sgf_lines.specs.declared.kept.KeptText.{KeptText}
+
+-- the text is that of the nodes, and each mark cuts it back to that of the nodes before its own
+pub record IsKept (text_of : List Node → List ℕ) (nodes : List Node) (kept : KeptText) : Type 0 where
+  pub text : kept.text.items ≡ text_of nodes
+  pub count : length kept.marks.items ≡ length nodes
+  pub within : (i mark : ℕ) → slice_get kept.marks.items i ≡ Some mark → mark ≤ length kept.text.items
+  pub marks : (i mark : ℕ) → slice_get kept.marks.items i ≡ Some mark → take mark kept.text.items ≡ text_of (take i nodes)
+  pub order : (i j early late : ℕ) → i ≤ j → slice_get kept.marks.items i ≡ Some early → slice_get kept.marks.items j ≡ Some late → early ≤ late
+
+-- the nodes of a game, as the sgf form writes them
+abbrev pub nodes_text : List Node → List ℕ
+nodes_text nodes = flat_map node_text nodes
