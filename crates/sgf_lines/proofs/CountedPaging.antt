@@ -1,5 +1,5 @@
 -- The loop that writes the lines of a page counts the nodes that are judged on them.
-use Rattle.std.proofs.Common.{◌≡◌, ℕ, zero, suc, ◌+◌, ◌-◌, ◌<◌, ◌≤◌, Bool, true, false, List, [], ◌++◌, length, take, drop, slice_get, Option, Some, None, Result, Ok, Err, inl, inr, refl, sym, ap, subst, ◌∙◌, arith, add-one, length-append}
+use Rattle.std.proofs.Common.{◌≡◌, ℕ, zero, suc, ◌+◌, ◌-◌, ◌<◌, ◌≤◌, Bool, true, false, List, ◌++◌, length, take, drop, slice_get, Option, Some, Result, Ok, Err, inl, inr, refl, sym, ap, ◌∙◌, arith, add-one, length-append}
 use Rattle.std.specs.Prelude.{unwrap_or, filter}
 use Rattle.std.specs.List.{flat_map}
 use Rattle.std.proofs.Math.Seq.{take-add}
@@ -14,7 +14,7 @@ use Rattle.sgf_lines.specs.Ends.{SinkState}
 use Rattle.sgf_lines.specs.Cursor.{Position}
 use Rattle.sgf_lines.specs.Verdict.{judged_nodes}
 use Rattle.sgf_lines.specs.Plays.{different, judged}
-use Rattle.sgf_lines.specs.CountedRun.{plays_in, plays_of, ArePlaysFor}
+use Rattle.sgf_lines.specs.CountedRun.{plays_in, plays_of}
 use Rattle.sgf_lines.specs.declared.options.Form.{Form}
 use Rattle.sgf_lines.specs.declared.options.Form.TheVariants.{List as list_form, Sgf as sgf_form, Gtp as gtp_form}
 use Rattle.sgf_lines.specs.declared.fault.RunFault.{RunFault}

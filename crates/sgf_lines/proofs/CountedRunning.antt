@@ -7,10 +7,10 @@ use Rattle.sgf_lines.specs.Lines.{Line, lines}
 use Rattle.sgf_lines.specs.Page.{page, limited, lines_from_place}
 use Rattle.sgf_lines.specs.Ends.{SourceState, SinkState}
 use Rattle.sgf_lines.specs.Cursor.{Position}
-use Rattle.sgf_lines.specs.Answer.{IsWhole, HasPage}
+use Rattle.sgf_lines.specs.Answer.{IsWhole}
 use Rattle.sgf_lines.specs.CountedRun.{AnswersPlays, IsCountedRun}
 use Rattle.sgf_lines.specs.inner.Running.{AnswersReading, IsReading, IsSplit, IsStart}
-use Rattle.sgf_lines.specs.inner.CountedLines.{AnswersPlaysFor, CountsLines, CountsPlays, CountsSplit, CountsSplitOf}
+use Rattle.sgf_lines.specs.inner.CountedLines.{AnswersPlaysFor, CountsLines, CountsSplit, CountsSplitOf}
 use Rattle.sgf_lines.specs.declared.options.Options.{Options}
 use Rattle.sgf_lines.specs.declared.fault.RunFault.{RunFault}
 use Rattle.sgf_lines.specs.declared.fault.RunFault.TheVariants.{Read, TooLong, NotSgf, NoSuchLine, Write, Memory}

@@ -1,7 +1,7 @@
 -- Which places small collections touch, and which are judged, computed.
-use Rattle.std.proofs.Common.{◌≡◌, ℕ, List, [], ◌∷◌, length, Option, Some, None, refl}
+use Rattle.std.proofs.Common.{◌≡◌, ℕ, List, [], ◌∷◌, Option, Some, None, refl}
 use Rattle.std.specs.Prelude.{codes, option_map}
-use Rattle.sgf_tree.specs.Tree.{Property, Node, Games, no_games, game}
+use Rattle.sgf_tree.specs.Tree.{Node, Games, no_games, game}
 use Rattle.go_board.specs.Point.{points}
 use Rattle.go_board.specs.Reaching.{reaches, reaching_within, spread}
 use Rattle.go_board.specs.Clearing.{clear, play, cleared_cell}
@@ -14,7 +14,6 @@ use Rattle.sgf_lines.specs.Plays.{touched, judged}
 use Rattle.sgf_lines.specs.CountedRun.{plays_of}
 use Rattle.sgf_lines.specs.declared.options.Form.{Form}
 use Rattle.sgf_lines.specs.declared.options.Form.TheVariants.{List as list_form, Sgf as sgf_form, Gtp as gtp_form}
-use Rattle.sgf_lines.specs.declared.options.Options.{Options}
 
 abbrev node : ℕ → List ℕ → List ℕ → Node
 node place name value = record { place = place; properties = record { name = name; first = value; more = [] } ∷ [] }

@@ -1,5 +1,5 @@
 -- A line adds to the judged nodes of the lines before it those that it doesn't share with the last of them.
-use Rattle.std.proofs.Common.{◌≡◌, ℕ, zero, suc, ◌+◌, ◌-◌, ◌<◌, ◌≤◌, true, List, [], ◌∷◌, ◌++◌, length, take, drop, map, slice_get, Option, Some, refl, sym, ap, subst, ◌∙◌, arith, length-append}
+use Rattle.std.proofs.Common.{◌≡◌, ℕ, zero, suc, ◌+◌, ◌-◌, ◌<◌, ◌≤◌, true, List, [], ◌∷◌, ◌++◌, length, take, drop, map, slice_get, Some, refl, sym, ap, subst, ◌∙◌, arith, length-append}
 use Rattle.std.specs.List.{flat_map, range_with_len}
 use Rattle.std.proofs.lemmas.List.{map-append, take-map, take-append-drop, length-take, length-take-le, length-map, length-drop}
 use Rattle.std.proofs.Math.Seq.{take-append_seam}
@@ -7,7 +7,7 @@ use Rattle.std.proofs.lemmas.Option.{slice_get_within}
 use Rattle.sgf_tree.specs.Tree.{Node, Games, node_count}
 use Rattle.sgf_tree.specs.FileOrder.{PlacesRise, node_at}
 use Rattle.sgf_lines.specs.Lines.{Line, lines}
-use Rattle.sgf_lines.specs.Paths.{Path, paths}
+use Rattle.sgf_lines.specs.Paths.{paths}
 use Rattle.sgf_lines.specs.GameSize.{opening, root_properties}
 use Rattle.sgf_lines.specs.Verdict.{judged_nodes}
 use Rattle.sgf_lines.specs.Plays.{different, judged, places_of}
@@ -71,6 +71,36 @@ module _ (c : Games) (rise : PlacesRise c) where
       let f = judged_front (opening (root_properties line.nodes)) line.nodes in
       omega (arith, ap length f.1, length-take f.0 line.nodes, as_many (node_at c) line.nodes numbers named)
 
+  -- what a line shares with another is judged alike
+  same_places : (last line : Line) (old new : List ℕ) (shared : ℕ) → map Some last.nodes ≡ map (node_at c) old → map Some line.nodes ≡ map (node_at c) new → Continues old shared new
+      → take shared (judged_places line) ≡ take shared (judged_places last)
+  same_places last line old new shared old_named new_named go =
+      let range = range_with_len (first_after old) (go.more + 1) in
+      let front : take shared new ≡ take shared old =
+      ap (take shared) go.new_is ∙ ap (λ n. take n (take shared old ++ range)) (sym (length-take-le shared old go.kept_within)) ∙ take-append_seam (take shared old) range in
+      let named : take shared (map (node_at c) old) ≡ take shared (map (node_at c) new) =
+      take-map (node_at c) shared old ∙ ap (map (node_at c)) (sym front) ∙ sym (take-map (node_at c) shared new) in
+      let alike : take shared last.nodes ≡ take shared line.nodes =
+      same_nodes shared last.nodes line.nodes (ap (take shared) old_named ∙ named ∙ ap (take shared) (sym new_named)) in
+      let judged : take shared (judged_nodes line) ≡ take shared (judged_nodes last) =
+      judged_alike last.nodes line.nodes shared (omega (arith, as_many (node_at c) last.nodes old old_named, go.kept_within)) alike in
+      take-map (λ n. n.place) shared (judged_nodes line) ∙ ap places_of judged ∙ sym (take-map (λ n. n.place) shared (judged_nodes last))
+
+  -- and the places of its other judged nodes rise, from that of the first node after the other line
+  fresh_places : (line : Line) (old new : List ℕ) (shared : ℕ) → map Some line.nodes ≡ map (node_at c) new → (go : Continues old shared new) → first_after old + (go.more + 1) ≤ node_count c
+      → RisesFrom (place_number c (first_after old)) (drop shared (judged_places line))
+  fresh_places line old new shared named go within =
+      let at = first_after old in
+      let range = map (place_number c) (range_with_len at (go.more + 1)) in
+      let own = map (place_number c) (take shared old) in
+      let places = places_are line new named in
+      let count : shared ≡ length own = sym (length-map (take shared old) (place_number c) ∙ length-take-le shared old go.kept_within) in
+      let all : map (place_number c) new ≡ own ++ range = ap (map (place_number c)) go.new_is ∙ map-append (place_number c) (take shared old) (range_with_len at (go.more + 1)) in
+      let is : drop shared (judged_places line) ≡ take (places.0 - length own) range =
+      ap (drop shared) places.1 ∙ ap (λ l. drop shared (take places.0 l)) all ∙ ap (λ n. drop n (take places.0 (own ++ range))) count ∙ front_after own range places.0 in
+      subst (RisesFrom (place_number c at)) (sym is)
+      (rises_take (place_number c at) (places.0 - length own) range (rises_range c rise at (go.more + 1) (place_number c at) within (λ lt. omega arith)))
+
   -- a page of the lines, from the index `first` on
   module _ (first : ℕ) (page : List Line) (stands : (k : ℕ) (line : Line) → slice_get page k ≡ Some line → slice_get (lines c) (first + k) ≡ Some line) where
     -- the places of the judged nodes of its first lines
@@ -130,20 +160,6 @@ module _ (c : Games) (rise : PlacesRise c) where
         let xs = so_far (suc k) in
         let is : xs ≡ so_far k ++ judged_places last.0 = sym (more_texts judged_places page k last.0 last.1) in
         let at = first_after old.numbers in
-        let range = range_with_len at (go.more + 1) in
-        let lengths = length-take-le shared old.numbers go.kept_within in
-        let kept = as_many (node_at c) last.0.nodes old.numbers old.named in
-        let front : take shared new.numbers ≡ take shared old.numbers =
-        ap (take shared) go.new_is ∙ ap (λ n. take n (take shared old.numbers ++ range)) (sym lengths) ∙ take-append_seam (take shared old.numbers) range in
-        let alike : take shared last.0.nodes ≡ take shared line.nodes =
-        same_nodes shared last.0.nodes line.nodes (ap (take shared) old.named ∙ take-map (node_at c) shared old.numbers ∙ ap (map (node_at c)) (sym front) ∙ sym (take-map (node_at c) shared new.numbers) ∙ ap (take shared) (sym new.named)) in
-        let same_judged : take shared (judged_places line) ≡ take shared (judged_places last.0) =
-        take-map (λ n. n.place) shared (judged_nodes line) ∙ ap places_of (judged_alike last.0.nodes line.nodes shared (omega (arith, kept, go.kept_within)) alike) ∙ sym (take-map (λ n. n.place) shared (judged_nodes last.0)) in
-        let last_there : Each (λ n. has xs n ≡ true) (judged_places last.0) =
-        subst (λ ys. Each (λ n. has ys n ≡ true) (judged_places last.0)) (sym is)
-        (each_weaker (λ n. has (judged_places last.0) n ≡ true) (λ n. has (so_far k ++ judged_places last.0) n ≡ true) (has_right (so_far k) (judged_places last.0)) (judged_places last.0) (each_has (judged_places last.0))) in
-        let there : Each (λ n. has xs n ≡ true) (take shared (judged_places line)) =
-        subst (Each (λ n. has xs n ≡ true)) (sym same_judged) (each_take (λ n. has xs n ≡ true) shared (judged_places last.0) last_there) in
         let end : first_after new.numbers ≡ at + (go.more + 1) = after_is old.numbers new.numbers shared go in
         let end_in : first_after new.numbers ≤ node_count c =
         rw new.are at (end_within c (suc (first + suc k)) (omega (arith, slice_get_within (lines c) (first + suc k) line (stands (suc k) line e), length-paths c))) in
@@ -151,16 +167,13 @@ module _ (c : Games) (rise : PlacesRise c) where
         subst (λ ns. Each (IsPlaceBefore (first_after ns)) xs) (ap (numbers_before c) next ∙ old.are) (all_before (suc k) (omega (arith, slice_get_within page (suc k) line e))) in
         let below : Each (λ x. x < place_number c at) xs =
         each_weaker (IsPlaceBefore at) (λ x. x < place_number c at) (λ x w. omega (arith, w.2, places_rise c rise w.0 at w.1 (omega (arith, end, end_in)))) xs before in
-        let places = places_are line new.numbers new.named in
-        let own = map (place_number c) (take shared old.numbers) in
-        let fresh_is : drop shared (judged_places line) ≡ take (places.0 - length own) (map (place_number c) range) =
-        ap (drop shared) places.1 ∙ ap (λ ns. drop shared (take places.0 (map (place_number c) ns))) go.new_is
-        ∙ ap (λ l. drop shared (take places.0 l)) (map-append (place_number c) (take shared old.numbers) range)
-        ∙ ap (λ n. drop n (take places.0 (own ++ map (place_number c) range))) (sym (length-map (take shared old.numbers) (place_number c) ∙ lengths))
-        ∙ front_after own (map (place_number c) range) places.0 in
-        let fresh : RisesFrom (place_number c at) (drop shared (judged_places line)) =
-        subst (RisesFrom (place_number c at)) (sym fresh_is)
-        (rises_take (place_number c at) (places.0 - length own) (map (place_number c) range) (rises_range c rise at (go.more + 1) (place_number c at) (omega (arith, end, end_in)) (λ lt. omega arith))) in
+        let last_there : Each (λ n. has xs n ≡ true) (judged_places last.0) =
+        subst (λ ys. Each (λ n. has ys n ≡ true) (judged_places last.0)) (sym is)
+        (each_weaker (λ n. has (judged_places last.0) n ≡ true) (λ n. has (so_far k ++ judged_places last.0) n ≡ true) (has_right (so_far k) (judged_places last.0)) (judged_places last.0) (each_has (judged_places last.0))) in
+        let there : Each (λ n. has xs n ≡ true) (take shared (judged_places line)) =
+        subst (Each (λ n. has xs n ≡ true)) (sym (same_places last.0 line old.numbers new.numbers shared old.named new.named go))
+        (each_take (λ n. has xs n ≡ true) shared (judged_places last.0) last_there) in
+        let fresh : RisesFrom (place_number c at) (drop shared (judged_places line)) = fresh_places line old.numbers new.numbers shared new.named go (omega (arith, end, end_in)) in
         let parts : take shared (judged_places line) ++ drop shared (judged_places line) ≡ judged_places line = take-append-drop shared (judged_places line) in
         let more : different (xs ++ judged_places line) ≡ different xs ++ drop shared (judged_places line) =
         ap (λ l. different (xs ++ l)) (sym parts) ∙ more_different xs (take shared (judged_places line)) (drop shared (judged_places line)) (place_number c at) there below fresh in

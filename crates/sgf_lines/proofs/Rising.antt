@@ -1,5 +1,5 @@
 -- The nodes of a line rise in file order, and the next line has those after them.
-use Rattle.std.proofs.Common.{◌≡◌, ℕ, zero, suc, ◌+◌, ◌<◌, ◌≤◌, List, [], ◌∷◌, ◌++◌, length, take, map, slice_get, Option, Some, None, inl, inr, refl, sym, ap, subst, ◌∙◌, arith, length-append}
+use Rattle.std.proofs.Common.{◌≡◌, ℕ, zero, suc, ◌+◌, ◌<◌, ◌≤◌, List, [], ◌∷◌, ◌++◌, length, take, map, slice_get, Some, None, inl, inr, refl, sym, ap, subst, ◌∙◌, arith, length-append}
 use Rattle.std.specs.Prelude.{option_map}
 use Rattle.std.specs.List.{range_with_len}
 use Rattle.std.proofs.lemmas.Bool.{cases_lt}
@@ -9,7 +9,7 @@ use Rattle.sgf_tree.specs.Tree.{Games, node_count}
 use Rattle.sgf_tree.specs.FileOrder.{PlacesRise}
 use Rattle.sgf_lines.specs.Lines.{last_number}
 use Rattle.sgf_lines.specs.Paths.{Path, paths}
-use Rattle.sgf_lines.specs.inner.Following.{first_after, Continues, numbers_of, numbers_before}
+use Rattle.sgf_lines.specs.inner.Following.{first_after, Continues, numbers_before}
 use Rattle.sgf_lines.specs.inner.Ways.{top}
 use Rattle.sgf_lines.proofs.Lists.{Each, each_append, each_weaker, each_get, element}
 use Rattle.sgf_lines.proofs.Ways.{IsDescent, each_path}
