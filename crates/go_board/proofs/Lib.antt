@@ -24,6 +24,7 @@ pub mod EntryLemmas
 pub mod EarlierLemmas
 pub mod AreaLemmas
 pub mod TurnLemmas
+pub mod PowerLemmas
 pub mod PrintLemmas
 pub mod PrintSetLemmas
 pub mod PrintPastLemmas

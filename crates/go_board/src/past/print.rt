@@ -1,6 +1,7 @@
 //! The print of a colouring: one number made of what stands on all its points, so that two colourings are mostly told
 //! apart by one comparison.
 
+mod powers;
 #[cfg(test)]
 mod tests;
 
@@ -8,6 +9,7 @@ ghost use Rattle.std.specs.Prelude.{◌≡◌, ◌<◌, ◌≤◌, List, length,
 ghost use Rattle.go_board.specs.declared.stones.Cell.{Cell};
 ghost use Rattle.go_board.specs.inner.Print.{code_of, print_of, short_print_after};
 
+use crate::past::print::powers::power;
 use crate::size::MAX_POINTS;
 use crate::stones::Cell;
 
@@ -46,7 +48,7 @@ pub(crate) fn print_with(print: u64, cells: &[Cell], index: usize, new: Cell) ->
     requires few { length cells.now ≤ MAX_POINTS }
     ensures { print ≡ print_of cells.now → result ≡ print_of (slice_set cells.now index new) }
 {
-    let weight = BASE.wrapping_pow((cells.len() - 1 - index) as u32);
+    let weight = power(cells.len() - 1 - index);
     print
         .wrapping_add(code_of(new).wrapping_mul(weight))
         .wrapping_sub(code_of(cells[index]).wrapping_mul(weight))

@@ -11,5 +11,5 @@ returns c =
     let cells = c.args.cells.now in
     let index = c.args.index in
     let fits : index + (length cells - 1 - index) + 1 ≡ length cells = omega (arith, c.requires.within) in
-    rw (c.code_of.ensures, c.wrapping_pow-weight.ensures, c.code_of-2.ensures)
+    rw (c.code_of.ensures, c.power-weight.ensures, c.code_of-2.ensures)
     (print-set cells index (length cells - 1 - index) c.args.print (get_or cells index Black) c.args.new fits (get_or_default cells index Empty Black c.requires.within) is)
