@@ -1,7 +1,7 @@
 -- proofs/past/differences/next_difference/Answers.antt
 use Rattle.std.proofs.Common.{◌≡◌, ◌∙◌, sym, get_or, arith}
 use Rattle.go_board.specs.declared.stones.Cell.TheVariants.{Black}
-use Rattle.go_board.proofs.RangeLemmas.{same-more}
+use Rattle.go_board.proofs.RangeLemmas.{same-ranges, same-more}
 use Rattle.go_board.proofs.GridLemmas.{Decides-cell_eq}
 use Rattle.go_board.proofs.past.differences.next_difference.Goals as goal
 
@@ -12,4 +12,14 @@ loop-index-preserved c =
       from = omega arith;
       within = omega arith;
       same = same-more c.args.old.now c.args.new.now c.args.from c.loop-index.index Black c.loop-index.invariant.from (omega arith) (omega arith) c.loop-index.invariant.same same;
+    }
+
+pub loop-index-init : goal.loop-index-init
+loop-index-init c =
+    let first = c.past_same_chunks-large.ensures in
+    let next = c.past_same_chunks-index.ensures in
+    record {
+      from = omega (arith, first.from, next.from);
+      within = next.within;
+      same = same-ranges c.args.old.now c.args.new.now c.args.from c.past_same_chunks-large.result c.past_same_chunks-index.result first.from next.from first.within (omega (arith, first.within, c.requires.lengths)) first.same next.same;
     }

@@ -7,5 +7,5 @@ pub loop-index-preserved : goal.loop-index-preserved
 loop-index-preserved c = record {
   from = omega arith;
   within = omega arith;
-  same = same-ranges c.args.old.now c.args.new.now c.args.from c.loop-index.index (c.loop-index.index + 32) c.loop-index.invariant.from (omega arith) (omega arith) (omega arith) c.loop-index.invariant.same (c.is_same_chunk.ensures.0 c.if-is_same_chunk.true);
+  same = same-ranges c.args.old.now c.args.new.now c.args.from c.loop-index.index (c.loop-index.index + c.args.chunk) c.loop-index.invariant.from (omega arith) (omega arith) (omega arith) c.loop-index.invariant.same (c.is_same_chunk.ensures.0 c.if-is_same_chunk.true);
 }
