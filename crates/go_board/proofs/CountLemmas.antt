@@ -24,7 +24,7 @@ use Rattle.go_board.specs.Point.{IsOn, point_at, points}
 use Rattle.go_board.specs.inner.Rows.{has_bit, is_set}
 use Rattle.go_board.specs.inner.Regions.{is_either, AreRowsOf, reaches_through_own, count_apart}
 use Rattle.go_board.proofs.PointLemmas.{point_at-index_of, is_map-points, length-points, IsOn-point_at, index_of-point_at, get_or-map-points}
-use Rattle.go_board.proofs.WordLemmas.{has_bit-and, bit_at-mod}
+use Rattle.go_board.proofs.WordLemmas.{has_bit-and, has_bit-without, bit_at-mod}
 
 ones_of_bit : (n : ℕ) → n < 2 → count_ones n ≡ cond (n == 1) 1 0
 unfolding ones
@@ -54,22 +54,6 @@ below_from_bits n k each =
     none zero low not_one = refl
     none (suc zero) low not_one = absurd (not_one refl)
     none (suc (suc b)) low not_one = absurd (omega arith)
-
--- a bit of the one word and not of the other
-test_without : (a b : ℕ) → a < 2 → b < 2 → (min a (1 - b) == 1) ≡ ((a == 1) && not (b == 1))
-test_without zero zero ha hb = refl
-test_without zero (suc zero) ha hb = refl
-test_without zero (suc (suc b)) ha hb = absurd (omega arith)
-test_without (suc zero) zero ha hb = refl
-test_without (suc zero) (suc zero) ha hb = refl
-test_without (suc zero) (suc (suc b)) ha hb = absurd (omega arith)
-test_without (suc (suc a)) b ha hb = absurd (omega arith)
-
-has_bit-without : (word other c : ℕ) → other < 2 ^ 64 → c < 64 → has_bit (bit_and word (bit_not w64 other)) c ≡ (has_bit word c && not (has_bit other c))
-has_bit-without word other c low column =
-    ap (λ n. n == 1)
-    (bit_at_and word (bit_not w64 other) c ∙ ap (λ b. min (bit_at word c) b) (bit_at_not w64 other c low column))
-    ∙ test_without (bit_at word c) (bit_at other c) (bit_at-lt word c) (bit_at-lt other c)
 
 sum_at : (a b c : ℕ) → a + b + c ≡ a + (b + c)
 sum_at a b c = omega arith

@@ -1,21 +1,25 @@
 -- proofs/RegionLemmas.antt
 -- Rows of words that have the points of a grid with certain cells, and those that reach a colour through them.
-use Rattle.std.proofs.Common.{◌≡◌, ◌≢◌, ◌⊎◌, inl, inr, ℕ, ◌+◌, ◌*◌, ◌^◌, ◌%◌, ◌<◌, ◌≤◌, ◌==◌, ◌||◌, ◌&&◌, Bool, true, false, Some, None, List, [], ◌∷◌, length, get_or, set, slice_get, slice_range, slice_index, bit_or, w64, refl, sym, ap, ◌∙◌, arith, subst, rules}
+use Rattle.std.proofs.Common.{◌≡◌, ◌≢◌, ◌⊎◌, inl, inr, ℕ, ◌+◌, ◌-◌, ◌*◌, ◌^◌, ◌%◌, ◌<◌, ◌≤◌, ◌==◌, ◌||◌, ◌&&◌, Bool, true, false, not, Some, None, List, [], ◌∷◌, length, get_or, set, slice_get, slice_range, slice_index, bit_and, bit_or, w64, refl, sym, ap, ◌∙◌, arith, subst, rules}
 use Rattle.std.proofs.lemmas.Bool.{or_cases, and_parts, and_from, false≢true, cases_lt, cases_eq}
-use Rattle.std.proofs.lemmas.Nat.{row_fits}
+use Rattle.std.specs.Int.{bit_not}
+use Rattle.std.proofs.Math.Nat.{mod-eq_of_lt}
+use Rattle.std.proofs.lemmas.Nat.{row_fits, pow_below}
 use Rattle.std.proofs.lemmas.List.{places, get_or-set_same, get_or-set_other}
 use Rattle.std.proofs.lemmas.Option.{slice_get-get_or, slice_get_past}
-use Rattle.std.proofs.lemmas.Nat.Bits.{bit_at_set_same, bit_at_set_other}
+use Rattle.std.proofs.lemmas.Nat.Bits.{bit_at_set_same, bit_at_set_other, bit_at_mask_inside, bit_at_mask_above}
 use Rattle.go_board.specs.declared.stones.Cell.{Cell}
-use Rattle.go_board.specs.declared.stones.Cell.TheVariants.{Empty}
+use Rattle.go_board.specs.declared.stones.Cell.TheVariants.{Black, White, Empty}
 use Rattle.go_board.specs.declared.points.Point.{Point}
+use Rattle.go_board.specs.Colour.{same_cell}
 use Rattle.go_board.specs.Point.{IsOn, AreAdjacent}
 use Rattle.go_board.specs.Grid.{Grid, cell_at}
 use Rattle.go_board.specs.Reaching.{Leads, Reaches, reaches}
 use Rattle.go_board.specs.inner.Rows.{has_bit, is_set, IsAmong, IsClosed, Grows}
-use Rattle.go_board.specs.inner.Regions.{is_either, is_either_there, AreRowsOf, reaches_through_own}
+use Rattle.go_board.specs.inner.Regions.{is_either, is_there, AreRowsOf, reaches_through_own}
 use Rattle.go_board.proofs.GridLemmas.{Decides-same_cell}
 use Rattle.go_board.proofs.GrowLemmas.{row_below}
+use Rattle.go_board.proofs.WordLemmas.{has_bit-and, has_bit-without}
 use Rattle.go_board.proofs.ReachingLemmas.{Decides-reaches}
 
 or_right : (x y : Bool) → y ≡ true → (x || y) ≡ true
@@ -58,37 +62,117 @@ past_row side row col cells all below past =
     slice_get_past (slice_range cells (row * side) (row * side + side)) col (rw long past)
 
 -- one row more is written
-abbrev pub RowsBelow : ℕ → List Cell → Cell → Cell → ℕ → List ℕ → Type 0
-RowsBelow side cells one other n rows =
+abbrev pub RowsBelow : ℕ → List Cell → Cell → ℕ → List ℕ → Type 0
+RowsBelow side cells wanted n rows =
     (r col : ℕ) → r < n
-    → has_bit (slice_index rows r) col ≡ is_either_there (slice_get (slice_range cells (r * side) (r * side + side)) col) one other
+    → has_bit (slice_index rows r) col ≡ is_there (slice_get (slice_range cells (r * side) (r * side + side)) col) wanted
 
-pub rows_more : (side : ℕ) (cells : List Cell) (one other : Cell) (rows : List ℕ) (row word : ℕ) → row < length rows → RowsBelow side cells one other row rows → ((col : ℕ) → has_bit word col ≡ is_either_there (slice_get (slice_range cells (row * side) (row * side + side)) col) one other) → RowsBelow side cells one other (row + 1) (set rows row word)
-rows_more side cells one other rows row word within before is =
+pub rows_more : (side : ℕ) (cells : List Cell) (wanted : Cell) (rows : List ℕ) (row word : ℕ) → row < length rows → RowsBelow side cells wanted row rows → ((col : ℕ) → has_bit word col ≡ is_there (slice_get (slice_range cells (row * side) (row * side + side)) col) wanted) → RowsBelow side cells wanted (row + 1) (set rows row word)
+rows_more side cells wanted rows row word within before is =
     λ r col below.
     elim (cases_eq r row) [
       | inl same ↦
           ap (λ k. has_bit (get_or (set rows row word) k 0) col) same
           ∙ ap (λ w. has_bit w col) (get_or-set_same rows row word 0 within)
           ∙ is col
-          ∙ ap (λ k. is_either_there (slice_get (slice_range cells (k * side) (k * side + side)) col) one other) (sym same)
+          ∙ ap (λ k. is_there (slice_get (slice_range cells (k * side) (k * side + side)) col) wanted) (sym same)
       | inr apart ↦
           ap (λ w. has_bit w col) (get_or-set_other rows row r word 0 apart) ∙ before r col (omega (arith, apart))
     ]
 
-pub AreRowsOf-cells : (side : ℕ) (cells : List Cell) (one other : Cell) (rows : List ℕ) → length cells ≡ side * side → length rows ≡ side → RowsBelow side cells one other side rows → AreRowsOf side (λ p. is_either (cell_at (record { side = side; cells = cells }) p) one other) rows
-AreRowsOf-cells side cells one other rows all long each = record {
+pub AreRowsOf-cells : (side : ℕ) (cells : List Cell) (wanted : Cell) (rows : List ℕ) → length cells ≡ side * side → length rows ≡ side → RowsBelow side cells wanted side rows → AreRowsOf side (λ p. same_cell (cell_at (record { side = side; cells = cells }) p) wanted) rows
+AreRowsOf-cells side cells wanted rows all long each = record {
   on = λ p on.
       each p.row p.col on.1
-      ∙ ap (λ c. is_either_there c one other) (cell_of_row side p.row p.col cells all on.1 on.0);
+      ∙ ap (λ c. is_there c wanted) (cell_of_row side p.row p.col cells all on.1 on.0);
   off = λ p is.
       let row : p.row < side = rw (← long) (row_below rows p is) in
       elim (cases_lt p.col side) [
         | inl col ↦ (col, row)
         | inr past ↦
-            absurd (false≢true (sym (each p.row p.col row ∙ ap (λ c. is_either_there c one other) (past_row side p.row p.col cells all row past)) ∙ is))
+            absurd (false≢true (sym (each p.row p.col row ∙ ap (λ c. is_there c wanted) (past_row side p.row p.col cells all row past)) ∙ is))
       ];
 }
+
+-- the columns of a row that aren't in a set
+mask_is : (side : ℕ) → side < 64 → 1 * 2 ^ side % 2 ^ 64 - 1 ≡ 2 ^ side - 2 ^ 0
+mask_is side small =
+    let less : 2 ^ side < 2 ^ 64 = pow_below side 64 small in
+    let one : 1 * 2 ^ side ≡ 2 ^ side = omega arith in
+    let unit : 2 ^ 0 ≡ 1 = omega arith in
+    ap (λ n. n % 2 ^ 64 - 1) one ∙ ap (λ n. n - 1) (mod-eq_of_lt less) ∙ ap (λ n. 2 ^ side - n) (sym unit)
+
+pub others-within : (word side col : ℕ) → word < 2 ^ 64 → side < 64 → col < side → has_bit (bit_and (1 * 2 ^ side % 2 ^ 64 - 1) (bit_not w64 word)) col ≡ not (has_bit word col)
+others-within word side col low small below =
+    let inside : has_bit (1 * 2 ^ side % 2 ^ 64 - 1) col ≡ true = ap (λ n. has_bit n col) (mask_is side small) ∙ ap (λ n. n == 1) (bit_at_mask_inside 0 side col (omega arith) below) in
+    has_bit-without (1 * 2 ^ side % 2 ^ 64 - 1) word col low (omega (arith, below, small)) ∙ ap (λ b. b && not (has_bit word col)) inside
+
+pub others-off : (word side col : ℕ) → side < 64 → has_bit (bit_and (1 * 2 ^ side % 2 ^ 64 - 1) (bit_not w64 word)) col ≡ true → col < side
+others-off word side col small is =
+    elim (cases_lt col side) [
+      | inl below ↦ below
+      | inr past ↦
+          let outside : has_bit (1 * 2 ^ side % 2 ^ 64 - 1) col ≡ false = ap (λ n. has_bit n col) (mask_is side small) ∙ ap (λ n. n == 1) (bit_at_mask_above 0 side col past) in
+          absurd (false≢true (sym outside ∙ (and_parts _ _ (sym (has_bit-and _ _ col) ∙ is)).0))
+    ]
+
+-- one row more is written
+abbrev pub OthersBelow : ℕ → List ℕ → ℕ → List ℕ → Type 0
+OthersBelow side rows n others =
+    (r : ℕ) → r < n
+    → ((col : ℕ) → col < side → has_bit (slice_index others r) col ≡ not (has_bit (slice_index rows r) col))
+    × ((col : ℕ) → has_bit (slice_index others r) col ≡ true → col < side)
+
+pub others_more : (side : ℕ) (rows others : List ℕ) (row word : ℕ) → row < length others → OthersBelow side rows row others → ((col : ℕ) → col < side → has_bit word col ≡ not (has_bit (slice_index rows row) col)) → ((col : ℕ) → has_bit word col ≡ true → col < side) → OthersBelow side rows (row + 1) (set others row word)
+others_more side rows others row word within before is off =
+    λ r below.
+    elim (cases_eq r row) [
+      | inl same ↦
+          let there : slice_index (set others row word) r ≡ word = ap (λ k. slice_index (set others row word) k) same ∙ get_or-set_same others row word 0 within in (
+            λ col on. ap (λ w. has_bit w col) there ∙ is col on ∙ ap (λ k. not (has_bit (slice_index rows k) col)) (sym same),
+            λ col set. off col (ap (λ w. has_bit w col) (sym there) ∙ set),
+          )
+      | inr apart ↦
+          let there : slice_index (set others row word) r ≡ slice_index others r = get_or-set_other others row r word 0 apart in
+          let old = before r (omega (arith, apart)) in (
+            λ col on. ap (λ w. has_bit w col) there ∙ old.0 col on,
+            λ col set. old.1 col (ap (λ w. has_bit w col) (sym there) ∙ set),
+          )
+    ]
+
+pub AreRowsOf-others : (rows others : List ℕ) → length others ≡ length rows → OthersBelow (length rows) rows (length rows) others → AreRowsOf (length rows) (λ p. not (is_set rows p)) others
+AreRowsOf-others rows others long each = record {
+  on = λ p on. (each p.row on.1).0 p.col on.0;
+  off = λ p is.
+      let row : p.row < length rows = rw (← long) (row_below others p is) in
+      ((each p.row row).1 p.col is, row);
+}
+
+-- the same rows by another test
+pub AreRowsOf-same : (side : ℕ) (test other : Point → Bool) (rows : List ℕ) → ((p : Point) → IsOn side p → test p ≡ other p) → AreRowsOf side test rows → AreRowsOf side other rows
+AreRowsOf-same side test other rows same are = record { on = λ p on. are.on p on ∙ same p on; off = are.off }
+
+-- the cells that aren't the other player's
+pub not_white : (c : Cell) → not (same_cell c White) ≡ is_either c Empty Black
+not_white Black = refl
+not_white White = refl
+not_white Empty = refl
+
+pub not_black : (c : Cell) → not (same_cell c Black) ≡ is_either c Empty White
+not_black Black = refl
+not_black White = refl
+not_black Empty = refl
+
+pub one_twice : (c k : Cell) → same_cell c k ≡ is_either c k k
+one_twice Black Black = refl
+one_twice Black White = refl
+one_twice Black Empty = refl
+one_twice White Black = refl
+one_twice White White = refl
+one_twice White Empty = refl
+one_twice Empty Black = refl
+one_twice Empty White = refl
+one_twice Empty Empty = refl
 
 same_bools : (a b : Bool) → (a ≡ true → b ≡ true) → (b ≡ true → a ≡ true) → a ≡ b
 same_bools true b there back = sym (there refl)
@@ -105,6 +189,19 @@ either_first c one other is = or_left _ _ ((Decides-same_cell c one).1 is)
 
 either_second : (c one other : Cell) → c ≡ other → is_either c one other ≡ true
 either_second c one other is = or_right _ _ ((Decides-same_cell c other).1 is)
+
+-- a colour's points, and the points that haven't the other colour
+module _ (g h : Grid) (wanted other : Cell) (apart : (c : Cell) → not (same_cell c other) ≡ is_either c Empty wanted) (rows others room : List ℕ) (same : h ≡ g) (is_wanted : AreRowsOf h.side (λ p. same_cell (cell_at h p) wanted) rows) (is_other : AreRowsOf h.side (λ p. same_cell (cell_at h p) other) others) (all : length others ≡ g.side) (is_room : AreRowsOf (length others) (λ p. not (is_set others p)) room) where
+  pub seed_is : AreRowsOf g.side (λ p. is_either (cell_at g p) wanted wanted) rows
+  seed_is =
+      subst (λ (x : Grid). AreRowsOf x.side (λ p. is_either (cell_at x p) wanted wanted) rows) same
+      (AreRowsOf-same h.side _ _ rows (λ p on. one_twice (cell_at h p) wanted) is_wanted)
+
+  pub room_is : AreRowsOf g.side (λ p. is_either (cell_at g p) Empty wanted) room
+  room_is =
+      let there = subst (λ (x : Grid). AreRowsOf x.side (λ p. same_cell (cell_at x p) other) others) same is_other in
+      AreRowsOf-same g.side _ _ room (λ p on. ap not (there.on p on) ∙ apart (cell_at g p))
+      (subst (λ n. AreRowsOf n (λ p. not (is_set others p)) room) all is_room)
 
 module _ (g : Grid) (own wanted : Cell) (room seed result : List ℕ) (is_room : AreRowsOf g.side (λ p. is_either (cell_at g p) own wanted) room) (is_seed : AreRowsOf g.side (λ p. is_either (cell_at g p) wanted wanted) seed) (grows : Grows (is_set room) (is_set seed) (is_set result)) (closed : IsClosed (is_set room) (is_set result)) where
   -- those of the room that reach the colour

@@ -1,10 +1,10 @@
 -- proofs/WordLemmas.antt
 -- Words as sets of columns: what the operations on words make of their bits.
-use Rattle.std.proofs.Common.{◌≡◌, ◌≢◌, ◌⊎◌, inl, inr, ℕ, zero, suc, ◌+◌, ◌-◌, ◌*◌, ◌/◌, ◌%◌, ◌^◌, ◌<◌, ◌≤◌, ◌==◌, ◌||◌, ◌&&◌, min, max, Bool, true, false, bit_and, bit_or, refl, sym, ap, ◌∙◌, arith, subst}
-use Rattle.std.specs.Int.{bit_at}
+use Rattle.std.proofs.Common.{◌≡◌, ◌≢◌, ◌⊎◌, inl, inr, ℕ, zero, suc, ◌+◌, ◌-◌, ◌*◌, ◌/◌, ◌%◌, ◌^◌, ◌<◌, ◌≤◌, ◌==◌, ◌||◌, ◌&&◌, min, max, Bool, true, false, not, bit_and, bit_or, w64, refl, sym, ap, ◌∙◌, arith, subst}
+use Rattle.std.specs.Int.{bit_at, bit_not}
 use Rattle.std.proofs.lemmas.Bool.{or_cases, and_parts, and_from, false≢true, cases_lt}
 use Rattle.std.proofs.lemmas.Nat.{le_or_l, and_le_r, and_mask, mod_below, pow_pos}
-use Rattle.std.proofs.lemmas.Nat.Bits.{bit_at_and, bit_at_or, bit_at-lt, bit_at-suc, bit_at-zero, bit_at_above, bit_at_ones, bit_at_cat_high, bit_at_cat_low, same_from_bits}
+use Rattle.std.proofs.lemmas.Nat.Bits.{bit_at_and, bit_at_or, bit_at_not, bit_at-lt, bit_at-suc, bit_at-zero, bit_at_above, bit_at_ones, bit_at_cat_high, bit_at_cat_low, same_from_bits}
 use Rattle.go_board.specs.Point.{DifferByOne}
 use Rattle.go_board.specs.inner.Rows.{has_bit, IsPart, HasBeside}
 
@@ -40,6 +40,22 @@ has_bit-or a b c = ap (λ n. n == 1) (bit_at_or a b c) ∙ test_max (bit_at a c)
 
 pub has_bit-and : (a b c : ℕ) → has_bit (bit_and a b) c ≡ (has_bit a c && has_bit b c)
 has_bit-and a b c = ap (λ n. n == 1) (bit_at_and a b c) ∙ test_min (bit_at a c) (bit_at b c) (bit_at-lt a c) (bit_at-lt b c)
+
+-- a bit of the one word and not of the other
+test_without : (a b : ℕ) → a < 2 → b < 2 → (min a (1 - b) == 1) ≡ ((a == 1) && not (b == 1))
+test_without zero zero ha hb = refl
+test_without zero (suc zero) ha hb = refl
+test_without zero (suc (suc b)) ha hb = absurd (omega arith)
+test_without (suc zero) zero ha hb = refl
+test_without (suc zero) (suc zero) ha hb = refl
+test_without (suc zero) (suc (suc b)) ha hb = absurd (omega arith)
+test_without (suc (suc a)) b ha hb = absurd (omega arith)
+
+pub has_bit-without : (word other c : ℕ) → other < 2 ^ 64 → c < 64 → has_bit (bit_and word (bit_not w64 other)) c ≡ (has_bit word c && not (has_bit other c))
+has_bit-without word other c low column =
+    ap (λ n. n == 1)
+    (bit_at_and word (bit_not w64 other) c ∙ ap (λ b. min (bit_at word c) b) (bit_at_not w64 other c low column))
+    ∙ test_without (bit_at word c) (bit_at other c) (bit_at-lt word c) (bit_at-lt other c)
 
 pub has_bit-zero : (c : ℕ) → has_bit 0 c ≡ false
 has_bit-zero c = ap (λ n. n == 1) (bit_at-zero c)

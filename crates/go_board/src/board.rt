@@ -263,8 +263,7 @@ impl Board {
         let (mut black_rows, mut white_rows) = (no_rows(), no_rows());
         let black = &mut black_rows[..side];
         let white = &mut white_rows[..side];
-        self.reaching_through(Cell::Empty, Cell::Black, black);
-        self.reaching_through(Cell::Empty, Cell::White, white);
+        self.areas(black, white);
         (count_apart(black, white), count_apart(white, black))
     }
 

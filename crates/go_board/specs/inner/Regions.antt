@@ -13,10 +13,10 @@ use Rattle.go_board.specs.inner.Rows.{is_set}
 abbrev pub is_either : Cell → Cell → Cell → Bool
 is_either cell one other = same_cell cell one || same_cell cell other
 
--- there is a cell, and it is one of two
-abbrev pub is_either_there : Option Cell → Cell → Cell → Bool
-is_either_there None one other = false
-is_either_there (Some cell) one other = is_either cell one other
+-- there is a cell, and it is that one
+abbrev pub is_there : Option Cell → Cell → Bool
+is_there None wanted = false
+is_there (Some cell) wanted = same_cell cell wanted
 
 -- the rows have exactly the points of the grid that pass a test
 pub record AreRowsOf (side : ℕ) (test : Point → Bool) (rows : List ℕ) : Type 0 where

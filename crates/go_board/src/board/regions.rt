@@ -1,23 +1,18 @@
 //! Sets of a board's points by what stands on them, as rows of words, and what reaches what by filling these.
 
-ghost use Rattle.std.specs.Prelude.{◌≡◌, ◌≢◌, ℕ, ◌*◌, ◌<◌, ◌≤◌, ◌||◌, Bool, IsTrue, length, replicate, slice_get};
+ghost use Rattle.std.specs.Prelude.{◌≡◌, ◌≢◌, ℕ, ◌*◌, ◌<◌, ◌≤◌, ◌||◌, IsTrue, not, length, replicate, slice_get};
 ghost use Rattle.go_board.specs.declared.points.Point.{Point};
+ghost use Rattle.go_board.specs.declared.stones.Cell.TheVariants.{Black, White, Empty};
 ghost use Rattle.go_board.specs.Point.{IsOn};
+ghost use Rattle.go_board.specs.Colour.{same_cell};
 ghost use Rattle.go_board.specs.Grid.{cell_at};
 ghost use Rattle.go_board.specs.inner.Rows.{has_bit, is_set};
-ghost use Rattle.go_board.specs.inner.Regions.{is_either, is_either_there, AreRowsOf, reaches_through_own, count_apart};
+ghost use Rattle.go_board.specs.inner.Regions.{is_there, AreRowsOf, reaches_through_own, count_apart};
 
 use crate::board::Board;
 use crate::board::fill::fill;
 use crate::size::{MAX_ROWS, Size};
 use crate::stones::Cell;
-
-/// Whether a cell is one of two.
-fn is_either(cell: Cell, one: Cell, other: Cell) -> bool
-    ensures { result ≡ is_either cell one other }
-{
-    cell == one || cell == other
-}
 
 /// The word with the bit of a column set, if it is to be.
 fn with_column(word: u64, col: usize, set: bool) -> u64
@@ -28,29 +23,58 @@ fn with_column(word: u64, col: usize, set: bool) -> u64
     if set { word | 1 << col } else { word }
 }
 
-/// The columns of a row that have one of two cells.
-fn row_of(cells: &[Cell], one: Cell, other: Cell) -> u64
+/// The columns of a row with a black stone, and those with a white one.
+fn row_of(cells: &[Cell]) -> (u64, u64)
     requires { length cells.now ≤ 64 }
-    ensures { (col : ℕ) → has_bit result col ≡ is_either_there (slice_get cells.now col) one other }
+    ensures black { (col : ℕ) → has_bit result.0 col ≡ is_there (slice_get cells.now col) Black }
+    ensures white { (col : ℕ) → has_bit result.1 col ≡ is_there (slice_get cells.now col) White }
 {
-    let mut word = 0;
+    let mut black = 0;
+    let mut white = 0;
     for (col, cell) in cells.iter().enumerate() {
-        word = with_column(word, col, is_either(*cell, one, other));
+        black = with_column(black, col, *cell == Cell::Black);
+        white = with_column(white, col, *cell == Cell::White);
     }
-    word
+    (black, white)
 }
 
-/// The points of a board that have one of two cells.
-fn rows_of(cells: &[Cell], size: Size, one: Cell, other: Cell, rows: &mut [u64])
+/// The points of a board with a black stone, and those with a white one.
+fn rows_of(cells: &[Cell], size: Size, black: &mut [u64], white: &mut [u64])
     requires cells { length cells.now ≡ size * size }
-    requires rows { length rows.old ≡ size }
-    ensures { AreRowsOf size
-        (λ p. is_either (cell_at (record { side = size; cells = cells.now }) p) one other) rows.new }
+    requires black { length black.old ≡ size }
+    requires white { length white.old ≡ size }
+    ensures black { AreRowsOf size
+        (λ p. same_cell (cell_at (record { side = size; cells = cells.now }) p) Black) black.new }
+    ensures white { AreRowsOf size
+        (λ p. same_cell (cell_at (record { side = size; cells = cells.now }) p) White) white.new }
 {
     let side = usize::from(size.side());
     for row in 0..side {
         let start = row * side;
-        rows[row] = row_of(&cells[start..start + side], one, other);
+        let (black_row, white_row) = row_of(&cells[start..start + side]);
+        black[row] = black_row;
+        white[row] = white_row;
+    }
+}
+
+/// The columns of a row of so many that aren't in a set.
+fn other_columns(word: u64, side: usize) -> u64
+    requires { side < 64 }
+    ensures within { (col : ℕ) → col < side → has_bit result col ≡ not (has_bit word col) }
+    ensures off { (col : ℕ) → IsTrue (has_bit result col) → col < side }
+{
+    ((1 << side) - 1) & !word
+}
+
+/// The points of a board that aren't in a set.
+fn other_points(rows: &[u64], others: &mut [u64])
+    requires few { length rows.now < 64 }
+    requires same { length others.old ≡ length rows.now }
+    ensures { AreRowsOf (length rows.now) (λ p. not (is_set rows.now p)) others.new }
+{
+    let side = rows.len();
+    for row in 0..side {
+        others[row] = other_columns(rows[row], side);
     }
 }
 
@@ -76,18 +100,24 @@ pub(crate) fn count_apart(rows: &[u64], others: &[u64]) -> u32
 }
 
 impl Board {
-    /// The points of a colour, and those of another one that reach it.
-    pub(crate) fn reaching_through(&self, own: Cell, wanted: Cell, rows: &mut [u64])
-        requires differ { own ≢ wanted }
-        requires rows { length rows.old ≡ self.now.side }
-        ensures reached { AreRowsOf self.now.side (reaches_through_own self.now own wanted) rows.new }
-        ensures all { length rows.new ≡ self.now.side }
+    /// The black points with the empty ones that reach black, and the white points with the empty ones that reach white.
+    pub(crate) fn areas(&self, black: &mut [u64], white: &mut [u64])
+        requires black { length black.old ≡ self.now.side }
+        requires white { length white.old ≡ self.now.side }
+        ensures black { AreRowsOf self.now.side (reaches_through_own self.now Empty Black) black.new }
+        ensures white { AreRowsOf self.now.side (reaches_through_own self.now Empty White) white.new }
+        ensures black_rows { length black.new ≡ self.now.side }
+        ensures white_rows { length white.new ≡ self.now.side }
     {
+        let (mut black_words, mut white_words) = (no_rows(), no_rows());
         let size = self.size();
-        let mut words = no_rows();
-        let room = &mut words[..rows.len()];
-        rows_of(self.cells(), size, own, wanted, room);
-        rows_of(self.cells(), size, wanted, wanted, rows);
-        fill(rows, room);
+        let side = usize::from(size.side());
+        let black_room = &mut black_words[..side];
+        let white_room = &mut white_words[..side];
+        rows_of(self.cells(), size, black, white);
+        other_points(white, black_room);
+        other_points(black, white_room);
+        fill(black, black_room);
+        fill(white, white_room);
     }
 }

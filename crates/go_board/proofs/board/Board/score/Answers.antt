@@ -7,16 +7,16 @@ use Rattle.go_board.proofs.board.Board.score.Goals as goal
 
 pub returns-clause-black : goal.returns-clause-black
 returns-clause-black c =
-    let black = c.reaching_through.new.rows in
-    let white = c.reaching_through-2.new.rows in
+    let black = c.areas.new.black in
+    let white = c.areas.new.white in
     c.count_apart.ensures
-    ∙ ap (λ n. count_apart n black white) c.reaching_through.ensures.all
-    ∙ score_by_rows c.args.self.now Black black white c.reaching_through.ensures.reached c.reaching_through-2.ensures.reached
+    ∙ ap (λ n. count_apart n black white) c.areas.ensures.black_rows
+    ∙ score_by_rows c.args.self.now Black black white c.areas.ensures.black c.areas.ensures.white
 
 pub returns-clause-white : goal.returns-clause-white
 returns-clause-white c =
-    let black = c.reaching_through.new.rows in
-    let white = c.reaching_through-2.new.rows in
+    let black = c.areas.new.black in
+    let white = c.areas.new.white in
     c.count_apart-2.ensures
-    ∙ ap (λ n. count_apart n white black) c.reaching_through-2.ensures.all
-    ∙ score_by_rows c.args.self.now White white black c.reaching_through-2.ensures.reached c.reaching_through.ensures.reached
+    ∙ ap (λ n. count_apart n white black) c.areas.ensures.white_rows
+    ∙ score_by_rows c.args.self.now White white black c.areas.ensures.white c.areas.ensures.black

@@ -15,8 +15,7 @@ loop-i-preserved c =
     let next : a + (c.loop-i.i + 1) ≡ n + 1 = omega arith in
     let in_old : n < length old = omega (arith, c.requires.old, c.loop-i-test.true) in
     let in_new : n < length new = omega (arith, c.requires.new, c.loop-i-test.true) in
-    rw next
-    (
+    rw next (
       λ is.
           let both = and_parts _ _ is in
           same-more old new a n Black (omega arith) in_old in_new (c.loop-i.invariant.0 both.0) ((Decides-cell_eq _ _).0 (sym c.eq-same.ensures ∙ both.1)),

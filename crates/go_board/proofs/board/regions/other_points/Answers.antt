@@ -1,0 +1,15 @@
+-- proofs/board/regions/other_points/Answers.antt
+use Rattle.std.proofs.Common.{◌∙◌, length, arith}
+use Rattle.go_board.proofs.RegionLemmas.{others_more, AreRowsOf-others}
+use Rattle.go_board.proofs.board.regions.other_points.Goals as goal
+
+pub loop-row-preserved : goal.loop-row-preserved
+loop-row-preserved c =
+    let l = c.loop-row in
+    others_more (length c.args.rows.now) c.args.rows.now l.others l.row c.other_columns.result (omega (arith, c.loop-row-test.true, l.auto.others, c.requires.same)) l.invariant c.other_columns.ensures.within c.other_columns.ensures.off
+
+pub returns : goal.returns
+returns c =
+    let l = c.loop-row in
+    AreRowsOf-others c.args.rows.now l.others (l.auto.others ∙ c.requires.same)
+    (λ r below. l.invariant r (omega (arith, below, c.loop-row-test.false)))
