@@ -1,15 +1,22 @@
 -- proofs/ChangesLemmas.antt
 -- Changes that lead back from one grid to another.
 use Rattle.std.proofs.Common.{◌≡◌, ℕ, ◌+◌, ◌<◌, ◌≤◌, List, [], ◌∷◌, ◌++◌, length, get_or, set, take, drop, slice_range, refl, sym, ap, ◌∙◌, arith, append_assoc, length-append, length-take}
-use Rattle.std.proofs.lemmas.List.{take_more, drop_more, set_at, drop-append-le}
+use Rattle.std.proofs.lemmas.List.{set-set, set-get_or, take_more, drop_more, set_at, drop-append-le}
 use Rattle.std.proofs.lemmas.List.Elements.{All-push}
 use Rattle.go_board.specs.declared.stones.Cell.{Cell}
-use Rattle.go_board.specs.declared.stones.Cell.TheVariants.{Black}
+use Rattle.go_board.specs.declared.stones.Cell.TheVariants.{Black, Empty}
 use Rattle.go_board.specs.declared.past.changes.Change.{Change}
+use Rattle.go_board.specs.declared.points.Point.{Point}
 use Rattle.go_board.specs.Point.{IsOn, index_of}
-use Rattle.go_board.specs.Grid.{Grid, with_cell}
+use Rattle.go_board.specs.Grid.{Grid, cell_at, with_cell}
 use Rattle.go_board.specs.inner.Changes.{after_changes, LeadsBack}
 use Rattle.go_board.proofs.RangeLemmas.{front-range, back-range}
+
+-- a point coloured anew and then as it was
+pub with_cell-back : (g : Grid) (p : Point) (c : Cell) → with_cell (with_cell g p c) p (cell_at g p) ≡ g
+with_cell-back g p c =
+    ap (λ (cs : List Cell). record { side = g.side; cells = cs })
+    (set-set g.cells (index_of g.side p) c (cell_at g p) ∙ set-get_or g.cells (index_of g.side p) Empty)
 
 -- the last of the changes comes last
 pub after-push : (g : Grid) (cs : List Change) (c : Change) → after_changes g (cs ++ c ∷ []) ≡ with_cell (after_changes g cs) c.point c.cell

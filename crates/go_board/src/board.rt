@@ -17,7 +17,7 @@ ghost use Rattle.go_board.specs.declared.stones.Cell.TheVariants.{Empty};
 
 use crate::board::regions::{count_apart, no_rows};
 use crate::past::print::{print_of, print_with};
-use crate::points::Point;
+use crate::points::{FIRST, Point};
 use crate::size::{MAX_POINTS, Size};
 use crate::stones::{Cell, Colour};
 use std::marker::Model;
@@ -33,6 +33,8 @@ pub struct Board {
     /// The print of the colouring, where it is known.
     print: u64,
     printed: bool,
+    /// The point that was set last: a hint, for one who looks for what changed.
+    last: Point,
 }
 
 impl Model for Board {
@@ -84,6 +86,7 @@ impl Board {
             settled: true,
             print: 0,
             printed: true,
+            last: FIRST,
         }
     }
 
@@ -120,6 +123,7 @@ impl Board {
         self.print = print_with(self.print, &self.cells[..points], index, cell);
         self.cells[index] = cell;
         self.settled = false;
+        self.last = point;
     }
 
     /// Colours every point: cells are the points row by row from the top, from left to right.
@@ -149,6 +153,7 @@ impl Board {
             settled: self.settled,
             print: self.print,
             printed: self.printed,
+            last: self.last,
         }
     }
 
@@ -176,6 +181,18 @@ impl Board {
         ensures { self.new ≡ self.old }
     {
         self.settled = settled;
+    }
+
+    /// A point of the board on which something may have changed last. It is a hint: nothing is known of it.
+    pub(crate) fn last_set(&self) -> Point
+        ensures { IsOn self.now.side result }
+    {
+        let side = self.size.side();
+        if self.last.col < side && self.last.row < side {
+            self.last
+        } else {
+            FIRST
+        }
     }
 
     /// The print of the colouring: kept where points are set one by one, else worked out from all points.

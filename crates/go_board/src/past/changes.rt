@@ -1,7 +1,8 @@
 //! Past colourings: the newest whole, and of each older one the changes that lead back to it.
 
-ghost use Rattle.std.specs.Prelude.{◌≡◌, ◌+◌, ◌-◌, ◌*◌, ◌<◌, ◌≤◌, length, take, drop, IfOk, OnOk, OnErr};
+ghost use Rattle.std.specs.Prelude.{◌≡◌, ◌+◌, ◌-◌, ◌*◌, ◌<◌, ◌≤◌, IsTrue, IsFalse, length, take, drop, IfOk, OnOk, OnErr};
 ghost use Rattle.go_board.specs.Point.{IsOn, index_of};
+ghost use Rattle.go_board.specs.Grid.{cell_at, with_cell};
 ghost use Rattle.go_board.specs.inner.Changes.{after_changes, AreOn, LeadsBack};
 
 use crate::board::Board;
@@ -40,12 +41,59 @@ pub(crate) fn take_back(board: &mut Board, changes: &[Change])
     }
 }
 
-/// Adds changes that lead back from the new board to the old one, and tells how many.
-pub(crate) fn lead_back(
-    old: &Board,
+/// Gives a board the colouring of another one, and adds changes that lead back; tells how many.
+pub(crate) fn follow(
+    board: &mut Board,
     new: &Board,
     changes: &mut Vec<Change>,
 ) -> Result<u16, MemoryFault>
+    requires side { board.old.side ≡ new.now.side }
+    requires on_grid { AreOn board.old.side changes.old.items }
+    ensures there { OnOk result (board.new ≡ new.now) }
+    ensures count { IfOk result (λ count. count ≤ length changes.new.items) }
+    ensures back { IfOk result (λ count.
+        after_changes new.now (drop (length changes.new.items - count) changes.new.items) ≡ board.old) }
+    ensures front { IfOk result (λ count.
+        take (length changes.new.items - count) changes.new.items ≡ changes.old.items) }
+    ensures on_grid { OnOk result (AreOn board.old.side changes.new.items) }
+    ensures err { OnErr result (board.new ≡ board.old) }
+    ensures err_changes { OnErr result (changes.new.items ≡ changes.old.items) }
+{
+    changes.reserve(1)?;
+    let point = new.last_set();
+    let cell = board.at(point);
+    // mostly a stone was placed and nothing captured: then the boards are the same but for that point
+    if follow_at(board, new, point) {
+        changes.push(Change { point, cell }).unwrap();
+        return Ok(1);
+    }
+    let count = lead_back(board, new, changes)?;
+    board.copy_from(new);
+    Ok(count)
+}
+
+/// Gives a board the colouring of another one, if the two are the same but for one point. If not, nothing is changed.
+fn follow_at(board: &mut Board, new: &Board, point: Point) -> bool
+    requires side { board.old.side ≡ new.now.side }
+    requires on_board { IsOn board.old.side point }
+    ensures there { IsTrue result → board.new ≡ new.now }
+    ensures back { IsTrue result → with_cell new.now point (cell_at board.old point) ≡ board.old }
+    ensures unchanged { IsFalse result → board.new ≡ board.old }
+{
+    let settled = board.is_settled();
+    let cell = board.at(point);
+    board.set(point, new.at(point));
+    if board.same(new) {
+        board.restore_settled(new.is_settled());
+        return true;
+    }
+    board.set(point, cell);
+    board.restore_settled(settled);
+    false
+}
+
+/// Adds changes that lead back from the new board to the old one, and tells how many.
+fn lead_back(old: &Board, new: &Board, changes: &mut Vec<Change>) -> Result<u16, MemoryFault>
     requires side { old.now.side ≡ new.now.side }
     requires on_grid { AreOn old.now.side changes.old.items }
     ensures count { IfOk result (λ count. count ≤ length changes.new.items) }

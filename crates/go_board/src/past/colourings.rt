@@ -5,7 +5,7 @@ ghost use Rattle.go_board.specs.Past.{Held, newest, present_stretch, HaveSide};
 
 use crate::board::Board;
 use crate::fault::MemoryFault;
-use crate::past::changes::{Change, Older, lead_back, take_back};
+use crate::past::changes::{Change, Older, follow, take_back};
 use std::alloc::Global;
 use std::marker::Model;
 
@@ -97,14 +97,14 @@ impl Colourings {
     {
         let since = next_since(self.since, begins)?;
         self.older.reserve(1)?;
-        let changes = lead_back(&self.newest, board, &mut self.changes)?;
+        let settled = self.newest.is_settled();
+        let changes = follow(&mut self.newest, board, &mut self.changes)?;
         let kept = Older {
             since: self.since,
             changes,
-            settled: self.newest.is_settled(),
+            settled,
         };
         self.older.push(kept).unwrap();
-        self.newest.copy_from(board);
         self.since = since;
         Ok(())
     }
