@@ -2,7 +2,7 @@
 -- Ranges of two lists that are the same.
 use Rattle.std.proofs.Common.{◌≡◌, ℕ, ◌+◌, ◌-◌, ◌<◌, ◌≤◌, List, [], ◌∷◌, ◌++◌, length, get_or, take, drop, slice_range, sym, ap, ◌∙◌, arith, rules, length-take}
 use Rattle.std.proofs.Math.Seq.{take-append_seam, get_or-append_seam}
-use Rattle.std.proofs.lemmas.List.{places, take-append-drop, take-take, drop-drop, drop_more, drop-append-le}
+use Rattle.std.proofs.lemmas.List.{places, take_all, take-append-drop, take-take, drop-drop, drop_more, drop-append-le}
 use Rattle.std.proofs.lemmas.Slice.{between_is}
 
 module _ {X : Type 0} (xs : List X) where
@@ -66,3 +66,7 @@ last-same xs ys a i d h in_xs in_ys same =
     ∙ ap (λ n. get_or (slice_range xs a i ++ get_or xs i d ∷ []) n d) (one ∙ sym other)
     ∙ ap (λ l. get_or l (length (slice_range ys a i)) d) whole
     ∙ get_or-append_seam (slice_range ys a i) (get_or ys i d) [] d
+
+-- all of a list
+pub whole-range : {X : Type 0} (xs : List X) (n : ℕ) → length xs ≤ n → slice_range xs 0 n ≡ xs
+whole-range xs n all = sym (front-range xs 0 n (omega arith)) ∙ take_all n xs all

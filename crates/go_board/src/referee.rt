@@ -19,6 +19,9 @@ pub use plays::{Play, SetupOp};
 use std::alloc::Global;
 use std::marker::Model;
 
+/// How many earlier states a new referee has room for.
+const FIRST_STATES: usize = 64;
+
 /// A referee of one game. It is seen as the list of the states that the game was in: the present one, and before it one
 /// for each accepted setup or turn that wasn't taken back. After a refusal it is unchanged.
 #[derive(Drop)]
@@ -66,7 +69,7 @@ impl<P: Past> Referee<P> {
             player: Some(Colour::Black),
             passes: 0,
             turns: 0,
-            earlier: Vec::new(alloc),
+            earlier: Vec::with_capacity(alloc, FIRST_STATES)?,
         })
     }
 

@@ -7,7 +7,7 @@ ghost use Rattle.go_board.specs.inner.Changes.{after_changes, AreOn, LeadsBack};
 
 use crate::board::Board;
 use crate::fault::MemoryFault;
-use crate::past::differences::next_difference;
+use crate::past::differences::{are_same, next_difference};
 use crate::points::Point;
 use crate::size::Size;
 use crate::stones::Cell;
@@ -83,7 +83,7 @@ fn follow_at(board: &mut Board, new: &Board, point: Point) -> bool
     let settled = board.is_settled();
     let cell = board.at(point);
     board.set(point, new.at(point));
-    if board.same(new) {
+    if are_same(board.cells(), new.cells()) {
         board.restore_settled(new.is_settled());
         return true;
     }

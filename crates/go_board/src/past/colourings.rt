@@ -9,6 +9,9 @@ use crate::past::changes::{Change, Older, follow, take_back};
 use std::alloc::Global;
 use std::marker::Model;
 
+/// How many older colourings a new past has room for.
+const FIRST_OLDER: usize = 64;
+
 /// The colourings of a past. They are numbered from 0, the oldest, in the order in which they were added.
 #[derive(Drop)]
 pub(crate) struct Colourings {
@@ -37,15 +40,15 @@ impl Model for Colourings {
 
 impl Colourings {
     /// That one colouring, which begins a stretch.
-    pub(crate) fn new(alloc: Global, board: &Board) -> Colourings
-        ensures { result ≡ record { colouring = board.now; begins = true } ∷ [] }
+    pub(crate) fn new(alloc: Global, board: &Board) -> Result<Colourings, MemoryFault>
+        ensures { IfOk result (λ past. past ≡ record { colouring = board.now; begins = true } ∷ []) }
     {
-        Colourings {
+        Ok(Colourings {
             newest: board.copy(),
             since: 0,
-            older: Vec::new(alloc),
-            changes: Vec::new(alloc),
-        }
+            older: Vec::with_capacity(alloc, FIRST_OLDER)?,
+            changes: Vec::with_capacity(alloc, FIRST_OLDER)?,
+        })
     }
 
     /// The newest colouring.

@@ -40,7 +40,7 @@ impl Past for PrintPast {
 
     fn new(alloc: Global, board: &Board) -> Result<PrintPast, MemoryFault> {
         Ok(PrintPast {
-            colourings: Colourings::new(alloc, board),
+            colourings: Colourings::new(alloc, board)?,
             prints: Table::new(alloc, board.print())?,
         })
     }

@@ -10,6 +10,9 @@ use std::marker::Model;
 /// How many heads the table of a new past has.
 const FIRST_HEADS: usize = 128;
 
+/// How many prints a new past has room for.
+const FIRST_PRINTS: usize = 64;
+
 /// Prints, oldest first. Those with one key, the low bits of a print, are linked from the newest to the oldest. There
 /// are at least half as many keys as prints, once there are many.
 #[derive(Drop)]
@@ -49,8 +52,8 @@ impl Table {
     {
         Ok(Table {
             heads: no_heads(alloc, FIRST_HEADS)?,
-            prints: Vec::new(alloc),
-            links: Vec::new(alloc),
+            prints: Vec::with_capacity(alloc, FIRST_PRINTS)?,
+            links: Vec::with_capacity(alloc, FIRST_PRINTS)?,
         })
     }
 

@@ -2,15 +2,18 @@
 use Rattle.std.proofs.Common.{◌≡◌, sym, ap, ◌∙◌}
 use Rattle.go_board.specs.Grid.{Grid, cell_at, with_cell}
 use Rattle.go_board.specs.Clearing.{has_unreaching}
+use Rattle.go_board.proofs.GridLemmas.{same_grid}
 use Rattle.go_board.proofs.ChangesLemmas.{with_cell-back}
 use Rattle.go_board.proofs.past.changes.follow_at.Goals as goal
 
-pub returns-then-same-clause-back : goal.returns-then-same-clause-back
-returns-then-same-clause-back c =
+pub returns-then-are_same-clause-back : goal.returns-then-are_same-clause-back
+returns-then-are_same-clause-back c =
     λ _.
     let g = c.args.board.now in
     let p = c.args.point in
-    ap (λ (h : Grid). with_cell h p (cell_at g p)) (sym (c.same.ensures.0 c.if-same.true) ∙ c.set.ensures)
+    let cells : c.set.new.self.cells ≡ c.args.new.now.cells = sym c.cells.ensures.cells ∙ c.are_same.ensures.0 c.if-are_same.true ∙ c.cells-2.ensures.cells in
+    let side : c.set.new.self.side ≡ c.args.new.now.side = ap (λ (h : Grid). h.side) c.set.ensures ∙ c.requires.side in
+    ap (λ (h : Grid). with_cell h p (cell_at g p)) (sym (same_grid c.set.new.self c.args.new.now side cells) ∙ c.set.ensures)
     ∙ with_cell-back g p c.at.result
 
 back : (c : goal.After-restore_settled-arg-2-1) → c.set-2.new.self ≡ c.args.board.now
