@@ -21,10 +21,16 @@
 //! | `values` | the points and rectangles that SGF property values name |
 //! | `vertices` | points as the Go Text Protocol writes them |
 //! | `marks`, `steps` | a set of points of a board; a count of work |
-//! | `board` | the board: reading, setting, moves, score; below it the flood, its worklist, captures, passes over all points, areas |
-//! | `past` | the colourings that a game has been through; below it the plain past, which keeps all of them whole, and the past with prints |
+//! | `board` | the board: reading, setting, moves, score |
+//! | `board/flood`, `board/search` | the flood that counts its steps, and its worklist |
+//! | `board/capture`, `board/sweep` | groups without a liberty taken off one at a time; passes over all points |
+//! | `board/regions`, `board/fill` | sets of points as rows of bits, and filling these, for the score |
+//! | `board/areas` | colouring areas |
+//! | `past` | the colourings that a game has been through; `past/list_past` and `past/print_past` keep them |
+//! | `past/colourings`, `past/changes`, `past/differences` | past colourings as changes that lead back |
+//! | `past/print`, `past/table` | the print of a colouring, and `past/print/powers` for it; prints looked up by a table |
 //! | `reason`, `fault` | why a turn, or a node of a game record, isn't allowed; the errors |
-//! | `referee` | setups, turns and undo by the rules |
+//! | `referee` | the referee and undo; `referee/plays`, `referee/setup`, `referee/turn` and `referee/earlier` below it |
 //! | `laws` | what the words of the contracts mean |
 //!
 //! A point *reaches* a colour where a path of adjacent points of the point's own colour leads from it to a point of that

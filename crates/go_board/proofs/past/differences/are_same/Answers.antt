@@ -1,5 +1,5 @@
 -- proofs/past/differences/are_same/Answers.antt
-use Rattle.std.proofs.Common.{◌≡◌, ◌==◌, true, get_or, inl, inr, length, sym, ap, ◌∙◌, arith}
+use Rattle.std.proofs.Common.{◌≡◌, get_or, inl, inr, length, sym, ap, ◌∙◌, arith}
 use Rattle.std.proofs.lemmas.Bool.{eqb-true}
 use Rattle.std.proofs.lemmas.Bool.Decides.{eqb_tells}
 use Rattle.go_board.specs.declared.stones.Cell.TheVariants.{Empty}

@@ -1,5 +1,5 @@
 -- proofs/past/differences/is_same_chunk/Answers.antt
-use Rattle.std.proofs.Common.{◌≡◌, ◌<◌, length, ◌+◌, ◌∙◌, sym, get_or, arith}
+use Rattle.std.proofs.Common.{◌≡◌, ◌<◌, length, ◌+◌, ◌∙◌, sym, arith}
 use Rattle.std.proofs.lemmas.Bool.{and_parts, and_from}
 use Rattle.go_board.specs.declared.stones.Cell.TheVariants.{Black}
 use Rattle.go_board.proofs.RangeLemmas.{same-more, range-less, last-same}
