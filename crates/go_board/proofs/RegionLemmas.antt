@@ -163,16 +163,9 @@ not_black Black = refl
 not_black White = refl
 not_black Empty = refl
 
-pub one_twice : (c k : Cell) → same_cell c k ≡ is_either c k k
-one_twice Black Black = refl
-one_twice Black White = refl
-one_twice Black Empty = refl
-one_twice White Black = refl
-one_twice White White = refl
-one_twice White Empty = refl
-one_twice Empty Black = refl
-one_twice Empty White = refl
-one_twice Empty Empty = refl
+one_twice : (b : Bool) → b ≡ (b || b)
+one_twice true = refl
+one_twice false = refl
 
 same_bools : (a b : Bool) → (a ≡ true → b ≡ true) → (b ≡ true → a ≡ true) → a ≡ b
 same_bools true b there back = sym (there refl)
@@ -195,7 +188,7 @@ module _ (g h : Grid) (wanted other : Cell) (apart : (c : Cell) → not (same_ce
   pub seed_is : AreRowsOf g.side (λ p. is_either (cell_at g p) wanted wanted) rows
   seed_is =
       subst (λ (x : Grid). AreRowsOf x.side (λ p. is_either (cell_at x p) wanted wanted) rows) same
-      (AreRowsOf-same h.side _ _ rows (λ p on. one_twice (cell_at h p) wanted) is_wanted)
+      (AreRowsOf-same h.side _ _ rows (λ p on. one_twice (same_cell (cell_at h p) wanted)) is_wanted)
 
   pub room_is : AreRowsOf g.side (λ p. is_either (cell_at g p) Empty wanted) room
   room_is =

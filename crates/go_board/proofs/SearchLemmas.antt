@@ -92,14 +92,6 @@ with_found-new s p not_yet = rw not_yet
 pub with_found-old : (s : Searched) (p : Point) → is_marked s.marking p ≡ true → with_found s p ≡ s
 with_found-old s p before = rw before
 
--- a point found takes the room of one
-found_room : (room more : ℕ) (s : Searched) (p : Point) (b : Bool) → is_marked s.marking p ≡ b → HasRoom room (more + 1) s → HasRoom room more (with_found s p)
-found_room room more s p true e (inl all) = subst (λ t. HasRoom room more t) (sym (with_found-old s p e)) (inl all)
-found_room room more s p true e (inr left) = subst (λ t. HasRoom room more t) (sym (with_found-old s p e)) (inr (omega arith))
-found_room room more s p false e (inl all) = subst (λ t. HasRoom room more t) (sym (with_found-new s p e)) (inl all)
-found_room room more s p false e (inr left) =
-    subst (λ t. HasRoom room more t) (sym (with_found-new s p e)) (inr (omega (arith, length_push s.found p)))
-
 pub HasRoom-less : (room more : ℕ) (s : Searched) → HasRoom room (more + 1) s → HasRoom room more s
 HasRoom-less room more s (inl all) = inl all
 HasRoom-less room more s (inr left) = inr (omega arith)
