@@ -119,6 +119,17 @@ def equal_keys(size):
     return "".join(text) + ")"
 
 
+def searches(size):
+    """One line of moves on side 52: Black fills a hole of two points in a great white group whose one eye is far away, which is suicide
+    every second time, and White counts beside it."""
+    white = [[point(col, y) for y in (row, row + 1) for col in range(40, 52)] for row in range(0, 51, 3)]
+    black_walls = ["Ma:NZ"] + [f"{LETTERS[40]}{LETTERS[row]}:Z{LETTERS[row]}" for row in range(2, 51, 3)]
+    front = "(;SZ[52]AW[aa:LZ]AE[aa]AE[JY:KY]AB" + "".join(f"[{area}]" for area in black_walls) + "PL[B]"
+    whites = counting(white)
+    count = (size - len(front) - 1) // 24
+    return front + "".join(f";B[JY];W[{next(whites)}];B[KY];W[{next(whites)}]" for _ in range(count)) + ")"
+
+
 def fan(count):
     """A long line that very many variations share."""
     return "(;" + ";C[x]" * count + "(;)" * count + ")"
@@ -132,6 +143,7 @@ def comb(count):
 INPUTS = {
     # name: what it is, its text, the forms whose output isn't out of proportion
     "spaces": ("white space after a game", lambda n: repeated(n, "(;)", " ", ""), FORMS),
+    "unclosed": ("games that aren't closed", lambda n: repeated(n, "", "(;", ""), ["list", "count"]),
     "deep100k": ("nesting of 100,000", lambda n: nested(300_000, "(;"), FORMS),
     "deep": ("nesting", lambda n: nested(n, "(;"), FORMS),
     "wide100k": ("100,000 variations of one node", lambda n: repeated(300_002, "(;", "(;)", ")"), FORMS),
@@ -151,6 +163,9 @@ INPUTS = {
     "long19": ("one line of moves on side 19, one stretch", lambda n: long_line(n, 19), FORMS),
     "long52": ("one line of moves on side 52, one stretch", lambda n: long_line(n, 52), FORMS),
     "keys": ("the same, made against the table of the past", equal_keys, ["list", "count"]),
+    "searches": ("moves beside a group of 1,900 stones with one far liberty", searches, ["list", "count"]),
+    "captures": ("variations that capture 2,703 stones", lambda n: repeated(n, "(;SZ[52]AW[aa:ZZ]AE[aa]PL[B]", "(;B[aa])", ")"), ["list", "count"]),
+    "boards": ("variations that set a board of 52 up", lambda n: repeated(n, "(;SZ[52]", "(;AB[aa:ZZ])", ")"), ["list", "count"]),
     "setups": ("whole boards of 52 set up in turn", lambda n: repeated(n, "(;SZ[52]", ";AB[aa:ZZ];AE[aa:ZZ]", ")"), FORMS),
     "passes": ("passes, and a setup after each two", lambda n: repeated(n, "(", ";B[];W[];AE[aa]", ")"), FORMS),
     "script": ("setups of one point on a full board of 25", lambda n: repeated(n // 64, "(;SZ[25]AB[aa:yx]", ";AB[aa]", ")"), FORMS),

@@ -4,4 +4,4 @@
 set -eu
 apt-get update
 apt-get install -y --no-install-recommends \
-    make perl python3 bash gzip binutils dpkg mandoc gnugo parallel sgf2dg libpostscript-file-perl time valgrind
+    make gcc libc6-dev perl python3 bash gzip binutils dpkg mandoc gnugo parallel sgf2dg libpostscript-file-perl time valgrind

@@ -77,6 +77,7 @@ for short in SHORT_READS SHORT_WRITES; do
     done
 done
 printf '(;SZ[3](;B[aa])(;B[bb];W[aa]))' > input.sgf
+each two REFUSE_MEMORY 4 "$memory" "$nl" split
 export SHORT_READS=1
 each bytes REFUSE_READ 3 'read failed' '' split
 each 'counted bytes' REFUSE_READ 3 'read failed' '' count

@@ -26,7 +26,7 @@ pub fn calls(alloc: Global, seen: &mut Seen) -> Result<(), Wrong> {
     for calls in 0..TWO.len() + 2 {
         source_fails(alloc, calls, seen)?;
     }
-    for step in [1, 7] {
+    for step in [1, 7, 64] {
         for room in 0..LENGTH + 1 {
             sink_fails(alloc, step, room, seen)?;
         }
