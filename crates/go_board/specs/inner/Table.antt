@@ -1,11 +1,20 @@
 -- specs/inner/Table.antt
 -- A list of prints, oldest first, in which those with one key are linked. A number in a link or a head is one more than
 -- an index; 0 stands for none.
-use Rattle.std.specs.Prelude.{◌≡◌, ◌≢◌, ℕ, ◌-◌, ◌<◌, ◌≤◌, Option, Some, None, List, length, slice_index, bit_and}
+use Rattle.std.specs.Prelude.{◌≡◌, ◌≢◌, ℕ, ◌-◌, ◌*◌, ◌/◌, ◌%◌, ◌^◌, ◌<◌, ◌≤◌, Option, Some, None, List, length, slice_index, bit_and, bit_xor}
+
+-- a number of 64 bits whose low half hangs on all bits of another one
+abbrev pub folded : ℕ → ℕ
+folded n = bit_xor n (n / 2 ^ 32)
+
+-- A print is linear in the cells, so that moves can be chosen whose prints have the same low bits. Its key hangs on all bits of it, and
+-- isn't linear.
+abbrev pub mixed : ℕ → ℕ
+mixed print = folded (folded print * 15485907386658061715 % 2 ^ 64)
 
 -- a print's key in a table of that many heads
 abbrev pub key_of : ℕ → ℕ → ℕ
-key_of size print = bit_and print (size - 1)
+key_of size print = bit_and (mixed print) (size - 1)
 
 -- the number of the newest of the first n prints that has the key
 pub record IsNewest (size : ℕ) (prints : List ℕ) (n key number : ℕ) : Type 0 where

@@ -1,7 +1,7 @@
 //! A list of prints in which one print is found without a look at most of the others.
 
 ghost use Rattle.std.specs.Prelude.{◌≡◌, ◌+◌, ◌<◌, ◌≤◌, ◌^◌, [], ◌∷◌, ◌++◌, IfOk, OnOk, OnErr, length, replicate};
-ghost use Rattle.go_board.specs.inner.Table.{key_of, AreLinked, IsLastOf};
+ghost use Rattle.go_board.specs.inner.Table.{key_of, mixed, folded, AreLinked, IsLastOf};
 
 use crate::fault::MemoryFault;
 use std::alloc::Global;
@@ -13,7 +13,10 @@ const FIRST_HEADS: usize = 128;
 /// How many prints a new past has room for.
 const FIRST_PRINTS: usize = 64;
 
-/// Prints, oldest first. Those with one key, the low bits of a print, are linked from the newest to the oldest. There
+/// An odd number with many bits set, which spreads the bits of a print upwards.
+const MIXER: u64 = 0xd6e8_feb8_6659_fd93;
+
+/// Prints, oldest first. Those with one key are linked from the newest to the oldest. There
 /// are at least half as many keys as prints, once there are many.
 #[derive(Drop)]
 pub(crate) struct Table {
@@ -141,7 +144,22 @@ fn key_of(heads: usize, print: u64) -> usize
     ensures value { result ≡ key_of heads print }
     ensures within { result < heads }
 {
-    print as usize & (heads - 1)
+    mixed(print) as usize & (heads - 1)
+}
+
+/// A number that hangs on all bits of a print, and isn't linear in them: prints are linear in the cells, so moves can be
+/// chosen whose prints have the same low bits, and each look at the table would then go over all of them.
+fn mixed(print: u64) -> u64
+    ensures { result ≡ mixed print }
+{
+    folded(folded(print).wrapping_mul(MIXER))
+}
+
+/// A number whose low half hangs on all bits of another one.
+fn folded(number: u64) -> u64
+    ensures { result ≡ folded number }
+{
+    number ^ (number >> 32)
 }
 
 /// Heads of keys that no print has.
