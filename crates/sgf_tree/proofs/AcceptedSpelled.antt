@@ -1,10 +1,9 @@
 -- What the machine accepts, the text spells.
-use Rattle.std.proofs.Common.{◌≡◌, ℕ, ◌+◌, List, [], ◌∷◌, ◌++◌, length, Some, sym, subst, ◌∙◌, append-nil, arith}
+use Rattle.std.proofs.Common.{◌≡◌, ℕ, ◌+◌, List, [], ◌∷◌, ◌++◌, length, Some, sym, subst, append-nil, arith}
 use Rattle.std.proofs.lemmas.Option.{none-some, same_Some, option_and_then_some}
 use Rattle.sgf_tree.specs.Tree.{Games, no_games, game}
 use Rattle.sgf_tree.specs.Spelling.{no_white, no_game, Spells, spells}
 use Rattle.sgf_tree.specs.inner.Machine.{OpenGame, MachineState, start, after_game, whole_games, step, run, accepted, collection_of}
-use Rattle.sgf_tree.proofs.Run.{collection-run}
 use Rattle.sgf_tree.proofs.Transitions.{takes}
 use Rattle.sgf_tree.proofs.Completion.{followed-none, Rest, ends, Completes}
 use Rattle.sgf_tree.proofs.Prepending.{prepend}
@@ -46,7 +45,3 @@ unfolding collection_of
 accepted-spelled c t e =
     option_and_then_some accepted (run 0 start t) c e (λ z h a.
     subst (Spells c) (append-nil t) (completed-spells c t [] z h (accepted-completes (length (t ++ [])) c z a)))
-
--- a text that is taken to a state where it may end
-pub run-spelled : (c : Games) (t : List ℕ) (z : MachineState) → run 0 start t ≡ Some z → accepted z ≡ Some c → Spells c t
-run-spelled c t z h a = accepted-spelled c t (collection-run t z h ∙ a)

@@ -1,12 +1,12 @@
 -- What the flat vectors of a collection say of its nodes.
 use Rattle.std.proofs.Common.{◌≡◌, ℕ, zero, suc, ◌+◌, ◌-◌, ◌<◌, ◌≤◌, List, [], ◌∷◌, length, map, get_or, drop, All, slice_get, Option, Some, None, option_map, refl, vec_len, sym, ap, subst, ◌∙◌, arith}
-use Rattle.std.proofs.lemmas.List.{get_or_default, length-map}
+use Rattle.std.proofs.lemmas.List.{drop-drop, get_or_default, length-map}
 use Rattle.std.proofs.lemmas.Option.{slice_get-get_or, slice_get-map}
 use Rattle.sgf_tree.specs.declared.fault.TheConstants.{MAX_LENGTH}
 use Rattle.sgf_tree.specs.Tree.{Node, Games, node_count}
 use Rattle.sgf_tree.specs.Spelling.{Spells, AreProperties}
-use Rattle.sgf_tree.specs.inner.NodeText.{properties_in, ArePropertiesIn}
-use Rattle.sgf_tree.specs.FileOrder.{Row, rows_of, node_at, place_at, parent_at, game_of, IsLeaf, IsLastBelow, PlacesRise}
+use Rattle.sgf_tree.specs.inner.NodeText.{properties_in, ArePropertiesIn, IsNodeIn}
+use Rattle.sgf_tree.specs.FileOrder.{Row, rows_of, node_at, place_at, parent_at, game_of, IsLastBelow, PlacesRise}
 use Rattle.sgf_tree.specs.inner.Layout.{games_in, Outline, outline, outline_by, outlines_by, parent_by, IsLaidOut}
 use Rattle.sgf_tree.specs.declared.collection.Collection.TheInside.{Inside}
 use Rattle.sgf_tree.specs.declared.layout.Link.{Link}
@@ -16,7 +16,7 @@ use Rattle.sgf_tree.proofs.Flat.{length-outlines_by, outlines_by-at}
 use Rattle.sgf_tree.proofs.NodesSpelled.{IsNodeSpelled, rows-spelled}
 use Rattle.sgf_tree.proofs.NodeTexts.{properties-in}
 use Rattle.sgf_tree.proofs.PlacesRise.{places-rise}
-use Rattle.sgf_tree.proofs.Rows.{length-rows_of, parent_at-lt, parent_at-next, parent_at-within, game_of-parent}
+use Rattle.sgf_tree.proofs.Rows.{length-rows_of, parent_at-lt, game_of-parent}
 
 -- the fields lay the collection out
 abbrev Holds : Inside → Type 0
@@ -81,20 +81,6 @@ module _ (s : Inside) (held : Holds s) (g : Games) (is : games_in s.text.now ≡
   last-held i x h e =
       subst (λ c. IsLastBelow c i x.last_below) is (held.last_known i x (slice_get-get_or s.nodes.items i x (omega (arith, s.nodes.ok.0, count-held)) ∙ ap Some (sym e)))
 
-  -- the last node is a leaf
-  pub last-is-leaf : (i : ℕ) → i + 1 ≡ vec_len s.nodes → IsLeaf g i
-  last-is-leaf i h j p =
-      let next : parent_at g (suc i) ≡ Some (Some i) = parent_at-next g j i p in
-      omega (arith, count-held, length-rows_of g, parent_at-within g (suc i) (Some i) next)
-
-  -- another node is one where the next has another parent
-  pub leaf-held : (i : ℕ) (p : Option ℕ) → parent_at g (i + 1) ≡ Some p → ¬ (p ≡ Some i) → IsLeaf g i
-  leaf-held i p h ne j q =
-      let next : parent_at g (suc i) ≡ Some (Some i) = parent_at-next g j i q in
-      let e : i + 1 ≡ suc i = omega arith in
-      let here : parent_at g (suc i) ≡ Some p = rw e at h in
-      ne (cc)
-
   pub places-held : (i p : ℕ) → place_at g i ≡ Some p → p < MAX_LENGTH
   places-held i p h =
       let within : i < node_count g = omega (arith, option_map-within (λ (r : Row). r.node.place) (rows_of g) i p h, length-rows_of g) in
@@ -128,14 +114,20 @@ module _ (s : Inside) (held : Holds s) (g : Games) (is : games_in s.text.now ≡
 
   -- what a reference to it holds
   pub node-held : (i : ℕ) (x : NodeEntry) → i < node_count g → x ≡ get_or s.nodes.items i x
-      → (node_at g i ≡ Some (record { place = x.place; properties = properties_in (drop (x.place + 1) s.text.now) }))
-      × ArePropertiesIn (drop (x.place + 1) s.text.now)
+      → (node_at g i ≡ Some (record { place = x.place; properties = properties_in (drop 1 (drop x.place s.text.now)) }))
+      × IsNodeIn (drop x.place s.text.now)
   node-held i x h e =
+      let after : drop 1 (drop x.place s.text.now) ≡ drop (x.place + 1) s.text.now = drop-drop 1 x.place s.text.now in
       let at = spelled-at i x (slice_get (rows_of g) i) refl h e in
       let n : Node = at.0 in
       let spelled : AreProperties n.properties (drop (x.place + 1) s.text.now) at.3.rest =
       subst (λ p. AreProperties n.properties (drop (p + 1) s.text.now) at.3.rest) at.2 at.3.spelled in
       let own : properties_in (drop (x.place + 1) s.text.now) ≡ n.properties = properties-in spelled at.3.ends in (
-        at.1 ∙ ap (λ p. Some (record { place = p; properties = n.properties })) at.2 ∙ ap (λ ps. Some (record { place = x.place; properties = ps })) (sym own),
-        record { properties = n.properties; rest = at.3.rest; spelled = spelled; ends = at.3.ends },
+        at.1 ∙ ap (λ p. Some (record { place = p; properties = n.properties })) at.2
+            ∙ ap (λ ps. Some (record { place = x.place; properties = ps })) (sym own ∙ ap properties_in (sym after)),
+        record {
+          begins = subst (λ p. drop p s.text.now ≡ 59 ∷ drop (p + 1) s.text.now) at.2 at.3.begins ∙ ap (λ u. 59 ∷ u) (sym after);
+          properties =
+              subst ArePropertiesIn (sym after) (record { properties = n.properties; rest = at.3.rest; spelled = spelled; ends = at.3.ends });
+        },
       )

@@ -18,6 +18,7 @@ pub mod LastBelow
 pub mod GamesLoop
 pub mod Marks
 pub mod WholeRead
+pub mod Leaves
 pub mod Held
 pub mod DecimalValue
 pub mod Appending

@@ -1,7 +1,7 @@
 -- Marking the own nodes of a game, from its last one back to its first.
-use Rattle.std.proofs.Common.{◌≡◌, ℕ, zero, suc, ◌+◌, ◌-◌, ◌<◌, ◌≤◌, true, false, inl, inr, List, [], ◌∷◌, ◌++◌, length, get_or, set, take, drop, map, replicate, slice_get, Option, Some, option_map, refl, sym, ap, subst, ◌∙◌, arith, append_assoc, append-nil}
+use Rattle.std.proofs.Common.{◌≡◌, ℕ, zero, suc, ◌+◌, ◌-◌, ◌<◌, ◌≤◌, true, false, inl, inr, List, [], ◌∷◌, ◌++◌, length, get_or, set, take, drop, map, replicate, slice_get, Option, Some, option_map, refl, sym, ap, subst, ◌∙◌, arith, append_assoc}
 use Rattle.std.proofs.lemmas.Bool.{cases_lt}
-use Rattle.std.proofs.lemmas.List.{length-map, length-take-le, map-set, set-get_or, set_at, take_more, take-append-drop}
+use Rattle.std.proofs.lemmas.List.{length-map, length-take-le, map-set, set-get_or, set_at, take_more}
 use Rattle.std.proofs.lemmas.Option.{slice_get-get_or}
 use Rattle.sgf_tree.specs.inner.Layout.{parent_by, opens_by}
 use Rattle.sgf_tree.specs.inner.GamesRead.{opens_at, IsOwnRun, unmarked, ClosesRun}
@@ -85,16 +85,6 @@ pub parent-link : (old new : List NodeEntry) (tip from at : ℕ) (x : NodeEntry)
 parent-link old new tip from at x l m lt e f =
     ap (option_map (λ (n : NodeEntry). parent_by n.link at)) (slice_get-get_or old at x lt)
     ∙ ap (λ k. Some (parent_by k at)) (sym (marks-link old new tip from at x m) ∙ ap (λ (n : NodeEntry). n.link) (sym e) ∙ f)
-
-pub marks-none : (old : List NodeEntry) (tip : ℕ) → Marks old old tip (tip + 1)
-marks-none old tip =
-    let e : tip + 1 - (tip + 1) ≡ 0 = omega arith in
-    record {
-      same = refl;
-      marked =
-          sym (ap (λ k. take (tip + 1) (map mark_of old) ++ replicate k (length old - 1) ++ drop (tip + 1) (map mark_of old)) e ∙ ap (λ ls. ls ++ drop (tip + 1) (map mark_of old)) (append-nil (take (tip + 1) (map mark_of old)))
-          ∙ take-append-drop (tip + 1) (map mark_of old));
-    }
 
 -- the game is closed once its first node is marked
 pub marks-closed : (old new : List NodeEntry) (tip first at : ℕ) (parent : Option ℕ) → IsOwnRun old first tip → first ≤ at → at ≤ tip → opens_at old at ≡ Some true

@@ -97,6 +97,7 @@ ends-nodes (nodes (node w h ps) ns) below x = ends-at 59 refl (λ e. absurd (ome
 module _ (t : List ℕ) where
   -- the properties of a node stand after its `;`
   pub record IsNodeSpelled (n : Node) : Type 0 where
+    pub begins : drop n.place t ≡ 59 ∷ drop (n.place + 1) t
     pub rest : List ℕ
     pub spelled : AreProperties n.properties (drop (n.place + 1) t) rest
     pub ends : EndsNode rest
@@ -106,7 +107,11 @@ module _ (t : List ℕ) where
       let after : IsEnd t u = tail (end-White w end) in
       let dropped = end-drop after in
       let at : place + 1 ≡ length t - length u = omega (arith, e) in
+      let here : place ≡ length t - length (59 ∷ u) = omega (arith, e) in
       record {
+        begins =
+            ap (λ k. drop k t) here ∙ (end-drop (end-White w end)).1
+            ∙ ap (λ x. 59 ∷ x) (sym dropped.1 ∙ ap (λ k. drop k t) (sym at));
         rest = r;
         spelled = subst (λ k. AreProperties ps (drop k t) r) (sym at) (subst (λ x. AreProperties ps x r) (sym dropped.1) ps_spelled);
         ends = ends;

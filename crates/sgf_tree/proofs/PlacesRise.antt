@@ -139,7 +139,3 @@ place_at-places c i =
 pub places-rise : (c : Games) (t : List ℕ) → Spells c t → PlacesRise c
 places-rise c t s i j p q h e f =
     rises-pair 0 (length t) (places c) i j p q (rises-spelled c t s) h (sym (place_at-places c i) ∙ e) (sym (place_at-places c j) ∙ f)
-
-pub places-within : (c : Games) (t : List ℕ) → Spells c t → (i p : ℕ) → place_at c i ≡ Some p → p < length t
-places-within c t s i p e =
-    (rises-get 0 (length t) (places c) i p (rises-spelled c t s) (sym (place_at-places c i) ∙ e)).1

@@ -1,6 +1,6 @@
 -- How the machine goes over one text and then another, and over one byte more.
-use Rattle.std.proofs.Common.{◌≡◌, ℕ, ◌+◌, ◌<◌, ◌≤◌, List, [], ◌∷◌, ◌++◌, length, get_or, take, drop, Option, Some, None, option_and_then, refl, sym, ap, ◌∙◌, add-zero, arith}
-use Rattle.std.proofs.lemmas.List.{take_more, length-take-le, take-append-drop, take_all}
+use Rattle.std.proofs.Common.{◌≡◌, ℕ, ◌+◌, ◌<◌, List, [], ◌∷◌, ◌++◌, length, get_or, take, drop, Option, Some, None, option_and_then, refl, sym, ap, ◌∙◌, add-zero, arith}
+use Rattle.std.proofs.lemmas.List.{take_more, length-take-le, take-append-drop}
 use Rattle.std.proofs.lemmas.Option.{option_and_then_some}
 use Rattle.sgf_tree.specs.inner.Machine.{MachineState, start, step, run, accepted, collection_of}
 
@@ -65,10 +65,6 @@ run-take-refused t at z h lt s = run-take-more t at z lt h ∙ s
 -- no byte has been read
 pub run-take-none : (t : List ℕ) → run 0 start (take 0 t) ≡ Some start
 run-take-none t = run-none 0 start
-
--- all bytes have been read
-pub run-take-all : (t : List ℕ) (at : ℕ) (z : MachineState) → length t ≤ at → run 0 start (take at t) ≡ Some z → run 0 start t ≡ Some z
-run-take-all t at z le h = rw (take_all at t le) at h
 
 -- a text that is refused stays so
 pub refused-front : (n : ℕ) (t : List ℕ) → run 0 start (take n t) ≡ None → run 0 start t ≡ None

@@ -72,42 +72,48 @@ span-at t end i le lt =
     rw get_or-take (get_or-drop end t (i - end) 0 ∙ ap (λ k. get_or t k 0) e)
 
 -- the search for `]` or `\` finds where the plain bytes end
-pub plain-found : (t : List ℕ) (at end further : ℕ) → at ≤ end → end ≤ length t → ((i : ℕ) → at ≤ i → i < end → is_plain (get_or t i 0) ≡ true)
-    → IsFirstByte (is_byte2 93 92) (slice_range t end (length t)) (Some further) → IsRun is_plain t at (end + further)
-plain-found t at end further le le' passing found =
+pub plain-found : (t : List ℕ) (end further : ℕ) → end ≤ length t
+    → IsFirstByte (is_byte2 93 92) (slice_range t end (length t)) (Some further) → IsRun is_plain t end (end + further)
+plain-found t end further le found =
     let hay : List ℕ = slice_range t end (length t) in
     let long : length hay + end ≡ length t = omega (arith, length-take (length t - end) (drop end t), length-drop end t) in
     let high : further < length hay = found.0.high in
     record {
       rises = omega arith;
       within = omega arith;
-      passing = λ i low lt. elim (cases_lt i end) [
-        | inl before ↦ passing i low before
-        | inr later ↦
-            let here : get_or hay (i - end) 0 ≡ get_or t i 0 = span-at t end i later (omega arith) in
-            subst (λ b. is_plain b ≡ true) here (both-not (get_or hay (i - end) 0 == 93) (get_or hay (i - end) 0 == 92) (found.0.before (i - end) (omega arith) (omega arith)))
-      ];
+      passing = λ i low lt.
+          let here : get_or hay (i - end) 0 ≡ get_or t i 0 = span-at t end i low (omega arith) in
+          subst (λ b. is_plain b ≡ true) here (both-not (get_or hay (i - end) 0 == 93) (get_or hay (i - end) 0 == 92) (found.0.before (i - end) (omega arith) (omega arith)));
       stops = λ lt.
           let here : get_or hay (end + further - end) 0 ≡ get_or t (end + further) 0 = span-at t end (end + further) (omega arith) lt in
           let same : end + further - end ≡ further = omega arith in
           subst (λ b. is_plain b ≡ false) (ap (λ k. get_or hay k 0) (sym same) ∙ here) (some-not (get_or hay further 0 == 93) (get_or hay further 0 == 92) found.1);
     }
 
-pub plain-none : (t : List ℕ) (at end : ℕ) → at ≤ end → end ≤ length t → ((i : ℕ) → at ≤ i → i < end → is_plain (get_or t i 0) ≡ true)
-    → IsFirstByte (is_byte2 93 92) (slice_range t end (length t)) None → IsRun is_plain t at (length t)
-plain-none t at end le le' passing none =
+pub plain-none : (t : List ℕ) (end : ℕ) → end ≤ length t → IsFirstByte (is_byte2 93 92) (slice_range t end (length t)) None → IsRun is_plain t end (length t)
+plain-none t end le none =
     let hay : List ℕ = slice_range t end (length t) in
     let long : length hay + end ≡ length t = omega (arith, length-take (length t - end) (drop end t), length-drop end t) in
     record {
       rises = omega arith;
       within = omega arith;
+      passing = λ i low lt.
+          let here : get_or hay (i - end) 0 ≡ get_or t i 0 = span-at t end i low lt in
+          subst (λ b. is_plain b ≡ true) here (both-not (get_or hay (i - end) 0 == 93) (get_or hay (i - end) 0 == 92) (none (i - end) (omega arith) (omega arith)));
+      stops = λ lt. absurd (omega arith);
+    }
+
+-- a run of plain bytes further back
+pub plain-join : (t : List ℕ) (at end last : ℕ) → at ≤ end → ((i : ℕ) → at ≤ i → i < end → is_plain (get_or t i 0) ≡ true) → IsRun is_plain t end last → IsRun is_plain t at last
+plain-join t at end last le passing run =
+    record {
+      rises = omega (arith, run.rises);
+      within = run.within;
       passing = λ i low lt. elim (cases_lt i end) [
         | inl before ↦ passing i low before
-        | inr later ↦
-            let here : get_or hay (i - end) 0 ≡ get_or t i 0 = span-at t end i later lt in
-            subst (λ b. is_plain b ≡ true) here (both-not (get_or hay (i - end) 0 == 93) (get_or hay (i - end) 0 == 92) (none (i - end) (omega arith) (omega arith)))
+        | inr later ↦ run.passing i later lt
       ];
-      stops = λ lt. absurd (omega arith);
+      stops = run.stops;
     }
 
 -- the states inside a value, and after a `\`, are no ends

@@ -5,7 +5,7 @@ use Rattle.std.proofs.Math.Seq.{drop-cons}
 use Rattle.std.proofs.lemmas.List.{drop-drop, drop_all}
 use Rattle.sgf_tree.specs.Tree.{Property, values}
 use Rattle.sgf_tree.specs.RawValue.{IsValue}
-use Rattle.sgf_tree.specs.Spelling.{is_white, is_upper, White, IsPropValue, prop_value, ArePropValues, no_value, value, property, AreProperties, no_property, properties}
+use Rattle.sgf_tree.specs.Spelling.{is_white, is_upper, White, no_white, white, IsPropValue, prop_value, ArePropValues, no_value, value, property, AreProperties, no_property, properties}
 use Rattle.sgf_tree.specs.inner.NodeText.{is_letter, left_after, front, values_in, property_from, name_in, properties_in, EndsValues, EndsNode, AreValuesIn, ArePropertiesIn, IsNoPropValue, IsPastValues, IsPropertyHeld}
 use Rattle.sgf_tree.specs.inner.Progress.{IsRun, SpellsValue, SpellsNoValue}
 use Rattle.sgf_tree.proofs.Classes.{upper-not_white}
@@ -46,6 +46,10 @@ module _ (test : ℕ → Bool) where
             let at : k + (e - k) ≡ e = omega arith in
             ap test (get_or-drop k s (e - k) 0 ∙ ap (λ i. get_or s i 0) at) ∙ run.stops (omega (arith, run.within));
       }
+
+white-join : {s t u : List ℕ} → White s t → White t u → White s u
+white-join no_white v = v
+white-join (white h w) v = white h (white-join w v)
 
 -- the byte at an offset, and what is after it
 pub byte-at : (s : List ℕ) (k : ℕ) → k < length s → drop k s ≡ get_or s k 0 ∷ drop (k + 1) s
@@ -92,6 +96,37 @@ module _ (s : List ℕ) (k : ℕ) (run : IsRun is_white s 0 k) where
             | inl lt ↦
                 let same : get_or s k 0 ≡ b = (white-same (white-to lt) w (run.stops lt) (upper-not_white b h)).0 in
                 absurd (false≢true (sym (other lt) ∙ ap is_upper same ∙ h))
+            | inr le ↦ absurd (white-none (white-all le) w (upper-not_white b h))
+          ]
+
+  -- a property there
+  pub some-property : ArePropertiesIn s → k < length s → IsTrue (is_upper (get_or s k 0)) → properties_in s ≢ []
+  some-property held lt capital none = some held.properties held.rest held.spelled held.ends
+    where
+      some : (ps : List Property) (r : List ℕ) → AreProperties ps s r → EndsNode r → ⊥
+      some [] r no_property ends =
+          false≢true (sym (ends (get_or s k 0) (drop (k + 1) s) (white-to lt)).1 ∙ capital)
+      some (p ∷ ps) r are ends = let is = sym none ∙ properties-in are ends in absurd (cc)
+
+  -- the properties in front stand after the white space
+  pub past-white : ArePropertiesIn s → (properties_in s ≡ properties_in (drop k s)) × ArePropertiesIn (drop k s)
+  past-white held = past held.properties held.rest held.spelled held.ends
+    where
+      both : (ps : List Property) (r : List ℕ) → AreProperties ps s r → EndsNode r → AreProperties ps (drop k s) r → EndsNode r → (properties_in s ≡ properties_in (drop k s)) × ArePropertiesIn (drop k s)
+      both ps r are ends after ends_after =
+          (properties-in are ends ∙ sym (properties-in after ends_after), record { properties = ps; rest = r; spelled = after; ends = ends_after })
+
+      past : (ps : List Property) (r : List ℕ) → AreProperties ps s r → EndsNode r → (properties_in s ≡ properties_in (drop k s)) × ArePropertiesIn (drop k s)
+      past [] r no_property ends =
+          let ends_after : EndsNode (drop k s) = λ b t w. ends b t (white-join white-run w) in
+          (properties-in no_property ends ∙ sym (properties-in no_property ends_after), record { properties = []; rest = drop k s; spelled = no_property; ends = ends_after })
+      past (p ∷ ps) r (properties {t = m} (property {b} {t = t} w h l v vs) are) ends =
+          elim (cases_lt k (length s)) [
+            | inl lt ↦
+                let same = white-same (white-to lt) w (run.stops lt) (upper-not_white b h) in
+                let here : drop k s ≡ b ∷ t = byte-at s k lt ∙ ap (λ c. c ∷ drop (k + 1) s) same.0 ∙ ap (λ x. b ∷ x) same.1 in
+                let starts : White (drop k s) (b ∷ t) = subst (λ x. White x (b ∷ t)) (sym here) no_white in
+                both (p ∷ ps) r (properties (property w h l v vs) are) ends (properties (property starts h l v vs) are) ends
             | inr le ↦ absurd (white-none (white-all le) w (upper-not_white b h))
           ]
 

@@ -7,8 +7,8 @@ use Rattle.std.specs.List.{flat_map}
 use Rattle.sgf_tree.specs.Tree.{Property}
 use Rattle.sgf_tree.specs.RawValue.{IsValue}
 use Rattle.sgf_tree.specs.Spelling.{is_white, is_upper, White, no_white, Letters, no_letter, upper, IsPropValue, prop_value, ArePropValues, no_value, value, IsProperty, property, AreProperties, no_property, properties}
-use Rattle.sgf_tree.specs.Written.{value_text, property_text, IsWrittenFront}
-use Rattle.sgf_tree.specs.inner.NodeText.{is_letter, left_after, front, values_in, property_from, name_in, after_values_up_to, properties_in, EndsValues, EndsNode, ArePropertiesIn, AreValuesWritten, IsPropertyWritten}
+use Rattle.sgf_tree.specs.Written.{value_text, property_text}
+use Rattle.sgf_tree.specs.inner.NodeText.{is_letter, left_after, front, values_in, property_from, name_in, after_values_up_to, properties_in, EndsValues, EndsNode, ArePropertiesIn, AreValuesWritten, IsPropertyWritten, ArePropertiesWritten}
 use Rattle.sgf_tree.specs.inner.Progress.{IsRun, SpellsValue}
 use Rattle.sgf_tree.proofs.Classes.{upper-not_white}
 use Rattle.sgf_tree.proofs.NameEnds.{span-one}
@@ -142,22 +142,18 @@ module _ (t : List ℕ) where
               let rises : end ≤ next = white.rises in
               let to : end + (next - end) ≡ next = omega arith in get_or-drop end t (next - end) 0 ∙ ap (λ i. get_or t i 0) to
 
-  -- properties were taken off up to `end`
-  pub record WrittenSoFar (end : ℕ) : Type 0 where
-    pub within : end ≤ length t
-    pub left : ArePropertiesIn (drop end t)
-    pub front : IsWrittenFront (properties_in t) (properties_in (drop end t)) (slice_range t 0 end)
+  pub front-none : (from : ℕ) → from ≤ length t → ArePropertiesIn (drop from t) → ArePropertiesWritten t from from
+  front-none from le held =
+      let e : from - from ≡ 0 = omega arith in
+      record { rises = omega arith; within = le; left = held; front = record { taken = []; front = refl; written = rw e } }
 
-  pub front-none : ArePropertiesIn t → WrittenSoFar 0
-  front-none held =
-      record { within = omega arith; left = held; front = record { taken = []; front = refl; written = refl } }
-
-  pub front-more : (at end : ℕ) → WrittenSoFar at → IsPropertyWritten t at end → WrittenSoFar end
-  front-more at end before one =
+  pub front-more : (from at end : ℕ) → ArePropertiesWritten t from at → IsPropertyWritten t at end → ArePropertiesWritten t from end
+  front-more from at end before one =
       let after = left-after before.left one.spelled one.ends in
       let rises : at < end = one.rises in
       let p : Property = one.property in
       record {
+        rises = omega (arith, before.rises);
         within = one.within;
         left = after.1;
         front = record {
@@ -165,7 +161,7 @@ module _ (t : List ℕ) where
           front =
               before.front.front ∙ ap (λ ps. before.front.taken ++ ps) after.0 ∙ sym (append_assoc before.front.taken (p ∷ []) (properties_in (drop end t)));
           written =
-              sym (span-join t 0 at end (omega arith) (omega arith)) ∙ ap (λ s. s ++ slice_range t at end) before.front.written
+              sym (span-join t from at end before.rises (omega arith)) ∙ ap (λ s. s ++ slice_range t at end) before.front.written
               ∙ ap (λ s. flat_map property_text before.front.taken ++ s) (one.text ∙ sym (append-nil (property_text p)))
               ∙ sym (flat_map-append property_text before.front.taken (p ∷ []));
         };

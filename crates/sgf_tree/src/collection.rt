@@ -71,7 +71,7 @@ impl<'a> Collection<'a> {
         let entry = self.nodes[i];
         NodeRef {
             place: entry.place,
-            text: rest_from(self.text, entry.place as usize + 1),
+            text: rest_from(self.text, entry.place as usize),
         }
     }
 
@@ -93,9 +93,7 @@ impl<'a> Collection<'a> {
         requires { i < node_count self.now }
         ensures { IsTrue result ↔ IsLeaf self.now i }
     {
-        let nodes = &self.nodes;
-        let count = nodes.len();
-        i + 1 == count || self.parent(i + 1) != Some(i)
+        self.last_below(i) == i
     }
 
     /// The place of node `i`: the offset of its `;` in the text.
@@ -127,5 +125,66 @@ impl<'a> Collection<'a> {
         ensures { IsLastBelow self.now i result }
     {
         self.nodes[i].last_below as usize
+    }
+}
+
+#[cfg(test)]
+mod tests {
+    use super::*;
+    use crate::reader::read;
+    use std::test::Fail;
+
+    #[test]
+    fn reads_nodes_in_file_order(rt: HostRuntime) -> Result<(), Fail> {
+        let c = read(rt.alloc(), b"(;SZ[3](;B[aa])(;B[bb];W[aa]))")?;
+        assert_eq!(rt; c.games(), 1);
+        assert_eq!(rt; c.nodes(), 4);
+        for (i, want) in [
+            (0, (None, 1, false, 1, 3)),
+            (1, (Some(0), 8, true, 1, 1)),
+            (2, (Some(0), 16, false, 1, 3)),
+            (3, (Some(2), 22, true, 1, 3)),
+        ] {
+            if i < c.nodes() {
+                let node = (
+                    c.parent(i),
+                    c.place(i),
+                    c.is_leaf(i),
+                    c.game_of(i),
+                    c.last_below(i),
+                );
+                assert_eq!(rt; node, want, "of node {i}");
+            }
+        }
+        Ok(())
+    }
+
+    #[test]
+    fn numbers_games(rt: HostRuntime) -> Result<(), Fail> {
+        let c = read(rt.alloc(), b"(;)\n(;(;)(;;))(;)")?;
+        assert_eq!(rt; c.games(), 3);
+        let mut games = Vec::new(rt.alloc());
+        for i in 0..c.nodes() {
+            games.push(c.game_of(i))?;
+        }
+        assert_eq!(rt; games.as_slice(), [1, 2, 2, 2, 2, 3].as_slice());
+        Ok(())
+    }
+
+    #[test]
+    fn places_count_the_mark_and_white_space(rt: HostRuntime) -> Result<(), Fail> {
+        for (text, want) in [
+            (b"\xEF\xBB\xBF(;)".as_slice(), [4].as_slice()),
+            (b" ( ; SZ [3] ; B [bb] ) ".as_slice(), [3, 12].as_slice()),
+            (b"(;C[]\x0B[a]\x0C\r\n;)\t".as_slice(), [1, 12].as_slice()),
+        ] {
+            let c = read(rt.alloc(), text)?;
+            let mut places = Vec::new(rt.alloc());
+            for i in 0..c.nodes() {
+                places.push(c.place(i))?;
+            }
+            assert_eq!(rt; places.as_slice(), want, "of {text:?}");
+        }
+        Ok(())
     }
 }

@@ -1,10 +1,12 @@
 //! A node of a collection.
 
-ghost use Rattle.std.specs.Prelude.{◌≡◌, ◌<◌, length, slice_get, find, Some};
+ghost use Rattle.std.specs.Prelude.{◌≡◌, ◌<◌, length, slice_get, find, Some, MatchOption};
 ghost use Rattle.std.specs.Str.{bytes_eq};
+ghost use Rattle.sgf_tree.specs.Written.{node_text, IsWrittenNode};
 
 use crate::property::PropRef;
-use crate::walk::Properties;
+use crate::reader::scan::{part, rest_from};
+use crate::walk::{Properties, written_properties_end};
 use std::marker::Model;
 
 /// A node, seen as its place and its properties.
@@ -13,6 +15,7 @@ use std::marker::Model;
 #[derive(Drop)]
 pub struct NodeRef<'a> {
     pub(crate) place: u32,
+    /// The text from its `;` on.
     pub(crate) text: &'a [u8],
 }
 
@@ -24,11 +27,12 @@ impl<'a> Model for NodeRef<'a> {
 
     ghost coded = { node_code };
 
-    ghost use Rattle.sgf_tree.specs.inner.NodeText.{properties_in, ArePropertiesIn};
+    ghost use Rattle.std.specs.Prelude.{drop};
+    ghost use Rattle.sgf_tree.specs.inner.NodeText.{properties_in, IsNodeIn};
 
-    ghost view = { λ n. record { place = n.place; properties = properties_in n.text.now } };
+    ghost view = { λ n. record { place = n.place; properties = properties_in (drop 1 n.text.now) } };
 
-    ghost invariant = { λ n. ArePropertiesIn n.text.now };
+    ghost invariant = { λ n. IsNodeIn n.text.now };
 }
 
 impl<'a> NodeRef<'a> {
@@ -36,7 +40,27 @@ impl<'a> NodeRef<'a> {
     pub fn walk(&self) -> Properties<'a>
         ensures { result ≡ self.now.properties }
     {
-        Properties { rest: self.text }
+        Properties {
+            rest: rest_from(self.text, 1),
+        }
+    }
+
+    /// Its text from its `;` on, as far as it stands as the sgf form writes it, with no white space and no small letter
+    /// between its parts, and the properties that are left after that; None where none are, as of most nodes.
+    pub fn written(&self) -> (&'a [u8], Option<Properties<'a>>)
+        ensures { MatchOption result.1 (result.0.now ≡ node_text self.now)
+            (λ left. IsWrittenNode self.now left result.0.now) }
+    {
+        let end = written_properties_end(self.text, 1);
+        let text = part(self.text, 0, end);
+        let left = Properties {
+            rest: rest_from(self.text, end),
+        };
+        if left.is_empty() {
+            (text, None)
+        } else {
+            (text, Some(left))
+        }
     }
 
     /// The number of its properties.
@@ -44,7 +68,8 @@ impl<'a> NodeRef<'a> {
     pub fn props(&self) -> usize
         ensures { result ≡ length self.now.properties }
     {
-        let mut left = Properties { rest: self.text };
+        let text = rest_from(self.text, 1);
+        let mut left = Properties { rest: text };
         let mut count = 0;
         while let Some(_property) = left.next() {
             count += 1;
@@ -77,5 +102,61 @@ impl<'a> NodeRef<'a> {
             }
         }
         None
+    }
+}
+
+#[cfg(test)]
+mod tests {
+    use super::*;
+    use crate::reader::read;
+    use std::test::Fail;
+
+    #[test]
+    fn finds_the_first_property_of_a_name(rt: HostRuntime) -> Result<(), Fail> {
+        let c = read(rt.alloc(), b"(;GM[1]AB[aa]GaMe[2])")?;
+        assert_eq!(rt; c.nodes(), 1);
+        let node = c.node(0);
+        for (name, want) in [
+            ("GM", Some("1")),
+            ("AB", Some("aa")),
+            ("GaMe", None),
+            ("A", None),
+            ("", None),
+        ] {
+            let value = node
+                .first(name.as_bytes())
+                .map(|property| property.value(0));
+            assert_eq!(rt; value, want.map(|text| text.as_bytes()), "of {name:?}");
+        }
+        Ok(())
+    }
+
+    #[test]
+    fn gives_what_is_written(rt: HostRuntime) -> Result<(), Fail> {
+        for (text, want, left) in [
+            (
+                b"(;B[aa]C[x\\]][y])".as_slice(),
+                b";B[aa]C[x\\]][y]".as_slice(),
+                None,
+            ),
+            (
+                b"(;B[aa]C[x] W[bb]GaMe[1])".as_slice(),
+                b";B[aa]C[x]".as_slice(),
+                Some("bb"),
+            ),
+            (b"(; B[aa])".as_slice(), b";".as_slice(), Some("aa")),
+            (b"(;)".as_slice(), b";".as_slice(), None),
+        ] {
+            let c = read(rt.alloc(), text)?;
+            assert_eq!(rt; c.nodes(), 1);
+            let (written, properties) = c.node(0).written();
+            assert_eq!(rt; written, want, "of {text:?}");
+            let first = match properties {
+                Some(mut properties) => properties.next().map(|property| property.value(0)),
+                None => None,
+            };
+            assert_eq!(rt; first, left.map(|text| text.as_bytes()), "of {text:?}");
+        }
+        Ok(())
     }
 }

@@ -77,7 +77,8 @@ impl<'a> PropRef<'a> {
     pub fn values(&self) -> usize
         ensures { result ≡ length (values self.now) }
     {
-        let mut left = Values { rest: self.values };
+        let text = self.values;
+        let mut left = Values { rest: text };
         let mut count = 0;
         while let Some(_value) = left.next() {
             count += 1;
@@ -97,5 +98,45 @@ impl<'a> PropRef<'a> {
             left.next().unwrap();
         }
         left.next().unwrap()
+    }
+}
+
+#[cfg(test)]
+mod tests {
+    use super::*;
+    use crate::reader::read;
+    use std::test::Fail;
+
+    #[test]
+    fn names_are_upper_case_letters(rt: HostRuntime) -> Result<(), Fail> {
+        let c = read(rt.alloc(), b"(;GaMe[1])")?;
+        assert_eq!(rt; c.nodes(), 1);
+        let node = c.node(0);
+        assert_eq!(rt; node.props(), 1);
+        let property = node.prop(0);
+        let mut name = b"x".to_vec(rt.alloc())?;
+        property.push_name(&mut name)?;
+        assert_eq!(rt; name.as_slice(), b"xGM".as_slice());
+        assert!(rt; property.is(b"GM"));
+        assert!(rt; !property.is(b"GaMe"));
+        assert!(rt; !property.is(b"G"));
+        assert!(rt; !property.is(b"GMX"));
+        assert_eq!(rt; property.values(), 1);
+        assert_eq!(rt; property.value(0), b"1".as_slice());
+        Ok(())
+    }
+
+    #[test]
+    fn values_are_raw(rt: HostRuntime) -> Result<(), Fail> {
+        let c = read(rt.alloc(), b"(;C[a\\]b\\\\] [] [c:d ; ( e\n])")?;
+        assert_eq!(rt; c.nodes(), 1);
+        let node = c.node(0);
+        assert_eq!(rt; node.props(), 1);
+        let property = node.prop(0);
+        assert_eq!(rt; property.values(), 3);
+        assert_eq!(rt; property.value(0), b"a\\]b\\\\".as_slice());
+        assert_eq!(rt; property.value(1), b"".as_slice());
+        assert_eq!(rt; property.value(2), b"c:d ; ( e\n".as_slice());
+        Ok(())
     }
 }

@@ -1,9 +1,9 @@
 //! Steps forward over the properties of a node, and over the values of a property.
 //! All steps over a node together cost what its text costs, however many properties and values it has.
 
-ghost use Rattle.std.specs.Prelude.{◌≡◌, ◌≤◌, [], ◌∷◌, length, IfSome, MatchOption};
+ghost use Rattle.std.specs.Prelude.{◌≡◌, ◌↔◌, ◌≤◌, [], ◌∷◌, length, drop, IsTrue, IfSome, MatchOption};
 ghost use Rattle.sgf_tree.specs.Written.{IsWrittenFront};
-ghost use Rattle.sgf_tree.specs.inner.NodeText.{AreValuesIn, AreValuesWritten, IsPropertyWritten, IsPastValues, IsNoPropValue, IsFirstValue};
+ghost use Rattle.sgf_tree.specs.inner.NodeText.{ArePropertiesIn, AreValuesWritten, IsPropertyWritten, ArePropertiesWritten, IsPastValues, IsNoPropValue, IsFirstValue};
 
 use crate::property::PropRef;
 use crate::reader::scan::{capitals_end, letters_end, part, rest_from, skip_white, value_end};
@@ -33,6 +33,15 @@ impl<'a> Model for Properties<'a> {
 }
 
 impl<'a> Properties<'a> {
+    /// Whether none is left.
+    pub(crate) fn is_empty(&self) -> bool
+        ensures { IsTrue result ↔ self.now ≡ [] }
+    {
+        let text = self.rest;
+        let start = skip_white(text, 0);
+        start == text.len() || !text[start].is_ascii_uppercase()
+    }
+
     /// Takes off the next property.
     /// None after the last one, again and again.
     pub fn next(&mut self) -> Option<PropRef<'a>>
@@ -53,18 +62,30 @@ impl<'a> Properties<'a> {
     }
 
     /// Takes off the properties in front that stand as the sgf form writes them, with no white space and no small letter
-    /// between their parts, and answers their text. It is empty where the first one doesn't.
+    /// between their parts, and answers their text, without the white space before it.
+    /// It is empty where the first property doesn't stand so, and where none is left.
     pub fn written(&mut self) -> &'a [u8]
         ensures { IsWrittenFront self.old self.new result.now }
     {
         let text = self.rest;
-        let mut end = 0;
-        'properties: while let Some(next) = written_end(text, end) {
-            end = next;
-        }
+        let start = skip_white(text, 0);
+        let end = written_properties_end(text, start);
         self.rest = rest_from(text, end);
-        part(text, 0, end)
+        part(text, start, end)
     }
+}
+
+/// The end of the properties at `at`, as far as they stand as the sgf form writes them.
+pub(crate) fn written_properties_end(text: &[u8], at: usize) -> usize
+    requires within { at ≤ length text.now }
+    requires held { ArePropertiesIn (drop at text.now) }
+    ensures { ArePropertiesWritten text.now at result }
+{
+    let mut end = at;
+    'properties: while let Some(next) = written_end(text, end) {
+        end = next;
+    }
+    end
 }
 
 /// The end of the values at `at`, as far as they stand as the sgf form writes them, with nothing between them.
@@ -161,4 +182,56 @@ fn after_values(text: &[u8]) -> &[u8]
         rest = after;
     }
     rest
+}
+
+#[cfg(test)]
+mod tests {
+    use super::*;
+    use crate::reader::read;
+    use std::test::Fail;
+
+    #[test]
+    fn steps_forward(rt: HostRuntime) -> Result<(), Fail> {
+        let c = read(rt.alloc(), b"(; AB [aa]\n[bb] C[x\\]y] ;PL[B])")?;
+        assert_eq!(rt; c.nodes(), 2);
+        let mut properties = c.node(0).walk();
+        let mut seen = Vec::new(rt.alloc());
+        for _ in 0..3 {
+            let Some(property) = properties.next() else {
+                seen.push(b'.')?;
+                continue;
+            };
+            property.push_name(&mut seen)?;
+            let mut values = property.walk();
+            for _ in 0..3 {
+                let Some(value) = values.next() else {
+                    seen.push(b';')?;
+                    continue;
+                };
+                seen.push(b' ')?;
+                seen.extend_from_slice(value)?;
+            }
+        }
+        assert_eq!(rt; seen.as_slice(), b"AB aa bb;C x\\]y;;.".as_slice());
+        Ok(())
+    }
+
+    #[test]
+    fn takes_off_what_is_written(rt: HostRuntime) -> Result<(), Fail> {
+        for (text, want) in [
+            (
+                b"(;B[aa]C[x\\]][y] W[bb])".as_slice(),
+                b"B[aa]C[x\\]][y]".as_slice(),
+            ),
+            (b"(;B[aa]AB[a] [b])".as_slice(), b"B[aa]".as_slice()),
+            (b"(;GaMe[1]B[aa])".as_slice(), b"".as_slice()),
+            (b"(;\nB[aa]PL[W]\n)".as_slice(), b"B[aa]PL[W]".as_slice()),
+            (b"(;)".as_slice(), b"".as_slice()),
+        ] {
+            let c = read(rt.alloc(), text)?;
+            assert_eq!(rt; c.nodes(), 1);
+            assert_eq!(rt; c.node(0).walk().written(), want, "of {text:?}");
+        }
+        Ok(())
+    }
 }

@@ -2,10 +2,10 @@
 -- part of the text. `ArePropertiesIn` and `AreValuesIn` tie them to the grammar.
 use Rattle.std.specs.Prelude.{◌≡◌, ◌≢◌, ℕ, zero, suc, ◌<◌, ◌≤◌, Bool, false, ◌||◌, ◌==◌, if◌then◌else◌, List, [], ◌∷◌, length, drop, slice_range, filter}
 use Rattle.std.specs.List.{flat_map}
-use Rattle.sgf_tree.specs.Bytes.{open_bracket, backslash, close_bracket}
+use Rattle.sgf_tree.specs.Bytes.{semicolon, open_bracket, backslash, close_bracket}
 use Rattle.sgf_tree.specs.Tree.{Property}
 use Rattle.sgf_tree.specs.Spelling.{White, is_white, is_upper, is_lower, IsPropValue, ArePropValues, IsProperty, AreProperties}
-use Rattle.sgf_tree.specs.Written.{value_text, property_text}
+use Rattle.sgf_tree.specs.Written.{value_text, property_text, IsWrittenFront}
 
 -- a letter of an identifier
 abbrev pub is_letter : ℕ → Bool
@@ -108,6 +108,11 @@ pub record ArePropertiesIn (s : List ℕ) : Type 0 where
   pub spelled : AreProperties properties s rest
   pub ends : EndsNode rest
 
+-- a `;` and the properties of a node
+pub record IsNodeIn (s : List ℕ) : Type 0 where
+  pub begins : s ≡ semicolon ∷ drop 1 s
+  pub properties : ArePropertiesIn (drop 1 s)
+
 -- no value is in front
 abbrev pub IsNoPropValue : List ℕ → Type 0
 IsNoPropValue s = (v r : List ℕ) → ¬ IsPropValue v s r
@@ -146,3 +151,10 @@ pub record IsPropertyWritten (t : List ℕ) (at end : ℕ) : Type 0 where
   pub spelled : IsProperty property (drop at t) (drop end t)
   pub ends : EndsValues (drop end t)
   pub text : slice_range t at end ≡ property_text property
+
+-- and so do the properties up to an offset, after which the others stand
+pub record ArePropertiesWritten (t : List ℕ) (from end : ℕ) : Type 0 where
+  pub rises : from ≤ end
+  pub within : end ≤ length t
+  pub left : ArePropertiesIn (drop end t)
+  pub front : IsWrittenFront (properties_in (drop from t)) (properties_in (drop end t)) (slice_range t from end)

@@ -70,7 +70,18 @@ pub(crate) fn capitals_end(text: &[u8], at: usize) -> usize
     end
 }
 
-/// The first `]` or `\` from `at` on, or the end of the text.
+/// The first `]` or `\` from `at` on, or the end of the text, by a search that costs something to begin.
+fn far_plain_end(text: &[u8], at: usize) -> usize
+    requires { at ≤ length text.now }
+    ensures { IsRun is_plain text.now at result }
+{
+    match memchr2(b']', b'\\', &text[at..]) {
+        Some(further) => at + further,
+        None => text.len(),
+    }
+}
+
+/// The same, where it is often near.
 fn plain_end(text: &[u8], at: usize) -> usize
     requires { at ≤ length text.now }
     ensures { IsRun is_plain text.now at result }
@@ -82,10 +93,7 @@ fn plain_end(text: &[u8], at: usize) -> usize
         }
         end += 1;
     }
-    match memchr2(b']', b'\\', &text[end..]) {
-        Some(further) => end + further,
-        None => text.len(),
-    }
+    far_plain_end(text, end)
 }
 
 /// Whether the raw value at `at` is two bytes, as a point is, that stand for themselves.

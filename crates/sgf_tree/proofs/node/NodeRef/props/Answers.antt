@@ -1,8 +1,8 @@
-use Rattle.std.proofs.Common.{ap, length, arith}
+use Rattle.std.proofs.Common.{ap, length, length-drop, arith}
 use Rattle.sgf_tree.specs.Tree.{Node}
 use Rattle.sgf_tree.proofs.Walks.{count-properties-held}
 use Rattle.sgf_tree.proofs.node.NodeRef.props.Goals as goal
 
 pub overflow_add-count : goal.overflow_add-count
 overflow_add-count c =
-    omega (arith, c.self.told, c.loop-property.invariant, ap length c.in-Some.ensures, count-properties-held c.self.invariant, ap (λ (n : Node). length n.properties) c.self.view_is)
+    omega (arith, c.self.told, c.loop-property.invariant, ap length c.in-Some.ensures, count-properties-held c.self.invariant.properties, length-drop 1 c.self.inside.text.now, ap (λ (n : Node). length n.properties) c.self.view_is)

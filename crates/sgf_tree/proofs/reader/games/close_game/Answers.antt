@@ -1,5 +1,6 @@
-use Rattle.std.proofs.Common.{◌≡◌, ℕ, ◌+◌, ◌-◌, ◌<◌, length, set, subst, arith}
+use Rattle.std.proofs.Common.{◌≡◌, ℕ, ◌+◌, ◌-◌, ◌<◌, ◌≤◌, length, set, subst, arith}
 use Rattle.sgf_tree.specs.declared.layout.NodeEntry.{NodeEntry}
+use Rattle.sgf_tree.specs.declared.layout.Link.TheVariants.{Next}
 use Rattle.sgf_tree.specs.inner.GamesRead.{IsOwnRun}
 use Rattle.sgf_tree.proofs.Marking.{Marks, marks-more, run-before, opens-link, parent-link, marks-closed}
 use Rattle.sgf_tree.proofs.reader.games.close_game.Goals as goal
@@ -34,25 +35,23 @@ returns-in-Branch c first run =
     (marked (goal.at.returns-in-Branch c).After-index_mut-node)
     (parent-link old c.own.nodes.items c.args.tip (at + 1) at c.index_mut-node.result.now _ c.own.invariant.marks lt c.index_mut-node.ensures.value c.in-Branch.is)
 
-pub overflow_sub-at : goal.overflow_sub-at
-overflow_sub-at c =
+-- where its link says so, there is an own node before it
+after-another : (c : After-index_mut-node) → c.index_mut-node.result.now.link ≡ Next → 1 ≤ c.own.at
+after-another c is =
     let old = c.args.nodes.now.items in
     let at = c.own.at in
     let first = c.requires.own.0 in
     let run = c.requires.own.1 in
-    let lt : at < length old = omega arith in
-    let before = run-before old c.own.nodes.items c.args.tip first at run (c.own.invariant.begins first run) (opens-link old c.own.nodes.items c.args.tip (at + 1) at c.index_mut-node.result.now _ c.own.invariant.marks lt c.index_mut-node.ensures.value c.in-Next.is) in
+    let lt : at < length old = omega (arith, c.requires.within, c.own.invariant.low) in
+    let before = run-before old c.own.nodes.items c.args.tip first at run (c.own.invariant.begins first run) (opens-link old c.own.nodes.items c.args.tip (at + 1) at c.index_mut-node.result.now _ c.own.invariant.marks lt c.index_mut-node.ensures.value is) in
     omega (arith, before)
+
+pub overflow_sub-at : goal.overflow_sub-at
+overflow_sub-at c = after-another (goal.at.overflow_sub-at c).After-index_mut-node c.in-Next.is
 
 pub own-smaller : goal.own-smaller
 own-smaller c =
-    let old = c.args.nodes.now.items in
-    let at = c.own.at in
-    let first = c.requires.own.0 in
-    let run = c.requires.own.1 in
-    let lt : at < length old = omega arith in
-    let before = run-before old c.own.nodes.items c.args.tip first at run (c.own.invariant.begins first run) (opens-link old c.own.nodes.items c.args.tip (at + 1) at c.index_mut-node.result.now _ c.own.invariant.marks lt c.index_mut-node.ensures.value c.in-Next.is) in
-    omega (arith, before)
+    let before = after-another (goal.at.own-smaller c).After-index_mut-node c.in-Next.is in omega (arith, before)
 
 pub own-preserved : goal.own-preserved
 own-preserved c =

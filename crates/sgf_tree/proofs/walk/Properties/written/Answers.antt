@@ -1,5 +1,16 @@
-use Rattle.sgf_tree.proofs.WrittenParts.{front-more}
+use Rattle.std.proofs.Common.{◌∙◌, sym}
+use Rattle.sgf_tree.proofs.Walks.{past-white}
 use Rattle.sgf_tree.proofs.walk.Properties.written.Goals as goal
 
-pub properties-preserved : goal.properties-preserved
-properties-preserved c = front-more c.self.inside.rest.now c.properties.end c.in-Some.next c.properties.invariant c.in-Some.ensures
+pub written_properties_end-end-requires : goal.written_properties_end-end-requires
+written_properties_end-end-requires c = record {
+  within = c.skip_white-start.ensures.within;
+  held = (past-white c.self.inside.rest.now c.skip_white-start.result c.skip_white-start.ensures c.self.invariant).1;
+}
+
+pub returns : goal.returns
+returns c =
+    let front = c.written_properties_end-end.ensures.front in
+    let past = past-white c.self.inside.rest.now c.skip_white-start.result c.skip_white-start.ensures c.self.invariant in
+    rw (c.rest_from-self-inside.ensures, c.part.ensures)
+    (record { taken = front.taken; front = sym c.self.view_is ∙ past.0 ∙ front.front; written = front.written })
