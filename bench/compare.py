@@ -33,10 +33,10 @@ def words(program, form, path):
     return [program, "count", path] if form == "count" else [program, "split", "--form", form, path]
 
 
-def run(command):
+def run(command, source=subprocess.DEVNULL):
     """Wall and processor seconds of one run."""
     start = time.perf_counter()
-    child = subprocess.Popen(command, stdin=subprocess.DEVNULL, stdout=subprocess.DEVNULL)
+    child = subprocess.Popen(command, stdin=source, stdout=subprocess.DEVNULL)
     _, status, usage = os.wait4(child.pid, 0)
     child.returncode = status
     if status != 0:
@@ -44,11 +44,11 @@ def run(command):
     return time.perf_counter() - start, usage.ru_utime + usage.ru_stime
 
 
-def peak(command):
+def peak(command, source=subprocess.DEVNULL):
     """Peak memory in MiB. GNU time stands between, since a child of Python would inherit Python's own peak."""
     if not os.path.exists("/usr/bin/time"):
         return None
-    measured = subprocess.run(["/usr/bin/time", "-f", "peak %M"] + command, stdin=subprocess.DEVNULL,
+    measured = subprocess.run(["/usr/bin/time", "-f", "peak %M"] + command, stdin=source,
                               stdout=subprocess.DEVNULL, stderr=subprocess.PIPE, check=True)
     return int(re.search(rb"peak (\d+)", measured.stderr)[1]) / 1024
 

@@ -1,8 +1,7 @@
 #!/bin/sh
-# Builds bench/tree/main.rt.in, which reads a collection and drops it, or with the word `walk` goes over all values, and prints the
-# program's path. It is no crate of this repository, so that the gate doesn't prove it: it is built in a folder of its own
-# beside a copy of sgf_tree, which BENCH_FOLDER names. The first run proves both, which takes minutes.
-# With names of files behind it, it prints for each of them the best of five times and the peak memory, of reading and of walking.
+# Builds bench/tree/main.rt.in, which reads a collection and steps over it as its word says, and prints the program's path.
+# It is no crate of this repository, so that the gate doesn't prove it: it is built in a folder of its own beside a copy of
+# sgf_tree, which BENCH_FOLDER names. The first run proves both, which takes minutes. `bench/tree.py` measures it.
 set -eu
 top=$(cd "$(dirname "$0")/.." && pwd)
 folder=${BENCH_FOLDER:-${TMPDIR:-/tmp}/sgfsplit-bench-tree}
@@ -21,13 +20,4 @@ if ! rt run < /dev/null > run.log 2>&1; then
     tail -20 run.log >&2
     exit 1
 fi
-program="$folder/crates/bench_tree/out/bench_tree"
-[ $# -gt 0 ] || echo "$program"
-for file in "$@"; do
-    for word in "" walk; do
-        best=$(for _ in 1 2 3 4 5; do
-            /usr/bin/time -f '%e %M' "$program" $word < "$file" 2>&1 > /dev/null
-        done | sort -n | head -1)
-        echo "$file ${word:-read}: seconds and KiB $best"
-    done
-done
+echo "$folder/crates/bench_tree/out/bench_tree"
