@@ -1,7 +1,7 @@
 -- The record of a line: what is written for it, in each form.
 use Rattle.std.specs.Prelude.{ℕ, List, ◌++◌, codes}
 use Rattle.std.specs.List.{flat_map}
-pub use Rattle.sgf_tree.specs.Written.{value_text, property_text}
+pub use Rattle.sgf_tree.specs.Written.{value_text, property_text, node_text}
 use Rattle.sgf_tree.specs.Tree.{Node}
 use Rattle.sgf_lines.specs.declared.options.Form.{Form}
 use Rattle.sgf_lines.specs.declared.options.Form.TheVariants.{List as list_form, Sgf as sgf_form, Gtp as gtp_form}
@@ -10,10 +10,6 @@ use Rattle.sgf_lines.specs.ListRow.{list_row}
 use Rattle.sgf_lines.specs.Script.{script}
 
 -- The line as a game of its own (SGF FF[4], with no white space between its parts).
-
--- a `;` and the properties
-abbrev pub node_text : Node → List ℕ
-node_text n = codes ";" ++ flat_map property_text n.properties
 
 -- the nodes between parentheses, and a line feed
 abbrev pub sgf_record : List Node → List ℕ

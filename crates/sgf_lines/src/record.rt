@@ -1,6 +1,7 @@
 //! The text of a line's nodes in sgf form.
 
 ghost use Rattle.std.specs.Prelude.{◌≡◌, ◌++◌, ◌<◌, ◌≤◌, List, Some, map, take, length, All, OnOk};
+ghost use Rattle.std.specs.List.{flat_map};
 ghost use Rattle.sgf_tree.specs.Tree.{Node, node_count};
 ghost use Rattle.sgf_tree.specs.FileOrder.{node_at};
 ghost use Rattle.sgf_lines.specs.Record.{value_text, property_text, node_text};
@@ -8,7 +9,7 @@ ghost use Rattle.sgf_lines.specs.inner.Kept.{IsKept, nodes_text};
 
 use crate::kept::KeptText;
 use crate::text::push_bytes;
-use sgf_tree::{Collection, MemoryFault, NodeRef, PropRef};
+use sgf_tree::{Collection, MemoryFault, NodeRef, PropRef, Properties};
 
 /// Goes on with the text of the nodes of a path, of which the first `shared` are those of the path before.
 /// After a refusal of memory nothing is said of it.
@@ -35,11 +36,23 @@ pub(crate) fn follow_nodes(
 fn push_node(node: &NodeRef<'_>, output: &mut Vec<u8>) -> Result<(), MemoryFault>
     ensures { OnOk result (output.new.items ≡ output.old.items ++ node_text node.now) }
 {
-    push_bytes(b";", output)?;
-    let mut left = node.walk();
+    let (text, left) = node.written();
+    push_bytes(text, output)?;
+    match left {
+        Some(properties) => push_properties(properties, output),
+        None => Ok(()),
+    }
+}
+
+/// Appends properties: spans of the text that stand as they are to be written, and what stands between these part by part.
+fn push_properties(properties: Properties<'_>, output: &mut Vec<u8>) -> Result<(), MemoryFault>
+    ensures { OnOk result (output.new.items ≡ output.old.items ++ flat_map property_text properties.entry) }
+{
+    let mut left = properties;
     push_bytes(left.written(), output)?;
     while let Some(property) = left.next() {
         push_property(&property, output)?;
+        push_bytes(left.written(), output)?;
     }
     Ok(())
 }

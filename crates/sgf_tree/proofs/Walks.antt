@@ -193,11 +193,11 @@ next-value {v} {s} {r} held h = next held.values held.rest held.spelled held.end
         )
 
 -- a property's values, which are all of its own
-pub values-held : {s : List ℕ} → IsPropertyHeld s → AreValuesIn s
-values-held held = record { values = held.first ∷ held.more; rest = held.rest; spelled = held.spelled; ends = held.ends }
+pub values_held : {s : List ℕ} → IsPropertyHeld s → AreValuesIn s
+values_held held = record { values = held.first ∷ held.more; rest = held.rest; spelled = held.spelled; ends = held.ends }
 
-pub values-shown : {s : List ℕ} (name : List ℕ) → IsPropertyHeld s → values (property_from name (values_in s)) ≡ values_in s
-values-shown name held =
+pub values_shown : {s : List ℕ} (name : List ℕ) → IsPropertyHeld s → values (property_from name (values_in s)) ≡ values_in s
+values_shown name held =
     let is = values-in held.spelled held.ends in rw is
 
 pub name-shown : (name : List ℕ) (vs : List (List ℕ)) → (property_from name vs).name ≡ name
@@ -209,6 +209,6 @@ pub count-properties-held : {s : List ℕ} → ArePropertiesIn s → length (pro
 count-properties-held held =
     let is = properties-in held.spelled held.ends in omega (arith, ap length is, count-properties held.spelled)
 
-pub count-values-held : {s : List ℕ} → AreValuesIn s → length (values_in s) ≤ length s
-count-values-held held =
+pub count-values_held : {s : List ℕ} → AreValuesIn s → length (values_in s) ≤ length s
+count-values_held held =
     let is = values-in held.spelled held.ends in omega (arith, ap length is, count-values held.spelled)

@@ -40,9 +40,8 @@ impl<'a> NodeRef<'a> {
     pub fn walk(&self) -> Properties<'a>
         ensures { result ≡ self.now.properties }
     {
-        Properties {
-            rest: rest_from(self.text, 1),
-        }
+        let text = rest_from(self.text, 1);
+        Properties { rest: text }
     }
 
     /// Its text from its `;` on, as far as it stands as the sgf form writes it, with no white space and no small letter
@@ -68,8 +67,8 @@ impl<'a> NodeRef<'a> {
     pub fn props(&self) -> usize
         ensures { result ≡ length self.now.properties }
     {
-        let text = rest_from(self.text, 1);
-        let mut left = Properties { rest: text };
+        let rest = rest_from(self.text, 1);
+        let mut left = Properties { rest };
         let mut count = 0;
         while let Some(_property) = left.next() {
             count += 1;

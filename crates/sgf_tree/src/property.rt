@@ -66,6 +66,7 @@ impl<'a> PropRef<'a> {
     }
 
     /// Its raw values, to be taken off one after another.
+    #[tactic(auto, using(crate::proofs::Walks::values_held, crate::proofs::Walks::values_shown))]
     pub fn walk(&self) -> Values<'a>
         ensures { result ≡ values self.now }
     {

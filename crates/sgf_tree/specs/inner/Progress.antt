@@ -40,7 +40,7 @@ abbrev pub SpellsValue : List ℕ → ℕ → ℕ → Type 0
 SpellsValue t at end = IsValue (slice_range t at end) (drop at t) (drop end t)
 
 -- two plain bytes and a `]`
-pub record SpellsPair (t : List ℕ) (at : ℕ) : Type 0 where
+pub record IsTwoPlain (t : List ℕ) (at : ℕ) : Type 0 where
   pub within : at + 2 < length t
   pub plain : IsRun is_plain t at (at + 2)
   pub bracket : slice_index t (at + 2) ≡ close_bracket

@@ -3,11 +3,12 @@
 ghost use Rattle.std.specs.Prelude.{◌≡◌, ◌≤◌, length, drop, slice_range, IsTrue, MatchOption};
 ghost use Rattle.sgf_tree.specs.Spelling.{is_white, is_upper};
 ghost use Rattle.sgf_tree.specs.inner.NodeText.{is_letter};
-ghost use Rattle.sgf_tree.specs.inner.Progress.{IsRun, IsValueEnd, IsUnended, SpellsValue, SpellsNoValue, SpellsPair, is_plain};
+ghost use Rattle.sgf_tree.specs.inner.Progress.{IsRun, IsValueEnd, IsUnended, SpellsValue, SpellsNoValue, IsTwoPlain, is_plain};
 
 use memchr::memchr2;
 
-/// How many bytes of a value are tried one by one. Most values are a point of two letters.
+/// How many bytes are looked at one by one before a search, which costs as much to begin: colours and sizes are short,
+/// and escapes may stand side by side.
 const TRIED: usize = 4;
 
 /// The text from an offset on.
@@ -97,9 +98,9 @@ fn plain_end(text: &[u8], at: usize) -> usize
 }
 
 /// Whether the raw value at `at` is two bytes, as a point is, that stand for themselves.
-fn is_pair(text: &[u8], at: usize) -> bool
+fn is_two_plain(text: &[u8], at: usize) -> bool
     requires { at ≤ length text.now }
-    ensures { IsTrue result → SpellsPair text.now at }
+    ensures { IsTrue result → IsTwoPlain text.now at }
 {
     text.len() - at > 2
         && text[at + 2] == b']'
@@ -116,7 +117,7 @@ pub(crate) fn value_end(text: &[u8], at: usize) -> Option<usize>
     ensures read { MatchOption result (IsUnended text.now at) (λ end. IsValueEnd text.now at end) }
     ensures spelled { MatchOption result (SpellsNoValue text.now at) (λ end. SpellsValue text.now at end) }
 {
-    if is_pair(text, at) {
+    if is_two_plain(text, at) {
         return Some(at + 2);
     }
     let mut end = at;

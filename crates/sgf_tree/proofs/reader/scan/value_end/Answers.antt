@@ -70,11 +70,11 @@ units-init c =
       spelled = spelled-none c.args.text.now c.args.at;
     }
 
-pub returns-then-is_pair : goal.returns-then-is_pair
-returns-then-is_pair c =
+pub returns-then-is_two_plain : goal.returns-then-is_two_plain
+returns-then-is_two_plain c =
     let t = c.args.text.now in
     let at = c.args.at in
-    let pair = c.is_pair.ensures c.if-is_pair.true in
+    let pair = c.is_two_plain.ensures c.if-is_two_plain.true in
     record {
       read = record {
         rises = omega arith;
