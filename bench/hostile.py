@@ -2,12 +2,14 @@
 """Measures sgfsplit on inputs that are made to hurt, and prints a table.
 
   bench/hostile.py [--mib N] [--only NAME,..] [--forms list,sgf,gtp,count] [--limit GIB] [--seconds N] [--table FILE]
+  bench/hostile.py --from FILE                the short table of an earlier run
 
   SGFSPLIT   the program (crates/sgfsplit/out/sgfsplit)
 
 Each input is made as large as N MiB allow (64, the program's limit), or smaller where its output would grow with its square. A run has
 GIB of memory at most (16) and N seconds (300). For each input and form: the bytes read and written, the processor seconds, the
-nanoseconds per byte read or written, the peak memory, that memory per byte read, and the status where it isn't 0. Needs /usr/bin/time.
+nanoseconds per byte read or written, the peak memory, that memory per byte read, and the status where it isn't 0. Last comes the short
+table of docs/PERFORMANCE.md. Needs /usr/bin/time.
 """
 import argparse
 import os
@@ -190,6 +192,31 @@ def run(command, gib, seconds):
     return "time" if taken >= seconds - 1 else status, int(counter.stdout), taken, int(peak) * 1024
 
 
+def short(table):
+    """A row for each input: seconds and nanoseconds per byte in each form, and the greatest memory per byte read."""
+    print("\n| Input | Bytes | list: s, ns | sgf: s, ns | gtp: s, ns | count: s, ns | memory |\n|---|---|---|---|---|---|---|")
+    for name in dict.fromkeys(row[0] for row in table):
+        rows = {row[2]: row for row in table if row[0] == name}
+        size = next(iter(rows.values()))[3]
+        cells = []
+        for form in FORMS:
+            if form not in rows:
+                cells.append("-")
+                continue
+            _, _, _, _, written, seconds, _, status = rows[form]
+            ended = {"time": "too long", "4": "no memory"}.get(str(status))
+            cells.append(ended or f"{seconds:.2f}, {seconds * 1e9 / (size + written):.0f}")
+        what = next(iter(rows.values()))[1]
+        print(f"| `{name}`: {what} | {size:,} | " + " | ".join(cells) + f" | {max(row[6] for row in rows.values()) / size:.0f} |")
+
+
+def earlier(path):
+    with open(path, encoding="utf-8") as file:
+        for line in file:
+            name, what, form, size, written, seconds, peak, status = line.rstrip("\n").split("\t")
+            yield name, what, form, int(size), int(written), float(seconds), int(peak), status
+
+
 def main():
     parser = argparse.ArgumentParser()
     parser.add_argument("--mib", type=int, default=64)
@@ -198,7 +225,13 @@ def main():
     parser.add_argument("--limit", type=int, default=16)
     parser.add_argument("--seconds", type=int, default=300)
     parser.add_argument("--table")
+    parser.add_argument("--from", dest="earlier")
     arguments = parser.parse_args()
+    if arguments.earlier:
+        short(list(earlier(arguments.earlier)))
+        return
+    if not os.path.exists("/usr/bin/time"):
+        sys.exit("/usr/bin/time isn't installed")
     names = arguments.only.split(",") if arguments.only else list(INPUTS)
     table = []
     print(f"{'input':12}{'form':6}{'bytes':>10}{'written':>12}{'cpu s':>9}{'ns/byte':>9}{'MiB':>9}{'per byte':>9}")
@@ -220,6 +253,7 @@ def main():
         with open(arguments.table, "w", encoding="utf-8") as file:
             for row in table:
                 file.write("\t".join(map(str, row)) + "\n")
+    short(table)
 
 
 if __name__ == "__main__":

@@ -53,6 +53,9 @@ answer 'deep' '199999 1 100000 score 0 0 open' split
 answer 'deep, after its line' '' split --after 199999
 fault 'deep, after its root' 'no line ends at 1' split --after 1 < input.sgf
 answer 'deep, counted' '1 100000 1' count
+ulimit -S -s 256
+answer 'deep, on a stack of 256 KiB' '199999 1 100000 score 0 0 open' split
+ulimit -S -s 8192
 answer 'deep, as a game' "(\
 $(times 100000 ';'))" split --form sgf
 { times 100000 '(;(;)'; times 100000 ')'; } > input.sgf
