@@ -15,6 +15,7 @@ pub mod RowLemmas
 pub mod WordLemmas
 pub mod GrowLemmas
 pub mod RegionLemmas
+pub mod LibertyLemmas
 pub mod CountLemmas
 pub mod NeighbourLemmas
 pub mod FloodLemmas

@@ -1,13 +1,14 @@
 -- proofs/RegionLemmas.antt
 -- Rows of words that have the points of a grid with certain cells, and those that reach a colour through them.
-use Rattle.std.proofs.Common.{◌≡◌, ◌≢◌, ◌⊎◌, inl, inr, ℕ, ◌+◌, ◌-◌, ◌*◌, ◌^◌, ◌%◌, ◌<◌, ◌≤◌, ◌==◌, ◌||◌, ◌&&◌, Bool, true, false, not, Some, None, List, [], ◌∷◌, length, get_or, set, slice_get, slice_range, slice_index, bit_and, bit_or, w64, refl, sym, ap, ◌∙◌, arith, subst, rules}
+use Rattle.std.proofs.Common.{◌≡◌, ◌≢◌, ◌⊎◌, inl, inr, ℕ, zero, suc, ◌+◌, ◌-◌, ◌*◌, ◌^◌, ◌%◌, ◌<◌, ◌≤◌, ◌==◌, ◌||◌, ◌&&◌, Bool, true, false, not, Some, None, List, [], ◌∷◌, length, get_or, set, slice_get, slice_range, slice_index, bit_and, bit_or, w64, refl, sym, ap, ◌∙◌, arith, subst, rules}
 use Rattle.std.proofs.lemmas.Bool.{or_cases, and_parts, and_from, false≢true, cases_lt, cases_eq}
-use Rattle.std.specs.Int.{bit_not}
+use Rattle.std.specs.Int.{bit_at, bit_not}
+use Rattle.std.proofs.Math.ListN.{get_or-eq_default}
 use Rattle.std.proofs.Math.Nat.{mod-eq_of_lt}
 use Rattle.std.proofs.lemmas.Nat.{row_fits, pow_below}
 use Rattle.std.proofs.lemmas.List.{places, get_or-set_same, get_or-set_other}
 use Rattle.std.proofs.lemmas.Option.{slice_get-get_or, slice_get_past}
-use Rattle.std.proofs.lemmas.Nat.Bits.{bit_at_set_same, bit_at_set_other, bit_at_mask_inside, bit_at_mask_above}
+use Rattle.std.proofs.lemmas.Nat.Bits.{bit_at-lt, bit_at-zero, same_from_bits, bit_at_set_same, bit_at_set_other, bit_at_mask_inside, bit_at_mask_above}
 use Rattle.go_board.specs.declared.stones.Cell.{Cell}
 use Rattle.go_board.specs.declared.stones.Cell.TheVariants.{Black, White, Empty}
 use Rattle.go_board.specs.declared.points.Point.{Point}
@@ -16,10 +17,10 @@ use Rattle.go_board.specs.Point.{IsOn, AreAdjacent}
 use Rattle.go_board.specs.Grid.{Grid, cell_at}
 use Rattle.go_board.specs.Reaching.{Leads, Reaches, reaches}
 use Rattle.go_board.specs.inner.Rows.{has_bit, is_set, IsAmong, IsClosed, Grows}
-use Rattle.go_board.specs.inner.Regions.{is_either, is_there, AreRowsOf, reaches_through_own}
+use Rattle.go_board.specs.inner.Regions.{is_either, is_there, AreRowsOf, IsLeft, reaches_through_own}
 use Rattle.go_board.proofs.GridLemmas.{Decides-same_cell}
 use Rattle.go_board.proofs.GrowLemmas.{row_below}
-use Rattle.go_board.proofs.WordLemmas.{has_bit-and, has_bit-without}
+use Rattle.go_board.proofs.WordLemmas.{has_bit-zero, has_bit-and, has_bit-without}
 use Rattle.go_board.proofs.ReachingLemmas.{Decides-reaches}
 
 or_right : (x y : Bool) → y ≡ true → (x || y) ≡ true
@@ -148,6 +149,57 @@ AreRowsOf-others rows others long each = record {
       ((each p.row row).1 p.col is, row);
 }
 
+-- one row more is written
+abbrev pub LeftBelow : List ℕ → List ℕ → ℕ → List ℕ → Type 0
+LeftBelow rows others n left =
+    (r : ℕ) → r < n
+    → ((col : ℕ) → col < 64 → has_bit (slice_index left r) col ≡ (has_bit (slice_index rows r) col && not (has_bit (slice_index others r) col)))
+    × ((col : ℕ) → has_bit (slice_index left r) col ≡ true → has_bit (slice_index rows r) col ≡ true)
+
+pub left_more : (rows others left : List ℕ) (row : ℕ) → row < length left → get_or others row 0 < 2 ^ 64 → LeftBelow rows others row left → LeftBelow rows others (row + 1) (set left row (bit_and (get_or rows row 0) (bit_not w64 (get_or others row 0))))
+left_more rows others left row within low before =
+    let word = bit_and (get_or rows row 0) (bit_not w64 (get_or others row 0)) in
+    λ r below.
+    elim (cases_eq r row) [
+      | inl same ↦
+          let there : slice_index (set left row word) r ≡ bit_and (get_or rows r 0) (bit_not w64 (get_or others r 0)) =
+          ap (λ k. slice_index (set left row word) k) same ∙ get_or-set_same left row word 0 within ∙ ap (λ k. bit_and (get_or rows k 0) (bit_not w64 (get_or others k 0))) (sym same) in
+          let small : get_or others r 0 < 2 ^ 64 = rw same low in (
+            λ col on. ap (λ w. has_bit w col) there ∙ has_bit-without (get_or rows r 0) (get_or others r 0) col small on,
+            λ col is. (and_parts _ _ (sym (has_bit-and (get_or rows r 0) (bit_not w64 (get_or others r 0)) col) ∙ ap (λ w. has_bit w col) (sym there) ∙ is)).0,
+          )
+      | inr apart ↦
+          let there : slice_index (set left row word) r ≡ slice_index left r = get_or-set_other left row r word 0 apart in
+          let old = before r (omega (arith, apart)) in (
+            λ col on. ap (λ w. has_bit w col) there ∙ old.0 col on,
+            λ col is. old.1 col (ap (λ w. has_bit w col) (sym there) ∙ is),
+          )
+    ]
+
+pub IsLeft-all : (rows others left : List ℕ) → length left ≡ length rows → LeftBelow rows others (length rows) left → IsLeft rows others left
+IsLeft-all rows others left long each = record {
+  on = λ p row col. (each p.row row).0 p.col col;
+  off = λ p is. (each p.row (rw (← long) (row_below left p is))).1 p.col is;
+}
+
+-- a word with no bit set
+zero_bit : (b : ℕ) → b < 2 → (b == 1) ≡ false → b ≡ 0
+zero_bit zero low none = refl
+zero_bit (suc zero) low none = absurd (false≢true (sym none))
+zero_bit (suc (suc b)) low none = absurd (omega arith)
+
+pub row_zero : (rows : List ℕ) (row : ℕ) → ((p : Point) → is_set rows p ≡ false) → slice_index rows row ≡ 0
+row_zero rows row none =
+    same_from_bits (slice_index rows row) 0
+    (λ col. zero_bit (bit_at (slice_index rows row) col) (bit_at-lt (slice_index rows row) col) (none (record { col = col; row = row })) ∙ sym (bit_at-zero col))
+
+pub all_zero : (rows : List ℕ) → ((r : ℕ) → r < length rows → slice_index rows r ≡ 0) → (p : Point) → is_set rows p ≡ false
+all_zero rows zeros p =
+    elim (cases_lt p.row (length rows)) [
+      | inl below ↦ ap (λ w. has_bit w p.col) (zeros p.row below) ∙ has_bit-zero p.col
+      | inr past ↦ ap (λ w. has_bit w p.col) (get_or-eq_default rows 0 {n = p.row} past) ∙ has_bit-zero p.col
+    ]
+
 -- the same rows by another test
 pub AreRowsOf-same : (side : ℕ) (test other : Point → Bool) (rows : List ℕ) → ((p : Point) → IsOn side p → test p ≡ other p) → AreRowsOf side test rows → AreRowsOf side other rows
 AreRowsOf-same side test other rows same are = record { on = λ p on. are.on p on ∙ same p on; off = are.off }
@@ -177,7 +229,7 @@ either_is c one other is =
     elim (or_cases _ _ is)
     [ inl first ↦ inl ((Decides-same_cell c one).0 first) | inr second ↦ inr ((Decides-same_cell c other).0 second) ]
 
-either_first : (c one other : Cell) → c ≡ one → is_either c one other ≡ true
+pub either_first : (c one other : Cell) → c ≡ one → is_either c one other ≡ true
 either_first c one other is = or_left _ _ ((Decides-same_cell c one).1 is)
 
 either_second : (c one other : Cell) → c ≡ other → is_either c one other ≡ true

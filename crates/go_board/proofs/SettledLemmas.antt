@@ -90,7 +90,7 @@ stone_reaches g White own others p on WhiteStone is stone = own p on is
 stone_reaches g k own others p on Empty is stone = absurd (stone refl)
 
 -- every stone reaches empty where those of a player and of her opponent do
-both_reach : (g : Grid) (k : Colour) → AllReach g k → AllReach g (opponent k) → has_unreaching g ≡ false
+pub both_reach : (g : Grid) (k : Colour) → AllReach g k → AllReach g (opponent k) → has_unreaching g ≡ false
 both_reach g k own others =
     elim (cases_Bool (has_unreaching g)) [
       | inl some ↦

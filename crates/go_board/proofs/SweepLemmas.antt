@@ -1,12 +1,10 @@
 -- proofs/SweepLemmas.antt
 -- Passes over the cells, as the rules' own words on points.
-use Rattle.std.proofs.Common.{◌≡◌, ℕ, ◌+◌, ◌*◌, ◌<◌, ◌≤◌, Bool, true, false, ◌||◌, List, [], ◌∷◌, ◌++◌, map, length, get_or, take, set, subst, refl, sym, ap, ◌∙◌, arith, below_more, IsTrue, ◌↔◌}
-use Rattle.std.specs.List.{range_with_len, list_any}
+use Rattle.std.proofs.Common.{◌≡◌, ℕ, ◌+◌, ◌*◌, ◌<◌, ◌≤◌, Bool, List, ◌++◌, map, length, get_or, take, set, subst, sym, ap, ◌∙◌, arith, below_more, IsTrue, ◌↔◌}
+use Rattle.std.specs.List.{range_with_len}
 use Rattle.std.proofs.lemmas.List.{length-take-le, get_or_default, get_or-set_same, get_or-set_other}
 use Rattle.std.proofs.Math.Seq.{take-append_seam}
-use Rattle.std.proofs.lemmas.List.Elements.{All-from_get_or}
-use Rattle.std.proofs.lemmas.List.Folds.{list_any_at, list_any_none}
-use Rattle.std.proofs.lemmas.List.FromFn.{length-range_with_len, get_or-range_with_len, length-map-range_with_len, get_or-map-range_with_len, fill_by_all}
+use Rattle.std.proofs.lemmas.List.FromFn.{length-map-range_with_len, get_or-map-range_with_len, fill_by_all}
 use Rattle.std.proofs.lemmas.Bool.Decides.{same_from_decides}
 use Rattle.go_board.specs.declared.stones.Cell.{Cell}
 use Rattle.go_board.specs.declared.stones.Cell.TheVariants.{Black, Empty}
@@ -17,8 +15,8 @@ use Rattle.go_board.specs.Point.{IsOn, index_of, point_at, points}
 use Rattle.go_board.specs.Grid.{Grid, cell_at}
 use Rattle.go_board.specs.Marking.{Marking, is_marked}
 use Rattle.go_board.specs.Reaching.{Reaches, reaches}
-use Rattle.go_board.specs.Clearing.{cleared_cell, clear, has_unreaching}
-use Rattle.go_board.specs.inner.Sweep.{cleared, is_unreaching, cell_in, mark_in, all_cleared, any_unreaching}
+use Rattle.go_board.specs.Clearing.{cleared_cell, clear}
+use Rattle.go_board.specs.inner.Sweep.{cleared, cell_in, mark_in, all_cleared}
 use Rattle.go_board.proofs.PointLemmas.{IsOn-point_at, index_of-point_at, is_map-points}
 use Rattle.go_board.proofs.GridLemmas.{same_grid}
 use Rattle.go_board.proofs.FrontLemmas.{grid_in}
@@ -40,28 +38,6 @@ module _ (old now : List Cell) (stone : Cell) (marks : List Bool) (i : ℕ) (c :
 pub is_all_cleared : (old now : List Cell) (stone : Cell) (marks : List Bool) → length now ≡ length old → ((k : ℕ) → k < length old → cell_in now k ≡ cleared (cell_in old k) stone (mark_in marks k)) → now ≡ all_cleared old stone marks
 unfolding all_cleared
 is_all_cleared old now stone marks same done = fill_by_all _ now (length old) Empty same done
-
-pub any_unreaching-at : (cells : List Cell) (marks : List Bool) (i : ℕ) → i < length cells → is_unreaching (cell_in cells i) (mark_in marks i) ≡ true → true ≡ any_unreaching cells marks
-unfolding any_unreaching
-any_unreaching-at cells marks i within e =
-    sym
-    (list_any_at _ (range_with_len 0 (length cells)) i 0 (rw length-range_with_len within)
-    (ap (λ j. is_unreaching (cell_in cells j) (mark_in marks j)) (get_or-range_with_len 0 (length cells) i 0 within ∙ omega arith) ∙ e))
-
-pub any_unreaching-none : (cells : List Cell) (marks : List Bool) → ((k : ℕ) → k < length cells → is_unreaching (cell_in cells k) (mark_in marks k) ≡ false) → false ≡ any_unreaching cells marks
-unfolding any_unreaching
-any_unreaching-none cells marks none =
-    sym
-    (list_any_none _ (range_with_len 0 (length cells))
-    (All-from_get_or (λ j. is_unreaching (cell_in cells j) (mark_in marks j) ≡ false) (range_with_len 0 (length cells)) 0
-    (λ k h.
-    let within : k < length cells = rw (← length-range_with_len 0 (length cells)) h in
-    ap (λ j. is_unreaching (cell_in cells j) (mark_in marks j)) (get_or-range_with_len 0 (length cells) k 0 within ∙ omega arith)
-    ∙ none k within)))
-
-list_any-map : {X : Type 0} (p : X → Bool) (xs : List X) → list_any p xs ≡ list_any (λ b. b) (map p xs)
-list_any-map p [] = refl
-list_any-map p (x ∷ xs) = ap (λ b. p x || b) (list_any-map p xs)
 
 -- what a flood's marking says
 unfoldable pub Marks : Grid → Cell → Marking → Type 0
@@ -97,17 +73,6 @@ module _ (g : Grid) (all : length g.cells ≡ g.side * g.side) where
       (λ i below.
       ap (λ c. cleared c (stone_of k) (mark_in m.marks i)) (cell_in-cell_at i below)
       ∙ ap (cleared (cell_at g (point_at g.side i)) (stone_of k)) (mark_in-reaches Empty m i side marks below))
-
-  pub any_unreaching-has_unreaching : (m : Marking) → m.side ≡ g.side → Marks g Empty m → any_unreaching g.cells m.marks ≡ has_unreaching g
-  unfolding any_unreaching has_unreaching
-  any_unreaching-has_unreaching m side marks =
-      list_any-map _ (range_with_len 0 (length g.cells))
-      ∙ ap (list_any (λ b. b))
-      (as_points _ _ false
-      (λ i below.
-      ap (λ c. is_unreaching c (mark_in m.marks i)) (cell_in-cell_at i below)
-      ∙ ap (is_unreaching (cell_at g (point_at g.side i))) (mark_in-reaches Empty m i side marks below)))
-      ∙ sym (list_any-map _ (points g.side))
 
 -- the grid that the front of an array holds, once that front was cleared
 grid_in-cleared : (side : ℕ) (cells new rest : List Cell) (k : Colour) (m : Marking) → side * side ≤ length cells → m.side ≡ side → Marks (grid_in side cells) Empty m → new ≡ all_cleared (take (side * side) cells) (stone_of k) m.marks → grid_in side (new ++ rest) ≡ clear (grid_in side cells) k

@@ -206,11 +206,11 @@ impl Board {
         }
     }
 
-    /// Works the print out, to be kept from then on. Nothing that is seen changes.
+    /// Works the print out, if it isn't known, to be kept from then on. Nothing that is seen changes.
     fn work_print_out(&mut self)
         ensures { self.new ≡ self.old }
     {
-        self.print = print_of(self.cells());
+        self.print = self.print();
         self.printed = true;
     }
 
@@ -237,12 +237,13 @@ impl Board {
         ensures value { self.new ≡ play self.old colour point }
         ensures side { self.new.side ≡ self.old.side }
     {
+        self.settled = !self.has_unreaching();
         if self.settled {
             self.place_settled(colour, point);
         } else {
             self.place_unsettled(colour, point);
-            self.work_print_out();
         }
+        self.work_print_out();
         self.settled = true;
     }
 
@@ -291,7 +292,13 @@ impl Board {
         if self.settled {
             return false;
         }
-        let reaching = self.reached(Cell::Empty);
-        sweep::any_unreaching(self.cells(), &reaching)
+        let (mut black_rows, mut white_rows) = (no_rows(), no_rows());
+        let side = usize::from(self.size.side());
+        let black = &mut black_rows[..side];
+        let white = &mut white_rows[..side];
+        self.stones(black, white);
+        let black_reach = self.all_reach(Colour::Black, black, white);
+        let white_reach = self.all_reach(Colour::White, white, black);
+        !(black_reach & white_reach)
     }
 }

@@ -23,8 +23,8 @@
 //! | `marks`, `steps` | a set of points of a board; a count of work |
 //! | `board` | the board: reading, setting, moves, score |
 //! | `board/flood`, `board/search` | the flood that counts its steps, and its worklist |
-//! | `board/capture`, `board/sweep` | groups without a liberty taken off one at a time; passes over all points |
-//! | `board/regions`, `board/fill` | sets of points as rows of bits, and filling these, for the score |
+//! | `board/capture`, `board/sweep` | groups without a liberty taken off one at a time; a pass over all points |
+//! | `board/regions`, `board/fill` | sets of points as rows of bits, and filling these: the score, whether all stones reach empty |
 //! | `board/areas` | colouring areas |
 //! | `past` | the colourings that a game has been through; `past/list_past` and `past/print_past` keep them |
 //! | `past/colourings`, `past/changes`, `past/differences` | past colourings as changes that lead back |

@@ -1,6 +1,6 @@
 -- specs/inner/Regions.antt
 -- Sets of a board's points by what stands on them, as rows of words.
-use Rattle.std.specs.Prelude.{◌≡◌, ℕ, Bool, false, not, ◌&&◌, ◌||◌, IsTrue, Option, Some, None, List, count_by}
+use Rattle.std.specs.Prelude.{◌≡◌, ◌<◌, ℕ, length, Bool, false, not, ◌&&◌, ◌||◌, IsTrue, Option, Some, None, List, count_by}
 use Rattle.go_board.specs.declared.stones.Cell.{Cell}
 use Rattle.go_board.specs.declared.points.Point.{Point}
 use Rattle.go_board.specs.Colour.{same_cell}
@@ -30,3 +30,8 @@ reaches_through_own grid own wanted p = is_either (cell_at grid p) own wanted &&
 -- how many points of a square are set in the one and not in the other
 unfoldable pub count_apart : ℕ → List ℕ → List ℕ → ℕ
 count_apart side rows others = count_by (λ p. is_set rows p && not (is_set others p)) (points side)
+
+-- the points of the one set that aren't in the other
+pub record IsLeft (rows others left : List ℕ) : Type 0 where
+  pub on : (p : Point) → p.row < length rows → p.col < 64 → is_set left p ≡ (is_set rows p && not (is_set others p))
+  pub off : (p : Point) → IsTrue (is_set left p) → IsTrue (is_set rows p)

@@ -1,7 +1,7 @@
 -- specs/inner/Sweep.antt
--- Passes over the cells of a board, row by row, with the marks of the points that reach a colour.
+-- A pass over the cells of a board, row by row, with the marks of the points that reach a colour.
 use Rattle.std.specs.Prelude.{ℕ, Bool, false, not, ◌&&◌, List, map, length, slice_index_or, if◌then◌else◌}
-use Rattle.std.specs.List.{range_with_len, list_any}
+use Rattle.std.specs.List.{range_with_len}
 use Rattle.go_board.specs.declared.stones.Cell.{Cell}
 use Rattle.go_board.specs.declared.stones.Cell.TheVariants.{Empty}
 use Rattle.go_board.specs.Colour.{same_cell}
@@ -9,10 +9,6 @@ use Rattle.go_board.specs.Colour.{same_cell}
 -- a cell after its colour was cleared or another one, by whether it reaches empty
 abbrev pub cleared : Cell → Cell → Bool → Cell
 cleared cell stone reaches = if same_cell cell stone && not reaches then Empty else cell
-
--- whether a cell has a stone and doesn't reach empty
-abbrev pub is_unreaching : Cell → Bool → Bool
-is_unreaching cell reaches = not (same_cell cell Empty) && not reaches
 
 -- the cell and the mark at an index
 abbrev pub cell_in : List Cell → ℕ → Cell
@@ -25,7 +21,3 @@ mark_in marks index = slice_index_or marks index false
 unfoldable pub all_cleared : List Cell → Cell → List Bool → List Cell
 all_cleared cells stone marks =
     map (λ i. cleared (cell_in cells i) stone (mark_in marks i)) (range_with_len 0 (length cells))
-
-unfoldable pub any_unreaching : List Cell → List Bool → Bool
-any_unreaching cells marks =
-    list_any (λ i. is_unreaching (cell_in cells i) (mark_in marks i)) (range_with_len 0 (length cells))

@@ -1,18 +1,19 @@
 //! Sets of a board's points by what stands on them, as rows of words, and what reaches what by filling these.
 
-ghost use Rattle.std.specs.Prelude.{◌≡◌, ◌≢◌, ℕ, ◌*◌, ◌<◌, ◌≤◌, ◌||◌, IsTrue, not, length, replicate, slice_get};
+ghost use Rattle.std.specs.Prelude.{◌≡◌, ◌≢◌, ◌↔◌, false, ℕ, ◌*◌, ◌<◌, ◌≤◌, ◌||◌, IsTrue, not, length, replicate, slice_get};
 ghost use Rattle.go_board.specs.declared.points.Point.{Point};
 ghost use Rattle.go_board.specs.declared.stones.Cell.TheVariants.{Black, White, Empty};
 ghost use Rattle.go_board.specs.Point.{IsOn};
-ghost use Rattle.go_board.specs.Colour.{same_cell};
+ghost use Rattle.go_board.specs.Colour.{opponent, same_cell, stone_of};
 ghost use Rattle.go_board.specs.Grid.{cell_at};
+ghost use Rattle.go_board.specs.inner.Groups.{AllReach};
 ghost use Rattle.go_board.specs.inner.Rows.{has_bit, is_set};
-ghost use Rattle.go_board.specs.inner.Regions.{is_there, AreRowsOf, reaches_through_own, count_apart};
+ghost use Rattle.go_board.specs.inner.Regions.{is_there, AreRowsOf, IsLeft, reaches_through_own, count_apart};
 
 use crate::board::Board;
 use crate::board::fill::fill;
 use crate::size::{MAX_ROWS, Size};
-use crate::stones::Cell;
+use crate::stones::{Cell, Colour};
 
 /// The word with the bit of a column set, if it is to be.
 fn with_column(word: u64, col: usize, set: bool) -> u64
@@ -99,6 +100,29 @@ pub(crate) fn count_apart(rows: &[u64], others: &[u64]) -> u32
     count
 }
 
+/// The points of a set that aren't in another one.
+fn difference(rows: &[u64], others: &[u64], left: &mut [u64])
+    requires others { length others.now ≡ length rows.now }
+    requires left { length left.old ≡ length rows.now }
+    ensures { IsLeft rows.now others.now left.new }
+{
+    for row in 0..rows.len() {
+        left[row] = rows[row] & !others[row];
+    }
+}
+
+/// Whether a set has no point.
+fn is_none(rows: &[u64]) -> bool
+    ensures { IsTrue result ↔ ((p : Point) → is_set rows.now p ≡ false) }
+{
+    for row in rows {
+        if *row != 0 {
+            return false;
+        }
+    }
+    true
+}
+
 impl Board {
     /// The black points with the empty ones that reach black, and the white points with the empty ones that reach white.
     pub(crate) fn areas(&self, black: &mut [u64], white: &mut [u64])
@@ -119,5 +143,40 @@ impl Board {
         other_points(black, white_room);
         fill(black, black_room);
         fill(white, white_room);
+    }
+
+    /// The black points and the white ones.
+    pub(crate) fn stones(&self, black: &mut [u64], white: &mut [u64])
+        requires black { length black.old ≡ self.now.side }
+        requires white { length white.old ≡ self.now.side }
+        ensures black { AreRowsOf self.now.side (λ p. same_cell (cell_at self.now p) Black) black.new }
+        ensures white { AreRowsOf self.now.side (λ p. same_cell (cell_at self.now p) White) white.new }
+        ensures black_rows { length black.new ≡ self.now.side }
+        ensures white_rows { length white.new ≡ self.now.side }
+    {
+        rows_of(self.cells(), self.size(), black, white);
+    }
+
+    /// Whether all stones of a colour reach empty, from the points of that colour and those of the other.
+    pub(crate) fn all_reach(&self, colour: Colour, rows: &[u64], others: &[u64]) -> bool
+        requires own { AreRowsOf self.now.side (λ p. same_cell (cell_at self.now p) (stone_of colour)) rows.now }
+        requires other { AreRowsOf self.now.side
+            (λ p. same_cell (cell_at self.now p) (stone_of (opponent colour))) others.now }
+        requires own_rows { length rows.now ≡ self.now.side }
+        requires other_rows { length others.now ≡ self.now.side }
+        ensures { IsTrue result ↔ AllReach self.now colour }
+    {
+        let _ = colour;
+        let (mut room_words, mut reached_words) = (no_rows(), no_rows());
+        let mut left_words = no_rows();
+        let side = usize::from(self.size().side());
+        let room = &mut room_words[..side];
+        let reached = &mut reached_words[..side];
+        let left = &mut left_words[..side];
+        other_points(others, room);
+        difference(room, rows, reached);
+        fill(reached, room);
+        difference(rows, reached, left);
+        is_none(left)
     }
 }

@@ -1,7 +1,7 @@
-//! Passes over the cells of a board, with the marks of the points that reach a colour.
+//! A pass over the cells of a board, with the marks of the points that reach a colour.
 
 ghost use Rattle.std.specs.Prelude.{◌≡◌, ◌*◌, length};
-ghost use Rattle.go_board.specs.inner.Sweep.{cleared, is_unreaching, all_cleared, any_unreaching};
+ghost use Rattle.go_board.specs.inner.Sweep.{cleared, all_cleared};
 
 use crate::marks::Marks;
 use crate::points::FIRST;
@@ -18,13 +18,6 @@ fn cleared(cell: Cell, stone: Cell, reaches: bool) -> Cell
     }
 }
 
-/// Whether a cell has a stone and doesn't reach empty.
-fn is_unreaching(cell: Cell, reaches: bool) -> bool
-    ensures { result ≡ is_unreaching cell reaches }
-{
-    cell != Cell::Empty && !reaches
-}
-
 /// Clears a colour, where the marks are the points that reach empty.
 pub(crate) fn clear_all(cells: &mut [Cell], stone: Cell, reaching: &Marks)
     requires { length cells.old ≡ reaching.now.side * reaching.now.side }
@@ -35,19 +28,4 @@ pub(crate) fn clear_all(cells: &mut [Cell], stone: Cell, reaching: &Marks)
         cells[index] = cleared(cells[index], stone, reaching.has(point));
         point = point.following(reaching.size());
     }
-}
-
-/// Whether some stone doesn't reach empty, where the marks are the points that do.
-pub(crate) fn any_unreaching(cells: &[Cell], reaching: &Marks) -> bool
-    requires { length cells.now ≡ reaching.now.side * reaching.now.side }
-    ensures { result ≡ any_unreaching cells.now reaching.now.marks }
-{
-    let mut point = FIRST;
-    for cell in cells {
-        if is_unreaching(*cell, reaching.has(point)) {
-            return true;
-        }
-        point = point.following(reaching.size());
-    }
-    false
 }
