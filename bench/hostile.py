@@ -169,6 +169,8 @@ INPUTS = {
     "captures": ("variations that capture 2,703 stones", lambda n: repeated(n, "(;SZ[52]AW[aa:ZZ]AE[aa]PL[B]", "(;B[aa])", ")"), ["list", "count"]),
     "boards": ("variations that set a board of 52 up", lambda n: repeated(n, "(;SZ[52]", "(;AB[aa:ZZ])", ")"), ["list", "count"]),
     "setups": ("whole boards of 52 set up in turn", lambda n: repeated(n, "(;SZ[52]", ";AB[aa:ZZ];AE[aa:ZZ]", ")"), FORMS),
+    "stripes": ("columns of 52 set up, and taken away in turn", lambda n: repeated(n, "(;SZ[52]", ";AB[aa:ZZ]AW" + "".join(
+        f"[{letter}a:{letter}Z]" for letter in LETTERS[::2]) + ";AE[aa:ZZ]", ")"), FORMS),
     "passes": ("passes, and a setup after each two", lambda n: repeated(n, "(", ";B[];W[];AE[aa]", ")"), FORMS),
     "script": ("setups of one point on a full board of 25", lambda n: repeated(n // 64, "(;SZ[25]AB[aa:yx]", ";AB[aa]", ")"), FORMS),
     "fan": ("a long line that very many variations share", lambda n: fan(n // 8), ["list", "count"]),

@@ -1,15 +1,15 @@
 -- proofs/ChangesLemmas.antt
 -- Changes that lead back from one grid to another.
-use Rattle.std.proofs.Common.{◌≡◌, ℕ, ◌+◌, ◌<◌, ◌≤◌, List, [], ◌∷◌, ◌++◌, length, get_or, set, take, drop, slice_range, refl, sym, ap, ◌∙◌, arith, append_assoc, length-append, length-take}
+use Rattle.std.proofs.Common.{◌≡◌, ℕ, zero, suc, ◌+◌, ◌<◌, ◌≤◌, List, [], ◌∷◌, ◌++◌, length, get_or, set, take, drop, slice_range, refl, sym, ap, ◌∙◌, arith, append_assoc, length-append, length-take}
 use Rattle.std.proofs.lemmas.List.{set-set, set-get_or, take_more, drop_more, set_at, drop-append-le}
 use Rattle.std.proofs.lemmas.List.Elements.{All-push}
 use Rattle.go_board.specs.declared.stones.Cell.{Cell}
 use Rattle.go_board.specs.declared.stones.Cell.TheVariants.{Black, Empty}
 use Rattle.go_board.specs.declared.past.changes.Change.{Change}
 use Rattle.go_board.specs.declared.points.Point.{Point}
-use Rattle.go_board.specs.Point.{IsOn, index_of}
+use Rattle.go_board.specs.Point.{index_of}
 use Rattle.go_board.specs.Grid.{Grid, cell_at, with_cell}
-use Rattle.go_board.specs.inner.Changes.{after_changes, LeadsBack}
+use Rattle.go_board.specs.inner.Changes.{after_changes, painted, with_run, IsRunOn, IsRunOf, LeadsBack}
 use Rattle.go_board.proofs.RangeLemmas.{front-range, back-range}
 
 -- a point coloured anew and then as it was
@@ -19,14 +19,14 @@ with_cell-back g p c =
     (set-set g.cells (index_of g.side p) c (cell_at g p) ∙ set-get_or g.cells (index_of g.side p) Empty)
 
 -- the last of the changes comes last
-pub after-push : (g : Grid) (cs : List Change) (c : Change) → after_changes g (cs ++ c ∷ []) ≡ with_cell (after_changes g cs) c.point c.cell
+pub after-push : (g : Grid) (cs : List Change) (c : Change) → after_changes g (cs ++ c ∷ []) ≡ with_run (after_changes g cs) c
 after-push g [] c = refl
-after-push g (x ∷ xs) c = after-push (with_cell g x.point x.cell) xs c
+after-push g (x ∷ xs) c = after-push (with_run g x) xs c
 
 -- the side stays
 pub after-side : (g : Grid) (cs : List Change) → (after_changes g cs).side ≡ g.side
 after-side g [] = refl
-after-side g (x ∷ xs) = after-side (with_cell g x.point x.cell) xs
+after-side g (x ∷ xs) = after-side (with_run g x) xs
 
 -- the first n old cells, and then the new ones
 abbrev pub mixed : List Cell → List Cell → ℕ → List Cell
@@ -52,19 +52,29 @@ mixed-range old new a b h same =
     ∙ sym (append_assoc (take a old) (slice_range old a b) (drop b new))
     ∙ ap (λ xs. xs ++ drop b new) (sym (front-range old a b h))
 
+painted-mixed : (old new : List Cell) (cell : Cell) (i n : ℕ) → i + n ≤ length old → i + n ≤ length new → IsRunOf cell old i n → painted (mixed old new i) cell i n ≡ mixed old new (i + n)
+painted-mixed old new cell i zero in_old in_new run = ap (mixed old new) (omega arith)
+painted-mixed old new cell i (suc n) in_old in_new run =
+    let so_far = painted-mixed old new cell i n (omega (arith, in_old)) (omega (arith, in_new)) (λ k h. run k (omega (arith, h))) in
+    ap (λ xs. set xs (i + n) cell) so_far
+    ∙ ap (λ x. set (mixed old new (i + n)) (i + n) x) (sym (run n (omega arith)))
+    ∙ mixed-set old new (i + n) (omega (arith, in_old)) (omega (arith, in_new))
+    ∙ ap (mixed old new) (omega arith)
+
 module _ (side start : ℕ) (old new : List Cell) where
-  -- a change added, of the next point
-  pub leads-more : (i : ℕ) (changes : List Change) (c : Change) → i < length old → i < length new → IsOn side c.point → index_of side c.point ≡ i → c.cell ≡ get_or old i Black → LeadsBack side old new start i changes → LeadsBack side old new start (i + 1) (changes ++ c ∷ [])
-  leads-more i changes c in_old in_new on at cell leads =
+  -- a change added, of the next points up to j
+  pub leads-more : (i j n : ℕ) (changes : List Change) (c : Change) → n ≡ suc c.more → j ≡ i + n → j ≤ length old → j ≤ length new → IsRunOn side c → index_of side c.point ≡ i → IsRunOf c.cell old i n → LeadsBack side old new start i changes → LeadsBack side old new start j (changes ++ c ∷ [])
+  leads-more i j n changes c count to in_old in_new on at run leads =
       let g : Grid = record { side = side; cells = new } in
       let parts : drop start (changes ++ c ∷ []) ≡ drop start changes ++ c ∷ [] = drop-append-le start changes (c ∷ []) leads.starts in
       let so_far : after_changes g (drop start changes) ≡ record { side = side; cells = mixed old new i } = leads.back in
-      let one : with_cell (record { side = side; cells = mixed old new i }) c.point c.cell ≡ record { side = side; cells = set (mixed old new i) i (get_or old i Black) } = rw (at, cell) refl in
+      let one : with_run (record { side = side; cells = mixed old new i }) c ≡ record { side = side; cells = painted (mixed old new i) c.cell i n } = ap (λ x. record { side = side; cells = painted (mixed old new i) c.cell x (suc c.more) }) at ∙ ap (λ k. record { side = side; cells = painted (mixed old new i) c.cell i k }) (sym count) in
+      let all : painted (mixed old new i) c.cell i n ≡ mixed old new j = painted-mixed old new c.cell i n (omega (arith, to, in_old)) (omega (arith, to, in_new)) run ∙ ap (mixed old new) (sym to) in
       record {
         starts = omega (arith, leads.starts, length-append changes (c ∷ []));
-        back = ap (after_changes g) parts ∙ after-push g (drop start changes) c ∙ ap (λ (x : Grid). with_cell x c.point c.cell) so_far ∙ one ∙ ap (λ (xs : List Cell). record { side = side; cells = xs }) (mixed-set old new i in_old in_new);
-        few = omega (arith, leads.few, length-append changes (c ∷ []));
-        on_grid = All-push (λ (x : Change). IsOn side x.point) changes c leads.on_grid on;
+        back = ap (after_changes g) parts ∙ after-push g (drop start changes) c ∙ ap (λ (x : Grid). with_run x c) so_far ∙ one ∙ ap (λ (xs : List Cell). record { side = side; cells = xs }) all;
+        few = omega (arith, count, to, leads.few, length-append changes (c ∷ []));
+        on_grid = All-push (IsRunOn side) changes c leads.on_grid on;
       }
 
   -- no change, where the next cells are the same

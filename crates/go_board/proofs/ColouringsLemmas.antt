@@ -7,10 +7,9 @@ use Rattle.std.proofs.lemmas.Bool.Decides.{nat_tests}
 use Rattle.std.proofs.lemmas.Slice.{between_is}
 use Rattle.go_board.specs.declared.past.changes.Change.{Change}
 use Rattle.go_board.specs.declared.past.changes.Older.{Older}
-use Rattle.go_board.specs.Point.{IsOn}
 use Rattle.go_board.specs.Grid.{Grid}
 use Rattle.go_board.specs.Past.{Held, newest, present_stretch}
-use Rattle.go_board.specs.inner.Changes.{after_changes, before, changes_before, held_before, AreKept, AreCounted, IsPast}
+use Rattle.go_board.specs.inner.Changes.{after_changes, IsRunOn, before, changes_before, held_before, AreKept, AreCounted, IsPast}
 use Rattle.go_board.proofs.ChangesLemmas.{after-side}
 
 -- a stretch has no more older colourings than there are
@@ -52,7 +51,7 @@ past-pop g since older older' o changes parts past =
     record {
       kept = kept.2;
       counted = counted.1;
-      on_grid = rw side (All-take (λ (c : Change). IsOn g.side c.point) (length changes - o.changes) changes past.on_grid);
+      on_grid = rw side (All-take (IsRunOn g.side) (length changes - o.changes) changes past.on_grid);
     }
 
 -- going back by one colouring

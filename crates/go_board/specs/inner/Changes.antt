@@ -1,18 +1,36 @@
 -- specs/inner/Changes.antt
 -- Past colourings, of which the newest is kept whole, and of each older one the changes that lead back to it.
-use Rattle.std.specs.Prelude.{◌≡◌, ◌==◌, ℕ, suc, ◌+◌, ◌-◌, ◌<◌, ◌≤◌, false, List, [], ◌∷◌, ◌++◌, IsTrue, All, length, take, drop, reverse}
+use Rattle.std.specs.Prelude.{◌≡◌, ◌==◌, ℕ, zero, suc, ◌+◌, ◌-◌, ◌*◌, ◌<◌, ◌≤◌, false, List, [], ◌∷◌, ◌++◌, IsTrue, All, length, take, drop, reverse, slice_set, slice_index_or}
 use Rattle.go_board.specs.declared.stones.Cell.{Cell}
+use Rattle.go_board.specs.declared.stones.Cell.TheVariants.{Black}
 use Rattle.go_board.specs.declared.past.changes.Change.{Change}
 use Rattle.go_board.specs.declared.past.changes.Older.{Older}
-use Rattle.go_board.specs.Point.{IsOn}
-use Rattle.go_board.specs.Grid.{Grid, with_cell}
+use Rattle.go_board.specs.Point.{IsOn, index_of}
+use Rattle.go_board.specs.Grid.{Grid}
 use Rattle.go_board.specs.Clearing.{has_unreaching}
 use Rattle.go_board.specs.Past.{Held}
+
+-- cells of which so many from an index on are that one
+abbrev pub painted : List Cell → Cell → ℕ → ℕ → List Cell
+painted cells cell i zero = cells
+painted cells cell i (suc n) = slice_set (painted cells cell i n) (i + n) cell
+
+-- the grid with the points of a change coloured
+abbrev pub with_run : Grid → Change → Grid
+with_run g c = record g { cells = painted g.cells c.cell (index_of g.side c.point) (suc c.more) }
+
+-- so many cells from an index on are that one
+abbrev pub IsRunOf : Cell → List Cell → ℕ → ℕ → Type 0
+IsRunOf cell cells i n = (k : ℕ) → k < n → slice_index_or cells (i + k) Black ≡ cell
+
+-- the points of a change are on the grid
+abbrev pub IsRunOn : ℕ → Change → Type 0
+IsRunOn side c = IsOn side c.point × (index_of side c.point + c.more < side * side)
 
 -- the grid after the changes, one after another
 abbrev pub after_changes : Grid → List Change → Grid
 after_changes g [] = g
-after_changes g (c ∷ cs) = after_changes (with_cell g c.point c.cell) cs
+after_changes g (c ∷ cs) = after_changes (with_run g c) cs
 
 -- the colouring before a grid: the newest of the changes lead back to it
 abbrev pub before : Grid → Older → List Change → Grid
@@ -42,9 +60,9 @@ abbrev pub AreCounted : ℕ → List Older → Type 0
 AreCounted since [] = since ≡ 0
 AreCounted since (o ∷ os) = (0 < since → since ≡ suc o.since) × AreCounted o.since os
 
--- each change is of a point of the grid
+-- each change is of points of the grid
 abbrev pub AreOn : ℕ → List Change → Type 0
-AreOn side changes = All (λ (c : Change). IsOn side c.point) changes
+AreOn side changes = All (IsRunOn side) changes
 
 -- what a past of changes keeps, the older colourings oldest first
 pub record IsPast (newest : Grid) (since : ℕ) (older : List Older) (changes : List Change) : Type 0 where

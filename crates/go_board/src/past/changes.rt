@@ -1,9 +1,10 @@
 //! Past colourings: the newest whole, and of each older one the changes that lead back to it.
 
-ghost use Rattle.std.specs.Prelude.{◌≡◌, ◌+◌, ◌-◌, ◌*◌, ◌<◌, ◌≤◌, IsTrue, IsFalse, length, take, drop, IfOk, OnOk, OnErr};
+ghost use Rattle.std.specs.Prelude.{◌≡◌, ◌+◌, ◌-◌, ◌*◌, ◌<◌, ◌≤◌, IsTrue, IsFalse, length, take, drop, slice_index_or, IfOk, OnOk, OnErr};
+ghost use Rattle.go_board.specs.declared.stones.Cell.TheVariants.{Black};
 ghost use Rattle.go_board.specs.Point.{IsOn, index_of};
 ghost use Rattle.go_board.specs.Grid.{cell_at, with_cell};
-ghost use Rattle.go_board.specs.inner.Changes.{after_changes, AreOn, LeadsBack};
+ghost use Rattle.go_board.specs.inner.Changes.{after_changes, with_run, AreOn, IsRunOn, IsRunOf, LeadsBack};
 
 use crate::board::Board;
 use crate::fault::MemoryFault;
@@ -13,11 +14,13 @@ use crate::size::Size;
 use crate::stones::Cell;
 use std::alloc::AllocError;
 
-/// A point, and what stood on it before.
+/// A point and some points after it, row by row from the top, from left to right, and what stood on each of them before.
 #[derive(Clone, Copy)]
 pub(crate) struct Change {
     pub point: Point,
     pub cell: Cell,
+    /// How many points there are after the first.
+    pub more: u8,
 }
 
 /// What is kept of an older colouring, besides its changes.
@@ -37,7 +40,21 @@ pub(crate) fn take_back(board: &mut Board, changes: &[Change])
     ensures { board.new ≡ after_changes board.old changes.now }
 {
     for change in changes {
-        board.set(change.point, change.cell);
+        colour(board, change);
+    }
+}
+
+/// Colours the points of a change as they were before it.
+fn colour(board: &mut Board, change: &Change)
+    requires { IsRunOn board.old.side change.now }
+    ensures { board.new ≡ with_run board.old change.now }
+{
+    let size = board.size();
+    let mut point = change.point;
+    board.set(point, change.cell);
+    for after in 0..change.more {
+        point = point.following(size);
+        board.set(point, change.cell);
     }
 }
 
@@ -64,7 +81,8 @@ pub(crate) fn follow(
     let cell = board.at(point);
     // mostly a stone was placed and nothing captured: then the boards are the same but for that point
     if follow_at(board, new, point) {
-        changes.push(Change { point, cell }).unwrap();
+        let more = 0;
+        changes.push(Change { point, cell, more }).unwrap();
         return Ok(1);
     }
     let count = lead_back(board, new, changes)?;
@@ -129,13 +147,32 @@ fn add_changes(
 {
     let mut index = next_difference(old, new, 0);
     while index < old.len() {
+        let more = run_after(old, new, index);
         changes.push(Change {
             point: point_at(size, index),
             cell: old[index],
+            more,
         })?;
-        index = next_difference(old, new, index + 1);
+        index = next_difference(old, new, index + usize::from(more) + 1);
     }
     Ok(())
+}
+
+/// How many points after one have the same old cell, and another new one; 255 at most.
+fn run_after(old: &[Cell], new: &[Cell], index: usize) -> u8
+    requires lengths { length new.now ≡ length old.now }
+    requires within { index < length old.now }
+    ensures within { index + result < length old.now }
+    ensures same { IsRunOf (slice_index_or old.now index Black) old.now index (result + 1) }
+{
+    let cell = old[index];
+    let mut more: u8 = 0;
+    let mut next = index + 1;
+    while more < u8::MAX && next < old.len() && old[next] == cell && new[next] != cell {
+        more += 1;
+        next += 1;
+    }
+    more
 }
 
 /// The point of an index.
