@@ -1,5 +1,5 @@
 -- A line is followed along its nodes, from those that it shares with the line before it.
-use Rattle.std.proofs.Common.{◌≡◌, ℕ, zero, suc, ◌+◌, ◌<◌, ◌≤◌, List, [], ◌∷◌, ◌++◌, length, take, map, slice_get, get_or, Option, Some, None, Result, Ok, Err, refl, sym, ap, subst, ◌∙◌, arith, add-one}
+use Rattle.std.proofs.Common.{◌≡◌, ℕ, zero, suc, ◌+◌, ◌<◌, ◌≤◌, Bool, List, [], ◌∷◌, ◌++◌, length, take, map, slice_get, get_or, Option, Some, None, Result, Ok, Err, refl, sym, ap, subst, ◌∙◌, arith, add-one}
 use Rattle.std.specs.Prelude.{OnOk}
 use Rattle.std.proofs.lemmas.List.{take_all}
 use Rattle.sgf_tree.specs.Tree.{Node, Games}
@@ -8,7 +8,7 @@ use Rattle.sgf_lines.specs.GameSize.{Opening, opening, root_properties}
 use Rattle.sgf_lines.specs.declared.followed.Followed.{Followed}
 use Rattle.sgf_lines.specs.declared.followed.Followed.TheVariants.{OtherGame, NoBoard, Judged}
 use Rattle.sgf_lines.specs.declared.game.Game.{Game}
-use Rattle.sgf_lines.specs.inner.Played.{IsPlayed}
+use Rattle.sgf_lines.specs.inner.Played.{IsPlayedAs}
 use Rattle.sgf_lines.specs.inner.Followed.{IsHeld, IsFollowed}
 use Rattle.sgf_lines.proofs.Joins.{as_many}
 
@@ -31,19 +31,19 @@ named_at f (m ∷ ms) (p ∷ ps) zero d e lt = let here : f p ≡ Some m = cc in
 named_at f (m ∷ ms) (p ∷ ps) (suc i) d e lt = named_at f ms ps i d (cc) (omega arith)
 
 -- one node more is played
-pub plays_one : (c : Games) (side i number : ℕ) (nodes : List Node) (path : List ℕ) (new : Game) → map Some nodes ≡ map (node_at c) path → i < length path → number ≡ get_or path i 0
-    → ((n : Node) → node_at c number ≡ Some n → IsPlayed side (take i nodes ++ n ∷ []) new) → IsPlayed side (take (i + 1) nodes) new
-plays_one c side i number nodes path new named lt is played =
+pub plays_one : (c : Games) (scripted : Bool) (side i number : ℕ) (nodes : List Node) (path : List ℕ) (new : Game) → map Some nodes ≡ map (node_at c) path → i < length path → number ≡ get_or path i 0
+    → ((n : Node) → node_at c number ≡ Some n → IsPlayedAs scripted side (take i nodes ++ n ∷ []) new) → IsPlayedAs scripted side (take (i + 1) nodes) new
+plays_one c scripted side i number nodes path new named lt is played =
     let f = named_at (node_at c) nodes path i 0 named lt in
     let here : node_at c number ≡ Some f.0 = ap (node_at c) is ∙ f.2 in
     rw (front_more nodes i f.0 f.1) (played f.0 here)
 
 -- all nodes are played
-pub played_all : (c : Games) (side i : ℕ) (nodes : List Node) (path : List ℕ) (game : Game) → map Some nodes ≡ map (node_at c) path → length path ≤ i → IsPlayed side (take i nodes) game
-    → IsPlayed side nodes game
-played_all c side i nodes path game named le h =
+pub played_all : (c : Games) (scripted : Bool) (side i : ℕ) (nodes : List Node) (path : List ℕ) (game : Game) → map Some nodes ≡ map (node_at c) path → length path ≤ i → IsPlayedAs scripted side (take i nodes) game
+    → IsPlayedAs scripted side nodes game
+played_all c scripted side i nodes path game named le h =
     let whole : take i nodes ≡ nodes = take_all i nodes (omega (arith, as_many (node_at c) nodes path named)) in
-    subst (λ ns. IsPlayed side ns game) whole h
+    subst (λ ns. IsPlayedAs scripted side ns game) whole h
 
 -- nodes that begin alike have the same root
 pub same_root : (shared : ℕ) (old nodes : List Node) → 0 < shared → shared ≤ length old → take shared old ≡ take shared nodes → root_properties old ≡ root_properties nodes

@@ -111,7 +111,7 @@ next_extends w n = by_fault w.fault
     by_fault (Some f) = ([], sym (append-nil w.played))
     by_fault None = by_step (step w.state n)
 
-extends : (w : Walk) (ns : List Node) → (more : List Played) × ((fold next w ns).played ≡ w.played ++ more)
+pub extends : (w : Walk) (ns : List Node) → (more : List Played) × ((fold next w ns).played ≡ w.played ++ more)
 extends w [] = ([], sym (append-nil w.played))
 extends w (n ∷ ns) =
     let one = next_extends w n in
@@ -125,7 +125,7 @@ parts (n ∷ ns) zero = refl
 parts (n ∷ ns) (suc i) = ap (λ ks. n ∷ ks) (parts ns i)
 
 -- the commands, once they are known not to be
-or_true : (a b : Bool) → a ≡ true → (a || b) ≡ true
+pub or_true : (a b : Bool) → a ≡ true → (a || b) ≡ true
 or_true a b e = ap (λ x. x || b) e
 
 pub unreaching_stays : (side : ℕ) (nodes : List Node) (i : ℕ) → side ≤ MAX_VERTEX_SIDE → list_any leaves_unreaching (walk side (take i nodes)).played ≡ true → [] ≡ commands_of side (walk side nodes)

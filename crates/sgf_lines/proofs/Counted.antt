@@ -185,3 +185,11 @@ fresh_counts old new nodes shared r le h = by (opening (root_properties nodes)) 
 -- what stands at the front of both is within both
 pub front_within : (k : ℕ) (old nodes : List Node) → k ≤ length old → take k old ≡ take k nodes → k ≤ length nodes
 front_within k old nodes le same = omega (arith, length-take-le k old le, ap length same, length-take k nodes)
+
+-- as much was counted, whatever came of the rest
+pub counts_ok : {A B E F : Type 0} {old new side : ℕ} {nodes more : List Node} (x : A) (r : Result B F) → Counts {E = E} old new side nodes more (Ok x) → Counts old new side nodes more r
+counts_ok x r h = record { not_fewer = h.not_fewer; not_more = h.not_more; each = on_any r h.each }
+
+pub counts_err : {B E F : Type 0} (A : Type 0) {old new side : ℕ} {nodes more : List Node} (e : E) (r : Result B F) → IsErr r → Counts {A = A} old new side nodes more (Err e) → Counts old new side nodes more r
+counts_err A e (Ok x) bad h = absurd cc
+counts_err A e (Err f) is h = record { not_fewer = h.not_fewer; not_more = h.not_more; each = tt }

@@ -38,7 +38,10 @@ pub mod Along
 pub mod Counted
 pub mod Cut
 pub mod Commanding
+pub mod KeptScripts
+pub mod PlayedScripts
 pub mod Lined
+pub mod Scripted
 pub mod Judgement
 pub mod Again
 pub mod Appended

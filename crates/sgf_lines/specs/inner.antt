@@ -11,5 +11,6 @@ pub mod CountedLines
 pub mod Played
 pub mod Followed
 pub mod Kept
+pub mod KeptCommands
 pub mod Keeping
 pub mod Cutting

@@ -1,90 +1,127 @@
-//! The commands of a line's script, and the text of its record.
+//! The commands of a line's script, kept for what the next line shares of them.
 
-ghost use Rattle.std.specs.Prelude.{◌≡◌, ◌++◌, ◌<◌, ◌≤◌, List, Some, map, length, All, IfOk, OnOk};
-ghost use Rattle.sgf_tree.specs.Tree.{Node, node_count};
-ghost use Rattle.sgf_tree.specs.FileOrder.{node_at};
-ghost use Rattle.sgf_lines.specs.GameSize.{opening, root_properties};
-ghost use Rattle.sgf_lines.specs.Walk.{walk};
-ghost use Rattle.sgf_lines.specs.Script.{commands_by, commands_of, leaves_unreaching_by};
+ghost use Rattle.std.specs.Prelude.{◌≡◌, ◌++◌, ◌∷◌, [], ◌<◌, ◌≤◌, ℕ, List, length, take, IfOk, IfSome, OnOk};
+ghost use Rattle.sgf_tree.specs.Tree.{Node};
+ghost use Rattle.go_board.specs.State.{State};
+ghost use Rattle.sgf_lines.specs.Script.{leaves_unreaching_by};
 ghost use Rattle.sgf_lines.specs.NodeContents.{stones};
-ghost use Rattle.sgf_lines.specs.inner.Stepping.{IsChange, stopped_with};
+ghost use Rattle.sgf_lines.specs.inner.Stepping.{IsChange};
+ghost use Rattle.sgf_lines.specs.inner.KeptCommands.{AreCommands, HasChanged, commands_kept, first_unreaching, unreaching_before, lettered_script};
 
-use crate::opening::{Opening, opening_of};
+use crate::kept::KeptText;
 use crate::script::{push_board_commands, push_node_script};
-use crate::step::{Change, StepFault, play_node};
-use crate::text::push_bytes;
-use go_board::{Board, MAX_VERTEX_SIDE, PrintPast, Referee, Size};
-use sgf_tree::{Collection, MemoryFault};
+use crate::step::Change;
+use go_board::{Board, MAX_VERTEX_SIDE, Size};
+use sgf_tree::{MemoryFault, NodeRef};
 use std::alloc::Global;
 
-/// Appends the commands of the line of a path, the root's number first.
-pub(crate) fn push_commands(
+/// The commands of the nodes of a line on a board.
+#[derive(Drop)]
+pub(crate) struct Commands {
+    // none where the side is past the letters of vertices
+    kept: KeptText,
+
+    // the index of the first node that set up stones of which one doesn't reach empty
+    unreaching: Option<usize>,
+}
+
+impl Commands {
+    /// Those before the root's.
+    pub(crate) fn new(alloc: Global, size: Size) -> Result<Commands, MemoryFault>
+        ensures { IfOk result (AreCommands size []) }
+    {
+        let mut kept = KeptText::new(alloc);
+        if size.side() <= MAX_VERTEX_SIDE {
+            push_board_commands(size, &mut kept.text)?;
+        }
+        Ok(Commands {
+            kept,
+            unreaching: None,
+        })
+    }
+
+    /// Goes on by a node, which made that change and left that board; None where it wasn't played.
+    pub(crate) fn go_on(
+        &mut self,
+        alloc: Global,
+        node: &NodeRef<'_>,
+        change: Option<Change>,
+        board: &Board,
+    ) -> Result<(), MemoryFault>
+        requires { IfSome change (IsChange board.now.side node.now) }
+        ensures { (side : ℕ) (nodes : List Node) → AreCommands side nodes self.old → board.now.side ≡ side
+            → HasChanged side nodes node.now board.now change
+            → OnOk result (AreCommands side (nodes ++ node.now ∷ []) self.new) }
+    {
+        let index = self.kept.nodes();
+        self.kept.begin_node()?;
+        match change {
+            None => Ok(()),
+            Some(change) => {
+                let unreaching = leaves_unreaching(change, board);
+                self.unreaching = first_of(self.unreaching, index, unreaching);
+                push_lettered(alloc, node, change, board, &mut self.kept.text)
+            }
+        }
+    }
+
+    /// Goes back to the first `kept` nodes, of which there is one.
+    pub(crate) fn cut_back(&mut self, kept: usize)
+        ensures { (side : ℕ) (nodes : List Node) → AreCommands side nodes self.old → 0 < kept → kept ≤ length nodes
+            → AreCommands side (take kept nodes) self.new }
+    {
+        self.kept.cut_back(kept);
+        self.unreaching = first_before(self.unreaching, kept);
+    }
+
+    /// The commands of the line; none where they can't put it on a board.
+    pub(crate) fn text(&self) -> &[u8]
+        ensures { result.now ≡ commands_kept self.now }
+    {
+        match self.unreaching {
+            None => &self.kept.text,
+            Some(_) => &[],
+        }
+    }
+}
+
+/// The first index: the one that was found, else this one where it counts.
+fn first_of(found: Option<usize>, index: usize, counts: bool) -> Option<usize>
+    ensures { result ≡ first_unreaching found index counts }
+{
+    match (found, counts) {
+        (Some(first), _) => Some(first),
+        (None, true) => Some(index),
+        (None, false) => None,
+    }
+}
+
+/// The index that was found, where it is below `kept`.
+fn first_before(found: Option<usize>, kept: usize) -> Option<usize>
+    ensures { result ≡ unreaching_before found kept }
+{
+    match found {
+        Some(first) if first < kept => Some(first),
+        Some(_) | None => None,
+    }
+}
+
+/// Appends what a node adds to the commands, where the side isn't past the letters.
+fn push_lettered(
     alloc: Global,
-    collection: &Collection<'_>,
-    path: &[usize],
+    node: &NodeRef<'_>,
+    change: Change,
+    board: &Board,
     output: &mut Vec<u8>,
 ) -> Result<(), MemoryFault>
-    requires some_node { 0 < length path.now }
-    requires within { All (λ i. i < node_count collection.now) path.now }
-    ensures { (nodes : List Node) → map Some nodes ≡ map (node_at collection.now) path.now
-        → OnOk result (output.new.items
-        ≡ output.old.items ++ commands_by (opening (root_properties nodes)) nodes) }
+    requires { IsChange board.now.side node.now change }
+    ensures { (after : State) → after.colouring ≡ board.now
+        → OnOk result (output.new.items ≡ output.old.items ++ lettered_script board.now.side after node.now) }
 {
-    match opening_of(&collection.node(path[0])) {
-        Opening::OtherGame => Ok(()),
-        Opening::NoBoard => Ok(()),
-        Opening::Board(size) => {
-            let commands = commands_on(alloc, collection, path, size)?;
-            push_bytes(&commands, output)
-        }
+    if board.size().side() > MAX_VERTEX_SIDE {
+        return Ok(());
     }
-}
-
-/// The commands of the line of a path on a board of that size.
-fn commands_on(
-    alloc: Global,
-    collection: &Collection<'_>,
-    path: &[usize],
-    size: Size,
-) -> Result<Vec<u8>, MemoryFault>
-    requires { All (λ i. i < node_count collection.now) path.now }
-    ensures { (nodes : List Node) → map Some nodes ≡ map (node_at collection.now) path.now
-        → IfOk result (λ commands. commands.items ≡ commands_of size (walk size nodes)) }
-{
-    if size.side() > MAX_VERTEX_SIDE {
-        return Ok(Vec::new(alloc));
-    }
-    let mut commands = Vec::new(alloc);
-    push_board_commands(size, &mut commands)?;
-    let Ok(mut referee) = Referee::<PrintPast>::new(alloc, size) else {
-        return Err(MemoryFault);
-    };
-    for number in path {
-        let node = collection.node(*number);
-        match play_node(alloc, &mut referee, &node) {
-            Ok(change) => {
-                if leaves_unreaching(change, referee.board()) {
-                    return Ok(Vec::new(alloc));
-                }
-                push_node_script(alloc, &node, change, referee.board(), &mut commands)?;
-            }
-            Err(fault) => {
-                stopped(fault)?;
-                return Ok(commands);
-            }
-        }
-    }
-    Ok(commands)
-}
-
-/// Whether a line stops at a fault; memory that was refused comes back.
-fn stopped(fault: StepFault) -> Result<(), MemoryFault>
-    ensures { result ≡ stopped_with fault }
-{
-    match fault {
-        StepFault::Illegal(_) => Ok(()),
-        StepFault::Memory => Err(MemoryFault),
-    }
+    push_node_script(alloc, node, change, board, output)
 }
 
 /// Whether a node that made that change set up stones of which one doesn't reach empty.

@@ -1,12 +1,12 @@
 //! The lines of a run are followed one after the other: what a line shares with the one before it is not played again.
 
-ghost use Rattle.std.specs.Prelude.{◌≡◌, ◌≤◌, ◌<◌, ◌+◌, ◌-◌, ℕ, List, [], Some, map, take, length, All, IfOk, OnOk};
+ghost use Rattle.std.specs.Prelude.{◌≡◌, ◌≤◌, ◌<◌, ◌+◌, ◌-◌, ℕ, Bool, List, [], Some, map, take, length, All, IfOk, OnOk};
 ghost use Rattle.sgf_tree.specs.Tree.{Node, node_count};
 ghost use Rattle.sgf_tree.specs.FileOrder.{node_at};
 ghost use Rattle.sgf_lines.specs.GameSize.{Opening as OpeningSaid, opening, root_properties};
 ghost use Rattle.sgf_lines.specs.Verdict.{verdict_of};
-ghost use Rattle.sgf_lines.specs.inner.Played.{IsPlayed, Counts};
-ghost use Rattle.sgf_lines.specs.inner.Followed.{IsHeld, IsFollowed, CountsOn, CountsFresh};
+ghost use Rattle.sgf_lines.specs.inner.Played.{IsPlayedAs, Counts};
+ghost use Rattle.sgf_lines.specs.inner.Followed.{IsHeld, IsFollowed, followed_commands, CountsOn, CountsFresh};
 
 use crate::game::Game;
 use crate::opening::{Opening, opening_of};
@@ -30,6 +30,7 @@ pub(crate) enum Followed {
 
 impl Followed {
     /// Follows the line of a path, of which the first `shared` nodes are those of the line that was followed last.
+    /// `scripted` tells whether the commands of its nodes are asked for, as they were for that line.
     /// `plays` counts the nodes that are played for it.
     /// After a refusal of memory nothing is said of it.
     pub(crate) fn follow(
@@ -38,19 +39,20 @@ impl Followed {
         collection: &Collection<'_>,
         path: &[usize],
         shared: usize,
+        scripted: bool,
         plays: &mut Plays,
     ) -> Result<(), MemoryFault>
         requires some_node { 0 < length path.now }
         requires within { All (λ i. i < node_count collection.now) path.now }
         requires countable { plays.old + (length path.now - shared) ≤ u64.MAX }
-        ensures followed { (old nodes : List Node) → (0 < shared → IsFollowed old self.old) → shared ≤ length old
+        ensures followed { (old nodes : List Node) → (0 < shared → IsFollowed scripted old self.old) → shared ≤ length old
             → map Some nodes ≡ map (node_at collection.now) path.now → take shared old ≡ take shared nodes
-            → OnOk result (IsFollowed nodes self.new) }
-        ensures counted { (old nodes : List Node) → (0 < shared → IsFollowed old self.old) → shared ≤ length old
+            → OnOk result (IsFollowed scripted nodes self.new) }
+        ensures counted { (old nodes : List Node) → (0 < shared → IsFollowed scripted old self.old) → shared ≤ length old
             → map Some nodes ≡ map (node_at collection.now) path.now → take shared old ≡ take shared nodes
             → CountsFresh plays.old plays.new nodes shared result }
     {
-        self.keep(alloc, collection, path[0], shared)?;
+        self.keep(alloc, collection, path[0], shared, scripted)?;
         self.go_on(alloc, collection, path, shared, plays)
     }
 
@@ -61,15 +63,16 @@ impl Followed {
         collection: &Collection<'_>,
         root: usize,
         shared: usize,
+        scripted: bool,
     ) -> Result<(), MemoryFault>
         requires { root < node_count collection.now }
-        ensures { (old nodes : List Node) (node : Node) → (0 < shared → IsFollowed old self.old) → shared ≤ length old
+        ensures { (old nodes : List Node) (node : Node) → (0 < shared → IsFollowed scripted old self.old) → shared ≤ length old
             → take shared old ≡ take shared nodes → node_at collection.now root ≡ Some node
             → root_properties nodes ≡ node.properties
-            → OnOk result (IsHeld (opening (root_properties nodes)) (take shared nodes) self.new) }
+            → OnOk result (IsHeld scripted (opening (root_properties nodes)) (take shared nodes) self.new) }
     {
         if shared == 0 {
-            *self = begin(alloc, collection, root)?;
+            *self = begin(alloc, collection, root, scripted)?;
             return Ok(());
         }
         match self {
@@ -93,10 +96,10 @@ impl Followed {
     ) -> Result<(), MemoryFault>
         requires within { All (λ i. i < node_count collection.now) path.now }
         requires countable { plays.old + (length path.now - shared) ≤ u64.MAX }
-        ensures held { (said : OpeningSaid) (nodes : List Node) → map Some nodes ≡ map (node_at collection.now) path.now
-            → IsHeld said (take shared nodes) self.old → OnOk result (IsHeld said nodes self.new) }
-        ensures counted { (said : OpeningSaid) (nodes : List Node) → map Some nodes ≡ map (node_at collection.now) path.now
-            → IsHeld said (take shared nodes) self.old
+        ensures held { (scripted : Bool) (said : OpeningSaid) (nodes : List Node) → map Some nodes ≡ map (node_at collection.now) path.now
+            → IsHeld scripted said (take shared nodes) self.old → OnOk result (IsHeld scripted said nodes self.new) }
+        ensures counted { (scripted : Bool) (said : OpeningSaid) (nodes : List Node) → map Some nodes ≡ map (node_at collection.now) path.now
+            → IsHeld scripted said (take shared nodes) self.old
             → CountsOn plays.old plays.new said (take shared nodes) nodes result }
     {
         match self {
@@ -108,7 +111,7 @@ impl Followed {
 
     /// The verdict of the line that was followed last.
     pub(crate) fn verdict(&self) -> Verdict
-        ensures { (nodes : List Node) → IsFollowed nodes self.now → result ≡ verdict_of nodes }
+        ensures { (scripted : Bool) (nodes : List Node) → IsFollowed scripted nodes self.now → result ≡ verdict_of nodes }
     {
         match self {
             Followed::OtherGame => Verdict::NotGo,
@@ -116,18 +119,34 @@ impl Followed {
             Followed::Judged(game) => game.verdict(),
         }
     }
+
+    /// The commands of the line that was followed last; none where it isn't judged, or they weren't asked for.
+    pub(crate) fn commands(&self) -> &[u8]
+        ensures { result.now ≡ followed_commands self.now }
+    {
+        match self {
+            Followed::OtherGame => &[],
+            Followed::NoBoard => &[],
+            Followed::Judged(game) => game.commands(),
+        }
+    }
 }
 
 /// The game of a root, before it.
-fn begin(alloc: Global, collection: &Collection<'_>, root: usize) -> Result<Followed, MemoryFault>
+fn begin(
+    alloc: Global,
+    collection: &Collection<'_>,
+    root: usize,
+    scripted: bool,
+) -> Result<Followed, MemoryFault>
     requires { root < node_count collection.now }
     ensures { (node : Node) → node_at collection.now root ≡ Some node
-        → IfOk result (IsHeld (opening node.properties) []) }
+        → IfOk result (IsHeld scripted (opening node.properties) []) }
 {
     match opening_of(&collection.node(root)) {
         Opening::OtherGame => Ok(Followed::OtherGame),
         Opening::NoBoard => Ok(Followed::NoBoard),
-        Opening::Board(size) => Ok(Followed::Judged(Game::new(alloc, size)?)),
+        Opening::Board(size) => Ok(Followed::Judged(Game::new(alloc, size, scripted)?)),
     }
 }
 
@@ -142,10 +161,10 @@ fn play_from(
 ) -> Result<(), MemoryFault>
     requires within { All (λ i. i < node_count collection.now) path.now }
     requires countable { plays.old + (length path.now - from) ≤ u64.MAX }
-    ensures played { (side : ℕ) (nodes : List Node) → map Some nodes ≡ map (node_at collection.now) path.now
-        → IsPlayed side (take from nodes) game.old → OnOk result (IsPlayed side nodes game.new) }
-    ensures counted { (side : ℕ) (nodes : List Node) → map Some nodes ≡ map (node_at collection.now) path.now
-        → IsPlayed side (take from nodes) game.old → Counts plays.old plays.new side (take from nodes) nodes result }
+    ensures played { (scripted : Bool) (side : ℕ) (nodes : List Node) → map Some nodes ≡ map (node_at collection.now) path.now
+        → IsPlayedAs scripted side (take from nodes) game.old → OnOk result (IsPlayedAs scripted side nodes game.new) }
+    ensures counted { (scripted : Bool) (side : ℕ) (nodes : List Node) → map Some nodes ≡ map (node_at collection.now) path.now
+        → IsPlayedAs scripted side (take from nodes) game.old → Counts plays.old plays.new side (take from nodes) nodes result }
 {
     for i in from..path.len() {
         game.play(alloc, collection, path[i], plays)?;

@@ -1,12 +1,15 @@
 //! A game that is played along a line, node after node, and goes back to where the next line leaves it.
 
-ghost use Rattle.std.specs.Prelude.{◌≡◌, ◌≤◌, ◌<◌, ◌+◌, ◌++◌, ◌∷◌, [], ℕ, List, Some, take, length, IfOk, OnOk};
+ghost use Rattle.std.specs.Prelude.{◌≡◌, ◌≤◌, ◌<◌, ◌+◌, ◌++◌, ◌∷◌, [], ℕ, Bool, List, Some, take, length, IfOk, IfSome, OnOk};
 ghost use Rattle.sgf_tree.specs.Tree.{Node, node_count};
 ghost use Rattle.sgf_tree.specs.FileOrder.{node_at};
 ghost use Rattle.sgf_lines.specs.Walk.{walk};
 ghost use Rattle.sgf_lines.specs.Verdict.{verdict_at};
-ghost use Rattle.sgf_lines.specs.inner.Played.{back_to, IsPlayed, Counts};
+ghost use Rattle.sgf_lines.specs.inner.Stepping.{IsChange};
+ghost use Rattle.sgf_lines.specs.inner.KeptCommands.{HasChanged};
+ghost use Rattle.sgf_lines.specs.inner.Played.{back_to, IsPlayed, IsPlayedAs, HasCommands, game_commands, Counts};
 
+use crate::commands::Commands;
 use crate::judging::score;
 use crate::plays::Plays;
 use crate::step::{Change, StepFault, play_node};
@@ -41,27 +44,58 @@ pub(crate) struct Game {
 
     // one for each node
     marks: Vec<Mark>,
+
+    // those of the nodes, where they are asked for
+    commands: Option<Commands>,
 }
 
 impl Game {
-    /// A game before its root.
-    pub(crate) fn new(alloc: Global, size: Size) -> Result<Game, MemoryFault>
-        ensures { IfOk result (IsPlayed size []) }
+    /// A game before its root; `scripted` tells whether the commands of its nodes are asked for.
+    pub(crate) fn new(alloc: Global, size: Size, scripted: bool) -> Result<Game, MemoryFault>
+        ensures { IfOk result (IsPlayedAs scripted size []) }
     {
-        match Referee::new(alloc, size) {
-            Ok(referee) => Ok(Game {
-                referee,
-                fault: None,
-                marks: Vec::new(alloc),
-            }),
-            Err(_) => Err(MemoryFault),
-        }
+        let Ok(referee) = Referee::new(alloc, size) else {
+            return Err(MemoryFault);
+        };
+        Ok(Game {
+            referee,
+            fault: None,
+            marks: Vec::new(alloc),
+            commands: commands_before(alloc, size, scripted)?,
+        })
     }
 
-    /// Plays one node more, and tells what it changed; None where it isn't allowed, or one before it wasn't.
+    /// Plays one node more; where it isn't allowed, or one before it wasn't, it is passed over.
     /// `plays` counts it where its step is worked out.
     /// After a refusal of memory the game must not be used again.
     pub(crate) fn play(
+        &mut self,
+        alloc: Global,
+        collection: &Collection<'_>,
+        number: usize,
+        plays: &mut Plays,
+    ) -> Result<(), MemoryFault>
+        requires within { number < node_count collection.now }
+        requires countable { plays.old < u64.MAX }
+        ensures played { (scripted : Bool) (side : ℕ) (nodes : List Node) (node : Node)
+            → IsPlayedAs scripted side nodes self.old → node_at collection.now number ≡ Some node
+            → OnOk result (IsPlayedAs scripted side (nodes ++ node ∷ []) self.new) }
+        ensures counted { (side : ℕ) (nodes : List Node) (node : Node) → IsPlayed side nodes self.old
+            → Counts plays.old plays.new side nodes (nodes ++ node ∷ []) result }
+        ensures one_at_most { plays.new ≤ plays.old + 1 }
+    {
+        let change = self.take_step(alloc, collection, number, plays)?;
+        match &mut self.commands {
+            None => Ok(()),
+            Some(commands) => {
+                let node = collection.node(number);
+                commands.go_on(alloc, &node, change, self.referee.board())
+            }
+        }
+    }
+
+    /// Takes the step of one node more, and tells what it changed; None where it isn't taken.
+    fn take_step(
         &mut self,
         alloc: Global,
         collection: &Collection<'_>,
@@ -73,9 +107,15 @@ impl Game {
         ensures played { (side : ℕ) (nodes : List Node) (node : Node) → IsPlayed side nodes self.old
             → node_at collection.now number ≡ Some node
             → OnOk result (IsPlayed side (nodes ++ node ∷ []) self.new) }
+        ensures changed { (side : ℕ) (nodes : List Node) (node : Node) → IsPlayed side nodes self.old
+            → node_at collection.now number ≡ Some node
+            → IfOk result (HasChanged side nodes node self.new.referee.present.colouring) }
+        ensures change { (node : Node) → node_at collection.now number ≡ Some node
+            → IfOk result (λ change. IfSome change (IsChange self.new.referee.present.colouring.side node)) }
         ensures counted { (side : ℕ) (nodes : List Node) (node : Node) → IsPlayed side nodes self.old
             → Counts plays.old plays.new side nodes (nodes ++ node ∷ []) result }
         ensures one_at_most { plays.new ≤ plays.old + 1 }
+        ensures commands { self.new.commands ≡ self.old.commands }
     {
         let mark = Mark {
             depth: self.referee.depth(),
@@ -101,16 +141,39 @@ impl Game {
         }
     }
 
-    /// Goes back to the first `kept` nodes.
+    /// Goes back to the first `kept` nodes, of which there is one.
     pub(crate) fn cut_back(&mut self, kept: usize)
-        ensures { (side : ℕ) (nodes : List Node) → IsPlayed side nodes self.old
+        ensures { (scripted : Bool) (side : ℕ) (nodes : List Node) → IsPlayedAs scripted side nodes self.old
+            → 0 < kept → kept ≤ length nodes → IsPlayedAs scripted side (take kept nodes) self.new }
+    {
+        self.take_back(kept);
+        match &mut self.commands {
+            None => {}
+            Some(commands) => commands.cut_back(kept),
+        }
+    }
+
+    /// Takes steps back to the first `kept` nodes.
+    fn take_back(&mut self, kept: usize)
+        ensures taken { (side : ℕ) (nodes : List Node) → IsPlayed side nodes self.old
             → kept ≤ length nodes → IsPlayed side (take kept nodes) self.new }
+        ensures commands { self.new.commands ≡ self.old.commands }
     {
         if kept < self.marks.len() {
             let mark = self.marks[kept];
             undo_to(&mut self.referee, mark.depth);
             self.fault = mark.fault;
             self.marks.truncate(kept);
+        }
+    }
+
+    /// The commands of the line of these nodes; none where they weren't asked for.
+    pub(crate) fn commands(&self) -> &[u8]
+        ensures { result.now ≡ game_commands self.now.commands }
+    {
+        match &self.commands {
+            Some(commands) => commands.text(),
+            None => &[],
         }
     }
 
@@ -127,6 +190,21 @@ impl Game {
             },
             None => score(&self.referee),
         }
+    }
+}
+
+/// The commands before the root's, where they are asked for.
+fn commands_before(
+    alloc: Global,
+    size: Size,
+    scripted: bool,
+) -> Result<Option<Commands>, MemoryFault>
+    ensures { IfOk result (HasCommands scripted size []) }
+{
+    if scripted {
+        Ok(Some(Commands::new(alloc, size)?))
+    } else {
+        Ok(None)
     }
 }
 

@@ -29,6 +29,13 @@ impl KeptText {
         }
     }
 
+    /// How many nodes there are.
+    pub(crate) fn nodes(&self) -> usize
+        ensures { result ≡ length self.now.marks.items }
+    {
+        self.marks.len()
+    }
+
     /// Begins a node: what is appended to the text from here on is its.
     pub(crate) fn begin_node(&mut self) -> Result<(), MemoryFault>
         ensures text { OnOk result (self.new.text.items ≡ self.old.text.items) }

@@ -13,7 +13,7 @@ use crate::cursor::Cursor;
 use crate::followed::Followed;
 use crate::kept::KeptText;
 use crate::line::LineRef;
-use crate::lines::{push_list, push_script};
+use crate::lines::{push_comment_row, push_list};
 use crate::options::Form;
 use crate::plays::Plays;
 use crate::record::follow_nodes;
@@ -123,7 +123,7 @@ impl Writer {
         match self.form {
             Form::List => {
                 self.followed
-                    .follow(alloc, collection, line.path, shared, plays)?;
+                    .follow(alloc, collection, line.path, shared, false, plays)?;
                 let verdict = self.followed.verdict();
                 push_list(line, verdict, &mut self.head)
             }
@@ -133,9 +133,9 @@ impl Writer {
             }
             Form::Gtp => {
                 self.followed
-                    .follow(alloc, collection, line.path, shared, plays)?;
+                    .follow(alloc, collection, line.path, shared, true, plays)?;
                 let verdict = self.followed.verdict();
-                push_script(alloc, collection, line, verdict, &mut self.head)
+                push_comment_row(line, verdict, &mut self.head)
             }
         }
     }
@@ -147,8 +147,9 @@ impl Writer {
     {
         put_all(&self.head, sink)?;
         match self.form {
-            Form::List | Form::Gtp => Ok(()),
+            Form::List => Ok(()),
             Form::Sgf => put_both(&self.nodes.text, b")\n", sink),
+            Form::Gtp => put_both(self.followed.commands(), b"\n", sink),
         }
     }
 }

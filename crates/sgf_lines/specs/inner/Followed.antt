@@ -1,21 +1,27 @@
 -- What is held of the line that a run followed last.
-use Rattle.std.specs.Prelude.{◌≡◌, ◌≤◌, ◌+◌, ◌-◌, ℕ, List, length, Result, OnOk}
+use Rattle.std.specs.Prelude.{◌≡◌, ◌≤◌, ◌+◌, ◌-◌, ℕ, Bool, List, [], length, Result, OnOk}
 use Rattle.sgf_tree.specs.Tree.{Node}
 use Rattle.sgf_lines.specs.GameSize.{Opening, other_game, no_board, board, opening, root_properties}
 use Rattle.sgf_lines.specs.declared.followed.Followed.{Followed}
 use Rattle.sgf_lines.specs.declared.followed.Followed.TheVariants.{OtherGame, NoBoard, Judged}
 use Rattle.sgf_lines.specs.Verdict.{judged_on}
-use Rattle.sgf_lines.specs.inner.Played.{IsPlayed, Counts}
+use Rattle.sgf_lines.specs.inner.Played.{IsPlayedAs, game_commands, Counts}
 
 -- what the root says of the game, and the game played along the nodes, where it is judged
-abbrev pub IsHeld : Opening → List Node → Followed → Type 0
-IsHeld said nodes OtherGame = said ≡ other_game
-IsHeld said nodes NoBoard = said ≡ no_board
-IsHeld said nodes (Judged game) = (side : ℕ) × (said ≡ board side) × IsPlayed side nodes game
+abbrev pub IsHeld : Bool → Opening → List Node → Followed → Type 0
+IsHeld scripted said nodes OtherGame = said ≡ other_game
+IsHeld scripted said nodes NoBoard = said ≡ no_board
+IsHeld scripted said nodes (Judged game) = (side : ℕ) × (said ≡ board side) × IsPlayedAs scripted side nodes game
 
 -- it is held of all nodes of the line
-abbrev pub IsFollowed : List Node → Followed → Type 0
-IsFollowed nodes followed = IsHeld (opening (root_properties nodes)) nodes followed
+abbrev pub IsFollowed : Bool → List Node → Followed → Type 0
+IsFollowed scripted nodes followed = IsHeld scripted (opening (root_properties nodes)) nodes followed
+
+-- the commands of that line
+abbrev pub followed_commands : Followed → List ℕ
+followed_commands OtherGame = []
+followed_commands NoBoard = []
+followed_commands (Judged game) = game_commands game.commands
 
 -- plays went from `old` to `new` where nodes of a game whose root says this became more of them
 abbrev pub CountsOn : {A E : Type 0} → ℕ → ℕ → Opening → List Node → List Node → Result A E → Type 0

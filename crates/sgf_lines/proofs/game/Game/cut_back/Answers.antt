@@ -1,21 +1,17 @@
--- The mark of the first node that goes leads back to before it.
-use Rattle.std.proofs.Common.{◌≡◌, ◌<◌, ◌≤◌, length, slice_get, Some, refl, sym, arith, ap, ◌∙◌}
-use Rattle.std.proofs.lemmas.Option.{slice_get-get_or}
-use Rattle.sgf_lines.specs.declared.game.Mark.{Mark}
-use Rattle.sgf_lines.proofs.Played.{goes_back, stays_whole}
+-- The steps were taken back, and their commands with them.
+use Rattle.std.proofs.Common.{take, Some}
+use Rattle.sgf_lines.proofs.PlayedScripts.{with_commands, none_asked, some_cut}
 use Rattle.sgf_lines.proofs.game.Game.cut_back.Goals as goal
 
-pub returns-then-kept-len : goal.returns-then-kept-len
-returns-then-kept-len c = λ side nodes h le.
-    let old = c.args.self.now in
-    let mark : Mark = c.index-mark.result.now in
-    let within : c.args.kept < length old.marks.items = omega (arith, c.if-kept-len.true, c.len.ensures, old.marks.ok.0) in
-    let found : slice_get old.marks.items c.args.kept ≡ Some mark =
-    slice_get-get_or old.marks.items c.args.kept mark within ∙ ap Some (sym c.index-mark.ensures) in
-    goes_back side nodes old (record { referee = c.undo_to.new.referee; fault = mark.fault; marks = c.truncate.new.self }) h c.args.kept mark le found c.undo_to.ensures refl
-    c.truncate.ensures.items
+pub returns-in-None : goal.returns-in-None
+returns-in-None c = λ scripted side nodes h lt le. record {
+  played = c.take_back.ensures.taken side nodes h.played le;
+  commands = none_asked scripted side nodes (take c.args.kept nodes) c.args.self.now.commands c.take_back.new.self.commands c.in-None.is c.take_back.ensures.commands h.commands;
+}
 
-pub returns-else-kept-len : goal.returns-else-kept-len
-returns-else-kept-len c = λ side nodes h le.
-    let old = c.args.self.now in
-    stays_whole side nodes old c.args.kept h (omega (arith, c.if-kept-len.false, c.len.ensures, old.marks.ok.0))
+pub returns-in-Some : goal.returns-in-Some
+returns-in-Some c = λ scripted side nodes h lt le. record {
+  played = with_commands side (take c.args.kept nodes) c.take_back.new.self (Some c.cut_back.new.self) (c.take_back.ensures.taken side nodes h.played le);
+  commands = some_cut scripted side nodes (take c.args.kept nodes) c.args.self.now.commands c.take_back.new.self.commands c.in-Some.commands c.cut_back.new.self c.in-Some.is
+      c.take_back.ensures.commands h.commands (λ are. c.cut_back.ensures side nodes are lt le);
+}

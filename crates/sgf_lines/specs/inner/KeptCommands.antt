@@ -1,0 +1,62 @@
+-- The commands of a line's script, kept along its nodes.
+use Rattle.std.specs.Prelude.{◌≡◌, ℕ, ◌+◌, ◌<◌, Bool, true, false, nat_lt, if◌then◌else◌, Option, Some, None, List, [], ◌∷◌, ◌++◌, length, take}
+use Rattle.std.specs.List.{flat_map, list_any}
+use Rattle.sgf_tree.specs.Tree.{Node}
+use Rattle.go_board.specs.declared.vertices.TheConstants.{MAX_VERTEX_SIDE}
+use Rattle.go_board.specs.Grid.{Grid}
+use Rattle.go_board.specs.State.{State}
+use Rattle.sgf_lines.specs.Walk.{Played, Walk, walk}
+use Rattle.sgf_lines.specs.Script.{node_script, played_script, leaves_unreaching, board_commands}
+use Rattle.sgf_lines.specs.declared.step.Change.{Change}
+use Rattle.sgf_lines.specs.declared.commands.Commands.{Commands}
+use Rattle.sgf_lines.specs.inner.Kept.{IsKept}
+
+-- a text, or none where the side is past the letters
+abbrev pub if_lettered : ℕ → List ℕ → List ℕ
+if_lettered side text = if nat_lt MAX_VERTEX_SIDE side then [] else text
+
+abbrev pub lettered_script : ℕ → State → Node → List ℕ
+lettered_script side after n = if_lettered side (node_script after n)
+
+-- the commands of nodes, whether or not each stone of a setup reaches empty
+abbrev pub commands_text : ℕ → List Node → List ℕ
+commands_text side nodes = if_lettered side (board_commands side ++ flat_map played_script (walk side nodes).played)
+
+-- whether one of the nodes sets up stones of which one doesn't reach empty
+abbrev pub some_unreaching : ℕ → List Node → Bool
+some_unreaching side nodes = list_any leaves_unreaching (walk side nodes).played
+
+-- the index of the first such node
+abbrev pub IsFirstUnreaching : ℕ → List Node → Option ℕ → Type 0
+IsFirstUnreaching side nodes None = some_unreaching side nodes ≡ false
+IsFirstUnreaching side nodes (Some i) =
+    (i < length nodes) × (some_unreaching side (take i nodes) ≡ false) × (some_unreaching side (take (i + 1) nodes) ≡ true)
+
+pub record AreCommands (side : ℕ) (nodes : List Node) (commands : Commands) : Type 0 where
+  pub kept : IsKept (commands_text side) nodes commands.kept
+  pub unreaching : IsFirstUnreaching side nodes commands.unreaching
+
+-- what playing a node more did: its step was taken, and led to this board; or it wasn't
+abbrev pub HasChanged : ℕ → List Node → Node → Grid → Option Change → Type 0
+HasChanged side nodes n board (Some change) =
+    (after : State) × (after.colouring ≡ board) × ((walk side (nodes ++ n ∷ [])).played ≡ (walk side nodes).played ++ record { node = n; after = after } ∷ [])
+HasChanged side nodes n board None = (walk side (nodes ++ n ∷ [])).played ≡ (walk side nodes).played
+
+-- the first index, once one more is looked at
+abbrev pub first_unreaching : Option ℕ → ℕ → Bool → Option ℕ
+first_unreaching (Some i) index counts = Some i
+first_unreaching None index true = Some index
+first_unreaching None index false = None
+
+-- the first index among the first ones
+abbrev pub unreaching_before : Option ℕ → ℕ → Option ℕ
+unreaching_before (Some i) kept = if nat_lt i kept then Some i else None
+unreaching_before None kept = None
+
+-- what is kept of commands, where they can be said
+abbrev pub kept_unless : Option ℕ → List ℕ → List ℕ
+kept_unless None text = text
+kept_unless (Some i) text = []
+
+abbrev pub commands_kept : Commands → List ℕ
+commands_kept commands = kept_unless commands.unreaching commands.kept.text.items
