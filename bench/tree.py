@@ -3,12 +3,14 @@
 
   bench/tree.py [--repetitions N] [FILE..]     reading each FILE, none: one input of each kind of bench/games.py, of 4,000,000 bytes
   bench/tree.py --nodes [--repetitions N]      nanoseconds a byte of steps over large nodes, each in three sizes
+  bench/tree.py --nodes --instructions         instructions a byte, which valgrind counts, of smaller ones: no noise, but a minute
 
 The program is that of bench/tree.sh, which proves and builds it (READER names one that is built already). Where PEER names another
 program with the word `count`, it reads the same files, the two taking turns, and the ratios of time and peak memory are printed.
 """
 import argparse
 import os
+import re
 import statistics
 import subprocess
 import sys
@@ -29,12 +31,20 @@ TASKS = {"read": [], "walk": ["walk"], "written": ["written"]}
 
 
 def seconds(command, path, repetitions):
-    """The median processor time of reading the file on standard input."""
+    """The least processor time of reading the file on standard input: a difference of medians would mostly be noise."""
     times = []
     for _ in range(repetitions):
         with open(path, "rb") as file:
             times.append(run(command, file)[1])
-    return statistics.median(times)
+    return min(times)
+
+
+def instructions(command, path):
+    """Thousands of millions of instructions, so that they print as nanoseconds do."""
+    with open(path, "rb") as file:
+        counted = subprocess.run(["valgrind", "--tool=callgrind", "--callgrind-out-file=/dev/null"] + command, stdin=file,
+                                 stdout=subprocess.DEVNULL, stderr=subprocess.PIPE, check=True)
+    return int(re.search(rb"Collected : (\d+)", counted.stderr)[1]) / 1e9
 
 
 def reading(program, paths, repetitions):
@@ -56,21 +66,23 @@ def reading(program, paths, repetitions):
         print(line, flush=True)
 
 
-def nodes(program, folder, repetitions):
-    print(f"{'a node of':22} {'bytes':>10}  nanoseconds a byte: read, and more than that to walk, to write")
+def nodes(program, folder, repetitions, counts):
+    print(f"{'a node of':22} {'bytes':>10}  {'instructions' if counts else 'nanoseconds'} a byte: read, and more than that to walk, to write")
     path = os.path.join(folder, "node.sgf")
     for name, (before, part, after, count) in NODES.items():
-        for share in (16, 4, 1):
+        for share in (256, 64, 16) if counts else (16, 4, 1):
             with open(path, "wb") as file:
                 file.write(before + part * (count // share) + after)
             size = os.path.getsize(path)
-            read, walk, written = (seconds([program] + words, path, repetitions) for words in TASKS.values())
+            commands = [[program] + words for words in TASKS.values()]
+            read, walk, written = (instructions(c, path) if counts else seconds(c, path, repetitions) for c in commands)
             print(f"{name:22} {size:10}  {read / size * 1e9:6.2f} {(walk - read) / size * 1e9:6.2f} {(written - read) / size * 1e9:6.2f}", flush=True)
 
 
 def main():
     parser = argparse.ArgumentParser()
     parser.add_argument("--nodes", action="store_true")
+    parser.add_argument("--instructions", action="store_true")
     parser.add_argument("--repetitions", type=int, default=9)
     parser.add_argument("files", nargs="*")
     arguments = parser.parse_args()
@@ -79,7 +91,7 @@ def main():
         program = subprocess.run([os.path.join(HERE, "tree.sh")], stdout=subprocess.PIPE, check=True, text=True).stdout.strip()
     with tempfile.TemporaryDirectory() as folder:
         if arguments.nodes:
-            nodes(program, folder, arguments.repetitions)
+            nodes(program, folder, arguments.repetitions, arguments.instructions)
             return
         paths = arguments.files
         if not paths:
