@@ -84,27 +84,33 @@ each 'counted bytes' REFUSE_READ 3 'read failed' '' count
 unset SHORT_READS
 check 'each byte is a read' 32 "$(cat bytes.runs)"
 
-# Under a limit on memory, in steps of 256 KiB and then wider: the answer, or want of memory after whole records.
+# Under a limit on memory, in steps of 64 KiB and then wider: the answer, or want of memory after whole records. The last line is much
+# longer than the others, so that memory runs out behind some records, too.
 {
     printf '(;SZ[19]'
-    for at in $(seq 3000); do printf '(;B[%c%c];W[ss]C[%d])' "$(printf "\\$(printf %o $((97 + at % 18)))")" c "$at"; done
-    printf ')'
+    for at in $(seq 1000); do printf '(;B[%c%c];W[ss]C[%d])' "$(printf "\\$(printf %o $((97 + at % 18)))")" c "$at"; done
+    printf '('
+    yes ';B[]C[x];W[]C[y];AE[aa]' | head -n 10000 | tr -d '\n'
+    printf '))'
 } > input.sgf
-"$SGFSPLIT" split --form gtp input.sgf > large.out 2> large.err
-echo $? > large.status
-limits=0 problems=''
-for limit in $(seq 2048 256 8192) $(seq 9216 1024 32768); do
-    (ulimit -v "$limit" && exec "$SGFSPLIT" split --form gtp input.sgf) > out 2> err
-    status=$?
-    # The program isn't started where the loader finds no memory for its libraries.
-    if [ "$status" = 127 ] || grep -q 'error while loading' err || { [ "$status" -ge 128 ] && [ ! -s out ] && [ "$limit" -lt 4096 ]; }; then
-        continue
-    fi
-    limits=$((limits + 1))
-    problem=$(wrong large 4 "$memory" "$status" "$nl$nl")
-    [ -z "$problem" ] || problems+="$limit KiB: $problem; "
+for form in list sgf gtp; do
+    "$SGFSPLIT" split --form "$form" input.sgf > large.out 2> large.err
+    echo $? > large.status
+    end=$nl
+    [ "$form" != gtp ] || end=$nl$nl
+    whole=0 cut=0 none=0 problems=''
+    for limit in $(seq 2304 64 8192) $(seq 9216 1024 32768); do
+        (ulimit -v "$limit" && exec "$SGFSPLIT" split --form "$form" input.sgf) > out 2> err
+        status=$?
+        # The program isn't started where the loader finds no memory for its libraries.
+        [ "$status" != 127 ] && ! grep -q 'error while loading' err || continue
+        case $status in 0) whole=$((whole + 1)) ;; 4) if [ -s out ]; then cut=$((cut + 1)); else none=$((none + 1)); fi ;; esac
+        problem=$(wrong large 4 "$memory" "$status" "$end")
+        [ -z "$problem" ] || problems+="$limit KiB: $problem; "
+    done
+    check "$form: limits on memory, of which $none leave nothing, $cut some records and $whole all" '' "$problems"
+    check "$form: all of these come" 1 "$([ "$none" -gt 0 ] && [ "$cut" -gt 0 ] && [ "$whole" -gt 0 ] && echo 1)"
 done
-check "$limits limits on memory" '' "$problems"
 
 echo "$passed passed, $failed failed, 0 skipped"
 [ "$failed" = 0 ]
