@@ -1,5 +1,5 @@
 -- The commands of a line go on by a node, and back.
-use Rattle.std.proofs.Common.{◌≡◌, ◌⊎◌, ℕ, zero, suc, ◌+◌, ◌<◌, ◌≤◌, Bool, true, false, ◌||◌, cond, List, [], ◌∷◌, ◌++◌, length, take, drop, slice_get, Option, Some, None, inl, inr, refl, sym, ap, subst, ◌∙◌, arith, length-append, append-nil, append_assoc}
+use Rattle.std.proofs.Common.{◌≡◌, ◌⊎◌, ℕ, ◌+◌, ◌<◌, ◌≤◌, Bool, true, false, ◌||◌, cond, List, [], ◌∷◌, ◌++◌, length, take, drop, Option, Some, None, inl, inr, refl, sym, ap, subst, ◌∙◌, arith, length-append, append-nil, append_assoc}
 use Rattle.std.specs.Prelude.{fold, nat_lt}
 use Rattle.std.specs.List.{flat_map, list_any}
 use Rattle.std.proofs.Math.Seq.{take-append_seam}
@@ -14,7 +14,7 @@ use Rattle.go_board.specs.Grid.{Grid}
 use Rattle.go_board.specs.State.{State}
 use Rattle.sgf_lines.specs.NodeContents.{stones}
 use Rattle.sgf_lines.specs.Walk.{Played, Walk, before_root, next, walk}
-use Rattle.sgf_lines.specs.Script.{node_script, played_script, leaves_unreaching, leaves_unreaching_by, board_commands, commands_of}
+use Rattle.sgf_lines.specs.Script.{played_script, leaves_unreaching, leaves_unreaching_by, board_commands, commands_of}
 use Rattle.sgf_lines.specs.declared.kept.KeptText.{KeptText}
 use Rattle.sgf_lines.specs.declared.commands.Commands.{Commands}
 use Rattle.sgf_lines.specs.inner.Kept.{IsKept}

@@ -1,7 +1,6 @@
 -- A game and its commands go on by a node.
-use Rattle.std.proofs.Common.{◌≡◌, ℕ, Bool, true, false, List, [], ◌∷◌, ◌++◌, Option, Some, None, Result, Ok, Err, refl, ap, subst, ◌∙◌, sym}
+use Rattle.std.proofs.Common.{◌≡◌, ℕ, Bool, true, false, List, [], ◌∷◌, Option, Some, None, Result, Ok, Err, refl, ap, subst, ◌∙◌, sym}
 use Rattle.std.specs.Prelude.{fold, OnOk}
-use Rattle.std.proofs.lemmas.Result.{on_ok_weaker}
 use Rattle.sgf_tree.specs.Tree.{Node}
 use Rattle.go_board.specs.declared.reason.Reason.{Reason}
 use Rattle.go_board.specs.State.{State}
@@ -10,7 +9,7 @@ use Rattle.sgf_lines.specs.Walk.{Fault, Walk, before_root, stepped, next_by, nex
 use Rattle.sgf_lines.specs.declared.commands.Commands.{Commands}
 use Rattle.sgf_lines.specs.declared.game.Game.{Game}
 use Rattle.sgf_lines.specs.inner.KeptCommands.{AreCommands}
-use Rattle.sgf_lines.specs.inner.Played.{IsPlayed, IsPlayedAs, HasCommands}
+use Rattle.sgf_lines.specs.inner.Played.{IsPlayed, HasCommands}
 use Rattle.sgf_lines.proofs.Commanding.{side-step}
 
 -- a walk leaves the side of the board

@@ -1,9 +1,9 @@
 -- The script of a line, by the game that was followed along it.
-use Rattle.std.proofs.Common.{◌≡◌, ℕ, Bool, true, List, [], ◌++◌, length, Option, Some, None, refl, sym, ap, ◌∙◌, append_assoc}
+use Rattle.std.proofs.Common.{◌≡◌, ℕ, true, List, ◌++◌, length, Option, Some, None, sym, ap, ◌∙◌, append_assoc}
 use Rattle.std.specs.Prelude.{codes}
 use Rattle.sgf_tree.specs.Tree.{Node, Games}
 use Rattle.sgf_lines.specs.Lines.{Line}
-use Rattle.sgf_lines.specs.GameSize.{Opening, other_game, no_board, board, opening, root_properties}
+use Rattle.sgf_lines.specs.GameSize.{Opening, opening, root_properties}
 use Rattle.sgf_lines.specs.Walk.{walk}
 use Rattle.sgf_lines.specs.ListRow.{list_row, row_text}
 use Rattle.sgf_lines.specs.Verdict.{verdict_of}

@@ -1,5 +1,5 @@
 -- What a node's step does to a referee.
-use Rattle.std.specs.Prelude.{◌≡◌, ◌⊎◌, ◌+◌, ◌<◌, ℕ, Bool, Option, Some, None, List, [], ◌∷◌, length, Result, Ok, Err, MatchBool}
+use Rattle.std.specs.Prelude.{◌≡◌, ◌⊎◌, ◌+◌, ◌<◌, ℕ, Bool, Option, Some, List, [], ◌∷◌, length, Result, Ok, Err, MatchBool}
 use Rattle.sgf_tree.specs.Tree.{Node}
 use Rattle.go_board.specs.declared.stones.Colour.{Colour}
 use Rattle.go_board.specs.declared.referee.plays.Play.{Play}
@@ -56,8 +56,3 @@ IsSetupMet held met =
 abbrev pub ended_with : StepFault → ℕ → ℕ → Result Verdict MemoryFault
 ended_with (Illegal reason) turns place = Ok (IllegalLine (turns + 1) place reason)
 ended_with Memory turns place = Err (record {})
-
--- whether a line stops at a fault, or memory was refused
-abbrev pub stopped_with : StepFault → Result (Unit {0}) MemoryFault
-stopped_with (Illegal reason) = Ok tt
-stopped_with Memory = Err (record {})

@@ -1,5 +1,5 @@
 -- The node's commands are appended, where it was played.
-use Rattle.std.proofs.Common.{◌≡◌, ◌++◌, Some, None, ap, ◌∙◌}
+use Rattle.std.proofs.Common.{◌++◌, Some, None, ap, ◌∙◌}
 use Rattle.std.proofs.lemmas.Result.{on_ok_weaker}
 use Rattle.sgf_lines.specs.declared.kept.KeptText.{KeptText}
 use Rattle.sgf_lines.specs.inner.Stepping.{IsChange}

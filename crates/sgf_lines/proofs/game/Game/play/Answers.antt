@@ -1,5 +1,5 @@
 -- The step was taken, and its commands were kept.
-use Rattle.std.proofs.Common.{◌≡◌, ◌++◌, ◌∷◌, [], Some, sym, ap, ◌∙◌, subst, ℕ}
+use Rattle.std.proofs.Common.{◌≡◌, ◌++◌, ◌∷◌, [], Some, sym, ap, ◌∙◌, subst}
 use Rattle.std.proofs.lemmas.Result.{on_ok_weaker}
 use Rattle.sgf_tree.specs.Tree.{Node}
 use Rattle.go_board.specs.Grid.{Grid}

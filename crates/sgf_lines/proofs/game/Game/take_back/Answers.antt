@@ -1,5 +1,5 @@
 -- The mark of the first node that goes leads back to before it.
-use Rattle.std.proofs.Common.{◌≡◌, ◌<◌, ◌≤◌, length, slice_get, Some, refl, sym, arith, ap, ◌∙◌}
+use Rattle.std.proofs.Common.{◌≡◌, ◌<◌, length, slice_get, Some, refl, sym, arith, ap, ◌∙◌}
 use Rattle.std.proofs.lemmas.Option.{slice_get-get_or}
 use Rattle.sgf_lines.specs.declared.game.Mark.{Mark}
 use Rattle.sgf_lines.proofs.Played.{goes_back, stays_whole}
