@@ -206,6 +206,22 @@ impl Board {
         }
     }
 
+    /// Works out what a move asks of the board, to be kept from then on: whether every stone reaches empty, and the print.
+    /// Nothing that is seen changes.
+    pub(crate) fn prepare(&mut self)
+        ensures { self.new ≡ self.old }
+    {
+        self.work_settled_out();
+        self.work_print_out();
+    }
+
+    /// Works out whether every stone reaches empty, if it isn't known. Nothing that is seen changes.
+    fn work_settled_out(&mut self)
+        ensures { self.new ≡ self.old }
+    {
+        self.settled = !self.has_unreaching();
+    }
+
     /// Works the print out, if it isn't known, to be kept from then on. Nothing that is seen changes.
     fn work_print_out(&mut self)
         ensures { self.new ≡ self.old }
@@ -237,7 +253,7 @@ impl Board {
         ensures value { self.new ≡ play self.old colour point }
         ensures side { self.new.side ≡ self.old.side }
     {
-        self.settled = !self.has_unreaching();
+        self.work_settled_out();
         if self.settled {
             self.place_settled(colour, point);
         } else {

@@ -51,6 +51,7 @@ impl<P: Past> Referee<P> {
         bring_in_step(&mut self.spare, self.past.newest(), self.in_step);
         self.in_step = false;
         self.spare.colour_areas(ops);
+        self.spare.prepare();
         let left = self.present_kept(true);
         self.earlier.reserve(1)?;
         self.past.restart(&self.spare)?;
