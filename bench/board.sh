@@ -1,25 +1,32 @@
 #!/bin/sh
 # Prints the nanoseconds of a referee's turn, undo and score over both pasts, in games of random points, and of a flood of the
 # empty board, on sides 9, 19 and 52, by bench/board/main.rt.in: a turn's time is that of all tries, refused ones included, by
-# the turns taken. The program is no crate of this repository, so that the gate doesn't prove it: it is built in a folder of
-# its own beside a copy of go_board, which BENCH_FOLDER names. The first run proves both, which takes minutes; a later one in
-# the same folder takes seconds. Numbers of a busy machine are worth little: the built program lies in
-# BENCH_FOLDER/crates/bench_board/out.
+# the turns taken. Then the bytes of memory that a placed stone takes over both pasts, the referee's record with it, and the
+# peak of one long game, by bench/board/memory.rt.in. Where the variable TURNS names a program that prints the same times of
+# another referee, the two run by turns. The least time of ROUNDS runs (5) is printed for each.
+# The programs are no crates of this repository, so that the gate doesn't prove them: they are built in a folder of their own
+# beside a copy of go_board, which BENCH_FOLDER names. The first run proves all three, which takes minutes; a later one in the
+# same folder takes seconds. Numbers of a busy machine are worth little.
 set -eu
 top=$(cd "$(dirname "$0")/.." && pwd)
 folder=${BENCH_FOLDER:-${TMPDIR:-/tmp}/sgfsplit-bench-board}
-mkdir -p "$folder/crates/go_board" "$folder/crates/bench_board/src" "$folder/crates/bench_board/specs"
+for name in board memory; do
+    mkdir -p "$folder/crates/go_board" "$folder/crates/bench_$name/src" "$folder/crates/bench_$name/specs"
+    cp "$top/bench/board/$([ $name = board ] && echo main || echo memory).rt.in" "$folder/crates/bench_$name/src/main.rt"
+    : > "$folder/crates/bench_$name/specs/Lib.antt"
+done
 cp "$top/HANDLES" "$folder/HANDLES"
-printf 'go_board:\nbench_board: go_board\n' > "$folder/crates.txt"
+printf 'go_board:\nbench_board: go_board\nbench_memory: go_board\n' > "$folder/crates.txt"
 for part in src specs proofs; do
     rm -rf "$folder/crates/go_board/$part"
     cp -R "$top/crates/go_board/$part" "$folder/crates/go_board/$part"
 done
-cp "$top/bench/board/main.rt.in" "$folder/crates/bench_board/src/main.rt"
-: > "$folder/crates/bench_board/specs/Lib.antt"
-cd "$folder/crates/bench_board"
-if ! rt run > run.log 2>&1; then
-    tail -20 run.log >&2
-    exit 1
-fi
-grep '^side ' run.log
+for name in board memory; do
+    cd "$folder/crates/bench_$name"
+    if ! rt run > run.log 2>&1; then
+        tail -20 run.log >&2
+        exit 1
+    fi
+done
+exec python3 "$top/bench/board/table.py" "$folder/crates/bench_board/out/bench_board" \
+    "$folder/crates/bench_memory/out/bench_memory" "${TURNS:-}" "${ROUNDS:-5}"
