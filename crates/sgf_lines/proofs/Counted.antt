@@ -1,5 +1,5 @@
 -- How many nodes are judged, as a game goes on.
-use Rattle.std.proofs.Common.{◌≡◌, ℕ, ◌+◌, ◌-◌, ◌≤◌, List, [], ◌∷◌, ◌++◌, length, take, drop, map, slice_get, Option, Some, None, option_map, Result, Ok, Err, refl, sym, ap, ◌∙◌, arith, length-append}
+use Rattle.std.proofs.Common.{◌≡◌, ℕ, ◌+◌, ◌-◌, ◌≤◌, List, [], ◌∷◌, ◌++◌, length, take, drop, map, slice_get, Option, Some, None, Result, Ok, Err, refl, sym, ap, ◌∙◌, arith, length-append}
 use Rattle.std.specs.Prelude.{fold, option_to_list, OnOk}
 use Rattle.std.specs.Result.{IsErr}
 use Rattle.std.proofs.lemmas.List.{take_all, take-append-drop, length-map, length-take, length-take-le}
@@ -13,10 +13,11 @@ use Rattle.sgf_lines.specs.Walk.{Played, Fault, Walk, before_root, stepped, next
 use Rattle.sgf_lines.specs.GameSize.{Opening, other_game, no_board, board, opening, root_properties}
 use Rattle.sgf_lines.specs.Verdict.{judged_on}
 use Rattle.sgf_lines.specs.declared.game.Game.{Game}
-use Rattle.sgf_lines.specs.inner.Played.{met, IsPlayed, judged_count, Counts}
+use Rattle.sgf_lines.specs.inner.Played.{IsPlayed, judged_count, Counts}
 use Rattle.sgf_lines.specs.inner.Followed.{CountsOn, CountsFresh, fresh_plays}
 use Rattle.sgf_lines.proofs.Walking.{after_fault}
 use Rattle.sgf_lines.proofs.Along.{front_more}
+use Rattle.sgf_lines.proofs.Played.{met_none, met_some}
 
 -- how many nodes of a walk are judged
 judged_length : (w : Walk) → length (judged_by w) ≡ length w.played + length (option_to_list w.fault)
@@ -108,23 +109,16 @@ module _ (side : ℕ) (nodes : List Node) (n : Node) where
   module _ (game : Game) (h : IsPlayed side nodes game) where
     -- a node after a fault
     pub counts_passed : {A E : Type 0} (old : ℕ) (r : Result A E) → (game.fault ≡ None → ⊥) → Counts old old side nodes (nodes ++ n ∷ []) r
-    counts_passed old r some = by (walk side nodes).fault refl
-      where
-        by : (o : Option Fault) → (walk side nodes).fault ≡ o → Counts old old side nodes (nodes ++ n ∷ []) r
-        by None e = absurd (some (h.at.fault_is ∙ ap (option_map met) e))
-        by (Some f) e =
-            let same : judged_count side (nodes ++ n ∷ []) ≡ judged_count side nodes = more ∙ ap (λ w. length (judged_by w)) (none_judged (walk side nodes) n f e) in
-            record { not_fewer = omega arith; not_more = omega (arith, same); each = on_any r (omega (arith, same)) }
+    counts_passed old r some =
+        let f = met_some side nodes game h some in
+        let same : judged_count side (nodes ++ n ∷ []) ≡ judged_count side nodes = more ∙ ap (λ w. length (judged_by w)) (none_judged (walk side nodes) n f.0 f.1) in
+        record { not_fewer = omega arith; not_more = omega (arith, same); each = on_any r (omega (arith, same)) }
 
     -- a node before the first fault, or that fault
     pub counts_one : {A E : Type 0} (old new : ℕ) (r : Result A E) → game.fault ≡ None → new ≡ old + 1 → Counts old new side nodes (nodes ++ n ∷ []) r
-    counts_one old new r none is = by (walk side nodes).fault refl
-      where
-        by : (o : Option Fault) → (walk side nodes).fault ≡ o → Counts old new side nodes (nodes ++ n ∷ []) r
-        by None e =
-            let one : judged_count side (nodes ++ n ∷ []) ≡ judged_count side nodes + 1 = more ∙ one_judged (walk side nodes) n e in
-            record { not_fewer = omega arith; not_more = omega (arith, one); each = on_any r (omega (arith, one)) }
-        by (Some f) e = let bad : None ≡ Some (met f) = sym none ∙ h.at.fault_is ∙ ap (option_map met) e in absurd cc
+    counts_one old new r none is =
+        let one : judged_count side (nodes ++ n ∷ []) ≡ judged_count side nodes + 1 = more ∙ one_judged (walk side nodes) n (met_none side nodes game h none) in
+        record { not_fewer = omega arith; not_more = omega (arith, one); each = on_any r (omega (arith, one)) }
 
 -- plays went from `old` to `new` where the first `from` nodes became the first `to` of them
 pub record CountsSoFar (old new side : ℕ) (nodes : List Node) (start end : ℕ) : Type 0 where

@@ -1,24 +1,22 @@
 -- A game goes on by a node, and back.
-use Rattle.std.proofs.Common.{◌≡◌, ◌⊎◌, ℕ, zero, suc, ◌+◌, ◌<◌, ◌≤◌, Bool, true, false, List, [], ◌∷◌, ◌++◌, length, take, drop, slice_get, Option, Some, None, option_map, Result, Ok, Err, inl, inr, refl, sym, ap, subst, ◌∙◌, arith, length-append}
-use Rattle.std.specs.Prelude.{fold, nat_le}
-use Rattle.std.proofs.lemmas.Bool.{cases_lt, le-leb, lt-leb}
+use Rattle.std.proofs.Common.{◌≡◌, ◌⊎◌, ℕ, zero, suc, ◌+◌, ◌<◌, ◌≤◌, cond, List, [], ◌∷◌, ◌++◌, length, take, drop, slice_get, Option, Some, None, Ok, Err, inl, inr, refl, sym, ap, subst, ◌∙◌, arith, length-append}
+use Rattle.std.proofs.lemmas.Bool.{cases_lt, le-leb, lt-leb, le-ltb, lt-ltb}
 use Rattle.std.proofs.Math.Seq.{take-append_seam}
 use Rattle.std.proofs.lemmas.List.{take-append-le, take-append-drop, take_all, length-take-le}
 use Rattle.std.proofs.lemmas.List.Sums.{fold-append}
 use Rattle.std.proofs.lemmas.Option.{slice_get_within}
 use Rattle.sgf_tree.specs.Tree.{Node}
-use Rattle.go_board.specs.declared.reason.Reason.{Reason}
 use Rattle.go_board.specs.State.{State, States, followed_by}
 use Rattle.sgf_lines.specs.Step.{step}
 use Rattle.sgf_lines.specs.Walk.{Fault, Walk, before_root, stepped, next_by, next, walk}
 use Rattle.sgf_lines.specs.Verdict.{verdict_at, score_in}
 use Rattle.sgf_lines.specs.declared.verdict.Verdict.TheVariants.{Illegal}
 use Rattle.sgf_lines.specs.declared.game.Fault.{Fault as Met}
-use Rattle.sgf_lines.specs.declared.game.Mark.{Mark}
 use Rattle.sgf_lines.specs.declared.game.Game.{Game}
 use Rattle.sgf_lines.specs.inner.Stepping.{GrowsByOne}
-use Rattle.sgf_lines.specs.inner.Played.{back_from, back_to, met, IsAt, LeadsBack, IsPlayed}
+use Rattle.sgf_lines.specs.inner.Played.{back_from, back_to, IsFaultOf, met_before, LeadsBack, IsPlayed}
 use Rattle.sgf_lines.proofs.Lists.{split_get, get_left}
+use Rattle.sgf_lines.proofs.Walking.{StandsAfter, next_is, walk-fault}
 
 -- nothing to take back
 pub back_none : (states : States) (depth : ℕ) → length states.earlier ≤ depth → back_to states depth ≡ states
@@ -70,29 +68,13 @@ back_length states depth le = by states.present states.earlier le
 walk_more : (side : ℕ) (nodes : List Node) (n : Node) → walk side (nodes ++ n ∷ []) ≡ next (walk side nodes) n
 walk_more side nodes n = fold-append next (before_root side) nodes (n ∷ [])
 
-module _ (w : Walk) (n : Node) (states new : States) where
-  met_none : None ≡ option_map met w.fault → w.fault ≡ None
-  met_none e = by w.fault e
-    where
-      by : (o : Option Fault) → None ≡ option_map met o → o ≡ None
-      by None e = refl
-      by (Some f) e = absurd cc
-
-  next_is : IsAt w states None → (r : Result State Reason) → step states.present n ≡ r → next w n ≡ stepped w n r
-  next_is h r e = ap (λ f. next_by w f n) (met_none h.fault_is) ∙ ap (λ s. stepped w n (step s n)) (sym h.state) ∙ ap (stepped w n) e
-
-  pub at_next : IsAt w states None → step states.present n ≡ Ok new.present → IsAt (next w n) new None
-  at_next h e = rw (next_is h (Ok new.present) e) (record { state = refl; fault_is = refl })
-
-  pub at_fault : (reason : Reason) (place : ℕ) → IsAt w states None → step states.present n ≡ Err reason → n.place ≡ place → IsAt (next w n) states (Some (record { place = place; reason = reason }))
-  at_fault reason place h e is = rw (next_is h (Err reason) e) (record { state = h.state; fault_is = ap (λ p. Some (record { place = p; reason = reason })) (sym is) })
-
-  pub at_passed : (fault : Met) → IsAt w states (Some fault) → IsAt (next w n) states (Some fault)
-  at_passed fault h = by w.fault refl
-    where
-      by : (o : Option Fault) → w.fault ≡ o → IsAt (next w n) states (Some fault)
-      by None e = let bad : Some fault ≡ None = h.fault_is ∙ ap (option_map met) e in absurd cc
-      by (Some f) e = let same : next w n ≡ w = ap (λ o. next_by w o n) e in rw same h
+-- a front of a walk that meets no fault meets none
+front_clear : (side k : ℕ) (nodes : List Node) → (walk side nodes).fault ≡ None → (walk side (take k nodes)).fault ≡ None
+front_clear side k nodes none = by (walk side (take k nodes)).fault refl
+  where
+    by : (o : Option Fault) → (walk side (take k nodes)).fault ≡ o → (walk side (take k nodes)).fault ≡ None
+    by None e = e
+    by (Some f) e = let bad : None ≡ Some f = sym none ∙ ap (λ (w : Walk). w.fault) (walk-fault side nodes k f e) ∙ e in absurd cc
 
 -- an element of a list with one more at its end
 pub pushed : {A : Type 0} (xs : List A) (x y : A) (i : ℕ) → slice_get (xs ++ x ∷ []) i ≡ Some y → (slice_get xs i ≡ Some y) ⊎ ((i ≡ length xs) × (x ≡ y))
@@ -116,110 +98,156 @@ take_take : {A : Type 0} (xs : List A) (i k : ℕ) → i ≤ k → k ≤ length 
 take_take xs i k le within =
     sym (ap (take i) (sym (take-append-drop k xs)) ∙ take-append-le i (take k xs) (drop k xs) (omega (arith, length-take-le k xs within)))
 
+-- what the game tells of its walk
+pub met_none : (side : ℕ) (nodes : List Node) (game : Game) → IsPlayed side nodes game → game.fault ≡ None → (walk side nodes).fault ≡ None
+met_none side nodes game h e = by game.fault h.fault e
+  where
+    by : (o : Option Met) → IsFaultOf side nodes o → o ≡ None → (walk side nodes).fault ≡ None
+    by None is e = is
+    by (Some m) is e = absurd cc
+
+fault_is : (side : ℕ) (nodes : List Node) (m : Met) → IsFaultOf side nodes (Some m) → (f : Fault) × ((walk side nodes).fault ≡ Some f) × (m.place ≡ f.node.place) × (m.reason ≡ f.reason)
+fault_is side nodes m h =
+    let f = h.2.0 in
+    let there = h.2.1 in
+    (f, ap (λ (w : Walk). w.fault) (walk-fault side nodes (m.index + 1) f there) ∙ there, h.2.2, h.2.3)
+
+pub met_some : (side : ℕ) (nodes : List Node) (game : Game) → IsPlayed side nodes game → (game.fault ≡ None → ⊥) → (f : Fault) × ((walk side nodes).fault ≡ Some f)
+met_some side nodes game h some = by game.fault h.fault some
+  where
+    by : (o : Option Met) → IsFaultOf side nodes o → (o ≡ None → ⊥) → (f : Fault) × ((walk side nodes).fault ≡ Some f)
+    by None is some = absurd (some refl)
+    by (Some m) is some = let f = fault_is side nodes m is in (f.0, f.1)
+
+-- a node after a fault leaves the walk
+pub passed_same : (side : ℕ) (nodes : List Node) (game : Game) (n : Node) → IsPlayed side nodes game → (game.fault ≡ None → ⊥) → walk side (nodes ++ n ∷ []) ≡ walk side nodes
+passed_same side nodes game n h some = let f = met_some side nodes game h some in walk_more side nodes n ∙ ap (λ o. next_by (walk side nodes) o n) f.1
+
+pub tells_fault : (side : ℕ) (nodes : List Node) (game : Game) (m : Met) → IsPlayed side nodes game → game.fault ≡ Some m → Illegal (game.referee.present.turns + 1) m.place m.reason ≡ verdict_at (walk side nodes)
+tells_fault side nodes game m h e =
+    let is : IsFaultOf side nodes (Some m) = subst (IsFaultOf side nodes) e h.fault in
+    let f = fault_is side nodes m is in
+    rw (f.1, ← h.state, ← f.2, ← f.3) refl
+
+pub tells_score : (side : ℕ) (nodes : List Node) (game : Game) → IsPlayed side nodes game → game.fault ≡ None → score_in game.referee.present ≡ verdict_at (walk side nodes)
+tells_score side nodes game h e = rw (met_none side nodes game h e, ← h.state) refl
+
 module _ (side : ℕ) (nodes : List Node) (old new : Game) (h : IsPlayed side nodes old) where
   -- what is kept before a node
-  abbrev pub mark_now : Mark
-  mark_now = record { depth = length old.referee.earlier; fault = old.fault }
+  abbrev pub mark_now : ℕ
+  mark_now = length old.referee.earlier
 
   -- one node more
   module _ (n : Node) (marks : new.marks.items ≡ old.marks.items ++ mark_now ∷ []) (grows : GrowsByOne old.referee new.referee) where
     grown : length old.referee.earlier ≤ length new.referee.earlier
     grown = elim grows [ inl same ↦ omega (arith, ap (λ (s : States). length s.earlier) same) | inr more ↦ omega (arith, ap (λ (s : States). length s.earlier) more) ]
 
-    leads_back : (i : ℕ) (m : Mark) → (slice_get old.marks.items i ≡ Some m) ⊎ ((i ≡ length old.marks.items) × (mark_now ≡ m)) → LeadsBack side (nodes ++ n ∷ []) new.referee i m
-    leads_back i m (inl before) =
-        let b = h.marks i m before in
-        let within = slice_get_within old.marks.items i m before in
+    leads_back : (i d : ℕ) → (slice_get old.marks.items i ≡ Some d) ⊎ ((i ≡ length old.marks.items) × (mark_now ≡ d)) → LeadsBack side (nodes ++ n ∷ []) new.referee i d
+    leads_back i d (inl before) =
+        let b = h.marks i d before in
+        let within = slice_get_within old.marks.items i d before in
         let front : take i (nodes ++ n ∷ []) ≡ take i nodes = take-append-le i nodes (n ∷ []) (omega (arith, h.count, within)) in
-        record { depth = omega (arith, b.depth, grown); at = rw (front, back_grown old.referee new.referee m.depth grows b.depth) b.at }
-    leads_back i m (inr last) =
+        record { within = omega (arith, b.within, grown); state = rw (front, back_grown old.referee new.referee d grows b.within) b.state }
+    leads_back i d (inr last) =
         let here : i ≡ length nodes = omega (arith, last.0, h.count) in
         let front : take i (nodes ++ n ∷ []) ≡ nodes = ap (λ k. take k (nodes ++ n ∷ [])) here ∙ take-append_seam nodes (n ∷ []) in
         let back : back_to new.referee (length old.referee.earlier) ≡ old.referee =
         back_grown old.referee new.referee (length old.referee.earlier) grows (omega arith) ∙ back_none old.referee (length old.referee.earlier) (omega arith) in
-        subst (LeadsBack side (nodes ++ n ∷ []) new.referee i) last.1 (record { depth = grown; at = rw (front, back) h.at })
+        subst (LeadsBack side (nodes ++ n ∷ []) new.referee i) last.1 (record { within = grown; state = rw (front, back) h.state })
 
-    in_order : (i j : ℕ) (early late : Mark) → i ≤ j → (slice_get old.marks.items i ≡ Some early) ⊎ ((i ≡ length old.marks.items) × (mark_now ≡ early))
-        → (slice_get old.marks.items j ≡ Some late) ⊎ ((j ≡ length old.marks.items) × (mark_now ≡ late)) → early.depth ≤ late.depth
+    in_order : (i j early late : ℕ) → i ≤ j → (slice_get old.marks.items i ≡ Some early) ⊎ ((i ≡ length old.marks.items) × (mark_now ≡ early))
+        → (slice_get old.marks.items j ≡ Some late) ⊎ ((j ≡ length old.marks.items) × (mark_now ≡ late)) → early ≤ late
     in_order i j early late le (inl e) (inl f) = h.order i j early late le e f
-    in_order i j early late le (inl e) (inr f) = omega (arith, (h.marks i early e).depth, ap (λ (m : Mark). m.depth) f.1)
+    in_order i j early late le (inl e) (inr f) = omega (arith, (h.marks i early e).within, f.1)
     in_order i j early late le (inr e) (inl f) = absurd (omega (arith, e.0, slice_get_within old.marks.items j late f))
-    in_order i j early late le (inr e) (inr f) = omega (arith, ap (λ (m : Mark). m.depth) e.1, ap (λ (m : Mark). m.depth) f.1)
+    in_order i j early late le (inr e) (inr f) = omega (arith, e.1, f.1)
 
-    pub goes_down : IsAt (next (walk side nodes) n) new.referee new.fault → IsPlayed side (nodes ++ n ∷ []) new
-    goes_down at = record {
-      at = rw (walk_more side nodes n) at;
+    goes_down : new.referee.present ≡ (next (walk side nodes) n).state → IsFaultOf side (nodes ++ n ∷ []) new.fault → IsPlayed side (nodes ++ n ∷ []) new
+    goes_down state fault = record {
+      state = state ∙ ap (λ (w : Walk). w.state) (sym (walk_more side nodes n));
+      fault = fault;
       count = omega (arith, ap length marks, length-append old.marks.items (mark_now ∷ []), h.count, length-append nodes (n ∷ []));
-      marks = λ i m e. leads_back i m (pushed old.marks.items mark_now m i (rw marks at e));
+      marks = λ i d e. leads_back i d (pushed old.marks.items mark_now d i (rw marks at e));
       order = λ i j early late le e f. in_order i j early late le (pushed old.marks.items mark_now early i (rw marks at e)) (pushed old.marks.items mark_now late j (rw marks at f));
     }
 
     -- after a node that wasn't allowed
     pub passes : new.referee ≡ old.referee → new.fault ≡ old.fault → (old.fault ≡ None → ⊥) → IsPlayed side (nodes ++ n ∷ []) new
-    passes referee fault some = goes_down (rw (referee, fault) (by old.fault refl))
+    passes referee fault some =
+        let f = met_some side nodes old h some in
+        let same : next (walk side nodes) n ≡ walk side nodes = ap (λ o. next_by (walk side nodes) o n) f.1 in
+        goes_down (ap (λ (s : States). s.present) referee ∙ h.state ∙ ap (λ (w : Walk). w.state) (sym same)) (subst (IsFaultOf side (nodes ++ n ∷ [])) (sym fault) (by old.fault h.fault some))
       where
-        by : (o : Option Met) → old.fault ≡ o → IsAt (next (walk side nodes) n) old.referee old.fault
-        by None e = absurd (some e)
-        by (Some f) e = rw e (at_passed (walk side nodes) n old.referee old.referee f (rw e at h.at))
+        by : (o : Option Met) → IsFaultOf side nodes o → (o ≡ None → ⊥) → IsFaultOf side (nodes ++ n ∷ []) o
+        by None is some = absurd (some refl)
+        by (Some m) is some =
+            let early : take m.index (nodes ++ n ∷ []) ≡ take m.index nodes = take-append-le m.index nodes (n ∷ []) (omega (arith, is.0)) in
+            let late : take (m.index + 1) (nodes ++ n ∷ []) ≡ take (m.index + 1) nodes = take-append-le (m.index + 1) nodes (n ∷ []) (omega (arith, is.0)) in
+            (omega (arith, is.0, length-append nodes (n ∷ [])), rw early is.1, (is.2.0, rw late is.2.1, is.2.2, is.2.3))
+
+    stands : old.fault ≡ None → StandsAfter (walk side nodes) old.referee.present
+    stands none = record { no_fault = met_none side nodes old h none; state = sym h.state }
 
     -- a node that is allowed
     pub plays_on : old.fault ≡ None → new.fault ≡ None → step old.referee.present n ≡ Ok new.referee.present → IsPlayed side (nodes ++ n ∷ []) new
-    plays_on none fault stepped = goes_down (rw fault (at_next (walk side nodes) n old.referee new.referee (rw none at h.at) stepped))
+    plays_on none fault stepped =
+        let is = next_is (walk side nodes) old.referee.present (stands none) n (Ok new.referee.present) stepped in
+        let clear : (walk side (nodes ++ n ∷ [])).fault ≡ None = ap (λ (w : Walk). w.fault) (walk_more side nodes n ∙ is) in
+        goes_down (ap (λ (w : Walk). w.state) (sym is)) (subst (IsFaultOf side (nodes ++ n ∷ [])) (sym fault) clear)
 
     -- the first one that isn't
-    pub stops : (reason : Reason) (place : ℕ) → old.fault ≡ None → new.fault ≡ Some (record { place = place; reason = reason }) → new.referee ≡ old.referee
-        → step old.referee.present n ≡ Err reason → n.place ≡ place → IsPlayed side (nodes ++ n ∷ []) new
-    stops reason place none fault referee stepped is =
-        goes_down (rw (referee, fault) (at_fault (walk side nodes) n old.referee old.referee reason place (rw none at h.at) stepped is))
+    pub stops : (m : Met) → old.fault ≡ None → new.fault ≡ Some m → m.index ≡ length old.marks.items → new.referee ≡ old.referee → step old.referee.present n ≡ Err m.reason → n.place ≡ m.place
+        → IsPlayed side (nodes ++ n ∷ []) new
+    stops m none fault index referee stepped place =
+        let is = next_is (walk side nodes) old.referee.present (stands none) n (Err m.reason) stepped in
+        let here : m.index ≡ length nodes = omega (arith, index, h.count) in
+        let early : take m.index (nodes ++ n ∷ []) ≡ nodes = ap (λ k. take k (nodes ++ n ∷ [])) here ∙ take-append_seam nodes (n ∷ []) in
+        let late : take (m.index + 1) (nodes ++ n ∷ []) ≡ nodes ++ n ∷ [] = take_all (m.index + 1) (nodes ++ n ∷ []) (omega (arith, here, length-append nodes (n ∷ []))) in
+        let met : (walk side (nodes ++ n ∷ [])).fault ≡ Some (record { node = n; reason = m.reason }) = ap (λ (w : Walk). w.fault) (walk_more side nodes n ∙ is) in
+        let of_walk : IsFaultOf side (nodes ++ n ∷ []) (Some m) =
+        (omega (arith, here, length-append nodes (n ∷ [])), rw early (met_none side nodes old h none), (record { node = n; reason = m.reason }, rw late met, sym place, refl)) in
+        goes_down (ap (λ (s : States). s.present) referee ∙ h.state ∙ ap (λ (w : Walk). w.state) (sym is)) (subst (IsFaultOf side (nodes ++ n ∷ [])) (sym fault) of_walk)
 
   -- back to the first `kept` nodes
-  pub goes_back : (kept : ℕ) (mark : Mark) → kept ≤ length nodes → slice_get old.marks.items kept ≡ Some mark → new.referee ≡ back_to old.referee mark.depth → new.fault ≡ mark.fault
-      → new.marks.items ≡ take kept old.marks.items → IsPlayed side (take kept nodes) new
-  goes_back kept mark le found referee fault marks =
-      let b = h.marks kept mark found in
-      let within : kept ≤ length old.marks.items = omega (arith, h.count) in
-      let depth : length (back_to old.referee mark.depth).earlier ≡ mark.depth = back_length old.referee mark.depth b.depth in
-      record {
-        at = rw (referee, fault) b.at;
-        count = omega (arith, ap length marks, length-take-le kept old.marks.items within, length-take-le kept nodes le);
-        marks = λ i m e.
-            let f = in_front old.marks.items kept i m within (rw marks at e) in
-            let before = h.marks i m f.1 in
-            let less : m.depth ≤ mark.depth = h.order i kept m mark (omega (arith, f.0)) f.1 found in
-            let front : take i (take kept nodes) ≡ take i nodes = take_take nodes i kept (omega (arith, f.0)) le in
-            rw referee (record { depth = omega arith; at = rw (front, back_twice old.referee mark.depth m.depth less) before.at });
-        order = λ i j early late le e f.
-            let p = in_front old.marks.items kept i early within (rw marks at e) in
-            let q = in_front old.marks.items kept j late within (rw marks at f) in
-            h.order i j early late le p.1 q.1;
-      }
+  module _ (kept : ℕ) (le : kept ≤ length nodes) where
+    fault_back : (o : Option Met) → IsFaultOf side nodes o → IsFaultOf side (take kept nodes) (met_before o kept)
+    fault_back None is = front_clear side kept nodes is
+    fault_back (Some m) is = by (cases_lt m.index kept)
+      where
+        by : (m.index < kept) ⊎ (kept ≤ m.index) → IsFaultOf side (take kept nodes) (met_before (Some m) kept)
+        by (inl lt) =
+            let early : take m.index (take kept nodes) ≡ take m.index nodes = take_take nodes m.index kept (omega arith) le in
+            let late : take (m.index + 1) (take kept nodes) ≡ take (m.index + 1) nodes = take_take nodes (m.index + 1) kept (omega arith) le in
+            let there : IsFaultOf side (take kept nodes) (Some m) =
+            (omega (arith, length-take-le kept nodes le), rw early is.1, (is.2.0, rw late is.2.1, is.2.2, is.2.3)) in
+            subst (λ b. IsFaultOf side (take kept nodes) (cond b (Some m) None)) (sym (lt-ltb m.index kept lt)) there
+        by (inr ge) =
+            let early : take kept (take m.index nodes) ≡ take kept nodes = take_take nodes kept m.index ge (omega (arith, is.0)) in
+            let there : (walk side (take kept nodes)).fault ≡ None = subst (λ ns. (walk side ns).fault ≡ None) early (front_clear side kept (take m.index nodes) is.1) in
+            subst (λ b. IsFaultOf side (take kept nodes) (cond b (Some m) None)) (sym (le-ltb m.index kept ge)) there
+
+    pub goes_back : (depth : ℕ) → slice_get old.marks.items kept ≡ Some depth → new.referee ≡ back_to old.referee depth → new.fault ≡ met_before old.fault kept
+        → new.marks.items ≡ take kept old.marks.items → IsPlayed side (take kept nodes) new
+    goes_back depth found referee fault marks =
+        let b = h.marks kept depth found in
+        let within : kept ≤ length old.marks.items = omega (arith, h.count) in
+        let long : length (back_to old.referee depth).earlier ≡ depth = back_length old.referee depth b.within in
+        record {
+          state = ap (λ (s : States). s.present) referee ∙ b.state;
+          fault = subst (IsFaultOf side (take kept nodes)) (sym fault) (fault_back old.fault h.fault);
+          count = omega (arith, ap length marks, length-take-le kept old.marks.items within, length-take-le kept nodes le);
+          marks = λ i d e.
+              let f = in_front old.marks.items kept i d within (rw marks at e) in
+              let before = h.marks i d f.1 in
+              let less : d ≤ depth = h.order i kept d depth (omega (arith, f.0)) f.1 found in
+              let front : take i (take kept nodes) ≡ take i nodes = take_take nodes i kept (omega (arith, f.0)) le in
+              rw referee (record { within = omega arith; state = rw (front, back_twice old.referee depth d less) before.state });
+          order = λ i j early late le e f.
+              let p = in_front old.marks.items kept i early within (rw marks at e) in
+              let q = in_front old.marks.items kept j late within (rw marks at f) in
+              h.order i j early late le p.1 q.1;
+        }
 
 -- no node is to be taken back
 pub stays_whole : (side : ℕ) (nodes : List Node) (game : Game) (kept : ℕ) → IsPlayed side nodes game → length game.marks.items ≤ kept → IsPlayed side (take kept nodes) game
 stays_whole side nodes game kept h le = let whole : take kept nodes ≡ nodes = take_all kept nodes (omega (arith, h.count)) in rw whole h
-
--- before the root
-pub begins : (side : ℕ) (game : Game) → game.referee ≡ record { present = (before_root side).state; earlier = [] } → game.fault ≡ None → game.marks.items ≡ [] → IsPlayed side [] game
-begins side game referee fault marks = record {
-  at = rw (referee, fault) (record { state = refl; fault_is = refl });
-  count = ap length marks;
-  marks = λ i m e. let bad : slice_get [] i ≡ Some m = rw marks at e in absurd cc;
-  order = λ i j early late le e f. let bad : slice_get [] i ≡ Some early = rw marks at e in absurd cc;
-}
-
--- what the game tells of its walk
-pub tells_fault : (w : Walk) (states : States) (fault : Met) → IsAt w states (Some fault) → verdict_at w ≡ Illegal (states.present.turns + 1) fault.place fault.reason
-tells_fault w states fault h = by w.fault refl
-  where
-    by : (o : Option Fault) → w.fault ≡ o → verdict_at w ≡ Illegal (states.present.turns + 1) fault.place fault.reason
-    by None e = let bad : Some fault ≡ None = h.fault_is ∙ ap (option_map met) e in absurd cc
-    by (Some f) e =
-        let same : fault ≡ met f = let both : Some fault ≡ Some (met f) = h.fault_is ∙ ap (option_map met) e in cc in
-        rw (e, h.state) (ap (λ (m : Met). Illegal (w.state.turns + 1) m.place m.reason) (sym same))
-
-pub tells_score : (w : Walk) (states : States) → IsAt w states None → verdict_at w ≡ score_in states.present
-tells_score w states h = by w.fault refl
-  where
-    by : (o : Option Fault) → w.fault ≡ o → verdict_at w ≡ score_in states.present
-    by None e = rw (e, h.state) refl
-    by (Some f) e = let bad : None ≡ Some (met f) = h.fault_is ∙ ap (option_map met) e in absurd cc

@@ -29,11 +29,11 @@ side_fold w [] = refl
 side_fold w (n ∷ ns) = side_fold (next w n) ns ∙ side_next w n
 
 pub side_played : (side : ℕ) (nodes : List Node) (game : Game) → IsPlayed side nodes game → side_in game.referee.present ≡ side
-side_played side nodes game h = ap side_in h.at.state ∙ side_fold (before_root side) nodes
+side_played side nodes game h = ap side_in h.state ∙ side_fold (before_root side) nodes
 
 -- the commands are no part of what was played
 pub with_commands : (side : ℕ) (nodes : List Node) (game : Game) (commands : Option Commands) → IsPlayed side nodes game → IsPlayed side nodes (record game { commands = commands })
-with_commands side nodes game commands h = record { at = h.at; count = h.count; marks = h.marks; order = h.order }
+with_commands side nodes game commands h = record { state = h.state; fault = h.fault; count = h.count; marks = h.marks; order = h.order }
 
 pub none_asked : (scripted : Bool) (side : ℕ) (nodes more : List Node) (old new : Option Commands) → new ≡ None → new ≡ old → HasCommands scripted side nodes old → HasCommands scripted side more new
 none_asked false side nodes more old new none same h = tt

@@ -7,7 +7,7 @@ ghost use Rattle.sgf_lines.specs.Walk.{walk};
 ghost use Rattle.sgf_lines.specs.Verdict.{verdict_at};
 ghost use Rattle.sgf_lines.specs.inner.Stepping.{IsChange};
 ghost use Rattle.sgf_lines.specs.inner.KeptCommands.{HasChanged};
-ghost use Rattle.sgf_lines.specs.inner.Played.{back_to, IsPlayed, IsPlayedAs, HasCommands, game_commands, Counts};
+ghost use Rattle.sgf_lines.specs.inner.Played.{back_to, met_before, IsPlayed, IsPlayedAs, HasCommands, game_commands, Counts};
 
 use crate::commands::Commands;
 use crate::judging::score;
@@ -18,20 +18,14 @@ use go_board::{PrintPast, Reason, Referee, Size};
 use sgf_tree::{Collection, MemoryFault};
 use std::alloc::Global;
 
-/// The first node that isn't allowed, by its place, and why it isn't.
+/// The first node that isn't allowed, and why it isn't.
 #[derive(Clone, Copy)]
 pub(crate) struct Fault {
+    // how many nodes stand before it
+    index: usize,
+
     place: usize,
     reason: Reason,
-}
-
-/// How the game stood before a node.
-#[derive(Clone, Copy)]
-struct Mark {
-    // how many setups and turns the referee had accepted
-    depth: usize,
-
-    fault: Option<Fault>,
 }
 
 /// A game that was played along some nodes, the root first.
@@ -42,8 +36,8 @@ pub(crate) struct Game {
 
     fault: Option<Fault>,
 
-    // one for each node
-    marks: Vec<Mark>,
+    // for each node how many setups and turns the referee had accepted before it
+    marks: Vec<usize>,
 
     // those of the nodes, where they are asked for
     commands: Option<Commands>,
@@ -117,11 +111,8 @@ impl Game {
         ensures one_at_most { plays.new ≤ plays.old + 1 }
         ensures commands { self.new.commands ≡ self.old.commands }
     {
-        let mark = Mark {
-            depth: self.referee.depth(),
-            fault: self.fault,
-        };
-        let Ok(()) = self.marks.push(mark) else {
+        let index = self.marks.len();
+        let Ok(()) = self.marks.push(self.referee.depth()) else {
             return Err(MemoryFault);
         };
         let None = self.fault else {
@@ -133,6 +124,7 @@ impl Game {
             Err(StepFault::Memory) => Err(MemoryFault),
             Err(StepFault::Illegal(reason)) => {
                 self.fault = Some(Fault {
+                    index,
                     place: collection.place(number),
                     reason,
                 });
@@ -160,9 +152,9 @@ impl Game {
         ensures commands { self.new.commands ≡ self.old.commands }
     {
         if kept < self.marks.len() {
-            let mark = self.marks[kept];
-            undo_to(&mut self.referee, mark.depth);
-            self.fault = mark.fault;
+            let depth = self.marks[kept];
+            undo_to(&mut self.referee, depth);
+            self.fault = fault_before(self.fault, kept);
             self.marks.truncate(kept);
         }
     }
@@ -183,10 +175,10 @@ impl Game {
             → result ≡ verdict_at (walk side nodes) }
     {
         match self.fault {
-            Some(Fault { place, reason }) => Verdict::Illegal {
+            Some(fault) => Verdict::Illegal {
                 turn: self.referee.turns() + 1,
-                place,
-                reason,
+                place: fault.place,
+                reason: fault.reason,
             },
             None => score(&self.referee),
         }
@@ -205,6 +197,16 @@ fn commands_before(
         Ok(Some(Commands::new(alloc, size)?))
     } else {
         Ok(None)
+    }
+}
+
+/// The fault that was met, where its node is among the first `kept`.
+fn fault_before(fault: Option<Fault>, kept: usize) -> Option<Fault>
+    ensures { result ≡ met_before fault kept }
+{
+    match fault {
+        Some(fault) if fault.index < kept => Some(fault),
+        Some(_) | None => None,
     }
 }
 

@@ -1,10 +1,9 @@
 -- A game that is played along the nodes of a line, and what it keeps to go back.
-use Rattle.std.specs.Prelude.{◌≡◌, ℕ, ◌+◌, ◌≤◌, nat_le, Bool, true, false, if◌then◌else◌, List, [], ◌∷◌, length, take, Option, Some, None, option_map, slice_get, Result, OnOk}
+use Rattle.std.specs.Prelude.{◌≡◌, ℕ, ◌+◌, ◌<◌, ◌≤◌, nat_le, nat_lt, Bool, true, false, if◌then◌else◌, List, [], ◌∷◌, length, take, Option, Some, None, slice_get, Result, OnOk}
 use Rattle.sgf_tree.specs.Tree.{Node}
 use Rattle.go_board.specs.State.{State, States}
 use Rattle.sgf_lines.specs.Walk.{Fault, Walk, walk, judged_by}
 use Rattle.sgf_lines.specs.declared.game.Fault.{Fault as Met}
-use Rattle.sgf_lines.specs.declared.game.Mark.{Mark}
 use Rattle.sgf_lines.specs.declared.game.Game.{Game}
 use Rattle.sgf_lines.specs.declared.commands.Commands.{Commands}
 use Rattle.sgf_lines.specs.inner.KeptCommands.{AreCommands, commands_kept}
@@ -17,26 +16,30 @@ back_from s (e ∷ es) depth = if nat_le (length (e ∷ es)) depth then record {
 abbrev pub back_to : States → ℕ → States
 back_to states depth = back_from states.present states.earlier depth
 
--- what is kept of a fault
-abbrev pub met : Fault → Met
-met f = record { place = f.node.place; reason = f.reason }
+-- the fault is the first one of the walk along the nodes, and the index is that of its node; or the walk meets none
+abbrev pub IsFaultOf : ℕ → List Node → Option Met → Type 0
+IsFaultOf side nodes None = (walk side nodes).fault ≡ None
+IsFaultOf side nodes (Some met) =
+    (met.index < length nodes) × ((walk side (take met.index nodes)).fault ≡ None)
+    × ((fault : Fault) × ((walk side (take (met.index + 1) nodes)).fault ≡ Some fault) × (met.place ≡ fault.node.place) × (met.reason ≡ fault.reason))
 
--- the referee stands where a walk leads, and this is its fault
-pub record IsAt (w : Walk) (states : States) (fault : Option Met) : Type 0 where
-  pub state : states.present ≡ w.state
-  pub fault_is : fault ≡ option_map met w.fault
+-- the fault that was met, where its node is among the first ones
+abbrev pub met_before : Option Met → ℕ → Option Met
+met_before (Some met) kept = if nat_lt met.index kept then Some met else None
+met_before None kept = None
 
--- a mark leads back to where the walk along the first i nodes leads
-pub record LeadsBack (side : ℕ) (nodes : List Node) (states : States) (i : ℕ) (mark : Mark) : Type 0 where
-  pub depth : mark.depth ≤ length states.earlier
-  pub at : IsAt (walk side (take i nodes)) (back_to states mark.depth) mark.fault
+-- a depth leads back to where the walk along the first i nodes leads
+pub record LeadsBack (side : ℕ) (nodes : List Node) (states : States) (i depth : ℕ) : Type 0 where
+  pub within : depth ≤ length states.earlier
+  pub state : (back_to states depth).present ≡ (walk side (take i nodes)).state
 
 -- the game was played along the nodes, and each of its marks leads back to before its node
 pub record IsPlayed (side : ℕ) (nodes : List Node) (game : Game) : Type 0 where
-  pub at : IsAt (walk side nodes) game.referee game.fault
+  pub state : game.referee.present ≡ (walk side nodes).state
+  pub fault : IsFaultOf side nodes game.fault
   pub count : length game.marks.items ≡ length nodes
-  pub marks : (i : ℕ) (mark : Mark) → slice_get game.marks.items i ≡ Some mark → LeadsBack side nodes game.referee i mark
-  pub order : (i j : ℕ) (early late : Mark) → i ≤ j → slice_get game.marks.items i ≡ Some early → slice_get game.marks.items j ≡ Some late → early.depth ≤ late.depth
+  pub marks : (i depth : ℕ) → slice_get game.marks.items i ≡ Some depth → LeadsBack side nodes game.referee i depth
+  pub order : (i j early late : ℕ) → i ≤ j → slice_get game.marks.items i ≡ Some early → slice_get game.marks.items j ≡ Some late → early ≤ late
 
 -- what is kept of the commands of the nodes, where they are asked for
 abbrev pub HasCommands : Bool → ℕ → List Node → Option Commands → Type 0

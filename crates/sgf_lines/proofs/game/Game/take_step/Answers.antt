@@ -1,10 +1,12 @@
 -- The mark is of the game before the node, and the node goes on the walk.
-use Rattle.std.proofs.Common.{◌≡◌, ◌++◌, ◌∷◌, [], inl, Some, refl, sym, subst, ◌∙◌}
+use Rattle.std.proofs.Common.{◌≡◌, ◌++◌, ◌∷◌, [], inl, Some, refl, sym, ap, subst, ◌∙◌, arith}
+use Rattle.sgf_lines.specs.declared.game.Fault.{Fault as Met}
 use Rattle.sgf_lines.specs.declared.game.Game.{Game}
+use Rattle.sgf_lines.specs.Walk.{Walk}
 use Rattle.sgf_lines.specs.inner.Stepping.{IsChange}
 use Rattle.sgf_lines.proofs.Commanding.{side-step}
 use Rattle.sgf_lines.proofs.Named.{place_of_node}
-use Rattle.sgf_lines.proofs.Played.{mark_now, passes, plays_on, stops}
+use Rattle.sgf_lines.proofs.Played.{mark_now, passes, passed_same, plays_on, stops}
 use Rattle.sgf_lines.proofs.Counted.{counts_passed, counts_one}
 use Rattle.sgf_lines.proofs.game.Game.take_step.Goals as goal
 
@@ -27,13 +29,14 @@ returns-in-Ok-play_node-clause-played c = λ side nodes node h e.
 pub returns-in-Err-Illegal-clause-played : goal.returns-in-Err-Illegal-clause-played
 returns-in-Err-Illegal-clause-played c = λ side nodes node h e.
     let old : Game = c.args.self.now in
-    let new : Game = record { referee = c.play_node.new.referee; fault = Some (record { place = c.place.result; reason = c.in-Err-Illegal.reason }); marks = c.push.new.self; commands = old.commands } in
+    let met : Met = record { index = c.len-index.result; place = c.place.result; reason = c.in-Err-Illegal.reason } in
+    let new : Game = record { referee = c.play_node.new.referee; fault = Some met; marks = c.push.new.self; commands = old.commands } in
     let marks : new.marks.items ≡ old.marks.items ++ mark_now side nodes old new h ∷ [] = rw (c.in-Ok.is, c.depth.ensures.value) at c.push.ensures.items in
     let same : c.node.result ≡ node = (let both : Some c.node.result ≡ Some node = sym c.node.ensures ∙ e in cc) in
     let placed : node.place ≡ c.place.result =
     (let both : Some node.place ≡ Some c.place.result = sym (place_of_node c.args.collection.now c.args.number node (sym e)) ∙ c.place.ensures in cc) in
     let stepped = rw c.in-Err-Illegal.field-0-is at c.in-Err-Illegal.ensures.stepped in
-    stops side nodes old new h node marks (inl stepped.1) c.in-Err-Illegal.reason c.place.result c.in-None.is refl stepped.1 (rw same at stepped.0) placed
+    stops side nodes old new h node marks (inl stepped.1) met c.in-None.is refl (omega (arith, c.len-index.ensures, old.marks.ok.0)) stepped.1 (rw same at stepped.0) placed
 
 pub returns-in_default-fault-clause-counted : goal.returns-in_default-fault-clause-counted
 returns-in_default-fault-clause-counted c = λ side nodes node h. counts_passed side nodes node c.args.self.now h c.args.plays.now _ c.in_default-fault.not-None
@@ -51,3 +54,6 @@ returns-in-Ok-play_node-clause-change c = λ node e.
     let same : c.node.result ≡ node = (let both : Some c.node.result ≡ Some node = sym c.node.ensures ∙ e in cc) in
     let side = side-step c.args.self.now.referee.present now c.node.result c.in-Ok-play_node.ensures.stepped.0 in
     subst (λ m. IsChange now.colouring.side m change) same (subst (λ k. IsChange k c.node.result change) (sym side) c.in-Ok-play_node.ensures.change)
+
+pub returns-in_default-fault-clause-changed : goal.returns-in_default-fault-clause-changed
+returns-in_default-fault-clause-changed c = λ side nodes node h e. ap (λ (w : Walk). w.played) (passed_same side nodes c.args.self.now node h c.in_default-fault.not-None)
