@@ -14,7 +14,8 @@
 //! - `options` has what a run is asked for.
 //! - `verdict` has what a referee says of a line.
 //! - `judging` judges a line: `opening` reads its root, `contents` and `values` a node, and `step` plays it.
-//! - `record` writes the text of a line, with its `row` or its `script` out of pieces of `text`.
+//! - `record` writes the text of a line's nodes, `lines` its `row`, and `script` the `commands` of a node, out of pieces of `text`;
+//!   what lines share of them is `kept`.
 //! - `laws` has laws of the definitions.
 //! - `source` and `sink` are the ends of a run.
 //! - `run` splits what a source gives into the records of its lines, which a sink takes; `writing` writes them, and a `writer`
