@@ -173,10 +173,10 @@ INPUTS = {
         f"[{letter}a:{letter}Z]" for letter in LETTERS[::2]) + ";AE[aa:ZZ]", ")"), FORMS),
     "passes": ("passes, and a setup after each two", lambda n: repeated(n, "(", ";B[];W[];AE[aa]", ")"), FORMS),
     "script": ("setups of one point on a full board of 25", lambda n: repeated(n // 64, "(;SZ[25]AB[aa:yx]", ";AB[aa]", ")"), FORMS),
-    "fan": ("a long line that very many variations share", lambda n: fan(n // 8), ["list", "count"]),
-    "fan2k": ("the same with 2,000 of each", lambda n: fan(2_000), FORMS),
+    "fan": ("a long line that very many variations share", lambda n: fan((n - 3) // 8), ["list", "count"]),
+    "fan10k": ("the same with 10,000 of each", lambda n: fan(10_000), FORMS),
     "comb": ("a variation at each node of a long line", lambda n: comb(n // 6), ["list", "count"]),
-    "comb5k": ("the same with 5,000 nodes", lambda n: comb(5_000), FORMS),
+    "comb20k": ("the same with 20,000 nodes", lambda n: comb(20_000), FORMS),
 }
 
 
