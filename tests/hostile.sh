@@ -61,6 +61,13 @@ $(times 100000 ';'))" split --form sgf
 { times 100000 '(;(;)'; times 100000 ')'; } > input.sgf
 answer 'a variation at each node, the last line' '499998 1 100001 score 0 0 open' split --after 499993
 answer 'a variation at each node, counted' '1 200000 100000' count
+{ times 200000 '(;(;)'; times 200000 ')'; } > input.sgf
+for form in list gtp; do
+    timeout 60 "$SGFSPLIT" split --form "$form" input.sgf > out 2> err
+    check "a variation at each node, $form: status" 0 $?
+    check "a variation at each node, $form: the last row" '999998 1 200001 score 0 0 open' "$(grep '^[#0-9]' out | tail -n 1 | sed 's/^# //')"
+    check "a variation at each node, $form: rows" 200000 "$(grep -c '^[#0-9]' out)"
+done
 
 # ---- wide: variations of one node, and games
 { printf '(;'; times 100000 '(;)'; printf ')'; } > input.sgf
@@ -87,6 +94,10 @@ answer 'a huge name as a game' '(;GM[1])' split --form sgf
 # ---- long lines: passes and setups that never end a game, and moves after one that isn't allowed
 { printf '(;SZ[9]'; times 100000 ';B[];W[];AE[aa]'; printf ')'; } > input.sgf
 answer 'passes and setups' '1500000 1 300001 score 0 0 open' split
+{ printf '(;SZ[52]'; times 40000 ';AB[aa:ZZ];AE[aa:ZZ]'; printf ')'; } > input.sgf
+(ulimit -v 131072 && exec timeout 60 "$SGFSPLIT" split input.sgf) > out 2> err
+check 'whole boards set up in turn, in 128 MiB: status' 0 $?
+check 'whole boards set up in turn, in 128 MiB' '799998 1 80001 score 0 0 open' "$(cat out)"
 { printf '(;SZ[1];B[aa]'; times 300000 ';B[aa]'; printf ')'; } > input.sgf
 answer 'moves after an illegal one' '1800007 1 300002 illegal 1 7 repeat' split
 
