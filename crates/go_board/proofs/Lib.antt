@@ -33,3 +33,4 @@ pub mod RangeLemmas
 pub mod ChangesLemmas
 pub mod ColouringsLemmas
 pub mod TableLemmas
+pub mod StoneRowsLemmas

@@ -236,17 +236,15 @@ either_second : (c one other : Cell) → c ≡ other → is_either c one other �
 either_second c one other is = or_right _ _ ((Decides-same_cell c other).1 is)
 
 -- a colour's points, and the points that haven't the other colour
-module _ (g h : Grid) (wanted other : Cell) (apart : (c : Cell) → not (same_cell c other) ≡ is_either c Empty wanted) (rows others room : List ℕ) (same : h ≡ g) (is_wanted : AreRowsOf h.side (λ p. same_cell (cell_at h p) wanted) rows) (is_other : AreRowsOf h.side (λ p. same_cell (cell_at h p) other) others) (all : length others ≡ g.side) (is_room : AreRowsOf (length others) (λ p. not (is_set others p)) room) where
+module _ (g : Grid) (wanted other : Cell) (apart : (c : Cell) → not (same_cell c other) ≡ is_either c Empty wanted) (rows others room : List ℕ) (is_wanted : AreRowsOf g.side (λ p. same_cell (cell_at g p) wanted) rows) (is_other : AreRowsOf g.side (λ p. same_cell (cell_at g p) other) others) (all : length others ≡ g.side) (is_room : AreRowsOf (length others) (λ p. not (is_set others p)) room) where
   pub seed_is : AreRowsOf g.side (λ p. is_either (cell_at g p) wanted wanted) rows
-  seed_is =
-      subst (λ (x : Grid). AreRowsOf x.side (λ p. is_either (cell_at x p) wanted wanted) rows) same
-      (AreRowsOf-same h.side _ _ rows (λ p on. one_twice (same_cell (cell_at h p) wanted)) is_wanted)
+  seed_is = AreRowsOf-same g.side _ _ rows (λ p on. one_twice (same_cell (cell_at g p) wanted)) is_wanted
 
   pub room_is : AreRowsOf g.side (λ p. is_either (cell_at g p) Empty wanted) room
   room_is =
-      let there = subst (λ (x : Grid). AreRowsOf x.side (λ p. same_cell (cell_at x p) other) others) same is_other in
-      AreRowsOf-same g.side _ _ room (λ p on. ap not (there.on p on) ∙ apart (cell_at g p))
+      AreRowsOf-same g.side _ _ room (λ p on. ap not (is_other.on p on) ∙ apart (cell_at g p))
       (subst (λ n. AreRowsOf n (λ p. not (is_set others p)) room) all is_room)
+
 
 module _ (g : Grid) (own wanted : Cell) (room seed result : List ℕ) (is_room : AreRowsOf g.side (λ p. is_either (cell_at g p) own wanted) room) (is_seed : AreRowsOf g.side (λ p. is_either (cell_at g p) wanted wanted) seed) (grows : Grows (is_set room) (is_set seed) (is_set result)) (closed : IsClosed (is_set room) (is_set result)) where
   -- those of the room that reach the colour

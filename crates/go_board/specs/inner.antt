@@ -2,6 +2,7 @@
 pub mod Neighbour
 pub mod Rows
 pub mod Regions
+pub mod StoneRows
 pub mod Search
 pub mod Flood
 pub mod Groups

@@ -8,6 +8,7 @@ mod flood;
 mod move_tests;
 mod regions;
 mod search;
+mod stone_rows;
 mod sweep;
 #[cfg(test)]
 mod tests;
@@ -16,6 +17,7 @@ ghost use Rattle.std.specs.Prelude.{◌≡◌, replicate};
 ghost use Rattle.go_board.specs.declared.stones.Cell.TheVariants.{Empty};
 
 use crate::board::regions::{count_apart, no_rows};
+use crate::board::stone_rows::StoneRows;
 use crate::past::print::{print_of, print_with};
 use crate::points::{FIRST, Point};
 use crate::size::{MAX_POINTS, Size};
@@ -33,6 +35,8 @@ pub struct Board {
     /// The print of the colouring, where it is known.
     print: u64,
     printed: bool,
+    /// The stones as rows of words, where they are known.
+    rows: StoneRows,
     /// The point that was set last: a hint, for one who looks for what changed.
     last: Point,
 }
@@ -43,6 +47,7 @@ impl Model for Board {
     ghost use Rattle.go_board.specs.declared.size.TheConstants.{MAX_POINTS};
     ghost use Rattle.go_board.specs.Grid.{Grid};
     ghost use Rattle.go_board.specs.inner.Print.{print_of};
+    ghost use Rattle.go_board.specs.inner.StoneRows.{AreKept};
 
     ghost Value = { Grid };
 
@@ -52,7 +57,8 @@ impl Model for Board {
         × (b.size * b.size ≤ MAX_POINTS)
         × (IsTrue b.settled
         → has_unreaching (record { side = b.size; cells = take (b.size * b.size) b.cells }) ≡ false)
-        × (IsTrue b.printed → b.print ≡ print_of (take (b.size * b.size) b.cells)) };
+        × (IsTrue b.printed → b.print ≡ print_of (take (b.size * b.size) b.cells))
+        × AreKept (record { side = b.size; cells = take (b.size * b.size) b.cells }) b.rows };
 }
 
 // The cells of the greatest board, on which nothing stands.
@@ -86,6 +92,7 @@ impl Board {
             settled: true,
             print: 0,
             printed: true,
+            rows: StoneRows::unknown(),
             last: FIRST,
         }
     }
@@ -122,6 +129,7 @@ impl Board {
         let points = self.size.points();
         self.print = print_with(self.print, &self.cells[..points], index, cell);
         self.cells[index] = cell;
+        self.rows.set(point, cell);
         self.settled = false;
         self.last = point;
     }
@@ -134,6 +142,7 @@ impl Board {
         self.cells[..cells.len()].copy_from_slice(cells);
         self.settled = false;
         self.printed = false;
+        self.rows.known = false;
     }
 
     /// Whether two boards have the same side and the same colouring.
@@ -153,6 +162,7 @@ impl Board {
             settled: self.settled,
             print: self.print,
             printed: self.printed,
+            rows: self.rows,
             last: self.last,
         }
     }
@@ -166,6 +176,7 @@ impl Board {
         self.settled = other.settled;
         self.print = other.print;
         self.printed = other.printed;
+        self.rows = other.rows;
     }
 
     /// Whether it is known that every stone reaches empty: true only where each does.
@@ -206,13 +217,24 @@ impl Board {
         }
     }
 
-    /// Works out what a move asks of the board, to be kept from then on: whether every stone reaches empty, and the print.
+    /// Works out what a move asks of the board, to be kept from then on: the rows of the stones, whether every stone reaches
+    /// empty, and the print.
     /// Nothing that is seen changes.
     pub(crate) fn prepare(&mut self)
         ensures { self.new ≡ self.old }
     {
+        self.work_rows_out();
         self.work_settled_out();
         self.work_print_out();
+    }
+
+    /// Works the rows of the stones out, if they aren't known, to be kept from then on. Nothing that is seen changes.
+    fn work_rows_out(&mut self)
+        ensures { self.new ≡ self.old }
+    {
+        if !self.rows.known {
+            self.rows = StoneRows::of(self.cells(), self.size);
+        }
     }
 
     /// Works out whether every stone reaches empty, if it isn't known. Nothing that is seen changes.
@@ -242,6 +264,7 @@ impl Board {
         let reaching = self.reached(Cell::Empty);
         sweep::clear_all(&mut self.cells[..points], colour.stone(), &reaching);
         self.printed = false;
+        self.rows.known = false;
     }
 
     /// The whole move: the point takes the player's colour, then the opponent's colour is cleared, then the player's
@@ -253,6 +276,7 @@ impl Board {
         ensures value { self.new ≡ play self.old colour point }
         ensures side { self.new.side ≡ self.old.side }
     {
+        self.work_rows_out();
         self.work_settled_out();
         if self.settled {
             self.place_settled(colour, point);

@@ -33,5 +33,6 @@ impl Board {
         }
         self.settled = false;
         self.printed = false;
+        self.rows.known = false;
     }
 }

@@ -16,7 +16,7 @@ use crate::size::{MAX_ROWS, Size};
 use crate::stones::{Cell, Colour};
 
 /// The word with the bit of a column set, if it is to be.
-fn with_column(word: u64, col: usize, set: bool) -> u64
+pub(crate) fn with_column(word: u64, col: usize, set: bool) -> u64
     requires { col < 64 }
     ensures there { has_bit result col ≡ (has_bit word col || set) }
     ensures elsewhere { (k : ℕ) → k ≢ col → has_bit result k ≡ has_bit word k }
@@ -40,7 +40,7 @@ fn row_of(cells: &[Cell]) -> (u64, u64)
 }
 
 /// The points of a board with a black stone, and those with a white one.
-fn rows_of(cells: &[Cell], size: Size, black: &mut [u64], white: &mut [u64])
+pub(crate) fn rows_of(cells: &[Cell], size: Size, black: &mut [u64], white: &mut [u64])
     requires cells { length cells.now ≡ size * size }
     requires black { length black.old ≡ size }
     requires white { length white.old ≡ size }
@@ -138,7 +138,7 @@ impl Board {
         let side = usize::from(size.side());
         let black_room = &mut black_words[..side];
         let white_room = &mut white_words[..side];
-        rows_of(self.cells(), size, black, white);
+        self.stones(black, white);
         other_points(white, black_room);
         other_points(black, white_room);
         fill(black, black_room);
@@ -154,7 +154,11 @@ impl Board {
         ensures black_rows { length black.new ≡ self.now.side }
         ensures white_rows { length white.new ≡ self.now.side }
     {
-        rows_of(self.cells(), self.size(), black, white);
+        if self.rows.known {
+            self.rows.write(black, white);
+        } else {
+            rows_of(self.cells(), self.size(), black, white);
+        }
     }
 
     /// Whether all stones of a colour reach empty, from the points of that colour and those of the other.

@@ -1,11 +1,12 @@
 -- proofs/board/Board/colour_area/Answers.antt
 use Rattle.std.proofs.Common.{◌≡◌, ◌≤◌, ◌*◌, ◌+◌, refl, sym, ap, ◌∙◌, length, arith}
+use Rattle.std.proofs.lemmas.Bool.{false≢true}
 use Rattle.go_board.specs.Point.{IsRectOn}
 use Rattle.go_board.proofs.AreaLemmas.{coloured_none, coloured_row, coloured_view}
 use Rattle.go_board.proofs.board.Board.colour_area.Goals as goal
 
 pub loop-row-init : goal.loop-row-init
-loop-row-init c = (refl, rw c.from-row.ensures (coloured_none _ c.args.op _))
+loop-row-init c = (refl, rw c.from-row.ensures (coloured_none _ c.args.op _), refl)
 
 pub loop-row-preserved : goal.loop-row-preserved
 loop-row-preserved c =
@@ -16,7 +17,7 @@ loop-row-preserved c =
     let on_board : IsRectOn size c.args.op.area = rw same (rw (← c.self.view_is) at c.requires) in
     let whole : size * size ≤ length c.loop-row.self-inside.cells = rw (same, so_far.same_length) (omega (arith, c.self.invariant)) in
     let rows : c.loop-row.row * c.from-side.result ≡ c.loop-row.row * size = ap (λ s. c.loop-row.row * s) side in
-    (same, coloured_row size c.args.op c.loop-row.row _ _ _ _ _ so_far on_board whole (omega arith) (omega arith) (omega arith) (omega arith) (c.fill.ensures.after (λ y h. h)))
+    (same, coloured_row size c.args.op c.loop-row.row _ _ _ _ _ so_far on_board whole (omega arith) (omega arith) (omega arith) (omega arith) (c.fill.ensures.after (λ y h. h)), c.loop-row.invariant.2)
 
 pub returns : goal.returns
 returns c =
@@ -28,4 +29,16 @@ returns c =
 pub invariant_of-self : goal.invariant_of-self
 invariant_of-self c =
     let same = c.loop-row.invariant.1.same_length in
-    (same ∙ c.self.invariant.0, rw c.loop-row.invariant.0 c.self.invariant.1, λ settled. cc, λ printed. cc)
+    let rows = c.loop-row.invariant.2 in
+    let kept = c.self.invariant.4 in (
+      same ∙ c.self.invariant.0,
+      rw c.loop-row.invariant.0 c.self.invariant.1,
+      λ settled. cc,
+      λ printed. cc,
+      record {
+        black_rows = ap (λ r. length r.black) rows ∙ kept.black_rows;
+        white_rows = ap (λ r. length r.white) rows ∙ kept.white_rows;
+        black = λ known. absurd (false≢true known);
+        white = λ known. absurd (false≢true known);
+      },
+    )

@@ -11,7 +11,7 @@ use Rattle.go_board.proofs.FrontLemmas.{grid_in, grid_in-replicate}
 use Rattle.go_board.proofs.SettledLemmas.{settled-empty_grid}
 use Rattle.go_board.proofs.board.Board.empty.Goals as goal
 
-empty_front : (c : goal.After-nothing) → grid_in c.args.size c.nothing.result ≡ empty_grid c.args.size
+empty_front : (c : goal.After-unknown) → grid_in c.args.size c.nothing.result ≡ empty_grid c.args.size
 empty_front c = grid_in-replicate c.args.size MAX_POINTS c.nothing.result c.nothing.ensures (omega arith)
 
 pub invariant_of-result : goal.invariant_of-result
@@ -20,6 +20,7 @@ invariant_of-result c = (
   omega arith,
   λ _. ap has_unreaching (empty_front c) ∙ settled-empty_grid c.args.size,
   λ _. sym (ap (λ (g : Grid). print_of g.cells) (empty_front c) ∙ print-empty (c.args.size * c.args.size)),
+  c.unknown.ensures _,
 )
 
 pub returns : goal.returns

@@ -1,9 +1,12 @@
 -- proofs/board/Board/set/Answers.antt
-use Rattle.std.proofs.Common.{◌<◌, ◌*◌, take, set, ap, sym, ◌∙◌}
+use Rattle.std.proofs.Common.{◌<◌, ◌≤◌, ◌≡◌, ◌*◌, length, take, set, ap, sym, refl, subst, arith, ◌∙◌}
 use Rattle.std.proofs.Math.Seq.{take-set-lt}
-use Rattle.std.proofs.lemmas.List.{length-set}
+use Rattle.std.proofs.lemmas.List.{length-set, length-take-le}
+use Rattle.go_board.specs.Point.{IsOn}
+use Rattle.go_board.specs.Grid.{Grid}
 use Rattle.go_board.specs.inner.Print.{print_of}
-use Rattle.go_board.proofs.FrontLemmas.{grid_in-set}
+use Rattle.go_board.specs.inner.StoneRows.{AreKept}
+use Rattle.go_board.proofs.FrontLemmas.{grid_in, grid_in-set}
 use Rattle.go_board.proofs.board.Board.set.Goals as goal
 
 pub returns : goal.returns
@@ -22,4 +25,11 @@ invariant_of-self c =
           c.print_with-self-inside.ensures (c.self.invariant.3 printed ∙ ap (λ n. print_of (take n i.cells)) (sym c.points-points.ensures.value))
           ∙ ap (λ n. print_of (set (take n i.cells) index c.args.cell)) c.points-points.ensures.value
           ∙ ap print_of (sym (take-set-lt (i.size * i.size) i.cells index c.args.cell below)),
+      let g = grid_in i.size i.cells in
+          let on_board : IsOn i.size c.args.point = subst (λ (h : Grid). IsOn h.side c.args.point) (sym c.self.view_is) c.requires in
+          let all : length g.cells ≡ i.size * i.size = length-take-le (i.size * i.size) i.cells (omega (arith, c.self.invariant.0, c.self.invariant.1)) in
+          let small : i.size ≤ 52 = omega (arith, c.points-points.type_inv) in
+          subst (λ h. AreKept h c.set.new.self)
+          (sym (grid_in-set i.size i.cells g c.args.point c.args.cell index refl c.index-index.ensures.value below))
+          (c.set.ensures g on_board all small c.self.invariant.4),
     )

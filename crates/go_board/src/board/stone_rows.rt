@@ -1,0 +1,102 @@
+//! The points of a board with a stone of each colour, as rows of words, which are kept while points are set one by one.
+
+ghost use Rattle.std.specs.Prelude.{◌≡◌, ◌≢◌, ◌*◌, ◌<◌, ◌≤◌, false, ℕ, length, take};
+ghost use Rattle.go_board.specs.declared.points.Point.{Point};
+ghost use Rattle.go_board.specs.declared.stones.Cell.TheVariants.{Black, White};
+ghost use Rattle.go_board.specs.Point.{IsOn};
+ghost use Rattle.go_board.specs.Colour.{same_cell};
+ghost use Rattle.go_board.specs.Grid.{Grid, with_cell};
+ghost use Rattle.go_board.specs.inner.Rows.{has_bit};
+ghost use Rattle.go_board.specs.inner.StoneRows.{AreKept};
+
+use crate::board::regions::{no_rows, rows_of, with_column};
+use crate::points::Point;
+use crate::size::{MAX_ROWS, Size};
+use crate::stones::Cell;
+
+/// The points with a black stone and those with a white one, where they are known.
+#[derive(Clone, Copy)]
+pub(crate) struct StoneRows {
+    pub(crate) known: bool,
+    pub(crate) black: [u64; MAX_ROWS],
+    pub(crate) white: [u64; MAX_ROWS],
+}
+
+impl StoneRows {
+    /// Nothing is known.
+    pub(crate) fn unknown() -> StoneRows
+        ensures { (g : Grid) → AreKept g result }
+    {
+        StoneRows {
+            known: false,
+            black: no_rows(),
+            white: no_rows(),
+        }
+    }
+
+    /// Those of a colouring.
+    pub(crate) fn of(cells: &[Cell], size: Size) -> StoneRows
+        requires { length cells.now ≡ size * size }
+        ensures { AreKept (record { side = size; cells = cells.now }) result }
+    {
+        let side = usize::from(size.side());
+        let (mut black, mut white) = (no_rows(), no_rows());
+        rows_of(cells, size, &mut black[..side], &mut white[..side]);
+        StoneRows {
+            known: true,
+            black,
+            white,
+        }
+    }
+
+    /// Writes them, which are known.
+    pub(crate) fn write(&self, black: &mut [u64], white: &mut [u64])
+        requires black { length black.old ≤ length self.now.black }
+        requires white { length white.old ≤ length self.now.white }
+        ensures black { black.new ≡ take (length black.old) self.now.black }
+        ensures white { white.new ≡ take (length white.old) self.now.white }
+    {
+        black.copy_from_slice(&self.black[..black.len()]);
+        white.copy_from_slice(&self.white[..white.len()]);
+    }
+
+    /// Goes on to the colouring in which a point has that cell.
+    pub(crate) fn set(&mut self, point: Point, cell: Cell)
+        requires small { IsOn 52 point }
+        ensures { (g : Grid) → IsOn g.side point → length g.cells ≡ g.side * g.side → g.side ≤ 52
+            → AreKept g self.old → AreKept (with_cell g point cell) self.new }
+    {
+        if !self.known {
+            return;
+        }
+        let row = usize::from(point.row);
+        let col = usize::from(point.col);
+        self.black[row] = with_bit(self.black[row], col, is_same(cell, Cell::Black));
+        self.white[row] = with_bit(self.white[row], col, is_same(cell, Cell::White));
+    }
+}
+
+/// Whether two cells are the same.
+fn is_same(cell: Cell, other: Cell) -> bool
+    ensures { result ≡ same_cell cell other }
+{
+    cell == other
+}
+
+/// The word with the bit of a column as it is to be.
+fn with_bit(word: u64, col: usize, set: bool) -> u64
+    requires { col < 64 }
+    ensures there { has_bit result col ≡ set }
+    ensures elsewhere { (k : ℕ) → k ≢ col → has_bit result k ≡ has_bit word k }
+{
+    with_column(without_column(word, col), col, set)
+}
+
+/// The word without the bit of a column.
+fn without_column(word: u64, col: usize) -> u64
+    requires { col < 64 }
+    ensures there { has_bit result col ≡ false }
+    ensures elsewhere { (k : ℕ) → k ≢ col → has_bit result k ≡ has_bit word k }
+{
+    word & !(1 << col)
+}
