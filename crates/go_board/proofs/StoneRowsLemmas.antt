@@ -1,22 +1,23 @@
 -- proofs/StoneRowsLemmas.antt
 -- The rows of the stones of a board, where one point is set.
-use Rattle.std.proofs.Common.{◌≡◌, ◌≢◌, inl, inr, ℕ, ◌*◌, ◌<◌, ◌≤◌, ◌^◌, ◌%◌, ◌==◌, ◌&&◌, ◌||◌, Bool, true, false, not, List, length, get_or, set, take, bit_and, w64, refl, sym, ap, ◌∙◌, arith, subst}
+use Rattle.std.proofs.Common.{◌≡◌, ◌≢◌, inl, inr, ℕ, ◌*◌, ◌<◌, ◌≤◌, ◌^◌, ◌%◌, ◌==◌, ◌&&◌, ◌||◌, Bool, true, false, not, List, length, get_or, set, take, replicate, bit_and, w64, refl, sym, ap, ◌∙◌, arith, subst}
 use Rattle.std.specs.Int.{bit_not}
 use Rattle.std.proofs.Math.Seq.{take-set-lt}
-use Rattle.std.proofs.lemmas.Bool.{cases_eq, cases_lt}
+use Rattle.std.proofs.lemmas.Bool.{cases_eq, cases_lt, false≢true}
 use Rattle.std.proofs.lemmas.Nat.{mod_below, pow_pos}
 use Rattle.std.proofs.lemmas.Nat.Bits.{bit_at_above}
-use Rattle.std.proofs.lemmas.List.{get_or-take, get_or-set_same, get_or-set_other, length-take-le, length-set}
+use Rattle.std.proofs.lemmas.List.{get_or-take, get_or-set_same, get_or-set_other, length-take-le, take-replicate}
 use Rattle.go_board.specs.declared.stones.Cell.{Cell}
+use Rattle.go_board.specs.declared.stones.Cell.TheVariants.{Empty}
 use Rattle.go_board.specs.declared.points.Point.{Point}
 use Rattle.go_board.specs.Colour.{same_cell}
-use Rattle.go_board.specs.Point.{IsOn}
-use Rattle.go_board.specs.Grid.{Grid, cell_at, with_cell}
+use Rattle.go_board.specs.Point.{IsOn, index_of}
+use Rattle.go_board.specs.Grid.{Grid, cell_at, with_cell, empty_grid}
 use Rattle.go_board.specs.inner.Rows.{has_bit, is_set}
 use Rattle.go_board.specs.inner.Regions.{AreRowsOf}
 use Rattle.go_board.proofs.WordLemmas.{has_bit-zero, has_bit-and, has_bit-without}
 use Rattle.go_board.proofs.RegionLemmas.{has_bit-set_there, has_bit-set_elsewhere}
-use Rattle.go_board.proofs.GridLemmas.{cell_at-with_cell, cell_at-with_cell_elsewhere}
+use Rattle.go_board.proofs.GridLemmas.{get_or-replicate_default, cell_at-with_cell, cell_at-with_cell_elsewhere}
 
 same_point : (q p : Point) → q.col ≡ p.col → q.row ≡ p.row → q ≡ p
 same_point q p e f = ap (λ c. record { col = c; row = q.row }) e ∙ ap (λ r. record { col = p.col; row = r }) f
@@ -110,3 +111,15 @@ without_elsewhere word col fits low k other =
           let none : has_bit word k ≡ false = ap (λ n. n == 1) (bit_at_above word 64 k fits past) in
           has_bit-and word (bit_not w64 (bit_of col)) k ∙ ap (λ x. x && has_bit (bit_not w64 (bit_of col)) k) none ∙ sym none
     ]
+
+-- the rows of a board on which nothing stands
+pub none_kept : (side : ℕ) (wanted : Cell) (rows : List ℕ) → same_cell Empty wanted ≡ false → side ≤ 52 → rows ≡ replicate 52 0
+    → AreRowsOf side (λ p. same_cell (cell_at (empty_grid side) p) wanted) (take side rows)
+none_kept side wanted rows other small is =
+    let zeros : take side rows ≡ replicate side 0 = ap (take side) is ∙ take-replicate side 52 0 small in
+    let none : (p : Point) → is_set (take side rows) p ≡ false =
+        λ p. ap (λ l. is_set l p) zeros ∙ ap (λ w. has_bit w p.col) (get_or-replicate_default side p.row 0) ∙ has_bit-zero p.col in
+    record {
+      on = λ p on. none p ∙ sym (ap (λ x. same_cell x wanted) (get_or-replicate_default (side * side) (index_of side p) Empty) ∙ other);
+      off = λ p there. absurd (false≢true (sym (none p) ∙ there));
+    }

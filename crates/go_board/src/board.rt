@@ -92,7 +92,7 @@ impl Board {
             settled: true,
             print: 0,
             printed: true,
-            rows: StoneRows::unknown(),
+            rows: StoneRows::none(),
             last: FIRST,
         }
     }

@@ -5,7 +5,7 @@ ghost use Rattle.go_board.specs.declared.points.Point.{Point};
 ghost use Rattle.go_board.specs.declared.stones.Cell.TheVariants.{Black, White};
 ghost use Rattle.go_board.specs.Point.{IsOn};
 ghost use Rattle.go_board.specs.Colour.{same_cell};
-ghost use Rattle.go_board.specs.Grid.{Grid, with_cell};
+ghost use Rattle.go_board.specs.Grid.{Grid, with_cell, empty_grid};
 ghost use Rattle.go_board.specs.inner.Rows.{has_bit};
 ghost use Rattle.go_board.specs.inner.StoneRows.{AreKept};
 
@@ -23,12 +23,12 @@ pub(crate) struct StoneRows {
 }
 
 impl StoneRows {
-    /// Nothing is known.
-    pub(crate) fn unknown() -> StoneRows
-        ensures { (g : Grid) → AreKept g result }
+    /// Those of a board on which nothing stands.
+    pub(crate) fn none() -> StoneRows
+        ensures { (side : ℕ) → side ≤ 52 → AreKept (empty_grid side) result }
     {
         StoneRows {
-            known: false,
+            known: true,
             black: no_rows(),
             white: no_rows(),
         }
