@@ -72,8 +72,7 @@ impl Followed {
             → OnOk result (IsHeld scripted (opening (root_properties nodes)) (take shared nodes) self.new) }
     {
         if shared == 0 {
-            *self = begin(alloc, collection, root, scripted)?;
-            return Ok(());
+            return self.begin_anew(alloc, collection, root, scripted);
         }
         match self {
             Followed::Judged(game) => {
@@ -83,6 +82,24 @@ impl Followed {
             Followed::OtherGame => Ok(()),
             Followed::NoBoard => Ok(()),
         }
+    }
+
+    /// Begins the game of a root, before it. It is kept apart, since it has whole boards at hand, for which a call makes room even
+    /// where no game begins.
+    #[inline(never)]
+    fn begin_anew(
+        &mut self,
+        alloc: Global,
+        collection: &Collection<'_>,
+        root: usize,
+        scripted: bool,
+    ) -> Result<(), MemoryFault>
+        requires { root < node_count collection.now }
+        ensures { (node : Node) → node_at collection.now root ≡ Some node
+            → OnOk result (IsHeld scripted (opening node.properties) [] self.new) }
+    {
+        *self = begin(alloc, collection, root, scripted)?;
+        Ok(())
     }
 
     /// Goes on along a path from its first `shared` nodes.
