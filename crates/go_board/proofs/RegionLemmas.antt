@@ -245,7 +245,6 @@ module _ (g : Grid) (wanted other : Cell) (apart : (c : Cell) → not (same_cell
       AreRowsOf-same g.side _ _ room (λ p on. ap not (is_other.on p on) ∙ apart (cell_at g p))
       (subst (λ n. AreRowsOf n (λ p. not (is_set others p)) room) all is_room)
 
-
 module _ (g : Grid) (own wanted : Cell) (room seed result : List ℕ) (is_room : AreRowsOf g.side (λ p. is_either (cell_at g p) own wanted) room) (is_seed : AreRowsOf g.side (λ p. is_either (cell_at g p) wanted wanted) seed) (grows : Grows (is_set room) (is_set seed) (is_set result)) (closed : IsClosed (is_set room) (is_set result)) where
   -- those of the room that reach the colour
   reaching_in : Point → Bool

@@ -118,7 +118,7 @@ pub none_kept : (side : ℕ) (wanted : Cell) (rows : List ℕ) → same_cell Emp
 none_kept side wanted rows other small is =
     let zeros : take side rows ≡ replicate side 0 = ap (take side) is ∙ take-replicate side 52 0 small in
     let none : (p : Point) → is_set (take side rows) p ≡ false =
-        λ p. ap (λ l. is_set l p) zeros ∙ ap (λ w. has_bit w p.col) (get_or-replicate_default side p.row 0) ∙ has_bit-zero p.col in
+    λ p. ap (λ l. is_set l p) zeros ∙ ap (λ w. has_bit w p.col) (get_or-replicate_default side p.row 0) ∙ has_bit-zero p.col in
     record {
       on = λ p on. none p ∙ sym (ap (λ x. same_cell x wanted) (get_or-replicate_default (side * side) (index_of side p) Empty) ∙ other);
       off = λ p there. absurd (false≢true (sym (none p) ∙ there));

@@ -1,15 +1,11 @@
 -- A line is followed along its nodes, from those that it shares with the line before it.
-use Rattle.std.proofs.Common.{◌≡◌, ℕ, zero, suc, ◌+◌, ◌<◌, ◌≤◌, Bool, List, [], ◌∷◌, ◌++◌, length, take, map, slice_get, get_or, Option, Some, None, Result, Ok, Err, refl, sym, ap, subst, ◌∙◌, arith, add-one}
-use Rattle.std.specs.Prelude.{OnOk}
+use Rattle.std.proofs.Common.{◌≡◌, ℕ, zero, suc, ◌+◌, ◌<◌, ◌≤◌, Bool, List, [], ◌∷◌, ◌++◌, length, take, map, slice_get, get_or, Option, Some, refl, ap, subst, ◌∙◌, arith, add-one}
 use Rattle.std.proofs.lemmas.List.{take_all}
 use Rattle.sgf_tree.specs.Tree.{Node, Games}
 use Rattle.sgf_tree.specs.FileOrder.{node_at}
-use Rattle.sgf_lines.specs.GameSize.{Opening, opening, root_properties}
-use Rattle.sgf_lines.specs.declared.followed.Followed.{Followed}
-use Rattle.sgf_lines.specs.declared.followed.Followed.TheVariants.{OtherGame, NoBoard, Judged}
+use Rattle.sgf_lines.specs.GameSize.{root_properties}
 use Rattle.sgf_lines.specs.declared.game.Game.{Game}
 use Rattle.sgf_lines.specs.inner.Played.{IsPlayedAs}
-use Rattle.sgf_lines.specs.inner.Followed.{IsHeld, IsFollowed}
 use Rattle.sgf_lines.proofs.Joins.{as_many}
 
 -- one node more of a front

@@ -1,5 +1,5 @@
 -- What stays along a walk: the side of the board, and what was played.
-use Rattle.std.proofs.Common.{◌≡◌, ℕ, ◌+◌, Bool, true, ◌||◌, List, [], ◌∷◌, ◌++◌, Option, Some, None, Result, Ok, Err, refl, sym, ap, ◌∙◌, append_assoc, append-nil}
+use Rattle.std.proofs.Common.{◌≡◌, ℕ, Bool, true, ◌||◌, List, [], ◌∷◌, ◌++◌, Option, Some, None, Result, Ok, Err, refl, sym, ap, ◌∙◌, append_assoc, append-nil}
 use Rattle.std.specs.Prelude.{fold}
 use Rattle.sgf_tree.specs.Tree.{Node}
 use Rattle.go_board.specs.declared.stones.Colour.{Colour}
@@ -14,7 +14,7 @@ use Rattle.go_board.specs.Reason.{reason_of}
 use Rattle.sgf_lines.specs.NodeContents.{Move, Stones, moves, stones, players}
 use Rattle.sgf_lines.specs.Values.{move_value, operations, last_player}
 use Rattle.sgf_lines.specs.Step.{side_in, taken, move_step, setup_step, step_by, step}
-use Rattle.sgf_lines.specs.Walk.{Played, Fault, Walk, stepped, next_by, next, walk}
+use Rattle.sgf_lines.specs.Walk.{Played, Fault, Walk, stepped, next_by, next}
 
 -- a step leaves the side of the board
 side-areas : (g : Grid) (ops : List SetupOp) → (fold with_area g ops).side ≡ g.side

@@ -1,9 +1,9 @@
 -- The answers of a count, and of writing its row.
-use Rattle.std.proofs.Common.{◌≡◌, ℕ, ◌+◌, ◌<◌, ◌≤◌, List, [], ◌++◌, length, take, drop, Option, Some, None, Result, Ok, Err, refl, sym, ap, ◌∙◌, arith, append_assoc, append-nil, length-append}
+use Rattle.std.proofs.Common.{◌≡◌, ℕ, ◌+◌, ◌≤◌, List, [], ◌++◌, length, take, drop, Option, Some, None, Result, Ok, Err, refl, sym, ap, ◌∙◌, arith, append_assoc, append-nil, length-append}
 use Rattle.std.specs.Prelude.{codes}
-use Rattle.std.specs.Io.KnownBytes.{Keeps, Appends, Consumes}
-use Rattle.std.proofs.KnownBytes.{Appends-nil, Appends-trans}
-use Rattle.std.proofs.lemmas.List.{take-append-drop, take-append-le}
+use Rattle.std.specs.Io.KnownBytes.{Keeps, Appends}
+use Rattle.std.proofs.KnownBytes.{Appends-trans}
+use Rattle.std.proofs.lemmas.List.{take-append-drop}
 use Rattle.std.proofs.Math.Seq.{take-append-add}
 use Rattle.sgf_tree.specs.Tree.{Games}
 use Rattle.sgf_tree.specs.declared.fault.TheConstants.{MAX_LENGTH}
@@ -11,7 +11,7 @@ use Rattle.sgf_tree.specs.Spelling.{Spells}
 use Rattle.sgf_tree.specs.Refusal.{IsFaultyAt}
 use Rattle.sgf_lines.specs.Ends.{SourceState, SinkState, Takes, TakesNothing}
 use Rattle.sgf_lines.specs.Answer.{IsWhole}
-use Rattle.sgf_lines.specs.Counts.{counts_of, AnswersCount, IsCount, AnswersRow, IsRow}
+use Rattle.sgf_lines.specs.Counts.{counts_of, AnswersCount, IsCount, IsRow}
 use Rattle.sgf_lines.specs.inner.Running.{AnswersReading, IsReading, PutsAll}
 use Rattle.sgf_lines.specs.declared.counting.Counts.{Counts}
 use Rattle.sgf_lines.specs.declared.fault.RunFault.{RunFault}

@@ -1,7 +1,7 @@
 -- The parts of a script, appended one after another.
-use Rattle.std.proofs.Common.{◌≡◌, ℕ, zero, suc, ◌+◌, ◌*◌, ◌/◌, ◌%◌, ◌<◌, ◌≤◌, ◌==◌, Bool, true, false, cond, List, [], ◌∷◌, ◌++◌, length, take, map, slice_get, get_or, Option, Some, None, refl, sym, ap, ◌∙◌, inl, inr, subst, arith, append_assoc, append-nil, Result, Ok, Err}
-use Rattle.std.specs.Prelude.{codes, filter, option_map, OnOk}
-use Rattle.std.specs.List.{flat_map, slice_split, onto_first, range_with_len}
+use Rattle.std.proofs.Common.{◌≡◌, ℕ, zero, suc, ◌+◌, ◌*◌, ◌<◌, cond, List, [], ◌∷◌, ◌++◌, length, slice_get, get_or, Some, refl, sym, ap, ◌∙◌, inl, inr, subst, arith, append_assoc, append-nil, Result, Ok, Err}
+use Rattle.std.specs.Prelude.{filter, option_map, OnOk}
+use Rattle.std.specs.List.{flat_map, range_with_len}
 use Rattle.std.proofs.lemmas.Bool.{cases_Bool}
 use Rattle.std.proofs.lemmas.Option.{slice_get-map}
 use Rattle.std.proofs.lemmas.List.{length-map}
@@ -15,7 +15,7 @@ use Rattle.go_board.specs.Grid.{Grid, cell_at}
 use Rattle.sgf_tree.specs.Tree.{Node}
 use Rattle.go_board.specs.State.{State}
 use Rattle.sgf_lines.specs.NodeContents.{Stones, moves, stones}
-use Rattle.sgf_lines.specs.Script.{comment_line, text_lines, comment_lines, play_line, stones_on, stone_lines, board_lines, setup_lines, move_lines, node_script}
+use Rattle.sgf_lines.specs.Script.{comment_lines, play_line, stone_lines, board_lines, setup_lines, move_lines, node_script}
 use Rattle.sgf_lines.specs.inner.Cutting.{lines_at}
 
 pub at_index : (xs : List ℕ) (i : ℕ) → i < length xs → slice_get xs i ≡ Some (get_or xs i 0)

@@ -1,13 +1,12 @@
 -- Small scripts, taken.
-use Rattle.std.proofs.Common.{◌≡◌, ℕ, List, [], ◌∷◌, codes, Option, Some, None, refl}
-use Rattle.go_board.specs.declared.stones.Cell.TheVariants.{Black, White, Empty}
+use Rattle.std.proofs.Common.{◌≡◌, [], ◌∷◌, codes, Some, None, refl}
+use Rattle.go_board.specs.declared.stones.Cell.TheVariants.{Black, Empty}
 use Rattle.go_board.specs.declared.stones.Colour.TheVariants.{Black as BlackPlayer}
-use Rattle.go_board.specs.Grid.{Grid, empty_grid}
+use Rattle.go_board.specs.Grid.{empty_grid}
 use Rattle.go_board.specs.Point.{points}
-use Rattle.go_board.specs.Marking.{is_marked, marking_of}
 use Rattle.go_board.specs.Reaching.{spread, reaching_within, reaches}
 use Rattle.go_board.specs.Clearing.{cleared_cell, clear, play}
-use Rattle.sgf_lines.specs.Replay.{Command, clears, plays, leaves, words, command_of, point_named, replayed}
+use Rattle.sgf_lines.specs.Replay.{plays, leaves, words, command_of, point_named, replayed}
 
 -- the corner point is `A2` on a side of 2, in either case
 reads_plays : command_of 2 (words (codes "play B A2")) ≡ plays BlackPlayer (record { col = 0; row = 0 })

@@ -1,13 +1,13 @@
 -- A walk ends with the first node whose step is refused, or with the last node.
-use Rattle.std.proofs.Common.{◌≡◌, ◌⊎◌, ℕ, ◌+◌, List, [], ◌∷◌, ◌++◌, Result, Ok, Err, refl, sym, ap, ◌∙◌, inl, inr, subst}
-use Rattle.std.specs.Prelude.{fold, Some, None}
+use Rattle.std.proofs.Common.{◌≡◌, ◌⊎◌, ℕ, ◌+◌, List, [], ◌∷◌, ◌++◌, Result, Ok, Err, refl, ap, ◌∙◌, inl, inr}
+use Rattle.std.specs.Prelude.{fold, Some}
 use Rattle.std.proofs.lemmas.List.Sums.{fold-append}
 use Rattle.sgf_tree.specs.Tree.{Node}
 use Rattle.go_board.specs.declared.reason.Reason.{Reason}
 use Rattle.go_board.specs.State.{State, starting}
 use Rattle.sgf_lines.specs.declared.verdict.Verdict.TheVariants.{Illegal}
 use Rattle.sgf_lines.specs.Step.{step}
-use Rattle.sgf_lines.specs.Walk.{Fault, Walk, before_root, stepped, next, walk, IsAfter, no_node, one_node, HasFault}
+use Rattle.sgf_lines.specs.Walk.{Walk, before_root, next, walk, IsAfter, no_node, one_node, HasFault}
 use Rattle.sgf_lines.specs.Verdict.{verdict_at, score_in}
 use Rattle.sgf_lines.proofs.Walking.{StandsAfter, goes_on, next_is, ends_at, after_fault}
 

@@ -1,5 +1,5 @@
 -- How many lines a collection has, by its leaves.
-use Rattle.std.proofs.Common.{◌≡◌, ◌≢◌, ℕ, suc, ◌+◌, ◌<◌, ◌≤◌, List, [], ◌∷◌, length, map, slice_get, Option, Some, None, cond, true, false, refl, sym, ap, ◌∙◌, arith, inl, inr}
+use Rattle.std.proofs.Common.{◌≡◌, ◌≢◌, ℕ, suc, ◌+◌, ◌<◌, ◌≤◌, List, [], ◌∷◌, length, slice_get, Some, None, refl, sym, ap, ◌∙◌, arith, inl, inr}
 use Rattle.std.specs.Prelude.{nat_lt}
 use Rattle.std.specs.List.{prefix_len}
 use Rattle.std.proofs.lemmas.Bool.{cases_lt, lt-ltb, le-ltb}
@@ -10,7 +10,7 @@ use Rattle.sgf_tree.specs.FileOrder.{IsLeaf}
 use Rattle.sgf_lines.specs.Lines.{lines}
 use Rattle.sgf_lines.specs.Paths.{Path, paths, leaf_of}
 use Rattle.sgf_lines.specs.inner.Standing.{lines_before}
-use Rattle.sgf_lines.proofs.Lists.{each_get, Each}
+use Rattle.sgf_lines.proofs.Lists.{each_get}
 use Rattle.sgf_lines.proofs.Ways.{IsDescent, each_path}
 use Rattle.sgf_lines.proofs.Leaves.{Rises, leaves, leaves_rise, leaves_of_paths}
 use Rattle.sgf_lines.proofs.Named.{length-paths}

@@ -1,6 +1,6 @@
 -- The stones of a colouring in which every stone reaches empty, played one by one, black ones before white ones, make that
 -- colouring: nothing is captured on the way, since a stone reaches empty sooner where fewer stones stand.
-use Rattle.std.proofs.Common.{◌≡◌, ◌≢◌, ◌↔◌, ℕ, zero, suc, ◌+◌, ◌-◌, ◌*◌, ◌<◌, ◌≤◌, List, [], ◌∷◌, ◌++◌, length, map, filter, Option, Some, None, Bool, true, false, IsTrue, slice_get, replicate, codes, refl, sym, ap, ◌∙◌, arith, subst, inl, inr, ◌⊎◌, cond, get_or, add-one, length-set}
+use Rattle.std.proofs.Common.{◌≡◌, ◌≢◌, ◌↔◌, ℕ, zero, suc, ◌+◌, ◌*◌, ◌<◌, ◌≤◌, List, [], ◌∷◌, ◌++◌, length, map, filter, Some, None, Bool, true, false, IsTrue, slice_get, codes, refl, sym, ap, ◌∙◌, arith, subst, inl, inr, ◌⊎◌, cond, length-set}
 use Rattle.std.specs.List.{flat_map, range_with_len}
 use Rattle.std.proofs.lemmas.Bool.{cases_eq, cases_lt}
 use Rattle.std.proofs.lemmas.List.{get_or-replicate, length-replicate}
@@ -17,8 +17,8 @@ use Rattle.go_board.specs.Grid.{Grid, cell_at, with_cell, empty_grid}
 use Rattle.go_board.specs.Reaching.{Leads, Reaches, reaches}
 use Rattle.go_board.specs.Clearing.{clear, play, HasUnreaching, has_unreaching}
 use Rattle.go_board.specs.Vertex.{vertex_of}
-use Rattle.sgf_lines.specs.Script.{colour_letter, vertex_text, play_line, stones_on, stone_lines, board_lines}
-use Rattle.sgf_lines.specs.Replay.{words, command_of, after_command, after_line, after_text}
+use Rattle.sgf_lines.specs.Script.{colour_letter, vertex_text, play_line, stone_lines, board_lines}
+use Rattle.sgf_lines.specs.Replay.{after_command, after_line, after_text}
 use Rattle.sgf_lines.proofs.Lists.{Each}
 use Rattle.sgf_lines.proofs.ScriptLines.{IsWithin, CarriesBoard, takes_line, takes_nothing, takes_both, solid_within, within_both}
 use Rattle.sgf_lines.proofs.ScriptWords.{vertex_solid, play_reads}

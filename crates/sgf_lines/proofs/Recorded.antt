@@ -1,8 +1,7 @@
 -- What a line that a cursor gave is known by.
-use Rattle.std.proofs.Common.{◌≡◌, ◌≢◌, ℕ, ◌<◌, List, [], ◌∷◌, length, slice_get, map, Option, Some, None, refl, sym, ap, ◌∙◌, arith}
+use Rattle.std.proofs.Common.{◌≡◌, ◌≢◌, ℕ, ◌<◌, List, [], ◌∷◌, length, slice_get, Some, None, refl, ap, ◌∙◌, arith}
 use Rattle.std.specs.Prelude.{option_map}
-use Rattle.sgf_tree.specs.Tree.{Node, Games}
-use Rattle.sgf_tree.specs.FileOrder.{node_at}
+use Rattle.sgf_tree.specs.Tree.{Games}
 use Rattle.sgf_lines.specs.Lines.{Line, lines, place_of}
 use Rattle.sgf_lines.specs.Paths.{paths}
 use Rattle.sgf_lines.specs.Cursor.{IsLine, shown}

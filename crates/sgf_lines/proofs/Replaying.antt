@@ -1,6 +1,6 @@
 -- A script that has commands leads to the colouring at the end of its line's walk.
-use Rattle.std.proofs.Common.{◌≡◌, ◌≢◌, ℕ, zero, suc, ◌+◌, ◌-◌, ◌*◌, ◌<◌, ◌≤◌, List, [], ◌∷◌, ◌++◌, length, map, filter, fold, Option, Some, None, Bool, true, false, not, codes, refl, sym, ap, ◌∙◌, arith, subst, inl, inr, cond, append-nil, append_assoc, decimal, ◌||◌, ◌==◌, Result, Ok, Err, option_map, option_and_then, nat_lt, nat_le, ◌&&◌}
-use Rattle.std.specs.List.{flat_map, list_any, slice_split}
+use Rattle.std.proofs.Common.{◌≡◌, ℕ, ◌*◌, ◌<◌, ◌≤◌, List, [], ◌∷◌, ◌++◌, length, map, filter, fold, Option, Some, None, Bool, true, false, not, codes, refl, sym, ap, ◌∙◌, arith, subst, cond, append-nil, append_assoc, decimal, ◌||◌, Result, Ok, Err, option_map, option_and_then, nat_lt}
+use Rattle.std.specs.List.{flat_map, list_any}
 use Rattle.std.proofs.lemmas.List.{length-map, length-replicate}
 use Rattle.std.proofs.lemmas.Bool.Decides.{nat_tests}
 use Rattle.sgf_tree.specs.Tree.{Node}
@@ -17,21 +17,21 @@ use Rattle.go_board.specs.declared.referee.plays.Play.TheVariants.{Pass, Stone}
 use Rattle.go_board.specs.declared.referee.plays.SetupOp.{SetupOp}
 use Rattle.go_board.specs.Colour.{opponent, stone_of, same_cell}
 use Rattle.go_board.specs.Point.{IsOn, points}
-use Rattle.go_board.specs.Grid.{Grid, cell_at, with_cell, empty_grid, grid_of}
+use Rattle.go_board.specs.Grid.{Grid, cell_at, with_cell, empty_grid}
 use Rattle.go_board.specs.Clearing.{clear, play, has_unreaching}
-use Rattle.go_board.specs.Values.{letter_value, coordinate, point_of, point_value}
-use Rattle.go_board.specs.State.{State, starting, with_area, set_up, turned, is_over}
+use Rattle.go_board.specs.Values.{letter_value, coordinate, point_value}
+use Rattle.go_board.specs.State.{State, with_area, set_up, turned, is_over}
 use Rattle.go_board.specs.Reason.{must_move, is_occupied, is_repeat, reason_of}
 use Rattle.sgf_lines.specs.Lines.{Line}
 use Rattle.sgf_lines.specs.NodeContents.{Move, Stones, moves, stones, players}
 use Rattle.sgf_lines.specs.Values.{is_pass, move_value, operations, last_player}
-use Rattle.sgf_lines.specs.GameSize.{Opening, other_game, no_board, board, opening, root_properties}
+use Rattle.sgf_lines.specs.GameSize.{board, opening, root_properties}
 use Rattle.sgf_lines.specs.Step.{side_in, taken, move_step, setup_step, step_by, step}
 use Rattle.sgf_lines.specs.Walk.{Played, Fault, Walk, before_root, stepped, next_by, next, walk}
 use Rattle.sgf_lines.specs.ListRow.{list_row}
-use Rattle.sgf_lines.specs.Script.{comment_line, comment_text, comment_lines, play_line, board_lines, setup_lines, move_lines_by, move_lines, node_script, played_script, leaves_unreaching_by, leaves_unreaching, has_no_commands, board_commands, commands_of, commands_by, script}
+use Rattle.sgf_lines.specs.Script.{comment_line, comment_text, comment_lines, play_line, board_lines, setup_lines, move_lines_by, move_lines, node_script, played_script, leaves_unreaching_by, leaves_unreaching, has_no_commands, board_commands, commands_by, script}
 use Rattle.sgf_lines.specs.NodeContents.{first_value}
-use Rattle.sgf_lines.specs.Replay.{is_word, words, leaves, command_of, after_command, after_line, after_text, replayed}
+use Rattle.sgf_lines.specs.Replay.{is_word, leaves, command_of, after_command, after_line, after_text, replayed}
 use Rattle.sgf_lines.proofs.Lists.{Each}
 use Rattle.sgf_lines.proofs.Again.{flat_map-append}
 use Rattle.sgf_lines.proofs.ScriptLines.{IsWithin, CarriesBoard, takes_line, takes_nothing, takes_both, takes_comment, takes_text_lines, row_within, decimal_within, decimal_solid, within_both}

@@ -1,9 +1,9 @@
 -- The answers of a run and of its parts.
-use Rattle.std.proofs.Common.{◌≡◌, ◌≢◌, ℕ, suc, ◌+◌, ◌<◌, ◌≤◌, ◌⊎◌, inl, inr, List, [], ◌++◌, length, take, drop, slice_get, Option, Some, None, Result, Ok, Err, refl, sym, ap, ◌∙◌, arith, add-one, append_assoc, append-nil, length-append}
+use Rattle.std.proofs.Common.{◌≡◌, ℕ, ◌+◌, ◌<◌, inl, inr, List, [], ◌++◌, length, take, drop, slice_get, Option, Some, Result, Ok, Err, refl, sym, ap, ◌∙◌, arith, add-one, append_assoc, append-nil, length-append}
 use Rattle.std.specs.Prelude.{option_map}
 use Rattle.std.specs.List.{flat_map}
-use Rattle.std.specs.Io.KnownBytes.{Keeps, Appends, Consumes, IsAtEnd}
-use Rattle.std.proofs.KnownBytes.{Appends-nil, Appends-trans, Consumes-nil, Keeps-trans}
+use Rattle.std.specs.Io.KnownBytes.{Appends}
+use Rattle.std.proofs.KnownBytes.{Appends-nil}
 use Rattle.std.proofs.lemmas.List.{take_all, take-append-drop, length-take-le}
 use Rattle.std.proofs.lemmas.Grind.{flat_map-append}
 use Rattle.sgf_tree.specs.Tree.{Games}
@@ -13,8 +13,8 @@ use Rattle.sgf_lines.specs.Page.{page, limited, lines_from_place}
 use Rattle.sgf_lines.specs.Record.{record_of}
 use Rattle.sgf_lines.specs.Output.{output}
 use Rattle.sgf_lines.specs.Ends.{SourceState, SinkState}
-use Rattle.sgf_lines.specs.Answer.{IsWhole, HasPage, Answers, IsCutShort, IsCutBetween, IsRun, read_failures, write_failures}
-use Rattle.sgf_lines.specs.inner.Running.{AnswersReading, IsReading, Finishes, IsSplit, IsSplitOf, AnswersLines, WritesLines, IsStart}
+use Rattle.sgf_lines.specs.Answer.{IsWhole, Answers, IsCutShort, IsRun, read_failures, write_failures}
+use Rattle.sgf_lines.specs.inner.Running.{AnswersReading, IsReading, IsSplit, IsSplitOf, AnswersLines, WritesLines, IsStart}
 use Rattle.sgf_lines.specs.declared.options.Form.{Form}
 use Rattle.sgf_lines.specs.declared.options.Options.{Options}
 use Rattle.sgf_lines.specs.declared.fault.RunFault.{RunFault}

@@ -1,5 +1,5 @@
 -- The lines of a script: what a text of whole lines does to the board, whatever follows it.
-use Rattle.std.proofs.Common.{◌≡◌, ℕ, zero, suc, ◌+◌, ◌<◌, ◌≤◌, ◌/◌, ◌%◌, List, [], ◌∷◌, ◌++◌, length, map, fold, Option, Some, None, Bool, true, false, codes, refl, sym, ap, ◌∙◌, arith, append_assoc, decimal, nat_lt, cond, ◌==◌}
+use Rattle.std.proofs.Common.{◌≡◌, ℕ, zero, suc, ◌≤◌, ◌/◌, ◌%◌, List, [], ◌∷◌, ◌++◌, length, fold, Option, Some, None, Bool, true, false, codes, refl, ap, ◌∙◌, arith, append_assoc, decimal, cond, ◌==◌}
 use Rattle.std.specs.List.{flat_map, slice_split, onto_first}
 use Rattle.std.specs.Fmt.{digits, digits_onto, digit_glyph}
 use Rattle.std.proofs.lemmas.List.Splits.{slice_split_at}

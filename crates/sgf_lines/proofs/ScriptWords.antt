@@ -1,6 +1,6 @@
 -- The lines of plays, as they are read.
-use Rattle.std.proofs.Common.{◌≡◌, ℕ, zero, suc, ◌+◌, ◌-◌, ◌<◌, ◌≤◌, List, [], ◌∷◌, ◌++◌, length, map, fold, filter, Option, Some, None, Bool, true, false, codes, refl, sym, ap, ◌∙◌, arith, append_assoc, decimal, nat_lt, nat_le, cond, ◌==◌, ◌&&◌, slice_index, option_and_then, inl, inr}
-use Rattle.std.specs.List.{slice_split, onto_first, position}
+use Rattle.std.proofs.Common.{◌≡◌, ℕ, zero, suc, ◌-◌, ◌<◌, ◌≤◌, List, [], ◌∷◌, ◌++◌, filter, Option, Some, None, Bool, true, false, codes, refl, ap, ◌∙◌, arith, decimal, nat_lt, nat_le, cond, ◌==◌, ◌&&◌, slice_index, option_and_then, inl, inr}
+use Rattle.std.specs.List.{slice_split, position}
 use Rattle.std.proofs.lemmas.List.Splits.{slice_split_none}
 use Rattle.std.proofs.lemmas.List.Elements.{All-from_recursion}
 use Rattle.std.specs.Fmt.{digits}
@@ -11,11 +11,11 @@ use Rattle.go_board.specs.declared.points.Point.{Point}
 use Rattle.go_board.specs.Point.{IsOn}
 use Rattle.go_board.specs.Vertex.{column_letters, vertex_of}
 use Rattle.sgf_lines.specs.Script.{colour_letter, vertex_text}
-use Rattle.sgf_lines.specs.Replay.{before_comment, is_word, words, capital, point_there, point_named, Command, plays, leaves, play_of, command_of}
-use Rattle.std.proofs.lemmas.Bool.{cases_eq, cases_lt}
+use Rattle.sgf_lines.specs.Replay.{before_comment, is_word, words, capital, point_there, point_named, plays, play_of, command_of}
+use Rattle.std.proofs.lemmas.Bool.{cases_eq}
 use Rattle.std.proofs.lemmas.Bool.Decides.{nat_tests}
-use Rattle.sgf_lines.proofs.Lists.{Each, each_append}
-use Rattle.sgf_lines.proofs.ScriptLines.{IsSolid, decimal_solid, IsWithin}
+use Rattle.sgf_lines.proofs.Lists.{Each}
+use Rattle.sgf_lines.proofs.ScriptLines.{IsSolid, decimal_solid}
 
 -- ---- a fact of each number below a small one, by trying all
 

@@ -1,5 +1,5 @@
 -- What a node holds for the referee (SGF FF[4], move and setup properties): moves, stones and players, each list in file order.
-use Rattle.std.specs.Prelude.{ℕ, Bool, if◌then◌else◌, Option, Some, None, option_map, List, [], map, find, codes, bytes_eq}
+use Rattle.std.specs.Prelude.{ℕ, Bool, if◌then◌else◌, Option, option_map, List, [], map, find, codes, bytes_eq}
 use Rattle.std.specs.List.{flat_map}
 use Rattle.sgf_tree.specs.Tree.{Property, Node, values}
 use Rattle.go_board.specs.declared.stones.Colour.{Colour}

@@ -1,6 +1,6 @@
 -- How a script is taken by an engine of the Go Text Protocol (GTP 2), from the bytes of the script: a command a line, from
 -- the top, on a board of a given side, where a stone is played by the Tromp-Taylor rules.
-use Rattle.std.specs.Prelude.{ℕ, Bool, true, false, ◌+◌, ◌-◌, ◌==◌, ◌||◌, ◌&&◌, nat_le, nat_lt, if◌then◌else◌, Option, Some, None, option_and_then, List, [], ◌∷◌, filter, map, fold, codes, bytes_eq}
+use Rattle.std.specs.Prelude.{ℕ, Bool, true, false, ◌-◌, ◌==◌, ◌||◌, ◌&&◌, nat_le, nat_lt, if◌then◌else◌, Option, Some, None, option_and_then, List, [], ◌∷◌, filter, map, fold, codes, bytes_eq}
 use Rattle.std.specs.List.{slice_split, position}
 use Rattle.sgf_tree.specs.Number.{magnitude_of}
 use Rattle.go_board.specs.declared.stones.Cell.TheVariants.{Empty}

@@ -1,7 +1,6 @@
 -- What the doing of a job comes to: the bytes read and written, the status, and the line on standard error.
 use Rattle.std.specs.Prelude.{◌≡◌, ◌⊎◌, ℕ, ◌+◌, List, [], ◌++◌, Option, Some, None, Result, Ok, Err, String}
 use Rattle.std.specs.declared.alloc.Global.{Global}
-use Rattle.std.specs.Option.{option_map_or}
 use Rattle.std.specs.Result.{result_err}
 use Rattle.std.specs.Io.KnownBytes.{Appends}
 use Rattle.sgf_lines.specs.Ends.{SinkState, SourceState, Takes, TakesNothing}

@@ -1,7 +1,6 @@
 -- Why the program ends with another status than 0: the status, and the line on standard error.
 use Rattle.std.specs.Prelude.{ℕ, ◌++◌, ◌==◌, List, codes, decimal, if◌then◌else◌}
 use Rattle.sgf_lines.specs.Answer.{MAX_LENGTH}
-use Rattle.sgf_lines.specs.declared.fault.RunFault.{RunFault}
 use Rattle.sgf_lines.specs.declared.fault.RunFault.TheVariants.{Read, TooLong, NotSgf, NoSuchLine, Write, Memory}
 use Rattle.sgfsplit.specs.declared.fault.Fault.{Fault}
 use Rattle.sgfsplit.specs.declared.fault.Fault.TheVariants.{Open, Run}

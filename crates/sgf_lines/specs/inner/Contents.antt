@@ -1,6 +1,6 @@
 -- How a node's contents are gathered, value after value.
 use Rattle.std.specs.Prelude.{◌≡◌, ◌⊎◌, ℕ, Bool, true, false, if◌then◌else◌, Option, Some, None, List, [], ◌∷◌, ◌++◌, map, All, codes}
-use Rattle.sgf_tree.specs.Tree.{Property, Node, values}
+use Rattle.sgf_tree.specs.Tree.{Property, values}
 use Rattle.go_board.specs.declared.stones.Colour.{Colour}
 use Rattle.go_board.specs.declared.stones.Colour.TheVariants.{Black, White}
 use Rattle.go_board.specs.declared.stones.Cell.TheVariants.{Black as BlackStone, White as WhiteStone, Empty}
@@ -11,7 +11,7 @@ use Rattle.sgf_lines.specs.declared.contents.Moves.TheVariants.{Nothing, One, Se
 use Rattle.sgf_lines.specs.declared.contents.Kind.{Kind}
 use Rattle.sgf_lines.specs.declared.contents.Kind.TheVariants.{Move as move_kind, Stones as stones_kind, Player as player_kind}
 use Rattle.sgf_lines.specs.declared.contents.Contents.{Contents}
-use Rattle.sgf_lines.specs.NodeContents.{Move, Stones, is_named, moves, stones, players}
+use Rattle.sgf_lines.specs.NodeContents.{Move, Stones, is_named}
 use Rattle.sgf_lines.specs.Values.{operations, last_player}
 
 -- moves, stones and players

@@ -5,7 +5,7 @@ use Rattle.sgf_tree.specs.Tree.{Node}
 use Rattle.go_board.specs.declared.vertices.TheConstants.{MAX_VERTEX_SIDE}
 use Rattle.go_board.specs.Grid.{Grid}
 use Rattle.go_board.specs.State.{State}
-use Rattle.sgf_lines.specs.Walk.{Played, Walk, walk}
+use Rattle.sgf_lines.specs.Walk.{walk}
 use Rattle.sgf_lines.specs.Script.{node_script, played_script, leaves_unreaching, board_commands}
 use Rattle.sgf_lines.specs.declared.step.Change.{Change}
 use Rattle.sgf_lines.specs.declared.commands.Commands.{Commands}

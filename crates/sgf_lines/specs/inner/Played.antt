@@ -2,7 +2,7 @@
 use Rattle.std.specs.Prelude.{◌≡◌, ℕ, ◌+◌, ◌<◌, ◌≤◌, nat_le, nat_lt, Bool, true, false, if◌then◌else◌, List, [], ◌∷◌, length, take, Option, Some, None, slice_get, Result, OnOk}
 use Rattle.sgf_tree.specs.Tree.{Node}
 use Rattle.go_board.specs.State.{State, States}
-use Rattle.sgf_lines.specs.Walk.{Fault, Walk, walk, judged_by}
+use Rattle.sgf_lines.specs.Walk.{Fault, walk, judged_by}
 use Rattle.sgf_lines.specs.declared.game.Fault.{Fault as Met}
 use Rattle.sgf_lines.specs.declared.game.Game.{Game}
 use Rattle.sgf_lines.specs.declared.commands.Commands.{Commands}

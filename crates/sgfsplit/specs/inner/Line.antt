@@ -1,6 +1,6 @@
 -- A line that is built without memory.
 use Rattle.sgfsplit.specs.declared.line.Line.{Line}
-use Rattle.std.specs.Prelude.{ℕ, List, [], ◌++◌, Option, Some, None, take, decimal}
+use Rattle.std.specs.Prelude.{ℕ, List, [], Option, Some, None, take, decimal}
 
 -- the text of a number, where there is one
 abbrev pub number_text : Option ℕ → List ℕ

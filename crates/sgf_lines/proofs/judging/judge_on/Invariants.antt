@@ -1,5 +1,5 @@
 -- The walk along the nodes so far has met no fault, and the referee is in its state.
-use Rattle.std.proofs.Common.{◌≡◌, List, Some, None, map, take}
+use Rattle.std.proofs.Common.{◌≡◌, List, Some, map, take}
 use Rattle.sgf_tree.specs.Tree.{Node}
 use Rattle.sgf_tree.specs.FileOrder.{node_at}
 use Rattle.sgf_lines.specs.Walk.{walk}

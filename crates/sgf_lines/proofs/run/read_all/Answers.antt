@@ -1,5 +1,5 @@
 -- What the last call gave was not kept.
-use Rattle.std.proofs.Common.{◌++◌, length, take, refl, arith, length-append}
+use Rattle.std.proofs.Common.{◌++◌, take, refl, arith, length-append}
 use Rattle.std.proofs.KnownBytes.{Appends-trans, Consumes-trans}
 use Rattle.std.proofs.lemmas.List.{length-take-le}
 use Rattle.sgf_lines.proofs.run.read_all.Goals as goal

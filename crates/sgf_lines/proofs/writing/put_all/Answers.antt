@@ -1,5 +1,5 @@
 -- The put went on after the bytes that were taken.
-use Rattle.std.proofs.Common.{length, ◌∙◌, arith}
+use Rattle.std.proofs.Common.{◌∙◌, arith}
 use Rattle.std.proofs.lemmas.List.{length-drop}
 use Rattle.sgf_lines.proofs.SliceEnds.{puts_more}
 use Rattle.sgf_lines.proofs.writing.put_all.Goals as goal

@@ -1,5 +1,5 @@
 -- proofs/board/stone_rows/StoneRows/set/Answers.antt
-use Rattle.std.proofs.Common.{◌≡◌, ◌≢◌, ◌≤◌, ℕ, length, get_or, set, take, arith, sym, ap, ◌∙◌, subst, rules}
+use Rattle.std.proofs.Common.{◌≡◌, get_or, set, take, arith, sym, ap, ◌∙◌, subst}
 use Rattle.std.proofs.lemmas.List.{length-set}
 use Rattle.go_board.specs.declared.stones.Cell.TheVariants.{Black, White}
 use Rattle.go_board.specs.Colour.{same_cell}
