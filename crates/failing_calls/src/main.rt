@@ -1,6 +1,6 @@
 //! Calls of the libraries whose memory is refused, or whose ends fail.
 //!
-//! The program is run with its Nth request for memory refused, for N = 1, 2, .. (`tests/refused_library.sh`). A call then
+//! The program is run with its Nth request for memory refused, for N = 1, 2, .. (`tests/failing_calls.sh`). A call then
 //! gives its answer with ample memory, or its want of memory: then what it was called on is unchanged, and the same call made
 //! again gives that answer. Texts and the ends of runs lie in arrays, so that only the calls ask for memory.
 //!

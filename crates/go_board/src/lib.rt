@@ -25,6 +25,7 @@
 //! | `board/flood`, `board/search` | the flood that counts its steps, and its worklist |
 //! | `board/capture`, `board/sweep` | groups without a liberty taken off one at a time; a pass over all points |
 //! | `board/regions`, `board/fill` | sets of points as rows of bits, and filling these: the score, whether all stones reach empty |
+//! | `board/stone_rows` | the stones of a board as rows of bits, kept while points are set |
 //! | `board/areas` | colouring areas |
 //! | `past` | the colourings that a game has been through; `past/list_past` and `past/print_past` keep them |
 //! | `past/colourings`, `past/changes`, `past/differences` | past colourings as changes that lead back |

@@ -17,7 +17,7 @@ pub record Position : Type 0 where
 abbrev pub advanced : Position → Position
 advanced at = record { games = at.games; given = at.given + 1 }
 
--- what is shown of a line: its path, and its place
+-- what is shown of a line: its path, and its place (that both are of one line is the law `named`)
 pub record Shown : Type 0 where
   pub path : Path
   pub place : ℕ

@@ -26,6 +26,7 @@ node_places c = map (λ r. r.node.place) (rows_of c)
 abbrev pub touched : List Line → List ℕ
 touched ls = different (flat_map (λ line. places_of line.nodes) ls)
 
--- the places of the nodes that are judged on some of these lines: up to the first that isn't allowed, that one among them
+-- The places of the nodes that are judged on some of these lines: up to the first that isn't allowed, that one among them. Nodes of one text
+-- have different places, so there are as many places as nodes.
 abbrev pub judged : List Line → List ℕ
 judged ls = different (flat_map (λ line. places_of (judged_nodes line)) ls)

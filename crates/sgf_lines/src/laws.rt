@@ -85,7 +85,7 @@ pub fn pages()
 /// A script that has commands, read from its bytes and taken from the top on an empty board of the line's side: no stone is
 /// played on a point that isn't empty, and the last board is the colouring of the judged line after the nodes before its
 /// first faulty one, or after all of them.
-/// So an engine that plays by the same rules shows the position that was judged.
+/// So an engine that plays stones by the same rules, and refuses none of these, shows the position that was judged.
 pub fn replay()
     ensures { (line : Line) (side : ℕ) → opening (root_properties line.nodes) ≡ board side
         → has_no_commands side (walk side line.nodes) ≡ false

@@ -5,7 +5,7 @@
 pub enum Form {
     /// A row with the line's place, its game, the number of its nodes and its verdict.
     List,
-    /// A single-line game of the Smart Game Format (SGF FF[4]).
+    /// A game of the Smart Game Format (SGF FF[4]) without variations.
     Sgf,
     /// A script of the Go Text Protocol, version 2.
     Gtp,

@@ -11,7 +11,7 @@ pub enum Verdict {
         black: u32,
         /// White's area score after the last node, in points.
         white: u32,
-        /// Whether the line ends with two passes in a row.
+        /// Whether two passes in a row ended the game.
         over: bool,
     },
     /// Some node isn't allowed; the nodes after the first such node are not looked at.
