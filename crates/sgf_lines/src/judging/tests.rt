@@ -49,6 +49,7 @@ fn scores(rt: HostRuntime) {
         (b"(;SZ[3](;B[aa])(;B[bb];W[aa]))", 1, open(9, 0)),
         (b"(;SZ[3](;B[aa])(;B[bb];W[aa]))", 3, open(1, 1)),
         (b"(;SZ[1])(;SZ[2])", 1, open(0, 0)),
+        (b"\xEF\xBB\xBF(;)", 0, open(0, 0)),
         (b"(;SZ[3]AB[aa:ca])", 0, open(9, 0)),
         (b"(;SZ[3]AB[aa]AW[ab][bb][ca]PL[B];B[ba])", 1, open(0, 9)),
         (b"(;SZ[3]AB[aa]AW[ba][ab]AE[cc];B[cc])", 1, open(1, 3)),
