@@ -1,6 +1,5 @@
 pub mod Ways
 pub mod Standing
-pub mod Lending
 pub mod Seeking
 pub mod Following
 pub mod Contents

@@ -42,7 +42,7 @@ impl<'c, 'a> Model for Cursor<'c, 'a> {
 impl<'c, 'a> Cursor<'c, 'a> {
     ghost use Rattle.std.specs.Borrow.{sem};
     ghost use Rattle.sgf_lines.specs.Cursor.{GivesLine, LeavesCursor, IsAfterPlace, IsSeekFault};
-    ghost use Rattle.sgf_lines.specs.inner.Lending.{OnceReturned};
+    ghost use Rattle.sgf_lines.specs.Lending.{OnceReturned};
 
     /// A cursor before the first line.
     /// It takes no memory.
