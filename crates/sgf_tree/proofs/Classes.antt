@@ -13,7 +13,7 @@ upper-range b h = let (x, y) = and_parts (nat_le 65 b) (nat_le b 90) h in (leb-t
 pub lower-range : (b : ℕ) → IsTrue (is_lower b) → (97 ≤ b) × (b ≤ 122)
 lower-range b h = let (x, y) = and_parts (nat_le 97 b) (nat_le b 122) h in (leb-true 97 b x, leb-true b 122 y)
 
-fails : (x : Bool) → (x ≡ true → ⊥) → x ≡ false
+pub fails : (x : Bool) → (x ≡ true → ⊥) → x ≡ false
 fails true h = absurd (h refl)
 fails false h = refl
 

@@ -42,3 +42,4 @@ pub mod NodeTexts
 pub mod Walks
 pub mod Taking
 pub mod WrittenParts
+pub mod LoneNodes

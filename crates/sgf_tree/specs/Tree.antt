@@ -1,5 +1,5 @@
 -- What a Smart Game Format text holds: a collection of game trees (SGF FF[4], EBNF).
-use Rattle.std.specs.Prelude.{ℕ, ◌+◌, List, ◌∷◌, length}
+use Rattle.std.specs.Prelude.{ℕ, ◌+◌, List, [], ◌∷◌, length}
 
 -- a property: its name and its raw values, of which there is at least one
 pub record Property : Type 0 where
@@ -10,6 +10,10 @@ pub record Property : Type 0 where
 -- all values of a property, in file order
 abbrev pub values : Property → List (List ℕ)
 values p = p.first ∷ p.more
+
+-- the property of a name of one letter and one raw value
+abbrev pub lone_property : ℕ → List ℕ → Property
+lone_property letter value = record { name = letter ∷ []; first = value; more = [] }
 
 -- a node: its place, which is the offset of its `;` in the text, and its properties
 pub record Node : Type 0 where

@@ -1,11 +1,12 @@
 //! A node of a collection.
 
-ghost use Rattle.std.specs.Prelude.{◌≡◌, ◌<◌, length, slice_get, find, Some, MatchOption};
+ghost use Rattle.std.specs.Prelude.{◌≡◌, ◌<◌, length, slice_get, find, [], ◌∷◌, Some, IfSome, MatchOption};
 ghost use Rattle.std.specs.Str.{bytes_eq};
+ghost use Rattle.sgf_tree.specs.Tree.{lone_property};
 ghost use Rattle.sgf_tree.specs.Written.{node_text, IsWrittenNode};
 
 use crate::property::PropRef;
-use crate::reader::scan::{part, rest_from};
+use crate::reader::scan::{is_lone_node, part, rest_from};
 use crate::walk::{Properties, written_properties_end};
 use std::marker::Model;
 
@@ -59,6 +60,20 @@ impl<'a> NodeRef<'a> {
             (text, None)
         } else {
             (text, Some(left))
+        }
+    }
+
+    /// The letter and the raw value of its one property, where the node is written as `;B[pd]` is: a name of one capital, one
+    /// value of two bytes that stand for themselves, and nothing between the parts nor after them.
+    /// None of each other node, so whoever gets None takes `walk`. It looks at a few bytes, however long the node is.
+    pub fn lone(&self) -> Option<(u8, &'a [u8])>
+        ensures { IfSome result (λ lone. self.now.properties ≡ lone_property lone.0 lone.1.now ∷ []) }
+    {
+        let text = self.text;
+        if is_lone_node(text) {
+            Some((text[1], part(text, 3, 5)))
+        } else {
+            None
         }
     }
 
@@ -126,6 +141,38 @@ mod tests {
                 .first(name.as_bytes())
                 .map(|property| property.value(0));
             assert_eq!(rt; value, want.map(|text| text.as_bytes()), "of {name:?}");
+        }
+        Ok(())
+    }
+
+    #[test]
+    fn gives_a_lone_property(rt: HostRuntime) -> Result<(), Fail> {
+        for (text, want) in [
+            (b"(;B[pd])".as_slice(), Some((b'B', "pd"))),
+            (b"(;B[pd];)".as_slice(), Some((b'B', "pd"))),
+            (b"(;W[[:](;))".as_slice(), Some((b'W', "[:"))),
+            (b"(;)".as_slice(), None),
+            (b"(;B[])".as_slice(), None),
+            (b"(;B[p])".as_slice(), None),
+            (b"(;B[\\d])".as_slice(), None),
+            (b"(;B[p\\]])".as_slice(), None),
+            (b"(;B[pdq])".as_slice(), None),
+            (b"(;AB[pd])".as_slice(), None),
+            (b"(;B[pd][dp])".as_slice(), None),
+            (b"(;B[pd] [dp])".as_slice(), None),
+            (b"(;B[pd]C[x])".as_slice(), None),
+            (b"(; B[pd])".as_slice(), None),
+            (b"(;B [pd])".as_slice(), None),
+            (b"(;B[pd]\n)".as_slice(), None),
+        ] {
+            let c = read(rt.alloc(), text)?;
+            assert!(rt; c.nodes() > 0);
+            let lone = c.node(0).lone();
+            assert_eq!(rt;
+                lone,
+                want.map(|(letter, value)| (letter, value.as_bytes())),
+                "of {text:?}"
+            );
         }
         Ok(())
     }

@@ -1,7 +1,8 @@
 -- How far a text was read: the words of the contracts inside `reader`.
 use Rattle.std.specs.Prelude.{◌≡◌, ℕ, ◌+◌, ◌<◌, ◌≤◌, Bool, false, not, ◌&&◌, ◌==◌, List, [], ◌∷◌, length, slice_index, slice_range, take, drop, Some, IsTrue}
-use Rattle.sgf_tree.specs.Bytes.{backslash, close_bracket}
+use Rattle.sgf_tree.specs.Bytes.{space, capital_a, open_bracket, backslash, close_bracket}
 use Rattle.sgf_tree.specs.RawValue.{IsValue}
+use Rattle.sgf_tree.specs.Spelling.{is_upper}
 use Rattle.sgf_tree.specs.inner.Machine.{Started, MachineState, start, in_value, run}
 use Rattle.sgf_tree.specs.Refusal.{IsFaultyAt}
 use Rattle.sgf_tree.specs.declared.reader.fault.Fault.{Fault}
@@ -44,6 +45,16 @@ pub record IsTwoPlain (t : List ℕ) (at : ℕ) : Type 0 where
   pub within : at + 2 < length t
   pub plain : IsRun is_plain t at (at + 2)
   pub bracket : slice_index t (at + 2) ≡ close_bracket
+
+-- a `;`, one capital and two plain bytes between brackets, with nothing between them, and then a byte that is neither white
+-- space nor a bracket nor a letter
+pub record IsLoneNode (t : List ℕ) : Type 0 where
+  pub within : 6 < length t
+  pub capital : IsTrue (is_upper (slice_index t 1))
+  pub bracket : slice_index t 2 ≡ open_bracket
+  pub value : IsTwoPlain t 3
+  pub past_white : space < slice_index t 6
+  pub before_letters : slice_index t 6 < capital_a
 
 -- no raw value begins at `at`
 abbrev pub SpellsNoValue : List ℕ → ℕ → Type 0

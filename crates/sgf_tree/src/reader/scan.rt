@@ -3,7 +3,7 @@
 ghost use Rattle.std.specs.Prelude.{◌≡◌, ◌≤◌, length, drop, slice_range, IsTrue, MatchOption};
 ghost use Rattle.sgf_tree.specs.Spelling.{is_white, is_upper};
 ghost use Rattle.sgf_tree.specs.inner.NodeText.{is_letter};
-ghost use Rattle.sgf_tree.specs.inner.Progress.{IsRun, IsValueEnd, IsUnended, SpellsValue, SpellsNoValue, IsTwoPlain, is_plain};
+ghost use Rattle.sgf_tree.specs.inner.Progress.{IsRun, IsValueEnd, IsUnended, SpellsValue, SpellsNoValue, IsTwoPlain, IsLoneNode, is_plain};
 
 use memchr::memchr2;
 
@@ -108,6 +108,19 @@ fn is_two_plain(text: &[u8], at: usize) -> bool
         && text[at] != b'\\'
         && text[at + 1] != b']'
         && text[at + 1] != b'\\'
+}
+
+/// Whether the text begins with a node that is written as `;B[pd]` is, and that goes on with neither white space nor a
+/// bracket nor a letter.
+pub(crate) fn is_lone_node(text: &[u8]) -> bool
+    ensures { IsTrue result → IsLoneNode text.now }
+{
+    text.len() > 6
+        && text[1].is_ascii_uppercase()
+        && text[2] == b'['
+        && is_two_plain(text, 3)
+        && text[6] > b' '
+        && text[6] < b'A'
 }
 
 /// The `]` that ends the raw value at `at`.
