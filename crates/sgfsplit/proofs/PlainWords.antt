@@ -23,7 +23,7 @@ use Rattle.clap.proofs.ValueTestLemmas.{Accepts-accepts}
 use Rattle.sgf_lines.specs.declared.options.Form.{Form}
 use Rattle.sgf_lines.specs.declared.options.Form.TheVariants as form
 use Rattle.sgfsplit.specs.CommandLine.{FormNames, forms, names_of, program_line}
-use Rattle.sgfsplit.specs.PlainWords.{ArePlain, IsFileWord, IsNameWord, IsNumberWord, SplitWords, Word, count_words, file_words, split_words, word_of}
+use Rattle.sgfsplit.specs.PlainWords.{ArePlain, IsFileWord, IsNameWord, IsNumberWord, SplitWords, Word, count_words, file_words, split_words, form_word}
 use Rattle.sgfsplit.specs.inner.Found.{HoldSplitWords, form_named, rows_found}
 use Rattle.sgfsplit.proofs.CommandLine.{AreAccepted, IsNoOption, accepts_form, accepts_number, after_row, count_entered, count_level, count_row, count_rules, count_taken, file_row, form_row, limit_row, split_entered, split_level, split_rows_are, split_rules, split_taken, words_after}
 
@@ -40,7 +40,7 @@ pub file_plain : (word : Word) → IsFileWord word → IsNoOption word
 file_plain word (inl h) = name_plain word h
 file_plain word (inr e) = subst IsNoOption (sym e) (record { two = refl; long = refl; short = refl })
 
-pub form_plain : (f : Form) → IsNoOption (word_of f)
+pub form_plain : (f : Form) → IsNoOption (form_word f)
 form_plain form.List = record { two = refl; long = refl; short = refl }
 form_plain form.Sgf = record { two = refl; long = refl; short = refl }
 form_plain form.Gtp = record { two = refl; long = refl; short = refl }
@@ -56,10 +56,10 @@ accepted_as : (names : List (Bor (List ℕ))) (word : Word) → list_any (λ nam
 accepted_as [] word = refl
 accepted_as (x ∷ xs) word = rw (accepted_as xs word) refl
 
-pub form_accepted : (names : FormNames) → names_of names ≡ forms → (f : Form) → accepts_form names (word_of f) ≡ true
-form_accepted names e f = accepted_as names.now (word_of f) ∙ ap (λ all. list_any (λ name. same_text false name (word_of f)) all) e ∙ go f
+pub form_accepted : (names : FormNames) → names_of names ≡ forms → (f : Form) → accepts_form names (form_word f) ≡ true
+form_accepted names e f = accepted_as names.now (form_word f) ∙ ap (λ all. list_any (λ name. same_text false name (form_word f)) all) e ∙ go f
   where
-    go : (f : Form) → list_any (λ name. same_text false name (word_of f)) forms ≡ true
+    go : (f : Form) → list_any (λ name. same_text false name (form_word f)) forms ≡ true
     go form.List = refl
     go form.Sgf = refl
     go form.Gtp = refl
@@ -103,7 +103,7 @@ number_read E G word None read only h =
 
 -- ---- whole command lines
 
-some_mapped : (f : Option Form) (P : Word → Type 0) → ((g : Form) → P (word_of g)) → IfSome (option_map word_of f) P
+some_mapped : (f : Option Form) (P : Word → Type 0) → ((g : Form) → P (form_word g)) → IfSome (option_map form_word f) P
 some_mapped None P h = tt
 some_mapped (Some g) P h = h g
 
@@ -113,9 +113,9 @@ each_some (Some x) P Q f h = f x h
 
 module _ (names : FormNames) (are : names_of names ≡ forms) where
   abbrev after_split : SplitWords → List Word
-  after_split given = words_after (option_map word_of given.form) given.after given.limit given.file
+  after_split given = words_after (option_map form_word given.form) given.after given.limit given.file
 
-  accepted : (given : SplitWords) → ArePlain given → AreAccepted names (option_map word_of given.form) given.after given.limit given.file
+  accepted : (given : SplitWords) → ArePlain given → AreAccepted names (option_map form_word given.form) given.after given.limit given.file
   accepted given plain = record {
     list = form_accepted names are form.List;
     form_accepted = some_mapped given.form (λ v. accepts_form names v ≡ true) (form_accepted names are);
@@ -130,14 +130,14 @@ module _ (names : FormNames) (are : names_of names ≡ forms) where
   pub split_words_taken : (name : Word) (given : SplitWords) → ArePlain given → takes (program_line names) (split_words name given) ≡ true
   split_words_taken name given plain =
       split_taken names name (after_split given)
-      (split_level names (option_map word_of given.form) given.after given.limit given.file (accepted given plain))
+      (split_level names (option_map form_word given.form) given.after given.limit given.file (accepted given plain))
 
   pub split_words_entered : (name : Word) (given : SplitWords) → ArePlain given
       → (rows : List Row) × (subcommand_of (program_line names) (split_words name given) ≡ Some (codes "split", rows)) × HoldSplitWords given rows
   split_words_entered name given plain =
-      let f = option_map word_of given.form in
+      let f = option_map form_word given.form in
       let all = split_rows_are names f given.after given.limit given.file (accepted given plain) in
-      let named : (g : Option Form) → unwrap_or (option_map word_of g) (codes "list") ≡ word_of (unwrap_or g form.List) = λ g. unnamed g in (
+      let named : (g : Option Form) → unwrap_or (option_map form_word g) (codes "list") ≡ form_word (unwrap_or g form.List) = λ g. unnamed g in (
         rows_after (split_rules names) [] (after_split given),
         split_entered names name (after_split given),
         rw all (record {
@@ -148,7 +148,7 @@ module _ (names : FormNames) (are : names_of names ≡ forms) where
         }),
       )
     where
-      unnamed : (g : Option Form) → unwrap_or (option_map word_of g) (codes "list") ≡ word_of (unwrap_or g form.List)
+      unnamed : (g : Option Form) → unwrap_or (option_map form_word g) (codes "list") ≡ form_word (unwrap_or g form.List)
       unnamed None = refl
       unnamed (Some g) = refl
 
@@ -174,7 +174,7 @@ pub nothing_given : (o : Option (Bor (List ℕ))) (w : Option Word) → option_m
 nothing_given None w e is = sym e
 nothing_given (Some y) w e is = cc
 
-pub named_again : (f : Form) → form_named (word_of f) ≡ f
+pub named_again : (f : Form) → form_named (form_word f) ≡ f
 named_again form.List = refl
 named_again form.Sgf = refl
 named_again form.Gtp = refl

@@ -13,10 +13,10 @@ abbrev pub Word : Type 0
 Word = List ℕ
 
 -- how a form is named
-abbrev pub word_of : Form → Word
-word_of form.List = codes "list"
-word_of form.Sgf = codes "sgf"
-word_of form.Gtp = codes "gtp"
+abbrev pub form_word : Form → Word
+form_word form.List = codes "list"
+form_word form.Sgf = codes "sgf"
+form_word form.Gtp = codes "gtp"
 
 -- 1 to 18 decimal digits
 abbrev pub IsNumberWord : Word → Type 0
@@ -61,7 +61,7 @@ file_words (Some file) = file ∷ []
 abbrev pub split_words : Word → SplitWords → List Word
 split_words name words =
     name ∷ codes "split"
-    ∷ (option_words (codes "--form") (option_map word_of words.form)
+    ∷ (option_words (codes "--form") (option_map form_word words.form)
     ++ (option_words (codes "--after") words.after
     ++ (option_words (codes "--limit") words.limit ++ file_words words.file)))
 

@@ -7,7 +7,7 @@ ghost use Rattle.clap.specs.Simple.{subcommand_rows_of};
 ghost use Rattle.clap.specs.Walk.{Row, first_of, one_of};
 ghost use Rattle.sgf_lines.specs.declared.options.Form.{Form};
 ghost use Rattle.sgfsplit.specs.CommandLine.{AreFaultless};
-ghost use Rattle.sgfsplit.specs.PlainWords.{Word, SplitWords, ArePlain, IsNumberWord, IsFileWord, SplitsBy, CountsFile, word_of, file_of, options_of, split_words, count_words};
+ghost use Rattle.sgfsplit.specs.PlainWords.{Word, SplitWords, ArePlain, IsNumberWord, IsFileWord, SplitsBy, CountsFile, form_word, file_of, options_of, split_words, count_words};
 ghost use Rattle.sgfsplit.specs.inner.Found.{rows_found, form_named, HoldSplitWords};
 
 use crate::command::command;
@@ -32,7 +32,7 @@ fn form_named(word: &str) -> Form
 
 /// The form that `--form` names.
 fn form_given(found: &ArgMatches) -> Form
-    ensures { (form : Form) → first_of (codes "form") (rows_found found.now) ≡ Some (word_of form) → result ≡ form }
+    ensures { (form : Form) → first_of (codes "form") (rows_found found.now) ≡ Some (form_word form) → result ≡ form }
 {
     match found.get_str("form") {
         Some(word) => form_named(word),

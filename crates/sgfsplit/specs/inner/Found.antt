@@ -6,7 +6,7 @@ use Rattle.clap.specs.Matches.{found_of}
 use Rattle.clap.specs.declared.parser.matches.ArgMatches.{ArgMatches}
 use Rattle.sgf_lines.specs.declared.options.Form.{Form}
 use Rattle.sgf_lines.specs.declared.options.Form.TheVariants as form
-use Rattle.sgfsplit.specs.PlainWords.{SplitWords, Word, word_of}
+use Rattle.sgfsplit.specs.PlainWords.{SplitWords, Word, form_word}
 
 abbrev pub rows_found : ArgMatches → List Row
 rows_found found = rows_of (found_of found)
@@ -17,7 +17,7 @@ form_named word = if bytes_eq word (codes "sgf") then form.Sgf else (if bytes_eq
 
 -- the rows hold these words
 pub record HoldSplitWords (words : SplitWords) (rows : List Row) : Type 0 where
-  pub form : first_of (codes "form") rows ≡ Some (word_of (unwrap_or words.form form.List))
+  pub form : first_of (codes "form") rows ≡ Some (form_word (unwrap_or words.form form.List))
   pub after : one_of (codes "after") rows ≡ words.after
   pub limit : one_of (codes "limit") rows ≡ words.limit
   pub file : first_of (codes "file") rows ≡ words.file
