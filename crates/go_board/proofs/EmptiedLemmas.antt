@@ -47,7 +47,7 @@ set_default [] i d = refl
 set_default (x ∷ xs) zero d = refl
 set_default (x ∷ xs) (suc i) d = set_default xs i d
 
-cell_at-emptied : (g : Grid) (p : Point) → cell_at (with_cell g p Empty) p ≡ Empty
+pub cell_at-emptied : (g : Grid) (p : Point) → cell_at (with_cell g p Empty) p ≡ Empty
 cell_at-emptied g p = set_default g.cells (index_of g.side p) Empty
 
 module _ (p : Point) where

@@ -1,7 +1,7 @@
 -- proofs/LibertyLemmas.antt
 -- Whether all stones of a colour reach empty, by filling rows of words from the empty points.
-use Rattle.std.proofs.Common.{◌≡◌, Decides, inl, inr, ℕ, ◌≤◌, ◌&&◌, Bool, true, false, not, List, length, refl, sym, ap, ◌∙◌, arith, subst}
-use Rattle.std.proofs.lemmas.Bool.{and_parts, and_from, false≢true, cases_Bool}
+use Rattle.std.proofs.Common.{◌≡◌, Decides, inl, inr, ℕ, ◌≤◌, ◌&&◌, ◌||◌, Bool, true, false, not, List, length, refl, sym, ap, ◌∙◌, arith, subst}
+use Rattle.std.proofs.lemmas.Bool.{and_parts, false≢true, cases_Bool}
 use Rattle.go_board.specs.declared.stones.Cell.{Cell}
 use Rattle.go_board.specs.declared.stones.Cell.TheVariants.{Black as BlackStone, White as WhiteStone, Empty}
 use Rattle.go_board.specs.declared.stones.Colour.{Colour}
@@ -10,14 +10,15 @@ use Rattle.go_board.specs.declared.points.Point.{Point}
 use Rattle.go_board.specs.Colour.{opponent, stone_of, same_cell}
 use Rattle.go_board.specs.Point.{IsOn}
 use Rattle.go_board.specs.Grid.{Grid, cell_at}
-use Rattle.go_board.specs.inner.Groups.{AllReach}
+use Rattle.go_board.specs.inner.Groups.{AllReach, is_shut}
 use Rattle.go_board.specs.inner.Rows.{is_set, IsClosed, Grows}
 use Rattle.go_board.specs.inner.Regions.{is_either, AreRowsOf, IsLeft, reaches_through_own}
+use Rattle.go_board.specs.Reaching.{reaches}
 use Rattle.go_board.specs.Clearing.{has_unreaching}
 use Rattle.go_board.proofs.GridLemmas.{Decides-same_cell}
 use Rattle.go_board.proofs.SettledLemmas.{both_reach, AllReach-settled}
 use Rattle.go_board.proofs.ReachingLemmas.{Decides-reaches}
-use Rattle.go_board.proofs.RegionLemmas.{either_first, AreRowsOf-same, AreRowsOf-filled}
+use Rattle.go_board.proofs.RegionLemmas.{AreRowsOf-same, AreRowsOf-filled}
 
 -- the cells that haven't the other player's stone, and of these the empty ones
 own_or_empty : (k : Colour) (c : Cell) → not (same_cell c (stone_of (opponent k))) ≡ is_either c (stone_of k) Empty
@@ -35,6 +36,10 @@ neither Black Empty = refl
 neither White BlackStone = refl
 neither White WhiteStone = refl
 neither White Empty = refl
+
+of_own : (own free way : Bool) → (own && not ((own || free) && way)) ≡ (own && not way)
+of_own true free way = refl
+of_own false free way = refl
 
 in_the_other : (x y : Bool) → x ≡ true → (x && not y) ≡ false → y ≡ true
 in_the_other true true is none = refl
@@ -67,24 +72,33 @@ module _ (g : Grid) (k : Colour) (rows others room seed reached left : List ℕ)
     left_is : (p : Point) → IsOn g.side p → is_set left p ≡ (is_set rows p && not (is_set reached p))
     left_is p on = is_left.on p (omega (arith, on.1, all)) (omega (arith, on.0, small))
 
-    pub reach_where_none_left : ((p : Point) → is_set left p ≡ false) → AllReach g k
-    reach_where_none_left none =
-        λ p on own.
-        let there : is_set rows p ≡ true = is_own.on p on ∙ (Decides-same_cell _ _).1 own in
-        let set : is_set reached p ≡ true = in_the_other _ _ there (sym (left_is p on) ∙ none p) in
-        (Decides-reaches g Empty p on).0 (and_parts _ _ (sym (filled.on p on) ∙ set)).1
+    pub shut_left : AreRowsOf g.side (is_shut g k) left
+    shut_left = record {
+      on = λ p on.
+          left_is p on
+          ∙ ap (λ b. b && not (is_set reached p)) (is_own.on p on)
+          ∙ ap (λ b. same_cell (cell_at g p) (stone_of k) && not b) (filled.on p on)
+          ∙ of_own (same_cell (cell_at g p) (stone_of k)) (same_cell (cell_at g p) Empty) (reaches g Empty p);
+      off = λ p is. is_own.off p (is_left.off p is);
+    }
 
-    pub none_left : AllReach g k → (p : Point) → is_set left p ≡ false
-    none_left each p =
-        elim (cases_Bool (is_set left p)) [
-          | inl set ↦
-              let there : is_set rows p ≡ true = is_left.off p set in
-              let on = is_own.off p there in
-              let own : cell_at g p ≡ stone_of k = (Decides-same_cell _ _).0 (sym (is_own.on p on) ∙ there) in
-              let found : is_set reached p ≡ true = filled.on p on ∙ and_from _ _ (either_first _ (stone_of k) Empty own) ((Decides-reaches g Empty p on).1 (each p on own)) in
-              left_is p on ∙ ap (λ b. is_set rows p && not b) found ∙ ap (λ b. b && false) there
-          | inr none ↦ none
-        ]
+-- where no stone is shut in, all reach empty
+pub reach_where_none_shut : (g : Grid) (k : Colour) (shut : List ℕ) → AreRowsOf g.side (is_shut g k) shut → ((p : Point) → is_set shut p ≡ false) → AllReach g k
+reach_where_none_shut g k shut are none =
+    λ p on own.
+    let there : same_cell (cell_at g p) (stone_of k) ≡ true = (Decides-same_cell _ _).1 own in
+    (Decides-reaches g Empty p on).0 (in_the_other _ _ there (sym (are.on p on) ∙ none p))
+
+pub none_shut : (g : Grid) (k : Colour) (shut : List ℕ) → AreRowsOf g.side (is_shut g k) shut → AllReach g k → (p : Point) → is_set shut p ≡ false
+none_shut g k shut are each p =
+    elim (cases_Bool (is_set shut p)) [
+      | inl set ↦
+          let on = are.off p set in
+          let both = and_parts _ _ (sym (are.on p on) ∙ set) in
+          let own : cell_at g p ≡ stone_of k = (Decides-same_cell _ _).0 both.0 in
+          absurd (false≢true (sym (ap not ((Decides-reaches g Empty p on).1 (each p on own))) ∙ both.1))
+      | inr none ↦ none
+    ]
 
 -- some stone doesn't reach empty where not all of both colours do
 pub unreaching_is : (g : Grid) (black white : Bool) → Decides black (AllReach g Black) → Decides white (AllReach g White) → not (black && white) ≡ has_unreaching g

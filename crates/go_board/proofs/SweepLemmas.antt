@@ -1,89 +1,167 @@
 -- proofs/SweepLemmas.antt
--- Passes over the cells, as the rules' own words on points.
-use Rattle.std.proofs.Common.{◌≡◌, ℕ, ◌+◌, ◌*◌, ◌<◌, ◌≤◌, Bool, List, ◌++◌, map, length, get_or, take, set, subst, sym, ap, ◌∙◌, arith, below_more, IsTrue, ◌↔◌}
-use Rattle.std.specs.List.{range_with_len}
-use Rattle.std.proofs.lemmas.List.{length-take-le, get_or_default, get_or-set_same, get_or-set_other}
-use Rattle.std.proofs.Math.Seq.{take-append_seam}
-use Rattle.std.proofs.lemmas.List.FromFn.{length-map-range_with_len, get_or-map-range_with_len, fill_by_all}
-use Rattle.std.proofs.lemmas.Bool.Decides.{same_from_decides}
-use Rattle.go_board.specs.declared.stones.Cell.{Cell}
-use Rattle.go_board.specs.declared.stones.Cell.TheVariants.{Black, Empty}
+-- Grids with points emptied, one after another.
+use Rattle.std.proofs.Common.{◌≡◌, ◌≢◌, ◌⊎◌, ℕ, ◌+◌, ◌*◌, ◌^◌, ◌<◌, ◌≤◌, ◌==◌, Bool, cond, w64, true, false, List, length, slice_index, refl, sym, ap, subst, ◌∙◌, arith, inl, inr, IsTrue}
+use Rattle.std.specs.Int.{trailing_zeros}
+use Rattle.std.proofs.lemmas.List.{length-set}
+use Rattle.std.proofs.lemmas.Nat.Bits.{bit_at-trailing_zeros}
+use Rattle.std.proofs.lemmas.Bool.{cases_eq, true≢false, false≢true}
+use Rattle.go_board.specs.declared.stones.Cell.TheVariants.{Empty}
 use Rattle.go_board.specs.declared.stones.Colour.{Colour}
 use Rattle.go_board.specs.declared.points.Point.{Point}
-use Rattle.go_board.specs.Colour.{stone_of}
-use Rattle.go_board.specs.Point.{IsOn, index_of, point_at, points}
-use Rattle.go_board.specs.Grid.{Grid, cell_at}
-use Rattle.go_board.specs.Marking.{Marking, is_marked}
-use Rattle.go_board.specs.Reaching.{Reaches, reaches}
+use Rattle.go_board.specs.Point.{IsOn, index_of}
+use Rattle.go_board.specs.Grid.{Grid, cell_at, with_cell, grid_of}
 use Rattle.go_board.specs.Clearing.{cleared_cell, clear}
-use Rattle.go_board.specs.inner.Sweep.{cleared, cell_in, mark_in, all_cleared}
-use Rattle.go_board.proofs.PointLemmas.{IsOn-point_at, index_of-point_at, is_map-points}
-use Rattle.go_board.proofs.GridLemmas.{same_grid}
-use Rattle.go_board.proofs.FrontLemmas.{grid_in}
-use Rattle.go_board.proofs.RuleLemmas.{side-clear, length-clear}
-use Rattle.go_board.proofs.ReachingLemmas.{Decides-reaches}
+use Rattle.go_board.specs.inner.Groups.{is_shut}
+use Rattle.go_board.specs.inner.Rows.{has_bit, is_set, IsPart}
+use Rattle.go_board.specs.inner.Regions.{AreRowsOf}
+use Rattle.go_board.specs.inner.Sweep.{IsWithout}
+use Rattle.go_board.proofs.PointLemmas.{same_or_not}
+use Rattle.go_board.proofs.GridLemmas.{cell_at-with_cell_elsewhere}
+use Rattle.go_board.proofs.GroupLemmas.{grid_of-cells}
+use Rattle.go_board.proofs.GrowLemmas.{row_below}
+use Rattle.go_board.proofs.WordLemmas.{has_bit-zero, le_from_part}
+use Rattle.go_board.proofs.EmptiedLemmas.{cell_at-emptied}
 
--- a cell more is cleared
-module _ (old now : List Cell) (stone : Cell) (marks : List Bool) (i : ℕ) (c : Cell) (within : i < length now) where
-  pub cleared_more : ((k : ℕ) → k < i → cell_in now k ≡ cleared (cell_in old k) stone (mark_in marks k)) → ((k : ℕ) → i ≤ k → cell_in now k ≡ cell_in old k) → c ≡ cleared (get_or now i Black) stone (mark_in marks i) → (k : ℕ) → k < i + 1 → cell_in (set now i c) k ≡ cleared (cell_in old k) stone (mark_in marks k)
-  cleared_more done left is =
-      below_more _ _
-      (λ k h. get_or-set_other now i k c Empty (omega arith) ∙ done k h)
-      (get_or-set_same now i c Empty within ∙ is
-      ∙ ap (λ x. cleared x stone (mark_in marks i)) (get_or_default now i Black Empty within ∙ left i (omega arith)))
+-- nothing is emptied yet
+pub without_none : (g : Grid) (Gone : Point → Type 0) → ((p : Point) → ¬ Gone p) → IsWithout g g Gone
+without_none g Gone none = record {
+  same_side = refl;
+  all = refl;
+  emptied = λ p on gone. absurd (none p gone);
+  kept = λ p on not_gone. refl;
+}
 
-  pub left_more : ((k : ℕ) → i ≤ k → cell_in now k ≡ cell_in old k) → (k : ℕ) → i + 1 ≤ k → cell_in (set now i c) k ≡ cell_in old k
-  left_more left k h = get_or-set_other now i k c Empty (omega arith) ∙ left k (omega arith)
+-- the same points, by another word
+pub without_same : (g h : Grid) (Gone Other : Point → Type 0) → IsWithout g h Gone → ((p : Point) → Gone p → Other p) → ((p : Point) → Other p → Gone p) → IsWithout g h Other
+without_same g h Gone Other is there back = record {
+  same_side = is.same_side;
+  all = is.all;
+  emptied = λ p on other. is.emptied p on (back p other);
+  kept = λ p on not_other. is.kept p on (λ gone. not_other (there p gone));
+}
 
-pub is_all_cleared : (old now : List Cell) (stone : Cell) (marks : List Bool) → length now ≡ length old → ((k : ℕ) → k < length old → cell_in now k ≡ cleared (cell_in old k) stone (mark_in marks k)) → now ≡ all_cleared old stone marks
-unfolding all_cleared
-is_all_cleared old now stone marks same done = fill_by_all _ now (length old) Empty same done
+-- one point more is emptied
+pub without_more : (g h : Grid) (Gone More : Point → Type 0) (p : Point) → IsWithout g h Gone → IsOn g.side p → More p → ((q : Point) → Gone q → More q) → ((q : Point) → More q → q ≢ p → Gone q) → IsWithout g (with_cell h p Empty) More
+without_more g h Gone More p is on here there back = record {
+  same_side = is.same_side;
+  all = length-set h.cells (index_of h.side p) Empty ∙ is.all;
+  emptied = λ q at more.
+      elim (same_or_not q p) [
+        | inl same ↦ ap (cell_at (with_cell h p Empty)) same ∙ cell_at-emptied h p
+        | inr other ↦ elsewhere q at other ∙ is.emptied q at (back q more other)
+      ];
+  kept = λ q at not_more.
+      elsewhere q at (λ same. not_more (subst More (sym same) here)) ∙ is.kept q at (λ gone. not_more (there q gone));
+}
+  where
+    elsewhere : (q : Point) → IsOn g.side q → q ≢ p → cell_at (with_cell h p Empty) q ≡ cell_at h q
+    elsewhere q at other =
+        cell_at-with_cell_elsewhere h p q Empty (subst (λ n. IsOn n p) (sym is.same_side) on) (subst (λ n. IsOn n q) (sym is.same_side) at) other
 
--- what a flood's marking says
-unfoldable pub Marks : Grid → Cell → Marking → Type 0
-Marks g k m = (p : Point) → IsOn g.side p → (IsTrue (is_marked m p) ↔ Reaches g k p)
+-- other points are emptied after some
+pub without_both : (g h i : Grid) (First Second Both : Point → Type 0) → IsWithout g h First → IsWithout h i Second → ((p : Point) → First p → ¬ Second p) → ((p : Point) → First p → Both p) → ((p : Point) → Second p → Both p) → ((p : Point) → Both p → First p ⊎ Second p) → IsWithout g i Both
+without_both g h i First Second Both one two apart of_first of_second back = record {
+  same_side = two.same_side ∙ one.same_side;
+  all = two.all ∙ one.all;
+  emptied = λ p on both.
+      elim (back p both) [
+        | inl first ↦ two.kept p (there p on) (apart p first) ∙ one.emptied p on first
+        | inr second ↦ two.emptied p (there p on) second
+      ];
+  kept = λ p on neither.
+      two.kept p (there p on) (λ second. neither (of_second p second)) ∙ one.kept p on (λ first. neither (of_first p first));
+}
+  where
+    there : (p : Point) → IsOn g.side p → IsOn h.side p
+    there p on = subst (λ n. IsOn n p) (sym one.same_side) on
 
-module _ (g : Grid) (all : length g.cells ≡ g.side * g.side) where
-  -- the mark at a place tells whether the point there reaches the colour
-  mark_in-reaches : (k : Cell) (m : Marking) (i : ℕ) → m.side ≡ g.side → Marks g k m → i < g.side * g.side → mark_in m.marks i ≡ reaches g k (point_at g.side i)
-  unfolding Marks
-  mark_in-reaches k m i side marks below =
-      let p = point_at g.side i in
-      let on = IsOn-point_at g.side i below in
-      let at : index_of m.side p ≡ i = ap (λ s. index_of s p) side ∙ index_of-point_at g.side i below in
-      sym (ap (mark_in m.marks) at)
-      ∙ same_from_decides (is_marked m p) (reaches g k p) (marks p on) (Decides-reaches g k p on)
+-- a board without the stones of a colour that are shut in is cleared
+pub without_shut : (g h : Grid) (k : Colour) (shut : List ℕ) → length g.cells ≡ g.side * g.side → AreRowsOf g.side (is_shut g k) shut → IsWithout g h (λ p. IsTrue (is_set shut p)) → h ≡ clear g k
+unfolding clear cleared_cell
+without_shut g h k shut all are is =
+    sym (grid_of-cells h (cleared_cell g k) (is.all ∙ all ∙ ap (λ n. n * n) (sym is.same_side))
+    (λ p at. let on = subst (λ n. IsOn n p) is.same_side at in cell p on (is_shut g k p) refl))
+    ∙ ap (λ n. grid_of n (cleared_cell g k)) is.same_side
+  where
+    cell : (p : Point) → IsOn g.side p → (b : Bool) → is_shut g k p ≡ b → cleared_cell g k p ≡ cell_at h p
+    cell p on true gone = ap (λ b. cond b Empty (cell_at g p)) gone ∙ sym (is.emptied p on (are.on p on ∙ gone))
+    cell p on false left = ap (λ b. cond b Empty (cell_at g p)) left ∙ sym (is.kept p on (λ gone. true≢false (sym gone ∙ are.on p on ∙ left)))
 
-  cell_in-cell_at : (i : ℕ) → i < g.side * g.side → cell_in g.cells i ≡ cell_at g (point_at g.side i)
-  cell_in-cell_at i below = ap (cell_in g.cells) (sym (index_of-point_at g.side i below))
+-- the points of a row in the columns of a set that aren't in what is left of it
+abbrev pub InTaken : ℕ → ℕ → ℕ → Point → Type 0
+InTaken row columns left p = (p.row ≡ row) × (has_bit columns p.col ≡ true) × (has_bit left p.col ≡ false)
 
-  -- a function of the places of all cells, as one of the points
-  as_points : {X : Type 0} (f : ℕ → X) (h : Point → X) → X → ((i : ℕ) → i < g.side * g.side → f i ≡ h (point_at g.side i)) → map f (range_with_len 0 (length g.cells)) ≡ map h (points g.side)
-  as_points f h d each =
-      is_map-points h g.side (map f (range_with_len 0 (length g.cells))) d
-      (length-map-range_with_len f 0 (length g.cells) ∙ all)
-      (λ i below.
-      let within : i < length g.cells = rw all below in
-      get_or-map-range_with_len f 0 (length g.cells) i i d within (omega arith) ∙ each i below)
+-- at first all is left
+pub taken_none : (g : Grid) (row columns : ℕ) → IsWithout g g (InTaken row columns columns)
+taken_none g row columns = without_none g (InTaken row columns columns) (λ p gone. false≢true (sym gone.2 ∙ gone.1))
 
-  pub all_cleared-clear : (k : Colour) (m : Marking) → m.side ≡ g.side → Marks g Empty m → all_cleared g.cells (stone_of k) m.marks ≡ (clear g k).cells
-  unfolding all_cleared clear cleared_cell
-  all_cleared-clear k m side marks =
-      as_points _ (cleared_cell g k) Empty
-      (λ i below.
-      ap (λ c. cleared c (stone_of k) (mark_in m.marks i)) (cell_in-cell_at i below)
-      ∙ ap (cleared (cell_at g (point_at g.side i)) (stone_of k)) (mark_in-reaches Empty m i side marks below))
+-- the lowest column of what is left
+pub lowest_left : (columns left : ℕ) → left ≢ 0 → columns < 2 ^ 64 → IsPart (has_bit left) (has_bit columns) → (has_bit left (trailing_zeros w64 left) ≡ true) × (trailing_zeros w64 left < 64)
+lowest_left columns left some low part =
+    let found = bit_at-trailing_zeros w64 left (omega (arith, some)) (omega (arith, low, le_from_part left columns part)) in
+    (ap (λ n. n == 1) found.1, found.0)
 
--- the grid that the front of an array holds, once that front was cleared
-grid_in-cleared : (side : ℕ) (cells new rest : List Cell) (k : Colour) (m : Marking) → side * side ≤ length cells → m.side ≡ side → Marks (grid_in side cells) Empty m → new ≡ all_cleared (take (side * side) cells) (stone_of k) m.marks → grid_in side (new ++ rest) ≡ clear (grid_in side cells) k
-grid_in-cleared side cells new rest k m fits sides marks is =
-    let g = grid_in side cells in
-    let all : length g.cells ≡ side * side = length-take-le (side * side) cells fits in
-    let same : new ≡ (clear g k).cells = is ∙ all_cleared-clear g all k m sides marks in
-    let front : take (side * side) (new ++ rest) ≡ new = ap (λ n. take n (new ++ rest)) (sym (ap length same ∙ length-clear g k)) ∙ take-append_seam new rest in
-    same_grid (grid_in side (new ++ rest)) (clear g k) (sym (side-clear g k)) (front ∙ same)
+module _ (row columns left next : ℕ) (p : Point) (at : p.row ≡ row) (set : has_bit left p.col ≡ true) (part : IsPart (has_bit left) (has_bit columns)) (there : has_bit next p.col ≡ false) (elsewhere : (k : ℕ) → k ≢ p.col → has_bit next k ≡ has_bit left k) where
+  -- what is left then is a part of what was
+  pub next_part : IsPart (has_bit next) (has_bit left)
+  next_part = λ k is.
+      elim (cases_eq k p.col) [
+        | inl same ↦ ap (has_bit left) same ∙ set
+        | inr other ↦ sym (elsewhere k other) ∙ is
+      ]
 
-pub grid_in-clear : (side : ℕ) (cells new rest : List Cell) (g : Grid) (k : Colour) (m : Marking) → grid_in side cells ≡ g → side * side ≤ length cells → m.side ≡ g.side → Marks g Empty m → new ≡ all_cleared (take (side * side) cells) (stone_of k) m.marks → grid_in side (new ++ rest) ≡ clear g k
-grid_in-clear side cells new rest g k m e fits sides marks is =
-    grid_in-cleared side cells new rest k m fits (sides ∙ sym (ap (λ h. h.side) e)) (subst (λ h. Marks h Empty m) (sym e) marks) is
-    ∙ ap (λ h. clear h k) e
+  pub next_smaller : next < left
+  next_smaller =
+      let at_most = le_from_part next left next_part in
+      let differs : next ≢ left = λ same. false≢true (sym there ∙ ap (λ w. has_bit w p.col) same ∙ set) in
+      omega (arith, differs)
+
+  pub taken_more : (g h : Grid) → IsOn g.side p → IsWithout g h (InTaken row columns left) → IsWithout g (with_cell h p Empty) (InTaken row columns next)
+  taken_more g h on so_far =
+      without_more g h (InTaken row columns left) (InTaken row columns next) p so_far on
+      (at, part p.col set, there)
+      (λ q gone. (gone.0, gone.1, none_left q.col gone.2))
+      (λ q gone other. (gone.0, gone.1, sym (elsewhere q.col (λ same. other (same_point q same (gone.0 ∙ sym at)))) ∙ gone.2))
+    where
+      none_left : (k : ℕ) → has_bit left k ≡ false → has_bit next k ≡ false
+      none_left k none =
+          elim (cases_eq k p.col) [
+            | inl same ↦ ap (has_bit next) same ∙ there
+            | inr other ↦ elsewhere k other ∙ none
+          ]
+
+      same_point : (q : Point) → q.col ≡ p.col → q.row ≡ p.row → q ≡ p
+      same_point q e f = ap (λ c. record { col = c; row = q.row }) e ∙ ap (λ r. record { col = p.col; row = r }) f
+
+-- in the end nothing is left
+pub taken_all : (g h : Grid) (row columns left : ℕ) → left ≡ 0 → IsWithout g h (InTaken row columns left) → IsWithout g h (λ p. (p.row ≡ row) × (has_bit columns p.col ≡ true))
+taken_all g h row columns left none is =
+    without_same g h (InTaken row columns left) _ is
+    (λ p gone. (gone.0, gone.1))
+    (λ p gone. (gone.0, gone.1, ap (λ w. has_bit w p.col) none ∙ has_bit-zero p.col))
+
+-- the points of a set in the first rows
+abbrev pub InRowsBefore : List ℕ → ℕ → Point → Type 0
+InRowsBefore rows row p = (p.row < row) × (is_set rows p ≡ true)
+
+pub rows_none : (g : Grid) (rows : List ℕ) → IsWithout g g (InRowsBefore rows 0)
+rows_none g rows = without_none g (InRowsBefore rows 0) (λ p gone. omega (arith, gone.0))
+
+-- one row more
+pub rows_more : (g h i : Grid) (rows : List ℕ) (row : ℕ) → IsWithout g h (InRowsBefore rows row) → IsWithout h i (λ p. (p.row ≡ row) × (has_bit (slice_index rows row) p.col ≡ true)) → IsWithout g i (InRowsBefore rows (row + 1))
+rows_more g h i rows row before is =
+    without_both g h i (InRowsBefore rows row) _ (InRowsBefore rows (row + 1)) before is
+    (λ p first second. omega (arith, first.0, second.0))
+    (λ p first. (omega (arith, first.0), first.1))
+    (λ p second. (omega (arith, second.0), ap (λ r. has_bit (slice_index rows r) p.col) second.0 ∙ second.1))
+    (λ p both.
+    elim (cases_eq p.row row) [
+      | inl same ↦ inr (same, ap (λ r. has_bit (slice_index rows r) p.col) (sym same) ∙ both.1)
+      | inr other ↦ inl (omega (arith, both.0, other), both.1)
+    ])
+
+pub rows_all : (g h : Grid) (rows : List ℕ) (row : ℕ) → length rows ≤ row → IsWithout g h (InRowsBefore rows row) → IsWithout g h (λ p. is_set rows p ≡ true)
+rows_all g h rows row all is =
+    without_same g h (InRowsBefore rows row) _ is
+    (λ p gone. gone.1)
+    (λ p gone. (omega (arith, row_below rows p gone), gone))

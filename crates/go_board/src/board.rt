@@ -260,11 +260,10 @@ impl Board {
         if self.settled {
             return;
         }
-        let points = self.size.points();
-        let reaching = self.reached(Cell::Empty);
-        sweep::clear_all(&mut self.cells[..points], colour.stone(), &reaching);
-        self.printed = false;
-        self.rows.known = false;
+        let mut shut_words = no_rows();
+        let shut = &mut shut_words[..usize::from(self.size.side())];
+        self.shut_stones(colour, shut);
+        self.empty_set(shut);
     }
 
     /// The whole move: the point takes the player's colour, then the opponent's colour is cleared, then the player's

@@ -23,7 +23,7 @@
 //! | `marks`, `steps` | a set of points of a board; a count of work |
 //! | `board` | the board: reading, setting, moves, score |
 //! | `board/flood`, `board/search` | the flood that counts its steps, and its worklist |
-//! | `board/capture`, `board/sweep` | groups without a liberty taken off one at a time; a pass over all points |
+//! | `board/capture`, `board/sweep` | groups without a liberty taken off one at a time; sets of points taken off |
 //! | `board/regions`, `board/fill` | sets of points as rows of bits, and filling these: the score, whether all stones reach empty |
 //! | `board/stone_rows` | the stones of a board as rows of bits, kept while points are set |
 //! | `board/areas` | colouring areas |

@@ -1,13 +1,13 @@
 -- specs/inner/Groups.antt
 -- Groups without liberties, and grids on which every stone reaches empty.
-use Rattle.std.specs.Prelude.{◌≡◌, ◌≢◌, ◌⊎◌, Bool, false, ◌||◌, IsTrue, Option, Some, None, List, [], ◌∷◌, length}
+use Rattle.std.specs.Prelude.{◌≡◌, ◌≢◌, ◌⊎◌, Bool, false, ◌||◌, ◌&&◌, not, IsTrue, Option, Some, None, List, [], ◌∷◌, length}
 use Rattle.go_board.specs.declared.stones.Cell.TheVariants.{Empty}
 use Rattle.go_board.specs.declared.stones.Colour.{Colour}
 use Rattle.go_board.specs.declared.points.Point.{Point}
 use Rattle.go_board.specs.Colour.{stone_of, same_cell}
 use Rattle.go_board.specs.Point.{IsOn, AreAdjacent}
 use Rattle.go_board.specs.Grid.{Grid, cell_at, with_cell}
-use Rattle.go_board.specs.Reaching.{Reaches}
+use Rattle.go_board.specs.Reaching.{Reaches, reaches}
 use Rattle.go_board.specs.Clearing.{clear}
 use Rattle.go_board.specs.inner.Neighbour.{left_of, right_of, above, below}
 
@@ -23,6 +23,10 @@ pub record IsDead (g : Grid) (k : Colour) (dead : Point → Bool) : Type 0 where
 -- all stones of a colour reach empty
 abbrev pub AllReach : Grid → Colour → Type 0
 AllReach g k = (p : Point) → IsOn g.side p → cell_at g p ≡ stone_of k → Reaches g Empty p
+
+-- a stone of the colour that doesn't reach empty
+abbrev pub is_shut : Grid → Colour → Point → Bool
+is_shut g k p = same_cell (cell_at g p) (stone_of k) && not (reaches g Empty p)
 
 -- whether a neighbour is there and empty
 abbrev pub is_free : Grid → Option Point → Bool

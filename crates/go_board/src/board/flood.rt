@@ -57,16 +57,6 @@ impl Board {
         search.into_marks()
     }
 
-    /// The points that reach a colour, where nobody counts the steps.
-    pub(crate) fn reached(&self, target: Cell) -> Marks
-        ensures side { result.side ≡ self.now.side }
-        ensures marks { (p : Point) → IsOn self.now.side p
-            → (IsTrue (is_marked result p) ↔ Reaches self.now target p) }
-    {
-        prove!(self.size().points() <= MAX_POINTS);
-        self.reaching(target, &mut Steps::new())
-    }
-
     /// A search that found the points of a colour.
     fn search_from<const N: usize>(&self, target: Cell) -> Search<N>
         requires room { self.now.side * self.now.side ≤ N }

@@ -6,7 +6,7 @@ ghost use Rattle.go_board.specs.declared.stones.Cell.TheVariants.{Black, White, 
 ghost use Rattle.go_board.specs.Point.{IsOn};
 ghost use Rattle.go_board.specs.Colour.{opponent, same_cell, stone_of};
 ghost use Rattle.go_board.specs.Grid.{cell_at};
-ghost use Rattle.go_board.specs.inner.Groups.{AllReach};
+ghost use Rattle.go_board.specs.inner.Groups.{AllReach, is_shut};
 ghost use Rattle.go_board.specs.inner.Rows.{has_bit, is_set};
 ghost use Rattle.go_board.specs.inner.Regions.{is_there, AreRowsOf, IsLeft, reaches_through_own, count_apart};
 
@@ -170,17 +170,49 @@ impl Board {
         requires other_rows { length others.now ≡ self.now.side }
         ensures { IsTrue result ↔ AllReach self.now colour }
     {
+        let mut shut_words = no_rows();
+        let side = usize::from(self.size().side());
+        let shut = &mut shut_words[..side];
+        self.shut_among(colour, rows, others, shut);
+        is_none(shut)
+    }
+
+    /// The stones of a colour that don't reach empty.
+    pub(crate) fn shut_stones(&self, colour: Colour, shut: &mut [u64])
+        requires { length shut.old ≡ self.now.side }
+        ensures shut { AreRowsOf self.now.side (is_shut self.now colour) shut.new }
+        ensures rows { length shut.new ≡ self.now.side }
+    {
+        let (mut black_words, mut white_words) = (no_rows(), no_rows());
+        let side = usize::from(self.size().side());
+        let black = &mut black_words[..side];
+        let white = &mut white_words[..side];
+        self.stones(black, white);
+        match colour {
+            Colour::Black => self.shut_among(colour, black, white, shut),
+            Colour::White => self.shut_among(colour, white, black, shut),
+        }
+    }
+
+    /// The stones of a colour that don't reach empty, from the points of that colour and those of the other.
+    fn shut_among(&self, colour: Colour, rows: &[u64], others: &[u64], shut: &mut [u64])
+        requires own { AreRowsOf self.now.side (λ p. same_cell (cell_at self.now p) (stone_of colour)) rows.now }
+        requires other { AreRowsOf self.now.side
+            (λ p. same_cell (cell_at self.now p) (stone_of (opponent colour))) others.now }
+        requires own_rows { length rows.now ≡ self.now.side }
+        requires other_rows { length others.now ≡ self.now.side }
+        requires shut_rows { length shut.old ≡ self.now.side }
+        ensures shut { AreRowsOf self.now.side (is_shut self.now colour) shut.new }
+        ensures rows { length shut.new ≡ self.now.side }
+    {
         let _ = colour;
         let (mut room_words, mut reached_words) = (no_rows(), no_rows());
-        let mut left_words = no_rows();
         let side = usize::from(self.size().side());
         let room = &mut room_words[..side];
         let reached = &mut reached_words[..side];
-        let left = &mut left_words[..side];
         other_points(others, room);
         difference(room, rows, reached);
         fill(reached, room);
-        difference(rows, reached, left);
-        is_none(left)
+        difference(rows, reached, shut);
     }
 }

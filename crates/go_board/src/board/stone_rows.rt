@@ -93,7 +93,7 @@ fn with_bit(word: u64, col: usize, set: bool) -> u64
 }
 
 /// The word without the bit of a column.
-fn without_column(word: u64, col: usize) -> u64
+pub(crate) fn without_column(word: u64, col: usize) -> u64
     requires { col < 64 }
     ensures there { has_bit result col ≡ false }
     ensures elsewhere { (k : ℕ) → k ≢ col → has_bit result k ≡ has_bit word k }

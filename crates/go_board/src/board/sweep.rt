@@ -1,31 +1,45 @@
-//! A pass over the cells of a board, with the marks of the points that reach a colour.
+//! Taking sets of points off a board.
 
-ghost use Rattle.std.specs.Prelude.{◌≡◌, ◌*◌, length};
-ghost use Rattle.go_board.specs.inner.Sweep.{cleared, all_cleared};
+ghost use Rattle.std.specs.Prelude.{◌≡◌, ◌<◌, ℕ, IsTrue, length};
+ghost use Rattle.go_board.specs.declared.points.Point.{Point};
+ghost use Rattle.go_board.specs.Point.{IsOn};
+ghost use Rattle.go_board.specs.inner.Rows.{has_bit, is_set};
+ghost use Rattle.go_board.specs.inner.Sweep.{IsWithout};
 
-use crate::marks::Marks;
-use crate::points::FIRST;
+use crate::board::Board;
+use crate::board::stone_rows::without_column;
+use crate::points::Point;
 use crate::stones::Cell;
 
-/// A cell once a colour is cleared, by whether it reaches empty.
-fn cleared(cell: Cell, stone: Cell, reaches: bool) -> Cell
-    ensures { result ≡ cleared cell stone reaches }
-{
-    if cell == stone && !reaches {
-        Cell::Empty
-    } else {
-        cell
+impl Board {
+    /// Empties the points of a set.
+    pub(crate) fn empty_set(&mut self, rows: &[u64])
+        requires all { length rows.now ≡ self.old.side }
+        requires on_board { (p : Point) → IsTrue (is_set rows.now p) → IsOn self.old.side p }
+        ensures { IsWithout self.old self.new (λ p. IsTrue (is_set rows.now p)) }
+    {
+        'rows: for row in 0..self.size().side() {
+            self.empty_columns(row, rows[usize::from(row)]);
+        }
     }
-}
 
-/// Clears a colour, where the marks are the points that reach empty.
-pub(crate) fn clear_all(cells: &mut [Cell], stone: Cell, reaching: &Marks)
-    requires { length cells.old ≡ reaching.now.side * reaching.now.side }
-    ensures { cells.new ≡ all_cleared cells.old stone reaching.now.marks }
-{
-    let mut point = FIRST;
-    for index in 0..cells.len() {
-        cells[index] = cleared(cells[index], stone, reaching.has(point));
-        point = point.following(reaching.size());
+    /// Empties the points of a row in a set of columns.
+    fn empty_columns(&mut self, row: u8, columns: u64)
+        requires row { row < self.old.side }
+        requires columns { (col : ℕ) → IsTrue (has_bit columns col) → col < self.old.side }
+        ensures { IsWithout self.old self.new (λ p. (p.row ≡ row) × IsTrue (has_bit columns p.col)) }
+    {
+        let mut left = columns;
+        'columns: while left != 0 {
+            let col = left.trailing_zeros();
+            self.set(
+                Point {
+                    col: col as u8,
+                    row,
+                },
+                Cell::Empty,
+            );
+            left = without_column(left, col as usize);
+        }
     }
 }

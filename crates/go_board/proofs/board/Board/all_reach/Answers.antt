@@ -1,17 +1,11 @@
 -- proofs/board/Board/all_reach/Answers.antt
-use Rattle.std.proofs.Common.{◌≡◌, ◌≤◌, length, arith, rules}
-use Rattle.go_board.proofs.LibertyLemmas.{reach_where_none_left, none_left}
+use Rattle.go_board.proofs.LibertyLemmas.{reach_where_none_shut, none_shut}
 use Rattle.go_board.proofs.board.Board.all_reach.Goals as goal
 
 pub returns : goal.returns
 returns c =
     let g = c.args.self.now in
-    let room = c.other_points.new.others in
-    let small : g.side ≤ 52 = omega (arith, c.size.ensures, c.side.ensures.value, c.side.ensures.at_most) in
-    let room_all : length room ≡ g.side = search rules in (
-      λ is.
-          reach_where_none_left g c.args.colour c.args.rows.now c.args.others.now room c.difference.new.left c.fill.new.rows c.difference-2.new.left small c.requires.own_rows c.requires.other_rows room_all c.requires.own c.requires.other c.other_points.ensures c.difference.ensures c.difference-2.ensures c.fill.ensures.grows c.fill.ensures.closed (c.is_none.ensures.0 is),
-      λ each.
-          c.is_none.ensures.1
-          (none_left g c.args.colour c.args.rows.now c.args.others.now room c.difference.new.left c.fill.new.rows c.difference-2.new.left small c.requires.own_rows c.requires.other_rows room_all c.requires.own c.requires.other c.other_points.ensures c.difference.ensures c.difference-2.ensures c.fill.ensures.grows c.fill.ensures.closed each),
+    let shut = c.shut_among.new.shut in (
+      λ is. reach_where_none_shut g c.args.colour shut c.shut_among.ensures.shut (c.is_none.ensures.0 is),
+      λ each. c.is_none.ensures.1 (none_shut g c.args.colour shut c.shut_among.ensures.shut each),
     )

@@ -1,23 +1,17 @@
 -- proofs/board/Board/clear/Answers.antt
-use Rattle.std.proofs.Common.{◌*◌, ◌≤◌, take, length, sym, ap, ◌∙◌, arith}
-use Rattle.go_board.specs.inner.Sweep.{all_cleared}
+use Rattle.std.proofs.Common.{sym, ap, ◌∙◌, arith}
 use Rattle.go_board.specs.Clearing.{has_unreaching}
 use Rattle.go_board.proofs.FrontLemmas.{length-grid_in}
 use Rattle.go_board.proofs.SettledLemmas.{clear-settled}
-use Rattle.go_board.proofs.SweepLemmas.{Marks, grid_in-clear}
+use Rattle.go_board.proofs.SweepLemmas.{without_shut}
 use Rattle.go_board.proofs.board.Board.clear.Goals as goal
 
 pub returns-clause-value : goal.returns-clause-value
-unfolding Marks
 returns-clause-value c =
     let i = c.self.inside in
-    let marking = c.reached-reaching.result in
-    let fits : i.size * i.size ≤ length i.cells = omega (arith, c.self.invariant) in
-    let cleared =
-    c.clear_all.ensures
-    ∙ ap (λ n. all_cleared (take n i.cells) c.stone.result marking.marks) c.points-points.ensures.value
-    ∙ ap (λ s. all_cleared (take (i.size * i.size) i.cells) s marking.marks) c.stone.ensures in
-    grid_in-clear i.size i.cells c.clear_all.new.cells _ c.args.self.now c.args.colour marking c.self.view_is fits c.reached-reaching.ensures.side c.reached-reaching.ensures.marks cleared
+    let g = c.args.self.now in
+    let all = length-grid_in i.size i.cells g c.self.view_is (omega (arith, c.self.invariant)) in
+    without_shut g c.empty_set.new.self c.args.colour c.shut_stones.new.shut all c.shut_stones.ensures.shut c.empty_set.ensures
 
 -- where every stone reaches empty, nothing is to be cleared
 pub returns-then-self-clause-value : goal.returns-then-self-clause-value
