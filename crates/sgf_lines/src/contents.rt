@@ -128,10 +128,8 @@ impl<'a> Contents<'a> {
 fn push_operation(operation: SetupOp, output: &mut Vec<SetupOp>) -> Result<(), MemoryFault>
     ensures { OnOk result (output.new.items ≡ output.old.items ++ operation ∷ []) }
 {
-    match output.push(operation) {
-        Ok(()) => Ok(()),
-        Err(_) => Err(MemoryFault),
-    }
+    output.push(operation)?;
+    Ok(())
 }
 
 /// What the values of a property are; none where they are nothing for the referee.

@@ -158,9 +158,7 @@ fn go_down(path: &mut Vec<usize>, kept: usize, first: usize, leaf: usize) -> Res
 {
     let end = leaf + 1;
     let room = (kept + (end - first)).saturating_sub(path.len());
-    if path.reserve(room).is_err() {
-        return Err(MemoryFault);
-    }
+    path.reserve(room)?;
     path.truncate(kept);
     for node in first..end {
         path.push(node).unwrap();

@@ -112,9 +112,7 @@ impl Game {
         ensures commands { self.new.commands ≡ self.old.commands }
     {
         let index = self.marks.len();
-        let Ok(()) = self.marks.push(self.referee.depth()) else {
-            return Err(MemoryFault);
-        };
+        self.marks.push(self.referee.depth())?;
         let None = self.fault else {
             return Ok(None);
         };

@@ -41,10 +41,8 @@ impl KeptText {
         ensures text { OnOk result (self.new.text.items ≡ self.old.text.items) }
         ensures marks { OnOk result (self.new.marks.items ≡ self.old.marks.items ++ length self.old.text.items ∷ []) }
     {
-        match self.marks.push(self.text.len()) {
-            Ok(()) => Ok(()),
-            Err(_) => Err(MemoryFault),
-        }
+        self.marks.push(self.text.len())?;
+        Ok(())
     }
 
     /// Cuts the text back to the first `kept` nodes.

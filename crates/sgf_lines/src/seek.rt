@@ -82,9 +82,7 @@ pub(crate) fn write_way(
     ensures ok { OnOk result (IsWayTo collection.now (Some leaf) path.new.items) }
     ensures unchanged { OnErr result (path.new.items ≡ path.old.items) }
 {
-    if path.resize(depth(collection, leaf), 0).is_err() {
-        return Err(MemoryFault);
-    }
+    path.resize(depth(collection, leaf), 0)?;
     fill_way(collection, leaf, path);
     Ok(())
 }

@@ -32,6 +32,27 @@ impl From<MemoryFault> for StepFault {
     }
 }
 
+impl From<go_board::MemoryFault> for StepFault {
+    ghost use Rattle.sgf_lines.specs.declared.step.StepFault.TheVariants.{Memory};
+
+    ghost from_gives = { λ _ fault. fault ≡ Memory };
+
+    fn from(_: go_board::MemoryFault) -> Self {
+        StepFault::Memory
+    }
+}
+
+impl From<TurnFault> for StepFault {
+    ghost from_gives = { λ refused fault. fault ≡ fault_of refused };
+
+    fn from(refused: TurnFault) -> Self {
+        match refused {
+            TurnFault::Illegal(reason) => StepFault::Illegal(reason),
+            TurnFault::Memory => StepFault::Memory,
+        }
+    }
+}
+
 /// What a node did on the board.
 #[derive(Clone, Copy, Debug)]
 pub(crate) enum Change {
@@ -113,10 +134,8 @@ fn set_up<P: Past>(
     if operations.is_empty() {
         return set_player(referee, contents, size);
     }
-    match referee.setup(operations, contents.player) {
-        Ok(()) => Ok(Change::Stones),
-        Err(_) => Err(StepFault::Memory),
-    }
+    referee.setup(operations, contents.player)?;
+    Ok(Change::Stones)
 }
 
 /// Sets up the player of contents without moves and stones.
@@ -134,13 +153,9 @@ fn set_player<P: Past>(
         → IfOk result (IsChangeBy size [] held.stones) }
 {
     if contents.player.is_some() {
-        match referee.setup(&[], contents.player) {
-            Ok(()) => Ok(Change::Nothing),
-            Err(_) => Err(StepFault::Memory),
-        }
-    } else {
-        Ok(Change::Nothing)
+        referee.setup(&[], contents.player)?;
     }
+    Ok(Change::Nothing)
 }
 
 /// Takes the turn of a move.
@@ -158,18 +173,6 @@ fn take_move<P: Past>(
     let Some(play) = move_value(raw, size) else {
         return Err(StepFault::Illegal(Reason::BadPoint));
     };
-    match referee.turn(colour, play) {
-        Ok(()) => Ok(Change::Turn(colour, play)),
-        Err(fault) => Err(step_fault(fault)),
-    }
-}
-
-/// Why a turn wasn't taken, as the fault of a step.
-fn step_fault(fault: TurnFault) -> StepFault
-    ensures { result ≡ fault_of fault }
-{
-    match fault {
-        TurnFault::Illegal(reason) => StepFault::Illegal(reason),
-        TurnFault::Memory => StepFault::Memory,
-    }
+    referee.turn(colour, play)?;
+    Ok(Change::Turn(colour, play))
 }

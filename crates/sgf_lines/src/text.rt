@@ -9,10 +9,8 @@ use sgf_tree::MemoryFault;
 pub(crate) fn push_bytes(bytes: &[u8], output: &mut Vec<u8>) -> Result<(), MemoryFault>
     ensures { OnOk result (output.new.items ≡ output.old.items ++ bytes.now) }
 {
-    match output.extend_from_slice(bytes) {
-        Ok(()) => Ok(()),
-        Err(_) => Err(MemoryFault),
-    }
+    output.extend_from_slice(bytes)?;
+    Ok(())
 }
 
 /// Appends a number in decimal, without leading zeros.

@@ -3,8 +3,8 @@ use Rattle.std.specs.Prelude.{is_some}
 use Rattle.sgf_lines.proofs.Stepping.{sets_nothing, has_no_stones}
 use Rattle.sgf_lines.proofs.step.set_player.Goals as goal
 
-pub returns-in-Ok-clause-change : goal.returns-in-Ok-clause-change
-returns-in-Ok-clause-change g c = λ held h.
+pub returns-in_ok-setup-clause-change : goal.returns-in_ok-setup-clause-change
+returns-in_ok-setup-clause-change g c = λ held h.
     let s = c.args.contents.now in
     (refl, has_no_stones c.args.size s.moves s.operations.items s.player s.faulty held h c.requires.good c.requires.no_stones)
 

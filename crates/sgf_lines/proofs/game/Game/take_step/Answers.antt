@@ -10,20 +10,20 @@ use Rattle.sgf_lines.proofs.Played.{mark_now, passes, passed_same, plays_on, sto
 use Rattle.sgf_lines.proofs.Counted.{counts_passed, counts_one}
 use Rattle.sgf_lines.proofs.game.Game.take_step.Goals as goal
 
-pub returns-in_default-fault-clause-played : goal.returns-in_default-fault-clause-played
-returns-in_default-fault-clause-played c = λ side nodes node h e.
+pub returns-in_default-clause-played : goal.returns-in_default-clause-played
+returns-in_default-clause-played c = λ side nodes node h e.
     let old : Game = c.args.self.now in
     let new : Game = record { referee = old.referee; fault = old.fault; marks = c.push.new.self; commands = old.commands } in
-    let marks : new.marks.items ≡ old.marks.items ++ mark_now side nodes old new h ∷ [] = rw (c.in-Ok.is, c.depth.ensures.value) at c.push.ensures.items in
-    passes side nodes old new h node marks (inl refl) refl refl c.in_default-fault.not-None
+    let marks : new.marks.items ≡ old.marks.items ++ mark_now side nodes old new h ∷ [] = rw c.depth.ensures.value at c.in_ok-push.ensures.items in
+    passes side nodes old new h node marks (inl refl) refl refl c.in_default.not-None
 
-pub returns-in-Ok-play_node-clause-played : goal.returns-in-Ok-play_node-clause-played
-returns-in-Ok-play_node-clause-played c = λ side nodes node h e.
+pub returns-in-Ok-clause-played : goal.returns-in-Ok-clause-played
+returns-in-Ok-clause-played c = λ side nodes node h e.
     let old : Game = c.args.self.now in
     let new : Game = record { referee = c.play_node.new.referee; fault = old.fault; marks = c.push.new.self; commands = old.commands } in
-    let marks : new.marks.items ≡ old.marks.items ++ mark_now side nodes old new h ∷ [] = rw (c.in-Ok.is, c.depth.ensures.value) at c.push.ensures.items in
+    let marks : new.marks.items ≡ old.marks.items ++ mark_now side nodes old new h ∷ [] = rw c.depth.ensures.value at c.in_ok-push.ensures.items in
     let same : c.node.result ≡ node = (let both : Some c.node.result ≡ Some node = sym c.node.ensures ∙ e in cc) in
-    let stepped = c.in-Ok-play_node.ensures.stepped in
+    let stepped = c.in-Ok.ensures.stepped in
     plays_on side nodes old new h node marks stepped.1 c.in-None.is c.in-None.is (rw same at stepped.0)
 
 pub returns-in-Err-Illegal-clause-played : goal.returns-in-Err-Illegal-clause-played
@@ -31,29 +31,29 @@ returns-in-Err-Illegal-clause-played c = λ side nodes node h e.
     let old : Game = c.args.self.now in
     let met : Met = record { index = c.len-index.result; place = c.place.result; reason = c.in-Err-Illegal.reason } in
     let new : Game = record { referee = c.play_node.new.referee; fault = Some met; marks = c.push.new.self; commands = old.commands } in
-    let marks : new.marks.items ≡ old.marks.items ++ mark_now side nodes old new h ∷ [] = rw (c.in-Ok.is, c.depth.ensures.value) at c.push.ensures.items in
+    let marks : new.marks.items ≡ old.marks.items ++ mark_now side nodes old new h ∷ [] = rw c.depth.ensures.value at c.in_ok-push.ensures.items in
     let same : c.node.result ≡ node = (let both : Some c.node.result ≡ Some node = sym c.node.ensures ∙ e in cc) in
     let placed : node.place ≡ c.place.result =
     (let both : Some node.place ≡ Some c.place.result = sym (place_of_node c.args.collection.now c.args.number node (sym e)) ∙ c.place.ensures in cc) in
     let stepped = rw c.in-Err-Illegal.field-0-is at c.in-Err-Illegal.ensures.stepped in
     stops side nodes old new h node marks (inl stepped.1) met c.in-None.is refl (omega (arith, c.len-index.ensures, old.marks.ok.0)) stepped.1 (rw same at stepped.0) placed
 
-pub returns-in_default-fault-clause-counted : goal.returns-in_default-fault-clause-counted
-returns-in_default-fault-clause-counted c = λ side nodes node h. counts_passed side nodes node c.args.self.now h c.args.plays.now _ c.in_default-fault.not-None
+pub returns-in_default-clause-counted : goal.returns-in_default-clause-counted
+returns-in_default-clause-counted c = λ side nodes node h. counts_passed side nodes node c.args.self.now h c.args.plays.now _ c.in_default.not-None
 
-pub returns-in-Ok-play_node-clause-counted : goal.returns-in-Ok-play_node-clause-counted
-returns-in-Ok-play_node-clause-counted c = λ side nodes node h. counts_one side nodes node c.args.self.now h c.args.plays.now c.add_one.new.self _ c.in-None.is c.add_one.ensures
+pub returns-in-Ok-clause-counted : goal.returns-in-Ok-clause-counted
+returns-in-Ok-clause-counted c = λ side nodes node h. counts_one side nodes node c.args.self.now h c.args.plays.now c.add_one.new.self _ c.in-None.is c.add_one.ensures
 
 pub returns-in-Err-Illegal-clause-counted : goal.returns-in-Err-Illegal-clause-counted
 returns-in-Err-Illegal-clause-counted c = λ side nodes node h. counts_one side nodes node c.args.self.now h c.args.plays.now c.add_one.new.self _ c.in-None.is c.add_one.ensures
 
-pub returns-in-Ok-play_node-clause-change : goal.returns-in-Ok-play_node-clause-change
-returns-in-Ok-play_node-clause-change c = λ node e.
+pub returns-in-Ok-clause-change : goal.returns-in-Ok-clause-change
+returns-in-Ok-clause-change c = λ node e.
     let now = c.play_node.new.referee.present in
-    let change = c.in-Ok-play_node.change in
+    let change = c.in-Ok.change in
     let same : c.node.result ≡ node = (let both : Some c.node.result ≡ Some node = sym c.node.ensures ∙ e in cc) in
-    let side = side-step c.args.self.now.referee.present now c.node.result c.in-Ok-play_node.ensures.stepped.0 in
-    subst (λ m. IsChange now.colouring.side m change) same (subst (λ k. IsChange k c.node.result change) (sym side) c.in-Ok-play_node.ensures.change)
+    let side = side-step c.args.self.now.referee.present now c.node.result c.in-Ok.ensures.stepped.0 in
+    subst (λ m. IsChange now.colouring.side m change) same (subst (λ k. IsChange k c.node.result change) (sym side) c.in-Ok.ensures.change)
 
-pub returns-in_default-fault-clause-changed : goal.returns-in_default-fault-clause-changed
-returns-in_default-fault-clause-changed c = λ side nodes node h e. ap (λ (w : Walk). w.played) (passed_same side nodes c.args.self.now node h c.in_default-fault.not-None)
+pub returns-in_default-clause-changed : goal.returns-in_default-clause-changed
+returns-in_default-clause-changed c = λ side nodes node h e. ap (λ (w : Walk). w.played) (passed_same side nodes c.args.self.now node h c.in_default.not-None)
