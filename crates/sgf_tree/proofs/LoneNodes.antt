@@ -1,20 +1,43 @@
 -- A node of one letter and one value of two bytes.
-use Rattle.std.proofs.Common.{◌≡◌, ℕ, ◌<◌, IsTrue, List, [], ◌∷◌, length, get_or, take, drop, slice_range, ◌∙◌, sym, ap, subst, arith}
+use Rattle.std.proofs.Common.{◌≡◌, ◌≢◌, ℕ, ◌+◌, ◌-◌, ◌<◌, ◌≤◌, Bool, true, false, IsTrue, refl, List, [], ◌∷◌, length, get_or, take, drop, slice_range, ◌∙◌, sym, ap, arith, get_or-drop, length-drop}
 use Rattle.sgf_tree.specs.Tree.{lone_property}
 use Rattle.sgf_tree.specs.RawValue.{no_unit, plain}
-use Rattle.sgf_tree.specs.Spelling.{is_upper, no_white, white, no_letter, IsPropValue, prop_value, no_value, AreProperties, property, no_property, properties}
+use Rattle.sgf_tree.specs.Spelling.{is_white, is_upper, no_white, no_letter, IsPropValue, prop_value, no_value, AreProperties, property, no_property, properties}
 use Rattle.sgf_tree.specs.inner.NodeText.{properties_in, EndsNode}
-use Rattle.sgf_tree.specs.inner.Progress.{is_plain, IsLoneNode}
-use Rattle.sgf_tree.proofs.Classes.{white-range, fails, upper-range}
-use Rattle.sgf_tree.proofs.NodeTexts.{properties-in}
-use Rattle.sgf_tree.proofs.Walks.{byte-at}
+use Rattle.sgf_tree.specs.inner.Progress.{IsRun, is_plain, IsNodeEnd, IsLoneNode}
+use Rattle.sgf_tree.proofs.Classes.{fails, upper-range, white-not_bracket, white-not_upper}
+use Rattle.sgf_tree.proofs.NodeTexts.{white-same, properties-in}
+use Rattle.sgf_tree.proofs.Walks.{byte-at, run-drop, white-to}
 use Rattle.sgf_tree.proofs.ValueEnds.{plain-other}
 
--- a byte between white space and the letters ends a node
-ends-node : (b : ℕ) (r : List ℕ) → 32 < b → b < 65 → EndsNode (b ∷ r)
-ends-node b r low high c t no_white =
-    ((λ e. omega arith), fails (is_upper c) (λ h. let u = upper-range c h in omega arith))
-ends-node b r low high c t (white h w) = absurd (let u = white-range b h in omega arith)
+-- a node ends where a byte before the letters follows white space
+ends-node : (s : List ℕ) (k : ℕ) → IsNodeEnd s k → EndsNode (drop k s)
+ends-node s k end b t w = by_white (is_white b) refl
+  where
+    e : ℕ
+    e = end.next
+
+    run : IsRun is_white s k e
+    run = end.white
+
+    run' : IsRun is_white (drop k s) 0 (e - k)
+    run' = run-drop is_white s k e run
+
+    there : get_or (drop k s) (e - k) 0 ≡ get_or s e 0
+    there =
+        let rises : k ≤ e = run.rises in
+        let at : k + (e - k) ≡ e = omega arith in
+        get_or-drop k s (e - k) 0 ∙ ap (λ i. get_or s i 0) at
+
+    inside : e - k < length (drop k s)
+    inside = let rises : k ≤ e = run.rises in omega (arith, end.inside, length-drop k s)
+
+    by_white : (c : Bool) → is_white b ≡ c → (b ≢ 91) × (is_upper b ≡ false)
+    by_white true h = (white-not_bracket b h, white-not_upper b h)
+    by_white false h =
+        let same : b ≡ get_or (drop k s) (e - k) 0 = (white-same w (white-to (drop k s) (e - k) run' inside) h (run'.stops inside)).0 in
+        let below : b < 65 = rw (same, there) end.below in
+        ((λ is. omega arith), fails (is_upper b) (λ u. let range = upper-range b u in omega arith))
 
 two-plain : (x y : ℕ) (r : List ℕ) → IsTrue (is_plain x) → IsTrue (is_plain y) → IsPropValue (x ∷ y ∷ []) (91 ∷ x ∷ y ∷ 93 ∷ r) r
 two-plain x y r h k =
@@ -36,7 +59,6 @@ lone-node s is =
     ∙ ap (λ u. get_or s 3 0 ∷ get_or s 4 0 ∷ u) (byte-at s 5 (omega arith) ∙ ap (λ b. b ∷ rest) pair.bracket) in
     let here : drop 1 s ≡ get_or s 1 0 ∷ 91 ∷ get_or s 3 0 ∷ get_or s 4 0 ∷ 93 ∷ rest =
     byte-at s 1 (omega arith) ∙ ap (λ u. get_or s 1 0 ∷ u) (byte-at s 2 (omega arith) ∙ ap (λ b. b ∷ drop 3 s) is.bracket ∙ ap (λ u. 91 ∷ u) value) in
-    let ends : EndsNode rest = subst EndsNode (sym (byte-at s 6 within)) (ends-node (get_or s 6 0) (drop 7 s) is.past_white is.before_letters) in
     let span : slice_range s 3 5 ≡ get_or s 3 0 ∷ get_or s 4 0 ∷ [] = ap (take 2) value in
     let one = one-property (get_or s 1 0) (get_or s 3 0) (get_or s 4 0) rest is.capital (pair.plain.passing 3 (omega arith) (omega arith)) (pair.plain.passing 4 (omega arith) (omega arith)) in
-    ap properties_in here ∙ properties-in one ends ∙ ap (λ v. lone_property (get_or s 1 0) v ∷ []) (sym span)
+    ap properties_in here ∙ properties-in one (ends-node s 6 is.ends) ∙ ap (λ v. lone_property (get_or s 1 0) v ∷ []) (sym span)

@@ -64,8 +64,8 @@ impl<'a> NodeRef<'a> {
     }
 
     /// The letter and the raw value of its one property, where the node is written as `;B[pd]` is: a name of one capital, one
-    /// value of two bytes that stand for themselves, and nothing between the parts nor after them.
-    /// None of each other node, so whoever gets None takes `walk`. It looks at a few bytes, however long the node is.
+    /// value of two bytes that stand for themselves, and nothing between the parts; white space may follow.
+    /// None of each other node, so whoever gets None takes `walk`. It looks at a few bytes and at such white space.
     pub fn lone(&self) -> Option<(u8, &'a [u8])>
         ensures { IfSome result (λ lone. self.now.properties ≡ lone_property lone.0 lone.1.now ∷ []) }
     {
@@ -150,6 +150,7 @@ mod tests {
         for (text, want) in [
             (b"(;B[pd])".as_slice(), Some((b'B', "pd"))),
             (b"(;B[pd];)".as_slice(), Some((b'B', "pd"))),
+            (b"(;B[pd] \n;)".as_slice(), Some((b'B', "pd"))),
             (b"(;W[[:](;))".as_slice(), Some((b'W', "[:"))),
             (b"(;)".as_slice(), None),
             (b"(;B[])".as_slice(), None),
@@ -161,9 +162,9 @@ mod tests {
             (b"(;B[pd][dp])".as_slice(), None),
             (b"(;B[pd] [dp])".as_slice(), None),
             (b"(;B[pd]C[x])".as_slice(), None),
+            (b"(;B[pd] C[x])".as_slice(), None),
             (b"(; B[pd])".as_slice(), None),
             (b"(;B [pd])".as_slice(), None),
-            (b"(;B[pd]\n)".as_slice(), None),
         ] {
             let c = read(rt.alloc(), text)?;
             assert!(rt; c.nodes() > 0);

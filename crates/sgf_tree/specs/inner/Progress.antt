@@ -1,8 +1,8 @@
 -- How far a text was read: the words of the contracts inside `reader`.
 use Rattle.std.specs.Prelude.{◌≡◌, ℕ, ◌+◌, ◌<◌, ◌≤◌, Bool, false, not, ◌&&◌, ◌==◌, List, [], ◌∷◌, length, slice_index, slice_range, take, drop, Some, IsTrue}
-use Rattle.sgf_tree.specs.Bytes.{space, capital_a, open_bracket, backslash, close_bracket}
+use Rattle.sgf_tree.specs.Bytes.{capital_a, open_bracket, backslash, close_bracket}
 use Rattle.sgf_tree.specs.RawValue.{IsValue}
-use Rattle.sgf_tree.specs.Spelling.{is_upper}
+use Rattle.sgf_tree.specs.Spelling.{is_white, is_upper}
 use Rattle.sgf_tree.specs.inner.Machine.{Started, MachineState, start, in_value, run}
 use Rattle.sgf_tree.specs.Refusal.{IsFaultyAt}
 use Rattle.sgf_tree.specs.declared.reader.fault.Fault.{Fault}
@@ -46,15 +46,20 @@ pub record IsTwoPlain (t : List ℕ) (at : ℕ) : Type 0 where
   pub plain : IsRun is_plain t at (at + 2)
   pub bracket : slice_index t (at + 2) ≡ close_bracket
 
--- a `;`, one capital and two plain bytes between brackets, with nothing between them, and then a byte that is neither white
--- space nor a bracket nor a letter
+-- white space begins at `at`, or none, and a byte that is less than each letter and each bracket follows
+pub record IsNodeEnd (t : List ℕ) (at : ℕ) : Type 0 where
+  pub next : ℕ
+  pub white : IsRun is_white t at next
+  pub inside : next < length t
+  pub below : slice_index t next < capital_a
+
+-- a `;`, one capital and two plain bytes between brackets, with nothing between them, and then the end of the node
 pub record IsLoneNode (t : List ℕ) : Type 0 where
   pub within : 6 < length t
   pub capital : IsTrue (is_upper (slice_index t 1))
   pub bracket : slice_index t 2 ≡ open_bracket
   pub value : IsTwoPlain t 3
-  pub past_white : space < slice_index t 6
-  pub before_letters : slice_index t 6 < capital_a
+  pub ends : IsNodeEnd t 6
 
 -- no raw value begins at `at`
 abbrev pub SpellsNoValue : List ℕ → ℕ → Type 0

@@ -3,13 +3,13 @@
 ghost use Rattle.std.specs.Prelude.{◌≡◌, ◌≤◌, length, drop, slice_range, IsTrue, MatchOption};
 ghost use Rattle.sgf_tree.specs.Spelling.{is_white, is_upper};
 ghost use Rattle.sgf_tree.specs.inner.NodeText.{is_letter};
-ghost use Rattle.sgf_tree.specs.inner.Progress.{IsRun, IsValueEnd, IsUnended, SpellsValue, SpellsNoValue, IsTwoPlain, IsLoneNode, is_plain};
+ghost use Rattle.sgf_tree.specs.inner.Progress.{IsRun, IsValueEnd, IsUnended, SpellsValue, SpellsNoValue, IsTwoPlain, IsNodeEnd, IsLoneNode, is_plain};
 
 use memchr::memchr2;
 
 /// How many bytes are looked at one by one before a search, which costs as much to begin: colours and sizes are short,
 /// and escapes may stand side by side.
-const TRIED: usize = 4;
+const TRIED: usize = 16;
 
 /// The text from an offset on.
 pub(crate) fn rest_from(text: &[u8], at: usize) -> &[u8]
@@ -87,8 +87,11 @@ fn plain_end(text: &[u8], at: usize) -> usize
     requires { at ≤ length text.now }
     ensures { IsRun is_plain text.now at result }
 {
+    if text.len() - at < TRIED {
+        return far_plain_end(text, at);
+    }
     let mut end = at;
-    'plain: while end < text.len() && end - at < TRIED {
+    'plain: while end - at < TRIED {
         if text[end] == b']' || text[end] == b'\\' {
             return end;
         }
@@ -110,8 +113,16 @@ fn is_two_plain(text: &[u8], at: usize) -> bool
         && text[at + 1] != b'\\'
 }
 
-/// Whether the text begins with a node that is written as `;B[pd]` is, and that goes on with neither white space nor a
-/// bracket nor a letter.
+/// Whether a node ends at `at`, or after white space there. Where it answers no, nothing is known.
+fn ends_node(text: &[u8], at: usize) -> bool
+    requires { at ≤ length text.now }
+    ensures { IsTrue result → IsNodeEnd text.now at }
+{
+    let end = skip_white(text, at);
+    end < text.len() && text[end] < b'A'
+}
+
+/// Whether the text begins with a node that is written as `;B[pd]` is.
 pub(crate) fn is_lone_node(text: &[u8]) -> bool
     ensures { IsTrue result → IsLoneNode text.now }
 {
@@ -119,20 +130,16 @@ pub(crate) fn is_lone_node(text: &[u8]) -> bool
         && text[1].is_ascii_uppercase()
         && text[2] == b'['
         && is_two_plain(text, 3)
-        && text[6] > b' '
-        && text[6] < b'A'
+        && ends_node(text, 6)
 }
 
-/// The `]` that ends the raw value at `at`.
-/// None where the text ends before it.
-pub(crate) fn value_end(text: &[u8], at: usize) -> Option<usize>
+/// The same as `value_end`, for each other value.
+#[inline(never)]
+fn far_value_end(text: &[u8], at: usize) -> Option<usize>
     requires { at ≤ length text.now }
     ensures read { MatchOption result (IsUnended text.now at) (λ end. IsValueEnd text.now at end) }
     ensures spelled { MatchOption result (SpellsNoValue text.now at) (λ end. SpellsValue text.now at end) }
 {
-    if is_two_plain(text, at) {
-        return Some(at + 2);
-    }
     let mut end = at;
     'units: loop {
         end = plain_end(text, end);
@@ -146,5 +153,19 @@ pub(crate) fn value_end(text: &[u8], at: usize) -> Option<usize>
             return None;
         }
         end += 2;
+    }
+}
+
+/// The `]` that ends the raw value at `at`.
+/// None where the text ends before it.
+pub(crate) fn value_end(text: &[u8], at: usize) -> Option<usize>
+    requires { at ≤ length text.now }
+    ensures read { MatchOption result (IsUnended text.now at) (λ end. IsValueEnd text.now at end) }
+    ensures spelled { MatchOption result (SpellsNoValue text.now at) (λ end. SpellsValue text.now at end) }
+{
+    if is_two_plain(text, at) {
+        Some(at + 2)
+    } else {
+        far_value_end(text, at)
     }
 }

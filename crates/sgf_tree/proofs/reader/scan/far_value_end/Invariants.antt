@@ -1,7 +1,7 @@
 use Rattle.std.proofs.Common.{◌-◌, ◌≤◌, length}
 use Rattle.sgf_tree.specs.inner.Progress.{SpellsValue}
 use Rattle.sgf_tree.proofs.ValueEnds.{AreUnits}
-use Rattle.sgf_tree.proofs.reader.scan.value_end.Given as goal
+use Rattle.sgf_tree.proofs.reader.scan.far_value_end.Given as goal
 
 abbrev pub invariant-units : goal.invariant-units
 invariant-units l = record {
