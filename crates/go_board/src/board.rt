@@ -7,6 +7,7 @@ mod flood;
 #[cfg(test)]
 mod move_tests;
 mod regions;
+mod reset;
 mod search;
 mod stone_rows;
 mod sweep;

@@ -26,17 +26,17 @@
 //! | `board/capture`, `board/sweep` | groups without a liberty taken off one at a time; sets of points taken off |
 //! | `board/regions`, `board/fill` | sets of points as rows of bits, and filling these: the score, whether all stones reach empty |
 //! | `board/stone_rows` | the stones of a board as rows of bits, kept while points are set |
-//! | `board/areas` | colouring areas |
+//! | `board/areas`, `board/reset` | colouring areas; emptying the board in place |
 //! | `past` | the colourings that a game has been through; `past/list_past` and `past/print_past` keep them |
 //! | `past/colourings`, `past/changes`, `past/differences` | past colourings as changes that lead back |
 //! | `past/print`, `past/table` | the print of a colouring, and `past/print/powers` for it; prints looked up by a table |
 //! | `reason`, `fault` | why a turn, or a node of a game record, isn't allowed; the errors |
-//! | `referee` | the referee and undo; `referee/plays`, `referee/setup`, `referee/turn` and `referee/earlier` below it |
+//! | `referee` | the referee and undo; `referee/plays`, `referee/setup`, `referee/turn`, `referee/reset` and `referee/earlier` below it |
 //! | `laws` | what the words of the contracts mean |
 //!
 //! A point *reaches* a colour where a path of adjacent points of the point's own colour leads from it to a point of that
 //! colour; a stone that reaches empty has a liberty. Only a past's `new`, `push` and `restart` and a referee's `new`,
-//! `setup` and `turn` take memory.
+//! `setup` and `turn` take memory, and their `reset` where the past can't be begun anew in place.
 #![tactic(auto)]
 
 mod board;

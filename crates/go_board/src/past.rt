@@ -11,10 +11,12 @@ mod table;
 mod tests;
 
 ghost use Rattle.std.specs.Prelude.{◌≡◌, ◌≤◌, ◌↔◌, [], ◌∷◌, true, false, List, Some, length, drop, IsTrue, IfOk, OnOk, OnErr, Contains};
+ghost use Rattle.go_board.specs.Grid.{empty_grid};
 ghost use Rattle.go_board.specs.Past.{Held, newest, present_stretch, HaveSide};
 
 use crate::board::Board;
 use crate::fault::MemoryFault;
+use crate::size::Size;
 pub use list_past::ListPast;
 pub use print_past::PrintPast;
 use std::alloc::Global;
@@ -58,4 +60,15 @@ pub trait Past: Drop {
     fn pop(&mut self)
         requires { 2 ≤ length (held self.old) }
         ensures { held self.new ≡ drop 1 (held self.old) };
+
+    /// Begins another game: forgets all colourings, and has that of the empty board of a size alone, which begins a stretch. A
+    /// past that can do so in place takes less time than a new one.
+    fn reset(&mut self, alloc: Global, size: Size) -> Result<(), MemoryFault>
+        ensures ok { OnOk result (held self.new
+            ≡ record { colouring = empty_grid size; begins = true } ∷ []) }
+        ensures err { OnErr result (held self.new ≡ held self.old) }
+    {
+        *self = Self::new(alloc, &Board::empty(size))?;
+        Ok(())
+    }
 }

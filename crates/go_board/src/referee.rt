@@ -2,6 +2,7 @@
 
 mod earlier;
 mod plays;
+mod reset;
 mod setup;
 #[cfg(test)]
 mod tests;

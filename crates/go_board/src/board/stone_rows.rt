@@ -34,6 +34,16 @@ impl StoneRows {
         }
     }
 
+    /// Those of a board of that size on which nothing stands, in place of what they were.
+    pub(crate) fn reset(&mut self, size: Size)
+        ensures { (g : Grid) → AreKept g self.old → AreKept (empty_grid size) self.new }
+    {
+        let side = usize::from(size.side());
+        self.black[..side].fill(0);
+        self.white[..side].fill(0);
+        self.known = true;
+    }
+
     /// Those of a colouring.
     pub(crate) fn of(cells: &[Cell], size: Size) -> StoneRows
         requires { length cells.now ≡ size * size }

@@ -1,11 +1,13 @@
 //! Past colourings, of which the newest is kept whole, and of each older one the changes that lead back to it.
 
 ghost use Rattle.std.specs.Prelude.{◌≡◌, ◌+◌, ◌-◌, ◌<◌, ◌≤◌, ◌↔◌, [], ◌∷◌, Some, true, IsTrue, IfOk, OnOk, OnErr, if◌then◌else◌, length, map, take, drop};
+ghost use Rattle.go_board.specs.Grid.{empty_grid};
 ghost use Rattle.go_board.specs.Past.{Held, newest, present_stretch, HaveSide};
 
 use crate::board::Board;
 use crate::fault::MemoryFault;
 use crate::past::changes::{Change, Older, follow, take_back};
+use crate::size::Size;
 use std::alloc::Global;
 use std::marker::Model;
 
@@ -123,6 +125,17 @@ impl Colourings {
         self.newest.restore_settled(kept.settled);
         self.changes.truncate(start);
         self.since = kept.since;
+    }
+
+    /// Forgets all colourings, and has that of the empty board of a size alone, which begins a stretch.
+    pub(crate) fn reset(&mut self, size: Size)
+        ensures some { 0 < length self.old }
+        ensures value { self.new ≡ record { colouring = empty_grid size; begins = true } ∷ [] }
+    {
+        self.newest.reset(size);
+        self.since = 0;
+        self.older.clear();
+        self.changes.clear();
     }
 }
 

@@ -8,8 +8,12 @@ use crate::fault::MemoryFault;
 use crate::past::Past;
 use crate::past::colourings::Colourings;
 use crate::past::table::Table;
+use crate::size::Size;
 use std::alloc::Global;
 use std::marker::Model;
+
+/// The print of a board on which nothing stands.
+const EMPTY_PRINT: u64 = 0;
 
 /// A past that keeps the newest colouring whole, and of each older one the changes that lead back to it. A colouring is
 /// looked up by its print, and only in the present stretch; where the prints are the same, all points are compared.
@@ -73,6 +77,12 @@ impl Past for PrintPast {
     fn pop(&mut self) {
         self.colourings.pop();
         let _ = self.prints.pop();
+    }
+
+    fn reset(&mut self, _alloc: Global, size: Size) -> Result<(), MemoryFault> {
+        self.colourings.reset(size);
+        self.prints.reset(EMPTY_PRINT);
+        Ok(())
     }
 }
 

@@ -136,6 +136,29 @@ impl Table {
         self.heads[key] = number;
         print
     }
+
+    /// Has one print alone, in place of all that there are. The heads of these are emptied one by one: so it takes the time of the
+    /// prints, and not that of a table that once had to be large.
+    pub(crate) fn reset(&mut self, print: u64)
+        requires { 0 < length self.old }
+        ensures { self.new ≡ print ∷ [] }
+    {
+        self.keep_oldest();
+        let key = key_of(self.heads.len(), self.prints[0]);
+        self.heads[key] = 0;
+        self.prints[0] = print;
+        link(&mut self.heads, &self.prints, &mut self.links, 0);
+    }
+
+    /// Takes all prints back but the oldest.
+    fn keep_oldest(&mut self)
+        requires { 0 < length self.old }
+        ensures { length self.new ≡ 1 }
+    {
+        while self.prints.len() > 1 {
+            self.pop();
+        }
+    }
 }
 
 /// The key of a print where there are so many heads.

@@ -137,10 +137,33 @@ fn player_alone<P: Past>(rt: &impl Abort, alloc: Global) -> Result<(), Fail> {
     Ok(())
 }
 
+/// A referee that begins another game, of another size or of the same, is as a new one.
+fn another_game<P: Past>(rt: &impl Abort, alloc: Global) -> Result<(), Fail> {
+    let mut game = Referee::<P>::new(alloc, size(rt, 3))?;
+    for side in [2, 5, 5] {
+        let turns = [
+            (Colour::Black, Play::Stone(at(0, 0))),
+            (Colour::White, Play::Pass),
+        ];
+        for (colour, play) in turns {
+            assert_eq!(rt;
+                turn(rt, &mut game, colour, play),
+                Ok(()),
+                "{colour:?} {play:?} before side {side}"
+            );
+        }
+        game.reset(size(rt, side))?;
+        assert_eq!(rt; (game.turns(), game.depth(), game.score()), (0, 0, (0, 0)));
+        assert_eq!(rt; game.board().size().side(), side);
+    }
+    Ok(())
+}
+
 #[test]
 fn referee_over_list_past(rt: HostRuntime) -> Result<(), Fail> {
     on_one::<ListPast>(&rt, rt.alloc())?;
     on_three::<ListPast>(&rt, rt.alloc())?;
+    another_game::<ListPast>(&rt, rt.alloc())?;
     player_alone::<ListPast>(&rt, rt.alloc())
 }
 
@@ -148,6 +171,7 @@ fn referee_over_list_past(rt: HostRuntime) -> Result<(), Fail> {
 fn referee_over_print_past(rt: HostRuntime) -> Result<(), Fail> {
     on_one::<PrintPast>(&rt, rt.alloc())?;
     on_three::<PrintPast>(&rt, rt.alloc())?;
+    another_game::<PrintPast>(&rt, rt.alloc())?;
     player_alone::<PrintPast>(&rt, rt.alloc())
 }
 

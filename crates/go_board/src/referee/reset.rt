@@ -1,0 +1,29 @@
+//! A referee's next game.
+
+use crate::fault::MemoryFault;
+use crate::past::Past;
+use crate::referee::Referee;
+use crate::size::Size;
+use crate::stones::Colour;
+
+impl<P: Past> Referee<P> {
+    ghost use Rattle.std.specs.Prelude.{◌≡◌, OnOk, OnErr};
+    ghost use Rattle.go_board.specs.State.{begun};
+
+    /// Begins another game: the referee is as a new one of that size, whatever the size was before. It takes less time than a new
+    /// one where the past can be begun in place, as a `PrintPast` can, and then no memory. `MemoryFault` comes only where memory was
+    /// refused; then nothing is changed.
+    pub fn reset(&mut self, size: Size) -> Result<(), MemoryFault>
+        ensures ok { OnOk result (self.new ≡ begun size) }
+        ensures err { OnErr result (self.new ≡ self.old) }
+    {
+        self.past.reset(*self.earlier.allocator(), size)?;
+        self.spare.reset(size);
+        self.in_step = true;
+        self.player = Some(Colour::Black);
+        self.passes = 0;
+        self.turns = 0;
+        self.earlier.clear();
+        Ok(())
+    }
+}
