@@ -6,7 +6,7 @@ ghost use Rattle.sgf_tree.specs.Written.{IsWrittenFront};
 ghost use Rattle.sgf_tree.specs.inner.NodeText.{ArePropertiesIn, AreValuesWritten, IsPropertyWritten, ArePropertiesWritten, IsPastValues, IsNoPropValue, IsFirstValue};
 
 use crate::property::PropRef;
-use crate::reader::scan::{capitals_end, letters_end, part, rest_from, skip_white, value_end};
+use crate::reader::scan::{capitals_end, identifier_end, part, rest_from, skip_white, value_end};
 use std::marker::Model;
 
 /// The properties of a node that are left, in file order.
@@ -52,7 +52,7 @@ impl<'a> Properties<'a> {
         if start == text.len() || !text[start].is_ascii_uppercase() {
             return None;
         }
-        let end = letters_end(text, start);
+        let end = identifier_end(text, start);
         let values = rest_from(text, end);
         self.rest = after_values(values);
         Some(PropRef {

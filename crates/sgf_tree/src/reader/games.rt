@@ -16,6 +16,7 @@ use crate::reader::scan::skip_white;
 
 /// Reads the node whose `;` stands at `place`.
 /// The result is the offset of the byte after it and the white space there.
+#[inline(always)]
 fn read_node(
     text: &[u8],
     place: usize,

@@ -7,7 +7,7 @@ ghost use Rattle.sgf_tree.specs.inner.PropertiesRead.{IsFaultInValues, IsFaultIn
 
 use crate::fault::MAX_LENGTH;
 use crate::reader::fault::Fault;
-use crate::reader::scan::{letters_end, skip_white, value_end};
+use crate::reader::scan::{identifier_end, skip_white, value_end};
 
 /// Reads the values of a property, of which the first `[` stands at `bracket`.
 /// The result is the offset of the byte after them and the white space there.
@@ -39,7 +39,7 @@ fn read_property(text: &[u8], start: usize) -> Result<usize, Fault>
     ensures read { IfOk result (IsPropertyRead text.now start) }
     ensures fault { IfErr result (IsFaultInProperty text.now start) }
 {
-    let bracket = skip_white(text, letters_end(text, start));
+    let bracket = skip_white(text, identifier_end(text, start));
     if bracket == text.len() || text[bracket] != b'[' {
         return Err(Fault::NotSgf(bracket));
     }

@@ -1,6 +1,6 @@
 //! Where spans of a text end.
 
-ghost use Rattle.std.specs.Prelude.{◌≡◌, ◌≤◌, length, drop, slice_range, IsTrue, MatchOption};
+ghost use Rattle.std.specs.Prelude.{◌≡◌, ◌≤◌, ◌<◌, length, drop, slice_index, slice_range, IsTrue, MatchOption};
 ghost use Rattle.sgf_tree.specs.Spelling.{is_white, is_upper};
 ghost use Rattle.sgf_tree.specs.inner.NodeText.{is_letter};
 ghost use Rattle.sgf_tree.specs.inner.Progress.{IsRun, IsValueEnd, IsUnended, SpellsValue, SpellsNoValue, IsTwoPlain, IsNodeEnd, IsLoneNode, is_plain};
@@ -48,7 +48,7 @@ pub(crate) fn skip_white(text: &[u8], at: usize) -> usize
 }
 
 /// The end of the letters that stand at `at`.
-pub(crate) fn letters_end(text: &[u8], at: usize) -> usize
+fn letters_end(text: &[u8], at: usize) -> usize
     requires { at ≤ length text.now }
     ensures { IsRun is_letter text.now at result }
 {
@@ -57,6 +57,23 @@ pub(crate) fn letters_end(text: &[u8], at: usize) -> usize
         end += 1;
     }
     end
+}
+
+/// The end of the letters of an identifier that begins with the capital at `at`. Nearly all have one letter or two.
+pub(crate) fn identifier_end(text: &[u8], at: usize) -> usize
+    requires within { at < length text.now }
+    requires capital { IsTrue (is_upper (slice_index text.now at)) }
+    ensures { IsRun is_letter text.now at result }
+{
+    if text.len() - at > 2 {
+        if text[at + 1] == b'[' {
+            return at + 1;
+        }
+        if text[at + 2] == b'[' && text[at + 1].is_ascii_uppercase() {
+            return at + 2;
+        }
+    }
+    letters_end(text, at)
 }
 
 /// The end of the capitals that stand at `at`.

@@ -12,12 +12,12 @@ use Rattle.sgf_tree.proofs.reader.properties.read_property.Goals.{After-skip_whi
 
 -- the name is read
 after : (c : After-skip_white-bracket) (n : Started) → ComesTo c.args.text.now (c.args.start + 1) (in_name n (slice_index c.args.text.now c.args.start ∷ []))
-    → StandsAfterName c.args.text.now c.skip_white-bracket.result n (name_in (slice_range c.args.text.now c.args.start c.letters_end.result))
+    → StandsAfterName c.args.text.now c.skip_white-bracket.result n (name_in (slice_range c.args.text.now c.args.start c.identifier_end.result))
 after c n h =
     let t = c.args.text.now in
-    let end = c.letters_end.result in
-    name-after t c.args.start end c.skip_white-bracket.result n _ c.letters_end.ensures c.skip_white-bracket.ensures
-    (name-reached t c.args.start end n c.requires.within c.requires.capital c.letters_end.ensures h)
+    let end = c.identifier_end.result in
+    name-after t c.args.start end c.skip_white-bracket.result n _ c.identifier_end.ensures c.skip_white-bracket.ensures
+    (name-reached t c.args.start end n c.requires.within c.requires.capital c.identifier_end.ensures h)
 
 pub returns-then-bracket-text-clause-fault : goal.returns-then-bracket-text-clause-fault
 returns-then-bracket-text-clause-fault c n h =
@@ -44,7 +44,7 @@ returns-clause-read c =
     ok-gives {P = AreValuesRead t c.skip_white-bracket.result} {Q = IsPropertyRead t c.args.start} c.read_values.result
     (λ end read.
     record {
-      rises = omega (arith, read.rises, c.letters_end.ensures.rises, c.skip_white-bracket.ensures.rises);
+      rises = omega (arith, read.rises, c.identifier_end.ensures.rises, c.skip_white-bracket.ensures.rises);
       within = read.within;
       stops = read.stops;
       reached = λ n h. read.reached n _ (name-value t c.skip_white-bracket.result n _ (after (goal.at.returns-clause-read c).After-skip_white-bracket n h) (omega (arith, c.skip_white-bracket.ensures.within)) c.if-text-bracket-ne91.false);

@@ -16,13 +16,13 @@ returns-then-start-text c =
     let none = sym c.self.view_is ∙ no-property s at c.skip_white-start.ensures c.self.invariant other in (none, none)
 
 -- a property was found
-found : (c : After-part) → IsNextProperty c.self.inside.rest.now c.skip_white-start.result c.skip_white-start.ensures c.letters_end-end.result c.after_values-self-inside.result.now
+found : (c : After-part) → IsNextProperty c.self.inside.rest.now c.skip_white-start.result c.skip_white-start.ensures c.identifier_end-end.result c.after_values-self-inside.result.now
 found c =
     let s = c.self.inside.rest.now in
-    next-property s c.skip_white-start.result c.skip_white-start.ensures c.letters_end-end.result c.after_values-self-inside.result.now c.self.invariant
+    next-property s c.skip_white-start.result c.skip_white-start.ensures c.identifier_end-end.result c.after_values-self-inside.result.now c.self.invariant
     (omega (arith, c.skip_white-start.ensures.within))
     (sym c.is_ascii_uppercase.ensures.value ∙ c.if-not-is_ascii_uppercase.false)
-    c.letters_end-end.ensures
+    c.identifier_end-end.ensures
     (subst (λ u. IsPastValues u c.after_values-self-inside.result.now) c.rest_from-values.ensures c.after_values-self-inside.ensures)
 
 pub invariant_of-result : goal.invariant_of-result
