@@ -48,6 +48,7 @@ pub mod Appended
 pub mod ScriptLines
 pub mod ScriptWords
 pub mod Placing
+pub mod PlayLines
 pub mod Replaying
 pub mod Pages
 pub mod Running

@@ -1,11 +1,11 @@
 //! The script of a line: commands of the Go Text Protocol (GTP 2).
 
-ghost use Rattle.std.specs.Prelude.{◌≡◌, ◌++◌, ◌≤◌, ◌<◌, ◌*◌, Some, slice_get, OnOk};
+ghost use Rattle.std.specs.Prelude.{◌≡◌, [], ◌∷◌, ◌++◌, ◌≤◌, ◌<◌, ◌*◌, Some, slice_get, OnOk};
 ghost use Rattle.go_board.specs.Point.{IsOn, points};
 ghost use Rattle.go_board.specs.State.{State, IsPlayOn};
-ghost use Rattle.sgf_lines.specs.Script.{text_lines, comment_line, comment_lines, colour_letter, vertex_text, play_line, stone_lines, board_lines, node_script, board_commands};
+ghost use Rattle.sgf_lines.specs.Script.{text_lines, comment_line, comment_lines, colour_letter, play_line, stone_lines, board_lines, node_script, board_commands};
 ghost use Rattle.sgf_lines.specs.inner.Stepping.{IsChange};
-ghost use Rattle.sgf_lines.specs.inner.Cutting.{lines_at};
+ghost use Rattle.sgf_lines.specs.inner.Cutting.{lines_at, pass_line, stone_line};
 
 use crate::opening::first_value;
 use crate::step::Change;
@@ -131,7 +131,7 @@ fn point_at(index: usize, size: Size) -> Point
     }
 }
 
-/// Appends a play line.
+/// Appends a play line. It is laid out first and appended at once, since most nodes add one.
 fn push_play(
     size: Size,
     colour: Colour,
@@ -142,30 +142,57 @@ fn push_play(
     requires on_board { IsPlayOn size play }
     ensures { OnOk result (output.new.items ≡ output.old.items ++ play_line size colour play) }
 {
-    push_bytes(b"play ", output)?;
-    push_bytes(letter_of(colour), output)?;
-    push_bytes(b" ", output)?;
     match play {
-        Play::Pass => push_bytes(b"pass", output)?,
-        Play::Stone(point) => push_vertex(vertex(point, size), output)?,
+        Play::Pass => push_pass(colour, output),
+        Play::Stone(point) => push_stone(colour, vertex(point, size), output),
     }
-    push_bytes(b"\n", output)
+}
+
+/// Appends the play line of a pass.
+fn push_pass(colour: Colour, output: &mut Vec<u8>) -> Result<(), MemoryFault>
+    ensures { OnOk result (output.new.items ≡ output.old.items ++ pass_line colour) }
+{
+    let player = letter_of(colour);
+    push_bytes(
+        &[
+            b'p', b'l', b'a', b'y', b' ', player, b' ', b'p', b'a', b's', b's', b'\n',
+        ],
+        output,
+    )
+}
+
+/// Appends the play line of a stone.
+fn push_stone(colour: Colour, vertex: Vertex, output: &mut Vec<u8>) -> Result<(), MemoryFault>
+    requires { vertex.row < 100 }
+    ensures { OnOk result (output.new.items ≡ output.old.items ++ stone_line colour vertex) }
+{
+    let player = letter_of(colour);
+    let column = vertex.letter;
+    let tens = b'0' + vertex.row / 10;
+    let ones = b'0' + vertex.row % 10;
+    if vertex.row < 10 {
+        push_bytes(
+            &[
+                b'p', b'l', b'a', b'y', b' ', player, b' ', column, ones, b'\n',
+            ],
+            output,
+        )
+    } else {
+        push_bytes(
+            &[
+                b'p', b'l', b'a', b'y', b' ', player, b' ', column, tens, ones, b'\n',
+            ],
+            output,
+        )
+    }
 }
 
 /// A player's letter.
-fn letter_of(colour: Colour) -> &'static [u8]
-    ensures { result.now ≡ colour_letter colour }
+fn letter_of(colour: Colour) -> u8
+    ensures { result ∷ [] ≡ colour_letter colour }
 {
     match colour {
-        Colour::Black => b"B".as_slice(),
-        Colour::White => b"W".as_slice(),
+        Colour::Black => b'B',
+        Colour::White => b'W',
     }
-}
-
-/// Appends a vertex: the letter of the column, and the number of the row.
-fn push_vertex(vertex: Vertex, output: &mut Vec<u8>) -> Result<(), MemoryFault>
-    ensures { OnOk result (output.new.items ≡ output.old.items ++ vertex_text vertex) }
-{
-    push_bytes(&[vertex.letter], output)?;
-    push_number(u64::from(vertex.row), output)
 }
