@@ -1,7 +1,7 @@
 -- proofs/AreaLemmas.antt
 -- An area coloured row by row.
-use Rattle.std.proofs.Common.{◌≡◌, ℕ, ◌+◌, ◌-◌, ◌*◌, ◌<◌, ◌≤◌, inl, inr, nat_le, List, [], ◌∷◌, fold, length, get_or, take, replicate, map, refl, sym, ap, ◌∙◌, arith, rules, cond, Decides}
-use Rattle.std.proofs.lemmas.List.{places, get_or-take, length-take, get_or-replicate, length-replicate}
+use Rattle.std.proofs.Common.{◌≡◌, ◌≢◌, subst, ℕ, ◌+◌, ◌-◌, ◌*◌, ◌<◌, ◌≤◌, inl, inr, nat_le, List, [], ◌∷◌, fold, length, get_or, take, replicate, map, refl, sym, ap, ◌∙◌, arith, rules, cond, Decides}
+use Rattle.std.proofs.lemmas.List.{places, get_or-take, length-take, get_or-replicate, length-replicate, length-set}
 use Rattle.std.proofs.lemmas.List.Sums.{fold_more}
 use Rattle.std.proofs.lemmas.Bool.{cases_order, cases_lt, cases_Bool, cond-true, cond-false, false≢true}
 use Rattle.std.proofs.lemmas.Bool.Decides.{Decides-and, leb_tells, not_from_Decides}
@@ -13,9 +13,11 @@ use Rattle.go_board.specs.declared.points.Point.{Point}
 use Rattle.go_board.specs.declared.points.Rect.{Rect}
 use Rattle.go_board.specs.declared.referee.plays.SetupOp.{SetupOp}
 use Rattle.go_board.specs.Point.{IsOn, IsRectOn, index_of, point_at, points}
-use Rattle.go_board.specs.Grid.{Grid, cell_at}
+use Rattle.go_board.specs.Grid.{Grid, cell_at, with_cell}
 use Rattle.go_board.specs.State.{is_in, with_area}
 use Rattle.go_board.proofs.PointLemmas.{index_below, IsOn-point_at, index_of-point_at, is_map-points}
+use Rattle.go_board.proofs.GridLemmas.{cell_at-with_cell, cell_at-with_cell_elsewhere}
+use Rattle.go_board.proofs.GroupLemmas.{grid_of-cells}
 
 -- a list after a write to a part of it, in the part and outside it
 get_or-in_part : {X : Type 0} (a k : ℕ) (xs ys : List X) (i : ℕ) (d : X) → length ys ≡ k → a + k ≤ length xs → a ≤ i → i < a + k → get_or (put_mid a k xs ys) i d ≡ get_or ys (i - a) d
@@ -193,3 +195,35 @@ side-with_areas g (op ∷ ops) = side-with_areas (with_area g op) ops ∙ side-w
 pub areas_more : (g before coloured : Grid) (ops : List SetupOp) (i : ℕ) (d : SetupOp) → i < length ops → coloured ≡ with_area before (get_or ops i d) → before.side ≡ g.side → before ≡ fold with_area g (take i ops) → (coloured.side ≡ g.side) × (coloured ≡ fold with_area g (take (i + 1) ops))
 areas_more g before coloured ops i d within step same so_far =
     (ap (λ (h : Grid). h.side) step ∙ side-with_area before (get_or ops i d) ∙ same, step ∙ ap (λ h. with_area h (get_or ops i d)) so_far ∙ sym (fold_more with_area g ops i d within))
+
+-- an area of one point
+pub area_of_point : (g : Grid) (op : SetupOp) → length g.cells ≡ g.side * g.side → IsRectOn g.side op.area → op.area.first ≡ op.area.last → with_cell g op.area.first op.cell ≡ with_area g op
+unfolding with_area
+area_of_point g op all on_board alone =
+    sym (grid_of-cells h _ (length-set g.cells (index_of g.side p) op.cell ∙ all) each)
+  where
+    p : Point
+    p = op.area.first
+
+    h : Grid
+    h = with_cell g p op.cell
+
+    only : (q : Point) → IsIn op.area q → q ≡ p
+    only q ((left, right), (top, bottom)) =
+        let cols : q.col ≡ p.col = omega (arith, left, right, ap (λ (x : Point). x.col) alone) in
+        let rows : q.row ≡ p.row = omega (arith, top, bottom, ap (λ (x : Point). x.row) alone) in
+        ap (λ c. record { col = c; row = q.row }) cols ∙ ap (λ r. record { col = p.col; row = r }) rows
+
+    there : IsIn op.area p
+    there = ((omega arith, omega (arith, ap (λ (x : Point). x.col) alone)), (omega arith, omega (arith, ap (λ (x : Point). x.row) alone)))
+
+    each : (q : Point) → IsOn g.side q → cond (is_in op.area q) op.cell (cell_at g q) ≡ cell_at h q
+    each q on =
+        elim (cases_Bool (is_in op.area q)) [
+          | inl inside ↦
+              let same = only q ((Decides-is_in op.area q).0 inside) in
+              cond-true _ _ _ inside ∙ sym (ap (cell_at h) same ∙ cell_at-with_cell g p op.cell on_board.0 all)
+          | inr outside ↦
+              let other : q ≢ p = λ same. not_from_Decides _ (Decides-is_in op.area q) outside (subst (IsIn op.area) (sym same) there) in
+              cond-false _ _ _ outside ∙ sym (cell_at-with_cell_elsewhere g p q op.cell on_board.0 on other)
+        ]

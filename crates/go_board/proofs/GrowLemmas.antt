@@ -1,14 +1,15 @@
 -- proofs/GrowLemmas.antt
 -- Sets of points as rows of words: one row grown, and the rows grown in turn.
-use Rattle.std.proofs.Common.{◌≡◌, ◌≢◌, inl, inr, ℕ, zero, suc, ◌+◌, ◌-◌, ◌^◌, ◌<◌, ◌≤◌, ◌||◌, Bool, true, false, IsTrue, IsFalse, List, length, get_or, set, bit_and, bit_or, refl, sym, ap, ◌∙◌, arith, subst, slice_index}
-use Rattle.std.proofs.lemmas.Bool.{or_cases, and_parts, and_from, false≢true, true≢false, cases_lt, cases_eq}
+use Rattle.std.proofs.Common.{◌≡◌, ◌≢◌, inl, inr, ℕ, zero, suc, ◌+◌, ◌-◌, ◌^◌, ◌<◌, ◌≤◌, ◌||◌, Bool, true, false, not, w64, IsTrue, IsFalse, List, length, get_or, set, bit_and, bit_or, refl, sym, ap, ◌∙◌, arith, subst, slice_index}
+use Rattle.std.specs.Int.{bit_not}
+use Rattle.std.proofs.lemmas.Bool.{or_cases, and_parts, and_from, false≢true, true≢false, cases_lt, cases_eq, cases_Bool}
 use Rattle.std.proofs.lemmas.List.{get_or-set_same, get_or-set_other}
 use Rattle.std.proofs.Math.ListN.{get_or-eq_default}
 use Rattle.std.proofs.lemmas.List.Sums.{sum_by-set}
 use Rattle.go_board.specs.declared.points.Point.{Point}
 use Rattle.go_board.specs.Point.{DifferByOne}
-use Rattle.go_board.specs.inner.Rows.{has_bit, is_set, row_above, IsPart, HasBeside, IsAmong, IsClosed, IsRowClosed, Grows, lacking, row_at}
-use Rattle.go_board.proofs.WordLemmas.{has_bit-or, has_bit-and, has_bit-zero, le_from_part}
+use Rattle.go_board.specs.inner.Rows.{has_bit, is_set, row_above, IsPart, HasBeside, IsWide, IsAmong, IsClosed, IsRowClosed, Grows, lacking, row_at}
+use Rattle.go_board.proofs.WordLemmas.{has_bit-or, has_bit-and, has_bit-zero, has_bit-without, column_below, le_from_part}
 
 or_left : (x y : Bool) → x ≡ true → (x || y) ≡ true
 or_left x y h = rw h refl
@@ -31,6 +32,59 @@ Grows-twice room a b c first second = record {
   kept = λ p is. second.kept p (first.kept p is);
   least = λ set closed part. second.least set closed (first.least set closed part);
 }
+
+pub Grows-none : (room rows : List ℕ) → IsAmong (is_set rows) (is_set room) → Grows (is_set room) (is_set rows) (is_set rows)
+Grows-none room rows within = record {
+  within = within;
+  kept = λ p is. is;
+  least = λ set closed part. part;
+}
+
+-- a row that is closed is wide
+pub wide_closed : (room rows : List ℕ) (row : ℕ) → IsRowClosed (is_set room) (is_set rows) row → IsWide room rows row
+wide_closed room rows row closed =
+    λ col d differ there is. closed (record { col = col; row = row }) (record { col = d; row = row }) refl (inr (refl, differ)) there is
+
+-- the rows stay wide where one is closed and the others are as they were
+pub wide_still : (room rows next : List ℕ) (row n : ℕ) → ((k : ℕ) → k < n → k ≢ row → IsWide room rows k) → IsRowClosed (is_set room) (is_set next) row → ((k : ℕ) → k ≢ row → slice_index next k ≡ slice_index rows k) → (k : ℕ) → k < n → IsWide room next k
+wide_still room rows next row n wide closed others k below =
+    elim (cases_eq k row) [
+      | inl same ↦ subst (IsWide room next) (sym same) (wide_closed room next row closed)
+      | inr other ↦ subst (λ w. HasBeside (has_bit (slice_index room k)) (has_bit w)) (sym (others k other)) (wide k below other)
+    ]
+
+-- a wide row to which the rows beside it add nothing is closed
+pub closed_wide : (room rows : List ℕ) (row beside : ℕ) → IsWide room rows row → ((col : ℕ) → has_bit beside col ≡ (has_bit (row_above rows row) col || has_bit (slice_index rows (row + 1)) col)) → ((col : ℕ) → has_bit beside col ≡ true → has_bit (slice_index room row) col ≡ true → has_bit (slice_index rows row) col ≡ true) → IsRowClosed (is_set room) (is_set rows) row
+closed_wide room rows row beside wide is_beside nothing =
+    λ p q same adjacent there is.
+    let room_there : has_bit (slice_index room row) p.col ≡ true = ap (λ r. has_bit (slice_index room r) p.col) (sym same) ∙ there in
+    ap (λ r. has_bit (slice_index rows r) p.col) same
+    ∙ (elim adjacent [
+      | inl column ↦ nothing p.col (is_beside p.col ∙ near p q same column is) room_there
+      | inr line ↦ wide p.col q.col line.1 room_there (ap (λ r. has_bit (slice_index rows r) q.col) (sym same ∙ line.0) ∙ is)
+    ])
+  where
+    above_at : (r col : ℕ) (q : Point) → q.row + 1 ≡ r → q.col ≡ col → is_set rows q ≡ true → has_bit (row_above rows r) col ≡ true
+    above_at zero col q next at is = absurd (omega arith)
+    above_at (suc r) col q next at is =
+        let below : r ≡ q.row = omega arith in ap (λ k. has_bit (get_or rows k 0) col) below ∙ ap (has_bit (get_or rows q.row 0)) (sym at) ∙ is
+
+    near : (p q : Point) → p.row ≡ row → (p.col ≡ q.col) × DifferByOne p.row q.row → is_set rows q ≡ true → (has_bit (row_above rows row) p.col || has_bit (slice_index rows (row + 1)) p.col) ≡ true
+    near p q same (cols, inl next) is =
+        or_right _ _ (ap (λ r. has_bit (get_or rows r 0) p.col) (ap (λ n. n + 1) (sym same) ∙ next) ∙ ap (has_bit (get_or rows q.row 0)) cols ∙ is)
+    near p q same (cols, inr next) is = or_left _ _ (above_at row p.col q (next ∙ same) (sym cols) is)
+
+-- where what stands beside a row adds nothing, the row has it
+pub adds_nothing : (beside room old : ℕ) → room < 2 ^ 64 → old < 2 ^ 64 → bit_and (bit_and beside room) (bit_not w64 old) ≡ 0 → (col : ℕ) → has_bit beside col ≡ true → has_bit room col ≡ true → has_bit old col ≡ true
+adds_nothing beside room old fits low none col is there =
+    elim (cases_Bool (has_bit old col)) [
+      | inl set ↦ set
+      | inr not_set ↦
+          let both : has_bit (bit_and beside room) col ≡ true = has_bit-and beside room col ∙ and_from _ _ is there in
+          let more : has_bit (bit_and (bit_and beside room) (bit_not w64 old)) col ≡ true =
+          has_bit-without (bit_and beside room) old col low (column_below 64 room col fits there) ∙ and_from _ _ both (ap not not_set) in
+          absurd (false≢true (sym (ap (λ w. has_bit w col) none ∙ has_bit-zero col) ∙ more))
+    ]
 
 -- what a row may grow from: its own bits and those around it, where there is room
 abbrev pub seed_of : List ℕ → List ℕ → ℕ → ℕ → ℕ

@@ -2,9 +2,9 @@
 -- The print of a colouring.
 use Rattle.std.proofs.Common.{◌≡◌, ℕ, ◌+◌, ◌*◌, ◌%◌, ◌/◌, ◌^◌, List, [], ◌∷◌, ◌++◌, refl, sym, ap, ◌∙◌, arith}
 use Rattle.std.proofs.Math.Nat.{mod-add-div, add-mul-mod_self_left}
-use Rattle.std.proofs.lemmas.Nat.{mul-mod_first, mul-mod_second}
+use Rattle.std.proofs.lemmas.Nat.{mul-mod_first}
 use Rattle.go_board.specs.declared.stones.Cell.{Cell}
-use Rattle.go_board.specs.inner.Print.{code_of, digits_after, print_of, short_print_after}
+use Rattle.go_board.specs.inner.Print.{code_of, digits_after, print_of}
 
 -- a sum's remainder is that of the remainders
 pub add-mod_first : (a b m : ℕ) → (a % m + b) % m ≡ (a + b) % m
@@ -24,21 +24,3 @@ print-more xs c =
     let product : ((n % 2 ^ 64) * 31) % 2 ^ 64 ≡ (n * 31) % 2 ^ 64 = mul-mod_first n 31 (2 ^ 64) in
     let reads : digits_after 0 (xs ++ c ∷ []) ≡ 31 * n + code_of c = digits-append 0 xs (c ∷ []) in
     rw (product, reads, add-mod_first (n * 31) (code_of c) (2 ^ 64)) (ap (λ k. (k + code_of c) % 2 ^ 64) (omega arith))
-
--- a remainder's remainder by a part of the modulus
-mod-mod : (x k m : ℕ) → x % (m * k) % m ≡ x % m
-mod-mod x k m =
-    let whole : x ≡ x % (m * k) + m * (k * (x / (m * k))) = omega (arith, mod-add-div x (m * k)) in
-    sym (ap (λ n. n % m) whole ∙ add-mul-mod_self_left (x % (m * k)) m (k * (x / (m * k))))
-
--- the short print is what is left of the digits' number
-short-is : (n : ℕ) (cells : List Cell) → short_print_after (n % 16384) cells ≡ digits_after n cells % 16384
-short-is n [] = refl
-short-is n (c ∷ cs) =
-    let product : (31 * (n % 16384)) % 16384 ≡ (31 * n) % 16384 = mul-mod_second 31 n 16384 in
-    let more : (31 * (n % 16384) + code_of c) % 16384 ≡ (31 * n + code_of c) % 16384 = sym (add-mod_first (31 * (n % 16384)) (code_of c) 16384) ∙ rw product (add-mod_first (31 * n) (code_of c) 16384) in
-    ap (λ k. short_print_after k cs) more ∙ short-is (31 * n + code_of c) cs
-
--- and the print's low 14 bits
-pub short-low : (cells : List Cell) → print_of cells % 16384 ≡ short_print_after 0 cells
-short-low cells = mod-mod (digits_after 0 cells) (2 ^ 50) 16384 ∙ sym (short-is 0 cells)

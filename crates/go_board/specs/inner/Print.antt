@@ -19,11 +19,6 @@ digits_after n (c ∷ cs) = digits_after (31 * n + code_of c) cs
 abbrev pub print_of : List Cell → ℕ
 print_of cells = digits_after 0 cells % 2 ^ 64
 
--- the short print: from n, point by point, 31 times the number and the point's code, modulo 16,384
-abbrev pub short_print_after : ℕ → List Cell → ℕ
-short_print_after n [] = n
-short_print_after n (c ∷ cs) = short_print_after ((31 * n + code_of c) % 16384) cs
-
 -- the prints of past colourings
 abbrev pub prints_of : List Held → List ℕ
 prints_of held = map (λ (h : Held). print_of h.colouring.cells) held

@@ -29,6 +29,10 @@ abbrev pub HasBeside : (ℕ → Bool) → (ℕ → Bool) → Type 0
 HasBeside room set =
     (col beside : ℕ) → DifferByOne col beside → IsTrue (room col) → IsTrue (set beside) → IsTrue (set col)
 
+-- a row of the set has with a column each column beside it that there is room for
+abbrev pub IsWide : List ℕ → List ℕ → ℕ → Type 0
+IsWide room rows row = HasBeside (has_bit (slice_index room row)) (has_bit (slice_index rows row))
+
 -- Sets of points.
 
 -- each point of the one set is in the other

@@ -19,8 +19,21 @@ impl Board {
         }
     }
 
-    /// Colours the points of an area.
+    /// Colours the points of an area. A point alone is set, so that what is kept beside the cells stays known.
     fn colour_area(&mut self, op: SetupOp)
+        requires { IsRectOn self.old.side op.area }
+        ensures { self.new ≡ with_area self.old op }
+    {
+        let _ = &self.size;
+        if op.area.is_point() {
+            self.set(op.area.first, op.cell);
+        } else {
+            self.colour_rows(op);
+        }
+    }
+
+    /// Colours the points of an area row by row.
+    fn colour_rows(&mut self, op: SetupOp)
         requires { IsRectOn self.old.side op.area }
         ensures { self.new ≡ with_area self.old op }
     {

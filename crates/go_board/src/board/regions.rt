@@ -88,7 +88,7 @@ pub(crate) fn no_rows() -> [u64; MAX_ROWS]
 
 /// How many points are set in the one and not in the other.
 pub(crate) fn count_apart(rows: &[u64], others: &[u64]) -> u32
-    requires few { length rows.now ≤ 52 }
+    requires few { length rows.now ≤ MAX_ROWS }
     requires same { length others.now ≡ length rows.now }
     requires on_board { (p : Point) → IsTrue (is_set rows.now p) → IsOn (length rows.now) p }
     ensures { result ≡ count_apart (length rows.now) rows.now others.now }

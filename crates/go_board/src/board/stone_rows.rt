@@ -25,7 +25,7 @@ pub(crate) struct StoneRows {
 impl StoneRows {
     /// Those of a board on which nothing stands.
     pub(crate) fn none() -> StoneRows
-        ensures { (side : ℕ) → side ≤ 52 → AreKept (empty_grid side) result }
+        ensures { (side : ℕ) → side ≤ MAX_ROWS → AreKept (empty_grid side) result }
     {
         StoneRows {
             known: true,
@@ -72,8 +72,8 @@ impl StoneRows {
 
     /// Goes on to the colouring in which a point has that cell.
     pub(crate) fn set(&mut self, point: Point, cell: Cell)
-        requires small { IsOn 52 point }
-        ensures { (g : Grid) → IsOn g.side point → length g.cells ≡ g.side * g.side → g.side ≤ 52
+        requires small { IsOn MAX_ROWS point }
+        ensures { (g : Grid) → IsOn g.side point → length g.cells ≡ g.side * g.side → g.side ≤ MAX_ROWS
             → AreKept g self.old → AreKept (with_cell g point cell) self.new }
     {
         if !self.known {

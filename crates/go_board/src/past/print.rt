@@ -5,9 +5,8 @@ mod powers;
 #[cfg(test)]
 mod tests;
 
-ghost use Rattle.std.specs.Prelude.{◌≡◌, ◌<◌, ◌≤◌, List, length, slice_set};
-ghost use Rattle.go_board.specs.declared.stones.Cell.{Cell};
-ghost use Rattle.go_board.specs.inner.Print.{code_of, print_of, short_print_after};
+ghost use Rattle.std.specs.Prelude.{◌≡◌, ◌<◌, ◌≤◌, length, slice_set};
+ghost use Rattle.go_board.specs.inner.Print.{code_of, print_of};
 
 use crate::past::print::powers::power;
 use crate::size::MAX_POINTS;
@@ -15,9 +14,6 @@ use crate::stones::Cell;
 
 /// What each point's code is a digit of.
 const BASE: u64 = 31;
-
-/// The number of short prints.
-const SHORT_PRINTS: u64 = 16_384;
 
 /// What a point adds to a print.
 fn code_of(cell: Cell) -> u64
@@ -52,11 +48,4 @@ pub(crate) fn print_with(print: u64, cells: &[Cell], index: usize, new: Cell) ->
     print
         .wrapping_add(code_of(new).wrapping_mul(weight))
         .wrapping_sub(code_of(cells[index]).wrapping_mul(weight))
-}
-
-/// The short print of the points with that print: what the same steps give modulo 16,384. It is the print's low 14 bits.
-pub(crate) fn short_print(print: u64) -> u64
-    ensures { (cells : List Cell) → print ≡ print_of cells → result ≡ short_print_after 0 cells }
-{
-    print % SHORT_PRINTS
 }

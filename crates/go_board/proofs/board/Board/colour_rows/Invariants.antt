@@ -1,7 +1,7 @@
--- proofs/board/Board/colour_area/Invariants.antt
+-- proofs/board/Board/colour_rows/Invariants.antt
 use Rattle.std.proofs.Common.{◌≡◌}
 use Rattle.go_board.proofs.AreaLemmas.{IsColouredTo}
-use Rattle.go_board.proofs.board.Board.colour_area.Given as goal
+use Rattle.go_board.proofs.board.Board.colour_rows.Given as goal
 
 abbrev pub invariant-loop-row : goal.invariant-loop-row
 invariant-loop-row l =
