@@ -13,7 +13,7 @@ use Rattle.go_board.specs.Point.{IsRectOn}
 use Rattle.go_board.specs.Values.{rect_value}
 use Rattle.sgf_lines.specs.declared.contents.Moves.{Moves}
 use Rattle.sgf_lines.specs.declared.contents.Kind.{Kind}
-use Rattle.sgf_lines.specs.declared.contents.Kind.TheVariants.{Move as move_kind, Stones as stones_kind, Player as player_kind}
+use Rattle.sgf_lines.specs.declared.contents.Kind.TheVariants.{Move as move_kind, Stones as stones_kind, Player as player_kind, Comment as comment_kind}
 use Rattle.sgf_lines.specs.NodeContents.{Stones, moves_in, stones_in, players_in}
 use Rattle.sgf_lines.specs.Values.{player_value, operation, operations, last_player}
 use Rattle.sgf_lines.specs.inner.Contents.{Lists, empty_lists, joined, kind_of, lists_of_kind, lists_by, lists_in, AreMoves, AreTold}
@@ -169,6 +169,7 @@ first_of_kind : (kind : Kind) (raw : List ℕ) (raws : List (List ℕ)) → list
 first_of_kind (move_kind k) raw raws = refl
 first_of_kind (stones_kind cell) raw raws = refl
 first_of_kind player_kind raw raws = refl
+first_of_kind comment_kind raw raws = refl
 
 -- one value is taken from those that are left
 pub takes_value : (a all : Lists) (kind : Kind) (raw : List ℕ) (left old : List (List ℕ)) → old ≡ raw ∷ left → joined a (lists_of_kind kind old) ≡ all
@@ -181,6 +182,7 @@ no_value_left : (kind : Kind) → lists_of_kind kind [] ≡ empty_lists
 no_value_left (move_kind k) = refl
 no_value_left (stones_kind cell) = refl
 no_value_left player_kind = refl
+no_value_left comment_kind = refl
 
 pub all_values : (a all : Lists) (kind : Kind) (left : List (List ℕ)) → left ≡ [] → joined a (lists_of_kind kind left) ≡ all → a ≡ all
 all_values a all kind left is e =
@@ -196,10 +198,10 @@ pub all_properties : (a all : Lists) (left : List Property) → left ≡ [] → 
 all_properties a all left is e = sym (joined-nothing a) ∙ ap (λ ps. joined a (lists_in ps)) (sym is) ∙ e
 
 -- what a property holds, by its name
-abbrev held_by : Property → Lists
+abbrev pub held_by : Property → Lists
 held_by p = record { moves = moves_in p; stones = stones_in p; players = players_in p }
 
-by_name : (name first : List ℕ) (more : List (List ℕ)) → let p : Property = record { name = name; first = first; more = more } in lists_by (kind_of p) (values p) ≡ held_by p
+pub by_name : (name first : List ℕ) (more : List (List ℕ)) → let p : Property = record { name = name; first = first; more = more } in lists_by (kind_of p) (values p) ≡ held_by p
 by_name name first more =
     elim (cases_Bool (bytes_eq name (codes "B"))) [
       | inl e ↦ let is = (bytes_eq-Decides name (codes "B")).0 e in rw is
@@ -213,7 +215,10 @@ by_name name first more =
               | inl e ↦ let is = (bytes_eq-Decides name (codes "AE")).0 e in rw is
               | inr ae ↦ elim (cases_Bool (bytes_eq name (codes "PL"))) [
                 | inl e ↦ let is = (bytes_eq-Decides name (codes "PL")).0 e in rw is
-                | inr pl ↦ rw (b, w, ab, aw, ae, pl)
+                | inr pl ↦ elim (cases_Bool (bytes_eq name (codes "C"))) [
+                  | inl e ↦ let is = (bytes_eq-Decides name (codes "C")).0 e in rw is
+                  | inr c ↦ rw (b, w, ab, aw, ae, pl, c)
+                ]
               ]
             ]
           ]

@@ -30,6 +30,7 @@ pub mod Joins
 pub mod Records
 pub mod Gathering
 pub mod Stepping
+pub mod PlainNodes
 pub mod Walking
 pub mod Judged
 pub mod Played

@@ -3,6 +3,7 @@ pub mod Standing
 pub mod Seeking
 pub mod Following
 pub mod Contents
+pub mod Plain
 pub mod Stepping
 pub mod Shown
 pub mod Running

@@ -37,6 +37,7 @@ pub(crate) enum Kind {
     Move(Colour),
     Stones(Cell),
     Player,
+    Comment,
 }
 
 impl<'a> Contents<'a> {
@@ -86,6 +87,7 @@ impl<'a> Contents<'a> {
             Kind::Move(colour) => self.take_move(colour, raw),
             Kind::Stones(cell) => self.take_stones(cell, raw, size)?,
             Kind::Player => self.take_player(raw),
+            Kind::Comment => {}
         }
         Ok(())
     }
@@ -132,8 +134,8 @@ fn push_operation(operation: SetupOp, output: &mut Vec<SetupOp>) -> Result<(), M
     Ok(())
 }
 
-/// What the values of a property are; none where they are nothing for the referee.
-fn kind_of(property: &PropRef<'_>) -> Option<Kind>
+/// What the values of a property are; none where they are nothing for the referee nor for a script.
+pub(crate) fn kind_of(property: &PropRef<'_>) -> Option<Kind>
     ensures { result ≡ kind_of_lem property.now }
 {
     if property.is(b"B") {
@@ -148,6 +150,8 @@ fn kind_of(property: &PropRef<'_>) -> Option<Kind>
         Some(Kind::Stones(Cell::Empty))
     } else if property.is(b"PL") {
         Some(Kind::Player)
+    } else if property.is(b"C") {
+        Some(Kind::Comment)
     } else {
         None
     }

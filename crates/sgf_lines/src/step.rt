@@ -5,9 +5,12 @@ ghost use Rattle.go_board.specs.Point.{IsRectOn};
 ghost use Rattle.sgf_lines.specs.Values.{move_value as move_value_lem};
 ghost use Rattle.sgf_lines.specs.Step.{step, step_by, move_step};
 ghost use Rattle.sgf_lines.specs.inner.Contents.{Lists, IsContents};
+ghost use Rattle.sgf_tree.specs.Tree.{Node};
+ghost use Rattle.sgf_lines.specs.inner.Plain.{HasMovesAlone};
 ghost use Rattle.sgf_lines.specs.inner.Stepping.{IsStepped, IsChange, IsChangeBy, IsTurnBy, IsSetupMet, fault_of};
 
 use crate::contents::{Contents, Moves};
+use crate::plain::Plain;
 use crate::values::move_value;
 use go_board::{Colour, Past, Play, Reason, Referee, Size, TurnFault};
 use sgf_tree::{MemoryFault, NodeRef};
@@ -68,6 +71,39 @@ pub(crate) enum Change {
 /// Where the node isn't allowed, the first reason comes back.
 /// After a refusal the referee is unchanged.
 pub(crate) fn play_node<P: Past>(
+    alloc: Global,
+    referee: &mut Referee<P>,
+    node: &NodeRef<'_>,
+) -> Result<Change, StepFault>
+    ensures stepped { IsStepped (step referee.old.present node.now) referee.old referee.new result }
+    ensures change { IfOk result (IsChange referee.old.present.colouring.side node.now) }
+{
+    match Plain::of(node) {
+        Some(plain) => play_moves(referee, plain.moves),
+        None => play_setup(alloc, referee, node),
+    }
+}
+
+/// Takes the step of a node with these moves that sets nothing up.
+fn play_moves<P: Past>(referee: &mut Referee<P>, moves: Moves<'_>) -> Result<Change, StepFault>
+    ensures stepped { (node : Node) → HasMovesAlone node moves.entry
+        → IsStepped (step referee.old.present node) referee.old referee.new result }
+    ensures change { (node : Node) → HasMovesAlone node moves.entry
+        → IfOk result (IsChange referee.old.present.colouring.side node) }
+{
+    match moves {
+        Moves::Nothing => Ok(Change::Nothing),
+        Moves::One(colour, raw) => {
+            let size = referee.board().size();
+            take_move(referee, colour, raw, size)
+        }
+        Moves::Several => Err(StepFault::Illegal(Reason::TwoMoves)),
+    }
+}
+
+/// Takes the step of a node that sets something up. It is kept apart, since few nodes do, and it gathers what they hold.
+#[inline(never)]
+fn play_setup<P: Past>(
     alloc: Global,
     referee: &mut Referee<P>,
     node: &NodeRef<'_>,

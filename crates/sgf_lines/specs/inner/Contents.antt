@@ -9,7 +9,7 @@ use Rattle.go_board.specs.Point.{IsRectOn}
 use Rattle.sgf_lines.specs.declared.contents.Moves.{Moves}
 use Rattle.sgf_lines.specs.declared.contents.Moves.TheVariants.{Nothing, One, Several}
 use Rattle.sgf_lines.specs.declared.contents.Kind.{Kind}
-use Rattle.sgf_lines.specs.declared.contents.Kind.TheVariants.{Move as move_kind, Stones as stones_kind, Player as player_kind}
+use Rattle.sgf_lines.specs.declared.contents.Kind.TheVariants.{Move as move_kind, Stones as stones_kind, Player as player_kind, Comment as comment_kind}
 use Rattle.sgf_lines.specs.declared.contents.Contents.{Contents}
 use Rattle.sgf_lines.specs.NodeContents.{Move, Stones, is_named}
 use Rattle.sgf_lines.specs.Values.{operations, last_player}
@@ -34,13 +34,15 @@ kind_of p =
     else (if is_named (codes "AB") p then Some (stones_kind BlackStone)
     else (if is_named (codes "AW") p then Some (stones_kind WhiteStone)
     else (if is_named (codes "AE") p then Some (stones_kind Empty)
-    else (if is_named (codes "PL") p then Some player_kind else None)))))
+    else (if is_named (codes "PL") p then Some player_kind
+    else (if is_named (codes "C") p then Some comment_kind else None))))))
 
 -- values of that kind
 abbrev pub lists_of_kind : Kind → List (List ℕ) → Lists
 lists_of_kind (move_kind k) raws = record empty_lists { moves = map (λ raw. record { player = k; raw = raw }) raws }
 lists_of_kind (stones_kind cell) raws = record empty_lists { stones = map (λ raw. record { cell = cell; raw = raw }) raws }
 lists_of_kind player_kind raws = record empty_lists { players = raws }
+lists_of_kind comment_kind raws = empty_lists
 
 abbrev pub lists_by : Option Kind → List (List ℕ) → Lists
 lists_by (Some kind) raws = lists_of_kind kind raws

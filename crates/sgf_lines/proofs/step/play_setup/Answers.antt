@@ -5,7 +5,7 @@ use Rattle.sgf_lines.specs.Step.{step_by}
 use Rattle.sgf_lines.specs.inner.Contents.{Lists, lists_in}
 use Rattle.sgf_lines.specs.inner.Stepping.{IsStepped, IsChange, IsChangeBy}
 use Rattle.sgf_lines.proofs.Gathering.{lists_of_node}
-use Rattle.sgf_lines.proofs.step.play_node.Goals as goal
+use Rattle.sgf_lines.proofs.step.play_setup.Goals as goal
 
 pub returns-clause-stepped : goal.returns-clause-stepped
 returns-clause-stepped g c =
