@@ -48,7 +48,7 @@ plain-other b h =
     (eqb-false b 93 (not-true (b == 93) parts.0), eqb-false b 92 (not-true (b == 92) parts.1))
 
 -- and a byte that is neither is plain
-escape-other : (b : ℕ) → is_plain b ≡ false → b ≢ 93 → b ≡ 92
+pub escape-other : (b : ℕ) → is_plain b ≡ false → b ≢ 93 → b ≡ 92
 escape-other b h ne =
     elim (and_cases (not (b == 93)) (not (b == 92)) h) [
       | inl p ↦ absurd (ne (eqb-true b 93 (not-false (b == 93) p)))
@@ -160,7 +160,3 @@ module _ (t : List ℕ) (at : ℕ) where
       let so_far : List ℕ = slice_range t at a in
       let last : ComesTo t (a + 1) (after_escape n name before so_far) = run-take-step t a (in_value n name before so_far) (after_escape n name before so_far) (units n name before h) (omega arith) (rw f (step-escape a n name before so_far)) in
       ends-faulty t (after_escape n name before so_far) (subst (λ i. ComesTo t i (after_escape n name before so_far)) e last) (escape-unaccepted n name before so_far)
-
-  -- the byte that stops the plain bytes begins an escape
-  pub stop-escape : (a b : ℕ) → IsRun is_plain t a b → b < length t → get_or t b 0 ≢ 93 → get_or t b 0 ≡ 92
-  stop-escape a b plain lt ne = escape-other (get_or t b 0) (plain.stops lt) ne

@@ -7,8 +7,8 @@ ghost use Rattle.sgf_tree.specs.inner.Progress.{IsRun, IsValueEnd, IsUnended, Sp
 
 use memchr::memchr2;
 
-/// How many bytes are looked at one by one before a search, which costs as much to begin: colours and sizes are short,
-/// and escapes may stand side by side.
+/// How many bytes are looked at one by one before a search, which costs as much to begin: sizes, names and clock times are
+/// short.
 const TRIED: usize = 16;
 
 /// The text from an offset on.
@@ -117,6 +117,18 @@ fn plain_end(text: &[u8], at: usize) -> usize
     far_plain_end(text, end)
 }
 
+/// The same after an escape, where another one may follow at once, and where else the value is a long text.
+fn plain_end_after_escape(text: &[u8], at: usize) -> usize
+    requires { at ≤ length text.now }
+    ensures { IsRun is_plain text.now at result }
+{
+    if at < text.len() && (text[at] == b']' || text[at] == b'\\') {
+        at
+    } else {
+        far_plain_end(text, at)
+    }
+}
+
 /// Whether the raw value at `at` is two bytes, as a point is, that stand for themselves.
 fn is_two_plain(text: &[u8], at: usize) -> bool
     requires { at ≤ length text.now }
@@ -157,9 +169,8 @@ fn far_value_end(text: &[u8], at: usize) -> Option<usize>
     ensures read { MatchOption result (IsUnended text.now at) (λ end. IsValueEnd text.now at end) }
     ensures spelled { MatchOption result (SpellsNoValue text.now at) (λ end. SpellsValue text.now at end) }
 {
-    let mut end = at;
+    let mut end = plain_end(text, at);
     'units: loop {
-        end = plain_end(text, end);
         if end == text.len() {
             return None;
         }
@@ -169,7 +180,7 @@ fn far_value_end(text: &[u8], at: usize) -> Option<usize>
         if text.len() - end < 2 {
             return None;
         }
-        end += 2;
+        end = plain_end_after_escape(text, end + 2);
     }
 }
 
