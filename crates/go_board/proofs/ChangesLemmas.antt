@@ -1,12 +1,14 @@
 -- proofs/ChangesLemmas.antt
 -- Changes that lead back from one grid to another.
-use Rattle.std.proofs.Common.{◌≡◌, ℕ, zero, suc, ◌+◌, ◌<◌, ◌≤◌, List, [], ◌∷◌, ◌++◌, length, get_or, set, take, drop, slice_range, refl, sym, ap, ◌∙◌, arith, append_assoc, length-append, length-take}
-use Rattle.std.proofs.lemmas.List.{set-set, set-get_or, take_more, drop_more, set_at, drop-append-le}
+use Rattle.std.proofs.Common.{◌≡◌, ℕ, zero, suc, ◌+◌, ◌-◌, ◌<◌, ◌≤◌, List, [], ◌∷◌, ◌++◌, length, get_or, set, take, drop, slice_range, refl, sym, ap, ◌∙◌, arith, append_assoc, length-append, length-take}
+use Rattle.std.proofs.lemmas.List.{set-set, set-get_or, take_more, drop_more, set_at, drop-append-le, take_at, drop_at}
 use Rattle.std.proofs.lemmas.List.Elements.{All-push}
 use Rattle.go_board.specs.declared.stones.Cell.{Cell}
 use Rattle.go_board.specs.declared.stones.Cell.TheVariants.{Black, Empty}
 use Rattle.go_board.specs.declared.past.changes.Change.{Change}
 use Rattle.go_board.specs.declared.points.Point.{Point}
+use Rattle.go_board.specs.declared.stones.Colour.{Colour}
+use Rattle.go_board.specs.Colour.{stone_of}
 use Rattle.go_board.specs.Point.{index_of}
 use Rattle.go_board.specs.Grid.{Grid, cell_at, with_cell}
 use Rattle.go_board.specs.inner.Changes.{after_changes, painted, with_run, IsRunOn, IsRunOf, LeadsBack}
@@ -18,10 +20,33 @@ with_cell-back g p c =
     ap (λ (cs : List Cell). record { side = g.side; cells = cs })
     (set-set g.cells (index_of g.side p) c (cell_at g p) ∙ set-get_or g.cells (index_of g.side p) Empty)
 
+-- a change of one point
+with_run-one : (g : Grid) (p : Point) (c : Cell) → with_run g (record { point = p; cell = c; more = 0 }) ≡ with_cell g p c
+with_run-one g p c =
+    let same : index_of g.side p + 0 ≡ index_of g.side p = omega arith in
+    ap (λ i. record { side = g.side; cells = set g.cells i c }) same
+
+-- a stone on an empty point taken off again
+pub stone-back : (g h : Grid) (p : Point) (k : Colour) → h ≡ with_cell g p (stone_of k) → cell_at g p ≡ Empty → with_run h (record { point = p; cell = Empty; more = 0 }) ≡ g
+stone-back g h p k is empty =
+    with_run-one h p Empty
+    ∙ ap (λ (x : Grid). with_cell x p Empty) is
+    ∙ ap (λ x. with_cell (with_cell g p (stone_of k)) p x) (sym empty) ∙ with_cell-back g p (stone_of k)
+
 -- the last of the changes comes last
 pub after-push : (g : Grid) (cs : List Change) (c : Change) → after_changes g (cs ++ c ∷ []) ≡ with_run (after_changes g cs) c
 after-push g [] c = refl
 after-push g (x ∷ xs) c = after-push (with_run g x) xs c
+
+-- one change more, and what it leads to
+last-count : (cs : List Change) (c : Change) → length (cs ++ c ∷ []) - 1 ≡ length cs
+last-count cs c = omega (arith, length-append cs (c ∷ []))
+
+pub last-back : (g : Grid) (cs : List Change) (c : Change) → after_changes g (drop (length (cs ++ c ∷ []) - 1) (cs ++ c ∷ [])) ≡ with_run g c
+last-back g cs c = ap (after_changes g) (drop_at cs (c ∷ []) (length (cs ++ c ∷ []) - 1) (sym (last-count cs c)))
+
+pub last-front : (cs : List Change) (c : Change) → take (length (cs ++ c ∷ []) - 1) (cs ++ c ∷ []) ≡ cs
+last-front cs c = take_at cs (c ∷ []) (length (cs ++ c ∷ []) - 1) (sym (last-count cs c))
 
 -- the side stays
 pub after-side : (g : Grid) (cs : List Change) → (after_changes g cs).side ≡ g.side

@@ -1,16 +1,17 @@
 -- proofs/ColouringsLemmas.antt
 -- Past colourings, as what is kept of them tells them.
-use Rattle.std.proofs.Common.{◌≡◌, ◌==◌, ℕ, zero, suc, ◌+◌, ◌-◌, ◌<◌, ◌≤◌, List, [], ◌∷◌, ◌++◌, Some, false, length, get_or, map, take, drop, reverse, slice_range, refl, sym, ap, subst, ◌∙◌, arith, length-take}
+use Rattle.std.proofs.Common.{◌≡◌, ◌==◌, ℕ, zero, suc, ◌+◌, ◌-◌, ◌<◌, ◌≤◌, List, [], ◌∷◌, ◌++◌, Some, false, length, get_or, map, take, drop, reverse, slice_range, refl, sym, ap, subst, ◌∙◌, arith, length-take, length-append, IsTrue}
 use Rattle.std.proofs.lemmas.List.{take_more, drop-drop, take-take, reverse-append}
-use Rattle.std.proofs.lemmas.List.Elements.{All-take}
+use Rattle.std.proofs.lemmas.List.Elements.{All-take, All-push}
 use Rattle.std.proofs.lemmas.Bool.Decides.{nat_tests}
 use Rattle.std.proofs.lemmas.Slice.{between_is}
 use Rattle.go_board.specs.declared.past.changes.Change.{Change}
 use Rattle.go_board.specs.declared.past.changes.Older.{Older}
 use Rattle.go_board.specs.Grid.{Grid}
+use Rattle.go_board.specs.Clearing.{has_unreaching}
 use Rattle.go_board.specs.Past.{Held, newest, present_stretch}
-use Rattle.go_board.specs.inner.Changes.{after_changes, IsRunOn, before, changes_before, held_before, AreKept, AreCounted, IsPast}
-use Rattle.go_board.proofs.ChangesLemmas.{after-side}
+use Rattle.go_board.specs.inner.Changes.{after_changes, with_run, IsRunOn, before, changes_before, held_before, AreKept, AreCounted, IsPast}
+use Rattle.go_board.proofs.ChangesLemmas.{after-side, last-back, last-front}
 
 -- a stretch has no more older colourings than there are
 pub counted-le : (since : ℕ) (os : List Older) → AreCounted since os → since ≤ length os
@@ -53,6 +54,32 @@ past-pop g since older older' o changes parts past =
       counted = counted.1;
       on_grid = rw side (All-take (IsRunOn g.side) (length changes - o.changes) changes past.on_grid);
     }
+
+-- one colouring more, from which one change leads back
+module _ (g h : Grid) (since next : ℕ) (older : List Older) (o : Older) (changes : List Change) (c : Change) (follows : next ≡ since + 1) (back : with_run h c ≡ g) (one : o.changes ≡ 1) (same : o.since ≡ since) where
+  abbrev all : List Change
+  all = changes ++ c ∷ []
+
+  before_is : before h o all ≡ g
+  before_is = ap (λ n. after_changes h (drop (length all - n) all)) one ∙ last-back h changes c ∙ back
+
+  rest_is : changes_before o all ≡ changes
+  rest_is = ap (λ n. take (length all - n) all) one ∙ last-front changes c
+
+  turned : reverse (older ++ o ∷ []) ≡ o ∷ reverse older
+  turned = reverse-append older (o ∷ [])
+
+  pub past-push : IsPast g since older changes → (IsTrue o.settled → has_unreaching g ≡ false) → IsRunOn h.side c → h.side ≡ g.side → IsPast h next (older ++ o ∷ []) all
+  past-push past settled on side = record {
+    kept = rw turned (omega (arith, one, length-append changes (c ∷ [])), λ is. ap has_unreaching before_is ∙ settled is, rw (before_is, rest_is) past.kept);
+    counted = rw turned ((λ _. omega (arith, follows, same)), rw same past.counted);
+    on_grid = All-push (IsRunOn h.side) changes c (rw side past.on_grid) on;
+  }
+
+  pub held-push : all_held h next (reverse (older ++ o ∷ [])) all ≡ record { colouring = h; begins = false } ∷ all_held g since (reverse older) changes
+  held-push =
+      let goes_on : (next == 0) ≡ false = grind (arith, nat_tests) in
+      rw (turned, goes_on, before_is, rest_is, same) refl
 
 -- going back by one colouring
 turned-take : (older : List Older) (i : ℕ) (d : Older) → i < length older → reverse (take (i + 1) older) ≡ get_or older i d ∷ reverse (take i older)

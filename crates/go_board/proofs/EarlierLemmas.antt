@@ -1,10 +1,14 @@
 -- proofs/EarlierLemmas.antt
 -- A referee has as many earlier states as it keeps something of.
-use Rattle.std.proofs.Common.{◌≡◌, suc, List, [], ◌∷◌, length, reverse, refl, ap, ◌∙◌}
+use Rattle.std.proofs.Common.{◌≡◌, ℕ, suc, ◌+◌, true, false, Option, List, [], ◌∷◌, length, reverse, refl, sym, ap, subst, ◌∙◌, arith, IsTrue}
+use Rattle.std.proofs.lemmas.Bool.{false≢true}
 use Rattle.std.proofs.lemmas.List.{length-reverse}
 use Rattle.go_board.specs.declared.referee.earlier.Earlier.{Earlier}
-use Rattle.go_board.specs.Past.{Held}
-use Rattle.go_board.specs.inner.Earlier.{held_before, states_before}
+use Rattle.go_board.specs.declared.stones.Colour.{Colour}
+use Rattle.go_board.specs.Grid.{Grid}
+use Rattle.go_board.specs.Past.{Held, newest_grid, HaveSide}
+use Rattle.go_board.specs.State.{starting}
+use Rattle.go_board.specs.inner.Earlier.{held_before, states_before, IsKept}
 
 length-states_before : (held : List Held) (es : List Earlier) → length (states_before held es) ≡ length es
 length-states_before held [] = refl
@@ -12,3 +16,18 @@ length-states_before held (e ∷ es) = ap suc (length-states_before (held_before
 
 pub length-earlier : (held : List Held) (es : List Earlier) → length (states_before held (reverse es)) ≡ length es
 length-earlier held es = length-states_before held (reverse es) ∙ length-reverse es
+
+-- what a referee keeps once a stone made its past grow
+pub IsKept-stone : (held now : List Held) (made spare : Grid) (InStep : Type 0) (player next : Option Colour) (passes turns : ℕ) (left : Earlier) (es : List Earlier) → now ≡ record { colouring = made; begins = false } ∷ held → made.side ≡ (newest_grid held).side → IsKept held spare InStep player passes turns es → left ≡ record { turns = turns; player = player; passes = passes; grew = true } → IsKept now spare (IsTrue false) next 0 (turns + 1) (left ∷ es)
+IsKept-stone held now made spare InStep player next passes turns left es is side kept left_is =
+    rw (is, left_is)
+    (record {
+      one_side = (refl, subst (λ n. HaveSide n held) (sym side) kept.one_side);
+      enough = omega (arith, kept.enough);
+      spare_side = kept.spare_side ∙ sym side;
+      in_step = λ never. absurd (false≢true never);
+      few_passes = omega arith;
+      few_turns = omega (arith, kept.few_turns);
+      bounded = (kept.few_passes, kept.few_turns, kept.bounded);
+      from_start = kept.from_start ∙ ap starting (sym side);
+    })

@@ -34,3 +34,4 @@ pub mod ChangesLemmas
 pub mod ColouringsLemmas
 pub mod TableLemmas
 pub mod StoneRowsLemmas
+pub mod AloneLemmas

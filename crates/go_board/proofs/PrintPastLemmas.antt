@@ -1,10 +1,13 @@
 -- proofs/PrintPastLemmas.antt
 -- The prints of past colourings.
-use Rattle.std.proofs.Common.{◌≡◌, ◌≢◌, ℕ, zero, suc, ◌-◌, ◌<◌, ◌≤◌, List, [], ◌∷◌, Some, length, get_or, map, take, drop, reverse, Contains, sym, ap, ◌∙◌, arith}
+use Rattle.std.proofs.Common.{◌≡◌, ◌≢◌, ℕ, zero, suc, ◌-◌, ◌<◌, ◌≤◌, false, List, [], ◌∷◌, Option, Some, None, length, get_or, map, take, drop, reverse, Contains, sym, ap, ◌∙◌, arith}
 use Rattle.std.proofs.lemmas.List.{get_or-reverse, length-reverse, length-map}
+use Rattle.std.specs.Option.{is_some}
+use Rattle.std.proofs.lemmas.Bool.{false≢true}
 use Rattle.go_board.specs.Grid.{Grid}
 use Rattle.go_board.specs.Past.{Held, newest, present_stretch}
 use Rattle.go_board.specs.inner.Print.{print_of, prints_of}
+use Rattle.go_board.specs.inner.Table.{IsLastOf}
 
 -- the colouring at a place of the list, newest first
 abbrev pub IsAt : List Held → ℕ → Grid → Type 0
@@ -35,6 +38,11 @@ of-place (suc n) zero (x ∷ xs) g h l at = (zero, omega arith, some_same x.colo
 of-place (suc n) (suc j) (x ∷ xs) g h l at =
     let rest = of-place n j xs g (omega (arith, h)) (omega (arith, l)) at in
     (suc rest.0, omega (arith, rest.1), rest.2)
+
+-- no print of a range is one of which the last wasn't found
+pub none_found : (prints : List ℕ) (print start end : ℕ) (found : Option ℕ) → IsLastOf prints print start end found → is_some found ≡ false → (y : ℕ) → start ≤ y → y < end → get_or prints y 0 ≢ print
+none_found prints print start end None last none = last
+none_found prints print start end (Some x) last none = absurd (false≢true (sym none))
 
 -- that number's colouring, counted from the oldest
 abbrev pub IsNumber : List Held → ℕ → Grid → Type 0

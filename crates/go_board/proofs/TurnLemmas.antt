@@ -19,6 +19,7 @@ use Rattle.go_board.specs.Grid.{Grid, cell_at}
 use Rattle.go_board.specs.Clearing.{play}
 use Rattle.go_board.specs.State.{State, is_over, set_up, turned}
 use Rattle.go_board.specs.Reason.{must_move, is_occupied, is_repeat, same_grid, reason_of, Forbids, IsFirstReason, rank_of}
+use Rattle.go_board.specs.inner.Earlier.{MayOnlyRepeat}
 use Rattle.go_board.proofs.GridLemmas.{Decides-same_cell}
 use Rattle.go_board.proofs.RuleLemmas.{side-clear, false_from_Decides}
 use Rattle.go_board.proofs.AreaLemmas.{side-with_areas}
@@ -64,6 +65,12 @@ side-play g k p = side-clear _ k ∙ side-clear _ (opponent k)
 pub reason_by_past : (s : State) (k : Colour) (p : Point) (b : Bool) (seen : List Grid) (made : Grid) → seen ≡ s.seen → made ≡ play s.colouring k p → is_over s ≡ false → must_move s.player (opponent k) ≡ false → is_occupied s (Stone p) ≡ false → (IsTrue b ↔ Contains seen made) → reason_of s k (Stone p) ≡ cond b (Some Repeat) None
 reason_by_past s k p b seen made same_seen same_made on turn free has =
     reason_of-last s k (Stone p) b on turn free (same_from_decides _ b (Decides-is_repeat s k p) (rw (same_seen, same_made) at has))
+
+-- once it is known that no past colouring is that of the stone, there is no reason
+pub reason_of-new : (s : State) (k : Colour) (p : Point) (seen : List Grid) (made : Grid) → seen ≡ s.seen → made ≡ play s.colouring k p → MayOnlyRepeat s k (Stone p) → (Contains seen made → ⊥) → reason_of s k (Stone p) ≡ None
+reason_of-new s k p seen made same_seen same_made left never =
+    reason_by_past s k p false seen made same_seen same_made left.0 left.1 left.2
+    (λ t. absurd (false≢true t), λ has. absurd (never has))
 
 -- The law of reasons: for any facts that four tests decide, the first test that passes names the first fact that holds.
 

@@ -1,7 +1,7 @@
 -- specs/Past.antt
 -- The past colourings of a game, newest first, each with a mark where it begins a stretch.
-use Rattle.std.specs.Prelude.{◌≡◌, ℕ, Bool, Option, Some, None, List, [], ◌∷◌, if◌then◌else◌}
-use Rattle.go_board.specs.Grid.{Grid}
+use Rattle.std.specs.Prelude.{◌≡◌, ℕ, Bool, Option, Some, None, List, [], ◌∷◌, if◌then◌else◌, unwrap_or}
+use Rattle.go_board.specs.Grid.{Grid, empty_grid}
 
 -- a past colouring, and whether it begins a stretch
 pub record Held : Type 0 where
@@ -12,6 +12,10 @@ pub record Held : Type 0 where
 abbrev pub newest : List Held → Option Grid
 newest [] = None
 newest (h ∷ hs) = Some h.colouring
+
+-- the same, where there is one
+abbrev pub newest_grid : List Held → Grid
+newest_grid held = unwrap_or (newest held) (empty_grid 0)
 
 -- the colourings of the present stretch: the newest one that begins a stretch, and all after it
 abbrev pub present_stretch : List Held → List Grid

@@ -1,5 +1,6 @@
 //! The board: reading and setting points, moves and the score (Tromp-Taylor).
 
+mod alone;
 mod areas;
 mod capture;
 mod fill;
@@ -216,6 +217,14 @@ impl Board {
         } else {
             print_of(self.cells())
         }
+    }
+
+    /// The print of the colouring with one point coloured anew.
+    pub(crate) fn print_after(&self, point: Point, cell: Cell) -> u64
+        requires { IsOn self.now.side point }
+        ensures { result ≡ print_of (with_cell self.now point cell).cells }
+    {
+        print_with(self.print(), self.cells(), point.index(self.size), cell)
     }
 
     /// Works out what a move asks of the board, to be kept from then on: the rows of the stones, whether every stone reaches

@@ -10,13 +10,18 @@ mod table;
 #[cfg(test)]
 mod tests;
 
-ghost use Rattle.std.specs.Prelude.{◌≡◌, ◌≤◌, ◌↔◌, [], ◌∷◌, true, false, List, Some, length, drop, IsTrue, IfOk, OnOk, OnErr, Contains};
-ghost use Rattle.go_board.specs.Grid.{empty_grid};
-ghost use Rattle.go_board.specs.Past.{Held, newest, present_stretch, HaveSide};
+ghost use Rattle.std.specs.Prelude.{◌≡◌, ◌≤◌, ◌↔◌, [], ◌∷◌, true, false, List, Some, length, drop, IsTrue, IfOk, OnOk, OnErr, Contains, if◌then◌else◌};
+ghost use Rattle.go_board.specs.declared.stones.Cell.TheVariants.{Empty};
+ghost use Rattle.go_board.specs.Point.{IsOn};
+ghost use Rattle.go_board.specs.Grid.{cell_at, empty_grid};
+ghost use Rattle.go_board.specs.Clearing.{play};
+ghost use Rattle.go_board.specs.Past.{Held, newest, newest_grid, present_stretch, HaveSide};
 
 use crate::board::Board;
 use crate::fault::MemoryFault;
+use crate::points::Point;
 use crate::size::Size;
+use crate::stones::Colour;
 pub use list_past::ListPast;
 pub use print_past::PrintPast;
 use std::alloc::Global;
@@ -55,6 +60,25 @@ pub trait Past: Drop {
         ensures ok { OnOk result (held self.new
             ≡ record { colouring = board.now; begins = true } ∷ held self.old) }
         ensures err { OnErr result (held self.new ≡ held self.old) };
+
+    /// Tries a stone on an empty point of the newest colouring: where it is quickly told that it captures nothing and that
+    /// the present stretch hasn't the colouring that it makes, that colouring is added to the stretch. Tells whether it
+    /// was. If not, nothing is changed, and nothing is known of the stone. Memory is asked for only once it is told.
+    fn try_stone(&mut self, colour: Colour, point: Point) -> Result<bool, MemoryFault>
+        requires on_board { IsOn (newest_grid (held self.old)).side point }
+        requires empty { cell_at (newest_grid (held self.old)) point ≡ Empty }
+        ensures new { IfOk result (λ taken. IsTrue taken
+            → ¬ Contains (present_stretch (held self.old)) (play (newest_grid (held self.old)) colour point)) }
+        ensures ok { IfOk result (λ taken. held self.new ≡ (if taken then
+            record { colouring = play (newest_grid (held self.old)) colour point; begins = false } ∷ held self.old
+            else held self.old)) }
+        ensures refused { OnErr result
+            (¬ Contains (present_stretch (held self.old)) (play (newest_grid (held self.old)) colour point)) }
+        ensures err { OnErr result (held self.new ≡ held self.old) }
+    {
+        let _ = (colour, point);
+        Ok(false)
+    }
 
     /// Takes the newest colouring back, with its mark. The caller knows that there are two or more.
     fn pop(&mut self)

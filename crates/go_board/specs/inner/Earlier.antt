@@ -1,18 +1,14 @@
 -- specs/inner/Earlier.antt
 -- A referee's states, from a past and from what it keeps of each earlier state besides.
-use Rattle.std.specs.Prelude.{◌≡◌, ℕ, ◌+◌, ◌≤◌, ◌<◌, Option, List, [], ◌∷◌, if◌then◌else◌, unwrap_or, length, reverse, drop, false}
+use Rattle.std.specs.Prelude.{◌≡◌, ℕ, ◌+◌, ◌≤◌, ◌<◌, Option, List, [], ◌∷◌, if◌then◌else◌, length, reverse, drop, false}
 use Rattle.go_board.specs.declared.stones.Colour.{Colour}
 use Rattle.go_board.specs.declared.referee.plays.Play.{Play}
 use Rattle.go_board.specs.declared.referee.earlier.Earlier.{Earlier}
 use Rattle.go_board.specs.Colour.{opponent}
-use Rattle.go_board.specs.Grid.{Grid, empty_grid}
-use Rattle.go_board.specs.Past.{Held, newest, present_stretch, HaveSide}
+use Rattle.go_board.specs.Grid.{Grid}
+use Rattle.go_board.specs.Past.{Held, newest_grid, present_stretch, HaveSide}
 use Rattle.go_board.specs.State.{State, States, starting, oldest_of, is_over}
 use Rattle.go_board.specs.Reason.{must_move, is_occupied}
-
--- the newest of the past colourings, of which there is one
-abbrev pub newest_grid : List Held → Grid
-newest_grid held = unwrap_or (newest held) (empty_grid 0)
 
 -- the state with that past
 abbrev pub state_of : List Held → Option Colour → ℕ → ℕ → State

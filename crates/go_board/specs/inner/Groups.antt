@@ -4,7 +4,7 @@ use Rattle.std.specs.Prelude.{◌≡◌, ◌≢◌, ◌⊎◌, Bool, false, ◌|
 use Rattle.go_board.specs.declared.stones.Cell.TheVariants.{Empty}
 use Rattle.go_board.specs.declared.stones.Colour.{Colour}
 use Rattle.go_board.specs.declared.points.Point.{Point}
-use Rattle.go_board.specs.Colour.{stone_of, same_cell}
+use Rattle.go_board.specs.Colour.{opponent, stone_of, same_cell}
 use Rattle.go_board.specs.Point.{IsOn, AreAdjacent}
 use Rattle.go_board.specs.Grid.{Grid, cell_at, with_cell}
 use Rattle.go_board.specs.Reaching.{Reaches, reaches}
@@ -47,9 +47,18 @@ emptied g (p ∷ ps) = emptied (with_cell g p Empty) ps
 abbrev pub ReachesIfStone : Grid → Colour → Point → Type 0
 ReachesIfStone g k p = cell_at g p ≡ stone_of k → Reaches g Empty p
 
+-- there is a point with a stone of the colour that reaches empty
+abbrev pub LivesAt : Grid → Colour → Option Point → Type 0
+LivesAt g k None = ⊥
+LivesAt g k (Some q) = (cell_at g q ≡ stone_of k) × Reaches g Empty q
+
 -- the stones of a colour beside p reach empty
 abbrev pub ReachBeside : Grid → Colour → Point → Type 0
 ReachBeside g k p = (q : Point) → IsOn g.side q → AreAdjacent p q → ReachesIfStone g k q
+
+-- once a stone of a colour is on p, it reaches empty, and so do the opponent's stones beside it: then nothing is captured
+abbrev pub AllLive : Grid → Colour → Point → Type 0
+AllLive g k p = ReachesIfStone g k p × ReachBeside g (opponent k) p
 
 -- h is g without some stones of a colour: what reached empty still does, and clearing the colour gives the same grid
 pub record LosesDead (g h : Grid) (k : Colour) : Type 0 where

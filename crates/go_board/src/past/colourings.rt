@@ -1,13 +1,19 @@
 //! Past colourings, of which the newest is kept whole, and of each older one the changes that lead back to it.
 
-ghost use Rattle.std.specs.Prelude.{◌≡◌, ◌+◌, ◌-◌, ◌<◌, ◌≤◌, ◌↔◌, [], ◌∷◌, Some, true, IsTrue, IfOk, OnOk, OnErr, if◌then◌else◌, length, map, take, drop};
-ghost use Rattle.go_board.specs.Grid.{empty_grid};
-ghost use Rattle.go_board.specs.Past.{Held, newest, present_stretch, HaveSide};
+ghost use Rattle.std.specs.Prelude.{◌≡◌, ◌+◌, ◌-◌, ◌<◌, ◌≤◌, ◌↔◌, [], ◌∷◌, Some, true, false, IsTrue, IfOk, OnOk, OnErr, if◌then◌else◌, length, map, take, drop};
+ghost use Rattle.go_board.specs.declared.stones.Cell.TheVariants.{Empty};
+ghost use Rattle.go_board.specs.Colour.{stone_of};
+ghost use Rattle.go_board.specs.Point.{IsOn};
+ghost use Rattle.go_board.specs.Grid.{cell_at, with_cell, empty_grid};
+ghost use Rattle.go_board.specs.Clearing.{play};
+ghost use Rattle.go_board.specs.Past.{Held, newest, newest_grid, present_stretch, HaveSide};
 
 use crate::board::Board;
 use crate::fault::MemoryFault;
 use crate::past::changes::{Change, Older, follow, take_back};
+use crate::points::Point;
 use crate::size::Size;
+use crate::stones::{Cell, Colour};
 use std::alloc::Global;
 use std::marker::Model;
 
@@ -109,6 +115,39 @@ impl Colourings {
             changes,
             settled,
         };
+        self.older.push(kept).unwrap();
+        self.since = since;
+        Ok(())
+    }
+
+    /// Adds the colouring that a stone makes which captures nothing. It goes on in the present stretch. After a refusal
+    /// nothing is changed; it is refused memory as by `add`.
+    pub(crate) fn add_stone(&mut self, colour: Colour, point: Point) -> Result<(), MemoryFault>
+        requires on_board { IsOn (newest_grid self.old).side point }
+        requires empty { cell_at (newest_grid self.old) point ≡ Empty }
+        requires alone { play (newest_grid self.old) colour point
+            ≡ with_cell (newest_grid self.old) point (stone_of colour) }
+        ensures ok { OnOk result (self.new ≡ record {
+          colouring = with_cell (newest_grid self.old) point (stone_of colour);
+          begins = false;
+        } ∷ self.old) }
+        ensures err { OnErr result (self.new ≡ self.old) }
+    {
+        let since = next_since(self.since, false)?;
+        self.older.reserve(1)?;
+        self.changes.reserve(1)?;
+        let kept = Older {
+            since: self.since,
+            changes: 1,
+            settled: self.newest.is_settled(),
+        };
+        self.newest.place_alone(colour, point);
+        let change = Change {
+            point,
+            cell: Cell::Empty,
+            more: 0,
+        };
+        self.changes.push(change).unwrap();
         self.older.push(kept).unwrap();
         self.since = since;
         Ok(())

@@ -8,7 +8,9 @@ use crate::fault::MemoryFault;
 use crate::past::Past;
 use crate::past::colourings::Colourings;
 use crate::past::table::Table;
+use crate::points::Point;
 use crate::size::Size;
+use crate::stones::Colour;
 use std::alloc::Global;
 use std::marker::Model;
 
@@ -74,6 +76,23 @@ impl Past for PrintPast {
         self.add(board, true)
     }
 
+    fn try_stone(&mut self, colour: Colour, point: Point) -> Result<bool, MemoryFault> {
+        let newest = self.colourings.newest();
+        if !newest.captures_nothing(colour, point) {
+            return Ok(false);
+        }
+        let print = newest.print_after(point, colour.stone());
+        if self.has_print(print) {
+            return Ok(false);
+        }
+        self.prints.push(print)?;
+        if self.colourings.add_stone(colour, point).is_err() {
+            self.prints.pop();
+            return Err(MemoryFault);
+        }
+        Ok(true)
+    }
+
     fn pop(&mut self) {
         self.colourings.pop();
         let _ = self.prints.pop();
@@ -87,8 +106,21 @@ impl Past for PrintPast {
 }
 
 impl PrintPast {
-    ghost use Rattle.std.specs.Prelude.{◌≡◌, ◌∷◌, OnOk, OnErr};
+    ghost use Rattle.std.specs.Prelude.{◌≡◌, ◌∷◌, IsFalse, OnOk, OnErr};
+    ghost use Rattle.go_board.specs.Grid.{Grid};
     ghost use Rattle.go_board.specs.Past.{HaveSide};
+    ghost use Rattle.go_board.specs.inner.Print.{print_of};
+
+    /// Whether a colouring of the present stretch has that print.
+    fn has_print(&self, print: u64) -> bool
+        ensures { (g : Grid) → IsFalse result → print ≡ print_of g.cells
+            → ¬ Contains (present_stretch self.now) g }
+    {
+        let start = self.colourings.stretch_start();
+        self.prints
+            .last_between(print, start, self.prints.len())
+            .is_some()
+    }
 
     /// Adds a colouring, which begins a stretch or goes on in the present one.
     fn add(&mut self, board: &Board, begins: bool) -> Result<(), MemoryFault>

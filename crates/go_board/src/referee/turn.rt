@@ -74,9 +74,35 @@ impl<P: Past> Referee<P> {
         Ok(())
     }
 
+    /// Takes the turn of a stone, unless it repeats a colouring. Tells whether the turn was taken.
+    fn take_stone(&mut self, colour: Colour, point: Point) -> Result<bool, MemoryFault>
+        requires on_board { IsOn self.old.present.colouring.side point }
+        requires left { MayOnlyRepeat self.old.present colour (Stone point) }
+        ensures known { IfOk result (λ taken. reason_of self.old.present colour (Stone point)
+            ≡ (if taken then None else Some Repeat)) }
+        ensures allowed { OnErr result (reason_of self.old.present colour (Stone point) ≡ None) }
+        ensures ok { IfOk result (λ taken. self.new
+            ≡ (if taken then followed_by self.old (turned self.old.present colour (Stone point)) else self.old)) }
+        ensures err { OnErr result (self.new ≡ self.old) }
+    {
+        let left = self.present_kept(true);
+        if !self.past.try_stone(colour, point)? {
+            return self.take_by_spare(colour, point);
+        }
+        if self.earlier.push(left).is_err() {
+            self.past.pop();
+            return Err(MemoryFault);
+        }
+        self.in_step = false;
+        self.player = Some(colour.opponent());
+        self.passes = 0;
+        self.turns += 1;
+        Ok(true)
+    }
+
     /// Takes the turn of a stone, which is tried on the spare board, unless it repeats a colouring. Tells whether the
     /// turn was taken.
-    fn take_stone(&mut self, colour: Colour, point: Point) -> Result<bool, MemoryFault>
+    fn take_by_spare(&mut self, colour: Colour, point: Point) -> Result<bool, MemoryFault>
         requires on_board { IsOn self.old.present.colouring.side point }
         requires left { MayOnlyRepeat self.old.present colour (Stone point) }
         ensures known { IfOk result (λ taken. reason_of self.old.present colour (Stone point)

@@ -1,50 +1,47 @@
 -- proofs/referee/Referee/take_stone/Answers.antt
-use Rattle.std.proofs.Common.{◌≡◌, Some, None, Option, cond, unwrap_or, ap, sym, ◌∙◌}
-use Rattle.go_board.specs.declared.reason.Reason.TheVariants.{Repeat}
+use Rattle.std.proofs.Common.{◌≡◌, ◌++◌, [], ◌∷◌, true, false, Some, IsTrue, reverse, ap, sym, ◌∙◌, rules}
+use Rattle.std.proofs.lemmas.List.{reverse-append}
 use Rattle.go_board.specs.Clearing.{play}
-use Rattle.go_board.specs.Grid.{Grid, empty_grid}
+use Rattle.go_board.specs.Past.{newest_grid}
 use Rattle.go_board.specs.State.{States}
-use Rattle.go_board.proofs.TurnLemmas.{reason_by_past, on_err}
+use Rattle.go_board.proofs.EarlierLemmas.{IsKept-stone}
+use Rattle.go_board.proofs.SettledLemmas.{side_play}
+use Rattle.go_board.proofs.TurnLemmas.{reason_of-new, on_err}
 use Rattle.go_board.proofs.referee.Referee.take_stone.Goals as goal
 
-pub returns-then-holds-clause-known : goal.returns-then-holds-clause-known
-returns-then-holds-clause-known g c =
-    let s = c.args.self.now.present in
-    let k = c.args.colour in
-    let p = c.args.point in
-    let newest_is = sym (ap (λ (o : Option Grid). unwrap_or o (empty_grid 0)) c.newest.ensures) ∙ ap (λ (states : States). states.present.colouring) c.self.view_is in
-    let made : c.place.new.self ≡ play s.colouring k p = c.place.ensures.value ∙ ap (λ (h : Grid). play h k p) (c.bring_in_step.ensures ∙ newest_is) in
-    reason_by_past s k p c.holds.result _ _ (ap (λ (states : States). states.present.seen) c.self.view_is) made c.requires.left.0 c.requires.left.1 c.requires.left.2 c.holds.ensures
-    ∙ ap (λ b. cond b (Some Repeat) None) c.if-holds.true
-
-pub returns-in_err-reserve-clause-allowed : goal.returns-in_err-reserve-clause-allowed
-returns-in_err-reserve-clause-allowed g c =
-    let s = c.args.self.now.present in
-    let k = c.args.colour in
-    let p = c.args.point in
-    let newest_is = sym (ap (λ (o : Option Grid). unwrap_or o (empty_grid 0)) c.newest.ensures) ∙ ap (λ (states : States). states.present.colouring) c.self.view_is in
-    let made : c.place.new.self ≡ play s.colouring k p = c.place.ensures.value ∙ ap (λ (h : Grid). play h k p) (c.bring_in_step.ensures ∙ newest_is) in
+pub returns-in_err-try_stone-clause-allowed : goal.returns-in_err-try_stone-clause-allowed
+returns-in_err-try_stone-clause-allowed g c =
     on_err c.from_residual.result _
-    (reason_by_past s k p c.holds.result _ _ (ap (λ (states : States). states.present.seen) c.self.view_is) made c.requires.left.0 c.requires.left.1 c.requires.left.2 c.holds.ensures
-    ∙ ap (λ b. cond b (Some Repeat) None) c.if-holds.false)
+    (reason_of-new c.args.self.now.present c.args.colour c.args.point _ _ (ap (λ (states : States). states.present.seen) c.self.view_is)
+    (ap (λ (states : States). play states.present.colouring c.args.colour c.args.point) c.self.view_is) c.requires.left c.in_err-try_stone.ensures.refused)
 
-pub returns-in_err-push-clause-allowed : goal.returns-in_err-push-clause-allowed
-returns-in_err-push-clause-allowed g c =
-    let s = c.args.self.now.present in
-    let k = c.args.colour in
-    let p = c.args.point in
-    let newest_is = sym (ap (λ (o : Option Grid). unwrap_or o (empty_grid 0)) c.newest.ensures) ∙ ap (λ (states : States). states.present.colouring) c.self.view_is in
-    let made : c.place.new.self ≡ play s.colouring k p = c.place.ensures.value ∙ ap (λ (h : Grid). play h k p) (c.bring_in_step.ensures ∙ newest_is) in
-    on_err c.from_residual-in_err-push.result _
-    (reason_by_past s k p c.holds.result _ _ (ap (λ (states : States). states.present.seen) c.self.view_is) made c.requires.left.0 c.requires.left.1 c.requires.left.2 c.holds.ensures
-    ∙ ap (λ b. cond b (Some Repeat) None) c.if-holds.false)
+pub returns-then-is_err-clause-allowed : goal.returns-then-is_err-clause-allowed
+returns-then-is_err-clause-allowed g c =
+    reason_of-new c.args.self.now.present c.args.colour c.args.point _ _ (ap (λ (states : States). states.present.seen) c.self.view_is)
+    (ap (λ (states : States). play states.present.colouring c.args.colour c.args.point) c.self.view_is) c.requires.left
+    (c.in_ok-try_stone.ensures.new c.if-not-branch.false)
 
 pub returns-clause-known : goal.returns-clause-known
 returns-clause-known g c =
-    let s = c.args.self.now.present in
-    let k = c.args.colour in
-    let p = c.args.point in
-    let newest_is = sym (ap (λ (o : Option Grid). unwrap_or o (empty_grid 0)) c.newest.ensures) ∙ ap (λ (states : States). states.present.colouring) c.self.view_is in
-    let made : c.place.new.self ≡ play s.colouring k p = c.place.ensures.value ∙ ap (λ (h : Grid). play h k p) (c.bring_in_step.ensures ∙ newest_is) in
-    reason_by_past s k p c.holds.result _ _ (ap (λ (states : States). states.present.seen) c.self.view_is) made c.requires.left.0 c.requires.left.1 c.requires.left.2 c.holds.ensures
-    ∙ ap (λ b. cond b (Some Repeat) None) c.if-holds.false
+    reason_of-new c.args.self.now.present c.args.colour c.args.point _ _ (ap (λ (states : States). states.present.seen) c.self.view_is)
+    (ap (λ (states : States). play states.present.colouring c.args.colour c.args.point) c.self.view_is) c.requires.left
+    (c.in_ok-try_stone.ensures.new c.if-not-branch.false)
+
+pub invariant_of-self-2 : goal.invariant_of-self-2
+invariant_of-self-2 g c =
+    let was = c.self.inside in
+    let left = c.present_kept-left in
+    let held = g.P.Past.held was.past in
+    let made = play (newest_grid held) c.args.colour c.args.point in
+    let now : g.P.Past.held c.try_stone.new.self ≡ record { colouring = made; begins = false } ∷ held = rw c.if-not-branch.false at c.in_ok-try_stone.ensures.ok in
+    let turns : left.result.turns ≡ was.turns = left.ensures.turns ∙ sym (ap (λ (states : States). states.present.turns) c.self.view_is) in
+    let player : left.result.player ≡ was.player = left.ensures.player ∙ sym (ap (λ (states : States). states.present.player) c.self.view_is) in
+    let passes : left.result.passes ≡ was.passes = left.ensures.passes ∙ sym (ap (λ (states : States). states.present.passes) c.self.view_is) in
+    let is : left.result ≡ record { turns = was.turns; player = was.player; passes = was.passes; grew = true } =
+    ap (λ n. record { turns = n; player = left.result.player; passes = left.result.passes; grew = left.result.grew }) turns
+    ∙ ap (λ p. record { turns = was.turns; player = p; passes = left.result.passes; grew = left.result.grew }) player
+    ∙ ap (λ n. record { turns = was.turns; player = was.player; passes = n; grew = left.result.grew }) passes
+    ∙ ap (λ b. record { turns = was.turns; player = was.player; passes = was.passes; grew = b }) left.ensures.grew in
+    let items : c.push.new.self.items ≡ was.earlier.items ++ left.result ∷ [] = search rules in
+    let earlier : reverse c.push.new.self.items ≡ left.result ∷ reverse was.earlier.items = ap reverse items ∙ reverse-append was.earlier.items (left.result ∷ []) in
+    rw earlier (IsKept-stone held (g.P.Past.held c.try_stone.new.self) made was.spare (IsTrue was.in_step) was.player (Some c.opponent.result) was.passes was.turns left.result (reverse was.earlier.items) now (side_play (newest_grid held) c.args.colour c.args.point) c.self.invariant is)
