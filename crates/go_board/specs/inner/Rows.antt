@@ -1,6 +1,6 @@
 -- specs/inner/Rows.antt
 -- A set of points as a number for each row, with a bit for each column.
-use Rattle.std.specs.Prelude.{◌≡◌, ℕ, zero, suc, ◌-◌, ◌^◌, Bool, true, false, ◌==◌, IsTrue, List, slice_index, sum_by}
+use Rattle.std.specs.Prelude.{◌≡◌, ℕ, zero, suc, ◌-◌, ◌+◌, ◌^◌, ◌<◌, ◌≤◌, Bool, ◌==◌, IsTrue, List, length, slice_index, sum_by}
 use Rattle.std.specs.Int.{bit_at}
 use Rattle.go_board.specs.declared.points.Point.{Point}
 use Rattle.go_board.specs.Point.{DifferByOne, AreAdjacent}
@@ -29,9 +29,26 @@ abbrev pub HasBeside : (ℕ → Bool) → (ℕ → Bool) → Type 0
 HasBeside room set =
     (col beside : ℕ) → DifferByOne col beside → IsTrue (room col) → IsTrue (set beside) → IsTrue (set col)
 
--- a row of the set has with a column each column beside it that there is room for
-abbrev pub IsWide : List ℕ → List ℕ → ℕ → Type 0
-IsWide room rows row = HasBeside (has_bit (slice_index room row)) (has_bit (slice_index rows row))
+-- a row has those columns of a word that there is room for
+abbrev pub IsTaken : List ℕ → List ℕ → ℕ → ℕ → Type 0
+IsTaken room rows row word =
+    (col : ℕ) → IsTrue (has_bit (slice_index room row) col) → IsTrue (has_bit word col)
+    → IsTrue (has_bit (slice_index rows row) col)
+
+-- each row of the set has with a column each column beside it that there is room for
+abbrev pub AreWide : List ℕ → List ℕ → Type 0
+AreWide room rows =
+    (row : ℕ) → row < length rows → HasBeside (has_bit (slice_index room row)) (has_bit (slice_index rows row))
+
+-- each of the first n rows has the columns of the row above it that there is room for
+abbrev pub TakeAbove : List ℕ → List ℕ → ℕ → Type 0
+TakeAbove room rows n =
+    (row : ℕ) → row < n → IsTaken room rows row (row_above rows row)
+
+-- each row from the one on has the columns of the row below it that there is room for
+abbrev pub TakeBelow : List ℕ → List ℕ → ℕ → Type 0
+TakeBelow room rows start =
+    (row : ℕ) → start ≤ row → row < length rows → IsTaken room rows row (slice_index rows (row + 1))
 
 -- Sets of points.
 
@@ -58,8 +75,3 @@ pub record Grows (room old new : Point → Bool) : Type 0 where
 -- what the words lack to be full: less, the more bits are set
 abbrev pub lacking : List ℕ → ℕ
 lacking rows = sum_by (λ word. 2 ^ 64 - word) rows
-
--- the row that a pass over n rows comes to at a step, downwards or upwards
-abbrev pub row_at : Bool → ℕ → ℕ → ℕ
-row_at true n step = n - 1 - step
-row_at false n step = step

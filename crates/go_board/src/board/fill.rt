@@ -1,7 +1,7 @@
 //! Filling sets of points: a word for each row, with a bit for each column.
 
-ghost use Rattle.std.specs.Prelude.{◌≡◌, ◌≢◌, ℕ, ◌+◌, ◌<◌, Bool, IsTrue, IsFalse, length, slice_index};
-ghost use Rattle.go_board.specs.inner.Rows.{has_bit, is_set, row_above, IsPart, HasBeside, IsWide, IsAmong, IsClosed, IsRowClosed, Grows, lacking, row_at};
+ghost use Rattle.std.specs.Prelude.{◌≡◌, ◌≢◌, ℕ, ◌+◌, ◌<◌, Bool, IsTrue, IsFalse, length, slice_index, bit_or};
+ghost use Rattle.go_board.specs.inner.Rows.{has_bit, is_set, row_above, IsPart, HasBeside, AreWide, IsTaken, TakeAbove, TakeBelow, IsAmong, IsClosed, IsRowClosed, Grows, lacking};
 
 /// Widens a set of columns by those beside it that there is room for, until none is left.
 fn widened(seed: u64, room: u64) -> u64
@@ -13,13 +13,14 @@ fn widened(seed: u64, room: u64) -> u64
         → IsPart (has_bit result) set }
 {
     let mut word = seed;
-    'widen: loop {
+    'widen: while word != room {
         let wider = (word | word << 1 | word >> 1) & room;
         if wider == word {
             return word;
         }
         word = wider;
     }
+    room
 }
 
 /// The row above one, empty above the first.
@@ -42,83 +43,92 @@ fn below(rows: &[u64], row: usize) -> u64
     }
 }
 
-/// Adds the points of a row that there is room for beside points of the set. Tells whether there were any.
-fn grow_row(rows: &mut [u64], room: &[u64], row: usize) -> bool
+/// Adds the points of a row that there is room for beside points of the set.
+fn grow_row(rows: &mut [u64], room: &[u64], row: usize)
     requires same { length rows.old ≡ length room.now }
     requires row { row < length rows.old }
     requires within { IsAmong (is_set rows.old) (is_set room.now) }
     ensures grows { Grows (is_set room.now) (is_set rows.old) (is_set rows.new) }
     ensures closed { IsRowClosed (is_set room.now) (is_set rows.new) row }
+    ensures others { (other : ℕ) → other ≢ row → slice_index rows.new other ≡ slice_index rows.old other }
+{
+    let beside = above(rows, row) | below(rows, row);
+    rows[row] = widened((rows[row] | beside) & room[row], room[row]);
+}
+
+/// Grows each row once, from the first to the last: then each is as wide as it can be, and takes what stands above it.
+fn grow_each(rows: &mut [u64], room: &[u64])
+    requires same { length rows.old ≡ length room.now }
+    requires within { IsAmong (is_set rows.old) (is_set room.now) }
+    ensures grows { Grows (is_set room.now) (is_set rows.old) (is_set rows.new) }
+    ensures wide { AreWide room.now rows.new }
+    ensures taken { TakeAbove room.now rows.new (length rows.new) }
+{
+    'rows: for row in 0..rows.len() {
+        grow_row(rows, room, row);
+    }
+}
+
+/// Adds to a row, which is as wide as it can be, what there is room for beside the columns of a row above or below it.
+/// Tells whether there was anything.
+fn take(rows: &mut [u64], room: &[u64], row: usize, beside: u64) -> bool
+    requires same { length rows.old ≡ length room.now }
+    requires row { row < length rows.old }
+    requires within { IsAmong (is_set rows.old) (is_set room.now) }
+    requires wide { AreWide room.now rows.old }
+    requires beside { IsPart (has_bit beside) (has_bit (bit_or (row_above rows.old row) (slice_index rows.old (row + 1)))) }
+    ensures grows { Grows (is_set room.now) (is_set rows.old) (is_set rows.new) }
+    ensures wide { AreWide room.now rows.new }
+    ensures taken { IsTaken room.now rows.new row beside }
     ensures others { (other : ℕ) → other ≢ row → slice_index rows.new other ≡ slice_index rows.old other }
     ensures unchanged { IsFalse result → rows.new ≡ rows.old }
     ensures fuller { IsTrue result → lacking rows.new < lacking rows.old }
 {
     let old = rows[row];
-    let beside = above(rows, row) | below(rows, row);
-    let grown = widened((old | beside) & room[row], room[row]);
-    if grown == old {
+    let seed = (old | beside) & room[row];
+    if seed == old {
         return false;
     }
-    rows[row] = grown;
+    rows[row] = widened(seed, room[row]);
     true
 }
 
-/// The same for a row that is as wide as it can be: it is left alone where the rows beside it add nothing.
-fn grow_wide_row(rows: &mut [u64], room: &[u64], row: usize) -> bool
+/// Lets each row take what stands above it, from the first to the last. Tells whether any grew.
+fn take_down(rows: &mut [u64], room: &[u64]) -> bool
     requires same { length rows.old ≡ length room.now }
-    requires row { row < length rows.old }
     requires within { IsAmong (is_set rows.old) (is_set room.now) }
-    requires wide { IsWide room.now rows.old row }
+    requires wide { AreWide room.now rows.old }
     ensures grows { Grows (is_set room.now) (is_set rows.old) (is_set rows.new) }
-    ensures closed { IsRowClosed (is_set room.now) (is_set rows.new) row }
-    ensures others { (other : ℕ) → other ≢ row → slice_index rows.new other ≡ slice_index rows.old other }
+    ensures wide { AreWide room.now rows.new }
+    ensures taken { TakeAbove room.now rows.new (length rows.new) }
     ensures unchanged { IsFalse result → rows.new ≡ rows.old }
     ensures fuller { IsTrue result → lacking rows.new < lacking rows.old }
 {
-    let beside = above(rows, row) | below(rows, row);
-    if (beside & room[row]) & !rows[row] == 0 {
-        return false;
-    }
-    grow_row(rows, room, row)
-}
-
-/// Grows each row once, from the first to the last: then each is as wide as it can be.
-fn grow_each(rows: &mut [u64], room: &[u64])
-    requires same { length rows.old ≡ length room.now }
-    requires within { IsAmong (is_set rows.old) (is_set room.now) }
-    ensures grows { Grows (is_set room.now) (is_set rows.old) (is_set rows.new) }
-    ensures wide { (row : ℕ) → row < length rows.new → IsWide room.now rows.new row }
-{
+    let mut grew = false;
+    let mut above = 0;
     'rows: for row in 0..rows.len() {
-        let _ = grow_row(rows, room, row);
+        grew |= take(rows, room, row, above);
+        above = rows[row];
     }
+    grew
 }
 
-/// The row that a pass comes to at a step.
-fn row_at(upwards: bool, count: usize, step: usize) -> usize
-    requires { step < count }
-    ensures value { result ≡ row_at upwards count step }
-    ensures within { result < count }
-{
-    if upwards { count - 1 - step } else { step }
-}
-
-/// Grows each row once, from the first to the last or from the last to the first, where each is as wide as it can be.
-/// Tells whether any grew.
-fn grow_all(rows: &mut [u64], room: &[u64], upwards: bool) -> bool
+/// Lets each row take what stands below it, from the last to the first. Tells whether any grew.
+fn take_up(rows: &mut [u64], room: &[u64]) -> bool
     requires same { length rows.old ≡ length room.now }
     requires within { IsAmong (is_set rows.old) (is_set room.now) }
-    requires wide { (row : ℕ) → row < length rows.old → IsWide room.now rows.old row }
+    requires wide { AreWide room.now rows.old }
     ensures grows { Grows (is_set room.now) (is_set rows.old) (is_set rows.new) }
-    ensures wide { (row : ℕ) → row < length rows.new → IsWide room.now rows.new row }
-    ensures closed { IsFalse result → IsClosed (is_set room.now) (is_set rows.new) }
+    ensures wide { AreWide room.now rows.new }
+    ensures taken { TakeBelow room.now rows.new 0 }
+    ensures unchanged { IsFalse result → rows.new ≡ rows.old }
     ensures fuller { IsTrue result → lacking rows.new < lacking rows.old }
 {
-    let count = rows.len();
     let mut grew = false;
-    'steps: for step in 0..count {
-        let row = row_at(upwards, count, step);
-        grew |= grow_wide_row(rows, room, row);
+    let mut below = 0;
+    'rows: for row in (0..rows.len()).rev() {
+        grew |= take(rows, room, row, below);
+        below = rows[row];
     }
     grew
 }
@@ -131,8 +141,12 @@ pub(crate) fn fill(rows: &mut [u64], room: &[u64])
     ensures closed { IsClosed (is_set room.now) (is_set rows.new) }
 {
     grow_each(rows, room);
-    let mut upwards = true;
-    'passes: while grow_all(rows, room, upwards) {
-        upwards = !upwards;
+    'passes: loop {
+        if !take_up(rows, room) {
+            return;
+        }
+        if !take_down(rows, room) {
+            return;
+        }
     }
 }

@@ -1,6 +1,5 @@
 -- proofs/board/fill/grow_each/Answers.antt
-use Rattle.std.proofs.Common.{◌+◌, arith}
-use Rattle.go_board.proofs.GrowLemmas.{Grows-twice, wide_still}
+use Rattle.go_board.proofs.GrowLemmas.{Grows-twice, wide_more, above_more, taken_closed}
 use Rattle.go_board.proofs.board.fill.grow_each.Goals as goal
 
 pub rows-preserved : goal.rows-preserved
@@ -8,7 +7,9 @@ rows-preserved c =
     let room = c.args.room.now in
     let l = c.rows in
     let next = c.grow_row.new.rows in
+    let grown = c.grow_row.ensures in
     record {
-      grows = Grows-twice room c.args.rows.now l.rows next l.invariant.grows c.grow_row.ensures.grows;
-      wide = wide_still room l.rows next l.row (l.row + 1) (λ k below other. l.invariant.wide k (omega (arith, below, other))) c.grow_row.ensures.closed c.grow_row.ensures.others;
+      grows = Grows-twice room c.args.rows.now l.rows next l.invariant.grows grown.grows;
+      wide = wide_more room l.rows next l.row l.invariant.wide grown.closed grown.others;
+      taken = above_more room l.rows next l.row l.invariant.taken grown.others (taken_closed room next l.row grown.closed);
     }

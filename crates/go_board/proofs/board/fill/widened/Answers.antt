@@ -1,5 +1,6 @@
 -- proofs/board/fill/widened/Answers.antt
-use Rattle.std.proofs.Common.{arith}
+use Rattle.std.proofs.Common.{ap, ◌∙◌, arith}
+use Rattle.go_board.specs.inner.Rows.{has_bit}
 use Rattle.go_board.proofs.WordLemmas.{wider-within, wider-kept, wider-least, wider-closed, wider-more}
 use Rattle.go_board.proofs.board.fill.widened.Goals as goal
 
@@ -20,3 +21,7 @@ widen-preserved c =
       kept = λ col is. wider-kept w room c.widen.invariant.within col (c.widen.invariant.kept col is);
       least = λ set beside part. wider-least w room set beside (c.widen.invariant.least set beside part);
     }
+
+pub returns-clause-least : goal.returns-clause-least
+returns-clause-least c = λ set beside part col there.
+    c.widen.invariant.least set beside part col (ap (λ w. has_bit w col) c.widen-test.false ∙ there)

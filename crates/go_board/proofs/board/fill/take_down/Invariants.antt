@@ -1,0 +1,14 @@
+-- proofs/board/fill/take_down/Invariants.antt
+use Rattle.std.proofs.Common.{◌≡◌, ◌<◌, IsTrue, IsFalse}
+use Rattle.go_board.specs.inner.Rows.{is_set, row_above, AreWide, TakeAbove, Grows, lacking}
+use Rattle.go_board.proofs.board.fill.take_down.Given as goal
+
+abbrev pub invariant-rows : goal.invariant-rows
+invariant-rows l = record {
+  grows : Grows (is_set l.room) (is_set l.initial.rows) (is_set l.rows);
+  wide : AreWide l.room l.rows;
+  taken : TakeAbove l.room l.rows l.row;
+  above : l.above ≡ row_above l.rows l.row;
+  same : IsFalse l.grew → l.rows ≡ l.initial.rows;
+  fuller : IsTrue l.grew → lacking l.rows < lacking l.initial.rows;
+}
