@@ -40,6 +40,19 @@ impl Commands {
         })
     }
 
+    /// Begins anew, before the root of a game on a board of that size.
+    /// After a refusal of memory nothing is said of them.
+    pub(crate) fn restart(&mut self, size: Size) -> Result<(), MemoryFault>
+        ensures { OnOk result (AreCommands size [] self.new) }
+    {
+        self.kept.clear();
+        self.unreaching = None;
+        if size.side() <= MAX_VERTEX_SIDE {
+            push_board_commands(size, &mut self.kept.text)?;
+        }
+        Ok(())
+    }
+
     /// Goes on by a node, which made that change and left that board; None where it wasn't played.
     pub(crate) fn go_on(
         &mut self,

@@ -3,8 +3,9 @@
 ghost use Rattle.std.specs.Prelude.{◌≡◌, ◌≤◌, ◌<◌, ◌+◌, ◌-◌, ℕ, Bool, List, [], Some, map, take, length, All, IfOk, OnOk};
 ghost use Rattle.sgf_tree.specs.Tree.{Node, node_count};
 ghost use Rattle.sgf_tree.specs.FileOrder.{node_at};
-ghost use Rattle.sgf_lines.specs.GameSize.{Opening as OpeningSaid, opening, root_properties};
+ghost use Rattle.sgf_lines.specs.GameSize.{Opening as OpeningSaid, board, opening, root_properties};
 ghost use Rattle.sgf_lines.specs.Verdict.{verdict_of};
+ghost use Rattle.sgf_lines.specs.declared.followed.Followed.TheVariants.{OtherGame, NoBoard};
 ghost use Rattle.sgf_lines.specs.inner.Played.{IsPlayedAs, Counts};
 ghost use Rattle.sgf_lines.specs.inner.Followed.{IsHeld, IsFollowed, followed_commands, CountsOn, CountsFresh};
 
@@ -12,6 +13,7 @@ use crate::game::Game;
 use crate::opening::{Opening, opening_of};
 use crate::plays::Plays;
 use crate::verdict::Verdict;
+use go_board::Size;
 use sgf_tree::{Collection, MemoryFault};
 use std::alloc::Global;
 
@@ -72,7 +74,7 @@ impl Followed {
             → OnOk result (IsHeld scripted (opening (root_properties nodes)) (take shared nodes) self.new) }
     {
         if shared == 0 {
-            return self.begin_anew(alloc, collection, root, scripted);
+            return self.begin_game(alloc, collection, root, scripted);
         }
         match self {
             Followed::Judged(game) => {
@@ -84,10 +86,8 @@ impl Followed {
         }
     }
 
-    /// Begins the game of a root, before it. It is kept apart, since it has whole boards at hand, for which a call makes room even
-    /// where no game begins.
-    #[inline(never)]
-    fn begin_anew(
+    /// Begins the game of a root, before it.
+    fn begin_game(
         &mut self,
         alloc: Global,
         collection: &Collection<'_>,
@@ -98,7 +98,52 @@ impl Followed {
         ensures { (node : Node) → node_at collection.now root ≡ Some node
             → OnOk result (IsHeld scripted (opening node.properties) [] self.new) }
     {
-        *self = begin(alloc, collection, root, scripted)?;
+        match opening_of(&collection.node(root)) {
+            Opening::Board(size) => self.begin_on(alloc, size, scripted),
+            Opening::OtherGame => {
+                self.hold_other_game();
+                Ok(())
+            }
+            Opening::NoBoard => {
+                self.hold_no_board();
+                Ok(())
+            }
+        }
+    }
+
+    /// Holds a line of a game that isn't Go. It is kept apart as `make_game` is.
+    #[inline(never)]
+    fn hold_other_game(&mut self)
+        ensures { self.new ≡ OtherGame }
+    {
+        *self = Followed::OtherGame;
+    }
+
+    /// Holds a line of a game for which there is no board. It is kept apart as `make_game` is.
+    #[inline(never)]
+    fn hold_no_board(&mut self)
+        ensures { self.new ≡ NoBoard }
+    {
+        *self = Followed::NoBoard;
+    }
+
+    /// Begins a game on a board of that size. Where the line before was played, its game is begun anew in place.
+    fn begin_on(&mut self, alloc: Global, size: Size, scripted: bool) -> Result<(), MemoryFault>
+        ensures { OnOk result (IsHeld scripted (board size) [] self.new) }
+    {
+        match self {
+            Followed::Judged(game) => game.restart(alloc, size, scripted),
+            Followed::OtherGame | Followed::NoBoard => self.make_game(alloc, size, scripted),
+        }
+    }
+
+    /// Makes a game on a board of that size. It is kept apart, since it has whole boards at hand, for which a call makes room even
+    /// where no game is made.
+    #[inline(never)]
+    fn make_game(&mut self, alloc: Global, size: Size, scripted: bool) -> Result<(), MemoryFault>
+        ensures { OnOk result (IsHeld scripted (board size) [] self.new) }
+    {
+        *self = Followed::Judged(Game::new(alloc, size, scripted)?);
         Ok(())
     }
 
@@ -146,24 +191,6 @@ impl Followed {
             Followed::NoBoard => &[],
             Followed::Judged(game) => game.commands(),
         }
-    }
-}
-
-/// The game of a root, before it.
-fn begin(
-    alloc: Global,
-    collection: &Collection<'_>,
-    root: usize,
-    scripted: bool,
-) -> Result<Followed, MemoryFault>
-    requires { root < node_count collection.now }
-    ensures { (node : Node) → node_at collection.now root ≡ Some node
-        → IfOk result (IsHeld scripted (opening node.properties) []) }
-{
-    match opening_of(&collection.node(root)) {
-        Opening::OtherGame => Ok(Followed::OtherGame),
-        Opening::NoBoard => Ok(Followed::NoBoard),
-        Opening::Board(size) => Ok(Followed::Judged(Game::new(alloc, size, scripted)?)),
     }
 }
 

@@ -59,6 +59,24 @@ impl Game {
         })
     }
 
+    /// Begins another game in place: it is as a new one, before its root.
+    /// After a refusal of memory the game must not be used again.
+    pub(crate) fn restart(
+        &mut self,
+        alloc: Global,
+        size: Size,
+        scripted: bool,
+    ) -> Result<(), MemoryFault>
+        ensures { OnOk result (IsPlayedAs scripted size [] self.new) }
+    {
+        let Ok(()) = self.referee.reset(size) else {
+            return Err(MemoryFault);
+        };
+        self.fault = None;
+        self.marks.clear();
+        restart_commands(&mut self.commands, alloc, size, scripted)
+    }
+
     /// Plays one node more; where it isn't allowed, or one before it wasn't, it is passed over.
     /// `plays` counts it where its step is worked out.
     /// After a refusal of memory the game must not be used again.
@@ -195,6 +213,24 @@ fn commands_before(
         Ok(Some(Commands::new(alloc, size)?))
     } else {
         Ok(None)
+    }
+}
+
+/// Begins commands anew, where they are asked for, before the root of a game on a board of that size.
+fn restart_commands(
+    commands: &mut Option<Commands>,
+    alloc: Global,
+    size: Size,
+    scripted: bool,
+) -> Result<(), MemoryFault>
+    ensures { OnOk result (HasCommands scripted size [] commands.new) }
+{
+    match commands {
+        Some(commands) => commands.restart(size),
+        None => {
+            *commands = commands_before(alloc, size, scripted)?;
+            Ok(())
+        }
     }
 }
 

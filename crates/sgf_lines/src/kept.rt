@@ -29,6 +29,15 @@ impl KeptText {
         }
     }
 
+    /// Takes all nodes and their text out, and keeps the memory.
+    pub(crate) fn clear(&mut self)
+        ensures text { self.new.text.items ≡ [] }
+        ensures marks { self.new.marks.items ≡ [] }
+    {
+        self.text.clear();
+        self.marks.clear();
+    }
+
     /// How many nodes there are.
     pub(crate) fn nodes(&self) -> usize
         ensures { result ≡ length self.now.marks.items }
@@ -51,8 +60,7 @@ impl KeptText {
             → kept ≤ length nodes → (kept ≡ 0 → text_of [] ≡ []) → IsKept text_of (take kept nodes) self.new }
     {
         if kept == 0 {
-            self.text.clear();
-            self.marks.clear();
+            self.clear();
         } else if kept < self.marks.len() {
             self.text.truncate(self.marks[kept]);
             self.marks.truncate(kept);
