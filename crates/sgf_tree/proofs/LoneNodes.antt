@@ -1,8 +1,10 @@
 -- A node of one letter and one value of two bytes.
-use Rattle.std.proofs.Common.{◌≡◌, ◌≢◌, ℕ, ◌+◌, ◌-◌, ◌<◌, ◌≤◌, Bool, true, false, IsTrue, refl, List, [], ◌∷◌, length, get_or, take, drop, slice_range, ◌∙◌, sym, ap, arith, get_or-drop, length-drop}
+use Rattle.std.proofs.Common.{◌≡◌, ◌≢◌, ℕ, ◌+◌, ◌-◌, ◌<◌, ◌≤◌, Bool, true, false, IsTrue, refl, List, [], ◌∷◌, ◌++◌, codes, length, get_or, take, drop, slice_range, ◌∙◌, sym, ap, arith, get_or-drop, length-drop}
+use Rattle.std.specs.List.{flat_map}
 use Rattle.sgf_tree.specs.Tree.{lone_property}
 use Rattle.sgf_tree.specs.RawValue.{no_unit, plain}
 use Rattle.sgf_tree.specs.Spelling.{is_white, is_upper, no_white, no_letter, IsPropValue, prop_value, no_value, AreProperties, property, no_property, properties}
+use Rattle.sgf_tree.specs.Written.{property_text}
 use Rattle.sgf_tree.specs.inner.NodeText.{properties_in, EndsNode}
 use Rattle.sgf_tree.specs.inner.Progress.{IsRun, is_plain, IsNodeEnd, IsLoneNode}
 use Rattle.sgf_tree.proofs.Classes.{fails, upper-range, white-not_bracket, white-not_upper}
@@ -49,16 +51,38 @@ one-property : (b x y : ℕ) (r : List ℕ) → IsTrue (is_upper b) → IsTrue (
     → AreProperties (lone_property b (x ∷ y ∷ []) ∷ []) (b ∷ 91 ∷ x ∷ y ∷ 93 ∷ r) r
 one-property b x y r upper h k = properties (property no_white upper no_letter (two-plain x y r h k) no_value) no_property
 
-pub lone-node : (s : List ℕ) → IsLoneNode s → properties_in (drop 1 s) ≡ lone_property (get_or s 1 0) (slice_range s 3 5) ∷ []
-lone-node s is =
-    let within : 6 < length s = is.within in
-    let pair = is.value in
-    let rest = drop 6 s in
-    let value : drop 3 s ≡ get_or s 3 0 ∷ get_or s 4 0 ∷ 93 ∷ rest =
-    byte-at s 3 (omega arith) ∙ ap (λ u. get_or s 3 0 ∷ u) (byte-at s 4 (omega arith))
-    ∙ ap (λ u. get_or s 3 0 ∷ get_or s 4 0 ∷ u) (byte-at s 5 (omega arith) ∙ ap (λ b. b ∷ rest) pair.bracket) in
-    let here : drop 1 s ≡ get_or s 1 0 ∷ 91 ∷ get_or s 3 0 ∷ get_or s 4 0 ∷ 93 ∷ rest =
-    byte-at s 1 (omega arith) ∙ ap (λ u. get_or s 1 0 ∷ u) (byte-at s 2 (omega arith) ∙ ap (λ b. b ∷ drop 3 s) is.bracket ∙ ap (λ u. 91 ∷ u) value) in
-    let span : slice_range s 3 5 ≡ get_or s 3 0 ∷ get_or s 4 0 ∷ [] = ap (take 2) value in
-    let one = one-property (get_or s 1 0) (get_or s 3 0) (get_or s 4 0) rest is.capital (pair.plain.passing 3 (omega arith) (omega arith)) (pair.plain.passing 4 (omega arith) (omega arith)) in
-    ap properties_in here ∙ properties-in one (ends-node s 6 is.ends) ∙ ap (λ v. lone_property (get_or s 1 0) v ∷ []) (sym span)
+-- its bytes, one by one
+module _ (s : List ℕ) (is : IsLoneNode s) where
+  abbrev letter : ℕ
+  letter = get_or s 1 0
+
+  abbrev value : List ℕ
+  value = get_or s 3 0 ∷ get_or s 4 0 ∷ []
+
+  abbrev rest : List ℕ
+  rest = drop 6 s
+
+  value-here : drop 3 s ≡ get_or s 3 0 ∷ get_or s 4 0 ∷ 93 ∷ rest
+  value-here =
+      let within : 6 < length s = is.within in
+      byte-at s 3 (omega arith) ∙ ap (λ u. get_or s 3 0 ∷ u) (byte-at s 4 (omega arith))
+      ∙ ap (λ u. get_or s 3 0 ∷ get_or s 4 0 ∷ u) (byte-at s 5 (omega arith) ∙ ap (λ b. b ∷ rest) is.value.bracket)
+
+  here : drop 1 s ≡ letter ∷ 91 ∷ get_or s 3 0 ∷ get_or s 4 0 ∷ 93 ∷ rest
+  here =
+      let within : 6 < length s = is.within in
+      byte-at s 1 (omega arith) ∙ ap (λ u. letter ∷ u) (byte-at s 2 (omega arith) ∙ ap (λ b. b ∷ drop 3 s) is.bracket ∙ ap (λ u. 91 ∷ u) value-here)
+
+  lone-property : properties_in (drop 1 s) ≡ lone_property letter value ∷ []
+  lone-property =
+      let plain = is.value.plain in
+      ap properties_in here
+      ∙ properties-in (one-property letter (get_or s 3 0) (get_or s 4 0) rest is.capital (plain.passing 3 (omega arith) (omega arith)) (plain.passing 4 (omega arith) (omega arith))) (ends-node s 6 is.ends)
+
+  pub lone-node : properties_in (drop 1 s) ≡ lone_property letter (slice_range s 3 5) ∷ []
+  lone-node = lone-property ∙ ap (λ v. lone_property letter v ∷ []) (sym (ap (take 2) value-here))
+
+  -- its text
+  pub lone-text : s ≡ 59 ∷ drop 1 s → slice_range s 0 6 ≡ codes ";" ++ flat_map property_text (properties_in (drop 1 s))
+  lone-text begins =
+      ap (take 6) (begins ∙ ap (λ u. 59 ∷ u) here) ∙ ap (λ ps. codes ";" ++ flat_map property_text ps) (sym lone-property)

@@ -51,7 +51,11 @@ impl<'a> NodeRef<'a> {
         ensures { MatchOption result.1 (result.0.now ≡ node_text self.now)
             (λ left. IsWrittenNode self.now left result.0.now) }
     {
-        let end = written_properties_end(self.text, 1);
+        let text = self.text;
+        if is_lone_node(text) {
+            return (part(text, 0, 6), None);
+        }
+        let end = written_properties_end(text, 1);
         let text = part(self.text, 0, end);
         let left = Properties {
             rest: rest_from(self.text, end),

@@ -76,8 +76,27 @@ pub(crate) fn identifier_end(text: &[u8], at: usize) -> usize
     letters_end(text, at)
 }
 
-/// The end of the capitals that stand at `at`.
+/// The end of the capitals that stand at `at`. Where a name stands there, nearly all have one or two.
 pub(crate) fn capitals_end(text: &[u8], at: usize) -> usize
+    requires { at ≤ length text.now }
+    ensures { IsRun is_upper text.now at result }
+{
+    if at == text.len() || !text[at].is_ascii_uppercase() {
+        return at;
+    }
+    if text.len() - at > 2 {
+        if text[at + 1] == b'[' {
+            return at + 1;
+        }
+        if text[at + 2] == b'[' && text[at + 1].is_ascii_uppercase() {
+            return at + 2;
+        }
+    }
+    far_capitals_end(text, at)
+}
+
+/// The same, one by one.
+fn far_capitals_end(text: &[u8], at: usize) -> usize
     requires { at ≤ length text.now }
     ensures { IsRun is_upper text.now at result }
 {

@@ -1,6 +1,6 @@
 use Rattle.std.proofs.Common.{◌≡◌, ℕ, ◌-◌, ◌<◌, ◌≤◌, true, length, get_or}
 use Rattle.sgf_tree.specs.Spelling.{is_upper}
-use Rattle.sgf_tree.proofs.reader.scan.capitals_end.Given as goal
+use Rattle.sgf_tree.proofs.reader.scan.far_capitals_end.Given as goal
 
 abbrev pub invariant-capitals : goal.invariant-capitals
 invariant-capitals l = record {
