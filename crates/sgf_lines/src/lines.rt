@@ -19,8 +19,7 @@ pub(crate) fn push_list(
     ensures { OnOk result (output.new.items ≡ output.old.items
         ++ (row_text line.now.place line.now.game (length line.now.path.now) verdict ++ codes "\n")) }
 {
-    push_row(line.place, line.game, line.path.len(), verdict, output)?;
-    push_bytes(b"\n", output)
+    push_row(line.place, line.game, line.path.len(), verdict, output)
 }
 
 /// Appends the row of a line with that verdict as a comment, with a line feed.
