@@ -24,6 +24,7 @@
 //! | `board` | the board: reading, setting, moves, score |
 //! | `board/flood`, `board/search` | the flood that counts its steps, and its worklist |
 //! | `board/capture`, `board/sweep` | groups without a liberty taken off one at a time; sets of points taken off |
+//! | `board/alone` | stones that capture nothing, told by a look around them |
 //! | `board/regions`, `board/fill` | sets of points as rows of bits, and filling these: the score, whether all stones reach empty |
 //! | `board/stone_rows` | the stones of a board as rows of bits, kept while points are set |
 //! | `board/areas`, `board/reset` | colouring areas; emptying the board in place |
@@ -35,8 +36,8 @@
 //! | `laws` | what the words of the contracts mean |
 //!
 //! A point *reaches* a colour where a path of adjacent points of the point's own colour leads from it to a point of that
-//! colour; a stone that reaches empty has a liberty. Only a past's `new`, `push` and `restart` and a referee's `new`,
-//! `setup` and `turn` take memory, and their `reset` where the past can't be begun anew in place.
+//! colour; a stone that reaches empty has a liberty. Only a past's `new`, `push`, `restart` and `try_stone` and a referee's
+//! `new`, `setup` and `turn` take memory, and their `reset` where the past can't be begun anew in place.
 #![tactic(auto)]
 
 mod board;
