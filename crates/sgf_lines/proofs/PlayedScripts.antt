@@ -1,6 +1,6 @@
 -- A game and its commands go on by a node.
 use Rattle.std.proofs.Common.{◌≡◌, ℕ, Bool, true, false, List, [], ◌∷◌, Option, Some, None, Result, Ok, Err, refl, ap, subst, ◌∙◌, sym}
-use Rattle.std.specs.Prelude.{fold, OnOk}
+use Rattle.std.specs.Prelude.{fold, OnOk, IfSome}
 use Rattle.sgf_tree.specs.Tree.{Node}
 use Rattle.go_board.specs.declared.reason.Reason.{Reason}
 use Rattle.go_board.specs.State.{State}
@@ -8,7 +8,9 @@ use Rattle.sgf_lines.specs.Step.{side_in, step}
 use Rattle.sgf_lines.specs.Walk.{Fault, Walk, before_root, stepped, next_by, next}
 use Rattle.sgf_lines.specs.declared.commands.Commands.{Commands}
 use Rattle.sgf_lines.specs.declared.game.Game.{Game}
+use Rattle.sgf_lines.specs.declared.step.TakenStep.{TakenStep}
 use Rattle.sgf_lines.specs.inner.KeptCommands.{AreCommands}
+use Rattle.sgf_lines.specs.inner.Stepping.{IsStepOf}
 use Rattle.sgf_lines.specs.inner.Played.{IsPlayed, HasCommands}
 use Rattle.sgf_lines.proofs.Commanding.{side-step}
 
@@ -49,3 +51,14 @@ pub some_cut : (scripted : Bool) (side : ℕ) (nodes less : List Node) (old new 
     → (AreCommands side nodes was → AreCommands side less is) → HasCommands scripted side less (Some is)
 some_cut false side nodes less old new was is some same h back = tt
 some_cut true side nodes less old new was is some same h back = let there : HasCommands true side nodes (Some was) = subst (HasCommands true side nodes) (sym same ∙ some) h in back there
+
+-- the node of a step that was taken
+pub step_of : (at : Option Node) (side : ℕ) (node : Node) (o : Option TakenStep) → at ≡ Some node → IfSome o (λ t. (n : Node) × (at ≡ Some n) × IsStepOf side n t) → IfSome o (IsStepOf side node)
+step_of at side node None e h = tt
+step_of at side node (Some t) e h =
+    let same : h.0 ≡ node = (let both : Some h.0 ≡ Some node = sym h.1 ∙ e in cc) in
+    subst (λ (n : Node). IsStepOf side n t) same h.2
+
+pub some_step : (at : Option Node) (side on : ℕ) (o : Option TakenStep) → side ≡ on → IfSome o (λ t. (n : Node) × (at ≡ Some n) × IsStepOf side n t) → IfSome o (λ t. (n : Node) × IsStepOf on n t)
+some_step at side on None e h = tt
+some_step at side on (Some t) e h = (h.0, subst (λ k. IsStepOf k h.0 t) e h.2)

@@ -1,5 +1,5 @@
 -- A node's step by what its contents tell.
-use Rattle.std.proofs.Common.{◌≡◌, ◌⊎◌, ◌+◌, ◌<◌, ℕ, Bool, true, false, Option, Some, None, List, [], ◌∷◌, not, ◌==◌, length, Ok, Err, refl, sym, ap, ◌∙◌, inl, inr, subst, arith}
+use Rattle.std.proofs.Common.{◌≡◌, ◌⊎◌, ◌+◌, ◌<◌, ℕ, Bool, true, false, Option, Some, None, List, [], ◌∷◌, not, ◌==◌, length, Result, Ok, Err, refl, sym, ap, ◌∙◌, inl, inr, subst, arith}
 use Rattle.std.proofs.lemmas.Bool.{eqb-true, eqb-false}
 use Rattle.std.specs.Prelude.{option_map, option_and_then, is_some, is_none, IsSome, IsErrOf, ◌↔◌}
 use Rattle.go_board.specs.declared.stones.Colour.{Colour}
@@ -16,7 +16,9 @@ use Rattle.sgf_lines.specs.Values.{player_value, operation, operations, last_pla
 use Rattle.sgf_lines.specs.Step.{step_by, setup_step, taken, side_in}
 use Rattle.sgf_lines.specs.declared.contents.Moves.{Moves}
 use Rattle.sgf_lines.specs.inner.Contents.{Lists, AreTold}
+use Rattle.sgf_lines.specs.declared.step.Change.{Change}
 use Rattle.sgf_lines.specs.declared.step.StepFault.{StepFault}
+use Rattle.sgf_lines.specs.declared.step.StepFault.TheVariants.{Illegal, Memory}
 use Rattle.sgf_lines.specs.inner.Stepping.{IsSetupMet, IsStepped, GrowsByOne, fault_of}
 
 -- stones are as many as their operations
@@ -189,9 +191,14 @@ takes_turn old new k play u h e =
 
 pub refuses_turn : (old new : States) (k : Colour) (play : Play) (fault : TurnFault) (refused : StepFault) → refused ≡ fault_of fault
     → ((r : Reason) → IsErrOf {T = Unit {0}} (Err fault) (TurnIllegal r) ↔ (reason_of old.present k play ≡ Some r)) → new ≡ old
-    → IsStepped (taken old.present k play (reason_of old.present k play)) old new (Err refused)
-refuses_turn old new k play fault refused is h e = subst (λ f. IsStepped (taken old.present k play (reason_of old.present k play)) old new (Err f)) (sym is) (by fault h)
+    → IsStepped {A = Change} (taken old.present k play (reason_of old.present k play)) old new (Err refused)
+refuses_turn old new k play fault refused is h e = subst (λ f. IsStepped {A = Change} (taken old.present k play (reason_of old.present k play)) old new (Err f)) (sym is) (by fault h)
   where
-    by : (f : TurnFault) → ((r : Reason) → IsErrOf {T = Unit {0}} (Err f) (TurnIllegal r) ↔ (reason_of old.present k play ≡ Some r)) → IsStepped (taken old.present k play (reason_of old.present k play)) old new (Err (fault_of f))
+    by : (f : TurnFault) → ((r : Reason) → IsErrOf {T = Unit {0}} (Err f) (TurnIllegal r) ↔ (reason_of old.present k play ≡ Some r)) → IsStepped {A = Change} (taken old.present k play (reason_of old.present k play)) old new (Err (fault_of f))
     by (TurnIllegal r) h = (ap (taken old.present k play) ((h r).0 refl), e)
     by TurnMemory h = e
+
+-- a step that was refused, whatever would have come of it
+pub refused_alike : (A B : Type 0) (r : Result State Reason) (old new : States) (f : StepFault) → IsStepped {A = A} r old new (Err f) → IsStepped {A = B} r old new (Err f)
+refused_alike A B r old new (Illegal reason) h = h
+refused_alike A B r old new Memory h = h

@@ -15,6 +15,7 @@ use Rattle.sgf_lines.specs.declared.step.StepFault.TheVariants.{Illegal as Illeg
 use Rattle.sgf_lines.specs.Step.{step}
 use Rattle.sgf_lines.specs.Walk.{Fault, Walk, before_root, stepped, next_by, next, walk}
 use Rattle.sgf_lines.specs.Verdict.{verdict_at, score_in}
+use Rattle.sgf_lines.specs.declared.step.TakenStep.{TakenStep}
 use Rattle.sgf_lines.specs.inner.Stepping.{IsStepped, ended_with}
 
 -- the walk has met no fault, and leads to that state
@@ -85,12 +86,12 @@ module _ (side : ℕ) (nodes : List Node) (i : ℕ) (s : State) (h : StandsAfter
 
 -- a step that was refused ends the line with its verdict
 pub ends_line : (side : ℕ) (nodes : List Node) (i : ℕ) (old new : States) (n : Node) (fault : StepFault) (turns place : ℕ) (r : Result Verdict MemoryFault)
-    → StandsAfter (walk side (take i nodes)) old.present → slice_get nodes i ≡ Some n → IsStepped (step old.present n) old new (Err fault) → turns ≡ new.present.turns → place ≡ n.place
+    → StandsAfter (walk side (take i nodes)) old.present → slice_get nodes i ≡ Some n → IsStepped {A = TakenStep} (step old.present n) old new (Err fault) → turns ≡ new.present.turns → place ≡ n.place
     → r ≡ ended_with fault turns place → IfOk r (λ v. v ≡ verdict_at (walk side nodes))
 ends_line side nodes i old new n fault turns place r h e is turns_are place_is result_is =
     subst (λ q. IfOk q (λ v. v ≡ verdict_at (walk side nodes))) (sym result_is) (by fault is)
   where
-    by : (f : StepFault) → IsStepped (step old.present n) old new (Err f) → IfOk (ended_with f turns place) (λ v. v ≡ verdict_at (walk side nodes))
+    by : (f : StepFault) → IsStepped {A = TakenStep} (step old.present n) old new (Err f) → IfOk (ended_with f turns place) (λ v. v ≡ verdict_at (walk side nodes))
     by (IllegalStep reason) is =
         let same : turns ≡ old.present.turns = turns_are ∙ ap (λ (s : States). s.present.turns) is.1 in
         ap (λ t. Illegal (t + 1) place reason) same ∙ ap (λ p. Illegal (old.present.turns + 1) p reason) place_is ∙ sym (illegal_at side nodes i old.present h n reason e is.0)

@@ -5,14 +5,14 @@ ghost use Rattle.sgf_tree.specs.Tree.{Node};
 ghost use Rattle.go_board.specs.State.{State};
 ghost use Rattle.sgf_lines.specs.Script.{leaves_unreaching_by};
 ghost use Rattle.sgf_lines.specs.NodeContents.{stones};
-ghost use Rattle.sgf_lines.specs.inner.Stepping.{IsChange};
+ghost use Rattle.sgf_lines.specs.inner.Stepping.{IsChange, IsStepOf};
 ghost use Rattle.sgf_lines.specs.inner.KeptCommands.{AreCommands, HasChanged, commands_kept, first_unreaching, unreaching_before, lettered_script};
 
 use crate::kept::KeptText;
 use crate::script::{push_board_commands, push_node_script};
-use crate::step::Change;
+use crate::step::{Change, TakenStep};
 use go_board::{Board, MAX_VERTEX_SIDE, Size};
-use sgf_tree::{MemoryFault, NodeRef};
+use sgf_tree::MemoryFault;
 use std::alloc::Global;
 
 /// The commands of the nodes of a line on a board.
@@ -53,27 +53,26 @@ impl Commands {
         Ok(())
     }
 
-    /// Goes on by a node, which made that change and left that board; None where it wasn't played.
+    /// Goes on by a node, whose step was that and left that board; None where it wasn't taken.
     pub(crate) fn go_on(
         &mut self,
         alloc: Global,
-        node: &NodeRef<'_>,
-        change: Option<Change>,
+        step: Option<TakenStep<'_>>,
         board: &Board,
     ) -> Result<(), MemoryFault>
-        requires { IfSome change (IsChange board.now.side node.now) }
-        ensures { (side : ℕ) (nodes : List Node) → AreCommands side nodes self.old → board.now.side ≡ side
-            → HasChanged side nodes node.now board.now change
-            → OnOk result (AreCommands side (nodes ++ node.now ∷ []) self.new) }
+        requires { IfSome step (λ taken. (node : Node) × IsStepOf board.now.side node taken) }
+        ensures { (side : ℕ) (nodes : List Node) (node : Node) → AreCommands side nodes self.old → board.now.side ≡ side
+            → HasChanged side nodes node board.now step.entry → IfSome step.entry (IsStepOf board.now.side node)
+            → OnOk result (AreCommands side (nodes ++ node ∷ []) self.new) }
     {
         let index = self.kept.nodes();
         self.kept.begin_node()?;
-        match change {
+        match step {
             None => Ok(()),
-            Some(change) => {
-                let unreaching = leaves_unreaching(change, board);
+            Some(taken) => {
+                let unreaching = leaves_unreaching(taken.change, board);
                 self.unreaching = first_of(self.unreaching, index, unreaching);
-                push_lettered(alloc, node, change, board, &mut self.kept.text)
+                push_lettered(alloc, taken, board, &mut self.kept.text)
             }
         }
     }
@@ -122,19 +121,18 @@ fn first_before(found: Option<usize>, kept: usize) -> Option<usize>
 /// Appends what a node adds to the commands, where the side isn't past the letters.
 fn push_lettered(
     alloc: Global,
-    node: &NodeRef<'_>,
-    change: Change,
+    step: TakenStep<'_>,
     board: &Board,
     output: &mut Vec<u8>,
 ) -> Result<(), MemoryFault>
-    requires { IsChange board.now.side node.now change }
-    ensures { (after : State) → after.colouring ≡ board.now
-        → OnOk result (output.new.items ≡ output.old.items ++ lettered_script board.now.side after node.now) }
+    requires { (node : Node) × IsStepOf board.now.side node step }
+    ensures { (node : Node) (after : State) → IsStepOf board.now.side node step.entry → after.colouring ≡ board.now
+        → OnOk result (output.new.items ≡ output.old.items ++ lettered_script board.now.side after node) }
 {
     if board.size().side() > MAX_VERTEX_SIDE {
         return Ok(());
     }
-    push_node_script(alloc, node, change, board, output)
+    push_node_script(alloc, step, board, output)
 }
 
 /// Whether a node that made that change set up stones of which one doesn't reach empty.

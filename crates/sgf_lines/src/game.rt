@@ -5,14 +5,14 @@ ghost use Rattle.sgf_tree.specs.Tree.{Node, node_count};
 ghost use Rattle.sgf_tree.specs.FileOrder.{node_at};
 ghost use Rattle.sgf_lines.specs.Walk.{walk};
 ghost use Rattle.sgf_lines.specs.Verdict.{verdict_at};
-ghost use Rattle.sgf_lines.specs.inner.Stepping.{IsChange};
+ghost use Rattle.sgf_lines.specs.inner.Stepping.{IsStepOf};
 ghost use Rattle.sgf_lines.specs.inner.KeptCommands.{HasChanged};
 ghost use Rattle.sgf_lines.specs.inner.Played.{back_to, met_before, IsPlayed, IsPlayedAs, HasCommands, game_commands, Counts};
 
 use crate::commands::Commands;
 use crate::judging::score;
 use crate::plays::Plays;
-use crate::step::{Change, StepFault, play_node};
+use crate::step::{StepFault, TakenStep, play_node};
 use crate::verdict::Verdict;
 use go_board::{PrintPast, Reason, Referee, Size};
 use sgf_tree::{Collection, MemoryFault};
@@ -96,24 +96,21 @@ impl Game {
             → Counts plays.old plays.new side nodes (nodes ++ node ∷ []) result }
         ensures one_at_most { plays.new ≤ plays.old + 1 }
     {
-        let change = self.take_step(alloc, collection, number, plays)?;
+        let step = self.take_step(alloc, collection, number, plays)?;
         match &mut self.commands {
             None => Ok(()),
-            Some(commands) => {
-                let node = collection.node(number);
-                commands.go_on(alloc, &node, change, self.referee.board())
-            }
+            Some(commands) => commands.go_on(alloc, step, self.referee.board()),
         }
     }
 
-    /// Takes the step of one node more, and tells what it changed; None where it isn't taken.
-    fn take_step(
+    /// Takes the step of one node more, and tells what it was; None where it isn't taken.
+    fn take_step<'a>(
         &mut self,
         alloc: Global,
-        collection: &Collection<'_>,
+        collection: &Collection<'a>,
         number: usize,
         plays: &mut Plays,
-    ) -> Result<Option<Change>, MemoryFault>
+    ) -> Result<Option<TakenStep<'a>>, MemoryFault>
         requires within { number < node_count collection.now }
         requires countable { plays.old < u64.MAX }
         ensures played { (side : ℕ) (nodes : List Node) (node : Node) → IsPlayed side nodes self.old
@@ -122,8 +119,8 @@ impl Game {
         ensures changed { (side : ℕ) (nodes : List Node) (node : Node) → IsPlayed side nodes self.old
             → node_at collection.now number ≡ Some node
             → IfOk result (HasChanged side nodes node self.new.referee.present.colouring) }
-        ensures change { (node : Node) → node_at collection.now number ≡ Some node
-            → IfOk result (λ change. IfSome change (IsChange self.new.referee.present.colouring.side node)) }
+        ensures told { IfOk result (λ step. IfSome step (λ taken. (node : Node) × (node_at collection.now number ≡ Some node)
+            × IsStepOf self.new.referee.present.colouring.side node taken)) }
         ensures counted { (side : ℕ) (nodes : List Node) (node : Node) → IsPlayed side nodes self.old
             → Counts plays.old plays.new side nodes (nodes ++ node ∷ []) result }
         ensures one_at_most { plays.new ≤ plays.old + 1 }
@@ -136,7 +133,7 @@ impl Game {
         };
         plays.add_one();
         match play_node(alloc, &mut self.referee, &collection.node(number)) {
-            Ok(change) => Ok(Some(change)),
+            Ok(step) => Ok(Some(step)),
             Err(StepFault::Memory) => Err(MemoryFault),
             Err(StepFault::Illegal(reason)) => {
                 self.fault = Some(Fault {

@@ -1,17 +1,17 @@
 //! The script of a line: commands of the Go Text Protocol (GTP 2).
 
-ghost use Rattle.std.specs.Prelude.{◌≡◌, [], ◌∷◌, ◌++◌, ◌≤◌, ◌<◌, ◌*◌, Some, slice_get, OnOk};
+ghost use Rattle.std.specs.Prelude.{◌≡◌, [], ◌∷◌, ◌++◌, ◌≤◌, ◌<◌, ◌*◌, Some, slice_get, OnOk, option_copied};
+ghost use Rattle.sgf_tree.specs.Tree.{Node};
 ghost use Rattle.go_board.specs.Point.{IsOn, points};
 ghost use Rattle.go_board.specs.State.{State, IsPlayOn};
-ghost use Rattle.sgf_lines.specs.Script.{text_lines, comment_line, comment_lines, colour_letter, play_line, stone_lines, board_lines, node_script, board_commands};
-ghost use Rattle.sgf_lines.specs.inner.Stepping.{IsChange};
+ghost use Rattle.sgf_lines.specs.Script.{text_lines, comment_line, comment_text, colour_letter, play_line, stone_lines, board_lines, node_script, board_commands};
+ghost use Rattle.sgf_lines.specs.inner.Stepping.{IsStepOf};
 ghost use Rattle.sgf_lines.specs.inner.Cutting.{lines_at, pass_line, stone_line};
 
-use crate::opening::first_value;
-use crate::step::Change;
+use crate::step::{Change, TakenStep};
 use crate::text::{push_bytes, push_number};
 use go_board::{Board, Colour, MAX_VERTEX_SIDE, Play, Point, Size, Vertex, vertex};
-use sgf_tree::{MemoryFault, NodeRef, push_text};
+use sgf_tree::{MemoryFault, push_text};
 use std::alloc::Global;
 
 /// Appends the commands before those of the first node: the size of the board, and that it is cleared.
@@ -23,32 +23,35 @@ pub(crate) fn push_board_commands(size: Size, output: &mut Vec<u8>) -> Result<()
     push_bytes(b"\nclear_board\n", output)
 }
 
-/// Appends what a node adds to the script of a line, where the node made that change and left that board.
+/// Appends what a node adds to the script of a line, where its step was that and left that board.
 pub(crate) fn push_node_script(
     alloc: Global,
-    node: &NodeRef<'_>,
-    change: Change,
+    step: TakenStep<'_>,
     board: &Board,
     output: &mut Vec<u8>,
 ) -> Result<(), MemoryFault>
     requires letters { board.now.side ≤ MAX_VERTEX_SIDE }
-    requires change { IsChange board.now.side node.now change }
-    ensures { (after : State) → after.colouring ≡ board.now
-        → OnOk result (output.new.items ≡ output.old.items ++ node_script after node.now) }
+    requires step { (node : Node) × IsStepOf board.now.side node step }
+    ensures { (node : Node) (after : State) → IsStepOf board.now.side node step.entry → after.colouring ≡ board.now
+        → OnOk result (output.new.items ≡ output.old.items ++ node_script after node) }
 {
-    push_comment(alloc, node, output)?;
-    match change {
+    push_comment(alloc, step.comment, output)?;
+    match step.change {
         Change::Nothing => Ok(()),
         Change::Stones => push_board(board, output),
         Change::Turn(colour, play) => push_play(board.size(), colour, play, output),
     }
 }
 
-/// Appends the comment of a node, a line for each of its own.
-fn push_comment(alloc: Global, node: &NodeRef<'_>, output: &mut Vec<u8>) -> Result<(), MemoryFault>
-    ensures { OnOk result (output.new.items ≡ output.old.items ++ comment_lines node.now) }
+/// Appends a comment, a line for each of its own; none where there is none.
+fn push_comment(
+    alloc: Global,
+    comment: Option<&[u8]>,
+    output: &mut Vec<u8>,
+) -> Result<(), MemoryFault>
+    ensures { OnOk result (output.new.items ≡ output.old.items ++ text_lines (comment_text (option_copied comment.entry))) }
 {
-    let Some(raw) = first_value(node, b"C") else {
+    let Some(raw) = comment else {
         return Ok(());
     };
     let mut text = Vec::new(alloc);

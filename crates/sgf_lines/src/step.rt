@@ -6,10 +6,11 @@ ghost use Rattle.sgf_lines.specs.Values.{move_value as move_value_lem};
 ghost use Rattle.sgf_lines.specs.Step.{step, step_by, move_step};
 ghost use Rattle.sgf_lines.specs.inner.Contents.{Lists, IsContents};
 ghost use Rattle.sgf_tree.specs.Tree.{Node};
-ghost use Rattle.sgf_lines.specs.inner.Plain.{HasMovesAlone};
-ghost use Rattle.sgf_lines.specs.inner.Stepping.{IsStepped, IsChange, IsChangeBy, IsTurnBy, IsSetupMet, fault_of};
+ghost use Rattle.sgf_lines.specs.inner.Plain.{IsPlain, HasMovesAlone};
+ghost use Rattle.sgf_lines.specs.inner.Stepping.{IsStepped, IsStepOf, IsChange, IsChangeBy, IsTurnBy, IsSetupMet, fault_of};
 
 use crate::contents::{Contents, Moves};
+use crate::opening::first_value;
 use crate::plain::Plain;
 use crate::values::move_value;
 use go_board::{Colour, Past, Play, Reason, Referee, Size, TurnFault};
@@ -67,20 +68,47 @@ pub(crate) enum Change {
     Turn(Colour, Play),
 }
 
+/// A node's step that was taken, and what the node says beside it.
+#[derive(Clone, Copy, Debug)]
+pub(crate) struct TakenStep<'a> {
+    pub(crate) change: Change,
+    /// The first value of its first C.
+    pub(crate) comment: Option<&'a [u8]>,
+}
+
 /// Takes a node's step: plays its move, or sets its stones and its player up.
 /// Where the node isn't allowed, the first reason comes back.
 /// After a refusal the referee is unchanged.
-pub(crate) fn play_node<P: Past>(
+pub(crate) fn play_node<'a, P: Past>(
     alloc: Global,
     referee: &mut Referee<P>,
-    node: &NodeRef<'_>,
-) -> Result<Change, StepFault>
+    node: &NodeRef<'a>,
+) -> Result<TakenStep<'a>, StepFault>
     ensures stepped { IsStepped (step referee.old.present node.now) referee.old referee.new result }
-    ensures change { IfOk result (IsChange referee.old.present.colouring.side node.now) }
+    ensures told { IfOk result (IsStepOf referee.old.present.colouring.side node.now) }
 {
     match Plain::of(node) {
-        Some(plain) => play_moves(referee, plain.moves),
+        Some(plain) => play_plain(referee, plain),
         None => play_setup(alloc, referee, node),
+    }
+}
+
+/// Takes the step of a node that holds this and sets nothing up.
+fn play_plain<'a, P: Past>(
+    referee: &mut Referee<P>,
+    plain: Plain<'a>,
+) -> Result<TakenStep<'a>, StepFault>
+    ensures stepped { (node : Node) → IsPlain node.properties plain.entry
+        → IsStepped (step referee.old.present node) referee.old referee.new result }
+    ensures told { (node : Node) → IsPlain node.properties plain.entry
+        → IfOk result (IsStepOf referee.old.present.colouring.side node) }
+{
+    match play_moves(referee, plain.moves) {
+        Ok(change) => Ok(TakenStep {
+            change,
+            comment: plain.comment,
+        }),
+        Err(fault) => Err(fault),
     }
 }
 
@@ -103,17 +131,23 @@ fn play_moves<P: Past>(referee: &mut Referee<P>, moves: Moves<'_>) -> Result<Cha
 
 /// Takes the step of a node that sets something up. It is kept apart, since few nodes do, and it gathers what they hold.
 #[inline(never)]
-fn play_setup<P: Past>(
+fn play_setup<'a, P: Past>(
     alloc: Global,
     referee: &mut Referee<P>,
-    node: &NodeRef<'_>,
-) -> Result<Change, StepFault>
+    node: &NodeRef<'a>,
+) -> Result<TakenStep<'a>, StepFault>
     ensures stepped { IsStepped (step referee.old.present node.now) referee.old referee.new result }
-    ensures change { IfOk result (IsChange referee.old.present.colouring.side node.now) }
+    ensures told { IfOk result (IsStepOf referee.old.present.colouring.side node.now) }
 {
     let size = referee.board().size();
     let contents = Contents::of(alloc, node, size)?;
-    play_contents(referee, &contents, size)
+    match play_contents(referee, &contents, size) {
+        Ok(change) => Ok(TakenStep {
+            change,
+            comment: first_value(node, b"C"),
+        }),
+        Err(fault) => Err(fault),
+    }
 }
 
 /// Takes the step of a node with these contents.

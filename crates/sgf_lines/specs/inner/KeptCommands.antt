@@ -7,7 +7,6 @@ use Rattle.go_board.specs.Grid.{Grid}
 use Rattle.go_board.specs.State.{State}
 use Rattle.sgf_lines.specs.Walk.{walk}
 use Rattle.sgf_lines.specs.Script.{node_script, played_script, leaves_unreaching, board_commands}
-use Rattle.sgf_lines.specs.declared.step.Change.{Change}
 use Rattle.sgf_lines.specs.declared.commands.Commands.{Commands}
 use Rattle.sgf_lines.specs.inner.Kept.{IsKept}
 
@@ -37,8 +36,8 @@ pub record AreCommands (side : ℕ) (nodes : List Node) (commands : Commands) : 
   pub unreaching : IsFirstUnreaching side nodes commands.unreaching
 
 -- what playing a node more did: its step was taken, and led to this board; or it wasn't
-abbrev pub HasChanged : ℕ → List Node → Node → Grid → Option Change → Type 0
-HasChanged side nodes n board (Some change) =
+abbrev pub HasChanged : {A : Type 0} → ℕ → List Node → Node → Grid → Option A → Type 0
+HasChanged side nodes n board (Some _) =
     (after : State) × (after.colouring ≡ board) × ((walk side (nodes ++ n ∷ [])).played ≡ (walk side nodes).played ++ record { node = n; after = after } ∷ [])
 HasChanged side nodes n board None = (walk side (nodes ++ n ∷ [])).played ≡ (walk side nodes).played
 

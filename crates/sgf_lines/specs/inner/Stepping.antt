@@ -1,5 +1,5 @@
 -- What a node's step does to a referee.
-use Rattle.std.specs.Prelude.{◌≡◌, ◌⊎◌, ◌+◌, ◌<◌, ℕ, Bool, Option, Some, List, [], ◌∷◌, length, Result, Ok, Err, MatchBool}
+use Rattle.std.specs.Prelude.{◌≡◌, ◌⊎◌, ◌+◌, ◌<◌, ℕ, Bool, Option, Some, List, [], ◌∷◌, length, Result, Ok, Err, MatchBool, codes, option_copied}
 use Rattle.sgf_tree.specs.Tree.{Node}
 use Rattle.go_board.specs.declared.stones.Colour.{Colour}
 use Rattle.go_board.specs.declared.referee.plays.Play.{Play}
@@ -12,9 +12,10 @@ use Rattle.sgf_lines.specs.declared.verdict.Verdict.{Verdict}
 use Rattle.sgf_lines.specs.declared.verdict.Verdict.TheVariants.{Illegal as IllegalLine}
 use Rattle.sgf_lines.specs.declared.step.Change.{Change}
 use Rattle.sgf_lines.specs.declared.step.Change.TheVariants.{Nothing, Stones as stones_change, Turn}
+use Rattle.sgf_lines.specs.declared.step.TakenStep.{TakenStep}
 use Rattle.sgf_lines.specs.declared.step.StepFault.{StepFault}
 use Rattle.sgf_lines.specs.declared.step.StepFault.TheVariants.{Illegal, Memory}
-use Rattle.sgf_lines.specs.NodeContents.{Move, Stones, moves, stones}
+use Rattle.sgf_lines.specs.NodeContents.{Move, Stones, moves, stones, first_value}
 use Rattle.sgf_lines.specs.Values.{move_value}
 use Rattle.sgf_lines.specs.inner.Contents.{Lists}
 
@@ -28,8 +29,8 @@ abbrev pub GrowsByOne : States → States → Type 0
 GrowsByOne old new = (new ≡ old) ⊎ (new ≡ followed_by old new.present)
 
 -- the referee takes the step that was to be taken, or refuses it for its reason and is unchanged, or is refused memory and is unchanged
-abbrev pub IsStepped : Result State Reason → States → States → Result Change StepFault → Type 0
-IsStepped step old new (Ok change) = (step ≡ Ok new.present) × GrowsByOne old new
+abbrev pub IsStepped : {A : Type 0} → Result State Reason → States → States → Result A StepFault → Type 0
+IsStepped step old new (Ok _) = (step ≡ Ok new.present) × GrowsByOne old new
 IsStepped step old new (Err (Illegal reason)) = (step ≡ Err reason) × (new ≡ old)
 IsStepped step old new (Err Memory) = new ≡ old
 
@@ -42,6 +43,11 @@ IsChangeBy side ms ts (Turn colour play) =
 
 abbrev pub IsChange : ℕ → Node → Change → Type 0
 IsChange side n change = IsChangeBy side (moves n) (stones n) change
+
+-- the step of a node changes that, and the node has that comment
+pub record IsStepOf (side : ℕ) (n : Node) (taken : TakenStep) : Type 0 where
+  pub change_is : IsChange side n taken.change
+  pub comment_is : option_copied taken.comment ≡ first_value (codes "C") n.properties
 
 -- a turn of that player with that play
 abbrev pub IsTurnBy : ℕ → Colour → Option Play → Change → Type 0

@@ -3,7 +3,7 @@ use Rattle.std.proofs.Common.{◌≡◌, ◌++◌, ◌∷◌, [], inl, Some, ref
 use Rattle.sgf_lines.specs.declared.game.Fault.{Fault as Met}
 use Rattle.sgf_lines.specs.declared.game.Game.{Game}
 use Rattle.sgf_lines.specs.Walk.{Walk}
-use Rattle.sgf_lines.specs.inner.Stepping.{IsChange}
+use Rattle.sgf_lines.specs.inner.Stepping.{IsStepOf}
 use Rattle.sgf_lines.proofs.Commanding.{side-step}
 use Rattle.sgf_lines.proofs.Named.{place_of_node}
 use Rattle.sgf_lines.proofs.Played.{mark_now, passes, passed_same, plays_on, stops}
@@ -47,13 +47,11 @@ returns-in-Ok-clause-counted c = λ side nodes node h. counts_one side nodes nod
 pub returns-in-Err-Illegal-clause-counted : goal.returns-in-Err-Illegal-clause-counted
 returns-in-Err-Illegal-clause-counted c = λ side nodes node h. counts_one side nodes node c.args.self.now h c.args.plays.now c.add_one.new.self _ c.in-None.is c.add_one.ensures
 
-pub returns-in-Ok-clause-change : goal.returns-in-Ok-clause-change
-returns-in-Ok-clause-change c = λ node e.
+pub returns-in-Ok-clause-told : goal.returns-in-Ok-clause-told
+returns-in-Ok-clause-told c =
     let now = c.play_node.new.referee.present in
-    let change = c.in-Ok.change in
-    let same : c.node.result ≡ node = (let both : Some c.node.result ≡ Some node = sym c.node.ensures ∙ e in cc) in
     let side = side-step c.args.self.now.referee.present now c.node.result c.in-Ok.ensures.stepped.0 in
-    subst (λ m. IsChange now.colouring.side m change) same (subst (λ k. IsChange k c.node.result change) (sym side) c.in-Ok.ensures.change)
+    (c.node.result, c.node.ensures, subst (λ k. IsStepOf k c.node.result c.in-Ok.step) (sym side) c.in-Ok.ensures.told)
 
 pub returns-in_default-clause-changed : goal.returns-in_default-clause-changed
 returns-in_default-clause-changed c = λ side nodes node h e. ap (λ (w : Walk). w.played) (passed_same side nodes c.args.self.now node h c.in_default.not-None)
