@@ -3,8 +3,8 @@ use Rattle.std.proofs.Common.{◌≡◌, ℕ, ◌+◌, List, [], ◌∷◌, ◌+
 use Rattle.std.proofs.lemmas.Option.{none-some, same_Some, option_and_then_some}
 use Rattle.sgf_tree.specs.Tree.{Games, no_games, game}
 use Rattle.sgf_tree.specs.Spelling.{no_white, no_game, Spells, spells}
-use Rattle.sgf_tree.specs.inner.Machine.{OpenGame, MachineState, start, after_game, whole_games, step, run, accepted, collection_of}
-use Rattle.sgf_tree.proofs.Transitions.{takes}
+use Rattle.sgf_tree.specs.inner.Machine.{OpenGame, MachineState, start, after_game, whole_games, next_state, run, accepted, collection_of}
+use Rattle.sgf_tree.proofs.Transitions.{transition}
 use Rattle.sgf_tree.proofs.Completion.{followed-none, Rest, ends, Completes}
 use Rattle.sgf_tree.proofs.Prepending.{prepend}
 
@@ -15,8 +15,8 @@ module _ (whole : ℕ) (c : Games) where
   unfolding run
   prepend-run at z y [] r e h k = subst (λ x. Completes whole c x r) (sym (same_Some z y h)) k
   prepend-run at z y (b ∷ t) r e h k =
-      option_and_then_some (λ next. run (at + 1) next t) (step at z b) y h (λ x s g.
-      prepend whole c at z b x (t ++ r) (takes at z b x s) e (prepend-run (at + 1) x y t r (omega arith) g k))
+      option_and_then_some (λ next. run (at + 1) next t) (next_state at z b) y h (λ x s g.
+      prepend whole c at z b x (t ++ r) (transition at z b x s) e (prepend-run (at + 1) x y t r (omega arith) g k))
 
   -- no byte completes a state where a text may end
   whole-rest : (closed : Games) (unclosed : List OpenGame) → whole_games closed unclosed ≡ Some c → Rest whole c closed unclosed []

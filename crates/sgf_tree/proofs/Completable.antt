@@ -4,8 +4,8 @@ use Rattle.std.proofs.lemmas.List.Elements.{All-nil, All-cons}
 use Rattle.std.proofs.lemmas.Option.{none-some, same_Some, option_and_then_some}
 use Rattle.sgf_tree.specs.Tree.{Property, Node, Games, no_games, game}
 use Rattle.sgf_tree.specs.Spelling.{no_white, no_game}
-use Rattle.sgf_tree.specs.inner.Machine.{OpenGame, Stack, Started, MachineState, start, first_of_mark, second_of_mark, opened, in_node, in_name, after_name, in_value, after_escape, after_value, after_game, joined, property_of, with_property, add_node, new_game, ended, close_in, whole_games, step, run}
-use Rattle.sgf_tree.proofs.Transitions.{Between, white_between, opens_game, closes_game, Behind, next_node, opens_below, closes_nodes, no_stack, Takes, mark_first, mark_second, mark_third, at_start, at_game, white_opened, first_node, white_node, first_name, ends_bare, upper_name, lower_name, white_name, first_value, white_after_name, later_value, ends_value, escapes, plain_byte, escaped_byte, white_value, next_value, next_name, ends_node, takes}
+use Rattle.sgf_tree.specs.inner.Machine.{OpenGame, Stack, Started, MachineState, start, first_of_mark, second_of_mark, opened, in_node, in_name, after_name, in_value, after_escape, after_value, after_game, joined, property_of, with_property, add_node, new_game, ended, close_in, whole_games, next_state, run}
+use Rattle.sgf_tree.proofs.Transitions.{Between, white_between, opens_game, closes_game, AfterNode, next_node, opens_below, closes_nodes, no_stack, IsTransition, mark_first, mark_second, mark_third, at_start, at_game, white_opened, first_node, white_node, first_name, ends_bare, upper_name, lower_name, white_name, first_value, white_after_name, later_value, ends_value, escapes, plain_byte, escaped_byte, white_value, next_value, next_name, ends_node, transition}
 use Rattle.sgf_tree.proofs.Completion.{followed-none, closed-in, Rest, ends, closes, In_node, Completes}
 use Rattle.sgf_tree.proofs.Prepending.{bare, after-bare, value-bare, prepend}
 
@@ -43,12 +43,12 @@ within-next true gs n m h = tt
 within-next false [] n m h = h
 within-next false (g ∷ gs) n m h = tt
 
-reached-after : {at : ℕ} (n : Started) {b : ℕ} {y : MachineState} → WithinGame n → Behind at (ended n) b y → Reached y
+reached-after : {at : ℕ} (n : Started) {b : ℕ} {y : MachineState} → WithinGame n → AfterNode at (ended n) b y → Reached y
 reached-after n h next_node = within-next n.opens n.stack.unclosed _ _ h
 reached-after n h opens_below = tt
 reached-after n h (closes_nodes {y} e) = reached-close (ended n).closed (ended n).unclosed y e
 
-reached-step : {at : ℕ} {z : MachineState} {b : ℕ} {y : MachineState} → Takes at z b y → Reached z → Reached y
+reached-step : {at : ℕ} {z : MachineState} {b : ℕ} {y : MachineState} → IsTransition at z b y → Reached z → Reached y
 reached-step mark_first h = tt
 reached-step mark_second h = tt
 reached-step mark_third h = tt
@@ -78,8 +78,8 @@ pub reached : (at : ℕ) (z y : MachineState) (t : List ℕ) → run at z t ≡ 
 unfolding run
 reached at z y [] e h = subst Reached (same_Some z y e) h
 reached at z y (b ∷ t) e h =
-    option_and_then_some (λ next. run (at + 1) next t) (step at z b) y e (λ x s f.
-    reached (at + 1) x y t f (reached-step (takes at z b x s) h))
+    option_and_then_some (λ next. run (at + 1) next t) (next_state at z b) y e (λ x s f.
+    reached (at + 1) x y t f (reached-step (transition at z b x s) h))
 
 -- some bytes complete the state
 abbrev pub Completable : MachineState → Type 0
@@ -87,7 +87,7 @@ Completable z =
     (r : List ℕ) × All (λ b. b < 256) r × ((whole at : ℕ) → at + length r ≡ whole → (c : Games) × Completes whole c z r)
 
 -- a byte, and then those that complete the state after it
-via : (z : MachineState) (b : ℕ) (y : MachineState) → b < 256 → ((at : ℕ) → Takes at z b y) → Completable y → Completable z
+via : (z : MachineState) (b : ℕ) (y : MachineState) → b < 256 → ((at : ℕ) → IsTransition at z b y) → Completable y → Completable z
 via z b y lt s (r, all, k) = (
   b ∷ r,
   All-cons (λ x. x < 256) b r lt all,

@@ -1,20 +1,20 @@
 -- Worked examples: the machine computes the collections of a few texts.
 use Rattle.std.proofs.Common.{◌≡◌, ℕ, [], ◌∷◌, Some, None, refl}
 use Rattle.sgf_tree.specs.Tree.{Node, no_games, game}
-use Rattle.sgf_tree.specs.inner.Machine.{step, run, accepted, collection_of}
+use Rattle.sgf_tree.specs.inner.Machine.{next_state, run, accepted, collection_of}
 
 abbrev bare : ℕ → Node
 bare at = record { place = at; properties = [] }
 
 -- `(;)`
 smallest : collection_of (40 ∷ 59 ∷ 41 ∷ []) ≡ Some (game (bare 1) [] no_games no_games)
-unfolding collection_of accepted run step
+unfolding collection_of accepted run next_state
 smallest = refl
 
 -- `(;(;)(;))`
 variations : collection_of (40 ∷ 59 ∷ 40 ∷ 59 ∷ 41 ∷ 40 ∷ 59 ∷ 41 ∷ 41 ∷ [])
     ≡ Some (game (bare 1) [] (game (bare 3) [] no_games (game (bare 6) [] no_games no_games)) no_games)
-unfolding collection_of accepted run step
+unfolding collection_of accepted run next_state
 variations = refl
 
 -- a byte order mark, and ` (;GaM[a\]][b];)(;)` with white space after it
@@ -22,12 +22,12 @@ choices : collection_of (239 ∷ 187 ∷ 191 ∷ 32 ∷ 40 ∷ 59 ∷ 71 ∷ 97 
     ≡ Some (game
     (record { place = 5; properties = record { name = 71 ∷ 77 ∷ []; first = 97 ∷ 92 ∷ 93 ∷ []; more = (98 ∷ []) ∷ [] } ∷ [] })
     (bare 17 ∷ []) no_games (game (bare 20) [] no_games no_games))
-unfolding collection_of accepted run step
+unfolding collection_of accepted run next_state
 choices = refl
 
 -- an empty text, `()`, `(;`, `(;B)`, `(;))` and `(;(;);)` spell none
 none : (collection_of [] ≡ None) × (collection_of (40 ∷ 41 ∷ []) ≡ None) × (collection_of (40 ∷ 59 ∷ []) ≡ None)
     × (collection_of (40 ∷ 59 ∷ 66 ∷ 41 ∷ []) ≡ None) × (collection_of (40 ∷ 59 ∷ 41 ∷ 41 ∷ []) ≡ None)
     × (collection_of (40 ∷ 59 ∷ 40 ∷ 59 ∷ 41 ∷ 59 ∷ 41 ∷ []) ≡ None)
-unfolding collection_of accepted run step
+unfolding collection_of accepted run next_state
 none = (refl, refl, refl, refl, refl, refl)

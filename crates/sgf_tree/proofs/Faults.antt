@@ -5,7 +5,7 @@ use Rattle.std.proofs.lemmas.Option.{none-some, option_and_then_some}
 use Rattle.sgf_tree.specs.Tree.{Games}
 use Rattle.sgf_tree.specs.Spelling.{Spells}
 use Rattle.sgf_tree.specs.FirstFault.{Begins, IsFirstFault}
-use Rattle.sgf_tree.specs.inner.Machine.{MachineState, start, step, run, accepted, collection_of}
+use Rattle.sgf_tree.specs.inner.Machine.{MachineState, start, next_state, run, accepted, collection_of}
 use Rattle.sgf_tree.proofs.Run.{run-append, run-front, run-take-refused, refused-front, collection-run, collection-refused}
 use Rattle.sgf_tree.proofs.AcceptedSpelled.{completed-spells}
 use Rattle.sgf_tree.proofs.Completable.{reached, complete}
@@ -41,7 +41,7 @@ begins-below t at h n b = ⊎_elim (λ lt. absurd (longer lt)) (λ le. le) (case
         none-some y (sym h ∙ rw (take-take (at + 1) n t (omega arith)) at f)
 
 pub refused-fault : (t : List ℕ) (at : ℕ) (z : MachineState) → at < length t → run 0 start (take at t) ≡ Some z
-    → step at z (get_or t at 0) ≡ None → IsFirstFault t at × ((c : Games) → Spells c t → ⊥)
+    → next_state at z (get_or t at 0) ≡ None → IsFirstFault t at × ((c : Games) → Spells c t → ⊥)
 refused-fault t at z lt h s =
     let r : run 0 start (take (at + 1) t) ≡ None = run-take-refused t at z h lt s in (
       record {

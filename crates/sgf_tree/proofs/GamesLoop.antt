@@ -4,7 +4,7 @@ use Rattle.std.proofs.lemmas.Bool.{false≢true, true≢false}
 use Rattle.std.proofs.lemmas.List.{length-map}
 use Rattle.sgf_tree.specs.Tree.{Games, no_games, game, game_count, node_count}
 use Rattle.sgf_tree.specs.Spelling.{is_white}
-use Rattle.sgf_tree.specs.inner.Machine.{OpenGame, Stack, opened, after_game, between_games, close_in, whole_game, step, accepted}
+use Rattle.sgf_tree.specs.inner.Machine.{OpenGame, Stack, opened, after_game, between_games, close_in, whole_game, next_state, accepted}
 use Rattle.sgf_tree.specs.Refusal.{IsFaultyAt}
 use Rattle.sgf_tree.specs.inner.Progress.{ComesTo, IsRun}
 use Rattle.sgf_tree.specs.inner.GamesRead.{open_count, tip, HoldStack, IsOpening, StandsBetween, IsSequenceRead, IsOwnRun, unmarked, ClosesRun, IsRead}
@@ -21,8 +21,8 @@ use Rattle.sgf_tree.proofs.Spans.{run-white}
 use Rattle.sgf_tree.proofs.Stacks.{game_count-followed}
 use Rattle.sgf_tree.proofs.ValueEnds.{ends-faulty, refused-faulty}
 
-pub game-next : (at : ℕ) (k : Stack) (b : ℕ) → step at (after_game k) b ≡ between_games k b
-unfolding step
+pub game-next : (at : ℕ) (k : Stack) (b : ℕ) → next_state at (after_game k) b ≡ between_games k b
+unfolding next_state
 game-next at k b = refl
 
 none-accepted : accepted (after_game (record { closed = no_games; unclosed = [] })) ≡ None
@@ -176,7 +176,7 @@ module _ (t : List ℕ) where
         let done = closes ns' parent h in
         let up : tip so_far.stack.closed inmost.outer ≡ parent =
         some-same (sym (own-parent so_far.stack.closed inmost.inner inmost.outer ns held-inner.same_rows) ∙ done.parent_is) in
-        let step_is : step at so_far.stands.state (get_or t at 0) ≡ Some (after_game closed_stack) =
+        let step_is : next_state at so_far.stands.state (get_or t at 0) ≡ Some (after_game closed_stack) =
         so_far.stands.next lt ∙ ap (between_games so_far.stack) e ∙ ap (close_in so_far.stack.closed) inmost.is ∙ closed-in so_far.stack.closed inmost.inner inmost.outer in
         record {
           stack = closed_stack;

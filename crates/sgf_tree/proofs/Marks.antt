@@ -3,7 +3,7 @@ use Rattle.std.proofs.Common.{◌≡◌, ◌≢◌, ℕ, ◌+◌, ◌<◌, ◌�
 use Rattle.std.proofs.lemmas.Bool.{cases_lt}
 use Rattle.sgf_tree.specs.Tree.{no_games}
 use Rattle.sgf_tree.specs.Spelling.{is_white}
-use Rattle.sgf_tree.specs.inner.Machine.{Stack, MachineState, start, first_of_mark, second_of_mark, after_game, between_games, step, accepted}
+use Rattle.sgf_tree.specs.inner.Machine.{Stack, MachineState, start, first_of_mark, second_of_mark, after_game, between_games, next_state, accepted}
 use Rattle.sgf_tree.specs.Refusal.{IsFaultyAt}
 use Rattle.sgf_tree.specs.inner.Progress.{ComesTo, IsRun}
 use Rattle.sgf_tree.specs.inner.GamesRead.{StandsBetween, IsMarkRead}
@@ -17,28 +17,28 @@ use Rattle.sgf_tree.proofs.ValueEnds.{ends-faulty, refused-faulty}
 abbrev nothing : Stack
 nothing = record { closed = no_games; unclosed = [] }
 
-start-first : (at : ℕ) → step at start 239 ≡ Some first_of_mark
-unfolding step
+start-first : (at : ℕ) → next_state at start 239 ≡ Some first_of_mark
+unfolding next_state
 start-first at = refl
 
-start-other : (at b : ℕ) → b ≢ 239 → step at start b ≡ between_games nothing b
-unfolding step
+start-other : (at b : ℕ) → b ≢ 239 → next_state at start b ≡ between_games nothing b
+unfolding next_state
 start-other at b ne = rw (ne_eqb b 239 ne)
 
-first-second : (at : ℕ) → step at first_of_mark 187 ≡ Some second_of_mark
-unfolding step
+first-second : (at : ℕ) → next_state at first_of_mark 187 ≡ Some second_of_mark
+unfolding next_state
 first-second at = refl
 
-first-refused : (at b : ℕ) → b ≢ 187 → step at first_of_mark b ≡ None
-unfolding step
+first-refused : (at b : ℕ) → b ≢ 187 → next_state at first_of_mark b ≡ None
+unfolding next_state
 first-refused at b ne = rw (ne_eqb b 187 ne)
 
-second-third : (at : ℕ) → step at second_of_mark 191 ≡ Some (after_game nothing)
-unfolding step
+second-third : (at : ℕ) → next_state at second_of_mark 191 ≡ Some (after_game nothing)
+unfolding next_state
 second-third at = refl
 
-second-refused : (at b : ℕ) → b ≢ 191 → step at second_of_mark b ≡ None
-unfolding step
+second-refused : (at b : ℕ) → b ≢ 191 → next_state at second_of_mark b ≡ None
+unfolding next_state
 second-refused at b ne = rw (ne_eqb b 191 ne)
 
 start-end : accepted start ≡ accepted (after_game nothing)
@@ -87,7 +87,7 @@ module _ (t : List ℕ) where
       }
 
   -- a part of it
-  part-faulty : (at : ℕ) (z : MachineState) → at ≤ length t → ComesTo t at z → accepted z ≡ None → (at < length t → step at z (get_or t at 0) ≡ None) → IsFaultyAt t at
+  part-faulty : (at : ℕ) (z : MachineState) → at ≤ length t → ComesTo t at z → accepted z ≡ None → (at < length t → next_state at z (get_or t at 0) ≡ None) → IsFaultyAt t at
   part-faulty at z le reached a refused =
       elim (cases_lt at (length t)) [
         | inl lt ↦ refused-faulty t at z lt reached (refused lt)
@@ -126,7 +126,7 @@ module _ (t : List ℕ) where
               state = read.state;
               reached = subst (λ i. ComesTo t i read.state) same read.reached;
               next =
-                  subst (λ i. i < length t → step i read.state (get_or t i 0) ≡ between_games nothing (get_or t i 0)) same read.next;
+                  subst (λ i. i < length t → next_state i read.state (get_or t i 0) ≡ between_games nothing (get_or t i 0)) same read.next;
               end = read.end;
               not_white = white.stops;
             }

@@ -4,7 +4,7 @@ use Rattle.std.proofs.lemmas.Bool.{cases_lt, or_cases, or_parts, or_left, false�
 use Rattle.std.proofs.lemmas.List.{take_more}
 use Rattle.std.proofs.lemmas.List.Elements.{filter-append}
 use Rattle.sgf_tree.specs.Spelling.{is_white, is_upper, is_lower}
-use Rattle.sgf_tree.specs.inner.Machine.{Started, MachineState, in_name, after_name, in_value, step, accepted}
+use Rattle.sgf_tree.specs.inner.Machine.{Started, MachineState, in_name, after_name, in_value, next_state, accepted}
 use Rattle.sgf_tree.specs.Refusal.{IsFaultyAt}
 use Rattle.sgf_tree.specs.inner.NodeText.{is_letter, name_in}
 use Rattle.sgf_tree.specs.inner.Progress.{ComesTo, IsRun}
@@ -52,20 +52,20 @@ name-reached t start end n lt capital letters h =
 pub record StandsAfterName (t : List ℕ) (at : ℕ) (n : Started) (name : List ℕ) : Type 0 where
   pub state : MachineState
   pub reached : ComesTo t at state
-  pub bracket : step at state 91 ≡ Some (in_value n name [] [])
-  pub refused : at < length t → get_or t at 0 ≢ 91 → step at state (get_or t at 0) ≡ None
+  pub bracket : next_state at state 91 ≡ Some (in_value n name [] [])
+  pub refused : at < length t → get_or t at 0 ≢ 91 → next_state at state (get_or t at 0) ≡ None
   pub unaccepted : accepted state ≡ None
 
-name-white : (at : ℕ) (n : Started) (name : List ℕ) (b : ℕ) → IsTrue (is_white b) → step at (in_name n name) b ≡ Some (after_name n name)
-unfolding step
+name-white : (at : ℕ) (n : Started) (name : List ℕ) (b : ℕ) → IsTrue (is_white b) → next_state at (in_name n name) b ≡ Some (after_name n name)
+unfolding next_state
 name-white at n name b h = rw (white-not_upper b h, white-not_lower b h, h)
 
-name-bracket : (at : ℕ) (n : Started) (name : List ℕ) → step at (in_name n name) 91 ≡ Some (in_value n name [] [])
-unfolding step
+name-bracket : (at : ℕ) (n : Started) (name : List ℕ) → next_state at (in_name n name) 91 ≡ Some (in_value n name [] [])
+unfolding next_state
 name-bracket at n name = refl
 
-name-refused : (at : ℕ) (n : Started) (name : List ℕ) (b : ℕ) → is_letter b ≡ false → is_white b ≡ false → b ≢ 91 → step at (in_name n name) b ≡ None
-unfolding step
+name-refused : (at : ℕ) (n : Started) (name : List ℕ) (b : ℕ) → is_letter b ≡ false → is_white b ≡ false → b ≢ 91 → next_state at (in_name n name) b ≡ None
+unfolding next_state
 name-refused at n name b letter white ne =
     let parts = or_parts (is_upper b) (is_lower b) letter in rw (parts.0, parts.1, white, ne_eqb b 91 ne)
 
@@ -73,12 +73,12 @@ name-unaccepted : (n : Started) (name : List ℕ) → accepted (in_name n name) 
 unfolding accepted
 name-unaccepted n name = refl
 
-after-bracket : (at : ℕ) (n : Started) (name : List ℕ) → step at (after_name n name) 91 ≡ Some (in_value n name [] [])
-unfolding step
+after-bracket : (at : ℕ) (n : Started) (name : List ℕ) → next_state at (after_name n name) 91 ≡ Some (in_value n name [] [])
+unfolding next_state
 after-bracket at n name = refl
 
-after-refused : (at : ℕ) (n : Started) (name : List ℕ) (b : ℕ) → is_white b ≡ false → b ≢ 91 → step at (after_name n name) b ≡ None
-unfolding step
+after-refused : (at : ℕ) (n : Started) (name : List ℕ) (b : ℕ) → is_white b ≡ false → b ≢ 91 → next_state at (after_name n name) b ≡ None
+unfolding next_state
 after-refused at n name b white ne = rw (white, ne_eqb b 91 ne)
 
 after-unaccepted : (n : Started) (name : List ℕ) → accepted (after_name n name) ≡ None

@@ -2,7 +2,7 @@
 use Rattle.std.proofs.Common.{◌≡◌, ◌≢◌, ℕ, ◌+◌, ◌<◌, ◌≤◌, false, IsTrue, List, [], ◌∷◌, ◌++◌, length, get_or, Option, Some, None, refl, ap, subst, ◌∙◌, arith, ne_eqb}
 use Rattle.sgf_tree.specs.Tree.{Property}
 use Rattle.sgf_tree.specs.Spelling.{is_white, is_upper}
-use Rattle.sgf_tree.specs.inner.Machine.{Started, MachineState, in_node, in_name, after_value, after_node, with_property, ended, step, accepted}
+use Rattle.sgf_tree.specs.inner.Machine.{Started, MachineState, in_node, in_name, after_value, after_node, with_property, ended, next_state, accepted}
 use Rattle.sgf_tree.specs.inner.Progress.{ComesTo, IsRun}
 use Rattle.sgf_tree.specs.inner.PropertiesRead.{IsPropertyRead, StandsAfterNode, with_properties, ArePropertiesRead}
 use Rattle.sgf_tree.proofs.Classes.{upper-not_white, upper-not_bracket}
@@ -26,14 +26,14 @@ NoBracket None b = Unit {0}
 NoBracket (Some p) b = b ≢ 91
 
 -- an upper-case letter begins the next property
-name-begins : (at : ℕ) (done : Started) (last : Option Property) (b : ℕ) → IsTrue (is_upper b) → step at (state_of done last) b ≡ Some (in_name (finished done last) (b ∷ []))
-unfolding step
+name-begins : (at : ℕ) (done : Started) (last : Option Property) (b : ℕ) → IsTrue (is_upper b) → next_state at (state_of done last) b ≡ Some (in_name (finished done last) (b ∷ []))
+unfolding next_state
 name-begins at done None b h = rw (upper-not_white b h, h)
 name-begins at done (Some p) b h = rw (upper-not_white b h, upper-not_bracket b h, h)
 
 -- another byte ends the node
-node-ends : (at : ℕ) (done : Started) (last : Option Property) (b : ℕ) → is_white b ≡ false → is_upper b ≡ false → NoBracket last b → step at (state_of done last) b ≡ after_node at (ended (finished done last)) b
-unfolding step
+node-ends : (at : ℕ) (done : Started) (last : Option Property) (b : ℕ) → is_white b ≡ false → is_upper b ≡ false → NoBracket last b → next_state at (state_of done last) b ≡ after_node at (ended (finished done last)) b
+unfolding next_state
 node-ends at done None b white upper other = rw (white, upper)
 node-ends at done (Some p) b white upper other = rw (white, ne_eqb b 91 other, upper)
 

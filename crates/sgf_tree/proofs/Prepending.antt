@@ -5,7 +5,7 @@ use Rattle.sgf_tree.specs.Tree.{Property, Node, Games, no_games, game, values}
 use Rattle.sgf_tree.specs.RawValue.{no_unit, plain, escaped}
 use Rattle.sgf_tree.specs.Spelling.{is_white, is_upper, White, no_white, white, no_letter, upper, lower, prop_value, no_value, value, property, no_property, properties, IsNode, node, AreNodes, no_node, nodes, AreGames, no_game, games, no_mark, mark}
 use Rattle.sgf_tree.specs.inner.Machine.{OpenGame, Stack, Started, MachineState, after_escape, after_game, property_of, with_property, ended, whole_game, close_in}
-use Rattle.sgf_tree.proofs.Transitions.{Between, white_between, opens_game, closes_game, Behind, next_node, opens_below, closes_nodes, no_stack, Takes, mark_first, mark_second, mark_third, at_start, at_game, white_opened, first_node, white_node, first_name, ends_bare, upper_name, lower_name, white_name, first_value, white_after_name, later_value, ends_value, escapes, plain_byte, escaped_byte, white_value, next_value, next_name, ends_node}
+use Rattle.sgf_tree.proofs.Transitions.{Between, white_between, opens_game, closes_game, AfterNode, next_node, opens_below, closes_nodes, no_stack, IsTransition, mark_first, mark_second, mark_third, at_start, at_game, white_opened, first_node, white_node, first_name, ends_bare, upper_name, lower_name, white_name, first_value, white_after_name, later_value, ends_value, escapes, plain_byte, escaped_byte, white_value, next_value, next_name, ends_node}
 use Rattle.sgf_tree.proofs.Completion.{followed-none, followed_assoc, closed-in, nodes-none, nodes-more, add_games, with_values, with_properties, Rest, ends, closes, After_node, In_node, Opened, After_value, In_value, After_name, In_name, Completes}
 
 module _ (whole : ℕ) (c : Games) where
@@ -53,7 +53,7 @@ module _ (whole : ℕ) (c : Games) where
   pub bare : (k : Stack) (t : List ℕ) → Rest whole c k.closed k.unclosed t → After_node whole c k t
   bare k t r = ([], t, no_node, rw nodes-none r)
 
-  after : (at : ℕ) (k : Stack) {b : ℕ} {y : MachineState} (t : List ℕ) → at + length (b ∷ t) ≡ whole → Behind at k b y → Completes whole c y t
+  after : (at : ℕ) (k : Stack) {b : ℕ} {y : MachineState} (t : List ℕ) → at + length (b ∷ t) ≡ whole → AfterNode at k b y → Completes whole c y t
       → After_node whole c k (b ∷ t)
   after at k t e next_node (ps, u, are, (ns, v, more, r)) =
       (record { place = at; properties = ps } ∷ ns, v, nodes (node no_white e are) more, rw nodes-more at r)
@@ -99,7 +99,7 @@ module _ (whole : ℕ) (c : Games) where
       (92 ∷ b ∷ v, u, rw e (escaped units), rw append_assoc at r)
 
   -- a byte before a text that completes the state after it
-  pub prepend : (at : ℕ) (z : MachineState) (b : ℕ) (y : MachineState) (t : List ℕ) → Takes at z b y → at + length (b ∷ t) ≡ whole
+  pub prepend : (at : ℕ) (z : MachineState) (b : ℕ) (y : MachineState) (t : List ℕ) → IsTransition at z b y → at + length (b ∷ t) ≡ whole
       → Completes whole c y t → Completes whole c z (b ∷ t)
   prepend at z b y t mark_first e (s, f, r) = (s, rw f mark, r)
   prepend at z b y t mark_second e (s, f, r) = (s, ap (◌∷◌ 187) f, r)

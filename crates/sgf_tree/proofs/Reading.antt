@@ -3,7 +3,7 @@ use Rattle.std.proofs.Common.{◌≡◌, ℕ, ◌+◌, ◌-◌, Bool, List, [], 
 use Rattle.sgf_tree.specs.Tree.{Property, values}
 use Rattle.sgf_tree.specs.RawValue.{IsValue, no_unit, plain, escaped}
 use Rattle.sgf_tree.specs.Spelling.{White, no_white, white, Letters, no_letter, upper, lower, prop_value, ArePropValues, no_value, value}
-use Rattle.sgf_tree.specs.inner.Machine.{Stack, Started, MachineState, start, in_name, after_name, in_value, after_escape, after_value, property_of, new_node, step, run}
+use Rattle.sgf_tree.specs.inner.Machine.{Stack, Started, MachineState, start, in_name, after_name, in_value, after_escape, after_value, property_of, new_node, next_state, run}
 use Rattle.sgf_tree.proofs.Classes.{white-not_upper, white-not_lower, lower-not_upper}
 use Rattle.sgf_tree.proofs.Skipping.{Stays, stays-after_name, stays-after_value}
 use Rattle.sgf_tree.proofs.Completion.{with_values}
@@ -11,14 +11,14 @@ use Rattle.sgf_tree.proofs.Completion.{with_values}
 -- the machine over what is left of a text of `whole` bytes
 unfoldable pub read : ℕ → MachineState → List ℕ → Option MachineState
 read whole z [] = Some z
-read whole z (b ∷ t) = option_and_then (λ y. read whole y t) (step (whole - length (b ∷ t)) z b)
+read whole z (b ∷ t) = option_and_then (λ y. read whole y t) (next_state (whole - length (b ∷ t)) z b)
 
 run-read : (whole at : ℕ) (z : MachineState) (t : List ℕ) → at + length t ≡ whole → run at z t ≡ read whole z t
 unfolding run read
 run-read whole at z [] e = refl
 run-read whole at z (b ∷ t) e =
     let f : whole - length (b ∷ t) ≡ at = omega arith in
-    rw f (also (λ y. run-read whole (at + 1) y t (omega arith)) (step at z b))
+    rw f (also (λ y. run-read whole (at + 1) y t (omega arith)) (next_state at z b))
   where
     also : ((y : MachineState) → run (at + 1) y t ≡ read whole y t) → (o : Option MachineState)
         → option_and_then (λ next. run (at + 1) next t) o ≡ option_and_then (λ y. read whole y t) o
@@ -31,13 +31,13 @@ run-whole t = run-read (length t) 0 start t (omega arith)
 
 module _ (whole : ℕ) where
   -- one byte
-  pub one-byte : (z y : MachineState) (b : ℕ) (t : List ℕ) → ((at : ℕ) → step at z b ≡ Some y) → read whole z (b ∷ t) ≡ read whole y t
+  pub one-byte : (z y : MachineState) (b : ℕ) (t : List ℕ) → ((at : ℕ) → next_state at z b ≡ Some y) → read whole z (b ∷ t) ≡ read whole y t
   unfolding read
   one-byte z y b t e = ap (option_and_then (λ x. read whole x t)) (e (whole - length (b ∷ t)))
 
   -- the `;` of a node, with its place
   pub one-node : (z : MachineState) (k : Stack) (opens : Bool) (place : ℕ) (t : List ℕ) → place + length (59 ∷ t) ≡ whole
-      → ((at : ℕ) → step at z 59 ≡ Some (new_node k opens at)) → read whole z (59 ∷ t) ≡ read whole (new_node k opens place) t
+      → ((at : ℕ) → next_state at z 59 ≡ Some (new_node k opens at)) → read whole z (59 ∷ t) ≡ read whole (new_node k opens place) t
   unfolding read
   one-node z k opens place t f e =
       let g : whole - length (59 ∷ t) ≡ place = omega arith in
@@ -50,7 +50,7 @@ module _ (whole : ℕ) where
 
   over-units : {v t r : List ℕ} (n : Started) (name : List ℕ) (before : List (List ℕ)) (so_far : List ℕ) → IsValue v t r
       → read whole (in_value n name before so_far) t ≡ read whole (in_value n name before (so_far ++ v)) r
-  unfolding step
+  unfolding next_state
   over-units n name before so_far no_unit = rw append-nil
   over-units n name before so_far (plain {b} {s} x y u) =
       one-byte (in_value n name before so_far) (in_value n name before (so_far ++ b ∷ [])) b s
@@ -64,14 +64,14 @@ module _ (whole : ℕ) where
   -- a value after its `[`, with its `]`
   pub over-value : {v t r : List ℕ} (n : Started) (name : List ℕ) (before : List (List ℕ)) → IsValue v t (93 ∷ r)
       → read whole (in_value n name before []) t ≡ read whole (after_value n (property_of name before v)) r
-  unfolding step
+  unfolding next_state
   over-value {v} {t} {r} n name before u =
       over-units n name before [] u
       ∙ one-byte (in_value n name before v) (after_value n (property_of name before v)) 93 r (λ at. refl)
 
   pub over-values : {vs : List (List ℕ)} {t r : List ℕ} (n : Started) (p : Property) → ArePropValues vs t r
       → read whole (after_value n p) t ≡ read whole (after_value n (with_values p vs)) r
-  unfolding step
+  unfolding next_state
   over-values n p no_value = rw append-nil
   over-values n p (value (prop_value {value = v} {t} w u) are) =
       over-white (after_value n p) (stays-after_value n p) w
@@ -81,7 +81,7 @@ module _ (whole : ℕ) where
 
   pub over-letters : {more t r : List ℕ} (n : Started) (name : List ℕ) → Letters more t r
       → read whole (in_name n name) t ≡ read whole (in_name n (name ++ more)) r
-  unfolding step
+  unfolding next_state
   over-letters n name no_letter = rw append-nil
   over-letters n name (upper {b} {s} h l) =
       one-byte (in_name n name) (in_name n (name ++ b ∷ [])) b s (λ at. rw h)
@@ -92,7 +92,7 @@ module _ (whole : ℕ) where
   -- after a name, up to the first value
   pub to-value : {s t : List ℕ} (n : Started) (name : List ℕ) → White s (91 ∷ t)
       → read whole (in_name n name) s ≡ read whole (in_value n name [] []) t
-  unfolding step
+  unfolding next_state
   to-value {s} {t} n name no_white = one-byte (in_name n name) (in_value n name [] []) 91 t (λ at. refl)
   to-value {s} {t} n name (white {b} {s = u} h w) =
       one-byte (in_name n name) (after_name n name) b u (λ at. rw (white-not_upper b h, white-not_lower b h, h))

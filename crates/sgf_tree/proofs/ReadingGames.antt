@@ -2,7 +2,7 @@
 use Rattle.std.proofs.Common.{◌≡◌, ℕ, Bool, false, true, IsTrue, List, [], ◌∷◌, Some, refl, sym, ap, ◌∙◌, append_assoc, append-nil}
 use Rattle.sgf_tree.specs.Tree.{Property, Node, Games, no_games, game}
 use Rattle.sgf_tree.specs.Spelling.{is_upper, White, prop_value, IsProperty, property, AreProperties, no_property, properties, IsNode, node, AreNodes, no_node, nodes, AreGames, no_game, games}
-use Rattle.sgf_tree.specs.inner.Machine.{OpenGame, Stack, Started, MachineState, opened, in_node, in_name, after_value, after_game, joined, property_of, with_property, add_node, new_game, ended, whole_game, close, new_node, step}
+use Rattle.sgf_tree.specs.inner.Machine.{OpenGame, Stack, Started, MachineState, opened, in_node, in_name, after_value, after_game, joined, property_of, with_property, add_node, new_game, ended, whole_game, close, new_node, next_state}
 use Rattle.sgf_tree.proofs.Classes.{upper-not_white, upper-not_bracket}
 use Rattle.sgf_tree.proofs.Completion.{followed-none, followed_assoc, nodes-none, nodes-more, closed-in, add_games, add_nodes, with_properties}
 use Rattle.sgf_tree.proofs.Skipping.{Stays, stays-opened, stays-after_game}
@@ -28,27 +28,27 @@ games-more closed (g ∷ gs) a b = rw followed_assoc
 
 module _ (whole : ℕ) where
   stays-end : {n : Started} {z : MachineState} → AtEnd n z → Stays z
-  unfolding step
+  unfolding next_state
   stays-end bare_end b at h = rw h
   stays-end value_end b at h = rw h
 
-  end-name : {n : Started} {z : MachineState} → AtEnd n z → (b at : ℕ) → IsTrue (is_upper b) → step at z b ≡ Some (in_name n (b ∷ []))
-  unfolding step
+  end-name : {n : Started} {z : MachineState} → AtEnd n z → (b at : ℕ) → IsTrue (is_upper b) → next_state at z b ≡ Some (in_name n (b ∷ []))
+  unfolding next_state
   end-name bare_end b at h = rw (upper-not_white b h, h)
   end-name value_end b at h = rw (upper-not_white b h, upper-not_bracket b h, h)
 
-  end-node : {n : Started} {z : MachineState} → AtEnd n z → (at : ℕ) → step at z 59 ≡ Some (new_node (ended n) false at)
-  unfolding step
+  end-node : {n : Started} {z : MachineState} → AtEnd n z → (at : ℕ) → next_state at z 59 ≡ Some (new_node (ended n) false at)
+  unfolding next_state
   end-node bare_end at = refl
   end-node value_end at = refl
 
-  end-opens : {n : Started} {z : MachineState} → AtEnd n z → (at : ℕ) → step at z 40 ≡ Some (opened (ended n))
-  unfolding step
+  end-opens : {n : Started} {z : MachineState} → AtEnd n z → (at : ℕ) → next_state at z 40 ≡ Some (opened (ended n))
+  unfolding next_state
   end-opens bare_end at = refl
   end-opens value_end at = refl
 
-  end-closes : {n : Started} {z : MachineState} → AtEnd n z → (at : ℕ) → step at z 41 ≡ close (ended n)
-  unfolding step
+  end-closes : {n : Started} {z : MachineState} → AtEnd n z → (at : ℕ) → next_state at z 41 ≡ close (ended n)
+  unfolding next_state
   end-closes bare_end at = refl
   end-closes value_end at = refl
 
@@ -72,7 +72,7 @@ module _ (whole : ℕ) where
 
   -- a node, from a state that takes its `;`
   over-node : {m : Node} {s r : List ℕ} (z : MachineState) (k : Stack) (opens : Bool) → Stays z
-      → ((at : ℕ) → step at z 59 ≡ Some (new_node k opens at)) → IsNode whole m s r
+      → ((at : ℕ) → next_state at z 59 ≡ Some (new_node k opens at)) → IsNode whole m s r
       → (y : MachineState) × EndsAs (ended (record { stack = k; opens = opens; place = m.place; properties = m.properties })) y
       × (read whole z s ≡ read whole y r)
   over-node z k opens stays e (node {place} {ps} {t = t} w f are) =
@@ -90,7 +90,7 @@ module _ (whole : ℕ) where
 
   -- a `(` after a game
   to-opened : {s t : List ℕ} (k : Stack) → White s (40 ∷ t) → read whole (after_game k) s ≡ read whole (opened k) t
-  unfolding step
+  unfolding next_state
   to-opened {s} {t} k w = over-white whole (after_game k) (stays-after_game k) w ∙ one-byte whole (after_game k) (opened k) 40 t (λ at. refl)
 
   -- where a `(` follows, the end of a node is like that of a game
@@ -104,7 +104,7 @@ module _ (whole : ℕ) where
   to-closed : {s t : List ℕ} (closed : Games) (g : OpenGame) (gs : List OpenGame) → White s (41 ∷ t)
       → read whole (after_game (record { closed = closed; unclosed = g ∷ gs })) s
       ≡ read whole (after_game (add_games closed gs (whole_game g))) t
-  unfolding step
+  unfolding next_state
   to-closed {s} {t} closed g gs w =
       let k : Stack = record { closed = closed; unclosed = g ∷ gs } in
       over-white whole (after_game k) (stays-after_game k) w
@@ -134,7 +134,7 @@ module _ (whole : ℕ) where
   pub over-games : {others : Games} {s r : List ℕ} (closed : Games) (unclosed : List OpenGame) → AreGames whole others s r
       → read whole (after_game (record { closed = closed; unclosed = unclosed })) s
       ≡ read whole (after_game (add_games closed unclosed others)) r
-  unfolding step
+  unfolding next_state
   over-games closed unclosed no_game = rw games-none
   over-games closed unclosed (games {first} {more} {below} {after} w n ns bs last hs) =
       let k : Stack = record { closed = closed; unclosed = unclosed } in

@@ -2,7 +2,7 @@
 use Rattle.std.proofs.Common.{◌≡◌, ℕ, ◌+◌, ◌<◌, List, [], ◌∷◌, ◌++◌, length, get_or, take, drop, Option, Some, None, option_and_then, refl, sym, ap, ◌∙◌, add-zero, arith}
 use Rattle.std.proofs.lemmas.List.{take_more, length-take-le, take-append-drop}
 use Rattle.std.proofs.lemmas.Option.{option_and_then_some}
-use Rattle.sgf_tree.specs.inner.Machine.{MachineState, start, step, run, accepted, collection_of}
+use Rattle.sgf_tree.specs.inner.Machine.{MachineState, start, next_state, run, accepted, collection_of}
 
 -- a byte is taken, and then the text after it
 then_run : (at : ℕ) (x : ℕ) (a b : List ℕ)
@@ -20,16 +20,16 @@ pub run-append : (at : ℕ) (z : MachineState) (a b : List ℕ)
     → run at z (a ++ b) ≡ option_and_then (λ next. run (at + length a) next b) (run at z a)
 unfolding run
 run-append at z [] b = rw add-zero
-run-append at z (x ∷ a) b = then_run at x a b (λ y. run-append (at + 1) y a b) (step at z x)
+run-append at z (x ∷ a) b = then_run at x a b (λ y. run-append (at + 1) y a b) (next_state at z x)
 
 -- what a run of two texts says of the first and the second
 pub run-through : (at : ℕ) (z y : MachineState) (a b : List ℕ) → run at z a ≡ Some y → run at z (a ++ b) ≡ run (at + length a) y b
 run-through at z y a b h = run-append at z a b ∙ ap (option_and_then (λ next. run (at + length a) next b)) h
 
 -- one byte
-pub run-one : (at : ℕ) (z : MachineState) (b : ℕ) → run at z (b ∷ []) ≡ step at z b
+pub run-one : (at : ℕ) (z : MachineState) (b : ℕ) → run at z (b ∷ []) ≡ next_state at z b
 unfolding run
-run-one at z b = some_same (step at z b)
+run-one at z b = some_same (next_state at z b)
   where
     some_same : (o : Option MachineState) → option_and_then Some o ≡ o
     some_same None = refl
@@ -47,19 +47,19 @@ run-cut n t = ap (run 0 start) (sym (take-append-drop n t)) ∙ run-append 0 sta
 
 -- the bytes up to an offset, and the one there
 pub run-take-more : (t : List ℕ) (at : ℕ) (z : MachineState) → at < length t → run 0 start (take at t) ≡ Some z
-    → run 0 start (take (at + 1) t) ≡ step at z (get_or t at 0)
+    → run 0 start (take (at + 1) t) ≡ next_state at z (get_or t at 0)
 run-take-more t at z lt h =
     let e : 0 + length (take at t) ≡ at = omega (arith, length-take-le at t) in
     rw (take_more t at 0 lt, run-through 0 start z (take at t) (get_or t at 0 ∷ []) h, e) (run-one at z (get_or t at 0))
 
 -- the byte at an offset is taken
 pub run-take-step : (t : List ℕ) (at : ℕ) (z y : MachineState) → run 0 start (take at t) ≡ Some z → at < length t
-    → step at z (get_or t at 0) ≡ Some y → run 0 start (take (at + 1) t) ≡ Some y
+    → next_state at z (get_or t at 0) ≡ Some y → run 0 start (take (at + 1) t) ≡ Some y
 run-take-step t at z y h lt s = run-take-more t at z lt h ∙ s
 
 -- the byte at an offset is refused
 pub run-take-refused : (t : List ℕ) (at : ℕ) (z : MachineState) → run 0 start (take at t) ≡ Some z → at < length t
-    → step at z (get_or t at 0) ≡ None → run 0 start (take (at + 1) t) ≡ None
+    → next_state at z (get_or t at 0) ≡ None → run 0 start (take (at + 1) t) ≡ None
 run-take-refused t at z h lt s = run-take-more t at z lt h ∙ s
 
 -- no byte has been read

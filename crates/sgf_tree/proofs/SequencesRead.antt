@@ -3,7 +3,7 @@ use Rattle.std.proofs.Common.{◌≡◌, ◌≢◌, ℕ, ◌+◌, ◌<◌, ◌�
 use Rattle.std.proofs.lemmas.Bool.{cases_lt}
 use Rattle.sgf_tree.specs.Tree.{Games, no_games, game}
 use Rattle.sgf_tree.specs.Spelling.{is_white}
-use Rattle.sgf_tree.specs.inner.Machine.{OpenGame, Stack, Started, opened, in_node, after_game, after_node, between_games, ended, new_game, new_node, step, accepted}
+use Rattle.sgf_tree.specs.inner.Machine.{OpenGame, Stack, Started, opened, in_node, after_game, after_node, between_games, ended, new_game, new_node, next_state, accepted}
 use Rattle.sgf_tree.specs.Refusal.{IsFaultyAt}
 use Rattle.sgf_tree.specs.inner.Progress.{ComesTo, IsRun}
 use Rattle.sgf_tree.specs.inner.PropertiesRead.{StandsAfterNode, with_properties}
@@ -17,12 +17,12 @@ use Rattle.sgf_tree.proofs.Skipping.{stays-opened}
 use Rattle.sgf_tree.proofs.Spans.{run-white}
 use Rattle.sgf_tree.proofs.ValueEnds.{ends-faulty, refused-faulty}
 
-opened-node : (at : ℕ) (k : Stack) → step at (opened k) 59 ≡ Some (new_node k true at)
-unfolding step
+opened-node : (at : ℕ) (k : Stack) → next_state at (opened k) 59 ≡ Some (new_node k true at)
+unfolding next_state
 opened-node at k = refl
 
-opened-refused : (at : ℕ) (k : Stack) (b : ℕ) → is_white b ≡ false → b ≢ 59 → step at (opened k) b ≡ None
-unfolding step
+opened-refused : (at : ℕ) (k : Stack) (b : ℕ) → is_white b ≡ false → b ≢ 59 → next_state at (opened k) b ≡ None
+unfolding next_state
 opened-refused at k b white ne = rw (white, ne_eqb b 59 ne)
 
 opened-unaccepted : (k : Stack) → accepted (opened k) ≡ None

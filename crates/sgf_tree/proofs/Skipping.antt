@@ -2,27 +2,27 @@
 use Rattle.std.proofs.Common.{◌≡◌, ℕ, IsTrue, List, Some}
 use Rattle.sgf_tree.specs.Tree.{Property}
 use Rattle.sgf_tree.specs.Spelling.{is_white}
-use Rattle.sgf_tree.specs.inner.Machine.{Stack, Started, MachineState, opened, in_node, after_name, after_value, after_game, step}
+use Rattle.sgf_tree.specs.inner.Machine.{Stack, Started, MachineState, opened, in_node, after_name, after_value, after_game, next_state}
 
 abbrev pub Stays : MachineState → Type 0
-Stays z = (b at : ℕ) → IsTrue (is_white b) → step at z b ≡ Some z
+Stays z = (b at : ℕ) → IsTrue (is_white b) → next_state at z b ≡ Some z
 
 pub stays-opened : (k : Stack) → Stays (opened k)
-unfolding step
+unfolding next_state
 stays-opened k b at h = rw h
 
 pub stays-in_node : (n : Started) → Stays (in_node n)
-unfolding step
+unfolding next_state
 stays-in_node n b at h = rw h
 
 pub stays-after_name : (n : Started) (name : List ℕ) → Stays (after_name n name)
-unfolding step
+unfolding next_state
 stays-after_name n name b at h = rw h
 
 pub stays-after_value : (n : Started) (p : Property) → Stays (after_value n p)
-unfolding step
+unfolding next_state
 stays-after_value n p b at h = rw h
 
 pub stays-after_game : (k : Stack) → Stays (after_game k)
-unfolding step
+unfolding next_state
 stays-after_game k b at h = rw h

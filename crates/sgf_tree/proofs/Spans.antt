@@ -3,22 +3,22 @@ use Rattle.std.proofs.Common.{◌≡◌, ◌≢◌, ℕ, zero, suc, ◌+◌, ◌
 use Rattle.std.proofs.lemmas.List.{take_more}
 use Rattle.std.proofs.lemmas.List.Elements.{filter-append}
 use Rattle.sgf_tree.specs.Spelling.{is_white, is_upper, is_lower}
-use Rattle.sgf_tree.specs.inner.Machine.{Started, MachineState, start, in_name, in_value, after_escape, step, run}
+use Rattle.sgf_tree.specs.inner.Machine.{Started, MachineState, start, in_name, in_value, after_escape, next_state, run}
 use Rattle.sgf_tree.proofs.Classes.{lower-not_upper}
 use Rattle.sgf_tree.proofs.Run.{run-take-step}
 use Rattle.sgf_tree.proofs.Skipping.{Stays}
 
 -- a letter, which goes on the name where it is an upper-case one
-one-upper : (at : ℕ) (n : Started) (name : List ℕ) (b : ℕ) → IsTrue (is_upper b) → step at (in_name n name) b ≡ Some (in_name n (name ++ b ∷ []))
-unfolding step
+one-upper : (at : ℕ) (n : Started) (name : List ℕ) (b : ℕ) → IsTrue (is_upper b) → next_state at (in_name n name) b ≡ Some (in_name n (name ++ b ∷ []))
+unfolding next_state
 one-upper at n name b h = rw h
 
-one-lower : (at : ℕ) (n : Started) (name : List ℕ) (b : ℕ) → IsTrue (is_lower b) → step at (in_name n name) b ≡ Some (in_name n name)
-unfolding step
+one-lower : (at : ℕ) (n : Started) (name : List ℕ) (b : ℕ) → IsTrue (is_lower b) → next_state at (in_name n name) b ≡ Some (in_name n name)
+unfolding next_state
 one-lower at n name b h = rw (lower-not_upper b h, h)
 
 one-letter : (at : ℕ) (n : Started) (name : List ℕ) (b : ℕ) → IsTrue (is_upper b) ⊎ IsTrue (is_lower b)
-    → step at (in_name n name) b ≡ Some (in_name n (name ++ filter is_upper (b ∷ [])))
+    → next_state at (in_name n name) b ≡ Some (in_name n (name ++ filter is_upper (b ∷ [])))
 one-letter at n name b (inl h) =
     one-upper at n name b h ∙ ap (λ c. Some (in_name n (name ++ (if c then b ∷ [] else [])))) (sym h)
 one-letter at n name b (inr h) =
@@ -27,7 +27,7 @@ one-letter at n name b (inr h) =
 
 module _ (t : List ℕ) where
   -- each byte of the span takes the state of its offset to the next one's
-  run-bytes : (at to n : ℕ) (f : ℕ → MachineState) → to ≤ length t → ((i : ℕ) → at ≤ i → i < to → step i (f i) (get_or t i 0) ≡ Some (f (i + 1)))
+  run-bytes : (at to n : ℕ) (f : ℕ → MachineState) → to ≤ length t → ((i : ℕ) → at ≤ i → i < to → next_state i (f i) (get_or t i 0) ≡ Some (f (i + 1)))
       → run 0 start (take at t) ≡ Some (f at) → at + n ≤ to → run 0 start (take (at + n) t) ≡ Some (f (at + n))
   run-bytes at to zero f within s h le = rw add-zero h
   run-bytes at to (suc n) f within s h le =
@@ -36,7 +36,7 @@ module _ (t : List ℕ) where
       (s (at + n) (omega arith) (omega arith)))
 
   pub run-span : (at to : ℕ) (f : ℕ → MachineState) → at ≤ to → to ≤ length t
-      → ((i : ℕ) → at ≤ i → i < to → step i (f i) (get_or t i 0) ≡ Some (f (i + 1)))
+      → ((i : ℕ) → at ≤ i → i < to → next_state i (f i) (get_or t i 0) ≡ Some (f (i + 1)))
       → run 0 start (take at t) ≡ Some (f at) → run 0 start (take to t) ≡ Some (f to)
   run-span at to f le within s h =
       let e : at + (to - at) ≡ to = omega arith in
@@ -65,7 +65,7 @@ module _ (t : List ℕ) where
       → ((i : ℕ) → at ≤ i → i < to → IsTrue (is_upper (get_or t i 0)) ⊎ IsTrue (is_lower (get_or t i 0)))
       → run 0 start (take at t) ≡ Some (in_name n name)
       → run 0 start (take to t) ≡ Some (in_name n (name ++ filter is_upper (slice_range t at to)))
-  unfolding step
+  unfolding next_state
   run-letters at to n name le within letters h =
       run-span at to (λ i. in_name n (name ++ filter is_upper (slice_range t at i))) le within
       (λ i low high.
@@ -78,7 +78,7 @@ module _ (t : List ℕ) where
       → ((i : ℕ) → at ≤ i → i < to → (get_or t i 0 ≢ 93) × (get_or t i 0 ≢ 92))
       → run 0 start (take at t) ≡ Some (in_value n name before so_far)
       → run 0 start (take to t) ≡ Some (in_value n name before (so_far ++ slice_range t at to))
-  unfolding step
+  unfolding next_state
   run-plain at to n name before so_far le within plain h =
       run-span at to (λ i. in_value n name before (so_far ++ slice_range t at i)) le within
       (λ i low high. let (x, y) = plain i low high in
@@ -89,7 +89,7 @@ module _ (t : List ℕ) where
   pub run-escape : (at : ℕ) (n : Started) (name : List ℕ) (before : List (List ℕ)) (so_far : List ℕ) → at + 1 < length t
       → get_or t at 0 ≡ 92 → run 0 start (take at t) ≡ Some (in_value n name before so_far)
       → run 0 start (take (at + 2) t) ≡ Some (in_value n name before (so_far ++ slice_range t at (at + 2)))
-  unfolding step
+  unfolding next_state
   run-escape at n name before so_far lt e h =
       let two : at + 2 ≡ at + 1 + 1 = omega arith in
       let span : slice_range t at (at + 2) ≡ 92 ∷ get_or t (at + 1) 0 ∷ [] =

@@ -4,7 +4,7 @@ use Rattle.std.proofs.Common.{inl, inr, length-take, length-drop}
 use Rattle.std.proofs.lemmas.Bool.{and_parts, and_cases, not-true, not-false, cases_lt, eqb-false, false≢true}
 use Rattle.memchr.specs.Find.{IsFirstByte, is_byte2}
 use Rattle.std.proofs.lemmas.List.{drop-drop, take_all}
-use Rattle.sgf_tree.specs.inner.Machine.{Started, MachineState, start, in_value, after_escape, step, run, accepted}
+use Rattle.sgf_tree.specs.inner.Machine.{Started, MachineState, start, in_value, after_escape, next_state, run, accepted}
 use Rattle.sgf_tree.specs.Refusal.{IsFaultyAt}
 use Rattle.sgf_tree.specs.inner.Progress.{ComesTo, IsRun, is_plain, IsUnended}
 use Rattle.sgf_tree.proofs.Faults.{ended-fault, refused-fault}
@@ -37,7 +37,7 @@ ends-faulty t z h a =
     let fault = ended-fault t z (reaches-all t z h) a in record { unspelled = fault.1; first_fault = fault.0 }
 
 -- a byte is refused
-pub refused-faulty : (t : List ℕ) (at : ℕ) (z : MachineState) → at < length t → ComesTo t at z → step at z (get_or t at 0) ≡ None → IsFaultyAt t at
+pub refused-faulty : (t : List ℕ) (at : ℕ) (z : MachineState) → at < length t → ComesTo t at z → next_state at z (get_or t at 0) ≡ None → IsFaultyAt t at
 refused-faulty t at z lt h s =
     let fault = refused-fault t at z lt h s in record { unspelled = fault.1; first_fault = fault.0 }
 
@@ -125,8 +125,8 @@ escape-unaccepted : (n : Started) (name : List ℕ) (before : List (List ℕ)) (
 unfolding accepted
 escape-unaccepted n name before so_far = refl
 
-step-escape : (at : ℕ) (n : Started) (name : List ℕ) (before : List (List ℕ)) (so_far : List ℕ) → step at (in_value n name before so_far) 92 ≡ Some (after_escape n name before so_far)
-unfolding step
+step-escape : (at : ℕ) (n : Started) (name : List ℕ) (before : List (List ℕ)) (so_far : List ℕ) → next_state at (in_value n name before so_far) 92 ≡ Some (after_escape n name before so_far)
+unfolding next_state
 step-escape at n name before so_far = refl
 
 module _ (t : List ℕ) (at : ℕ) where

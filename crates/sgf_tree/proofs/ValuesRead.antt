@@ -2,19 +2,19 @@
 use Rattle.std.proofs.Common.{◌≡◌, ◌≢◌, ℕ, ◌+◌, ◌<◌, ◌≤◌, false, List, [], length, get_or, slice_range, Some, refl, arith}
 use Rattle.sgf_tree.specs.Tree.{Property, values}
 use Rattle.sgf_tree.specs.Spelling.{is_white}
-use Rattle.sgf_tree.specs.inner.Machine.{Started, in_value, after_value, property_of, step}
+use Rattle.sgf_tree.specs.inner.Machine.{Started, in_value, after_value, property_of, next_state}
 use Rattle.sgf_tree.specs.inner.Progress.{ComesTo, IsRun, IsValueEnd}
 use Rattle.sgf_tree.specs.inner.PropertiesRead.{AreValuesRead}
 use Rattle.sgf_tree.proofs.Run.{run-take-step}
 use Rattle.sgf_tree.proofs.Skipping.{stays-after_value}
 use Rattle.sgf_tree.proofs.Spans.{run-white}
 
-step-close : (at : ℕ) (n : Started) (name : List ℕ) (before : List (List ℕ)) (value : List ℕ) → step at (in_value n name before value) 93 ≡ Some (after_value n (property_of name before value))
-unfolding step
+step-close : (at : ℕ) (n : Started) (name : List ℕ) (before : List (List ℕ)) (value : List ℕ) → next_state at (in_value n name before value) 93 ≡ Some (after_value n (property_of name before value))
+unfolding next_state
 step-close at n name before value = refl
 
-step-again : (at : ℕ) (n : Started) (p : Property) → step at (after_value n p) 91 ≡ Some (in_value n p.name (values p) [])
-unfolding step
+step-again : (at : ℕ) (n : Started) (p : Property) → next_state at (after_value n p) 91 ≡ Some (in_value n p.name (values p) [])
+unfolding next_state
 step-again at n p = refl
 
 module _ (t : List ℕ) where

@@ -3,7 +3,7 @@ use Rattle.std.specs.Prelude.{◌≡◌, ℕ, ◌+◌, ◌-◌, ◌<◌, ◌≤�
 use Rattle.sgf_tree.specs.Tree.{Games, no_games, game, game_count, node_count}
 use Rattle.sgf_tree.specs.Spelling.{is_white}
 use Rattle.sgf_tree.specs.FileOrder.{Row, further_rows, rows, game_of}
-use Rattle.sgf_tree.specs.inner.Machine.{OpenGame, Stack, MachineState, opened, after_game, between_games, step, accepted}
+use Rattle.sgf_tree.specs.inner.Machine.{OpenGame, Stack, MachineState, opened, after_game, between_games, next_state, accepted}
 use Rattle.sgf_tree.specs.inner.Layout.{parent_by, opens_by, outline, outlines_by}
 use Rattle.sgf_tree.specs.inner.Progress.{ComesTo, IsTrueFault}
 use Rattle.sgf_tree.specs.inner.PropertiesRead.{ArePropertiesRead}
@@ -68,7 +68,7 @@ IsOpening k Next = ⊥
 pub record StandsBetween (t : List ℕ) (at : ℕ) (k : Stack) : Type 0 where
   pub state : MachineState
   pub reached : ComesTo t at state
-  pub next : at < length t → step at state (slice_index t at) ≡ between_games k (slice_index t at)
+  pub next : at < length t → next_state at state (slice_index t at) ≡ between_games k (slice_index t at)
   pub end : accepted state ≡ accepted (after_game k)
   pub not_white : at < length t → is_white (slice_index t at) ≡ false
 
@@ -118,7 +118,7 @@ pub record IsMarkRead (t : List ℕ) (at : ℕ) : Type 0 where
   pub state : MachineState
   pub reached : ComesTo t at state
   pub next : at < length t
-      → step at state (slice_index t at) ≡ between_games (record { closed = no_games; unclosed = [] }) (slice_index t at)
+      → next_state at state (slice_index t at) ≡ between_games (record { closed = no_games; unclosed = [] }) (slice_index t at)
   pub end : accepted state ≡ accepted (after_game (record { closed = no_games; unclosed = [] }))
 
 -- where the machine has the games of a stack and stands after a `(` at `at`, the game's own nodes were read up to `end`

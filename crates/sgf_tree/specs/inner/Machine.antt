@@ -104,44 +104,44 @@ between_games k b =
     else None))
 
 -- the byte b at an offset takes a state to the next one, or is refused
-unfoldable pub step : ℕ → MachineState → ℕ → Option MachineState
-step at start b = if b == byte_ef then Some first_of_mark else between_games (record { closed = no_games; unclosed = [] }) b
-step at first_of_mark b = if b == byte_bb then Some second_of_mark else None
-step at second_of_mark b = if b == byte_bf then Some (after_game (record { closed = no_games; unclosed = [] })) else None
-step at (opened k) b =
+unfoldable pub next_state : ℕ → MachineState → ℕ → Option MachineState
+next_state at start b = if b == byte_ef then Some first_of_mark else between_games (record { closed = no_games; unclosed = [] }) b
+next_state at first_of_mark b = if b == byte_bb then Some second_of_mark else None
+next_state at second_of_mark b = if b == byte_bf then Some (after_game (record { closed = no_games; unclosed = [] })) else None
+next_state at (opened k) b =
     if is_white b then Some (opened k)
     else (if b == semicolon then Some (new_node k true at)
     else None)
-step at (in_node n) b =
+next_state at (in_node n) b =
     if is_white b then Some (in_node n)
     else (if is_upper b then Some (in_name n (b ∷ []))
     else after_node at (ended n) b)
-step at (in_name n name) b =
+next_state at (in_name n name) b =
     if is_upper b then Some (in_name n (name ++ b ∷ []))
     else (if is_lower b then Some (in_name n name)
     else (if is_white b then Some (after_name n name)
     else (if b == open_bracket then Some (in_value n name [] [])
     else None)))
-step at (after_name n name) b =
+next_state at (after_name n name) b =
     if is_white b then Some (after_name n name)
     else (if b == open_bracket then Some (in_value n name [] [])
     else None)
-step at (in_value n name before value) b =
+next_state at (in_value n name before value) b =
     if b == close_bracket then Some (after_value n (property_of name before value))
     else (if b == backslash then Some (after_escape n name before value)
     else Some (in_value n name before (value ++ b ∷ [])))
-step at (after_escape n name before value) b = Some (in_value n name before (value ++ backslash ∷ b ∷ []))
-step at (after_value n p) b =
+next_state at (after_escape n name before value) b = Some (in_value n name before (value ++ backslash ∷ b ∷ []))
+next_state at (after_value n p) b =
     if is_white b then Some (after_value n p)
     else (if b == open_bracket then Some (in_value n p.name (values p) [])
     else (if is_upper b then Some (in_name (with_property n p) (b ∷ []))
     else after_node at (ended (with_property n p)) b))
-step at (after_game k) b = between_games k b
+next_state at (after_game k) b = between_games k b
 
 -- the bytes from an offset on take a state to this one, or one of them is refused
 unfoldable pub run : ℕ → MachineState → List ℕ → Option MachineState
 run at z [] = Some z
-run at z (b ∷ t) = option_and_then (λ next. run (at + 1) next t) (step at z b)
+run at z (b ∷ t) = option_and_then (λ next. run (at + 1) next t) (next_state at z b)
 
 -- the whole games, where there is one and none is open
 abbrev pub whole_games : Games → List OpenGame → Option Games

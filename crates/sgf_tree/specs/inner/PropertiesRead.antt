@@ -3,7 +3,7 @@ use Rattle.std.specs.Prelude.{◌≡◌, ◌≢◌, ℕ, ◌+◌, ◌<◌, ◌�
 use Rattle.sgf_tree.specs.Bytes.{open_bracket}
 use Rattle.sgf_tree.specs.Tree.{Property}
 use Rattle.sgf_tree.specs.Spelling.{is_white}
-use Rattle.sgf_tree.specs.inner.Machine.{Started, MachineState, in_node, in_name, in_value, after_value, after_node, ended, step, accepted}
+use Rattle.sgf_tree.specs.inner.Machine.{Started, MachineState, in_node, in_name, in_value, after_value, after_node, ended, next_state, accepted}
 use Rattle.sgf_tree.specs.inner.Progress.{ComesTo, IsTrueFault}
 use Rattle.sgf_tree.specs.declared.reader.fault.Fault.{Fault}
 
@@ -31,7 +31,7 @@ pub record IsPropertyRead (t : List ℕ) (start end : ℕ) : Type 0 where
 pub record StandsAfterNode (t : List ℕ) (end : ℕ) (whole : Started) : Type 0 where
   pub state : MachineState
   pub reached : ComesTo t end state
-  pub next : end < length t → step end state (slice_index t end) ≡ after_node end (ended whole) (slice_index t end)
+  pub next : end < length t → next_state end state (slice_index t end) ≡ after_node end (ended whole) (slice_index t end)
   pub unaccepted : accepted state ≡ None
 
 -- the node with these properties
