@@ -1,7 +1,8 @@
 //! A property of a node.
 
-ghost use Rattle.std.specs.Prelude.{◌≡◌, ◌<◌, ◌≤◌, ◌↔◌, ◌++◌, length, slice_get, Some, IsTrue, OnOk, OnErr};
+ghost use Rattle.std.specs.Prelude.{◌≡◌, ◌<◌, ◌≤◌, ◌↔◌, ◌++◌, length, slice_get, Some, IsTrue, IfSome, OnOk, OnErr};
 ghost use Rattle.sgf_tree.specs.Tree.{values};
+ghost use Rattle.sgf_tree.specs.inner.NodeText.{name_in};
 
 use crate::fault::MemoryFault;
 use crate::walk::Values;
@@ -47,6 +48,19 @@ impl<'a> PropRef<'a> {
             }
         }
         matched == name.len()
+    }
+
+    /// Its name, where its identifier is one capital or two, as nearly all are, so that a caller can tell names apart at once.
+    /// None of each other property, whose name `is` compares.
+    pub fn short_name(&self) -> Option<&'a [u8]>
+        ensures { IfSome result (λ name. name.now ≡ self.now.name) }
+    {
+        let identifier = self.identifier;
+        if is_short_name(identifier) {
+            Some(identifier)
+        } else {
+            None
+        }
     }
 
     /// Appends its name.
@@ -102,6 +116,17 @@ impl<'a> PropRef<'a> {
     }
 }
 
+/// Whether an identifier is one capital or two.
+fn is_short_name(identifier: &[u8]) -> bool
+    ensures { IsTrue result → name_in identifier.now ≡ identifier.now }
+{
+    match identifier {
+        [one] => one.is_ascii_uppercase(),
+        [one, other] => one.is_ascii_uppercase() && other.is_ascii_uppercase(),
+        _ => false,
+    }
+}
+
 #[cfg(test)]
 mod tests {
     use super::*;
@@ -118,12 +143,35 @@ mod tests {
         let mut name = b"x".to_vec(rt.alloc())?;
         property.push_name(&mut name)?;
         assert_eq!(rt; name.as_slice(), b"xGM".as_slice());
+        assert_eq!(rt; property.short_name(), None);
         assert!(rt; property.is(b"GM"));
         assert!(rt; !property.is(b"GaMe"));
         assert!(rt; !property.is(b"G"));
         assert!(rt; !property.is(b"GMX"));
         assert_eq!(rt; property.values(), 1);
         assert_eq!(rt; property.value(0), b"1".as_slice());
+        Ok(())
+    }
+
+    #[test]
+    fn gives_short_names(rt: HostRuntime) -> Result<(), Fail> {
+        for (text, want) in [
+            (b"(;B[aa])".as_slice(), Some("B")),
+            (b"(;BL[9])".as_slice(), Some("BL")),
+            (b"(;Bl[9])".as_slice(), None),
+            (b"(;KGS[9])".as_slice(), None),
+        ] {
+            let c = read(rt.alloc(), text)?;
+            assert_eq!(rt; c.nodes(), 1);
+            let node = c.node(0);
+            assert_eq!(rt; node.props(), 1);
+            let property = node.prop(0);
+            assert_eq!(rt;
+                property.short_name(),
+                want.map(|name| name.as_bytes()),
+                "of {text:?}"
+            );
+        }
         Ok(())
     }
 
