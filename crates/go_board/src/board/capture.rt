@@ -65,14 +65,15 @@ impl Board {
         ensures taken { LosesDead self.old self.new colour }
         ensures settled { ReachesIfStone self.new colour from }
     {
+        let _ = &self.size;
         // most stones have a liberty of their own: no search is made ready for these
         if self.has_liberty(from) {
             return;
         }
-        if self.capture_group::<FEW_POINTS>(colour, from) {
-            return;
+        // of a large group, rows of bits tell sooner than a search whether it has one
+        if !self.capture_group::<FEW_POINTS>(colour, from) {
+            self.clear(colour);
         }
-        let _ = self.capture_group::<MAX_POINTS>(colour, from);
     }
 
     /// Takes off the group of a stone if it has no liberty. Tells whether the search had room for the group; if not,
@@ -85,7 +86,6 @@ impl Board {
         ensures taken { LosesDead self.old self.new colour }
         ensures settled { IsTrue result → ReachesIfStone self.new colour from }
         ensures nothing_done { IsFalse result → self.new ≡ self.old }
-        ensures room { IsFalse result → N < MAX_POINTS }
     {
         let mut search = Search::<N>::new(self.size());
         match self.look_at_group(colour, from, &mut search) {
@@ -115,7 +115,6 @@ impl Board {
         ensures listed { result ≡ Group.Dead → AllListed search.new }
         ensures start { result ≡ Group.Dead → IsTrue (is_marked search.new.marking from) }
         ensures same_side { search.new.marking.side ≡ self.now.side }
-        ensures room { result ≡ Group.TooLarge → N < MAX_POINTS }
     {
         search.offer(from);
         while let Some(point) = search.take_one() {
