@@ -21,8 +21,8 @@ ghost use Rattle.go_board.specs.declared.stones.Cell.TheVariants.{Empty};
 use crate::board::regions::{count_apart, no_rows};
 use crate::board::stone_rows::StoneRows;
 use crate::past::print::{print_of, print_with};
-use crate::points::{FIRST, Point};
-use crate::size::{MAX_POINTS, Size};
+use crate::points::Point;
+use crate::size::{MAX_POINTS, MAX_SIDE, Size};
 use crate::stones::{Cell, Colour};
 use std::marker::Model;
 
@@ -39,8 +39,6 @@ pub struct Board {
     printed: bool,
     /// The stones as rows of words, where they are known.
     rows: StoneRows,
-    /// The point that was set last: a hint, for one who looks for what changed.
-    last: Point,
 }
 
 impl Model for Board {
@@ -76,6 +74,7 @@ impl Board {
     ghost use Rattle.go_board.specs.declared.stones.Colour.TheVariants.{Black, White};
     ghost use Rattle.go_board.specs.declared.points.Point.{Point};
     ghost use Rattle.go_board.specs.Point.{IsOn};
+    ghost use Rattle.go_board.specs.Colour.{stone_of};
     ghost use Rattle.go_board.specs.Grid.{cell_at, with_cell, empty_grid};
     ghost use Rattle.go_board.specs.Marking.{is_marked, marked_count};
     ghost use Rattle.go_board.specs.Reaching.{Reaches};
@@ -95,7 +94,6 @@ impl Board {
             print: 0,
             printed: true,
             rows: StoneRows::none(),
-            last: FIRST,
         }
     }
 
@@ -133,7 +131,6 @@ impl Board {
         self.cells[index] = cell;
         self.rows.set(point, cell);
         self.settled = false;
-        self.last = point;
     }
 
     /// Colours every point: cells are the points row by row from the top, from left to right.
@@ -165,7 +162,6 @@ impl Board {
             print: self.print,
             printed: self.printed,
             rows: self.rows,
-            last: self.last,
         }
     }
 
@@ -196,18 +192,6 @@ impl Board {
         self.settled = settled;
     }
 
-    /// A point of the board on which something may have changed last. It is a hint: nothing is known of it.
-    pub(crate) fn last_set(&self) -> Point
-        ensures { IsOn self.now.side result }
-    {
-        let side = self.size.side();
-        if self.last.col < side && self.last.row < side {
-            self.last
-        } else {
-            FIRST
-        }
-    }
-
     /// The print of the colouring: kept where points are set one by one, else worked out from all points.
     pub(crate) fn print(&self) -> u64
         ensures { result ≡ print_of self.now.cells }
@@ -225,6 +209,24 @@ impl Board {
         ensures { result ≡ print_of (with_cell self.now point cell).cells }
     {
         print_with(self.print(), self.cells(), point.index(self.size), cell)
+    }
+
+    /// Places a stone that captures nothing, where the print of what that makes is known. It stays known that every stone
+    /// reaches empty.
+    pub(crate) fn place_alone(&mut self, colour: Colour, point: Point, print: u64)
+        requires on_board { IsOn self.old.side point }
+        requires alone { play self.old colour point ≡ with_cell self.old point (stone_of colour) }
+        requires print { print ≡ print_of (with_cell self.old point (stone_of colour)).cells }
+        ensures { self.new ≡ with_cell self.old point (stone_of colour) }
+    {
+        prove!(self.size.side() <= MAX_SIDE);
+        let index = point.index(self.size);
+        let cell = colour.stone();
+        self.cells[index] = cell;
+        self.rows.set(point, cell);
+        self.print = print;
+        self.printed = true;
+        self.settled = true;
     }
 
     /// Works out what a move asks of the board, to be kept from then on: the rows of the stones, whether every stone reaches

@@ -26,16 +26,6 @@ impl Board {
         self.is_settled() && self.all_live(colour, point)
     }
 
-    /// Places a stone that captures nothing. It stays known that every stone reaches empty.
-    pub(crate) fn place_alone(&mut self, colour: Colour, point: Point)
-        requires on_board { IsOn self.old.side point }
-        requires alone { play self.old colour point ≡ with_cell self.old point (stone_of colour) }
-        ensures { self.new ≡ with_cell self.old point (stone_of colour) }
-    {
-        self.set(point, colour.stone());
-        self.restore_settled(true);
-    }
-
     /// Whether a look around an empty point tells that a stone there leaves each group beside it a liberty, and has one.
     fn all_live(&self, colour: Colour, point: Point) -> bool
         requires on_board { IsOn self.now.side point }

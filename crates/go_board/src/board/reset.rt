@@ -1,7 +1,6 @@
 //! A board emptied in place.
 
 use crate::board::Board;
-use crate::points::FIRST;
 use crate::size::{MAX_POINTS, Size};
 use crate::stones::Cell;
 
@@ -21,6 +20,5 @@ impl Board {
         self.settled = true;
         self.print = 0;
         self.printed = true;
-        self.last = FIRST;
     }
 }

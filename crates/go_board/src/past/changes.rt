@@ -8,7 +8,7 @@ ghost use Rattle.go_board.specs.inner.Changes.{after_changes, with_run, AreOn, I
 
 use crate::board::Board;
 use crate::fault::MemoryFault;
-use crate::past::differences::{are_same, next_difference};
+use crate::past::differences::next_difference;
 use crate::points::Point;
 use crate::size::Size;
 use crate::stones::Cell;
@@ -76,38 +76,9 @@ pub(crate) fn follow(
     ensures err { OnErr result (board.new ≡ board.old) }
     ensures err_changes { OnErr result (changes.new.items ≡ changes.old.items) }
 {
-    changes.reserve(1)?;
-    let point = new.last_set();
-    let cell = board.at(point);
-    // mostly a stone was placed and nothing captured: then the boards are the same but for that point
-    if follow_at(board, new, point) {
-        let more = 0;
-        changes.push(Change { point, cell, more }).unwrap();
-        return Ok(1);
-    }
     let count = lead_back(board, new, changes)?;
     board.copy_from(new);
     Ok(count)
-}
-
-/// Gives a board the colouring of another one, if the two are the same but for one point. If not, nothing is changed.
-fn follow_at(board: &mut Board, new: &Board, point: Point) -> bool
-    requires side { board.old.side ≡ new.now.side }
-    requires on_board { IsOn board.old.side point }
-    ensures there { IsTrue result → board.new ≡ new.now }
-    ensures back { IsTrue result → with_cell new.now point (cell_at board.old point) ≡ board.old }
-    ensures unchanged { IsFalse result → board.new ≡ board.old }
-{
-    let settled = board.is_settled();
-    let cell = board.at(point);
-    board.set(point, new.at(point));
-    if are_same(board.cells(), new.cells()) {
-        board.restore_settled(new.is_settled());
-        return true;
-    }
-    board.set(point, cell);
-    board.restore_settled(settled);
-    false
 }
 
 /// Adds changes that lead back from the new board to the old one, and tells how many.

@@ -7,6 +7,7 @@ ghost use Rattle.go_board.specs.Point.{IsOn};
 ghost use Rattle.go_board.specs.Grid.{cell_at, with_cell, empty_grid};
 ghost use Rattle.go_board.specs.Clearing.{play};
 ghost use Rattle.go_board.specs.Past.{Held, newest, newest_grid, present_stretch, HaveSide};
+ghost use Rattle.go_board.specs.inner.Print.{print_of};
 
 use crate::board::Board;
 use crate::fault::MemoryFault;
@@ -120,13 +121,19 @@ impl Colourings {
         Ok(())
     }
 
-    /// Adds the colouring that a stone makes which captures nothing. It goes on in the present stretch. After a refusal
-    /// nothing is changed; it is refused memory as by `add`.
-    pub(crate) fn add_stone(&mut self, colour: Colour, point: Point) -> Result<(), MemoryFault>
+    /// Adds the colouring that a stone makes which captures nothing, of that print. It goes on in the present stretch. After
+    /// a refusal nothing is changed; it is refused memory as by `add`.
+    pub(crate) fn add_stone(
+        &mut self,
+        colour: Colour,
+        point: Point,
+        print: u64,
+    ) -> Result<(), MemoryFault>
         requires on_board { IsOn (newest_grid self.old).side point }
         requires empty { cell_at (newest_grid self.old) point ≡ Empty }
         requires alone { play (newest_grid self.old) colour point
             ≡ with_cell (newest_grid self.old) point (stone_of colour) }
+        requires print { print ≡ print_of (with_cell (newest_grid self.old) point (stone_of colour)).cells }
         ensures ok { OnOk result (self.new ≡ record {
           colouring = with_cell (newest_grid self.old) point (stone_of colour);
           begins = false;
@@ -141,7 +148,7 @@ impl Colourings {
             changes: 1,
             settled: self.newest.is_settled(),
         };
-        self.newest.place_alone(colour, point);
+        self.newest.place_alone(colour, point, print);
         let change = Change {
             point,
             cell: Cell::Empty,

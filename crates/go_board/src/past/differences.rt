@@ -12,14 +12,6 @@ const LARGE: usize = 128;
 /// How many cells are compared at once, where they differ within so many.
 const SMALL: usize = 16;
 
-/// Whether the cells are the same.
-pub(crate) fn are_same(old: &[Cell], new: &[Cell]) -> bool
-    requires { length new.now ≡ length old.now }
-    ensures { IsTrue result ↔ (old.now ≡ new.now) }
-{
-    next_difference(old, new, 0) == old.len()
-}
-
 /// The first index from `from` on at which the cells differ, or their number where none does.
 pub(crate) fn next_difference(old: &[Cell], new: &[Cell], from: usize) -> usize
     requires lengths { length new.now ≡ length old.now }

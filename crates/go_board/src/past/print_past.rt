@@ -86,7 +86,7 @@ impl Past for PrintPast {
             return Ok(false);
         }
         self.prints.push(print)?;
-        if self.colourings.add_stone(colour, point).is_err() {
+        if self.colourings.add_stone(colour, point, print).is_err() {
             self.prints.pop();
             return Err(MemoryFault);
         }
