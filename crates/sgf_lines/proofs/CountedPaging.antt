@@ -77,28 +77,28 @@ module _ (c : Games) (rise : PlacesRise c) (first limit : ℕ) where
       (next_plays c rise first page stands k shared line e h))
 
 -- what a line shares with the one before it, by where the cursor stands
-shares_by : (c : Games) (rise : PlacesRise c) (first limit k : ℕ) (begun : Bool) (at : Position) (shared : ℕ) → at.games ≡ c → at.given ≡ first + k → (k ≡ 0 → begun ≡ false) → (0 < k → begun ≡ true)
-    → IsShared begun at shared → Shares c rise first limit k shared
-shares_by c rise first limit zero begun at shared same given first_line later h = rw (first_line refl) at h
-shares_by c rise first limit (suc k) begun at shared same given first_line later h =
+shares_by : (c : Games) (rise : PlacesRise c) (first limit k : ℕ) (wrote : Bool) (at : Position) (shared : ℕ) → at.games ≡ c → at.given ≡ first + k → (k ≡ 0 → wrote ≡ false) → (0 < k → wrote ≡ true)
+    → IsShared wrote at shared → Shares c rise first limit k shared
+shares_by c rise first limit zero wrote at shared same given first_line later h = rw (first_line refl) at h
+shares_by c rise first limit (suc k) wrote at shared same given first_line later h =
     let go : Continues (numbers_before at.games at.given) shared (numbers_before at.games (at.given + 1)) = rw (later (omega arith)) at h in
     rw (same, given, add-one) at go
 
-module _ (form : Form) (c : Games) (rise : PlacesRise c) (first limit count k : ℕ) (begun : Bool) (at : Position) (old sink : SinkState) (written : IsSoFar form c first limit old k at sink)
-    (first_line : k ≡ 0 → begun ≡ false) (later : 0 < k → begun ≡ true) (lt : k < limit) (now : ℕ) (h : now ≡ count + plays_of form (take k (page_from c first limit))) where
-  next_adds : (n : ℕ) → HasPlays form begun at n → plays_of form (take (k + 1) (page_from c first limit)) ≡ plays_of form (take k (page_from c first limit)) + n
+module _ (form : Form) (c : Games) (rise : PlacesRise c) (first limit count k : ℕ) (wrote : Bool) (at : Position) (old sink : SinkState) (written : IsSoFar form c first limit old k at sink)
+    (first_line : k ≡ 0 → wrote ≡ false) (later : 0 < k → wrote ≡ true) (lt : k < limit) (now : ℕ) (h : now ≡ count + plays_of form (take k (page_from c first limit))) where
+  next_adds : (n : ℕ) → HasPlays form wrote at n → plays_of form (take (k + 1) (page_from c first limit)) ≡ plays_of form (take k (page_from c first limit)) + n
   next_adds n p =
       let there : slice_get (lines c) (first + k) ≡ Some p.line = rw (written.same, written.given) at p.found in
       let here : slice_get (page_from c first limit) k ≡ Some p.line = get_taken (drop first (lines c)) limit k lt ∙ get_dropped (lines c) first k ∙ there in
       rw (← p.count_is) at
-      (adds c rise first limit form k p.shared p.line here (shares_by c rise first limit k begun at p.shared written.same written.given first_line later p.shares))
+      (adds c rise first limit form k p.shared p.line here (shares_by c rise first limit k wrote at p.shared written.same written.given first_line later p.shares))
 
   -- the next line was played whole
-  pub one_played : (new : ℕ) → CountsLine {E = MemoryFault} form begun at now new (Ok true) → new ≡ count + plays_of form (take (k + 1) (page_from c first limit))
+  pub one_played : (new : ℕ) → CountsLine {E = MemoryFault} form wrote at now new (Ok true) → new ≡ count + plays_of form (take (k + 1) (page_from c first limit))
   one_played new p = omega (arith, p.2, h, next_adds p.0 p.1)
 
   -- but its record wasn't taken whole
-  pub played_then_cut : (new : ℕ) → CountsLine {E = MemoryFault} form begun at now new (Ok true) → CountsLines form (page_from c first limit) count new (Err (Write k))
+  pub played_then_cut : (new : ℕ) → CountsLine {E = MemoryFault} form wrote at now new (Ok true) → CountsLines form (page_from c first limit) count new (Err (Write k))
   played_then_cut new p = record {
     plays = plays_of form (take (k + 1) (page_from c first limit));
     counted = one_played new p;
@@ -106,7 +106,7 @@ module _ (form : Form) (c : Games) (rise : PlacesRise c) (first limit count k : 
   }
 
   -- no memory for all of it
-  pub played_in_part : (e : MemoryFault) (new : ℕ) → CountsLine form begun at now new (Err e) → CountsLines form (page_from c first limit) count new (Err (Memory k))
+  pub played_in_part : (e : MemoryFault) (new : ℕ) → CountsLine form wrote at now new (Err e) → CountsLines form (page_from c first limit) count new (Err (Memory k))
   played_in_part e new (inl none) = record {
     plays = plays_of form (take k (page_from c first limit));
     counted = none ∙ h;

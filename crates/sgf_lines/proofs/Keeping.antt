@@ -78,7 +78,7 @@ pub record Shares (w : Writer) (shared : ℕ) (nodes : List Node) : Type 0 where
   pub within : shared ≤ length old
   pub same : take shared old ≡ take shared nodes
 
-keeps_on : (w : Writer) (form : Form) (nodes : List Node) → KeepsBy form nodes w → KeepsBy form nodes (record w { begun = true })
+keeps_on : (w : Writer) (form : Form) (nodes : List Node) → KeepsBy form nodes w → KeepsBy form nodes (record w { wrote = true })
 keeps_on w list_form nodes h = h
 keeps_on w sgf_form nodes h = h
 keeps_on w gtp_form nodes h = h
@@ -101,7 +101,7 @@ shares_with false at w shared line l keeps is shows named = record {
 }
 
 -- what is kept once a run has begun
-pub keeps_before : (at : Position) (w : Writer) → w.begun ≡ true → KeepsAt at w → KeepsBefore at w
+pub keeps_before : (at : Position) (w : Writer) → w.wrote ≡ true → KeepsAt at w → KeepsBefore at w
 keeps_before at w is h = subst (λ b. KeepsOnce b at w) (sym is) h
 
 -- there is room for its nodes
@@ -164,7 +164,7 @@ module _ (c : Games) (at new : Position) (line : LineRef) (same : at.games ≡ c
     next_room = rw on (room_left b at shared line is here)
 
     -- also once it has begun
-    pub next_shares : KeepsOnce b at w → (l : Line) → IsShownAs c l line → Shares (record w { begun = true }) shared l.nodes
+    pub next_shares : KeepsOnce b at w → (l : Line) → IsShownAs c l line → Shares (record w { wrote = true }) shared l.nodes
     next_shares keeps l named =
         let s = shares_with b at w shared line l keeps is here (rw (← same) at named) in
         record { old = s.old; held = λ lt. keeps_on w w.form s.old (s.held lt); within = s.within; same = s.same }

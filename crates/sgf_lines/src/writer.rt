@@ -29,7 +29,7 @@ pub(crate) struct Writer {
     form: Form,
 
     // whether a line was written
-    begun: bool,
+    wrote: bool,
 
     // held of the line that was written last, in the forms that judge
     followed: Followed,
@@ -45,11 +45,11 @@ impl Writer {
     /// What is kept before the first line.
     pub(crate) fn new(alloc: Global, form: Form) -> Writer
         ensures form { result.form ≡ form }
-        ensures begun { result.begun ≡ false }
+        ensures wrote { result.wrote ≡ false }
     {
         Writer {
             form,
-            begun: false,
+            wrote: false,
             followed: Followed::OtherGame,
             nodes: KeptText::new(alloc),
             head: Vec::new(alloc),
@@ -68,31 +68,31 @@ impl Writer {
     ) -> Result<bool, MemoryFault>
         requires same { cursor.old.games ≡ collection.now }
         requires keeps { KeepsBefore cursor.old self.old }
-        requires countable { plays.old + left self.old.begun cursor.old ≤ u64.MAX }
+        requires countable { plays.old + left self.old.wrote cursor.old ≤ u64.MAX }
         ensures made { IfOk result (λ found. MatchBool found
             (HasRecord self.old.form cursor.old cursor.new (record_in self.new))
             (slice_get (lines cursor.old.games) cursor.old.given ≡ None)) }
         ensures keeps { OnOk result (KeepsBefore cursor.new self.new) }
         ensures form { self.new.form ≡ self.old.form }
-        ensures begun { IfOk result (λ found. MatchBool found (self.new.begun ≡ true) (self.new.begun ≡ self.old.begun)) }
-        ensures counted { CountsLine self.old.form self.old.begun cursor.old plays.old plays.new result }
+        ensures wrote { IfOk result (λ found. MatchBool found (self.new.wrote ≡ true) (self.new.wrote ≡ self.old.wrote)) }
+        ensures counted { CountsLine self.old.form self.old.wrote cursor.old plays.old plays.new result }
         ensures countable { IfOk result (λ found. MatchBool found
-            (plays.new + left true cursor.new ≤ plays.old + left self.old.begun cursor.old) (plays.new ≡ plays.old)) }
+            (plays.new + left true cursor.new ≤ plays.old + left self.old.wrote cursor.old) (plays.new ≡ plays.old)) }
     {
         let Some(shared) = cursor.advance()? else {
             return Ok(false);
         };
         let shared = self.known(shared);
-        self.begun = true;
+        self.wrote = true;
         self.make(alloc, collection, &cursor.line(), shared, plays)?;
         Ok(true)
     }
 
     /// How many nodes are known of a line that shares so many with the one before it: none before the first line of the run.
     fn known(&self, shared: usize) -> usize
-        ensures { MatchBool self.now.begun (result ≡ shared) (result ≡ 0) }
+        ensures { MatchBool self.now.wrote (result ≡ shared) (result ≡ 0) }
     {
-        if self.begun { shared } else { 0 }
+        if self.wrote { shared } else { 0 }
     }
 
     /// Makes the record of a line of which the first `shared` nodes are those of the line that was written last.
@@ -117,7 +117,7 @@ impl Writer {
             → (0 < shared → Keeps old self.old) → shared ≤ length old
             → take shared old ≡ take shared l.nodes → CountsIn self.old.form plays.old plays.new l.nodes shared result }
         ensures form { self.new.form ≡ self.old.form }
-        ensures begun { self.new.begun ≡ self.old.begun }
+        ensures wrote { self.new.wrote ≡ self.old.wrote }
     {
         self.head.clear();
         match self.form {

@@ -42,7 +42,7 @@ KeepsOnce true at w = KeepsAt at w
 KeepsOnce false at w = Unit {0}
 
 abbrev pub KeepsBefore : Position → Writer → Type 0
-KeepsBefore at w = KeepsOnce w.begun at w
+KeepsBefore at w = KeepsOnce w.wrote at w
 
 -- plays went from `old` to `new` for the line of these nodes, of which the first `shared` are played already
 abbrev pub CountsIn : {A E : Type 0} → Form → ℕ → ℕ → List Node → ℕ → Result A E → Type 0
@@ -56,19 +56,19 @@ IsShared true at shared = Continues (path_before at) shared (path_before (advanc
 IsShared false at shared = shared ≡ 0
 
 -- the line at a position, and how many of its nodes are played for it
-pub record HasPlays (form : Form) (begun : Bool) (at : Position) (count : ℕ) : Type 0 where
+pub record HasPlays (form : Form) (wrote : Bool) (at : Position) (count : ℕ) : Type 0 where
   pub line : Line
   pub found : slice_get (lines at.games) at.given ≡ Some line
   pub shared : ℕ
-  pub shares : IsShared begun at shared
+  pub shares : IsShared wrote at shared
   pub count_is : count ≡ plays_in form (fresh_plays line.nodes shared)
 
 -- plays went from `old` to `new` where the line at a position was to be written: those of that line, if there is one; none or some
 -- of them where memory was refused
 abbrev pub CountsLine : {E : Type 0} → Form → Bool → Position → ℕ → ℕ → Result Bool E → Type 0
-CountsLine form begun at old new (Ok true) = (n : ℕ) × HasPlays form begun at n × (new ≡ old + n)
-CountsLine form begun at old new (Ok false) = new ≡ old
-CountsLine form begun at old new (Err fault) = (new ≡ old) ⊎ ((n : ℕ) × HasPlays form begun at n × (old ≤ new) × (new ≤ old + n))
+CountsLine form wrote at old new (Ok true) = (n : ℕ) × HasPlays form wrote at n × (new ≡ old + n)
+CountsLine form wrote at old new (Ok false) = new ≡ old
+CountsLine form wrote at old new (Err fault) = (new ≡ old) ⊎ ((n : ℕ) × HasPlays form wrote at n × (old ≤ new) × (new ≤ old + n))
 
 -- how many nodes a run can still play: those after the line before a position, or all before its first line
 abbrev pub left : Bool → Position → ℕ

@@ -16,22 +16,22 @@ pub page-preserved : goal.page-preserved
 page-preserved g c =
     let made : HasRecord c.page.writer.form c.page.cursor c.next.new.cursor (record_in c.next.new.self) = rw c.in-Ok-true.field-0-test at c.in-Ok-true.ensures.made in
     let got : HasRecord c.args.options.now.form c.page.cursor c.next.new.cursor (record_in c.next.new.self) = rw c.page.invariant.form at made in
-    let begun : c.next.new.self.begun ≡ true = rw c.in-Ok-true.field-0-test at c.in-Ok-true.ensures.begun in
-    let room : c.next.new.plays + left true c.next.new.cursor ≤ c.page.plays + left c.page.writer.begun c.page.cursor = rw c.in-Ok-true.field-0-test at c.in-Ok-true.ensures.countable in
+    let wrote : c.next.new.self.wrote ≡ true = rw c.in-Ok-true.field-0-test at c.in-Ok-true.ensures.wrote in
+    let room : c.next.new.plays + left true c.next.new.cursor ≤ c.page.plays + left c.page.writer.wrote c.page.cursor = rw c.in-Ok-true.field-0-test at c.in-Ok-true.ensures.countable in
     let more : c.next.new.plays + left true c.next.new.cursor ≤ c.args.plays.now + node_count c.args.collection.now = omega (arith, room, c.page.invariant.countable) in
-    let judged : CountsLine {E = MemoryFault} c.page.writer.form c.page.writer.begun c.page.cursor c.page.plays c.next.new.plays (Ok true) = rw c.in-Ok-true.field-0-test at c.in-Ok-true.ensures.counted in
-    let counted : CountsLine {E = MemoryFault} c.args.options.now.form c.page.writer.begun c.page.cursor c.page.plays c.next.new.plays (Ok true) = rw c.page.invariant.form at judged in
+    let judged : CountsLine {E = MemoryFault} c.page.writer.form c.page.writer.wrote c.page.cursor c.page.plays c.next.new.plays (Ok true) = rw c.in-Ok-true.field-0-test at c.in-Ok-true.ensures.counted in
+    let counted : CountsLine {E = MemoryFault} c.args.options.now.form c.page.writer.wrote c.page.cursor c.page.plays c.next.new.plays (Ok true) = rw c.page.invariant.form at judged in
     record {
       written = one_written c.args.options.now.form c.args.collection.now c.args.cursor.now.given c.unwrap_or-limit.result (g.T.Sink.state c.args.sink.now) c.page.lines c.page.cursor
           (g.T.Sink.state c.page.sink) c.page.invariant.written c.next.new.cursor (g.T.Sink.state c.put.new.sink) (record_in c.next.new.self) (omega (arith, c.page-test.true))
           got c.in-Ok.ensures.0 c.in-Ok.ensures.1;
       form = c.in-Ok-true.ensures.form ∙ c.page.invariant.form;
       first = λ none. absurd (omega (arith, none));
-      later = λ some. begun;
+      later = λ some. wrote;
       keeps = c.in-Ok-true.ensures.keeps;
-      plays = one_played c.args.options.now.form c.args.collection.now c.nodes.ensures.places_rise c.args.cursor.now.given c.unwrap_or-limit.result c.args.plays.now c.page.lines c.page.writer.begun c.page.cursor (g.T.Sink.state c.args.sink.now)
+      plays = one_played c.args.options.now.form c.args.collection.now c.nodes.ensures.places_rise c.args.cursor.now.given c.unwrap_or-limit.result c.args.plays.now c.page.lines c.page.writer.wrote c.page.cursor (g.T.Sink.state c.args.sink.now)
           (g.T.Sink.state c.page.sink) c.page.invariant.written c.page.invariant.first c.page.invariant.later (omega (arith, c.page-test.true)) c.page.plays c.page.invariant.plays c.next.new.plays counted;
-      countable = rw begun more;
+      countable = rw wrote more;
     }
 
 pub returns-in-Err-put-clause-answer : goal.returns-in-Err-put-clause-answer
@@ -49,22 +49,22 @@ returns-in-Err-put-clause-answer g c =
 
 pub returns-in-Err-put-clause-plays : goal.returns-in-Err-put-clause-plays
 returns-in-Err-put-clause-plays g c =
-    let judged : CountsLine {E = MemoryFault} c.page.writer.form c.page.writer.begun c.page.cursor c.page.plays c.next.new.plays (Ok true) = rw c.in-Ok-true.field-0-test at c.in-Ok-true.ensures.counted in
-    let counted : CountsLine {E = MemoryFault} c.args.options.now.form c.page.writer.begun c.page.cursor c.page.plays c.next.new.plays (Ok true) = rw c.page.invariant.form at judged in
+    let judged : CountsLine {E = MemoryFault} c.page.writer.form c.page.writer.wrote c.page.cursor c.page.plays c.next.new.plays (Ok true) = rw c.in-Ok-true.field-0-test at c.in-Ok-true.ensures.counted in
+    let counted : CountsLine {E = MemoryFault} c.args.options.now.form c.page.writer.wrote c.page.cursor c.page.plays c.next.new.plays (Ok true) = rw c.page.invariant.form at judged in
     let limit : c.unwrap_or-limit.result ≡ unwrap_or c.args.options.now.limit (node_count c.args.collection.now) =
     c.unwrap_or-limit.ensures ∙ ap (unwrap_or c.args.options.now.limit) c.nodes.ensures.count in
     counts_for_options c.args.options.now.form c.args.collection.now c.args.cursor.now.given c.args.options.now.limit c.unwrap_or-limit.result c.args.plays.now c.next.new.plays (Err (Write c.page.lines)) limit
-    (played_then_cut c.args.options.now.form c.args.collection.now c.nodes.ensures.places_rise c.args.cursor.now.given c.unwrap_or-limit.result c.args.plays.now c.page.lines c.page.writer.begun c.page.cursor (g.T.Sink.state c.args.sink.now)
+    (played_then_cut c.args.options.now.form c.args.collection.now c.nodes.ensures.places_rise c.args.cursor.now.given c.unwrap_or-limit.result c.args.plays.now c.page.lines c.page.writer.wrote c.page.cursor (g.T.Sink.state c.args.sink.now)
     (g.T.Sink.state c.page.sink) c.page.invariant.written c.page.invariant.first c.page.invariant.later (omega (arith, c.page-test.true)) c.page.plays c.page.invariant.plays c.next.new.plays counted)
 
 pub returns-in-Err-clause-plays : goal.returns-in-Err-clause-plays
 returns-in-Err-clause-plays g c =
-    let judged : CountsLine c.page.writer.form c.page.writer.begun c.page.cursor c.page.plays c.next.new.plays (Err c.in-Err.field-0) = c.in-Err.ensures.counted in
-    let counted : CountsLine c.args.options.now.form c.page.writer.begun c.page.cursor c.page.plays c.next.new.plays (Err c.in-Err.field-0) = rw c.page.invariant.form at judged in
+    let judged : CountsLine c.page.writer.form c.page.writer.wrote c.page.cursor c.page.plays c.next.new.plays (Err c.in-Err.field-0) = c.in-Err.ensures.counted in
+    let counted : CountsLine c.args.options.now.form c.page.writer.wrote c.page.cursor c.page.plays c.next.new.plays (Err c.in-Err.field-0) = rw c.page.invariant.form at judged in
     let limit : c.unwrap_or-limit.result ≡ unwrap_or c.args.options.now.limit (node_count c.args.collection.now) =
     c.unwrap_or-limit.ensures ∙ ap (unwrap_or c.args.options.now.limit) c.nodes.ensures.count in
     counts_for_options c.args.options.now.form c.args.collection.now c.args.cursor.now.given c.args.options.now.limit c.unwrap_or-limit.result c.args.plays.now c.next.new.plays (Err (Memory c.page.lines)) limit
-    (played_in_part c.args.options.now.form c.args.collection.now c.nodes.ensures.places_rise c.args.cursor.now.given c.unwrap_or-limit.result c.args.plays.now c.page.lines c.page.writer.begun c.page.cursor (g.T.Sink.state c.args.sink.now)
+    (played_in_part c.args.options.now.form c.args.collection.now c.nodes.ensures.places_rise c.args.cursor.now.given c.unwrap_or-limit.result c.args.plays.now c.page.lines c.page.writer.wrote c.page.cursor (g.T.Sink.state c.args.sink.now)
     (g.T.Sink.state c.page.sink) c.page.invariant.written c.page.invariant.first c.page.invariant.later (omega (arith, c.page-test.true)) c.page.plays c.page.invariant.plays c.in-Err.field-0 c.next.new.plays counted)
 
 pub returns-clause-plays : goal.returns-clause-plays

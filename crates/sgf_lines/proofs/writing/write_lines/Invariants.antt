@@ -10,11 +10,11 @@ abbrev pub invariant-page : goal.invariant-page
 invariant-page g l = record {
   written : IsSoFar l.options.form l.collection l.initial.cursor.given l.limit (g.T.Sink.state l.initial.sink) l.lines l.cursor (g.T.Sink.state l.sink);
   form : l.writer.form ≡ l.options.form;
-  first : l.lines ≡ 0 → l.writer.begun ≡ false;
-  later : 0 < l.lines → l.writer.begun ≡ true;
+  first : l.lines ≡ 0 → l.writer.wrote ≡ false;
+  later : 0 < l.lines → l.writer.wrote ≡ true;
   keeps : KeepsBefore l.cursor l.writer;
   plays : l.plays ≡ l.initial.plays + plays_of l.options.form (take l.lines (page_from l.collection l.initial.cursor.given l.limit));
-  countable : l.plays + left l.writer.begun l.cursor ≤ l.initial.plays + node_count l.collection;
+  countable : l.plays + left l.writer.wrote l.cursor ≤ l.initial.plays + node_count l.collection;
 }
 
 abbrev pub decreases-page : goal.decreases-page
