@@ -22,12 +22,28 @@ pub(crate) fn next_difference(old: &[Cell], new: &[Cell], from: usize) -> usize
     ensures differ { result < length old.now
         → slice_index_or old.now result Empty ≢ slice_index_or new.now result Empty }
 {
-    let large = past_same_chunks(old, new, from, LARGE);
+    let large = past_large_chunks(old, new, from);
     let mut index = past_same_chunks(old, new, large, SMALL);
     while index < old.len() && old[index] == new[index] {
         index += 1;
     }
     index
+}
+
+/// An index from `from` on, so that all cells up to there are the same. Where cells differ soon, as they do where many stones were set
+/// up together, no large chunk is compared for nothing.
+fn past_large_chunks(old: &[Cell], new: &[Cell], from: usize) -> usize
+    requires lengths { length new.now ≡ length old.now }
+    requires from { from ≤ length old.now }
+    ensures from { from ≤ result }
+    ensures within { result ≤ length old.now }
+    ensures same { slice_range old.now from result ≡ slice_range new.now from result }
+{
+    if from + SMALL <= old.len() && is_same_chunk(old, new, from, SMALL) {
+        past_same_chunks(old, new, from, LARGE)
+    } else {
+        from
+    }
 }
 
 /// An index from `from` on, so that all cells up to there are the same.
