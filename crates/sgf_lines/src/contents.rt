@@ -2,7 +2,7 @@
 
 ghost use Rattle.std.specs.Prelude.{◌≡◌, ◌∷◌, ◌++◌, [], ℕ, OnOk, IfOk};
 ghost use Rattle.sgf_tree.specs.Tree.{values};
-ghost use Rattle.sgf_lines.specs.inner.Contents.{Lists, empty_lists, joined, kind_of as kind_of_lem, lists_by, lists_of_kind, lists_in, IsContents};
+ghost use Rattle.sgf_lines.specs.inner.Contents.{Lists, empty_lists, joined, kind_named as kind_named_lem, kind_of as kind_of_lem, lists_by, lists_of_kind, lists_in, IsContents};
 
 use crate::values::player_value;
 use go_board::{Cell, Colour, SetupOp, Size, rect};
@@ -136,6 +136,33 @@ fn push_operation(operation: SetupOp, output: &mut Vec<SetupOp>) -> Result<(), M
 
 /// What the values of a property are; none where they are nothing for the referee nor for a script.
 pub(crate) fn kind_of(property: &PropRef<'_>) -> Option<Kind>
+    ensures { result ≡ kind_of_lem property.now }
+{
+    match property.short_name() {
+        Some(name) => kind_named(name),
+        None => kind_compared(property),
+    }
+}
+
+/// The kind of a property of that name.
+fn kind_named(name: &[u8]) -> Option<Kind>
+    ensures { result ≡ kind_named_lem name.now }
+{
+    match name {
+        b"B" => Some(Kind::Move(Colour::Black)),
+        b"W" => Some(Kind::Move(Colour::White)),
+        b"AB" => Some(Kind::Stones(Cell::Black)),
+        b"AW" => Some(Kind::Stones(Cell::White)),
+        b"AE" => Some(Kind::Stones(Cell::Empty)),
+        b"PL" => Some(Kind::Player),
+        b"C" => Some(Kind::Comment),
+        _ => None,
+    }
+}
+
+/// The kind of a property whose identifier isn't its name alone, which few are. It is kept apart, since it compares name by name.
+#[inline(never)]
+fn kind_compared(property: &PropRef<'_>) -> Option<Kind>
     ensures { result ≡ kind_of_lem property.now }
 {
     if property.is(b"B") {

@@ -1,5 +1,5 @@
 -- How a node's contents are gathered, value after value.
-use Rattle.std.specs.Prelude.{◌≡◌, ◌⊎◌, ℕ, Bool, true, false, if◌then◌else◌, Option, Some, None, List, [], ◌∷◌, ◌++◌, map, All, codes}
+use Rattle.std.specs.Prelude.{◌≡◌, ◌⊎◌, ℕ, Bool, true, false, if◌then◌else◌, Option, Some, None, List, [], ◌∷◌, ◌++◌, map, All, codes, bytes_eq}
 use Rattle.sgf_tree.specs.Tree.{Property, values}
 use Rattle.go_board.specs.declared.stones.Colour.{Colour}
 use Rattle.go_board.specs.declared.stones.Colour.TheVariants.{Black, White}
@@ -11,7 +11,7 @@ use Rattle.sgf_lines.specs.declared.contents.Moves.TheVariants.{Nothing, One, Se
 use Rattle.sgf_lines.specs.declared.contents.Kind.{Kind}
 use Rattle.sgf_lines.specs.declared.contents.Kind.TheVariants.{Move as move_kind, Stones as stones_kind, Player as player_kind, Comment as comment_kind}
 use Rattle.sgf_lines.specs.declared.contents.Contents.{Contents}
-use Rattle.sgf_lines.specs.NodeContents.{Move, Stones, is_named}
+use Rattle.sgf_lines.specs.NodeContents.{Move, Stones}
 use Rattle.sgf_lines.specs.Values.{operations, last_player}
 
 -- moves, stones and players
@@ -26,16 +26,19 @@ empty_lists = record { moves = []; stones = []; players = [] }
 abbrev pub joined : Lists → Lists → Lists
 joined a b = record { moves = a.moves ++ b.moves; stones = a.stones ++ b.stones; players = a.players ++ b.players }
 
--- what the values of a property are
+-- what the values of a property of that name are
+abbrev pub kind_named : List ℕ → Option Kind
+kind_named name =
+    if bytes_eq name (codes "B") then Some (move_kind Black)
+    else (if bytes_eq name (codes "W") then Some (move_kind White)
+    else (if bytes_eq name (codes "AB") then Some (stones_kind BlackStone)
+    else (if bytes_eq name (codes "AW") then Some (stones_kind WhiteStone)
+    else (if bytes_eq name (codes "AE") then Some (stones_kind Empty)
+    else (if bytes_eq name (codes "PL") then Some player_kind
+    else (if bytes_eq name (codes "C") then Some comment_kind else None))))))
+
 abbrev pub kind_of : Property → Option Kind
-kind_of p =
-    if is_named (codes "B") p then Some (move_kind Black)
-    else (if is_named (codes "W") p then Some (move_kind White)
-    else (if is_named (codes "AB") p then Some (stones_kind BlackStone)
-    else (if is_named (codes "AW") p then Some (stones_kind WhiteStone)
-    else (if is_named (codes "AE") p then Some (stones_kind Empty)
-    else (if is_named (codes "PL") p then Some player_kind
-    else (if is_named (codes "C") p then Some comment_kind else None))))))
+kind_of p = kind_named p.name
 
 -- values of that kind
 abbrev pub lists_of_kind : Kind → List (List ℕ) → Lists
