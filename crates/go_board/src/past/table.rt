@@ -13,6 +13,9 @@ const FIRST_HEADS: usize = 128;
 /// How many prints a new past has room for.
 const FIRST_PRINTS: usize = 64;
 
+/// How many heads are emptied at once in the time in which one print is taken back.
+const HEADS_AT_ONCE: usize = 64;
+
 /// An odd number with many bits set, which spreads the bits of a print upwards.
 const MIXER: u64 = 0xd6e8_feb8_6659_fd93;
 
@@ -137,9 +140,33 @@ impl Table {
         print
     }
 
-    /// Has one print alone, in place of all that there are. The heads of these are emptied one by one: so it takes the time of the
-    /// prints, and not that of a table that once had to be large.
+    /// Has one print alone, in place of all that there are.
     pub(crate) fn reset(&mut self, print: u64)
+        requires { 0 < length self.old }
+        ensures { self.new ≡ print ∷ [] }
+    {
+        if self.heads.len() / HEADS_AT_ONCE <= self.prints.len() {
+            self.reset_all_heads(print);
+        } else {
+            self.reset_used_heads(print);
+        }
+    }
+
+    /// The same, where the heads are few beside the prints: all of them are emptied at once.
+    fn reset_all_heads(&mut self, print: u64)
+        requires { 0 < length self.old }
+        ensures { self.new ≡ print ∷ [] }
+    {
+        self.heads.fill(0);
+        self.prints.truncate(1);
+        self.links.truncate(1);
+        self.prints[0] = print;
+        link(&mut self.heads, &self.prints, &mut self.links, 0);
+    }
+
+    /// The same, in the time of the prints, and not in that of a table that once had to be large: the heads of the prints are
+    /// emptied one by one.
+    fn reset_used_heads(&mut self, print: u64)
         requires { 0 < length self.old }
         ensures { self.new ≡ print ∷ [] }
     {
