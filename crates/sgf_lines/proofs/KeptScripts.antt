@@ -17,7 +17,7 @@ use Rattle.sgf_lines.specs.Walk.{Played, Walk, before_root, next, walk}
 use Rattle.sgf_lines.specs.Script.{played_script, leaves_unreaching, leaves_unreaching_by, board_commands, commands_of}
 use Rattle.sgf_lines.specs.declared.kept.KeptText.{KeptText}
 use Rattle.sgf_lines.specs.declared.commands.Commands.{Commands}
-use Rattle.sgf_lines.specs.inner.Kept.{IsKept}
+use Rattle.sgf_lines.specs.inner.Kept.{IsKeptText}
 use Rattle.sgf_lines.specs.inner.KeptCommands.{if_lettered, lettered_script, commands_text, some_unreaching, IsFirstUnreaching, AreCommands, first_unreaching, unreaching_before, commands_kept}
 use Rattle.sgf_lines.proofs.KeptTexts.{kept_on}
 use Rattle.sgf_lines.proofs.Commanding.{extends, or_true}
@@ -47,7 +47,7 @@ shorter nodes i k le within =
     sym (ap (take i) (sym (take-append-drop k nodes)) ∙ take-append-le i (take k nodes) (drop k nodes) (omega (arith, length-take-le k nodes within)))
 
 -- back to the first `kept` nodes
-pub commands_back : (side : ℕ) (nodes : List Node) (old : Commands) (kept : ℕ) (new : KeptText) → AreCommands side nodes old → kept ≤ length nodes → IsKept (commands_text side) (take kept nodes) new
+pub commands_back : (side : ℕ) (nodes : List Node) (old : Commands) (kept : ℕ) (new : KeptText) → AreCommands side nodes old → kept ≤ length nodes → IsKeptText (commands_text side) (take kept nodes) new
     → AreCommands side (take kept nodes) (record { kept = new; unreaching = unreaching_before old.unreaching kept })
 commands_back side nodes old kept new h le texts = record { kept = texts; unreaching = by old.unreaching h.unreaching }
   where

@@ -8,10 +8,10 @@ use Rattle.std.proofs.lemmas.Grind.{flat_map-append}
 use Rattle.sgf_tree.specs.Tree.{Node}
 use Rattle.sgf_lines.specs.Record.{node_text, sgf_record}
 use Rattle.sgf_lines.specs.declared.kept.KeptText.{KeptText}
-use Rattle.sgf_lines.specs.inner.Kept.{IsKept, nodes_text}
+use Rattle.sgf_lines.specs.inner.Kept.{IsKeptText, nodes_text}
 use Rattle.sgf_lines.proofs.Played.{pushed}
 
-module _ (text_of : List Node → List ℕ) (nodes : List Node) (old new : KeptText) (h : IsKept text_of nodes old) where
+module _ (text_of : List Node → List ℕ) (nodes : List Node) (old new : KeptText) (h : IsKeptText text_of nodes old) where
   -- one node more
   module _ (n : Node) (more : List ℕ) (marks : new.marks.items ≡ old.marks.items ++ length old.text.items ∷ []) (text : new.text.items ≡ old.text.items ++ more)
       (is : text_of (nodes ++ n ∷ []) ≡ text_of nodes ++ more) where
@@ -38,7 +38,7 @@ module _ (text_of : List Node → List ℕ) (nodes : List Node) (old new : KeptT
     in_order i j early late le (inr e) (inl f) = absurd (omega (arith, e.0, slice_get_within old.marks.items j late f))
     in_order i j early late le (inr e) (inr f) = omega (arith, e.1, f.1)
 
-    pub kept_on : IsKept text_of (nodes ++ n ∷ []) new
+    pub kept_on : IsKeptText text_of (nodes ++ n ∷ []) new
     kept_on = record {
       text = text ∙ ap (λ t. t ++ more) h.text ∙ sym is;
       count = omega (arith, ap length marks, length-append old.marks.items (length old.text.items ∷ []), h.count, length-append nodes (n ∷ []));
@@ -52,6 +52,6 @@ pub nodes_text_more : (nodes : List Node) (n : Node) → nodes_text (nodes ++ n 
 nodes_text_more nodes n = flat_map-append node_text nodes (n ∷ []) ∙ ap (λ t. nodes_text nodes ++ t) (append-nil (node_text n))
 
 -- a whole game of these nodes
-pub game_of_nodes : (nodes : List Node) (kept : KeptText) (head : List ℕ) → IsKept nodes_text nodes kept → head ≡ codes "(" → head ++ (kept.text.items ++ codes ")\n") ≡ sgf_record nodes
+pub game_of_nodes : (nodes : List Node) (kept : KeptText) (head : List ℕ) → IsKeptText nodes_text nodes kept → head ≡ codes "(" → head ++ (kept.text.items ++ codes ")\n") ≡ sgf_record nodes
 game_of_nodes nodes kept head h is =
     ap (λ t. t ++ (kept.text.items ++ codes ")\n")) is ∙ ap (λ t. codes "(" ++ (t ++ codes ")\n")) h.text ∙ sym (append_assoc (codes "(") (nodes_text nodes) (codes ")\n"))

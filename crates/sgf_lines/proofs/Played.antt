@@ -14,7 +14,7 @@ use Rattle.sgf_lines.specs.declared.verdict.Verdict.TheVariants.{Illegal}
 use Rattle.sgf_lines.specs.declared.game.Fault.{Fault as Met}
 use Rattle.sgf_lines.specs.declared.game.Game.{Game}
 use Rattle.sgf_lines.specs.inner.Stepping.{GrowsByOne}
-use Rattle.sgf_lines.specs.inner.Played.{back_from, back_to, IsFaultOf, met_before, LeadsBack, IsPlayed}
+use Rattle.sgf_lines.specs.inner.Played.{back_from, back_to, IsFaultOf, met_before, IsDepthBefore, IsPlayed}
 use Rattle.sgf_lines.proofs.Lists.{split_get, get_left}
 use Rattle.sgf_lines.proofs.Walking.{StandsAfter, next_is, walk-fault}
 
@@ -142,7 +142,7 @@ module _ (side : ℕ) (nodes : List Node) (old new : Game) (h : IsPlayed side no
     grown : length old.referee.earlier ≤ length new.referee.earlier
     grown = elim grows [ inl same ↦ omega (arith, ap (λ (s : States). length s.earlier) same) | inr more ↦ omega (arith, ap (λ (s : States). length s.earlier) more) ]
 
-    leads_back : (i d : ℕ) → (slice_get old.marks.items i ≡ Some d) ⊎ ((i ≡ length old.marks.items) × (mark_now ≡ d)) → LeadsBack side (nodes ++ n ∷ []) new.referee i d
+    leads_back : (i d : ℕ) → (slice_get old.marks.items i ≡ Some d) ⊎ ((i ≡ length old.marks.items) × (mark_now ≡ d)) → IsDepthBefore side (nodes ++ n ∷ []) new.referee i d
     leads_back i d (inl before) =
         let b = h.marks i d before in
         let within = slice_get_within old.marks.items i d before in
@@ -153,7 +153,7 @@ module _ (side : ℕ) (nodes : List Node) (old new : Game) (h : IsPlayed side no
         let front : take i (nodes ++ n ∷ []) ≡ nodes = ap (λ k. take k (nodes ++ n ∷ [])) here ∙ take-append_seam nodes (n ∷ []) in
         let back : back_to new.referee (length old.referee.earlier) ≡ old.referee =
         back_grown old.referee new.referee (length old.referee.earlier) grows (omega arith) ∙ back_none old.referee (length old.referee.earlier) (omega arith) in
-        subst (LeadsBack side (nodes ++ n ∷ []) new.referee i) last.1 (record { within = grown; state = rw (front, back) h.state })
+        subst (IsDepthBefore side (nodes ++ n ∷ []) new.referee i) last.1 (record { within = grown; state = rw (front, back) h.state })
 
     in_order : (i j early late : ℕ) → i ≤ j → (slice_get old.marks.items i ≡ Some early) ⊎ ((i ≡ length old.marks.items) × (mark_now ≡ early))
         → (slice_get old.marks.items j ≡ Some late) ⊎ ((j ≡ length old.marks.items) × (mark_now ≡ late)) → early ≤ late

@@ -2,7 +2,7 @@
 
 ghost use Rattle.std.specs.Prelude.{◌≡◌, ◌<◌, ◌≤◌, ◌++◌, ◌∷◌, [], ℕ, List, length, take, OnOk};
 ghost use Rattle.sgf_tree.specs.Tree.{Node};
-ghost use Rattle.sgf_lines.specs.inner.Kept.{IsKept};
+ghost use Rattle.sgf_lines.specs.inner.Kept.{IsKeptText};
 
 use sgf_tree::MemoryFault;
 use std::alloc::Global;
@@ -56,8 +56,8 @@ impl KeptText {
 
     /// Cuts the text back to the first `kept` nodes.
     pub(crate) fn cut_back(&mut self, kept: usize)
-        ensures { (text_of : List Node → List ℕ) (nodes : List Node) → (0 < kept → IsKept text_of nodes self.old)
-            → kept ≤ length nodes → (kept ≡ 0 → text_of [] ≡ []) → IsKept text_of (take kept nodes) self.new }
+        ensures { (text_of : List Node → List ℕ) (nodes : List Node) → (0 < kept → IsKeptText text_of nodes self.old)
+            → kept ≤ length nodes → (kept ≡ 0 → text_of [] ≡ []) → IsKeptText text_of (take kept nodes) self.new }
     {
         if kept == 0 {
             self.clear();

@@ -5,7 +5,7 @@ ghost use Rattle.std.specs.List.{flat_map};
 ghost use Rattle.sgf_tree.specs.Tree.{Node, node_count};
 ghost use Rattle.sgf_tree.specs.FileOrder.{node_at};
 ghost use Rattle.sgf_lines.specs.Record.{value_text, property_text, node_text};
-ghost use Rattle.sgf_lines.specs.inner.Kept.{IsKept, nodes_text};
+ghost use Rattle.sgf_lines.specs.inner.Kept.{IsKeptText, nodes_text};
 
 use crate::kept::KeptText;
 use crate::text::push_bytes;
@@ -20,9 +20,9 @@ pub(crate) fn follow_nodes(
     kept: &mut KeptText,
 ) -> Result<(), MemoryFault>
     requires { All (λ i. i < node_count collection.now) path.now }
-    ensures { (old nodes : List Node) → (0 < shared → IsKept nodes_text old kept.old) → shared ≤ length old
+    ensures { (old nodes : List Node) → (0 < shared → IsKeptText nodes_text old kept.old) → shared ≤ length old
         → map Some nodes ≡ map (node_at collection.now) path.now → take shared old ≡ take shared nodes
-        → OnOk result (IsKept nodes_text nodes kept.new) }
+        → OnOk result (IsKeptText nodes_text nodes kept.new) }
 {
     kept.cut_back(shared);
     for i in shared..path.len() {

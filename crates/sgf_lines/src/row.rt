@@ -21,11 +21,11 @@ struct Row {
 }
 
 impl Row {
-    ghost use Rattle.sgf_lines.specs.inner.Rows.{text_of};
+    ghost use Rattle.sgf_lines.specs.inner.Rows.{built_text};
 
     /// The empty text.
     fn new() -> Row
-        ensures text { text_of result ≡ [] }
+        ensures text { built_text result ≡ [] }
         ensures room { result.start ≡ 160 }
     {
         Row {
@@ -37,7 +37,7 @@ impl Row {
     /// Puts bytes before the text.
     fn put(&mut self, bytes: &[u8])
         requires { length bytes.now ≤ self.old.start }
-        ensures text { text_of self.new ≡ bytes.now ++ text_of self.old }
+        ensures text { built_text self.new ≡ bytes.now ++ built_text self.old }
         ensures room { self.new.start + length bytes.now ≡ self.old.start }
     {
         let start = self.start - bytes.len();
@@ -48,7 +48,7 @@ impl Row {
     /// Puts a number before the text, in decimal, without leading zeros.
     fn put_number(&mut self, number: u64)
         requires { 20 ≤ self.old.start }
-        ensures text { text_of self.new ≡ decimal number ++ text_of self.old }
+        ensures text { built_text self.new ≡ decimal number ++ built_text self.old }
         ensures room { self.old.start ≤ self.new.start + 20 }
     {
         self.start = write_digits(number, &mut self.bytes, self.start);
@@ -57,7 +57,7 @@ impl Row {
     /// Puts a verdict in words before the text.
     fn put_verdict(&mut self, verdict: Verdict)
         requires { 70 ≤ self.old.start }
-        ensures text { text_of self.new ≡ verdict_text verdict ++ text_of self.old }
+        ensures text { built_text self.new ≡ verdict_text verdict ++ built_text self.old }
         ensures room { self.old.start ≤ self.new.start + 70 }
     {
         match verdict {
@@ -74,7 +74,7 @@ impl Row {
 
     fn put_score(&mut self, black: u32, white: u32, over: bool)
         requires { 70 ≤ self.old.start }
-        ensures text { text_of self.new ≡ verdict_text (Verdict.Score black white over) ++ text_of self.old }
+        ensures text { built_text self.new ≡ verdict_text (Verdict.Score black white over) ++ built_text self.old }
         ensures room { self.old.start ≤ self.new.start + 70 }
     {
         if over {
@@ -90,7 +90,7 @@ impl Row {
 
     fn put_illegal(&mut self, turn: u64, place: usize, reason: Reason)
         requires { 70 ≤ self.old.start }
-        ensures text { text_of self.new ≡ verdict_text (Verdict.Illegal turn place reason) ++ text_of self.old }
+        ensures text { built_text self.new ≡ verdict_text (Verdict.Illegal turn place reason) ++ built_text self.old }
         ensures room { self.old.start ≤ self.new.start + 70 }
     {
         self.put(reason.word().as_bytes());
@@ -103,7 +103,7 @@ impl Row {
 
     /// The text that was put.
     fn text(&self) -> &[u8]
-        ensures { result.now ≡ text_of self.now }
+        ensures { result.now ≡ built_text self.now }
     {
         &self.bytes[self.start..]
     }

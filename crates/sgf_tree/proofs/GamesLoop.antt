@@ -6,7 +6,7 @@ use Rattle.sgf_tree.specs.Tree.{Games, no_games, game, game_count, node_count}
 use Rattle.sgf_tree.specs.Spelling.{is_white}
 use Rattle.sgf_tree.specs.inner.Machine.{OpenGame, Stack, opened, after_game, between_games, close_in, whole_game, next_state, accepted}
 use Rattle.sgf_tree.specs.Refusal.{IsFaultyAt}
-use Rattle.sgf_tree.specs.inner.Progress.{ComesTo, IsRun}
+use Rattle.sgf_tree.specs.inner.Progress.{ComesTo, IsSpan}
 use Rattle.sgf_tree.specs.inner.GamesRead.{open_count, tip, HoldStack, IsOpening, StandsBetween, IsSequenceRead, IsOwnRun, unmarked, ClosesRun, IsRead}
 use Rattle.sgf_tree.specs.declared.layout.Link.TheVariants.{Root}
 use Rattle.sgf_tree.specs.declared.layout.NodeEntry.{NodeEntry}
@@ -169,7 +169,7 @@ module _ (t : List ℕ) where
     closed_stack = add_games so_far.stack.closed inmost.outer (whole_game inmost.inner)
 
     pub games-close : (next games' : ℕ) (ns' : List NodeEntry) (parent : Option ℕ) → at < length t → get_or t at 0 ≡ 41
-        → ((first : ℕ) → IsOwnRun ns first last → ClosesRun ns ns' first last parent) → IsRun is_white t (at + 1) next
+        → ((first : ℕ) → IsOwnRun ns first last → ClosesRun ns ns' first last parent) → IsSpan is_white t (at + 1) next
         → (is_some parent ≡ false → games' ≡ games + 1) → (is_some parent ≡ true → games' ≡ games)
         → GamesSoFar next games' parent ns'
     games-close next games' ns' parent lt e h white if_none if_some =

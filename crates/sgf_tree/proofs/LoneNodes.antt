@@ -6,7 +6,7 @@ use Rattle.sgf_tree.specs.RawValue.{no_unit, plain}
 use Rattle.sgf_tree.specs.Spelling.{is_white, is_upper, no_white, no_letter, IsPropValue, prop_value, no_value, AreProperties, property, no_property, properties}
 use Rattle.sgf_tree.specs.Written.{property_text}
 use Rattle.sgf_tree.specs.inner.NodeText.{properties_in, EndsNode}
-use Rattle.sgf_tree.specs.inner.Progress.{IsRun, is_plain, IsNodeEnd, IsLoneNode}
+use Rattle.sgf_tree.specs.inner.Progress.{IsSpan, is_plain, IsNodeEnd, IsLoneNode}
 use Rattle.sgf_tree.proofs.Classes.{fails, upper-range, white-not_bracket, white-not_upper}
 use Rattle.sgf_tree.proofs.NodeTexts.{white-same, properties-in}
 use Rattle.sgf_tree.proofs.Walks.{byte-at, run-drop, white-to}
@@ -19,10 +19,10 @@ ends-node s k end b t w = by_white (is_white b) refl
     e : ℕ
     e = end.next
 
-    run : IsRun is_white s k e
+    run : IsSpan is_white s k e
     run = end.white
 
-    run' : IsRun is_white (drop k s) 0 (e - k)
+    run' : IsSpan is_white (drop k s) 0 (e - k)
     run' = run-drop is_white s k e run
 
     there : get_or (drop k s) (e - k) 0 ≡ get_or s e 0

@@ -5,7 +5,7 @@ use Rattle.sgf_tree.specs.Tree.{no_games}
 use Rattle.sgf_tree.specs.Spelling.{is_white}
 use Rattle.sgf_tree.specs.inner.Machine.{Stack, MachineState, start, first_of_mark, second_of_mark, after_game, between_games, next_state, accepted}
 use Rattle.sgf_tree.specs.Refusal.{IsFaultyAt}
-use Rattle.sgf_tree.specs.inner.Progress.{ComesTo, IsRun}
+use Rattle.sgf_tree.specs.inner.Progress.{ComesTo, IsSpan}
 use Rattle.sgf_tree.specs.inner.GamesRead.{StandsBetween, IsMarkRead}
 use Rattle.sgf_tree.proofs.GamesLoop.{game-next}
 use Rattle.sgf_tree.proofs.Run.{run-take-none, run-take-step}
@@ -105,7 +105,7 @@ module _ (t : List ℕ) where
       part-faulty 2 second_of_mark (omega arith) (second-reached lt e f) second-unaccepted (λ h. second-refused 2 (get_or t 2 0) (other h))
 
   -- the white space before the first game
-  pub games-begin : (mark at : ℕ) → IsMarkRead t mark → IsRun is_white t mark at → StandsBetween t at nothing
+  pub games-begin : (mark at : ℕ) → IsMarkRead t mark → IsSpan is_white t mark at → StandsBetween t at nothing
   games-begin mark at read white =
       let low : mark ≤ at = white.rises in
       elim (cases_lt mark at) [

@@ -7,7 +7,7 @@ use Rattle.sgf_tree.specs.Spelling.{is_white, is_upper, is_lower}
 use Rattle.sgf_tree.specs.inner.Machine.{Started, MachineState, in_name, after_name, in_value, next_state, accepted}
 use Rattle.sgf_tree.specs.Refusal.{IsFaultyAt}
 use Rattle.sgf_tree.specs.inner.NodeText.{is_letter, name_in}
-use Rattle.sgf_tree.specs.inner.Progress.{ComesTo, IsRun}
+use Rattle.sgf_tree.specs.inner.Progress.{ComesTo, IsSpan}
 use Rattle.sgf_tree.proofs.Classes.{white-not_upper, white-not_lower}
 use Rattle.sgf_tree.proofs.Run.{run-take-step}
 use Rattle.sgf_tree.proofs.Skipping.{stays-after_name}
@@ -23,7 +23,7 @@ span-one t at lt =
     rw e (take_more (drop at t) 0 0 short ∙ ap (λ b. b ∷ []) (get_or-drop at t 0 0 ∙ ap (λ k. get_or t k 0) f))
 
 -- a name is read from its first letter on
-name-longer : (t : List ℕ) (start end : ℕ) → start < length t → IsTrue (is_upper (get_or t start 0)) → IsRun is_letter t start end → start < end
+name-longer : (t : List ℕ) (start end : ℕ) → start < length t → IsTrue (is_upper (get_or t start 0)) → IsSpan is_letter t start end → start < end
 name-longer t start end lt capital letters =
     let low : start ≤ end = letters.rises in
     elim (cases_lt start end) [
@@ -34,7 +34,7 @@ name-longer t start end lt capital letters =
           absurd (false≢true (sym here ∙ or_left (is_upper (get_or t start 0)) (is_lower (get_or t start 0)) capital))
     ]
 
-pub name-reached : (t : List ℕ) (start end : ℕ) (n : Started) → start < length t → IsTrue (is_upper (get_or t start 0)) → IsRun is_letter t start end
+pub name-reached : (t : List ℕ) (start end : ℕ) (n : Started) → start < length t → IsTrue (is_upper (get_or t start 0)) → IsSpan is_letter t start end
     → ComesTo t (start + 1) (in_name n (get_or t start 0 ∷ [])) → ComesTo t end (in_name n (name_in (slice_range t start end)))
 name-reached t start end n lt capital letters h =
     let b : ℕ = get_or t start 0 in
@@ -85,7 +85,7 @@ after-unaccepted : (n : Started) (name : List ℕ) → accepted (after_name n na
 unfolding accepted
 after-unaccepted n name = refl
 
-pub name-after : (t : List ℕ) (start end at : ℕ) (n : Started) (name : List ℕ) → IsRun is_letter t start end → IsRun is_white t end at
+pub name-after : (t : List ℕ) (start end at : ℕ) (n : Started) (name : List ℕ) → IsSpan is_letter t start end → IsSpan is_white t end at
     → ComesTo t end (in_name n name) → StandsAfterName t at n name
 name-after t start end at n name letters white h =
     let low : end ≤ at = white.rises in

@@ -3,7 +3,7 @@ use Rattle.std.proofs.Common.{◌≡◌, ◌≢◌, ℕ, ◌+◌, ◌<◌, ◌�
 use Rattle.sgf_tree.specs.Tree.{Property}
 use Rattle.sgf_tree.specs.Spelling.{is_white, is_upper}
 use Rattle.sgf_tree.specs.inner.Machine.{Started, MachineState, in_node, in_name, after_value, after_node, with_property, ended, next_state, accepted}
-use Rattle.sgf_tree.specs.inner.Progress.{ComesTo, IsRun}
+use Rattle.sgf_tree.specs.inner.Progress.{ComesTo, IsSpan}
 use Rattle.sgf_tree.specs.inner.PropertiesRead.{IsPropertyRead, StandsAfterNode, with_properties, ArePropertiesRead}
 use Rattle.sgf_tree.proofs.Classes.{upper-not_white, upper-not_bracket}
 use Rattle.sgf_tree.proofs.Run.{run-take-step}
@@ -72,7 +72,7 @@ module _ (t : List ℕ) where
     pub not_white : end < length t → is_white (get_or t end 0) ≡ false
     pub reached : (n : Started) → n.properties ≡ [] → ComesTo t at (in_node n) → (ps : List Property) × StandsInNode end (with_properties n ps)
 
-  pub properties-begin : (at end : ℕ) → IsRun is_white t at end → PropertiesSoFar at end
+  pub properties-begin : (at end : ℕ) → IsSpan is_white t at end → PropertiesSoFar at end
   properties-begin at end white =
       record {
         rises = white.rises;

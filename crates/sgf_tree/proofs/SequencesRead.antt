@@ -5,7 +5,7 @@ use Rattle.sgf_tree.specs.Tree.{Games, no_games, game}
 use Rattle.sgf_tree.specs.Spelling.{is_white}
 use Rattle.sgf_tree.specs.inner.Machine.{OpenGame, Stack, Started, opened, in_node, after_game, after_node, between_games, ended, new_game, new_node, next_state, accepted}
 use Rattle.sgf_tree.specs.Refusal.{IsFaultyAt}
-use Rattle.sgf_tree.specs.inner.Progress.{ComesTo, IsRun}
+use Rattle.sgf_tree.specs.inner.Progress.{ComesTo, IsSpan}
 use Rattle.sgf_tree.specs.inner.PropertiesRead.{StandsAfterNode, with_properties}
 use Rattle.sgf_tree.specs.inner.GamesRead.{HoldStack, IsOpening, IsNodeRead, IsSequenceRead}
 use Rattle.sgf_tree.specs.declared.layout.Link.{Link}
@@ -40,7 +40,7 @@ node-between : (at : ℕ) (k : Stack) (b : ℕ) → is_white b ≡ false → b �
 node-between at k b white ne = rw (white, ne_eqb b 59 ne)
 
 module _ (t : List ℕ) where
-  module _ (at place : ℕ) (k : Stack) (white : IsRun is_white t at place) (after : ComesTo t at (opened k)) where
+  module _ (at place : ℕ) (k : Stack) (white : IsSpan is_white t at place) (after : ComesTo t at (opened k)) where
     pub place-reached : ComesTo t place (opened k)
     place-reached = run-white t at place (opened k) (stays-opened k) white.rises white.within white.passing after
 
@@ -75,7 +75,7 @@ module _ (t : List ℕ) where
     pub not_white : end < length t → is_white (get_or t end 0) ≡ false
 
   pub sequence-first : (at place end : ℕ) (k : Stack) (link : Link) (ns ns' : List NodeEntry)
-      → IsRun is_white t at place → ComesTo t at (opened k) → HoldStack t k ns → IsOpening k link → place < length t → get_or t place 0 ≡ 59
+      → IsSpan is_white t at place → ComesTo t at (opened k) → HoldStack t k ns → IsOpening k link → place < length t → get_or t place 0 ≡ 59
       → IsNodeRead t place end link ns ns' → SequenceSoFar end k ns'
   sequence-first at place end k link ns ns' white after held opening lt e read =
       let n : Started = record { stack = k; opens = true; place = place; properties = [] } in

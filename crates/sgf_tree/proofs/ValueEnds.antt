@@ -6,7 +6,7 @@ use Rattle.memchr.specs.Find.{IsFirstByte, is_byte2}
 use Rattle.std.proofs.lemmas.List.{drop-drop, take_all}
 use Rattle.sgf_tree.specs.inner.Machine.{Started, MachineState, start, in_value, after_escape, next_state, run, accepted}
 use Rattle.sgf_tree.specs.Refusal.{IsFaultyAt}
-use Rattle.sgf_tree.specs.inner.Progress.{ComesTo, IsRun, is_plain, IsUnended}
+use Rattle.sgf_tree.specs.inner.Progress.{ComesTo, IsSpan, is_plain, IsUnended}
 use Rattle.sgf_tree.proofs.Faults.{ended-fault, refused-fault}
 use Rattle.sgf_tree.proofs.Run.{run-take-step}
 use Rattle.sgf_tree.proofs.Spans.{run-plain, run-escape}
@@ -73,7 +73,7 @@ span-at t end i le lt =
 
 -- the search for `]` or `\` finds where the plain bytes end
 pub plain-found : (t : List ℕ) (end further : ℕ) → end ≤ length t
-    → IsFirstByte (is_byte2 93 92) (slice_range t end (length t)) (Some further) → IsRun is_plain t end (end + further)
+    → IsFirstByte (is_byte2 93 92) (slice_range t end (length t)) (Some further) → IsSpan is_plain t end (end + further)
 plain-found t end further le found =
     let hay : List ℕ = slice_range t end (length t) in
     let long : length hay + end ≡ length t = omega (arith, length-take (length t - end) (drop end t), length-drop end t) in
@@ -90,7 +90,7 @@ plain-found t end further le found =
           subst (λ b. is_plain b ≡ false) (ap (λ k. get_or hay k 0) (sym same) ∙ here) (some-not (get_or hay further 0 == 93) (get_or hay further 0 == 92) found.1);
     }
 
-pub plain-none : (t : List ℕ) (end : ℕ) → end ≤ length t → IsFirstByte (is_byte2 93 92) (slice_range t end (length t)) None → IsRun is_plain t end (length t)
+pub plain-none : (t : List ℕ) (end : ℕ) → end ≤ length t → IsFirstByte (is_byte2 93 92) (slice_range t end (length t)) None → IsSpan is_plain t end (length t)
 plain-none t end le none =
     let hay : List ℕ = slice_range t end (length t) in
     let long : length hay + end ≡ length t = omega (arith, length-take (length t - end) (drop end t), length-drop end t) in
@@ -104,7 +104,7 @@ plain-none t end le none =
     }
 
 -- a run of plain bytes further back
-pub plain-join : (t : List ℕ) (at end last : ℕ) → at ≤ end → ((i : ℕ) → at ≤ i → i < end → is_plain (get_or t i 0) ≡ true) → IsRun is_plain t end last → IsRun is_plain t at last
+pub plain-join : (t : List ℕ) (at end last : ℕ) → at ≤ end → ((i : ℕ) → at ≤ i → i < end → is_plain (get_or t i 0) ≡ true) → IsSpan is_plain t end last → IsSpan is_plain t at last
 plain-join t at end last le passing run =
     record {
       rises = omega (arith, run.rises);
@@ -139,7 +139,7 @@ module _ (t : List ℕ) (at : ℕ) where
   pub units-none : AreUnits at
   units-none n name before h = let e : at - at ≡ 0 = omega arith in rw e h
 
-  pub units-plain : (a b : ℕ) → at ≤ a → AreUnits a → IsRun is_plain t a b → AreUnits b
+  pub units-plain : (a b : ℕ) → at ≤ a → AreUnits a → IsSpan is_plain t a b → AreUnits b
   units-plain a b le units plain n name before h =
       rw (← span-join t at a b le plain.rises)
       (run-plain t a b n name before (slice_range t at a) plain.rises plain.within (λ i low lt. plain-other (get_or t i 0) (plain.passing i low lt)) (units n name before h))

@@ -3,7 +3,7 @@ use Rattle.std.proofs.Common.{◌≡◌, ◌≢◌, ℕ, ◌+◌, ◌<◌, ◌�
 use Rattle.sgf_tree.specs.Tree.{Property, values}
 use Rattle.sgf_tree.specs.Spelling.{is_white}
 use Rattle.sgf_tree.specs.inner.Machine.{Started, in_value, after_value, property_of, next_state}
-use Rattle.sgf_tree.specs.inner.Progress.{ComesTo, IsRun, IsValueEnd}
+use Rattle.sgf_tree.specs.inner.Progress.{ComesTo, IsSpan, IsValueEnd}
 use Rattle.sgf_tree.specs.inner.PropertiesRead.{AreValuesRead}
 use Rattle.sgf_tree.proofs.Run.{run-take-step}
 use Rattle.sgf_tree.proofs.Skipping.{stays-after_value}
@@ -35,7 +35,7 @@ module _ (t : List ℕ) where
     pub reached : (n : Started) (name : List ℕ) → ComesTo t (bracket + 1) (in_value n name [] [])
         → (p : Property) × ComesTo t at (after_value n p)
 
-  pub values-step : (bracket at end next : ℕ) → ValuesSoFar bracket at → IsValueEnd t (at + 1) end → IsRun is_white t (end + 1) next → ValuesBefore bracket next
+  pub values-step : (bracket at end next : ℕ) → ValuesSoFar bracket at → IsValueEnd t (at + 1) end → IsSpan is_white t (end + 1) next → ValuesBefore bracket next
   values-step bracket at end next so_far is_end white =
       record {
         rises = omega (arith, so_far.rises, is_end.rises, white.rises);

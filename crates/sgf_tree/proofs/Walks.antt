@@ -7,12 +7,12 @@ use Rattle.sgf_tree.specs.Tree.{Property, values}
 use Rattle.sgf_tree.specs.RawValue.{IsValue}
 use Rattle.sgf_tree.specs.Spelling.{is_white, is_upper, White, no_white, white, IsPropValue, prop_value, ArePropValues, no_value, value, property, AreProperties, no_property, properties}
 use Rattle.sgf_tree.specs.inner.NodeText.{is_letter, left_after, front, values_in, property_from, name_in, properties_in, EndsValues, EndsNode, AreValuesIn, ArePropertiesIn, IsNoPropValue, IsPastValues, IsPropertyHeld}
-use Rattle.sgf_tree.specs.inner.Progress.{IsRun, SpellsValue, SpellsNoValue}
+use Rattle.sgf_tree.specs.inner.Progress.{IsSpan, SpellsValue, SpellsNoValue}
 use Rattle.sgf_tree.proofs.Classes.{upper-not_white}
 use Rattle.sgf_tree.proofs.NodeTexts.{white-same, white-none, prop-same, ends-value, past-same, white-left, values-in, ends-values, property-is, properties-in, count-values, count-properties}
 
 module _ (test : ℕ → Bool) where
-  run-tail : (b : ℕ) (s : List ℕ) (k : ℕ) → IsRun test (b ∷ s) 0 (suc k) → IsRun test s 0 k
+  run-tail : (b : ℕ) (s : List ℕ) (k : ℕ) → IsSpan test (b ∷ s) 0 (suc k) → IsSpan test s 0 k
   run-tail b s k run =
       record {
         rises = omega arith;
@@ -22,7 +22,7 @@ module _ (test : ℕ → Bool) where
       }
 
   -- a run by offsets is the front that passes the test
-  pub run-front : (s : List ℕ) (k : ℕ) → IsRun test s 0 k → (front test s ≡ take k s) × (left_after test s ≡ drop k s)
+  pub run-front : (s : List ℕ) (k : ℕ) → IsSpan test s 0 k → (front test s ≡ take k s) × (left_after test s ≡ drop k s)
   unfolding front left_after
   run-front [] zero run = (refl, refl)
   run-front [] (suc k) run = absurd (omega (arith, run.within))
@@ -33,7 +33,7 @@ module _ (test : ℕ → Bool) where
       (rw here (ap (λ u. b ∷ u) rest.0), rw here rest.1)
 
   -- a run further on
-  pub run-drop : (s : List ℕ) (k e : ℕ) → IsRun test s k e → IsRun test (drop k s) 0 (e - k)
+  pub run-drop : (s : List ℕ) (k e : ℕ) → IsSpan test s k e → IsSpan test (drop k s) 0 (e - k)
   run-drop s k e run =
       let rises : k ≤ e = run.rises in
       let long : length (drop k s) ≡ length s - k = length-drop k s in
@@ -55,7 +55,7 @@ white-join (white h w) v = white h (white-join w v)
 pub byte-at : (s : List ℕ) (k : ℕ) → k < length s → drop k s ≡ get_or s k 0 ∷ drop (k + 1) s
 byte-at s k lt = rw (add-one, drop-cons s k 0)
 
-module _ (s : List ℕ) (k : ℕ) (run : IsRun is_white s 0 k) where
+module _ (s : List ℕ) (k : ℕ) (run : IsSpan is_white s 0 k) where
   white-run : White s (drop k s)
   white-run = subst (White s) (run-front is_white s k run).1 (white-left s)
 
@@ -136,7 +136,7 @@ module _ (s : List ℕ) (k : ℕ) (run : IsRun is_white s 0 k) where
     pub left : ArePropertiesIn r
     pub is : properties_in s ≡ property_from (name_in (slice_range s k end)) (values_in (drop end s)) ∷ properties_in r
 
-  pub next-property : (end : ℕ) (r : List ℕ) → ArePropertiesIn s → k < length s → IsTrue (is_upper (get_or s k 0)) → IsRun is_letter s k end → IsPastValues (drop end s) r
+  pub next-property : (end : ℕ) (r : List ℕ) → ArePropertiesIn s → k < length s → IsTrue (is_upper (get_or s k 0)) → IsSpan is_letter s k end → IsPastValues (drop end s) r
       → IsNextProperty end r
   next-property end r held lt capital letters past = next held.properties held.rest held.spelled held.ends
     where

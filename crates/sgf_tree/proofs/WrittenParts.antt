@@ -9,7 +9,7 @@ use Rattle.sgf_tree.specs.RawValue.{IsValue}
 use Rattle.sgf_tree.specs.Spelling.{is_white, is_upper, White, no_white, Letters, no_letter, upper, IsPropValue, prop_value, ArePropValues, no_value, value, IsProperty, property, AreProperties, no_property, properties}
 use Rattle.sgf_tree.specs.Written.{value_text, property_text}
 use Rattle.sgf_tree.specs.inner.NodeText.{is_letter, left_after, front, values_in, property_from, name_in, after_values_up_to, properties_in, EndsValues, EndsNode, ArePropertiesIn, AreValuesWritten, IsPropertyWritten, ArePropertiesWritten}
-use Rattle.sgf_tree.specs.inner.Progress.{IsRun, SpellsValue}
+use Rattle.sgf_tree.specs.inner.Progress.{IsSpan, SpellsValue}
 use Rattle.sgf_tree.proofs.Classes.{upper-not_white}
 use Rattle.sgf_tree.proofs.NameEnds.{span-one}
 use Rattle.sgf_tree.proofs.NodesSpelled.{white-byte}
@@ -24,7 +24,7 @@ capitals (suc n) [] le h = absurd (omega arith)
 capitals (suc n) (b ∷ s) le h = upper (h 0 (omega arith)) (capitals n s (omega arith) (λ i lt. h (suc i) (omega arith)))
 
 -- no value follows a run of white space before another byte
-ends-run : (s : List ℕ) (k : ℕ) → IsRun is_white s 0 k → (k < length s → get_or s k 0 ≢ 91) → EndsValues s
+ends-run : (s : List ℕ) (k : ℕ) → IsSpan is_white s 0 k → (k < length s → get_or s k 0 ≢ 91) → EndsValues s
 ends-run s k run other b u w e =
     elim (cases_lt k (length s)) [
       | inl lt ↦
@@ -101,8 +101,8 @@ module _ (t : List ℕ) where
             ∙ sym (flat_map-append value_text before.values (v ∷ []));
       }
 
-  pub property-one : (at name_end end next : ℕ) → IsRun is_upper t at name_end → AreValuesWritten t name_end end → name_end ≢ at → end ≢ name_end
-      → IsRun is_white t end next → (next < length t → get_or t next 0 ≢ 91) → IsPropertyWritten t at end
+  pub property-one : (at name_end end next : ℕ) → IsSpan is_upper t at name_end → AreValuesWritten t name_end end → name_end ≢ at → end ≢ name_end
+      → IsSpan is_white t end next → (next < length t → get_or t next 0 ≢ 91) → IsPropertyWritten t at end
   property-one at name_end end next run written named some white other =
       whole written.values written.spelled written.text
     where

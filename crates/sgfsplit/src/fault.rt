@@ -17,7 +17,7 @@ pub enum Fault {
 impl Fault {
     ghost use Rattle.sgfsplit.specs.Fault.{status_of, message_of, line_of};
     ghost use Rattle.sgfsplit.specs.inner.Line.{number_text};
-    ghost use Rattle.sgfsplit.specs.inner.Line.{text_of};
+    ghost use Rattle.sgfsplit.specs.inner.Line.{line_text};
 
     /// The exit status: 1 for an input that is refused, 3 for a file that isn't opened, read or written, 4 for want of
     /// memory.
@@ -60,7 +60,7 @@ impl Fault {
 
     /// The line on standard error, with its line feed.
     pub(crate) fn line(&self) -> Line
-        ensures { text_of result ≡ line_of self.now }
+        ensures { line_text result ≡ line_of self.now }
     {
         let (before, number, after) = self.message();
         let mut line = Line::new();

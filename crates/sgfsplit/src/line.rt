@@ -16,11 +16,11 @@ pub struct Line {
 }
 
 impl Line {
-    ghost use Rattle.sgfsplit.specs.inner.Line.{text_of, number_text};
+    ghost use Rattle.sgfsplit.specs.inner.Line.{line_text, number_text};
 
     /// The empty line.
     pub fn new() -> Line
-        ensures { text_of result ≡ [] }
+        ensures { line_text result ≡ [] }
     {
         Line {
             bytes: [0; ROOM],
@@ -30,8 +30,8 @@ impl Line {
 
     /// Appends a text.
     pub fn push(&mut self, text: &str)
-        requires room { length (text_of self.old) + length text.now ≤ 120 }
-        ensures { text_of self.new ≡ text_of self.old ++ text.now }
+        requires room { length (line_text self.old) + length text.now ≤ 120 }
+        ensures { line_text self.new ≡ line_text self.old ++ text.now }
     {
         let end = self.length + text.len();
         self.bytes[self.length..end].copy_from_slice(text.as_bytes());
@@ -40,9 +40,9 @@ impl Line {
 
     /// Appends a number in decimal, where there is one.
     pub fn push_number(&mut self, number: Option<u64>)
-        requires room { length (text_of self.old) + 40 ≤ 120 }
-        ensures text { text_of self.new ≡ text_of self.old ++ number_text number }
-        ensures short { length (text_of self.new) ≤ length (text_of self.old) + 40 }
+        requires room { length (line_text self.old) + 40 ≤ 120 }
+        ensures text { line_text self.new ≡ line_text self.old ++ number_text number }
+        ensures short { length (line_text self.new) ≤ length (line_text self.old) + 40 }
     {
         if let Some(number) = number {
             let mut buffer = Buffer::new();
@@ -52,7 +52,7 @@ impl Line {
 
     /// Its bytes.
     pub fn as_bytes(&self) -> &[u8]
-        ensures { result.now ≡ text_of self.now }
+        ensures { result.now ≡ line_text self.now }
     {
         &self.bytes[..self.length]
     }

@@ -8,7 +8,7 @@ use Rattle.sgf_lines.specs.CountedRun.{plays_in}
 use Rattle.sgf_lines.specs.declared.options.Form.{Form}
 use Rattle.sgf_lines.specs.declared.options.Form.TheVariants.{List as list_form, Sgf as sgf_form, Gtp as gtp_form}
 use Rattle.sgf_lines.specs.declared.writer.Writer.{Writer}
-use Rattle.sgf_lines.specs.inner.Kept.{IsKept, nodes_text}
+use Rattle.sgf_lines.specs.inner.Kept.{IsKeptText, nodes_text}
 use Rattle.sgf_lines.specs.inner.Followed.{IsFollowed, followed_commands, CountsFresh, fresh_plays}
 use Rattle.sgf_lines.specs.inner.Following.{Continues, first_after, path_before}
 
@@ -24,7 +24,7 @@ record_in w = record_by w.form w
 -- what is kept of the nodes of a line: where it is judged, the game played along them; else their text
 abbrev pub KeepsBy : Form → List Node → Writer → Type 0
 KeepsBy list_form nodes w = IsFollowed false nodes w.followed
-KeepsBy sgf_form nodes w = IsKept nodes_text nodes w.nodes
+KeepsBy sgf_form nodes w = IsKeptText nodes_text nodes w.nodes
 KeepsBy gtp_form nodes w = IsFollowed true nodes w.followed
 
 abbrev pub Keeps : List Node → Writer → Type 0

@@ -6,7 +6,7 @@ use Rattle.sgf_lines.specs.Record.{node_text}
 use Rattle.sgf_lines.specs.declared.kept.KeptText.{KeptText}
 
 -- the text is that of the nodes, and each mark cuts it back to that of the nodes before its own
-pub record IsKept (text_of : List Node → List ℕ) (nodes : List Node) (kept : KeptText) : Type 0 where
+pub record IsKeptText (text_of : List Node → List ℕ) (nodes : List Node) (kept : KeptText) : Type 0 where
   pub text : kept.text.items ≡ text_of nodes
   pub count : length kept.marks.items ≡ length nodes
   pub within : (i mark : ℕ) → slice_get kept.marks.items i ≡ Some mark → mark ≤ length kept.text.items

@@ -8,7 +8,7 @@ use Rattle.go_board.specs.State.{State}
 use Rattle.sgf_lines.specs.Walk.{walk}
 use Rattle.sgf_lines.specs.Script.{node_script, played_script, leaves_unreaching, board_commands}
 use Rattle.sgf_lines.specs.declared.commands.Commands.{Commands}
-use Rattle.sgf_lines.specs.inner.Kept.{IsKept}
+use Rattle.sgf_lines.specs.inner.Kept.{IsKeptText}
 
 -- a text, or none where the side is past the letters
 abbrev pub if_lettered : ℕ → List ℕ → List ℕ
@@ -32,7 +32,7 @@ IsFirstUnreaching side nodes (Some i) =
     (i < length nodes) × (some_unreaching side (take i nodes) ≡ false) × (some_unreaching side (take (i + 1) nodes) ≡ true)
 
 pub record AreCommands (side : ℕ) (nodes : List Node) (commands : Commands) : Type 0 where
-  pub kept : IsKept (commands_text side) nodes commands.kept
+  pub kept : IsKeptText (commands_text side) nodes commands.kept
   pub unreaching : IsFirstUnreaching side nodes commands.unreaching
 
 -- what playing a node more did: its step was taken, and led to this board; or it wasn't

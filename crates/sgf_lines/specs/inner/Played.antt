@@ -29,7 +29,7 @@ met_before (Some met) kept = if nat_lt met.index kept then Some met else None
 met_before None kept = None
 
 -- a depth leads back to where the walk along the first i nodes leads
-pub record LeadsBack (side : ℕ) (nodes : List Node) (states : States) (i depth : ℕ) : Type 0 where
+pub record IsDepthBefore (side : ℕ) (nodes : List Node) (states : States) (i depth : ℕ) : Type 0 where
   pub within : depth ≤ length states.earlier
   pub state : (back_to states depth).present ≡ (walk side (take i nodes)).state
 
@@ -38,7 +38,7 @@ pub record IsPlayed (side : ℕ) (nodes : List Node) (game : Game) : Type 0 wher
   pub state : game.referee.present ≡ (walk side nodes).state
   pub fault : IsFaultOf side nodes game.fault
   pub count : length game.marks.items ≡ length nodes
-  pub marks : (i depth : ℕ) → slice_get game.marks.items i ≡ Some depth → LeadsBack side nodes game.referee i depth
+  pub marks : (i depth : ℕ) → slice_get game.marks.items i ≡ Some depth → IsDepthBefore side nodes game.referee i depth
   pub order : (i j early late : ℕ) → i ≤ j → slice_get game.marks.items i ≡ Some early → slice_get game.marks.items j ≡ Some late → early ≤ late
 
 -- what is kept of the commands of the nodes, where they are asked for

@@ -18,7 +18,7 @@ IsTrueFault t (NotSgf at) = IsFaultyAt t at
 IsTrueFault t Memory = Unit {0}
 
 -- the bytes from `at` to `end` pass the test, and the byte after them doesn't
-pub record IsRun (test : ℕ → Bool) (t : List ℕ) (at end : ℕ) : Type 0 where
+pub record IsSpan (test : ℕ → Bool) (t : List ℕ) (at end : ℕ) : Type 0 where
   pub rises : at ≤ end
   pub within : end ≤ length t
   pub passing : (i : ℕ) → at ≤ i → i < end → IsTrue (test (slice_index t i))
@@ -43,13 +43,13 @@ SpellsValue t at end = IsValue (slice_range t at end) (drop at t) (drop end t)
 -- two plain bytes and a `]`
 pub record IsTwoPlain (t : List ℕ) (at : ℕ) : Type 0 where
   pub within : at + 2 < length t
-  pub plain : IsRun is_plain t at (at + 2)
+  pub plain : IsSpan is_plain t at (at + 2)
   pub bracket : slice_index t (at + 2) ≡ close_bracket
 
 -- white space begins at `at`, or none, and a byte that is less than each letter and each bracket follows
 pub record IsNodeEnd (t : List ℕ) (at : ℕ) : Type 0 where
   pub next : ℕ
-  pub white : IsRun is_white t at next
+  pub white : IsSpan is_white t at next
   pub inside : next < length t
   pub below : slice_index t next < capital_a
 

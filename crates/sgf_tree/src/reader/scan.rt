@@ -3,7 +3,7 @@
 ghost use Rattle.std.specs.Prelude.{◌≡◌, ◌≤◌, ◌<◌, length, drop, slice_index, slice_range, IsTrue, MatchOption};
 ghost use Rattle.sgf_tree.specs.Spelling.{is_white, is_upper};
 ghost use Rattle.sgf_tree.specs.inner.NodeText.{is_letter};
-ghost use Rattle.sgf_tree.specs.inner.Progress.{IsRun, IsValueEnd, IsUnended, SpellsValue, SpellsNoValue, IsTwoPlain, IsNodeEnd, IsLoneNode, is_plain};
+ghost use Rattle.sgf_tree.specs.inner.Progress.{IsSpan, IsValueEnd, IsUnended, SpellsValue, SpellsNoValue, IsTwoPlain, IsNodeEnd, IsLoneNode, is_plain};
 
 use memchr::memchr2;
 
@@ -38,7 +38,7 @@ fn is_white_space(byte: u8) -> bool
 /// The end of the white space that stands at `at`.
 pub(crate) fn skip_white(text: &[u8], at: usize) -> usize
     requires { at ≤ length text.now }
-    ensures { IsRun is_white text.now at result }
+    ensures { IsSpan is_white text.now at result }
 {
     let mut end = at;
     'white: while end < text.len() && is_white_space(text[end]) {
@@ -50,7 +50,7 @@ pub(crate) fn skip_white(text: &[u8], at: usize) -> usize
 /// The end of the letters that stand at `at`.
 fn letters_end(text: &[u8], at: usize) -> usize
     requires { at ≤ length text.now }
-    ensures { IsRun is_letter text.now at result }
+    ensures { IsSpan is_letter text.now at result }
 {
     let mut end = at;
     'letters: while end < text.len() && text[end].is_ascii_alphabetic() {
@@ -63,7 +63,7 @@ fn letters_end(text: &[u8], at: usize) -> usize
 pub(crate) fn identifier_end(text: &[u8], at: usize) -> usize
     requires within { at < length text.now }
     requires capital { IsTrue (is_upper (slice_index text.now at)) }
-    ensures { IsRun is_letter text.now at result }
+    ensures { IsSpan is_letter text.now at result }
 {
     if text.len() - at > 2 {
         if text[at + 1] == b'[' {
@@ -79,7 +79,7 @@ pub(crate) fn identifier_end(text: &[u8], at: usize) -> usize
 /// The end of the capitals that stand at `at`. Where a name stands there, nearly all have one or two.
 pub(crate) fn capitals_end(text: &[u8], at: usize) -> usize
     requires { at ≤ length text.now }
-    ensures { IsRun is_upper text.now at result }
+    ensures { IsSpan is_upper text.now at result }
 {
     if at == text.len() || !text[at].is_ascii_uppercase() {
         return at;
@@ -98,7 +98,7 @@ pub(crate) fn capitals_end(text: &[u8], at: usize) -> usize
 /// The same, one by one.
 fn far_capitals_end(text: &[u8], at: usize) -> usize
     requires { at ≤ length text.now }
-    ensures { IsRun is_upper text.now at result }
+    ensures { IsSpan is_upper text.now at result }
 {
     let mut end = at;
     'capitals: while end < text.len() && text[end].is_ascii_uppercase() {
@@ -110,7 +110,7 @@ fn far_capitals_end(text: &[u8], at: usize) -> usize
 /// The first `]` or `\` from `at` on, or the end of the text, by a search that costs something to begin.
 fn far_plain_end(text: &[u8], at: usize) -> usize
     requires { at ≤ length text.now }
-    ensures { IsRun is_plain text.now at result }
+    ensures { IsSpan is_plain text.now at result }
 {
     match memchr2(b']', b'\\', &text[at..]) {
         Some(further) => at + further,
@@ -121,7 +121,7 @@ fn far_plain_end(text: &[u8], at: usize) -> usize
 /// The same, where it is often near.
 fn plain_end(text: &[u8], at: usize) -> usize
     requires { at ≤ length text.now }
-    ensures { IsRun is_plain text.now at result }
+    ensures { IsSpan is_plain text.now at result }
 {
     if text.len() - at < TRIED {
         return far_plain_end(text, at);
@@ -139,7 +139,7 @@ fn plain_end(text: &[u8], at: usize) -> usize
 /// The same after an escape, where another one may follow at once, and where else the value is a long text.
 fn plain_end_after_escape(text: &[u8], at: usize) -> usize
     requires { at ≤ length text.now }
-    ensures { IsRun is_plain text.now at result }
+    ensures { IsSpan is_plain text.now at result }
 {
     if at < text.len() && (text[at] == b']' || text[at] == b'\\') {
         at

@@ -8,5 +8,5 @@ number_text None = []
 number_text (Some n) = decimal n
 
 -- the text that is built so far
-abbrev pub text_of : Line → List ℕ
-text_of line = take line.length line.bytes
+abbrev pub line_text : Line → List ℕ
+line_text line = take line.length line.bytes

@@ -4,7 +4,7 @@ use Rattle.std.proofs.lemmas.List.{take_all}
 use Rattle.sgf_tree.specs.FileOrder.{node_at}
 use Rattle.sgf_lines.specs.Record.{node_text}
 use Rattle.sgf_lines.specs.declared.kept.KeptText.{KeptText}
-use Rattle.sgf_lines.specs.inner.Kept.{IsKept, nodes_text}
+use Rattle.sgf_lines.specs.inner.Kept.{IsKeptText, nodes_text}
 use Rattle.sgf_lines.proofs.Joins.{node_named, as_many}
 use Rattle.sgf_lines.proofs.Along.{front_more}
 use Rattle.sgf_lines.proofs.KeptTexts.{kept_on, nodes_text_more}
@@ -12,7 +12,7 @@ use Rattle.sgf_lines.proofs.record.follow_nodes.Goals as goal
 
 pub loop-i-init : goal.loop-i-init
 loop-i-init c = λ old nodes held le named same.
-    subst (λ ns. IsKept nodes_text ns c.cut_back.new.self) same (c.cut_back.ensures nodes_text old held le (λ none. refl))
+    subst (λ ns. IsKeptText nodes_text ns c.cut_back.new.self) same (c.cut_back.ensures nodes_text old held le (λ none. refl))
 
 pub loop-i-preserved : goal.loop-i-preserved
 loop-i-preserved c = λ old nodes held le named same.
@@ -27,4 +27,4 @@ loop-i-preserved c = λ old nodes held le named same.
 pub returns : goal.returns
 returns c = λ old nodes held le named same.
     let past : length nodes ≤ c.loop-i.i = omega (arith, as_many (node_at c.args.collection.now) nodes c.args.path.now named, c.loop-i-test.false) in
-    subst (λ ns. IsKept nodes_text ns c.loop-i.kept) (take_all c.loop-i.i nodes past) (c.loop-i.invariant old nodes held le named same)
+    subst (λ ns. IsKeptText nodes_text ns c.loop-i.kept) (take_all c.loop-i.i nodes past) (c.loop-i.invariant old nodes held le named same)

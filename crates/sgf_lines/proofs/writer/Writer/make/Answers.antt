@@ -2,7 +2,7 @@
 use Rattle.std.proofs.Common.{◌≡◌, ◌<◌, true, false}
 use Rattle.std.specs.Prelude.{codes}
 use Rattle.std.proofs.lemmas.Result.{on_ok_weaker}
-use Rattle.sgf_lines.specs.inner.Kept.{IsKept, nodes_text}
+use Rattle.sgf_lines.specs.inner.Kept.{IsKeptText, nodes_text}
 use Rattle.sgf_lines.proofs.KeptTexts.{game_of_nodes}
 use Rattle.sgf_lines.proofs.Scripted.{row_followed, script_followed}
 use Rattle.sgf_lines.specs.inner.Followed.{IsFollowed}
@@ -30,7 +30,7 @@ returns-in_ok-follow-in-Gtp-clause-made c = λ old l h held le same.
 
 pub returns-in_ok-push_bytes-in-Sgf-clause-made : goal.returns-in_ok-push_bytes-in-Sgf-clause-made
 returns-in_ok-push_bytes-in-Sgf-clause-made c = λ old l h held le same.
-    let was : 0 < c.args.shared → IsKept nodes_text old c.args.self.now.nodes = rw c.in-Sgf.is at held in
+    let was : 0 < c.args.shared → IsKeptText nodes_text old c.args.self.now.nodes = rw c.in-Sgf.is at held in
     let head : c.push_bytes.new.output.items ≡ codes "(" = rw c.clear.ensures.items at c.in_ok-push_bytes-in-Sgf.ensures in
     on_ok_weaker c.follow_nodes.result (λ kept. rw c.in-Sgf.is (game_of_nodes l.nodes c.follow_nodes.new.kept c.push_bytes.new.output.items kept head)) (c.follow_nodes.ensures old l.nodes was le h.nodes same)
 
