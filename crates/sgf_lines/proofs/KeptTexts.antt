@@ -1,5 +1,5 @@
 -- A text of nodes goes on by a node.
-use Rattle.std.proofs.Common.{◌≡◌, ◌⊎◌, ℕ, ◌+◌, ◌≤◌, List, [], ◌∷◌, ◌++◌, length, take, slice_get, Some, inl, inr, sym, ap, ◌∙◌, arith, length-append, append-nil, append_assoc}
+use Rattle.std.proofs.Common.{◌≡◌, ◌⊎◌, ℕ, ◌+◌, ◌-◌, ◌≤◌, List, [], ◌∷◌, ◌++◌, length, take, slice_get, Some, inl, inr, sym, ap, ◌∙◌, arith, length-append, append-nil, append_assoc, flat_map}
 use Rattle.std.specs.Prelude.{codes}
 use Rattle.std.proofs.Math.Seq.{take-append_seam}
 use Rattle.std.proofs.lemmas.List.{take-append-le}
@@ -8,7 +8,7 @@ use Rattle.std.proofs.lemmas.Grind.{flat_map-append}
 use Rattle.sgf_tree.specs.Tree.{Node}
 use Rattle.sgf_lines.specs.Record.{node_text, sgf_record}
 use Rattle.sgf_lines.specs.declared.kept.KeptText.{KeptText}
-use Rattle.sgf_lines.specs.inner.Kept.{IsKeptText, nodes_text}
+use Rattle.sgf_lines.specs.inner.Kept.{IsKeptText, IsKeptRecord, open_game}
 use Rattle.sgf_lines.proofs.Played.{pushed}
 
 module _ (text_of : List Node → List ℕ) (nodes : List Node) (old new : KeptText) (h : IsKeptText text_of nodes old) where
@@ -48,10 +48,34 @@ module _ (text_of : List Node → List ℕ) (nodes : List Node) (old new : KeptT
     }
 
 -- the text of one node more
-pub nodes_text_more : (nodes : List Node) (n : Node) → nodes_text (nodes ++ n ∷ []) ≡ nodes_text nodes ++ node_text n
-nodes_text_more nodes n = flat_map-append node_text nodes (n ∷ []) ∙ ap (λ t. nodes_text nodes ++ t) (append-nil (node_text n))
+pub open_game_more : (nodes : List Node) (n : Node) → open_game (nodes ++ n ∷ []) ≡ open_game nodes ++ node_text n
+open_game_more nodes n =
+    ap (λ t. codes "(" ++ t) (flat_map-append node_text nodes (n ∷ []) ∙ ap (λ t. flat_map node_text nodes ++ t) (append-nil (node_text n)))
+    ∙ sym (append_assoc (codes "(") (flat_map node_text nodes) (node_text n))
 
--- a whole game of these nodes
-pub game_of_nodes : (nodes : List Node) (kept : KeptText) (head : List ℕ) → IsKeptText nodes_text nodes kept → head ≡ codes "(" → head ++ (kept.text.items ++ codes ")\n") ≡ sgf_record nodes
-game_of_nodes nodes kept head h is =
-    ap (λ t. t ++ (kept.text.items ++ codes ")\n")) is ∙ ap (λ t. codes "(" ++ (t ++ codes ")\n")) h.text ∙ sym (append_assoc (codes "(") (nodes_text nodes) (codes ")\n"))
+-- what is kept hangs on the text and the marks alone
+pub kept_same : (text_of : List Node → List ℕ) (nodes : List Node) (old new : KeptText) → IsKeptText text_of nodes old
+    → new.text.items ≡ old.text.items → new.marks.items ≡ old.marks.items → IsKeptText text_of nodes new
+kept_same text_of nodes old new h text marks = record {
+  text = text ∙ h.text;
+  count = ap length marks ∙ h.count;
+  within = λ i mark e. rw text (h.within i mark (rw marks at e));
+  marks = λ i mark e. rw text (h.marks i mark (rw marks at e));
+  order = λ i j early late le e f. h.order i j early late le (rw marks at e) (rw marks at f);
+}
+
+-- the end of a record is taken off again
+pub opened_again : (nodes : List Node) (old new : KeptText) → IsKeptRecord nodes old
+    → new.text.items ≡ take (length old.text.items - 2) old.text.items → new.marks.items ≡ old.marks.items → IsKeptText open_game nodes new
+opened_again nodes old new h text marks =
+    kept_same open_game nodes h.opened new h.is_open (text ∙ front) (marks ∙ h.marks)
+  where
+    count : length (h.opened.text.items ++ codes ")\n") - 2 ≡ length h.opened.text.items
+    count = omega (arith, length-append h.opened.text.items (codes ")\n"))
+
+    front : take (length old.text.items - 2) old.text.items ≡ h.opened.text.items
+    front = rw h.text (ap (λ n. take n (h.opened.text.items ++ codes ")\n")) count ∙ take-append_seam h.opened.text.items (codes ")\n"))
+
+-- what is kept is the record of these nodes
+pub record_of_nodes : (nodes : List Node) (kept : KeptText) → IsKeptRecord nodes kept → kept.text.items ≡ sgf_record nodes
+record_of_nodes nodes kept h = h.text ∙ ap (λ t. t ++ codes ")\n") h.is_open.text

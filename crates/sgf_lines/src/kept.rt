@@ -1,6 +1,6 @@
 //! The text of a line's nodes, kept for what the next line shares of it.
 
-ghost use Rattle.std.specs.Prelude.{◌≡◌, ◌<◌, ◌≤◌, ◌++◌, ◌∷◌, [], ℕ, List, length, take, OnOk};
+ghost use Rattle.std.specs.Prelude.{◌≡◌, ◌<◌, ◌≤◌, ◌-◌, ◌++◌, ◌∷◌, [], ℕ, List, length, take, OnOk};
 ghost use Rattle.sgf_tree.specs.Tree.{Node};
 ghost use Rattle.sgf_lines.specs.inner.Kept.{IsKeptText};
 
@@ -52,6 +52,15 @@ impl KeptText {
     {
         self.marks.push(self.text.len())?;
         Ok(())
+    }
+
+    /// Takes so many bytes off the end of the text. The marks stay.
+    pub(crate) fn shorten(&mut self, bytes: usize)
+        ensures text { self.new.text.items ≡ take (length self.old.text.items - bytes) self.old.text.items }
+        ensures marks { self.new.marks.items ≡ self.old.marks.items }
+    {
+        let length = self.text.len().saturating_sub(bytes);
+        self.text.truncate(length);
     }
 
     /// Cuts the text back to the first `kept` nodes.

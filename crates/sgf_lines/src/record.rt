@@ -1,17 +1,20 @@
-//! The text of a line's nodes in sgf form.
+//! The record of a line in sgf form.
 
 ghost use Rattle.std.specs.Prelude.{◌≡◌, ◌++◌, ◌<◌, ◌≤◌, List, Some, map, take, length, All, OnOk};
 ghost use Rattle.std.specs.List.{flat_map};
 ghost use Rattle.sgf_tree.specs.Tree.{Node, node_count};
 ghost use Rattle.sgf_tree.specs.FileOrder.{node_at};
 ghost use Rattle.sgf_lines.specs.Record.{value_text, property_text, node_text};
-ghost use Rattle.sgf_lines.specs.inner.Kept.{IsKeptText, nodes_text};
+ghost use Rattle.sgf_lines.specs.inner.Kept.{IsKeptText, IsKeptRecord, open_game};
 
 use crate::kept::KeptText;
 use crate::text::push_bytes;
 use sgf_tree::{Collection, MemoryFault, NodeRef, PropRef, Properties};
 
-/// Goes on with the text of the nodes of a path, of which the first `shared` are those of the path before.
+/// What ends a game, and the record that it is.
+const GAME_END: &[u8] = b")\n";
+
+/// Goes on to the record of the nodes of a path, of which the first `shared` are those of the path before.
 /// After a refusal of memory nothing is said of it.
 pub(crate) fn follow_nodes(
     collection: &Collection<'_>,
@@ -20,15 +23,29 @@ pub(crate) fn follow_nodes(
     kept: &mut KeptText,
 ) -> Result<(), MemoryFault>
     requires { All (λ i. i < node_count collection.now) path.now }
-    ensures { (old nodes : List Node) → (0 < shared → IsKeptText nodes_text old kept.old) → shared ≤ length old
+    ensures { (old nodes : List Node) → (0 < shared → IsKeptRecord old kept.old) → shared ≤ length old
         → map Some nodes ≡ map (node_at collection.now) path.now → take shared old ≡ take shared nodes
-        → OnOk result (IsKeptText nodes_text nodes kept.new) }
+        → OnOk result (IsKeptRecord nodes kept.new) }
 {
-    kept.cut_back(shared);
+    keep_nodes(shared, kept)?;
     for i in shared..path.len() {
         kept.begin_node()?;
         push_node(&collection.node(path[i]), &mut kept.text)?;
     }
+    push_bytes(GAME_END, &mut kept.text)
+}
+
+/// Keeps the first `shared` nodes of a record, and opens their game again; where there are none, a game begins.
+fn keep_nodes(shared: usize, kept: &mut KeptText) -> Result<(), MemoryFault>
+    ensures { (old : List Node) → (0 < shared → IsKeptRecord old kept.old) → shared ≤ length old
+        → OnOk result (IsKeptText open_game (take shared old) kept.new) }
+{
+    if shared == 0 {
+        kept.clear();
+        return push_bytes(b"(", &mut kept.text);
+    }
+    kept.shorten(GAME_END.len());
+    kept.cut_back(shared);
     Ok(())
 }
 

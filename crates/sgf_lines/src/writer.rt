@@ -18,7 +18,6 @@ use crate::options::Form;
 use crate::plays::Plays;
 use crate::record::follow_nodes;
 use crate::sink::{Sink, SinkFault};
-use crate::text::push_bytes;
 use crate::writing::put_all;
 use sgf_tree::{Collection, MemoryFault};
 use std::alloc::Global;
@@ -34,10 +33,10 @@ pub(crate) struct Writer {
     // held of the line that was written last, in the forms that judge
     followed: Followed,
 
-    // the text of that line's nodes, in sgf form
+    // that line's record, in sgf form
     nodes: KeptText,
 
-    // what stands first in that line's record
+    // what stands first in that line's record, in the forms that judge
     head: Vec<u8>,
 }
 
@@ -127,10 +126,7 @@ impl Writer {
                 let verdict = self.followed.verdict();
                 push_list(line, verdict, &mut self.head)
             }
-            Form::Sgf => {
-                push_bytes(b"(", &mut self.head)?;
-                follow_nodes(collection, line.path, shared, &mut self.nodes)
-            }
+            Form::Sgf => follow_nodes(collection, line.path, shared, &mut self.nodes),
             Form::Gtp => {
                 self.followed
                     .follow(alloc, collection, line.path, shared, true, plays)?;
@@ -140,16 +136,18 @@ impl Writer {
         }
     }
 
-    /// Puts the record of the line that was made last, a part after the other.
+    /// Puts the record of the line that was made last.
     pub(crate) fn put<T: Sink>(&self, sink: &mut T) -> Result<(), SinkFault>
         requires countable { (T.state sink.old).failures < u64.MAX }
         ensures { PutsAll (T.state sink.old) (T.state sink.new) (record_in self.now) result }
     {
-        put_all(&self.head, sink)?;
         match self.form {
-            Form::List => Ok(()),
-            Form::Sgf => put_both(&self.nodes.text, b")\n", sink),
-            Form::Gtp => put_both(self.followed.commands(), b"\n", sink),
+            Form::List => put_all(&self.head, sink),
+            Form::Sgf => put_all(&self.nodes.text, sink),
+            Form::Gtp => {
+                put_all(&self.head, sink)?;
+                put_both(self.followed.commands(), b"\n", sink)
+            }
         }
     }
 }

@@ -8,14 +8,14 @@ use Rattle.sgf_lines.specs.CountedRun.{plays_in}
 use Rattle.sgf_lines.specs.declared.options.Form.{Form}
 use Rattle.sgf_lines.specs.declared.options.Form.TheVariants.{List as list_form, Sgf as sgf_form, Gtp as gtp_form}
 use Rattle.sgf_lines.specs.declared.writer.Writer.{Writer}
-use Rattle.sgf_lines.specs.inner.Kept.{IsKeptText, nodes_text}
+use Rattle.sgf_lines.specs.inner.Kept.{IsKeptRecord}
 use Rattle.sgf_lines.specs.inner.Followed.{IsFollowed, followed_commands, CountsFresh, fresh_plays}
 use Rattle.sgf_lines.specs.inner.Following.{Continues, first_after, path_before}
 
 -- the record that was made last
 abbrev pub record_by : Form → Writer → List ℕ
 record_by list_form w = w.head.items
-record_by sgf_form w = w.head.items ++ (w.nodes.text.items ++ codes ")\n")
+record_by sgf_form w = w.nodes.text.items
 record_by gtp_form w = w.head.items ++ (followed_commands w.followed ++ codes "\n")
 
 abbrev pub record_in : Writer → List ℕ
@@ -24,7 +24,7 @@ record_in w = record_by w.form w
 -- what is kept of the nodes of a line: where it is judged, the game played along them; else their text
 abbrev pub KeepsBy : Form → List Node → Writer → Type 0
 KeepsBy list_form nodes w = IsFollowed false nodes w.followed
-KeepsBy sgf_form nodes w = IsKeptText nodes_text nodes w.nodes
+KeepsBy sgf_form nodes w = IsKeptRecord nodes w.nodes
 KeepsBy gtp_form nodes w = IsFollowed true nodes w.followed
 
 abbrev pub Keeps : List Node → Writer → Type 0

@@ -1,5 +1,5 @@
 -- The text of a line's nodes, and the marks by which it is cut back.
-use Rattle.std.specs.Prelude.{◌≡◌, ℕ, ◌≤◌, List, length, take, Some, slice_get}
+use Rattle.std.specs.Prelude.{◌≡◌, ℕ, ◌≤◌, ◌++◌, List, length, take, Some, slice_get, codes}
 use Rattle.std.specs.List.{flat_map}
 use Rattle.sgf_tree.specs.Tree.{Node}
 use Rattle.sgf_lines.specs.Record.{node_text}
@@ -13,6 +13,13 @@ pub record IsKeptText (text_of : List Node → List ℕ) (nodes : List Node) (ke
   pub marks : (i mark : ℕ) → slice_get kept.marks.items i ≡ Some mark → take mark kept.text.items ≡ text_of (take i nodes)
   pub order : (i j early late : ℕ) → i ≤ j → slice_get kept.marks.items i ≡ Some early → slice_get kept.marks.items j ≡ Some late → early ≤ late
 
--- the nodes of a game, as the sgf form writes them
-abbrev pub nodes_text : List Node → List ℕ
-nodes_text nodes = flat_map node_text nodes
+-- the nodes of a game that isn't closed, as the sgf form writes them
+abbrev pub open_game : List Node → List ℕ
+open_game nodes = codes "(" ++ flat_map node_text nodes
+
+-- the text is the whole record of the nodes in sgf form: the open game that can be cut back by the marks, and its end
+pub record IsKeptRecord (nodes : List Node) (kept : KeptText) : Type 0 where
+  pub opened : KeptText
+  pub is_open : IsKeptText open_game nodes opened
+  pub text : kept.text.items ≡ opened.text.items ++ codes ")\n"
+  pub marks : kept.marks.items ≡ opened.marks.items

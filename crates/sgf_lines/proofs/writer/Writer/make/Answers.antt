@@ -1,9 +1,8 @@
 -- What is kept is kept along the line, whatever comes of the record.
-use Rattle.std.proofs.Common.{◌≡◌, ◌<◌, true, false}
-use Rattle.std.specs.Prelude.{codes}
+use Rattle.std.proofs.Common.{◌<◌, true, false}
 use Rattle.std.proofs.lemmas.Result.{on_ok_weaker}
-use Rattle.sgf_lines.specs.inner.Kept.{IsKeptText, nodes_text}
-use Rattle.sgf_lines.proofs.KeptTexts.{game_of_nodes}
+use Rattle.sgf_lines.specs.inner.Kept.{IsKeptRecord}
+use Rattle.sgf_lines.proofs.KeptTexts.{record_of_nodes}
 use Rattle.sgf_lines.proofs.Scripted.{row_followed, script_followed}
 use Rattle.sgf_lines.specs.inner.Followed.{IsFollowed}
 use Rattle.sgf_lines.proofs.Counted.{on_any}
@@ -28,11 +27,15 @@ returns-in_ok-follow-in-Gtp-clause-made c = λ old l h held le same.
     (λ pushed. rw c.in-Gtp.is (script_followed c.args.collection.now l c.args.line.now c.verdict-verdict-in-Gtp.result c.follow-in-Gtp.new.self c.push_comment_row.new.output.items h verdict is (rw c.clear.ensures.items at pushed)))
     c.push_comment_row.ensures
 
-pub returns-in_ok-push_bytes-in-Sgf-clause-made : goal.returns-in_ok-push_bytes-in-Sgf-clause-made
-returns-in_ok-push_bytes-in-Sgf-clause-made c = λ old l h held le same.
-    let was : 0 < c.args.shared → IsKeptText nodes_text old c.args.self.now.nodes = rw c.in-Sgf.is at held in
-    let head : c.push_bytes.new.output.items ≡ codes "(" = rw c.clear.ensures.items at c.in_ok-push_bytes-in-Sgf.ensures in
-    on_ok_weaker c.follow_nodes.result (λ kept. rw c.in-Sgf.is (game_of_nodes l.nodes c.follow_nodes.new.kept c.push_bytes.new.output.items kept head)) (c.follow_nodes.ensures old l.nodes was le h.nodes same)
+pub returns-in-Sgf-clause-keeps : goal.returns-in-Sgf-clause-keeps
+returns-in-Sgf-clause-keeps c = λ old l h held le same.
+    let was : 0 < c.args.shared → IsKeptRecord old c.args.self.now.nodes = rw c.in-Sgf.is at held in
+    rw c.in-Sgf.is (c.follow_nodes.ensures old l.nodes was le h.nodes same)
+
+pub returns-in-Sgf-clause-made : goal.returns-in-Sgf-clause-made
+returns-in-Sgf-clause-made c = λ old l h held le same.
+    let was : 0 < c.args.shared → IsKeptRecord old c.args.self.now.nodes = rw c.in-Sgf.is at held in
+    on_ok_weaker c.follow_nodes.result (λ kept. rw c.in-Sgf.is (record_of_nodes l.nodes c.follow_nodes.new.kept kept)) (c.follow_nodes.ensures old l.nodes was le h.nodes same)
 
 pub returns-in_ok-follow-in-List-clause-made : goal.returns-in_ok-follow-in-List-clause-made
 returns-in_ok-follow-in-List-clause-made c = λ old l h held le same.
