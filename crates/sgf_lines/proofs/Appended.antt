@@ -11,7 +11,7 @@ use Rattle.sgf_lines.specs.declared.verdict.Verdict.{Verdict}
 use Rattle.sgf_lines.specs.Lines.{Line, through, node_lines, lines_of_game, lines_from, lines, last_number, place_of}
 use Rattle.sgf_lines.specs.GameSize.{Opening, other_game, no_board, board, opening, root_properties}
 use Rattle.sgf_lines.specs.Step.{step}
-use Rattle.sgf_lines.specs.Walk.{Played, Fault, Walk, before_root, stepped, next_by, next, walk}
+use Rattle.sgf_lines.specs.Walk.{Played, IllegalNode, Walk, before_root, stepped, next_by, next, walk}
 use Rattle.sgf_lines.specs.Verdict.{verdict_with, verdict_by, verdict_of}
 use Rattle.sgf_lines.specs.ListRow.{verdict_text}
 use Rattle.sgf_lines.specs.Record.{record_of}
@@ -101,7 +101,7 @@ root-raised by (n ∷ ns) = refl
 abbrev raised_played : ℕ → Played → Played
 raised_played by p = record { node = raised_node by p.node; after = p.after }
 
-abbrev raised_fault : ℕ → Fault → Fault
+abbrev raised_fault : ℕ → IllegalNode → IllegalNode
 raised_fault by fault = record { node = raised_node by fault.node; reason = fault.reason }
 
 abbrev raised_walk : ℕ → Walk → Walk
@@ -113,7 +113,7 @@ stepped-raised by w n (Ok s) =
     ap (λ ps. record { played = ps; state = s; fault = None }) (sym (map-append (raised_played by) w.played (record { node = n; after = s } ∷ [])))
 stepped-raised by w n (Err reason) = refl
 
-next-raised : (by : ℕ) (w : Walk) (fault : Option Fault) (n : Node)
+next-raised : (by : ℕ) (w : Walk) (fault : Option IllegalNode) (n : Node)
     → next_by (raised_walk by w) (option_map (raised_fault by) fault) (raised_node by n) ≡ raised_walk by (next_by w fault n)
 next-raised by w (Some fault) n = refl
 next-raised by w None n = stepped-raised by w n (step w.state n)
@@ -123,7 +123,7 @@ walk-raised by w [] = refl
 walk-raised by w (n ∷ ns) =
     ap (λ v. fold next v (map (raised_node by) ns)) (next-raised by w w.fault n) ∙ walk-raised by (next w n) ns
 
-verdict_with-raised : (by : ℕ) (s : State) (fault : Option Fault) → verdict_with s (option_map (raised_fault by) fault) ≡ raised_verdict by (verdict_with s fault)
+verdict_with-raised : (by : ℕ) (s : State) (fault : Option IllegalNode) → verdict_with s (option_map (raised_fault by) fault) ≡ raised_verdict by (verdict_with s fault)
 verdict_with-raised by s None = refl
 verdict_with-raised by s (Some fault) = refl
 

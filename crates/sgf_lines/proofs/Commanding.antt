@@ -14,7 +14,7 @@ use Rattle.go_board.specs.Reason.{reason_of}
 use Rattle.sgf_lines.specs.NodeContents.{Move, Stones, moves, stones, players}
 use Rattle.sgf_lines.specs.Values.{move_value, operations, last_player}
 use Rattle.sgf_lines.specs.Step.{side_in, taken, move_step, setup_step, step_by, step}
-use Rattle.sgf_lines.specs.Walk.{Played, Fault, Walk, stepped, next_by, next}
+use Rattle.sgf_lines.specs.Walk.{Played, IllegalNode, Walk, stepped, next_by, next}
 
 -- a step leaves the side of the board
 side-areas : (g : Grid) (ops : List SetupOp) → (fold with_area g ops).side ≡ g.side
@@ -67,7 +67,7 @@ next_extends w n = by_fault w.fault
     by_step (Ok s) = (record { node = n; after = s } ∷ [], refl)
     by_step (Err reason) = ([], sym (append-nil w.played))
 
-    by_fault : (f : Option Fault) → (more : List Played) × ((next_by w f n).played ≡ w.played ++ more)
+    by_fault : (f : Option IllegalNode) → (more : List Played) × ((next_by w f n).played ≡ w.played ++ more)
     by_fault (Some f) = ([], sym (append-nil w.played))
     by_fault None = by_step (step w.state n)
 

@@ -9,7 +9,7 @@ use Rattle.sgf_tree.specs.Tree.{Node}
 use Rattle.go_board.specs.declared.reason.Reason.{Reason}
 use Rattle.go_board.specs.State.{State}
 use Rattle.sgf_lines.specs.Step.{step}
-use Rattle.sgf_lines.specs.Walk.{Played, Fault, Walk, before_root, stepped, next_by, next, walk, judged_by}
+use Rattle.sgf_lines.specs.Walk.{Played, IllegalNode, Walk, before_root, stepped, next_by, next, walk, judged_by}
 use Rattle.sgf_lines.specs.GameSize.{Opening, other_game, no_board, board, opening, root_properties}
 use Rattle.sgf_lines.specs.Verdict.{judged_on}
 use Rattle.sgf_lines.specs.declared.game.Game.{Game}
@@ -22,9 +22,9 @@ use Rattle.sgf_lines.proofs.Played.{met_none, met_some}
 -- how many nodes of a walk are judged
 judged_length : (w : Walk) → length (judged_by w) ≡ length w.played + length (option_to_list w.fault)
 judged_length w =
-    length-append (map (λ (p : Played). p.node) w.played) (map (λ (f : Fault). f.node) (option_to_list w.fault))
-    ∙ ap (λ k. k + length (map (λ (f : Fault). f.node) (option_to_list w.fault))) (length-map w.played (λ (p : Played). p.node))
-    ∙ ap (λ k. length w.played + k) (length-map (option_to_list w.fault) (λ (f : Fault). f.node))
+    length-append (map (λ (p : Played). p.node) w.played) (map (λ (f : IllegalNode). f.node) (option_to_list w.fault))
+    ∙ ap (λ k. k + length (map (λ (f : IllegalNode). f.node) (option_to_list w.fault))) (length-map w.played (λ (p : Played). p.node))
+    ∙ ap (λ k. length w.played + k) (length-map (option_to_list w.fault) (λ (f : IllegalNode). f.node))
 
 -- one more where there was no fault
 one_judged : (w : Walk) (n : Node) → w.fault ≡ None → length (judged_by (next w n)) ≡ length (judged_by w) + 1
@@ -38,10 +38,10 @@ one_judged w n none = ap (λ f. length (judged_by (next_by w f n))) none ∙ by_
     by_step (Err reason) = omega (arith, before, judged_length (stepped w n (Err reason)))
 
 -- as many where there was one
-none_judged : (w : Walk) (n : Node) (f : Fault) → w.fault ≡ Some f → next w n ≡ w
+none_judged : (w : Walk) (n : Node) (f : IllegalNode) → w.fault ≡ Some f → next w n ≡ w
 none_judged w n f some = ap (λ o. next_by w o n) some
 
-not_fewer_by : (w : Walk) (n : Node) (o : Option Fault) → w.fault ≡ o → length (judged_by w) ≤ length (judged_by (next w n))
+not_fewer_by : (w : Walk) (n : Node) (o : Option IllegalNode) → w.fault ≡ o → length (judged_by w) ≤ length (judged_by (next w n))
 not_fewer_by w n None e = omega (arith, one_judged w n e)
 not_fewer_by w n (Some f) e = omega (arith, ap (λ v. length (judged_by v)) (none_judged w n f e))
 
@@ -54,7 +54,7 @@ all_judged : (w : Walk) (ns : List Node) → w.fault ≡ None → (fold next w n
 all_judged w [] none end = omega arith
 all_judged w (n ∷ ns) none end = by (next w n).fault refl (λ e. all_judged (next w n) ns e end)
   where
-    by : (o : Option Fault) → (next w n).fault ≡ o → ((next w n).fault ≡ None → length (judged_by (fold next (next w n) ns)) ≡ length (judged_by (next w n)) + length ns)
+    by : (o : Option IllegalNode) → (next w n).fault ≡ o → ((next w n).fault ≡ None → length (judged_by (fold next (next w n) ns)) ≡ length (judged_by (next w n)) + length ns)
         → length (judged_by (fold next w (n ∷ ns))) ≡ length (judged_by w) + length (n ∷ ns)
     by None e later = omega (arith, one_judged w n none, later e)
     by (Some f) e later = let bad : None ≡ Some f = sym end ∙ ap (λ (v : Walk). v.fault) (after_fault (next w n) f ns e) ∙ e in absurd cc
@@ -64,7 +64,7 @@ pub within : (w : Walk) (ns : List Node) → length (judged_by (fold next w ns))
 within w [] = omega arith
 within w (n ∷ ns) = omega (arith, one_more w.fault refl, within (next w n) ns)
   where
-    one_more : (o : Option Fault) → w.fault ≡ o → length (judged_by (next w n)) ≤ length (judged_by w) + 1
+    one_more : (o : Option IllegalNode) → w.fault ≡ o → length (judged_by (next w n)) ≤ length (judged_by w) + 1
     one_more None e = omega (arith, one_judged w n e)
     one_more (Some f) e = omega (arith, ap (λ v. length (judged_by v)) (none_judged w n f e))
 
@@ -85,7 +85,7 @@ judged_after side nodes k le = by (walk side (take k nodes)).fault refl
     whole : walk side nodes ≡ fold next front (drop k nodes)
     whole = ap (fold next (before_root side)) (sym (take-append-drop k nodes)) ∙ fold-append next (before_root side) (take k nodes) (drop k nodes)
 
-    by : (o : Option Fault) → front.fault ≡ o → judged_count side nodes - k ≡ judged_count side nodes - judged_count side (take k nodes)
+    by : (o : Option IllegalNode) → front.fault ≡ o → judged_count side nodes - k ≡ judged_count side nodes - judged_count side (take k nodes)
     by None e =
         let all : judged_count side (take k nodes) ≡ k = omega (arith, all_judged (before_root side) (take k nodes) refl e, length-take-le k nodes le) in
         ap (λ j. judged_count side nodes - j) (sym all)

@@ -16,7 +16,7 @@ use Rattle.sgf_lines.specs.declared.contents.Kind.{Kind}
 use Rattle.sgf_lines.specs.declared.contents.Kind.TheVariants.{Move as move_kind, Stones as stones_kind, Player as player_kind, Comment as comment_kind}
 use Rattle.sgf_lines.specs.NodeContents.{Stones, moves_in, stones_in, players_in}
 use Rattle.sgf_lines.specs.Values.{player_value, operation, operations, last_player}
-use Rattle.sgf_lines.specs.inner.Contents.{Lists, empty_lists, joined, kind_of, lists_of_kind, lists_by, lists_in, AreMoves, AreTold}
+use Rattle.sgf_lines.specs.inner.Contents.{Lists, empty_lists, combined, kind_of, lists_of_kind, lists_by, lists_in, AreMoves, AreTold}
 
 -- one operation before others, and after them
 abbrev before_all : Option SetupOp → Option (List SetupOp) → Option (List SetupOp)
@@ -84,7 +84,7 @@ module _ (side : ℕ) (moves : Moves) (ops : List SetupOp) (player : Option Colo
   -- stones that are a rectangle of the board
   pub tells_stones : (s : Stones) (area : Rect) (longer : List SetupOp) → rect_value s.raw side ≡ Some area → IsRectOn side area
       → longer ≡ ops ++ record { cell = s.cell; area = area } ∷ []
-      → AreTold side moves longer player faulty (joined held (record { moves = []; stones = s ∷ []; players = [] }))
+      → AreTold side moves longer player faulty (combined held (record { moves = []; stones = s ∷ []; players = [] }))
   tells_stones s area longer e on more =
       let op : SetupOp = record { cell = s.cell; area = area } in
       let is : operation side s ≡ Some op = ap (λ o. option_map (λ a. record { cell = s.cell; area = a }) o) e in
@@ -97,7 +97,7 @@ module _ (side : ℕ) (moves : Moves) (ops : List SetupOp) (player : Option Colo
       }
 
   -- stones that are none
-  pub tells_no_stones : (s : Stones) → rect_value s.raw side ≡ None → AreTold side moves ops player true (joined held (record { moves = []; stones = s ∷ []; players = [] }))
+  pub tells_no_stones : (s : Stones) → rect_value s.raw side ≡ None → AreTold side moves ops player true (combined held (record { moves = []; stones = s ∷ []; players = [] }))
   tells_no_stones s e =
       let is : operation side s ≡ None = ap (λ o. option_map (λ a. record { cell = s.cell; area = a }) o) e in
       record {
@@ -113,7 +113,7 @@ module _ (side : ℕ) (moves : Moves) (ops : List SetupOp) (player : Option Colo
       none_after (Some ops) = refl
 
   -- a player
-  pub tells_player : (raw : List ℕ) (k : Colour) → player_value raw ≡ Some k → AreTold side moves ops (Some k) faulty (joined held (record { moves = []; stones = []; players = raw ∷ [] }))
+  pub tells_player : (raw : List ℕ) (k : Colour) → player_value raw ≡ Some k → AreTold side moves ops (Some k) faulty (combined held (record { moves = []; stones = []; players = raw ∷ [] }))
   tells_player raw k e = record {
     moves_are = same_moves;
     stones = λ good. same_stones ∙ h.stones good;
@@ -123,7 +123,7 @@ module _ (side : ℕ) (moves : Moves) (ops : List SetupOp) (player : Option Colo
   }
 
   -- no player
-  pub tells_no_player : (raw : List ℕ) → player_value raw ≡ None → AreTold side moves ops player true (joined held (record { moves = []; stones = []; players = raw ∷ [] }))
+  pub tells_no_player : (raw : List ℕ) → player_value raw ≡ None → AreTold side moves ops player true (combined held (record { moves = []; stones = []; players = raw ∷ [] }))
   tells_no_player raw e = record {
     moves_are = same_moves;
     stones = λ good. absurd cc;
@@ -147,8 +147,8 @@ tells_nothing side moves h = record {
 }
 
 -- joining lists
-joined_assoc : (a b c : Lists) → joined (joined a b) c ≡ joined a (joined b c)
-joined_assoc a b c =
+combined_assoc : (a b c : Lists) → combined (combined a b) c ≡ combined a (combined b c)
+combined_assoc a b c =
     let m = append_assoc a.moves b.moves c.moves in
     let s = append_assoc a.stones b.stones c.stones in
     let p = append_assoc a.players b.players c.players in
@@ -156,8 +156,8 @@ joined_assoc a b c =
     ∙ ap (λ ss. record { moves = a.moves ++ (b.moves ++ c.moves); stones = ss; players = (a.players ++ b.players) ++ c.players }) s
     ∙ ap (λ ps. record { moves = a.moves ++ (b.moves ++ c.moves); stones = a.stones ++ (b.stones ++ c.stones); players = ps }) p
 
-pub joined-nothing : (a : Lists) → joined a empty_lists ≡ a
-joined-nothing a =
+pub combined-nothing : (a : Lists) → combined a empty_lists ≡ a
+combined-nothing a =
     let m = append-nil a.moves in
     let s = append-nil a.stones in
     let p = append-nil a.players in
@@ -165,18 +165,18 @@ joined-nothing a =
     ∙ ap (λ ss. record { moves = a.moves; stones = ss; players = a.players ++ [] }) s
     ∙ ap (λ ps. record { moves = a.moves; stones = a.stones; players = ps }) p
 
-first_of_kind : (kind : Kind) (raw : List ℕ) (raws : List (List ℕ)) → lists_of_kind kind (raw ∷ raws) ≡ joined (lists_of_kind kind (raw ∷ [])) (lists_of_kind kind raws)
+first_of_kind : (kind : Kind) (raw : List ℕ) (raws : List (List ℕ)) → lists_of_kind kind (raw ∷ raws) ≡ combined (lists_of_kind kind (raw ∷ [])) (lists_of_kind kind raws)
 first_of_kind (move_kind k) raw raws = refl
 first_of_kind (stones_kind cell) raw raws = refl
 first_of_kind player_kind raw raws = refl
 first_of_kind comment_kind raw raws = refl
 
 -- one value is taken from those that are left
-pub takes_value : (a all : Lists) (kind : Kind) (raw : List ℕ) (left old : List (List ℕ)) → old ≡ raw ∷ left → joined a (lists_of_kind kind old) ≡ all
-    → joined (joined a (lists_of_kind kind (raw ∷ []))) (lists_of_kind kind left) ≡ all
+pub takes_value : (a all : Lists) (kind : Kind) (raw : List ℕ) (left old : List (List ℕ)) → old ≡ raw ∷ left → combined a (lists_of_kind kind old) ≡ all
+    → combined (combined a (lists_of_kind kind (raw ∷ []))) (lists_of_kind kind left) ≡ all
 takes_value a all kind raw left old is e =
-    joined_assoc a (lists_of_kind kind (raw ∷ [])) (lists_of_kind kind left) ∙ ap (joined a) (sym (first_of_kind kind raw left))
-    ∙ ap (λ raws. joined a (lists_of_kind kind raws)) (sym is) ∙ e
+    combined_assoc a (lists_of_kind kind (raw ∷ [])) (lists_of_kind kind left) ∙ ap (combined a) (sym (first_of_kind kind raw left))
+    ∙ ap (λ raws. combined a (lists_of_kind kind raws)) (sym is) ∙ e
 
 no_value_left : (kind : Kind) → lists_of_kind kind [] ≡ empty_lists
 no_value_left (move_kind k) = refl
@@ -184,18 +184,18 @@ no_value_left (stones_kind cell) = refl
 no_value_left player_kind = refl
 no_value_left comment_kind = refl
 
-pub all_values : (a all : Lists) (kind : Kind) (left : List (List ℕ)) → left ≡ [] → joined a (lists_of_kind kind left) ≡ all → a ≡ all
+pub all_values : (a all : Lists) (kind : Kind) (left : List (List ℕ)) → left ≡ [] → combined a (lists_of_kind kind left) ≡ all → a ≡ all
 all_values a all kind left is e =
-    sym (joined-nothing a) ∙ ap (joined a) (sym (no_value_left kind)) ∙ ap (λ raws. joined a (lists_of_kind kind raws)) (sym is) ∙ e
+    sym (combined-nothing a) ∙ ap (combined a) (sym (no_value_left kind)) ∙ ap (λ raws. combined a (lists_of_kind kind raws)) (sym is) ∙ e
 
 -- one property is taken from those that are left
-pub takes_property : (a all : Lists) (p : Property) (left old : List Property) → old ≡ p ∷ left → joined a (lists_in old) ≡ all
-    → joined (joined a (lists_by (kind_of p) (values p))) (lists_in left) ≡ all
+pub takes_property : (a all : Lists) (p : Property) (left old : List Property) → old ≡ p ∷ left → combined a (lists_in old) ≡ all
+    → combined (combined a (lists_by (kind_of p) (values p))) (lists_in left) ≡ all
 takes_property a all p left old is e =
-    joined_assoc a (lists_by (kind_of p) (values p)) (lists_in left) ∙ ap (λ ps. joined a (lists_in ps)) (sym is) ∙ e
+    combined_assoc a (lists_by (kind_of p) (values p)) (lists_in left) ∙ ap (λ ps. combined a (lists_in ps)) (sym is) ∙ e
 
-pub all_properties : (a all : Lists) (left : List Property) → left ≡ [] → joined a (lists_in left) ≡ all → a ≡ all
-all_properties a all left is e = sym (joined-nothing a) ∙ ap (λ ps. joined a (lists_in ps)) (sym is) ∙ e
+pub all_properties : (a all : Lists) (left : List Property) → left ≡ [] → combined a (lists_in left) ≡ all → a ≡ all
+all_properties a all left is e = sym (combined-nothing a) ∙ ap (λ ps. combined a (lists_in ps)) (sym is) ∙ e
 
 -- what a property holds, by its name
 abbrev pub held_by : Property → Lists
@@ -229,4 +229,4 @@ by_name name first more =
 -- what a node's properties hold is what the node holds
 pub lists_of_node : (ps : List Property) → lists_in ps ≡ record { moves = flat_map moves_in ps; stones = flat_map stones_in ps; players = flat_map players_in ps }
 lists_of_node [] = refl
-lists_of_node (p ∷ ps) = ap (λ a. joined a (lists_in ps)) (by_name p.name p.first p.more) ∙ ap (λ b. joined (held_by p) b) (lists_of_node ps)
+lists_of_node (p ∷ ps) = ap (λ a. combined a (lists_in ps)) (by_name p.name p.first p.more) ∙ ap (λ b. combined (held_by p) b) (lists_of_node ps)

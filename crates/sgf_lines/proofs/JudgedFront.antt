@@ -7,13 +7,13 @@ use Rattle.go_board.specs.declared.reason.Reason.{Reason}
 use Rattle.go_board.specs.State.{State}
 use Rattle.sgf_lines.specs.Step.{step}
 use Rattle.sgf_lines.specs.GameSize.{Opening, other_game, no_board, board, opening, root_properties}
-use Rattle.sgf_lines.specs.Walk.{Played, Fault, Walk, before_root, stepped, next, judged_by}
+use Rattle.sgf_lines.specs.Walk.{Played, IllegalNode, Walk, before_root, stepped, next, judged_by}
 use Rattle.sgf_lines.specs.Verdict.{judged_on}
 use Rattle.sgf_lines.proofs.Walking.{after_fault}
 use Rattle.sgf_lines.proofs.Along.{same_root}
 
 -- one node, where there is no fault before it
-abbrev one_if : Option Fault → ℕ → ℕ
+abbrev one_if : Option IllegalNode → ℕ → ℕ
 one_if (Some f) n = 0
 one_if None n = suc n
 
@@ -35,7 +35,7 @@ judged_fold : (w : Walk) (ns : List Node) → judged_by (fold next w ns) ≡ jud
 judged_fold w [] = sym (append-nil (judged_by w))
 judged_fold w (n ∷ ns) = by w.fault refl (judged_fold (next w n) ns)
   where
-    by : (o : Option Fault) → w.fault ≡ o → judged_by (fold next (next w n) ns) ≡ judged_by (next w n) ++ take (more_judged (next w n) ns) ns
+    by : (o : Option IllegalNode) → w.fault ≡ o → judged_by (fold next (next w n) ns) ≡ judged_by (next w n) ++ take (more_judged (next w n) ns) ns
         → judged_by (fold next w (n ∷ ns)) ≡ judged_by w ++ take (more_judged w (n ∷ ns)) (n ∷ ns)
     by (Some f) e rest = ap judged_by (after_fault w f (n ∷ ns) e) ∙ sym (append-nil (judged_by w))
         ∙ ap (λ o. judged_by w ++ take (one_if o (more_judged (next w n) ns)) (n ∷ ns)) (sym e)
@@ -50,7 +50,7 @@ judged_take w zero ns = refl
 judged_take w (suc k) [] = refl
 judged_take w (suc k) (n ∷ ns) = by w.fault (judged_take (next w n) k ns)
   where
-    by : (o : Option Fault) → take (more_judged (next w n) (take k ns)) (take k ns) ≡ take k (take (more_judged (next w n) ns) ns)
+    by : (o : Option IllegalNode) → take (more_judged (next w n) (take k ns)) (take k ns) ≡ take k (take (more_judged (next w n) ns) ns)
         → take (one_if o (more_judged (next w n) (take k ns))) (n ∷ take k ns) ≡ take (suc k) (take (one_if o (more_judged (next w n) ns)) (n ∷ ns))
     by (Some f) rest = refl
     by None rest = ap (λ l. n ∷ l) rest

@@ -8,10 +8,10 @@ use Rattle.std.proofs.lemmas.Option.{slice_get_within}
 use Rattle.sgf_tree.specs.Tree.{Node}
 use Rattle.go_board.specs.State.{State, States, followed_by}
 use Rattle.sgf_lines.specs.Step.{step}
-use Rattle.sgf_lines.specs.Walk.{Fault, Walk, before_root, stepped, next_by, next, walk}
+use Rattle.sgf_lines.specs.Walk.{IllegalNode, Walk, before_root, stepped, next_by, next, walk}
 use Rattle.sgf_lines.specs.Verdict.{verdict_at, score_in}
 use Rattle.sgf_lines.specs.declared.verdict.Verdict.TheVariants.{Illegal}
-use Rattle.sgf_lines.specs.declared.game.Fault.{Fault as Met}
+use Rattle.sgf_lines.specs.declared.game.MetFault.{MetFault}
 use Rattle.sgf_lines.specs.declared.game.Game.{Game}
 use Rattle.sgf_lines.specs.inner.Stepping.{GrowsByOne}
 use Rattle.sgf_lines.specs.inner.Played.{back_from, back_to, IsFaultOf, met_before, IsDepthBefore, IsPlayed}
@@ -72,7 +72,7 @@ walk_more side nodes n = fold-append next (before_root side) nodes (n ∷ [])
 front_clear : (side k : ℕ) (nodes : List Node) → (walk side nodes).fault ≡ None → (walk side (take k nodes)).fault ≡ None
 front_clear side k nodes none = by (walk side (take k nodes)).fault refl
   where
-    by : (o : Option Fault) → (walk side (take k nodes)).fault ≡ o → (walk side (take k nodes)).fault ≡ None
+    by : (o : Option IllegalNode) → (walk side (take k nodes)).fault ≡ o → (walk side (take k nodes)).fault ≡ None
     by None e = e
     by (Some f) e = let bad : None ≡ Some f = sym none ∙ ap (λ (w : Walk). w.fault) (walk-fault side nodes k f e) ∙ e in absurd cc
 
@@ -102,20 +102,20 @@ take_take xs i k le within =
 pub met_none : (side : ℕ) (nodes : List Node) (game : Game) → IsPlayed side nodes game → game.fault ≡ None → (walk side nodes).fault ≡ None
 met_none side nodes game h e = by game.fault h.fault e
   where
-    by : (o : Option Met) → IsFaultOf side nodes o → o ≡ None → (walk side nodes).fault ≡ None
+    by : (o : Option MetFault) → IsFaultOf side nodes o → o ≡ None → (walk side nodes).fault ≡ None
     by None is e = is
     by (Some m) is e = absurd cc
 
-fault_is : (side : ℕ) (nodes : List Node) (m : Met) → IsFaultOf side nodes (Some m) → (f : Fault) × ((walk side nodes).fault ≡ Some f) × (m.place ≡ f.node.place) × (m.reason ≡ f.reason)
+fault_is : (side : ℕ) (nodes : List Node) (m : MetFault) → IsFaultOf side nodes (Some m) → (f : IllegalNode) × ((walk side nodes).fault ≡ Some f) × (m.place ≡ f.node.place) × (m.reason ≡ f.reason)
 fault_is side nodes m h =
     let f = h.2.0 in
     let there = h.2.1 in
     (f, ap (λ (w : Walk). w.fault) (walk-fault side nodes (m.index + 1) f there) ∙ there, h.2.2, h.2.3)
 
-pub met_some : (side : ℕ) (nodes : List Node) (game : Game) → IsPlayed side nodes game → (game.fault ≡ None → ⊥) → (f : Fault) × ((walk side nodes).fault ≡ Some f)
+pub met_some : (side : ℕ) (nodes : List Node) (game : Game) → IsPlayed side nodes game → (game.fault ≡ None → ⊥) → (f : IllegalNode) × ((walk side nodes).fault ≡ Some f)
 met_some side nodes game h some = by game.fault h.fault some
   where
-    by : (o : Option Met) → IsFaultOf side nodes o → (o ≡ None → ⊥) → (f : Fault) × ((walk side nodes).fault ≡ Some f)
+    by : (o : Option MetFault) → IsFaultOf side nodes o → (o ≡ None → ⊥) → (f : IllegalNode) × ((walk side nodes).fault ≡ Some f)
     by None is some = absurd (some refl)
     by (Some m) is some = let f = fault_is side nodes m is in (f.0, f.1)
 
@@ -123,7 +123,7 @@ met_some side nodes game h some = by game.fault h.fault some
 pub passed_same : (side : ℕ) (nodes : List Node) (game : Game) (n : Node) → IsPlayed side nodes game → (game.fault ≡ None → ⊥) → walk side (nodes ++ n ∷ []) ≡ walk side nodes
 passed_same side nodes game n h some = let f = met_some side nodes game h some in walk_more side nodes n ∙ ap (λ o. next_by (walk side nodes) o n) f.1
 
-pub tells_fault : (side : ℕ) (nodes : List Node) (game : Game) (m : Met) → IsPlayed side nodes game → game.fault ≡ Some m → Illegal (game.referee.present.turns + 1) m.place m.reason ≡ verdict_at (walk side nodes)
+pub tells_fault : (side : ℕ) (nodes : List Node) (game : Game) (m : MetFault) → IsPlayed side nodes game → game.fault ≡ Some m → Illegal (game.referee.present.turns + 1) m.place m.reason ≡ verdict_at (walk side nodes)
 tells_fault side nodes game m h e =
     let is : IsFaultOf side nodes (Some m) = subst (IsFaultOf side nodes) e h.fault in
     let f = fault_is side nodes m is in
@@ -178,7 +178,7 @@ module _ (side : ℕ) (nodes : List Node) (old new : Game) (h : IsPlayed side no
         let same : next (walk side nodes) n ≡ walk side nodes = ap (λ o. next_by (walk side nodes) o n) f.1 in
         goes_down (ap (λ (s : States). s.present) referee ∙ h.state ∙ ap (λ (w : Walk). w.state) (sym same)) (subst (IsFaultOf side (nodes ++ n ∷ [])) (sym fault) (by old.fault h.fault some))
       where
-        by : (o : Option Met) → IsFaultOf side nodes o → (o ≡ None → ⊥) → IsFaultOf side (nodes ++ n ∷ []) o
+        by : (o : Option MetFault) → IsFaultOf side nodes o → (o ≡ None → ⊥) → IsFaultOf side (nodes ++ n ∷ []) o
         by None is some = absurd (some refl)
         by (Some m) is some =
             let early : take m.index (nodes ++ n ∷ []) ≡ take m.index nodes = take-append-le m.index nodes (n ∷ []) (omega (arith, is.0)) in
@@ -196,7 +196,7 @@ module _ (side : ℕ) (nodes : List Node) (old new : Game) (h : IsPlayed side no
         goes_down (ap (λ (w : Walk). w.state) (sym is)) (subst (IsFaultOf side (nodes ++ n ∷ [])) (sym fault) clear)
 
     -- the first one that isn't
-    pub stops : (m : Met) → old.fault ≡ None → new.fault ≡ Some m → m.index ≡ length old.marks.items → new.referee ≡ old.referee → step old.referee.present n ≡ Err m.reason → n.place ≡ m.place
+    pub stops : (m : MetFault) → old.fault ≡ None → new.fault ≡ Some m → m.index ≡ length old.marks.items → new.referee ≡ old.referee → step old.referee.present n ≡ Err m.reason → n.place ≡ m.place
         → IsPlayed side (nodes ++ n ∷ []) new
     stops m none fault index referee stepped place =
         let is = next_is (walk side nodes) old.referee.present (stands none) n (Err m.reason) stepped in
@@ -210,7 +210,7 @@ module _ (side : ℕ) (nodes : List Node) (old new : Game) (h : IsPlayed side no
 
   -- back to the first `kept` nodes
   module _ (kept : ℕ) (le : kept ≤ length nodes) where
-    fault_back : (o : Option Met) → IsFaultOf side nodes o → IsFaultOf side (take kept nodes) (met_before o kept)
+    fault_back : (o : Option MetFault) → IsFaultOf side nodes o → IsFaultOf side (take kept nodes) (met_before o kept)
     fault_back None is = front_clear side kept nodes is
     fault_back (Some m) is = by (cases_lt m.index kept)
       where

@@ -5,7 +5,7 @@ use Rattle.sgf_tree.specs.Tree.{Node}
 use Rattle.go_board.specs.declared.reason.Reason.{Reason}
 use Rattle.go_board.specs.State.{State}
 use Rattle.sgf_lines.specs.Step.{side_in, step}
-use Rattle.sgf_lines.specs.Walk.{Fault, Walk, before_root, stepped, next_by, next}
+use Rattle.sgf_lines.specs.Walk.{IllegalNode, Walk, before_root, stepped, next_by, next}
 use Rattle.sgf_lines.specs.declared.commands.Commands.{Commands}
 use Rattle.sgf_lines.specs.declared.game.Game.{Game}
 use Rattle.sgf_lines.specs.declared.step.TakenStep.{TakenStep}
@@ -22,7 +22,7 @@ side_next w n = by w.fault
     by_step (Ok s) e = side-step w.state s n e
     by_step (Err reason) e = refl
 
-    by : (f : Option Fault) → side_in (next_by w f n).state ≡ side_in w.state
+    by : (f : Option IllegalNode) → side_in (next_by w f n).state ≡ side_in w.state
     by (Some f) = refl
     by None = by_step (step w.state n) refl
 

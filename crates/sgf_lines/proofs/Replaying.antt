@@ -27,7 +27,7 @@ use Rattle.sgf_lines.specs.NodeContents.{Move, Stones, moves, stones, players}
 use Rattle.sgf_lines.specs.Values.{is_pass, move_value, operations, last_player}
 use Rattle.sgf_lines.specs.GameSize.{board, opening, root_properties}
 use Rattle.sgf_lines.specs.Step.{side_in, taken, move_step, setup_step, step_by, step}
-use Rattle.sgf_lines.specs.Walk.{Played, Fault, Walk, before_root, stepped, next_by, next, walk}
+use Rattle.sgf_lines.specs.Walk.{Played, IllegalNode, Walk, before_root, stepped, next_by, next, walk}
 use Rattle.sgf_lines.specs.ListRow.{list_row}
 use Rattle.sgf_lines.specs.Script.{comment_line, comment_text, comment_lines, play_line, board_lines, setup_lines, move_lines_by, move_lines, node_script, played_script, leaves_unreaching_by, leaves_unreaching, has_no_commands, board_commands, commands_by, script}
 use Rattle.sgf_lines.specs.NodeContents.{first_value}
@@ -253,7 +253,7 @@ module _ (laws : BoardLaws) (side : ℕ) (small : side ≤ 25) where
       flat_map-append played_script w.played (p ∷ []) ∙ ap (λ x. flat_map played_script w.played ++ x) (append-nil (node_script t n)) in
       (subst (λ x. CarriesBoard side empty x (Some t.colouring)) (sym texts) both, one.1)
 
-  next_said : (w : Walk) (fault : Option Fault) (n : Node) → IsSaid w → IsSaid (next_by w fault n)
+  next_said : (w : Walk) (fault : Option IllegalNode) (n : Node) → IsSaid w → IsSaid (next_by w fault n)
   next_said w (Some fault) n said = said
   next_said w None n said = stepped_said w n (step w.state n) refl said
 

@@ -16,7 +16,7 @@ use Rattle.sgf_lines.specs.Values.{player_value, operation, operations, last_pla
 use Rattle.sgf_lines.specs.Step.{step_by, setup_step, taken, side_in}
 use Rattle.sgf_lines.specs.declared.contents.Moves.{Moves}
 use Rattle.sgf_lines.specs.inner.Contents.{Lists, AreTold}
-use Rattle.sgf_lines.specs.declared.step.Change.{Change}
+use Rattle.sgf_lines.specs.declared.step.Effect.{Effect}
 use Rattle.sgf_lines.specs.declared.step.StepFault.{StepFault}
 use Rattle.sgf_lines.specs.declared.step.StepFault.TheVariants.{Illegal, Memory}
 use Rattle.sgf_lines.specs.inner.Stepping.{IsSetupMet, IsStepped, GrowsByOne, fault_of}
@@ -191,10 +191,10 @@ takes_turn old new k play u h e =
 
 pub refuses_turn : (old new : States) (k : Colour) (play : Play) (fault : TurnFault) (refused : StepFault) → refused ≡ fault_of fault
     → ((r : Reason) → IsErrOf {T = Unit {0}} (Err fault) (TurnIllegal r) ↔ (reason_of old.present k play ≡ Some r)) → new ≡ old
-    → IsStepped {A = Change} (taken old.present k play (reason_of old.present k play)) old new (Err refused)
-refuses_turn old new k play fault refused is h e = subst (λ f. IsStepped {A = Change} (taken old.present k play (reason_of old.present k play)) old new (Err f)) (sym is) (by fault h)
+    → IsStepped {A = Effect} (taken old.present k play (reason_of old.present k play)) old new (Err refused)
+refuses_turn old new k play fault refused is h e = subst (λ f. IsStepped {A = Effect} (taken old.present k play (reason_of old.present k play)) old new (Err f)) (sym is) (by fault h)
   where
-    by : (f : TurnFault) → ((r : Reason) → IsErrOf {T = Unit {0}} (Err f) (TurnIllegal r) ↔ (reason_of old.present k play ≡ Some r)) → IsStepped {A = Change} (taken old.present k play (reason_of old.present k play)) old new (Err (fault_of f))
+    by : (f : TurnFault) → ((r : Reason) → IsErrOf {T = Unit {0}} (Err f) (TurnIllegal r) ↔ (reason_of old.present k play ≡ Some r)) → IsStepped {A = Effect} (taken old.present k play (reason_of old.present k play)) old new (Err (fault_of f))
     by (TurnIllegal r) h = (ap (taken old.present k play) ((h r).0 refl), e)
     by TurnMemory h = e
 

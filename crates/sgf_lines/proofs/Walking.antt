@@ -13,7 +13,7 @@ use Rattle.sgf_lines.specs.declared.verdict.Verdict.TheVariants.{Illegal}
 use Rattle.sgf_lines.specs.declared.step.StepFault.{StepFault}
 use Rattle.sgf_lines.specs.declared.step.StepFault.TheVariants.{Illegal as IllegalStep, Memory as MemoryStep}
 use Rattle.sgf_lines.specs.Step.{step}
-use Rattle.sgf_lines.specs.Walk.{Fault, Walk, before_root, stepped, next_by, next, walk}
+use Rattle.sgf_lines.specs.Walk.{IllegalNode, Walk, before_root, stepped, next_by, next, walk}
 use Rattle.sgf_lines.specs.Verdict.{verdict_at, score_in}
 use Rattle.sgf_lines.specs.declared.step.TakenStep.{TakenStep}
 use Rattle.sgf_lines.specs.inner.Stepping.{IsStepped, ended_with}
@@ -48,12 +48,12 @@ module _ (w : Walk) (s : State) (h : StandsAfter w s) (n : Node) where
       ap verdict_at is ∙ ap (λ (t : State). Illegal (t.turns + 1) n.place r) h.state
 
 -- after a fault nothing changes
-pub after_fault : (w : Walk) (f : Fault) (ns : List Node) → w.fault ≡ Some f → fold next w ns ≡ w
+pub after_fault : (w : Walk) (f : IllegalNode) (ns : List Node) → w.fault ≡ Some f → fold next w ns ≡ w
 after_fault w f [] e = refl
 after_fault w f (n ∷ ns) e = ap (λ v. fold next v ns) (ap (λ o. next_by w o n) e) ∙ after_fault w f ns e
 
 -- so the walk ends with the first fault
-pub walk-fault : (side : ℕ) (nodes : List Node) (i : ℕ) (f : Fault) → (walk side (take i nodes)).fault ≡ Some f → walk side nodes ≡ walk side (take i nodes)
+pub walk-fault : (side : ℕ) (nodes : List Node) (i : ℕ) (f : IllegalNode) → (walk side (take i nodes)).fault ≡ Some f → walk side nodes ≡ walk side (take i nodes)
 walk-fault side nodes i f e =
     ap (fold next (before_root side)) (sym (parts nodes i)) ∙ fold-append next (before_root side) (take i nodes) (drop i nodes) ∙ after_fault (walk side (take i nodes)) f (drop i nodes) e
   where

@@ -10,14 +10,14 @@ use Rattle.sgf_lines.specs.declared.verdict.Verdict.TheVariants.{Score, Illegal,
 use Rattle.sgf_lines.specs.Lines.{Line, lines}
 use Rattle.sgf_lines.specs.Paths.{paths, leaf_of}
 use Rattle.sgf_lines.specs.GameSize.{Opening, other_game, no_board, board, opening, root_properties}
-use Rattle.sgf_lines.specs.Walk.{Fault, Walk, walk, judged_by}
+use Rattle.sgf_lines.specs.Walk.{IllegalNode, Walk, walk, judged_by}
 
 -- the scores of a state, and whether two passes in a row ended the game
 abbrev pub score_in : State → Verdict
 score_in s = Score (score_of s.colouring Black) (score_of s.colouring White) (is_over s)
 
 -- a fault is named with the number of the turn that would have come, its node's place and its reason
-abbrev pub verdict_with : State → Option Fault → Verdict
+abbrev pub verdict_with : State → Option IllegalNode → Verdict
 verdict_with s None = score_in s
 verdict_with s (Some fault) = Illegal (s.turns + 1) fault.node.place fault.reason
 

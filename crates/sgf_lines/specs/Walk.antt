@@ -11,7 +11,7 @@ pub record Played : Type 0 where
   pub after : State
 
 -- the first node whose step is refused, and the reason
-pub record Fault : Type 0 where
+pub record IllegalNode : Type 0 where
   pub node : Node
   pub reason : Reason
 
@@ -19,7 +19,7 @@ pub record Fault : Type 0 where
 pub record Walk : Type 0 where
   pub played : List Played
   pub state : State
-  pub fault : Option Fault
+  pub fault : Option IllegalNode
 
 -- before the first node, on a board of that side
 abbrev pub before_root : ℕ → Walk
@@ -31,7 +31,7 @@ stepped w n (Ok s) = record { played = w.played ++ record { node = n; after = s 
 stepped w n (Err reason) = record w { fault = Some (record { node = n; reason = reason }) }
 
 -- one node later; nothing comes after a fault
-abbrev pub next_by : Walk → Option Fault → Node → Walk
+abbrev pub next_by : Walk → Option IllegalNode → Node → Walk
 next_by w (Some fault) n = w
 next_by w None n = stepped w n (step w.state n)
 
@@ -44,7 +44,7 @@ walk side nodes = fold next (before_root side) nodes
 
 -- the nodes that were judged: those whose steps were taken, and the faulty one
 abbrev pub judged_by : Walk → List Node
-judged_by w = map (λ (p : Played). p.node) w.played ++ map (λ (f : Fault). f.node) (option_to_list w.fault)
+judged_by w = map (λ (p : Played). p.node) w.played ++ map (λ (f : IllegalNode). f.node) (option_to_list w.fault)
 
 -- the state after nodes whose steps are taken one after another, from a state on
 pub data IsAfter : State → List Node → State → Type 0 where

@@ -5,12 +5,12 @@ ghost use Rattle.sgf_tree.specs.Tree.{Node};
 ghost use Rattle.go_board.specs.State.{State};
 ghost use Rattle.sgf_lines.specs.Script.{leaves_unreaching_by};
 ghost use Rattle.sgf_lines.specs.NodeContents.{stones};
-ghost use Rattle.sgf_lines.specs.inner.Stepping.{IsChange, IsStepOf};
+ghost use Rattle.sgf_lines.specs.inner.Stepping.{IsEffect, IsStepOf};
 ghost use Rattle.sgf_lines.specs.inner.KeptCommands.{AreCommands, HasChanged, commands_kept, first_unreaching, unreaching_before, lettered_script};
 
 use crate::kept::KeptText;
 use crate::script::{push_board_commands, push_node_script};
-use crate::step::{Change, TakenStep};
+use crate::step::{Effect, TakenStep};
 use go_board::{Board, MAX_VERTEX_SIDE, Size};
 use sgf_tree::MemoryFault;
 use std::alloc::Global;
@@ -70,7 +70,7 @@ impl Commands {
         match step {
             None => Ok(()),
             Some(taken) => {
-                let unreaching = leaves_unreaching(taken.change, board);
+                let unreaching = leaves_unreaching(taken.effect, board);
                 self.unreaching = first_of(self.unreaching, index, unreaching);
                 push_lettered(alloc, taken, board, &mut self.kept.text)
             }
@@ -135,13 +135,13 @@ fn push_lettered(
     push_node_script(alloc, step, board, output)
 }
 
-/// Whether a node that made that change set up stones of which one doesn't reach empty.
-fn leaves_unreaching(change: Change, board: &Board) -> bool
-    ensures { (node : Node) → IsChange board.now.side node change
+/// Whether a node with that effect set up stones of which one doesn't reach empty.
+fn leaves_unreaching(effect: Effect, board: &Board) -> bool
+    ensures { (node : Node) → IsEffect board.now.side node effect
         → result ≡ leaves_unreaching_by board.now (stones node) }
 {
-    match change {
-        Change::Stones => board.has_unreaching(),
-        Change::Nothing | Change::Turn(..) => false,
+    match effect {
+        Effect::Stones => board.has_unreaching(),
+        Effect::Nothing | Effect::Turn(..) => false,
     }
 }

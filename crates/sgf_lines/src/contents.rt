@@ -2,7 +2,7 @@
 
 ghost use Rattle.std.specs.Prelude.{◌≡◌, ◌∷◌, ◌++◌, [], ℕ, OnOk, IfOk};
 ghost use Rattle.sgf_tree.specs.Tree.{values};
-ghost use Rattle.sgf_lines.specs.inner.Contents.{Lists, empty_lists, joined, kind_named as kind_named_lem, kind_of as kind_of_lem, lists_by, lists_of_kind, lists_in, IsContents};
+ghost use Rattle.sgf_lines.specs.inner.Contents.{Lists, empty_lists, combined, kind_named as kind_named_lem, kind_of as kind_of_lem, lists_by, lists_of_kind, lists_in, IsContents};
 
 use crate::values::player_value;
 use go_board::{Cell, Colour, SetupOp, Size, rect};
@@ -66,7 +66,7 @@ impl<'a> Contents<'a> {
     fn take_property(&mut self, property: &PropRef<'a>, size: Size) -> Result<(), MemoryFault>
         ensures { (held : Lists) → IsContents size self.old held
             → OnOk result (IsContents size self.new
-            (joined held (lists_by (kind_of_lem property.now) (values property.now)))) }
+            (combined held (lists_by (kind_of_lem property.now) (values property.now)))) }
     {
         let Some(kind) = kind_of(property) else {
             return Ok(());
@@ -81,7 +81,7 @@ impl<'a> Contents<'a> {
     /// Takes one value.
     fn take_value(&mut self, kind: Kind, raw: &'a [u8], size: Size) -> Result<(), MemoryFault>
         ensures { (held : Lists) → IsContents size self.old held
-            → OnOk result (IsContents size self.new (joined held (lists_of_kind kind (raw.now ∷ [])))) }
+            → OnOk result (IsContents size self.new (combined held (lists_of_kind kind (raw.now ∷ [])))) }
     {
         match kind {
             Kind::Move(colour) => self.take_move(colour, raw),
@@ -94,7 +94,7 @@ impl<'a> Contents<'a> {
 
     fn take_move(&mut self, colour: Colour, raw: &'a [u8])
         ensures { (side : ℕ) (held : Lists) → IsContents side self.old held
-            → IsContents side self.new (joined held (lists_of_kind (Kind.Move colour) (raw.now ∷ []))) }
+            → IsContents side self.new (combined held (lists_of_kind (Kind.Move colour) (raw.now ∷ []))) }
     {
         self.moves = match self.moves {
             Moves::Nothing => Moves::One(colour, raw),
@@ -104,7 +104,7 @@ impl<'a> Contents<'a> {
 
     fn take_stones(&mut self, cell: Cell, raw: &[u8], size: Size) -> Result<(), MemoryFault>
         ensures { (held : Lists) → IsContents size self.old held
-            → OnOk result (IsContents size self.new (joined held (lists_of_kind (Kind.Stones cell) (raw.now ∷ [])))) }
+            → OnOk result (IsContents size self.new (combined held (lists_of_kind (Kind.Stones cell) (raw.now ∷ [])))) }
     {
         match rect(raw, size) {
             Some(area) => {
@@ -117,7 +117,7 @@ impl<'a> Contents<'a> {
 
     fn take_player(&mut self, raw: &[u8])
         ensures { (side : ℕ) (held : Lists) → IsContents side self.old held
-            → IsContents side self.new (joined held (lists_of_kind Kind.Player (raw.now ∷ []))) }
+            → IsContents side self.new (combined held (lists_of_kind Kind.Player (raw.now ∷ []))) }
     {
         match player_value(raw) {
             Some(colour) => self.player = Some(colour),

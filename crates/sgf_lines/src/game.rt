@@ -20,7 +20,7 @@ use std::alloc::Global;
 
 /// The first node that isn't allowed, and why it isn't.
 #[derive(Clone, Copy)]
-pub(crate) struct Fault {
+pub(crate) struct MetFault {
     // how many nodes stand before it
     index: usize,
 
@@ -34,7 +34,7 @@ pub(crate) struct Fault {
 pub(crate) struct Game {
     referee: Referee<PrintPast>,
 
-    fault: Option<Fault>,
+    fault: Option<MetFault>,
 
     // for each node how many setups and turns the referee had accepted before it
     marks: Vec<usize>,
@@ -136,7 +136,7 @@ impl Game {
             Ok(step) => Ok(Some(step)),
             Err(StepFault::Memory) => Err(MemoryFault),
             Err(StepFault::Illegal(reason)) => {
-                self.fault = Some(Fault {
+                self.fault = Some(MetFault {
                     index,
                     place: collection.place(number),
                     reason,
@@ -232,7 +232,7 @@ fn restart_commands(
 }
 
 /// The fault that was met, where its node is among the first `kept`.
-fn fault_before(fault: Option<Fault>, kept: usize) -> Option<Fault>
+fn fault_before(fault: Option<MetFault>, kept: usize) -> Option<MetFault>
     ensures { result ≡ met_before fault kept }
 {
     match fault {

@@ -8,7 +8,7 @@ ghost use Rattle.sgf_lines.specs.Script.{text_lines, comment_line, comment_text,
 ghost use Rattle.sgf_lines.specs.inner.Stepping.{IsStepOf};
 ghost use Rattle.sgf_lines.specs.inner.Cutting.{lines_at, pass_line, stone_line};
 
-use crate::step::{Change, TakenStep};
+use crate::step::{Effect, TakenStep};
 use crate::text::{push_bytes, push_number};
 use go_board::{Board, Colour, MAX_VERTEX_SIDE, Play, Point, Size, Vertex, vertex};
 use sgf_tree::{MemoryFault, push_text};
@@ -36,10 +36,10 @@ pub(crate) fn push_node_script(
         → OnOk result (output.new.items ≡ output.old.items ++ node_script after node) }
 {
     push_comment(alloc, step.comment, output)?;
-    match step.change {
-        Change::Nothing => Ok(()),
-        Change::Stones => push_board(board, output),
-        Change::Turn(colour, play) => push_play(board.size(), colour, play, output),
+    match step.effect {
+        Effect::Nothing => Ok(()),
+        Effect::Stones => push_board(board, output),
+        Effect::Turn(colour, play) => push_play(board.size(), colour, play, output),
     }
 }
 

@@ -7,7 +7,7 @@ ghost use Rattle.sgf_lines.specs.Step.{step, step_by, move_step};
 ghost use Rattle.sgf_lines.specs.inner.Contents.{Lists, IsContents};
 ghost use Rattle.sgf_tree.specs.Tree.{Node};
 ghost use Rattle.sgf_lines.specs.inner.Plain.{IsPlain, HasMovesAlone};
-ghost use Rattle.sgf_lines.specs.inner.Stepping.{IsStepped, IsStepOf, IsChange, IsChangeBy, IsTurnBy, IsSetupMet, fault_of};
+ghost use Rattle.sgf_lines.specs.inner.Stepping.{IsStepped, IsStepOf, IsEffect, IsEffectBy, IsTurnBy, IsSetupMet, fault_of};
 
 use crate::contents::{Contents, Moves};
 use crate::opening::first_value;
@@ -59,7 +59,7 @@ impl From<TurnFault> for StepFault {
 
 /// What a node did on the board.
 #[derive(Clone, Copy, Debug)]
-pub(crate) enum Change {
+pub(crate) enum Effect {
     /// It has no moves and no stones.
     Nothing,
     /// It set up stones.
@@ -71,7 +71,7 @@ pub(crate) enum Change {
 /// A node's step that was taken, and what the node says beside it.
 #[derive(Clone, Copy, Debug)]
 pub(crate) struct TakenStep<'a> {
-    pub(crate) change: Change,
+    pub(crate) effect: Effect,
     /// The first value of its first C.
     pub(crate) comment: Option<&'a [u8]>,
 }
@@ -104,8 +104,8 @@ fn play_plain<'a, P: Past>(
         → IfOk result (IsStepOf referee.old.present.colouring.side node) }
 {
     match play_moves(referee, plain.moves) {
-        Ok(change) => Ok(TakenStep {
-            change,
+        Ok(effect) => Ok(TakenStep {
+            effect,
             comment: plain.comment,
         }),
         Err(fault) => Err(fault),
@@ -113,14 +113,14 @@ fn play_plain<'a, P: Past>(
 }
 
 /// Takes the step of a node with these moves that sets nothing up.
-fn play_moves<P: Past>(referee: &mut Referee<P>, moves: Moves<'_>) -> Result<Change, StepFault>
+fn play_moves<P: Past>(referee: &mut Referee<P>, moves: Moves<'_>) -> Result<Effect, StepFault>
     ensures stepped { (node : Node) → HasMovesAlone node moves.entry
         → IsStepped (step referee.old.present node) referee.old referee.new result }
-    ensures change { (node : Node) → HasMovesAlone node moves.entry
-        → IfOk result (IsChange referee.old.present.colouring.side node) }
+    ensures effect { (node : Node) → HasMovesAlone node moves.entry
+        → IfOk result (IsEffect referee.old.present.colouring.side node) }
 {
     match moves {
-        Moves::Nothing => Ok(Change::Nothing),
+        Moves::Nothing => Ok(Effect::Nothing),
         Moves::One(colour, raw) => {
             let size = referee.board().size();
             take_move(referee, colour, raw, size)
@@ -142,8 +142,8 @@ fn play_setup<'a, P: Past>(
     let size = referee.board().size();
     let contents = Contents::of(alloc, node, size)?;
     match play_contents(referee, &contents, size) {
-        Ok(change) => Ok(TakenStep {
-            change,
+        Ok(effect) => Ok(TakenStep {
+            effect,
             comment: first_value(node, b"C"),
         }),
         Err(fault) => Err(fault),
@@ -155,13 +155,13 @@ fn play_contents<P: Past>(
     referee: &mut Referee<P>,
     contents: &Contents<'_>,
     size: Size,
-) -> Result<Change, StepFault>
+) -> Result<Effect, StepFault>
     requires side { size ≡ referee.old.present.colouring.side }
     requires areas { All (λ op. IsRectOn size op.area) contents.now.operations.items }
     ensures stepped { (held : Lists) → IsContents size contents.now held
         → IsStepped (step_by referee.old.present held.moves held.stones held.players) referee.old referee.new result }
-    ensures change { (held : Lists) → IsContents size contents.now held
-        → IfOk result (IsChangeBy size held.moves held.stones) }
+    ensures effect { (held : Lists) → IsContents size contents.now held
+        → IfOk result (IsEffectBy size held.moves held.stones) }
 {
     match (contents.moves, has_setup(contents)) {
         (Moves::Nothing, _) => set_up(referee, contents, size),
@@ -189,13 +189,13 @@ fn set_up<P: Past>(
     referee: &mut Referee<P>,
     contents: &Contents<'_>,
     size: Size,
-) -> Result<Change, StepFault>
+) -> Result<Effect, StepFault>
     requires side { size ≡ referee.old.present.colouring.side }
     requires areas { All (λ op. IsRectOn size op.area) contents.now.operations.items }
     ensures stepped { (held : Lists) → IsContents size contents.now held
         → IsStepped (step_by referee.old.present [] held.stones held.players) referee.old referee.new result }
-    ensures change { (held : Lists) → IsContents size contents.now held
-        → IfOk result (IsChangeBy size [] held.stones) }
+    ensures effect { (held : Lists) → IsContents size contents.now held
+        → IfOk result (IsEffectBy size [] held.stones) }
 {
     if contents.faulty {
         return Err(StepFault::Illegal(Reason::BadSetup));
@@ -205,7 +205,7 @@ fn set_up<P: Past>(
         return set_player(referee, contents, size);
     }
     referee.setup(operations, contents.player)?;
-    Ok(Change::Stones)
+    Ok(Effect::Stones)
 }
 
 /// Sets up the player of contents without moves and stones.
@@ -213,19 +213,19 @@ fn set_player<P: Past>(
     referee: &mut Referee<P>,
     contents: &Contents<'_>,
     size: Size,
-) -> Result<Change, StepFault>
+) -> Result<Effect, StepFault>
     requires side { size ≡ referee.old.present.colouring.side }
     requires good { contents.now.faulty ≡ false }
     requires no_stones { length contents.now.operations.items ≡ 0 }
     ensures stepped { (held : Lists) → IsContents size contents.now held
         → IsStepped (step_by referee.old.present [] held.stones held.players) referee.old referee.new result }
-    ensures change { (held : Lists) → IsContents size contents.now held
-        → IfOk result (IsChangeBy size [] held.stones) }
+    ensures effect { (held : Lists) → IsContents size contents.now held
+        → IfOk result (IsEffectBy size [] held.stones) }
 {
     if contents.player.is_some() {
         referee.setup(&[], contents.player)?;
     }
-    Ok(Change::Nothing)
+    Ok(Effect::Nothing)
 }
 
 /// Takes the turn of a move.
@@ -234,15 +234,15 @@ fn take_move<P: Past>(
     colour: Colour,
     raw: &[u8],
     size: Size,
-) -> Result<Change, StepFault>
+) -> Result<Effect, StepFault>
     requires { size ≡ referee.old.present.colouring.side }
     ensures stepped { IsStepped (move_step referee.old.present colour (move_value_lem size raw.now))
         referee.old referee.new result }
-    ensures change { IfOk result (IsTurnBy size colour (move_value_lem size raw.now)) }
+    ensures effect { IfOk result (IsTurnBy size colour (move_value_lem size raw.now)) }
 {
     let Some(play) = move_value(raw, size) else {
         return Err(StepFault::Illegal(Reason::BadPoint));
     };
     referee.turn(colour, play)?;
-    Ok(Change::Turn(colour, play))
+    Ok(Effect::Turn(colour, play))
 }

@@ -18,7 +18,7 @@ pub(crate) mod scan;
 use crate::collection::Collection;
 use crate::fault::{MAX_LENGTH, ReadFault};
 use crate::layout::NodeEntry;
-use crate::reader::fault::Fault;
+use crate::reader::fault::PartFault;
 use crate::reader::games::read_games;
 use crate::reader::mark::mark_end;
 use crate::reader::scan::skip_white;
@@ -41,13 +41,13 @@ pub fn read<'a>(alloc: Global, text: &'a [u8]) -> Result<Collection<'a>, ReadFau
     let mut nodes = Vec::new(alloc);
     match read_whole(text, &mut nodes) {
         Ok(games) => Ok(Collection::new(text, games, nodes)),
-        Err(Fault::NotSgf(at)) => Err(ReadFault::NotSgf { at }),
-        Err(Fault::Memory) => Err(ReadFault::Memory),
+        Err(PartFault::NotSgf(at)) => Err(ReadFault::NotSgf { at }),
+        Err(PartFault::Memory) => Err(ReadFault::Memory),
     }
 }
 
 /// Reads a whole text. The result is the number of its games.
-fn read_whole(text: &[u8], nodes: &mut Vec<NodeEntry>) -> Result<u32, Fault>
+fn read_whole(text: &[u8], nodes: &mut Vec<NodeEntry>) -> Result<u32, PartFault>
     requires short { length text.now ≤ MAX_LENGTH }
     requires nothing_read { nodes.old.items ≡ [] }
     ensures read { IfOk result (ReadsWhole text.now nodes.new.items) }

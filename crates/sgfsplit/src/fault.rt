@@ -2,7 +2,7 @@
 
 ghost use Rattle.std.specs.Prelude.{◌≡◌, ◌<◌, ◌≤◌, ◌+◌, ◌++◌, length};
 
-use crate::line::Line;
+use crate::short_text::ShortText;
 use sgf_lines::{MAX_LENGTH, RunFault, Sink};
 
 /// Why the program ends with another status than 0.
@@ -16,8 +16,7 @@ pub enum Fault {
 
 impl Fault {
     ghost use Rattle.sgfsplit.specs.Fault.{status_of, message_of, line_of};
-    ghost use Rattle.sgfsplit.specs.inner.Line.{number_text};
-    ghost use Rattle.sgfsplit.specs.inner.Line.{line_text};
+    ghost use Rattle.sgfsplit.specs.inner.ShortText.{short_text, number_text};
 
     /// The exit status: 1 for an input that is refused, 3 for a file that isn't opened, read or written, 4 for want of
     /// memory.
@@ -59,16 +58,16 @@ impl Fault {
     }
 
     /// The line on standard error, with its line feed.
-    pub(crate) fn line(&self) -> Line
-        ensures { line_text result ≡ line_of self.now }
+    pub(crate) fn line(&self) -> ShortText
+        ensures { short_text result ≡ line_of self.now }
     {
         let (before, number, after) = self.message();
-        let mut line = Line::new();
-        line.push("sgfsplit: ");
-        line.push(before);
-        line.push_number(number);
-        line.push(after);
-        line.push("\n");
-        line
+        let mut text = ShortText::new();
+        text.push("sgfsplit: ");
+        text.push(before);
+        text.push_number(number);
+        text.push(after);
+        text.push("\n");
+        text
     }
 }

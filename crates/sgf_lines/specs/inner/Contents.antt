@@ -23,8 +23,8 @@ pub record Lists : Type 0 where
 abbrev pub empty_lists : Lists
 empty_lists = record { moves = []; stones = []; players = [] }
 
-abbrev pub joined : Lists → Lists → Lists
-joined a b = record { moves = a.moves ++ b.moves; stones = a.stones ++ b.stones; players = a.players ++ b.players }
+abbrev pub combined : Lists → Lists → Lists
+combined a b = record { moves = a.moves ++ b.moves; stones = a.stones ++ b.stones; players = a.players ++ b.players }
 
 -- what the values of a property of that name are
 abbrev pub kind_named : List ℕ → Option Kind
@@ -54,7 +54,7 @@ lists_by None raws = empty_lists
 -- those of properties
 abbrev pub lists_in : List Property → Lists
 lists_in [] = empty_lists
-lists_in (p ∷ ps) = joined (lists_by (kind_of p) (values p)) (lists_in ps)
+lists_in (p ∷ ps) = combined (lists_by (kind_of p) (values p)) (lists_in ps)
 
 -- the moves, as far as they are told
 abbrev pub AreMoves : Moves → List Move → Type 0

@@ -2,8 +2,8 @@
 use Rattle.std.specs.Prelude.{◌≡◌, ℕ, ◌+◌, ◌<◌, ◌≤◌, nat_le, nat_lt, Bool, true, false, if◌then◌else◌, List, [], ◌∷◌, length, take, Option, Some, None, slice_get, Result, OnOk}
 use Rattle.sgf_tree.specs.Tree.{Node}
 use Rattle.go_board.specs.State.{State, States}
-use Rattle.sgf_lines.specs.Walk.{Fault, walk, judged_by}
-use Rattle.sgf_lines.specs.declared.game.Fault.{Fault as Met}
+use Rattle.sgf_lines.specs.Walk.{IllegalNode, walk, judged_by}
+use Rattle.sgf_lines.specs.declared.game.MetFault.{MetFault}
 use Rattle.sgf_lines.specs.declared.game.Game.{Game}
 use Rattle.sgf_lines.specs.declared.commands.Commands.{Commands}
 use Rattle.sgf_lines.specs.inner.KeptCommands.{AreCommands, commands_kept}
@@ -17,14 +17,14 @@ abbrev pub back_to : States → ℕ → States
 back_to states depth = back_from states.present states.earlier depth
 
 -- the fault is the first one of the walk along the nodes, and the index is that of its node; or the walk meets none
-abbrev pub IsFaultOf : ℕ → List Node → Option Met → Type 0
+abbrev pub IsFaultOf : ℕ → List Node → Option MetFault → Type 0
 IsFaultOf side nodes None = (walk side nodes).fault ≡ None
 IsFaultOf side nodes (Some met) =
     (met.index < length nodes) × ((walk side (take met.index nodes)).fault ≡ None)
-    × ((fault : Fault) × ((walk side (take (met.index + 1) nodes)).fault ≡ Some fault) × (met.place ≡ fault.node.place) × (met.reason ≡ fault.reason))
+    × ((fault : IllegalNode) × ((walk side (take (met.index + 1) nodes)).fault ≡ Some fault) × (met.place ≡ fault.node.place) × (met.reason ≡ fault.reason))
 
 -- the fault that was met, where its node is among the first ones
-abbrev pub met_before : Option Met → ℕ → Option Met
+abbrev pub met_before : Option MetFault → ℕ → Option MetFault
 met_before (Some met) kept = if nat_lt met.index kept then Some met else None
 met_before None kept = None
 

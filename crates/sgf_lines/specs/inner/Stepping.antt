@@ -10,8 +10,8 @@ use Rattle.go_board.specs.State.{State, States, followed_by, IsPlayOn}
 use Rattle.sgf_tree.specs.declared.fault.MemoryFault.{MemoryFault}
 use Rattle.sgf_lines.specs.declared.verdict.Verdict.{Verdict}
 use Rattle.sgf_lines.specs.declared.verdict.Verdict.TheVariants.{Illegal as IllegalLine}
-use Rattle.sgf_lines.specs.declared.step.Change.{Change}
-use Rattle.sgf_lines.specs.declared.step.Change.TheVariants.{Nothing, Stones as stones_change, Turn}
+use Rattle.sgf_lines.specs.declared.step.Effect.{Effect}
+use Rattle.sgf_lines.specs.declared.step.Effect.TheVariants.{Nothing, Stones as stones_set, Turn}
 use Rattle.sgf_lines.specs.declared.step.TakenStep.{TakenStep}
 use Rattle.sgf_lines.specs.declared.step.StepFault.{StepFault}
 use Rattle.sgf_lines.specs.declared.step.StepFault.TheVariants.{Illegal, Memory}
@@ -34,24 +34,24 @@ IsStepped step old new (Ok _) = (step ≡ Ok new.present) × GrowsByOne old new
 IsStepped step old new (Err (Illegal reason)) = (step ≡ Err reason) × (new ≡ old)
 IsStepped step old new (Err Memory) = new ≡ old
 
--- what moves and stones change
-abbrev pub IsChangeBy : ℕ → List Move → List Stones → Change → Type 0
-IsChangeBy side ms ts Nothing = (ms ≡ []) × (ts ≡ [])
-IsChangeBy side ms ts stones_change = (ms ≡ []) × (0 < length ts)
-IsChangeBy side ms ts (Turn colour play) =
+-- the effect of moves and stones
+abbrev pub IsEffectBy : ℕ → List Move → List Stones → Effect → Type 0
+IsEffectBy side ms ts Nothing = (ms ≡ []) × (ts ≡ [])
+IsEffectBy side ms ts stones_set = (ms ≡ []) × (0 < length ts)
+IsEffectBy side ms ts (Turn colour play) =
     (raw : List ℕ) × (ms ≡ record { player = colour; raw = raw } ∷ []) × (ts ≡ []) × (move_value side raw ≡ Some play) × IsPlayOn side play
 
-abbrev pub IsChange : ℕ → Node → Change → Type 0
-IsChange side n change = IsChangeBy side (moves n) (stones n) change
+abbrev pub IsEffect : ℕ → Node → Effect → Type 0
+IsEffect side n effect = IsEffectBy side (moves n) (stones n) effect
 
--- the step of a node changes that, and the node has that comment
+-- the step of a node has that effect, and the node has that comment
 pub record IsStepOf (side : ℕ) (n : Node) (taken : TakenStep) : Type 0 where
-  pub change_is : IsChange side n taken.change
+  pub effect_is : IsEffect side n taken.effect
   pub comment_is : option_copied taken.comment ≡ first_value (codes "C") n.properties
 
 -- a turn of that player with that play
-abbrev pub IsTurnBy : ℕ → Colour → Option Play → Change → Type 0
-IsTurnBy side colour play change = (p : Play) × (play ≡ Some p) × IsPlayOn side p × (change ≡ Turn colour p)
+abbrev pub IsTurnBy : ℕ → Colour → Option Play → Effect → Type 0
+IsTurnBy side colour play effect = (p : Play) × (play ≡ Some p) × IsPlayOn side p × (effect ≡ Turn colour p)
 
 -- whether there are stones or players
 abbrev pub IsSetupMet : Lists → Bool → Type 0

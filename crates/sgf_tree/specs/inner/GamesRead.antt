@@ -10,7 +10,7 @@ use Rattle.sgf_tree.specs.inner.PropertiesRead.{ArePropertiesRead}
 use Rattle.sgf_tree.specs.declared.layout.Link.{Link}
 use Rattle.sgf_tree.specs.declared.layout.Link.TheVariants.{Root, Branch, Next}
 use Rattle.sgf_tree.specs.declared.layout.NodeEntry.{NodeEntry}
-use Rattle.sgf_tree.specs.declared.reader.fault.Fault.{Fault}
+use Rattle.sgf_tree.specs.declared.reader.fault.PartFault.{PartFault}
 
 -- how many nodes whole and open games have
 abbrev pub open_count : Games → List OpenGame → ℕ
@@ -127,7 +127,7 @@ ReadsSequence t at end link old new =
     (k : Stack) → ComesTo t at (opened k) → HoldStack t k old → IsOpening k link → IsSequenceRead t end k new
 
 -- there a fault is the first one of the text
-abbrev pub IsFaultInSequence : List ℕ → ℕ → Link → List NodeEntry → Fault → Type 0
+abbrev pub IsFaultInSequence : List ℕ → ℕ → Link → List NodeEntry → PartFault → Type 0
 IsFaultInSequence t at link old fault =
     (k : Stack) → ComesTo t at (opened k) → HoldStack t k old → IsOpening k link → IsTrueFault t fault
 

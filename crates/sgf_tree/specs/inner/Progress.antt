@@ -5,15 +5,15 @@ use Rattle.sgf_tree.specs.RawValue.{IsValue}
 use Rattle.sgf_tree.specs.Spelling.{is_white, is_upper}
 use Rattle.sgf_tree.specs.inner.Machine.{Started, MachineState, start, in_value, run}
 use Rattle.sgf_tree.specs.Refusal.{IsFaultyAt}
-use Rattle.sgf_tree.specs.declared.reader.fault.Fault.{Fault}
-use Rattle.sgf_tree.specs.declared.reader.fault.Fault.TheVariants.{NotSgf, Memory}
+use Rattle.sgf_tree.specs.declared.reader.fault.PartFault.{PartFault}
+use Rattle.sgf_tree.specs.declared.reader.fault.PartFault.TheVariants.{NotSgf, Memory}
 
 -- the first `at` bytes take the machine to the state z
 abbrev pub ComesTo : List ℕ → ℕ → MachineState → Type 0
 ComesTo t at z = run 0 start (take at t) ≡ Some z
 
 -- a fault is at the first one of the text
-abbrev pub IsTrueFault : List ℕ → Fault → Type 0
+abbrev pub IsTrueFault : List ℕ → PartFault → Type 0
 IsTrueFault t (NotSgf at) = IsFaultyAt t at
 IsTrueFault t Memory = Unit {0}
 

@@ -5,7 +5,7 @@ use Rattle.sgf_tree.specs.Tree.{Property}
 use Rattle.sgf_tree.specs.Spelling.{is_white}
 use Rattle.sgf_tree.specs.inner.Machine.{Started, MachineState, in_node, in_name, in_value, after_value, after_node, ended, next_state, accepted}
 use Rattle.sgf_tree.specs.inner.Progress.{ComesTo, IsTrueFault}
-use Rattle.sgf_tree.specs.declared.reader.fault.Fault.{Fault}
+use Rattle.sgf_tree.specs.declared.reader.fault.PartFault.{PartFault}
 
 -- the byte at `end`, if there is one, is neither white space nor `[`
 abbrev pub StopsValues : List ℕ → ℕ → Type 0
@@ -47,15 +47,15 @@ pub record ArePropertiesRead (t : List ℕ) (at end : ℕ) : Type 0 where
       → (ps : List Property) × StandsAfterNode t end (with_properties n ps)
 
 -- a fault is the first one of the text, if the machine stood after the `[` at `bracket`
-abbrev pub IsFaultInValues : List ℕ → ℕ → Fault → Type 0
+abbrev pub IsFaultInValues : List ℕ → ℕ → PartFault → Type 0
 IsFaultInValues t bracket fault =
     (n : Started) (name : List ℕ) → ComesTo t (bracket + 1) (in_value n name [] []) → IsTrueFault t fault
 
 -- or after the letter at `start`, which began a name
-abbrev pub IsFaultInProperty : List ℕ → ℕ → Fault → Type 0
+abbrev pub IsFaultInProperty : List ℕ → ℕ → PartFault → Type 0
 IsFaultInProperty t start fault =
     (n : Started) → ComesTo t (start + 1) (in_name n (slice_index t start ∷ [])) → IsTrueFault t fault
 
 -- or in a node without properties at `at`
-abbrev pub IsFaultInNode : List ℕ → ℕ → Fault → Type 0
+abbrev pub IsFaultInNode : List ℕ → ℕ → PartFault → Type 0
 IsFaultInNode t at fault = (n : Started) → n.properties ≡ [] → ComesTo t at (in_node n) → IsTrueFault t fault

@@ -10,7 +10,7 @@ ghost use Rattle.sgf_tree.specs.inner.GamesRead.{StandsBetween, IsNodeRead, Read
 
 use crate::fault::MAX_LENGTH;
 use crate::layout::{Link, NodeEntry};
-use crate::reader::fault::Fault;
+use crate::reader::fault::PartFault;
 use crate::reader::properties::read_properties;
 use crate::reader::scan::skip_white;
 
@@ -22,7 +22,7 @@ fn read_node(
     place: usize,
     link: Link,
     nodes: &mut Vec<NodeEntry>,
-) -> Result<usize, Fault>
+) -> Result<usize, PartFault>
     requires short { length text.now ≤ MAX_LENGTH }
     requires within { place < length text.now }
     requires room { length nodes.old.items ≤ place }
@@ -45,7 +45,7 @@ fn read_sequence(
     at: usize,
     link: Link,
     nodes: &mut Vec<NodeEntry>,
-) -> Result<usize, Fault>
+) -> Result<usize, PartFault>
     requires short { length text.now ≤ MAX_LENGTH }
     requires within { at ≤ length text.now }
     requires room { length nodes.old.items ≤ at }
@@ -57,7 +57,7 @@ fn read_sequence(
 {
     let place = skip_white(text, at);
     if place == text.len() || text[place] != b';' {
-        return Err(Fault::NotSgf(place));
+        return Err(PartFault::NotSgf(place));
     }
     let mut end = read_node(text, place, link, nodes)?;
     'nodes: while end < text.len() && text[end] == b';' {
@@ -102,7 +102,11 @@ fn opening_link(games: u32, innermost: Option<u32>) -> Link
 
 /// Reads all games, of which the first `(` may stand at `at`.
 /// The result is their number.
-pub(crate) fn read_games(text: &[u8], at: usize, nodes: &mut Vec<NodeEntry>) -> Result<u32, Fault>
+pub(crate) fn read_games(
+    text: &[u8],
+    at: usize,
+    nodes: &mut Vec<NodeEntry>,
+) -> Result<u32, PartFault>
     requires short { length text.now ≤ MAX_LENGTH }
     requires within { at ≤ length text.now }
     requires begins { StandsBetween text.now at (record { closed = no_games; unclosed = [] }) }
@@ -121,7 +125,7 @@ pub(crate) fn read_games(text: &[u8], at: usize, nodes: &mut Vec<NodeEntry>) -> 
             }
             b')' => {
                 let Some(last) = tip else {
-                    return Err(Fault::NotSgf(at));
+                    return Err(PartFault::NotSgf(at));
                 };
                 tip = close_game(nodes, last);
                 if tip.is_none() {
@@ -129,11 +133,11 @@ pub(crate) fn read_games(text: &[u8], at: usize, nodes: &mut Vec<NodeEntry>) -> 
                 }
                 at = skip_white(text, at + 1);
             }
-            _ => return Err(Fault::NotSgf(at)),
+            _ => return Err(PartFault::NotSgf(at)),
         }
     }
     if tip.is_some() || games == 0 {
-        return Err(Fault::NotSgf(text.len()));
+        return Err(PartFault::NotSgf(text.len()));
     }
     Ok(games)
 }

@@ -4,10 +4,10 @@ ghost use Rattle.std.specs.Prelude.{IfOk, IfErr};
 ghost use Rattle.sgf_tree.specs.inner.Progress.{IsTrueFault};
 ghost use Rattle.sgf_tree.specs.inner.GamesRead.{IsMarkRead};
 
-use crate::reader::fault::Fault;
+use crate::reader::fault::PartFault;
 
 /// The end of the UTF-8 byte order mark, EF BB BF, which may stand at the start of the text.
-pub(crate) fn mark_end(text: &[u8]) -> Result<usize, Fault>
+pub(crate) fn mark_end(text: &[u8]) -> Result<usize, PartFault>
     ensures read { IfOk result (IsMarkRead text.now) }
     ensures fault { IfErr result (IsTrueFault text.now) }
 {
@@ -15,10 +15,10 @@ pub(crate) fn mark_end(text: &[u8]) -> Result<usize, Fault>
         return Ok(0);
     }
     if text.len() < 2 || text[1] != 0xBB {
-        return Err(Fault::NotSgf(1));
+        return Err(PartFault::NotSgf(1));
     }
     if text.len() < 3 || text[2] != 0xBF {
-        return Err(Fault::NotSgf(2));
+        return Err(PartFault::NotSgf(2));
     }
     Ok(3)
 }

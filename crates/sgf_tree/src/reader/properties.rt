@@ -6,12 +6,12 @@ ghost use Rattle.sgf_tree.specs.inner.PropertiesRead.{AreValuesRead, IsPropertyR
 ghost use Rattle.sgf_tree.specs.inner.PropertiesRead.{IsFaultInValues, IsFaultInProperty, IsFaultInNode};
 
 use crate::fault::MAX_LENGTH;
-use crate::reader::fault::Fault;
+use crate::reader::fault::PartFault;
 use crate::reader::scan::{identifier_end, skip_white, value_end};
 
 /// Reads the values of a property, of which the first `[` stands at `bracket`.
 /// The result is the offset of the byte after them and the white space there.
-fn read_values(text: &[u8], bracket: usize) -> Result<usize, Fault>
+fn read_values(text: &[u8], bracket: usize) -> Result<usize, PartFault>
     requires short { length text.now ≤ MAX_LENGTH }
     requires within { bracket < length text.now }
     ensures read { IfOk result (AreValuesRead text.now bracket) }
@@ -21,7 +21,7 @@ fn read_values(text: &[u8], bracket: usize) -> Result<usize, Fault>
     'values: loop {
         let start = at + 1;
         let Some(end) = value_end(text, start) else {
-            return Err(Fault::NotSgf(text.len()));
+            return Err(PartFault::NotSgf(text.len()));
         };
         at = skip_white(text, end + 1);
         if at == text.len() || text[at] != b'[' {
@@ -32,7 +32,7 @@ fn read_values(text: &[u8], bracket: usize) -> Result<usize, Fault>
 
 /// Reads the property whose identifier begins at `start`.
 /// The result is the offset of the byte after it and the white space there.
-fn read_property(text: &[u8], start: usize) -> Result<usize, Fault>
+fn read_property(text: &[u8], start: usize) -> Result<usize, PartFault>
     requires short { length text.now ≤ MAX_LENGTH }
     requires within { start < length text.now }
     requires capital { IsTrue (is_upper (slice_index text.now start)) }
@@ -41,14 +41,14 @@ fn read_property(text: &[u8], start: usize) -> Result<usize, Fault>
 {
     let bracket = skip_white(text, identifier_end(text, start));
     if bracket == text.len() || text[bracket] != b'[' {
-        return Err(Fault::NotSgf(bracket));
+        return Err(PartFault::NotSgf(bracket));
     }
     read_values(text, bracket)
 }
 
 /// Reads the properties of a node, which begin at `at` or after white space there.
 /// The result is the offset of the byte after them and the white space there.
-pub(crate) fn read_properties(text: &[u8], at: usize) -> Result<usize, Fault>
+pub(crate) fn read_properties(text: &[u8], at: usize) -> Result<usize, PartFault>
     requires short { length text.now ≤ MAX_LENGTH }
     requires within { at ≤ length text.now }
     ensures read { IfOk result (ArePropertiesRead text.now at) }

@@ -2,7 +2,7 @@ use Rattle.std.proofs.Common.{◌≡◌, Some, Err, sym, ap, ◌∙◌, subst}
 use Rattle.std.proofs.lemmas.Result.{err_from_is_err_and}
 use Rattle.sgf_lines.specs.Values.{move_value}
 use Rattle.sgf_lines.specs.Step.{move_step}
-use Rattle.sgf_lines.specs.declared.step.Change.{Change}
+use Rattle.sgf_lines.specs.declared.step.Effect.{Effect}
 use Rattle.sgf_lines.specs.inner.Stepping.{IsStepped}
 use Rattle.sgf_lines.proofs.Stepping.{takes_turn, refuses_turn}
 use Rattle.sgf_lines.proofs.step.take_move.Goals as goal
@@ -20,5 +20,5 @@ returns-in_err-turn-clause-stepped g c =
     let is : move_value c.args.size c.args.raw.now ≡ Some c.in-Some.play = sym c.in-Some.ensures.value in
     let p = err_from_is_err_and c.from_residual.result c.from_residual.ensures.1 in
     rw p.1
-    (subst (λ o. IsStepped {A = Change} (move_step s c.args.colour o) c.args.referee.now c.turn.new.self (Err p.0)) (sym is)
+    (subst (λ o. IsStepped {A = Effect} (move_step s c.args.colour o) c.args.referee.now c.turn.new.self (Err p.0)) (sym is)
     (refuses_turn c.args.referee.now c.turn.new.self c.args.colour c.in-Some.play c.in_err-turn.field-0.0 p.0 p.2 c.in_err-turn.ensures.illegal c.in_err-turn.ensures.err))

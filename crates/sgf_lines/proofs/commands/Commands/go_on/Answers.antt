@@ -24,6 +24,6 @@ returns-in-Some c = λ side nodes n h on changed told.
     (λ text.
     rw c.first_of-self.ensures
     (commands_played side nodes old h n kept c.in_ok-begin_node.ensures.marks after.0 board after.1 on after.2 c.nodes-index.result c.leaves_unreaching-unreaching.result c.nodes-index.ensures
-    (c.leaves_unreaching-unreaching.ensures n is.change_is)
+    (c.leaves_unreaching-unreaching.ensures n is.effect_is)
     (text ∙ ap (λ t. t ++ lettered_script board.side after.0 n) c.in_ok-begin_node.ensures.text)))
     (c.push_lettered.ensures n after.0 is after.1)

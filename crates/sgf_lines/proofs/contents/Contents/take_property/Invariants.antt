@@ -1,12 +1,12 @@
--- What the contents tell, joined with what the values left are, is what they are to tell.
+-- What the contents tell, combined with what the values left are, is what they are to tell.
 use Rattle.std.proofs.Common.{◌≡◌, length}
 use Rattle.sgf_tree.specs.Tree.{values}
-use Rattle.sgf_lines.specs.inner.Contents.{Lists, joined, lists_of_kind, IsContents}
+use Rattle.sgf_lines.specs.inner.Contents.{Lists, combined, lists_of_kind, IsContents}
 use Rattle.sgf_lines.proofs.contents.Contents.take_property.Given as goal
 
 abbrev pub invariant-loop-raw : goal.invariant-loop-raw
 invariant-loop-raw l = (held : Lists) → IsContents l.size l.fn.self held
-    → (told : Lists) × IsContents l.size l.self told × (joined told (lists_of_kind l.kind l.values) ≡ joined held (lists_of_kind l.kind (values l.property)))
+    → (told : Lists) × IsContents l.size l.self told × (combined told (lists_of_kind l.kind l.values) ≡ combined held (lists_of_kind l.kind (values l.property)))
 
 abbrev pub decreases-loop-raw : goal.decreases-loop-raw
 decreases-loop-raw l = length l.values

@@ -1,6 +1,6 @@
 -- The mark is of the game before the node, and the node goes on the walk.
 use Rattle.std.proofs.Common.{◌≡◌, ◌++◌, ◌∷◌, [], inl, Some, refl, sym, ap, subst, ◌∙◌, arith}
-use Rattle.sgf_lines.specs.declared.game.Fault.{Fault as Met}
+use Rattle.sgf_lines.specs.declared.game.MetFault.{MetFault}
 use Rattle.sgf_lines.specs.declared.game.Game.{Game}
 use Rattle.sgf_lines.specs.Walk.{Walk}
 use Rattle.sgf_lines.specs.inner.Stepping.{IsStepOf}
@@ -29,7 +29,7 @@ returns-in-Ok-clause-played c = λ side nodes node h e.
 pub returns-in-Err-Illegal-clause-played : goal.returns-in-Err-Illegal-clause-played
 returns-in-Err-Illegal-clause-played c = λ side nodes node h e.
     let old : Game = c.args.self.now in
-    let met : Met = record { index = c.len-index.result; place = c.place.result; reason = c.in-Err-Illegal.reason } in
+    let met : MetFault = record { index = c.len-index.result; place = c.place.result; reason = c.in-Err-Illegal.reason } in
     let new : Game = record { referee = c.play_node.new.referee; fault = Some met; marks = c.push.new.self; commands = old.commands } in
     let marks : new.marks.items ≡ old.marks.items ++ mark_now side nodes old new h ∷ [] = rw c.depth.ensures.value at c.in_ok-push.ensures.items in
     let same : c.node.result ≡ node = (let both : Some c.node.result ≡ Some node = sym c.node.ensures ∙ e in cc) in

@@ -1,7 +1,7 @@
 use Rattle.std.proofs.Common.{◌≢◌, ◌<◌, length, get_or, slice_range, arith}
 use Rattle.std.proofs.Common.{ℕ, Result, Ok, Err, IfOk, IfErr}
 use Rattle.sgf_tree.specs.inner.PropertiesRead.{AreValuesRead, IsPropertyRead, IsFaultInValues, IsFaultInProperty}
-use Rattle.sgf_tree.specs.declared.reader.fault.Fault.{Fault}
+use Rattle.sgf_tree.specs.declared.reader.fault.PartFault.{PartFault}
 use Rattle.std.proofs.Common.{◌+◌, [], ◌∷◌, slice_index}
 use Rattle.sgf_tree.specs.inner.Machine.{Started, in_name}
 use Rattle.sgf_tree.specs.inner.Progress.{ComesTo}
@@ -30,11 +30,11 @@ returns-then-bracket-text-clause-fault c n h =
     name-faulty t at n _ (after (goal.at.returns-then-bracket-text-clause-fault c).After-skip_white-bracket n h) c.skip_white-bracket.ensures.within other
 
 -- what holds of an answer gives what else holds of it
-ok-gives : {P Q : ℕ → Type 0} (r : Result ℕ Fault) → ((x : ℕ) → P x → Q x) → IfOk r P → IfOk r Q
+ok-gives : {P Q : ℕ → Type 0} (r : Result ℕ PartFault) → ((x : ℕ) → P x → Q x) → IfOk r P → IfOk r Q
 ok-gives (Ok x) f h = f x h
 ok-gives (Err e) f h = h
 
-err-gives : {P Q : Fault → Type 0} (r : Result ℕ Fault) → ((e : Fault) → P e → Q e) → IfErr r P → IfErr r Q
+err-gives : {P Q : PartFault → Type 0} (r : Result ℕ PartFault) → ((e : PartFault) → P e → Q e) → IfErr r P → IfErr r Q
 err-gives (Ok x) f h = h
 err-gives (Err e) f h = f e h
 

@@ -1,5 +1,5 @@
--- A line that is built without memory.
-use Rattle.sgfsplit.specs.declared.line.Line.{Line}
+-- A short text that is built without memory.
+use Rattle.sgfsplit.specs.declared.short_text.ShortText.{ShortText}
 use Rattle.std.specs.Prelude.{ℕ, List, [], Option, Some, None, take, decimal}
 
 -- the text of a number, where there is one
@@ -8,5 +8,5 @@ number_text None = []
 number_text (Some n) = decimal n
 
 -- the text that is built so far
-abbrev pub line_text : Line → List ℕ
-line_text line = take line.length line.bytes
+abbrev pub short_text : ShortText → List ℕ
+short_text text = take text.length text.bytes
