@@ -139,7 +139,3 @@ same_or_not p q =
 pub record IsAt (side index : ℕ) (p : Point) : Type 0 where
   pub at_index : index_of side p ≡ index
   pub in_columns : index < side * side → p.col < side
-
-pub IsAt-next : (side i : ℕ) (p q : Point) → IsAt side i p → index_of side q ≡ index_of side p + 1 → q.col < side → IsAt side (i + 1) q
-IsAt-next side i p q at next column =
-    record { at_index = next ∙ ap (λ n. n + 1) at.at_index; in_columns = λ _. column }

@@ -66,7 +66,3 @@ last-same xs ys a i d h in_xs in_ys same =
     ∙ ap (λ n. get_or (slice_range xs a i ++ get_or xs i d ∷ []) n d) (one ∙ sym other)
     ∙ ap (λ l. get_or l (length (slice_range ys a i)) d) whole
     ∙ get_or-append_seam (slice_range ys a i) (get_or ys i d) [] d
-
--- all of a list
-pub whole-range : {X : Type 0} (xs : List X) (n : ℕ) → length xs ≤ n → slice_range xs 0 n ≡ xs
-whole-range xs n all = sym (front-range xs 0 n (omega arith)) ∙ take_all n xs all

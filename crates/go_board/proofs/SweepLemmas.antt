@@ -22,24 +22,6 @@ use Rattle.go_board.proofs.GrowLemmas.{row_below}
 use Rattle.go_board.proofs.WordLemmas.{has_bit-zero, le_from_part}
 use Rattle.go_board.proofs.EmptiedLemmas.{cell_at-emptied}
 
--- nothing is emptied yet
-pub without_none : (g : Grid) (Gone : Point → Type 0) → ((p : Point) → ¬ Gone p) → IsWithout g g Gone
-without_none g Gone none = record {
-  same_side = refl;
-  all = refl;
-  emptied = λ p on gone. absurd (none p gone);
-  kept = λ p on not_gone. refl;
-}
-
--- the same points, by another word
-pub without_same : (g h : Grid) (Gone Other : Point → Type 0) → IsWithout g h Gone → ((p : Point) → Gone p → Other p) → ((p : Point) → Other p → Gone p) → IsWithout g h Other
-without_same g h Gone Other is there back = record {
-  same_side = is.same_side;
-  all = is.all;
-  emptied = λ p on other. is.emptied p on (back p other);
-  kept = λ p on not_other. is.kept p on (λ gone. not_other (there p gone));
-}
-
 -- one point more is emptied
 pub without_more : (g h : Grid) (Gone More : Point → Type 0) (p : Point) → IsWithout g h Gone → IsOn g.side p → More p → ((q : Point) → Gone q → More q) → ((q : Point) → More q → q ≢ p → Gone q) → IsWithout g (with_cell h p Empty) More
 without_more g h Gone More p is on here there back = record {
@@ -91,10 +73,6 @@ without_shut g h k shut all are is =
 abbrev pub InTaken : ℕ → ℕ → ℕ → Point → Type 0
 InTaken row columns left p = (p.row ≡ row) × (has_bit columns p.col ≡ true) × (has_bit left p.col ≡ false)
 
--- at first all is left
-pub taken_none : (g : Grid) (row columns : ℕ) → IsWithout g g (InTaken row columns columns)
-taken_none g row columns = without_none g (InTaken row columns columns) (λ p gone. false≢true (sym gone.2 ∙ gone.1))
-
 -- the lowest column of what is left
 pub lowest_left : (columns left : ℕ) → left ≢ 0 → columns < 2 ^ 64 → IsPart (has_bit left) (has_bit columns) → (has_bit left (trailing_zeros w64 left) ≡ true) × (trailing_zeros w64 left < 64)
 lowest_left columns left some low part =
@@ -133,19 +111,9 @@ module _ (row columns left next : ℕ) (p : Point) (at : p.row ≡ row) (set : h
       same_point : (q : Point) → q.col ≡ p.col → q.row ≡ p.row → q ≡ p
       same_point q e f = ap (λ c. record { col = c; row = q.row }) e ∙ ap (λ r. record { col = p.col; row = r }) f
 
--- in the end nothing is left
-pub taken_all : (g h : Grid) (row columns left : ℕ) → left ≡ 0 → IsWithout g h (InTaken row columns left) → IsWithout g h (λ p. (p.row ≡ row) × (has_bit columns p.col ≡ true))
-taken_all g h row columns left none is =
-    without_same g h (InTaken row columns left) _ is
-    (λ p gone. (gone.0, gone.1))
-    (λ p gone. (gone.0, gone.1, ap (λ w. has_bit w p.col) none ∙ has_bit-zero p.col))
-
 -- the points of a set in the first rows
 abbrev pub InRowsBefore : List ℕ → ℕ → Point → Type 0
 InRowsBefore rows row p = (p.row < row) × (is_set rows p ≡ true)
-
-pub rows_none : (g : Grid) (rows : List ℕ) → IsWithout g g (InRowsBefore rows 0)
-rows_none g rows = without_none g (InRowsBefore rows 0) (λ p gone. omega (arith, gone.0))
 
 -- one row more
 pub rows_more : (g h i : Grid) (rows : List ℕ) (row : ℕ) → IsWithout g h (InRowsBefore rows row) → IsWithout h i (λ p. (p.row ≡ row) × (has_bit (slice_index rows row) p.col ≡ true)) → IsWithout g i (InRowsBefore rows (row + 1))
@@ -159,9 +127,3 @@ rows_more g h i rows row before is =
       | inl same ↦ inr (same, ap (λ r. has_bit (slice_index rows r) p.col) (sym same) ∙ both.1)
       | inr other ↦ inl (omega (arith, both.0, other), both.1)
     ])
-
-pub rows_all : (g h : Grid) (rows : List ℕ) (row : ℕ) → length rows ≤ row → IsWithout g h (InRowsBefore rows row) → IsWithout g h (λ p. is_set rows p ≡ true)
-rows_all g h rows row all is =
-    without_same g h (InRowsBefore rows row) _ is
-    (λ p gone. gone.1)
-    (λ p gone. (omega (arith, row_below rows p gone), gone))

@@ -118,11 +118,6 @@ module _ (form : Form) (c : Games) (rise : PlacesRise c) (first limit count k : 
     answers = record { at_least = omega (arith, p.2, h); at_most = omega (arith, p.3, h, next_adds p.0 p.1) };
   }
 
-pub none_played_yet : (form : Form) (c : Games) (first limit count : ℕ) → count ≡ count + plays_of form (take 0 (page_from c first limit))
-none_played_yet list_form c first limit count = omega arith
-none_played_yet sgf_form c first limit count = omega arith
-none_played_yet gtp_form c first limit count = omega arith
-
 pub all_played : (form : Form) (c : Games) (first limit count k now : ℕ) → now ≡ count + plays_of form (take k (page_from c first limit)) → length (page_from c first limit) ≤ k
     → CountsLines form (page_from c first limit) count now (Ok k)
 all_played form c first limit count k now h le = record {
@@ -137,14 +132,3 @@ pub counts_for_options : (form : Form) (c : Games) (first : ℕ) (asked : Option
 counts_for_options form c first asked limit count new result is h =
     let fewer : length (drop first (lines c)) ≤ node_count c = omega (arith, lines_within c, length-drop first (lines c)) in
     rw (limited_is asked (node_count c) (drop first (lines c)) fewer, ← is) h
-
--- the flush after the last record failed
-pub counted_not_flushed : (form : Form) (ls : List Line) (count new k : ℕ) → k ≡ length ls → CountsLines form ls count new (Ok k) → CountsLines form ls count new (Err (Write k))
-counted_not_flushed form ls count new k is h = record {
-  plays = h.plays;
-  counted = h.counted;
-  answers = record {
-    at_least = omega (arith, h.answers, all_plays form ls k (omega (arith, is)));
-    at_most = omega (arith, h.answers, all_plays form ls (k + 1) (omega (arith, is)));
-  };
-}

@@ -30,14 +30,6 @@ answers_of_lines o text to_come c ls plays (Err (NoSuchLine place)) spelled whol
 answers_of_lines o text to_come c ls plays (Err (Write k)) spelled whole is h = (ls, record { games = c; spelled = spelled; page_is = is }, h)
 answers_of_lines o text to_come c ls plays (Err (Memory k)) spelled whole is h = inl (whole, (ls, record { games = c; spelled = spelled; page_is = is }, h))
 
--- the run over a collection, from a cursor that stands before the page
-pub counts_of_lines : (o : Options) (c : Games) (at : Position) (count new : ℕ) (result : Result ℕ RunFault) → ((text : List ℕ) → Spells c text → lines_from_place (lines c) o.after ≡ Some (drop at.given (lines c)))
-    → CountsLines o.form (limited o.limit (drop at.given (lines c))) count new result → CountsSplitOf o c count new result
-counts_of_lines o c at count new result start h = λ text spelled to_come whole.
-    let ls = limited o.limit (drop at.given (lines c)) in
-    let is : page o c ≡ Some ls = ap (λ found. option_map (limited o.limit) found) (start text spelled) in
-    record { plays = h.plays; counted = h.counted; answers = answers_of_lines o text to_come c ls h.plays result spelled whole is h.answers }
-
 -- where no cursor stands before the page nothing is played
 answers_start : (o : Options) (text : List ℕ) (to_come : Option (List ℕ)) (c : Games) (fault : RunFault) → IsStart c o.after (Err fault) → AnswersPlays o text to_come 0 (Err fault)
 answers_start o text to_come c Read h = refl
@@ -46,10 +38,6 @@ answers_start o text to_come c (NotSgf at len) h = refl
 answers_start o text to_come c (NoSuchLine place) h = refl
 answers_start o text to_come c (Write k) h = absurd h
 answers_start o text to_come c (Memory k) h = inr (h, refl)
-
-pub counts_no_start : (o : Options) (c : Games) (count : ℕ) (fault : RunFault) → ((text : List ℕ) → Spells c text → IsStart c o.after (Err fault)) → CountsSplitOf o c count count (Err fault)
-counts_no_start o c count fault h = λ text spelled to_come whole.
-    record { plays = 0; counted = no_more count; answers = answers_start o text to_come c fault (h text spelled) }
 
 -- nor where the reading failed
 answers_fault : (A : Type 0) (o : Options) (given : List ℕ) (to_come : Option (List ℕ)) (text : List ℕ) (fault : RunFault)
@@ -60,15 +48,6 @@ answers_fault A o given to_come text (NotSgf at len) h = absurd h
 answers_fault A o given to_come text (NoSuchLine place) h = absurd h
 answers_fault A o given to_come text (Write k) h = absurd h
 answers_fault A o given to_come text (Memory k) h = inr (h, refl)
-
-pub counted_run_of_fault : {A : Type 0} (o : Options) (source new_source : SourceState) (sink : SinkState) (count : ℕ) (text : List ℕ) (fault : RunFault)
-    → IsReading {A = A} source new_source text (Err fault) → IsCountedRun o source new_source sink sink count count (Err fault)
-counted_run_of_fault {A = A} o source new_source sink count text fault h = record {
-  run = run_of_fault o source new_source sink text fault h;
-  plays = 0;
-  counted = no_more count;
-  answers = answers_fault A o h.given new_source.to_come text fault h.answers;
-}
 
 -- where the source was read to its end, the count is that for the text
 pub counted_run_of_text : {A : Type 0} (o : Options) (source new_source : SourceState) (sink new_sink : SinkState) (count new : ℕ) (text : List ℕ) (u : A) (result : Result ℕ RunFault)

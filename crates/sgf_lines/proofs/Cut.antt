@@ -18,11 +18,6 @@ use Rattle.sgf_lines.specs.NodeContents.{Stones, moves, stones}
 use Rattle.sgf_lines.specs.Script.{comment_lines, play_line, stone_lines, board_lines, setup_lines, move_lines, node_script}
 use Rattle.sgf_lines.specs.inner.Cutting.{lines_at}
 
-pub at_index : (xs : List ℕ) (i : ℕ) → i < length xs → slice_get xs i ≡ Some (get_or xs i 0)
-at_index [] i lt = absurd (omega arith)
-at_index (x ∷ xs) zero lt = refl
-at_index (x ∷ xs) (suc i) lt = at_index xs i (omega arith)
-
 -- the stones of a colour, point by point
 lines_of_points : (g : Grid) (k : Colour) (ps : List Point)
     → flat_map (λ p. play_line g.side k (Stone p)) (filter (λ p. same_cell (cell_at g p) (stone_of k)) ps) ≡ flat_map (lines_at g k) ps

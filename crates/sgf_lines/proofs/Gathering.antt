@@ -14,7 +14,7 @@ use Rattle.go_board.specs.Values.{rect_value}
 use Rattle.sgf_lines.specs.declared.contents.Moves.{Moves}
 use Rattle.sgf_lines.specs.declared.contents.Kind.{Kind}
 use Rattle.sgf_lines.specs.declared.contents.Kind.TheVariants.{Move as move_kind, Stones as stones_kind, Player as player_kind, Comment as comment_kind}
-use Rattle.sgf_lines.specs.NodeContents.{Stones, moves_in, stones_in, players_in}
+use Rattle.sgf_lines.specs.NodeContents.{Stones, moves_in, stones_in, players_in, first_value}
 use Rattle.sgf_lines.specs.Values.{player_value, operation, operations, last_player}
 use Rattle.sgf_lines.specs.inner.Contents.{Lists, empty_lists, combined, kind_of, lists_of_kind, lists_by, lists_in, AreMoves, AreTold}
 
@@ -146,78 +146,36 @@ tells_nothing side moves h = record {
   on_board = All-from_recursion (λ (o : SetupOp). IsRectOn side o.area) [] tt;
 }
 
--- joining lists
-combined_assoc : (a b c : Lists) → combined (combined a b) c ≡ combined a (combined b c)
-combined_assoc a b c =
-    let m = append_assoc a.moves b.moves c.moves in
-    let s = append_assoc a.stones b.stones c.stones in
-    let p = append_assoc a.players b.players c.players in
-    ap (λ ms. record { moves = ms; stones = (a.stones ++ b.stones) ++ c.stones; players = (a.players ++ b.players) ++ c.players }) m
-    ∙ ap (λ ss. record { moves = a.moves ++ (b.moves ++ c.moves); stones = ss; players = (a.players ++ b.players) ++ c.players }) s
-    ∙ ap (λ ps. record { moves = a.moves ++ (b.moves ++ c.moves); stones = a.stones ++ (b.stones ++ c.stones); players = ps }) p
-
-pub combined-nothing : (a : Lists) → combined a empty_lists ≡ a
-combined-nothing a =
-    let m = append-nil a.moves in
-    let s = append-nil a.stones in
-    let p = append-nil a.players in
-    ap (λ ms. record { moves = ms; stones = a.stones ++ []; players = a.players ++ [] }) m
-    ∙ ap (λ ss. record { moves = a.moves; stones = ss; players = a.players ++ [] }) s
-    ∙ ap (λ ps. record { moves = a.moves; stones = a.stones; players = ps }) p
-
-first_of_kind : (kind : Kind) (raw : List ℕ) (raws : List (List ℕ)) → lists_of_kind kind (raw ∷ raws) ≡ combined (lists_of_kind kind (raw ∷ [])) (lists_of_kind kind raws)
-first_of_kind (move_kind k) raw raws = refl
-first_of_kind (stones_kind cell) raw raws = refl
-first_of_kind player_kind raw raws = refl
-first_of_kind comment_kind raw raws = refl
-
--- one value is taken from those that are left
-pub takes_value : (a all : Lists) (kind : Kind) (raw : List ℕ) (left old : List (List ℕ)) → old ≡ raw ∷ left → combined a (lists_of_kind kind old) ≡ all
-    → combined (combined a (lists_of_kind kind (raw ∷ []))) (lists_of_kind kind left) ≡ all
-takes_value a all kind raw left old is e =
-    combined_assoc a (lists_of_kind kind (raw ∷ [])) (lists_of_kind kind left) ∙ ap (combined a) (sym (first_of_kind kind raw left))
-    ∙ ap (λ raws. combined a (lists_of_kind kind raws)) (sym is) ∙ e
-
-no_value_left : (kind : Kind) → lists_of_kind kind [] ≡ empty_lists
-no_value_left (move_kind k) = refl
-no_value_left (stones_kind cell) = refl
-no_value_left player_kind = refl
-no_value_left comment_kind = refl
-
-pub all_values : (a all : Lists) (kind : Kind) (left : List (List ℕ)) → left ≡ [] → combined a (lists_of_kind kind left) ≡ all → a ≡ all
-all_values a all kind left is e =
-    sym (combined-nothing a) ∙ ap (combined a) (sym (no_value_left kind)) ∙ ap (λ raws. combined a (lists_of_kind kind raws)) (sym is) ∙ e
-
--- one property is taken from those that are left
-pub takes_property : (a all : Lists) (p : Property) (left old : List Property) → old ≡ p ∷ left → combined a (lists_in old) ≡ all
-    → combined (combined a (lists_by (kind_of p) (values p))) (lists_in left) ≡ all
-takes_property a all p left old is e =
-    combined_assoc a (lists_by (kind_of p) (values p)) (lists_in left) ∙ ap (λ ps. combined a (lists_in ps)) (sym is) ∙ e
-
-pub all_properties : (a all : Lists) (left : List Property) → left ≡ [] → combined a (lists_in left) ≡ all → a ≡ all
-all_properties a all left is e = sym (combined-nothing a) ∙ ap (λ ps. combined a (lists_in ps)) (sym is) ∙ e
-
 -- what a property holds, by its name
 abbrev pub held_by : Property → Lists
 held_by p = record { moves = moves_in p; stones = stones_in p; players = players_in p }
 
-pub by_name : (name first : List ℕ) (more : List (List ℕ)) → let p : Property = record { name = name; first = first; more = more } in lists_by (kind_of p) (values p) ≡ held_by p
+-- the comment that a property of some kind has
+abbrev pub comment_by : Option Kind → Property → Option (List ℕ)
+comment_by None p = None
+comment_by (Some (move_kind k)) p = None
+comment_by (Some (stones_kind cell)) p = None
+comment_by (Some player_kind) p = None
+comment_by (Some comment_kind) p = Some p.first
+
+pub by_name : (name first : List ℕ) (more : List (List ℕ)) → let p : Property = record { name = name; first = first; more = more } in
+    (lists_by (kind_of p) (values p) ≡ held_by p) × (first_value (codes "C") (p ∷ []) ≡ comment_by (kind_of p) p)
 by_name name first more =
     elim (cases_Bool (bytes_eq name (codes "B"))) [
-      | inl e ↦ let is = (bytes_eq-Decides name (codes "B")).0 e in rw is
+      | inl e ↦ let is = (bytes_eq-Decides name (codes "B")).0 e in (rw is, rw is)
       | inr b ↦ elim (cases_Bool (bytes_eq name (codes "W"))) [
-        | inl e ↦ let is = (bytes_eq-Decides name (codes "W")).0 e in rw is
+        | inl e ↦ let is = (bytes_eq-Decides name (codes "W")).0 e in (rw is, rw is)
         | inr w ↦ elim (cases_Bool (bytes_eq name (codes "AB"))) [
-          | inl e ↦ let is = (bytes_eq-Decides name (codes "AB")).0 e in rw is
+          | inl e ↦ let is = (bytes_eq-Decides name (codes "AB")).0 e in (rw is, rw is)
           | inr ab ↦ elim (cases_Bool (bytes_eq name (codes "AW"))) [
-            | inl e ↦ let is = (bytes_eq-Decides name (codes "AW")).0 e in rw is
+            | inl e ↦ let is = (bytes_eq-Decides name (codes "AW")).0 e in (rw is, rw is)
             | inr aw ↦ elim (cases_Bool (bytes_eq name (codes "AE"))) [
-              | inl e ↦ let is = (bytes_eq-Decides name (codes "AE")).0 e in rw is
+              | inl e ↦ let is = (bytes_eq-Decides name (codes "AE")).0 e in (rw is, rw is)
               | inr ae ↦ elim (cases_Bool (bytes_eq name (codes "PL"))) [
-                | inl e ↦ let is = (bytes_eq-Decides name (codes "PL")).0 e in rw is
+                | inl e ↦ let is = (bytes_eq-Decides name (codes "PL")).0 e in (rw is, rw is)
                 | inr pl ↦ elim (cases_Bool (bytes_eq name (codes "C"))) [
-                  | inl e ↦ let is = (bytes_eq-Decides name (codes "C")).0 e in rw is
-                  | inr c ↦ rw (b, w, ab, aw, ae, pl, c)
+                  | inl e ↦ let is = (bytes_eq-Decides name (codes "C")).0 e in (rw is, rw is)
+                  | inr c ↦ (rw (b, w, ab, aw, ae, pl, c), rw (b, w, ab, aw, ae, pl, c))
                 ]
               ]
             ]
@@ -229,4 +187,4 @@ by_name name first more =
 -- what a node's properties hold is what the node holds
 pub lists_of_node : (ps : List Property) → lists_in ps ≡ record { moves = flat_map moves_in ps; stones = flat_map stones_in ps; players = flat_map players_in ps }
 lists_of_node [] = refl
-lists_of_node (p ∷ ps) = ap (λ a. combined a (lists_in ps)) (by_name p.name p.first p.more) ∙ ap (λ b. combined (held_by p) b) (lists_of_node ps)
+lists_of_node (p ∷ ps) = ap (λ a. combined a (lists_in ps)) (by_name p.name p.first p.more).0 ∙ ap (λ b. combined (held_by p) b) (lists_of_node ps)

@@ -126,20 +126,3 @@ fills_one c leaf n room path parent h e =
 pub fills : (c : Games) (leaf n room : ℕ) (path : List ℕ) (current parent : Option ℕ) → IsFilled c leaf current room path → current ≡ Some n → parent_at c n ≡ Some parent
     → IsFilled c leaf parent (room - 1) (set path (room - 1) n)
 fills c leaf n room path current parent h is e = fills_one c leaf n room path parent (rw is at h) e
-
--- there is room for each node of the way that is left
-pub has_place : (c : Games) (leaf n room : ℕ) (path : List ℕ) (current : Option ℕ) → IsFilled c leaf current room path → current ≡ Some n → (0 < room) × (room ≤ length path)
-has_place c leaf n room path current h is =
-    let more : 0 < length h.climb.above = not_empty (rw is at h.climb.way) in
-    let longer = ap length h.filled ∙ length-append h.climb.above (drop room path) in
-    (omega (arith, h.room_is), omega (arith, h.room_is, h.long, longer))
-  where
-    not_empty : {c : Games} {n : ℕ} {way : List ℕ} → IsWayTo c (Some n) way → 0 < length way
-    not_empty {n = n} (step {above = above} e up same) = omega (arith, ap length same, length-append above (n ∷ []))
-
-pub filled_all : (c : Games) (leaf room : ℕ) (path : List ℕ) (current : Option ℕ) → IsFilled c leaf current room path → current ≡ None → IsWayTo c (Some leaf) path
-filled_all c leaf room path current h is =
-    let none = none_above (rw is at h.climb.way) in
-    let start : room ≡ 0 = h.room_is ∙ ap length none in
-    let same : h.climb.numbers ≡ path = h.filled ∙ ap (λ ns. ns ++ drop room path) none ∙ ap (λ k. drop k path) start in
-    rw same at h.climb.whole

@@ -31,15 +31,6 @@ pub record IsSoFar (form : Form) (c : Games) (first limit : ℕ) (old : SinkStat
   pub takes : Appends old.taken now.taken (output form (take k (page_from c first limit)))
   pub failures : now.failures ≡ old.failures
 
-pub none_yet : (form : Form) (c : Games) (at : Position) (limit : ℕ) (old : SinkState) → at.games ≡ c → IsSoFar form c at.given limit old 0 at old
-none_yet form c at limit old same = record {
-  same = same;
-  given = omega arith;
-  within = omega arith;
-  takes = Appends-nil old.taken;
-  failures = refl;
-}
-
 module _ (form : Form) (c : Games) (first limit : ℕ) (old : SinkState) (k : ℕ) (at : Position) (now : SinkState) (h : IsSoFar form c first limit old k at now) where
   next_of_page : (line : Line) → k < limit → slice_get (lines at.games) at.given ≡ Some line → slice_get (page_from c first limit) k ≡ Some line
   next_of_page line lt found =
@@ -119,17 +110,3 @@ flushed form ls old now new k h f = record {
   takes = rw append-nil at (Appends-trans old.taken now.taken new.taken h.taken [] h.takes f.taken);
   answers = h.answers;
 }
-
--- and where the flush failed all records were taken
-pub not_flushed : (form : Form) (ls : List Line) (old now new : SinkState) (k : ℕ) → WritesLines form ls old now (Ok k) → TakesNothing now new → WritesLines form ls old new (Err (Write k))
-not_flushed form ls old now new k h f = record {
-  taken = h.taken;
-  takes = kept old.taken now.taken new.taken h.taken h.takes f.taken;
-  answers = rw (h.answers.0, h.answers.1) (all_taken form ls);
-}
-  where
-    kept : (a b c : Option (List ℕ)) (bs : List ℕ) → Appends a b bs → Keeps b c → Appends a c bs
-    kept None b c bs p q = tt
-    kept (Some x) None c bs p q = absurd p
-    kept (Some x) (Some y) None bs p q = absurd q
-    kept (Some x) (Some y) (Some z) bs p q = q ∙ p

@@ -3,10 +3,8 @@ use Rattle.std.proofs.Common.{◌≡◌, ℕ, List, [], ◌∷◌, ◌++◌, map
 use Rattle.std.specs.Prelude.{option_map, option_copied, find, codes, bytes_eq}
 use Rattle.std.specs.Option.{option_or}
 use Rattle.std.specs.List.{flat_map}
-use Rattle.std.proofs.lemmas.Bool.{cases_Bool}
 use Rattle.std.proofs.lemmas.Grind.{flat_map-append}
 use Rattle.std.proofs.lemmas.List.Folds.{find-append}
-use Rattle.std.proofs.lemmas.Slice.Eq.{bytes_eq-Decides}
 use Rattle.sgf_tree.specs.Tree.{Property, values}
 use Rattle.go_board.specs.declared.stones.Colour.{Colour}
 use Rattle.sgf_lines.specs.declared.contents.Moves.{Moves}
@@ -17,40 +15,7 @@ use Rattle.sgf_lines.specs.declared.plain.Plain.{Plain}
 use Rattle.sgf_lines.specs.NodeContents.{Move, moves_in, stones_in, players_in, moves_by, is_named, first_value}
 use Rattle.sgf_lines.specs.inner.Contents.{Lists, kind_of, lists_by, AreMoves}
 use Rattle.sgf_lines.specs.inner.Plain.{IsPlain, first_of}
-use Rattle.sgf_lines.proofs.Gathering.{held_by, by_name}
-
--- the comment that a property of some kind has
-abbrev pub comment_by : Option Kind → Property → Option (List ℕ)
-comment_by None p = None
-comment_by (Some (move_kind k)) p = None
-comment_by (Some (stones_kind cell)) p = None
-comment_by (Some player_kind) p = None
-comment_by (Some comment_kind) p = Some p.first
-
-comment_named : (name first : List ℕ) (more : List (List ℕ)) → let p : Property = record { name = name; first = first; more = more } in first_value (codes "C") (p ∷ []) ≡ comment_by (kind_of p) p
-comment_named name first more =
-    elim (cases_Bool (bytes_eq name (codes "B"))) [
-      | inl e ↦ let is = (bytes_eq-Decides name (codes "B")).0 e in rw is
-      | inr b ↦ elim (cases_Bool (bytes_eq name (codes "W"))) [
-        | inl e ↦ let is = (bytes_eq-Decides name (codes "W")).0 e in rw is
-        | inr w ↦ elim (cases_Bool (bytes_eq name (codes "AB"))) [
-          | inl e ↦ let is = (bytes_eq-Decides name (codes "AB")).0 e in rw is
-          | inr ab ↦ elim (cases_Bool (bytes_eq name (codes "AW"))) [
-            | inl e ↦ let is = (bytes_eq-Decides name (codes "AW")).0 e in rw is
-            | inr aw ↦ elim (cases_Bool (bytes_eq name (codes "AE"))) [
-              | inl e ↦ let is = (bytes_eq-Decides name (codes "AE")).0 e in rw is
-              | inr ae ↦ elim (cases_Bool (bytes_eq name (codes "PL"))) [
-                | inl e ↦ let is = (bytes_eq-Decides name (codes "PL")).0 e in rw is
-                | inr pl ↦ elim (cases_Bool (bytes_eq name (codes "C"))) [
-                  | inl e ↦ let is = (bytes_eq-Decides name (codes "C")).0 e in rw is
-                  | inr c ↦ rw (b, w, ab, aw, ae, pl, c)
-                ]
-              ]
-            ]
-          ]
-        ]
-      ]
-    ]
+use Rattle.sgf_lines.proofs.Gathering.{held_by, comment_by, by_name}
 
 map_or : (x y : Option Property) → option_map (λ (p : Property). p.first) (option_or x y) ≡ option_or (option_map (λ (p : Property). p.first) x) (option_map (λ (p : Property). p.first) y)
 map_or None y = refl
@@ -60,10 +25,10 @@ first_value_more : (ps : List Property) (p : Property) (k : Option Kind) → kin
 first_value_more ps p k is =
     ap (option_map (λ (p : Property). p.first)) (find-append (is_named (codes "C")) ps (p ∷ []))
     ∙ map_or (find (is_named (codes "C")) ps) (find (is_named (codes "C")) (p ∷ []))
-    ∙ ap (option_or (first_value (codes "C") ps)) (comment_named p.name p.first p.more ∙ ap (λ o. comment_by o p) is)
+    ∙ ap (option_or (first_value (codes "C") ps)) ((by_name p.name p.first p.more).1 ∙ ap (λ o. comment_by o p) is)
 
 held_is : (p : Property) (k : Option Kind) → kind_of p ≡ k → held_by p ≡ lists_by k (values p)
-held_is p k is = sym (by_name p.name p.first p.more) ∙ ap (λ o. lists_by o (values p)) is
+held_is p k is = sym (by_name p.name p.first p.more).0 ∙ ap (λ o. lists_by o (values p)) is
 
 one_more : {A : Type 0} (f : Property → List A) (ps : List Property) (p : Property) (xs : List A) → f p ≡ xs → flat_map f (ps ++ p ∷ []) ≡ flat_map f ps ++ xs
 one_more f ps p xs is = flat_map-append f ps (p ∷ []) ∙ ap (λ t. flat_map f ps ++ t) (append-nil (f p) ∙ is)
@@ -81,10 +46,6 @@ plain_more ps p k old new is h stones players moves comment =
       no_players = one_more players_in ps p [] (ap (λ (l : Lists). l.players) held ∙ players) ∙ append-nil (flat_map players_in ps) ∙ h.no_players;
       comment_is = comment ∙ ap (λ o. option_or o (comment_by k p)) h.comment_is ∙ sym (first_value_more ps p k is);
     }
-
--- nothing yet
-pub plain_nothing : (moves : Moves) → AreMoves moves [] → IsPlain [] (record { moves = moves; comment = None })
-plain_nothing moves h = record { moves_are = h; no_stones = refl; no_players = refl; comment_is = refl }
 
 pub same_moves : (moves : Moves) (ms : List Move) → AreMoves moves ms → AreMoves moves (ms ++ [])
 same_moves moves ms h = subst (AreMoves moves) (sym (append-nil ms)) h

@@ -129,9 +129,6 @@ tells_fault side nodes game m h e =
     let f = fault_is side nodes m is in
     rw (f.1, ← h.state, ← f.2, ← f.3) refl
 
-pub tells_score : (side : ℕ) (nodes : List Node) (game : Game) → IsPlayed side nodes game → game.fault ≡ None → score_in game.referee.present ≡ verdict_at (walk side nodes)
-tells_score side nodes game h e = rw (met_none side nodes game h e, ← h.state) refl
-
 module _ (side : ℕ) (nodes : List Node) (old new : Game) (h : IsPlayed side nodes old) where
   -- what is kept before a node
   abbrev pub mark_now : ℕ

@@ -58,7 +58,3 @@ step_of at side node None e h = tt
 step_of at side node (Some t) e h =
     let same : h.0 ≡ node = (let both : Some h.0 ≡ Some node = sym h.1 ∙ e in cc) in
     subst (λ (n : Node). IsStepOf side n t) same h.2
-
-pub some_step : (at : Option Node) (side on : ℕ) (o : Option TakenStep) → side ≡ on → IfSome o (λ t. (n : Node) × (at ≡ Some n) × IsStepOf side n t) → IfSome o (λ t. (n : Node) × IsStepOf on n t)
-some_step at side on None e h = tt
-some_step at side on (Some t) e h = (h.0, subst (λ k. IsStepOf k h.0 t) e h.2)

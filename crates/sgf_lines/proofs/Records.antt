@@ -11,10 +11,6 @@ use Rattle.sgf_lines.proofs.Lists.{each_get}
 use Rattle.sgf_lines.proofs.Ways.{IsDescent, each_path}
 use Rattle.sgf_lines.proofs.Standings.{within_way}
 
--- what a call of `next` did that gave a line
-pub gives_line : (at : Position) (o : Option LineRef) (line : LineRef) → o ≡ Some line → GivesLine at o → IsLine at.games at.given line
-gives_line at o line is h = rw is at h
-
 pub goes_on : (at new : Position) (r : Result (Option LineRef) MemoryFault) (o : Option LineRef) (line : LineRef) → r ≡ Ok o → o ≡ Some line → LeavesCursor at r new → new ≡ advanced at
 goes_on at new r o line ok is h = rw (ok, is) at h
 

@@ -99,14 +99,6 @@ lines_no_read form ls taken (Err (Memory k)) h = refl
 pub no_read : (form : Form) (ls : List Line) (sink new_sink : SinkState) (result : Result ℕ RunFault) → WritesLines form ls sink new_sink result → read_failures result ≡ 0
 no_read form ls sink new_sink result h = lines_no_read form ls h.taken result h.answers
 
--- the run over a collection, from a cursor that stands before the page
-pub split_of_lines : (o : Options) (c : Games) (at : Position) (sink new_sink : SinkState) (result : Result ℕ RunFault) → ((text : List ℕ) → Spells c text → lines_from_place (lines c) o.after ≡ Some (drop at.given (lines c)))
-    → WritesLines o.form (limited o.limit (drop at.given (lines c))) sink new_sink result → IsSplitOf o c sink new_sink result
-split_of_lines o c at sink new_sink result start h = λ text spelled to_come whole.
-    let ls = limited o.limit (drop at.given (lines c)) in
-    let is : page o c ≡ Some ls = ap (λ found. option_map (limited o.limit) found) (start text spelled) in
-    record { taken = h.taken; takes = h.takes; answers = answers_of_lines o text to_come c ls h.taken result spelled whole is h.answers }
-
 answers_start : (o : Options) (text : List ℕ) (to_come : Option (List ℕ)) (c : Games) (fault : RunFault) → Spells c text → IsWhole text to_come → IsStart c o.after (Err fault)
     → Answers o text to_come [] (Err fault)
 answers_start o text to_come c Read spelled whole h = absurd h

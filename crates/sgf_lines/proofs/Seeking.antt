@@ -35,16 +35,5 @@ jumps c place node last p rise lt h is before =
     let from : node ≤ last = h.greatest node itself in
     record { later = omega arith; within = omega (arith, last_within c node last lt h); before = before_last c place last p rise is before }
 
--- the first node that isn't before the place is the one sought, if it is a leaf and has the place
-pub no_leaf : (c : Games) (place node here : ℕ) → PlacesRise c → AllBefore c place node → place_at c node ≡ Some here → place ≤ here
-    → (here ≡ place → IsLeaf c node → ⊥) → (leaf : ℕ) → IsLeaf c leaf → place_at c leaf ≢ Some place
-no_leaf c place node here rise all is le not leaf is_leaf e = elim (cases_lt leaf node) [
-  | inl before ↦ absurd (omega (arith, all leaf place before e))
-  | inr from ↦ elim (cases_eq leaf node) [
-    | inl same ↦ let places : place_at c node ≡ Some place = rw same at e in let equal : here ≡ place = cc in not equal (rw same at is_leaf)
-    | inr after ↦ let lt : node < leaf = omega arith in absurd (omega (arith, rise node leaf here place lt is e))
-  ]
-]
-
 pub none_at_all : (c : Games) (place node : ℕ) → AllBefore c place node → node_count c ≤ node → (leaf : ℕ) → IsLeaf c leaf → place_at c leaf ≢ Some place
 none_at_all c place node all ge leaf is_leaf e = absurd (omega (arith, all leaf place (omega (arith, place_within c leaf place e)) e))

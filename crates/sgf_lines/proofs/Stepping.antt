@@ -80,12 +80,6 @@ met_by_stones side held ops e lt = omega (arith, some_stones side held.stones op
 pub not_met : (side : ℕ) (held : Lists) → operations side held.stones ≡ Some [] → last_player None held.players ≡ Some None → IsSetupMet held false
 not_met side held e f = (stones_none side held.stones e, players_none held.players f)
 
--- moves beside a setup
-pub mixes : (s : State) (m : Move) (ms : List Move) (ts : List Stones) (ps : List (List ℕ)) → 0 < length ts + length ps → step_by s (m ∷ ms) ts ps ≡ Err Mixed
-mixes s m ms (t ∷ ts) ps lt = refl
-mixes s m ms [] (p ∷ ps) lt = refl
-mixes s m ms [] [] lt = absurd (omega arith)
-
 -- a setup alone
 no_last : (s : State) (o : Option (List SetupOp)) → setup_step s o None ≡ Err BadSetup
 no_last s None = refl
@@ -115,10 +109,6 @@ sets_up s [] (p ∷ ps) ops player e f some =
     let no_ops : [] ≡ ops = cc in
     ap (setup_step s (Some [])) f ∙ ap (λ os. Ok (set_up s os player)) no_ops
 sets_up s (t ∷ ts) ps ops player e f some = ap (λ o. setup_step s o (last_player None ps)) e ∙ ap (setup_step s (Some ops)) f
-
-pub some-is_none : (o : Option Colour) → is_none o ≡ true → is_some o ≡ false
-some-is_none None e = refl
-some-is_none (Some k) e = absurd cc
 
 -- what contents tell of a setup
 no_elements : {A : Type 0} (xs : List A) → length xs ≡ 0 → xs ≡ []

@@ -104,7 +104,3 @@ place_of_node c i n place e f = of_row (slice_get (rows_of c) i) e f
     of_row : (o : Option Row) → option_map (λ r. r.node) o ≡ Some n → option_map (λ r. r.node.place) o ≡ Some place → place ≡ n.place
     of_row None e f = absurd cc
     of_row (Some r) e f = let same : r.node ≡ n = cc in let here : r.node.place ≡ place = cc in sym here ∙ ap (λ (m : Node). m.place) same
-
-pub at_start : (side : ℕ) (nodes : List Node) → StandsAfter (walk side (take 0 nodes)) (before_root side).state
-at_start side [] = record { no_fault = refl; state = refl }
-at_start side (n ∷ ns) = record { no_fault = refl; state = refl }

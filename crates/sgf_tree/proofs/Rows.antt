@@ -148,14 +148,6 @@ pub parent_at-lt : (c : Games) (j i : ℕ) → parent_at c j ≡ Some (Some i) �
 parent_at-lt c j i h =
     elim (parent-within 0 None c j i h) [ inl p ↦ absurd (cc) | inr w ↦ let lt : i < 0 + j = w.before in omega arith ]
 
--- a node that is a parent is that of the next node
-pub parent_at-next : (c : Games) (j i : ℕ) → parent_at c j ≡ Some (Some i) → parent_at c (suc i) ≡ Some (Some i)
-parent_at-next c j i h =
-    elim (parent-within 0 None c j i h) [
-      | inl p ↦ absurd (cc)
-      | inr w ↦ let e : suc i - 0 ≡ suc i = omega arith in rw e at w.next
-    ]
-
 -- there is a row for each node
 pub length-rows_of : (c : Games) → length (rows_of c) ≡ node_count c
 length-rows_of c = length-rows 0 None c

@@ -15,11 +15,6 @@ use Rattle.clap.proofs.WalkLemmas.{walk_stopped}
 use Rattle.sgfsplit.specs.CommandLine.{FormNames, program_line}
 use Rattle.sgfsplit.specs.PlainWords.{option_words, file_words}
 
--- the command is of the kind whose faults clap tells
-pub line_is_simple : (names : FormNames) → is_simple_and_free (program_line names) ≡ true
-unfolding clap_on_literals
-line_is_simple names = refl
-
 -- ---- which values clap accepts
 
 pub line_simple : (names : FormNames) → is_simple (program_line names) ≡ true

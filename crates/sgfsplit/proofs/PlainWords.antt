@@ -47,11 +47,6 @@ form_plain form.Gtp = record { two = refl; long = refl; short = refl }
 
 -- ---- forms
 
-head_is : (n : List ℕ) (names : List (Bor (List ℕ))) (more : List (List ℕ)) → map (λ name. name.now) names ≡ n ∷ more
-    → (first : Bor (List ℕ)) × (rest : List (Bor (List ℕ))) × (names ≡ first ∷ rest) × (first.now ≡ n) × (map (λ name. name.now) rest ≡ more)
-head_is n [] more e = cc
-head_is n (x ∷ xs) more e = (x, xs, refl, cc, cc)
-
 accepted_as : (names : List (Bor (List ℕ))) (word : Word) → list_any (λ name. same_text false name.now word) names ≡ list_any (λ name. same_text false name word) (map (λ name. name.now) names)
 accepted_as [] word = refl
 accepted_as (x ∷ xs) word = rw (accepted_as xs word) refl
@@ -201,14 +196,4 @@ pub same_name : (o : Option (Bor Word × Bor ArgMatches)) (name : Option Word) (
     → option_map (λ p. p.0.now) o ≡ name → o ≡ Some p → name ≡ Some w → p.0.now ≡ w
 same_name o name p w e is sub =
     let both : Some p.0.now ≡ Some w = sym (ap (option_map (λ (p : Bor Word × Bor ArgMatches). p.0.now)) is) ∙ e ∙ sub in
-    cc
-
-pub split_is_not_count : (name : Word) → name ≡ codes "split" → bytes_eq name (codes "count") ≡ true → ⊥
-split_is_not_count name e same =
-    let no : bytes_eq name (codes "count") ≡ false = rw e refl in
-    cc
-
-pub count_is_count : (name : Word) → name ≡ codes "count" → bytes_eq name (codes "count") ≡ false → ⊥
-count_is_count name e other =
-    let yes : bytes_eq name (codes "count") ≡ true = rw e refl in
     cc
