@@ -42,6 +42,8 @@
 
 mod board;
 mod fault;
+#[cfg(test)]
+mod given;
 pub mod laws;
 mod marks;
 mod past;

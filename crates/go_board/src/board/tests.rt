@@ -2,7 +2,8 @@
 
 ghost use Rattle.std.specs.Prelude.{◌≡◌};
 
-use crate::{Board, Cell, Colour, Point, Size, Steps};
+use crate::given::{at, size};
+use crate::{Board, Cell, Colour, Steps};
 use std::process::Abort;
 
 const B: Cell = Cell::Black;
@@ -10,19 +11,6 @@ const B: Cell = Cell::Black;
 const W: Cell = Cell::White;
 
 const E: Cell = Cell::Empty;
-
-fn at(col: u8, row: u8) -> Point
-    ensures column { result.col ≡ col }
-    ensures row { result.row ≡ row }
-{
-    Point { col, row }
-}
-
-fn size(rt: &impl Abort, side: u8) -> Size
-    ensures { result ≡ side }
-{
-    Size::new(side).expect(rt, "the side of a board")
-}
 
 /// A board of side 3, by its points row by row from the top.
 fn three(rt: &impl Abort, cells: [Cell; 9]) -> Board

@@ -3,17 +3,11 @@
 ghost use Rattle.std.specs.Prelude.{◌≡◌};
 ghost use Rattle.go_board.specs.Point.{IsOn};
 
-use crate::{Board, Cell, ListPast, Past, Point, PrintPast, Size};
+use crate::given::{at, size};
+use crate::{Board, Cell, ListPast, Past, Point, PrintPast};
 use std::alloc::Global;
 use std::process::Abort;
 use std::test::Fail;
-
-fn at(col: u8, row: u8) -> Point
-    ensures column { result.col ≡ col }
-    ensures row { result.row ≡ row }
-{
-    Point { col, row }
-}
 
 /// The board with one stone more.
 fn with_stone(board: &Board, point: Point, cell: Cell) -> Board
@@ -23,12 +17,6 @@ fn with_stone(board: &Board, point: Point, cell: Cell) -> Board
     let mut copy = board.copy();
     copy.set(point, cell);
     copy
-}
-
-fn size(rt: &impl Abort, side: u8) -> Size
-    ensures { result ≡ side }
-{
-    Size::new(side).expect(rt, "the side of a board")
 }
 
 /// A stretch that was begun anew hides the older colourings until it is taken back.

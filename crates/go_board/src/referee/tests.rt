@@ -1,27 +1,13 @@
 //! Worked examples of a referee.
 
-ghost use Rattle.std.specs.Prelude.{◌≡◌};
-
+use crate::given::{at, size};
 use crate::{
-    Cell, Colour, ListPast, MemoryFault, Past, Play, Point, PrintPast, Reason, Rect, Referee,
-    SetupOp, Size, TurnFault,
+    Cell, Colour, ListPast, MemoryFault, Past, Play, PrintPast, Reason, Rect, Referee, SetupOp,
+    TurnFault,
 };
 use std::alloc::Global;
 use std::process::Abort;
 use std::test::Fail;
-
-fn at(col: u8, row: u8) -> Point
-    ensures column { result.col ≡ col }
-    ensures row { result.row ≡ row }
-{
-    Point { col, row }
-}
-
-fn size(rt: &impl Abort, side: u8) -> Size
-    ensures { result ≡ side }
-{
-    Size::new(side).expect(rt, "the side of a board")
-}
 
 /// Takes a turn, and says why it isn't taken. A stone must be on the board.
 fn turn<P: Past>(

@@ -1,22 +1,7 @@
 //! Worked examples of values that name points and rectangles.
 
-ghost use Rattle.std.specs.Prelude.{◌≡◌};
-
-use crate::{Point, Rect, Size, point, rect};
-use std::process::Abort;
-
-fn at(col: u8, row: u8) -> Point
-    ensures column { result.col ≡ col }
-    ensures row { result.row ≡ row }
-{
-    Point { col, row }
-}
-
-fn size(rt: &impl Abort, side: u8) -> Size
-    ensures { result ≡ side }
-{
-    Size::new(side).expect(rt, "the side of a board")
-}
+use crate::given::{at, size};
+use crate::{Rect, point, rect};
 
 #[test]
 fn points(rt: HostRuntime) {

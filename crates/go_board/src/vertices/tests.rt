@@ -1,22 +1,7 @@
 //! Worked examples of vertices.
 
-ghost use Rattle.std.specs.Prelude.{◌≡◌};
-
-use crate::{Point, Size, Vertex, vertex};
-use std::process::Abort;
-
-fn at(col: u8, row: u8) -> Point
-    ensures column { result.col ≡ col }
-    ensures row { result.row ≡ row }
-{
-    Point { col, row }
-}
-
-fn size(rt: &impl Abort, side: u8) -> Size
-    ensures { result ≡ side }
-{
-    Size::new(side).expect(rt, "the side of a board")
-}
+use crate::given::{at, size};
+use crate::{Vertex, vertex};
 
 #[test]
 fn vertices(rt: HostRuntime) {

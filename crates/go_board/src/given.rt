@@ -1,0 +1,21 @@
+//! Points and sizes that tests are given.
+
+ghost use Rattle.std.specs.Prelude.{◌≡◌};
+
+use crate::{Point, Size};
+use std::process::Abort;
+
+/// The point of a column and a row, from 0.
+pub(crate) fn at(col: u8, row: u8) -> Point
+    ensures column { result.col ≡ col }
+    ensures row { result.row ≡ row }
+{
+    Point { col, row }
+}
+
+/// A size that there is.
+pub(crate) fn size(rt: &impl Abort, side: u8) -> Size
+    ensures { result ≡ side }
+{
+    Size::new(side).expect(rt, "the side of a board")
+}
