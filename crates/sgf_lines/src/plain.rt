@@ -8,7 +8,7 @@ ghost use Rattle.sgf_lines.specs.inner.Plain.{IsPlain, first_of};
 
 use crate::contents::{Kind, Moves, kind_of};
 use go_board::Colour;
-use sgf_tree::{NodeRef, PropRef};
+use sgf_tree::{NodeRef, PropRef, Properties};
 
 /// What a node holds that sets nothing up.
 #[derive(Clone, Copy)]
@@ -46,10 +46,7 @@ impl<'a> Plain<'a> {
                 moves: Moves::Nothing,
                 comment: Some(raw),
             },
-            _ => Plain {
-                moves: Moves::Nothing,
-                comment: None,
-            },
+            _ => Plain::nothing(),
         }
     }
 
@@ -57,17 +54,33 @@ impl<'a> Plain<'a> {
     fn of_walk(node: &NodeRef<'a>) -> Option<Plain<'a>>
         ensures { IfSome result (IsPlain node.now.properties) }
     {
-        let mut plain = Plain {
-            moves: Moves::Nothing,
-            comment: None,
-        };
-        let mut properties = node.walk();
-        while let Some(property) = properties.next() {
+        let (mut plain, mut left) = Plain::of_front(node);
+        while let Some(property) = left.next() {
             if !plain.take(&property) {
                 return None;
             }
         }
         Some(plain)
+    }
+
+    /// What a front of a node's properties holds, and the properties that are left.
+    fn of_front(node: &NodeRef<'a>) -> (Plain<'a>, Properties<'a>)
+        ensures { (front : List Property) × IsPlain front result.0 × (front ++ result.1 ≡ node.now.properties) }
+    {
+        match node.front() {
+            Some((letter, raw, left)) => (Plain::of_lone(letter, raw), left),
+            None => (Plain::nothing(), node.walk()),
+        }
+    }
+
+    /// Neither moves nor a comment.
+    fn nothing() -> Plain<'a>
+        ensures { IsPlain [] result }
+    {
+        Plain {
+            moves: Moves::Nothing,
+            comment: None,
+        }
     }
 
     /// Takes a property; false where it sets up stones or a player.

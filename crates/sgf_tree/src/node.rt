@@ -6,7 +6,7 @@ ghost use Rattle.sgf_tree.specs.Tree.{lone_property};
 ghost use Rattle.sgf_tree.specs.Written.{node_text, IsWrittenNode};
 
 use crate::property::PropRef;
-use crate::reader::scan::{is_lone_node, part, rest_from};
+use crate::reader::scan::{is_front_of_more, is_lone_node, part, rest_from};
 use crate::walk::{Properties, written_properties_end};
 use std::marker::Model;
 
@@ -76,6 +76,23 @@ impl<'a> NodeRef<'a> {
         let text = self.text;
         if is_lone_node(text) {
             Some((text[1], part(text, 3, 5)))
+        } else {
+            None
+        }
+    }
+
+    /// The letter and the raw value of its first property, where the node begins as `;B[pd]C` does: a name of one capital, one
+    /// value of two bytes that stand for themselves, and at once the name of another property; and the properties that are left.
+    /// None of each other node, so whoever gets None takes `walk`. It looks at a few bytes.
+    pub fn front(&self) -> Option<(u8, &'a [u8], Properties<'a>)>
+        ensures { IfSome result (λ front. self.now.properties ≡ lone_property front.0 front.1.now ∷ front.2) }
+    {
+        let text = self.text;
+        if is_front_of_more(text) {
+            let left = Properties {
+                rest: rest_from(text, 6),
+            };
+            Some((text[1], part(text, 3, 5), left))
         } else {
             None
         }
@@ -176,6 +193,37 @@ mod tests {
             assert_eq!(rt;
                 lone,
                 want.map(|(letter, value)| (letter, value.as_bytes())),
+                "of {text:?}"
+            );
+        }
+        Ok(())
+    }
+
+    #[test]
+    fn gives_the_front_of_more(rt: HostRuntime) -> Result<(), Fail> {
+        for (text, want) in [
+            (b"(;B[pd]BL[60])".as_slice(), Some((b'B', "pd", "60"))),
+            (b"(;W[[:]C[x]C[y];)".as_slice(), Some((b'W', "[:", "x"))),
+            (b"(;B[pd]Cc [x])".as_slice(), Some((b'B', "pd", "x"))),
+            (b"(;B[pd])".as_slice(), None),
+            (b"(;B[pd] C[x])".as_slice(), None),
+            (b"(;B[pd][dp]C[x])".as_slice(), None),
+            (b"(;B[pdq]C[x])".as_slice(), None),
+            (b"(;B[\\d]C[x])".as_slice(), None),
+            (b"(;AB[pd]C[x])".as_slice(), None),
+            (b"(; B[pd]C[x])".as_slice(), None),
+        ] {
+            let c = read(rt.alloc(), text)?;
+            assert!(rt; c.nodes() > 0);
+            let front = match c.node(0).front() {
+                Some((letter, value, mut left)) => left
+                    .next()
+                    .map(|property| (letter, value, property.value(0))),
+                None => None,
+            };
+            assert_eq!(rt;
+                front,
+                want.map(|(letter, value, next)| (letter, value.as_bytes(), next.as_bytes())),
                 "of {text:?}"
             );
         }

@@ -3,7 +3,7 @@
 ghost use Rattle.std.specs.Prelude.{◌≡◌, ◌≤◌, ◌<◌, length, drop, slice_index, slice_range, IsTrue, MatchOption};
 ghost use Rattle.sgf_tree.specs.Spelling.{is_white, is_upper};
 ghost use Rattle.sgf_tree.specs.inner.NodeText.{is_letter};
-ghost use Rattle.sgf_tree.specs.inner.Progress.{IsSpan, IsValueEnd, IsUnended, SpellsValue, SpellsNoValue, IsTwoPlain, IsNodeEnd, IsLoneNode, is_plain};
+ghost use Rattle.sgf_tree.specs.inner.Progress.{IsSpan, IsValueEnd, IsUnended, SpellsValue, SpellsNoValue, IsTwoPlain, IsNodeEnd, IsPlainFront, IsLoneNode, IsFrontOfMore, is_plain};
 
 use memchr::memchr2;
 
@@ -170,15 +170,25 @@ fn ends_node(text: &[u8], at: usize) -> bool
     end < text.len() && text[end] < b'A'
 }
 
+/// Whether the text begins with a `;` and a property that is written as `B[pd]` is, and goes on.
+fn is_plain_front(text: &[u8]) -> bool
+    ensures { IsTrue result → IsPlainFront text.now }
+{
+    text.len() > 6 && text[1].is_ascii_uppercase() && text[2] == b'[' && is_two_plain(text, 3)
+}
+
 /// Whether the text begins with a node that is written as `;B[pd]` is.
 pub(crate) fn is_lone_node(text: &[u8]) -> bool
     ensures { IsTrue result → IsLoneNode text.now }
 {
-    text.len() > 6
-        && text[1].is_ascii_uppercase()
-        && text[2] == b'['
-        && is_two_plain(text, 3)
-        && ends_node(text, 6)
+    is_plain_front(text) && ends_node(text, 6)
+}
+
+/// Whether the text begins with a node that begins as `;B[pd]C` does.
+pub(crate) fn is_front_of_more(text: &[u8]) -> bool
+    ensures { IsTrue result → IsFrontOfMore text.now }
+{
+    is_plain_front(text) && text[6].is_ascii_uppercase()
 }
 
 /// The same as `value_end`, for each other value.

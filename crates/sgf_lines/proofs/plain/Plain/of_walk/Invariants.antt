@@ -5,7 +5,7 @@ use Rattle.sgf_lines.specs.inner.Plain.{IsPlain}
 use Rattle.sgf_lines.proofs.plain.Plain.of_walk.Given as goal
 
 abbrev pub invariant-loop-property : goal.invariant-loop-property
-invariant-loop-property l = (front : List Property) × IsPlain front l.plain × (front ++ l.properties ≡ l.node.properties)
+invariant-loop-property l = (front : List Property) × IsPlain front l.plain × (front ++ l.left ≡ l.node.properties)
 
 abbrev pub decreases-loop-property : goal.decreases-loop-property
-decreases-loop-property l = length l.properties
+decreases-loop-property l = length l.left
