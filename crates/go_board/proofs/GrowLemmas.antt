@@ -41,7 +41,7 @@ Grows-none room rows within = record {
 }
 
 -- what a row above has in a column
-above_at : (rows : List ℕ) (r col : ℕ) (q : Point) → q.row + 1 ≡ r → q.col ≡ col → is_set rows q ≡ true → has_bit (row_above rows r) col ≡ true
+pub above_at : (rows : List ℕ) (r col : ℕ) (q : Point) → q.row + 1 ≡ r → q.col ≡ col → is_set rows q ≡ true → has_bit (row_above rows r) col ≡ true
 above_at rows zero col q next at is = absurd (omega arith)
 above_at rows (suc r) col q next at is =
     let below : r ≡ q.row = omega arith in ap (λ k. has_bit (get_or rows k 0) col) below ∙ ap (has_bit (get_or rows q.row 0)) (sym at) ∙ is
@@ -115,6 +115,12 @@ part_second a b = λ col is. has_bit-or a b col ∙ or_right _ _ is
 -- what a row may grow from: its own bits and those around it, where there is room
 abbrev pub seed_of : List ℕ → List ℕ → ℕ → ℕ → ℕ
 seed_of rows room row beside = bit_and (bit_or (get_or rows row 0) beside) (get_or room row 0)
+
+-- rows of which one has more than before lack less
+pub lacking-more : (rows : List ℕ) (row grown : ℕ) → row < length rows → get_or rows row 0 ≤ grown → grown < 2 ^ 64 → grown ≢ get_or rows row 0 → lacking (set rows row grown) < lacking rows
+lacking-more rows row grown within more low other =
+    let sums = sum_by-set (λ word. 2 ^ 64 - word) rows row grown 0 within in
+    omega (arith, other)
 
 -- a row that has all of what it may grow from takes what stands beside it
 pub taken_already : (rows room : List ℕ) (row beside : ℕ) → seed_of rows room row beside ≡ get_or rows row 0 → IsTaken room rows row beside

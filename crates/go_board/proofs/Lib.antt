@@ -14,6 +14,8 @@ pub mod SearchLemmas
 pub mod RowLemmas
 pub mod WordLemmas
 pub mod GrowLemmas
+pub mod LinkedLemmas
+pub mod StoneGroupLemmas
 pub mod RegionLemmas
 pub mod LibertyLemmas
 pub mod CountLemmas

@@ -1,34 +1,24 @@
 //! Taking groups without a liberty off a board, one at a time.
 
-ghost use Rattle.std.specs.Prelude.{◌≡◌, ◌≢◌, ◌<◌, ◌≤◌, ◌||◌, All, IsFalse, IsTrue};
+ghost use Rattle.std.specs.Prelude.{◌≡◌, ◌≢◌, ◌||◌, false, length, IsFalse, IsTrue};
 ghost use Rattle.std.specs.Option.{ForSome};
-ghost use Rattle.go_board.specs.declared.board.capture.Group.{Group};
-ghost use Rattle.go_board.specs.declared.stones.Cell.TheVariants.{Empty};
-ghost use Rattle.go_board.specs.Colour.{stone_of};
+ghost use Rattle.go_board.specs.declared.points.Point.{Point};
+ghost use Rattle.go_board.specs.declared.stones.Cell.TheVariants.{Black, White, Empty};
+ghost use Rattle.go_board.specs.Colour.{same_cell, stone_of};
 ghost use Rattle.go_board.specs.Point.{IsOn};
-ghost use Rattle.go_board.specs.Grid.{cell_at};
-ghost use Rattle.go_board.specs.Marking.{is_marked};
+ghost use Rattle.go_board.specs.Grid.{Grid, cell_at};
 ghost use Rattle.go_board.specs.Reaching.{Reaches};
-ghost use Rattle.go_board.specs.inner.Search.{nothing_found, AllListed};
-ghost use Rattle.go_board.specs.inner.Groups.{IsDead, is_free, has_liberty, emptied, ReachesIfStone, ReachBeside, LosesDead};
+ghost use Rattle.go_board.specs.inner.Groups.{IsDead, is_free, has_liberty, ReachesIfStone, ReachBeside, LosesDead};
+ghost use Rattle.go_board.specs.inner.Linked.{IsSameBut};
+ghost use Rattle.go_board.specs.inner.Regions.{AreRowsOf};
+ghost use Rattle.go_board.specs.inner.Rows.{is_set};
 
 use crate::board::Board;
-use crate::board::search::Search;
+use crate::board::group::has_liberty;
+use crate::board::regions::no_rows;
 use crate::points::Point;
-use crate::size::MAX_POINTS;
+use crate::size::MAX_ROWS;
 use crate::stones::{Cell, Colour};
-
-/// How many points of a group the first search of it has room for: few, so that little is made ready.
-const FEW_POINTS: usize = 64;
-
-/// What a search of a group found.
-#[derive(Clone, Copy)]
-enum Group {
-    HasLiberty,
-    Dead,
-    /// The search had too little room for the group.
-    TooLarge,
-}
 
 impl Board {
     /// Takes off the groups of a colour beside a point that have no liberty.
@@ -65,68 +55,79 @@ impl Board {
         ensures taken { LosesDead self.old self.new colour }
         ensures settled { ReachesIfStone self.new colour from }
     {
-        let _ = &self.size;
-        // most stones have a liberty of their own: no search is made ready for these
+        // most stones have a liberty of their own: no set is made ready for these
         if self.has_liberty(from) {
             return;
         }
-        // of a large group, rows of bits tell sooner than a search whether it has one
-        if !self.capture_group::<FEW_POINTS>(colour, from) {
-            self.clear(colour);
+        let mut words = no_rows();
+        let group = &mut words[..usize::from(self.size.side())];
+        if !self.group_has_liberty(colour, from, from, group) {
+            self.empty_set(group);
         }
     }
 
-    /// Takes off the group of a stone if it has no liberty. Tells whether the search had room for the group; if not,
-    /// nothing is done.
-    fn capture_group<const N: usize>(&mut self, colour: Colour, from: Point) -> bool
-        requires on_board { IsOn self.old.side from }
-        requires stone { cell_at self.old from ≡ stone_of colour }
-        requires some_room { 4 < N }
-        requires at_most { N ≤ MAX_POINTS }
-        ensures taken { LosesDead self.old self.new colour }
-        ensures settled { IsTrue result → ReachesIfStone self.new colour from }
-        ensures nothing_done { IsFalse result → self.new ≡ self.old }
-    {
-        let mut search = Search::<N>::new(self.size());
-        match self.look_at_group(colour, from, &mut search) {
-            Group::HasLiberty => true,
-            Group::Dead => {
-                self.empty_points(search.found());
-                true
-            }
-            Group::TooLarge => false,
-        }
-    }
-
-    /// Goes over the group of a stone until one of its stones has a liberty.
-    fn look_at_group<const N: usize>(
+    /// Whether the group of a stone has a liberty, besides a certain point. If not, the whole group is found.
+    pub(crate) fn group_has_liberty(
         &self,
         colour: Colour,
         from: Point,
-        search: &mut Search<N>,
-    ) -> Group
+        besides: Point,
+        group: &mut [u64],
+    ) -> bool
         requires on_board { IsOn self.now.side from }
         requires stone { cell_at self.now from ≡ stone_of colour }
-        requires begun { search.old ≡ nothing_found self.now.side }
-        requires some_room { 4 < N }
-        requires at_most { N ≤ MAX_POINTS }
-        ensures lives { result ≡ Group.HasLiberty → Reaches self.now Empty from }
-        ensures dead { result ≡ Group.Dead → IsDead self.now colour (is_marked search.new.marking) }
-        ensures listed { result ≡ Group.Dead → AllListed search.new }
-        ensures start { result ≡ Group.Dead → IsTrue (is_marked search.new.marking from) }
-        ensures same_side { search.new.marking.side ≡ self.now.side }
+        requires besides { IsOn self.now.side besides }
+        requires rows { length group.old ≡ self.now.side }
+        requires none { (p : Point) → is_set group.old p ≡ false }
+        ensures lives { (h : Grid) → IsSameBut self.now h colour besides → IsTrue result → Reaches h Empty from }
+        ensures dead { cell_at self.now besides ≢ Empty → IsFalse result → IsDead self.now colour (λ p. is_set group.new p) }
+        ensures start { IsFalse result → IsTrue (is_set group.new from) }
+        ensures on_grid { IsFalse result → (p : Point) → IsTrue (is_set group.new p) → IsOn self.now.side p }
+        ensures rows { length group.new ≡ self.now.side }
     {
-        search.offer(from);
-        while let Some(point) = search.take_one() {
-            if self.has_liberty(point) {
-                return Group::HasLiberty;
-            }
-            if !search.has_room(4) {
-                return Group::TooLarge;
-            }
-            self.offer_neighbours(Cell::Empty, point, search);
+        let side = usize::from(self.size.side());
+        if self.rows.known {
+            let black = &self.rows.black[..side];
+            let white = &self.rows.white[..side];
+            return self.rows_have_liberty(colour, black, white, from, besides, group);
         }
-        Group::Dead
+        let (mut black_words, mut white_words) = (no_rows(), no_rows());
+        let black = &mut black_words[..side];
+        let white = &mut white_words[..side];
+        self.stones(black, white);
+        self.rows_have_liberty(colour, black, white, from, besides, group)
+    }
+
+    /// The same, from the points with a black stone and those with a white one.
+    fn rows_have_liberty(
+        &self,
+        colour: Colour,
+        black: &[u64],
+        white: &[u64],
+        from: Point,
+        besides: Point,
+        group: &mut [u64],
+    ) -> bool
+        requires on_board { IsOn self.now.side from }
+        requires stone { cell_at self.now from ≡ stone_of colour }
+        requires besides { IsOn self.now.side besides }
+        requires rows { length group.old ≡ self.now.side }
+        requires none { (p : Point) → is_set group.old p ≡ false }
+        requires black_rows { length black.now ≡ self.now.side }
+        requires white_rows { length white.now ≡ self.now.side }
+        requires black { AreRowsOf self.now.side (λ p. same_cell (cell_at self.now p) Black) black.now }
+        requires white { AreRowsOf self.now.side (λ p. same_cell (cell_at self.now p) White) white.now }
+        ensures lives { (h : Grid) → IsSameBut self.now h colour besides → IsTrue result → Reaches h Empty from }
+        ensures dead { cell_at self.now besides ≢ Empty → IsFalse result → IsDead self.now colour (λ p. is_set group.new p) }
+        ensures start { IsFalse result → IsTrue (is_set group.new from) }
+        ensures on_grid { IsFalse result → (p : Point) → IsTrue (is_set group.new p) → IsOn self.now.side p }
+        ensures rows { length group.new ≡ self.now.side }
+    {
+        prove!(usize::from(self.size.side()) <= MAX_ROWS);
+        match colour {
+            Colour::Black => has_liberty(black, white, from, besides, group),
+            Colour::White => has_liberty(white, black, from, besides, group),
+        }
     }
 
     /// Whether a point has an empty neighbour.
@@ -157,16 +158,6 @@ impl Board {
         match at {
             Some(point) => self.at(point) == Cell::Empty,
             None => false,
-        }
-    }
-
-    /// Empties the points of a list.
-    fn empty_points(&mut self, points: &[Point])
-        requires { All (IsOn self.old.side) points.now }
-        ensures { self.new ≡ emptied self.old points.now }
-    {
-        for point in points {
-            self.set(*point, Cell::Empty);
         }
     }
 }

@@ -24,7 +24,7 @@ fn widened(seed: u64, room: u64) -> u64
 }
 
 /// The row above one, empty above the first.
-fn above(rows: &[u64], row: usize) -> u64
+pub(crate) fn above(rows: &[u64], row: usize) -> u64
     requires { row < length rows.now }
     ensures { result ≡ row_above rows.now row }
 {
@@ -32,7 +32,7 @@ fn above(rows: &[u64], row: usize) -> u64
 }
 
 /// The row below one, empty below the last.
-fn below(rows: &[u64], row: usize) -> u64
+pub(crate) fn below(rows: &[u64], row: usize) -> u64
     requires { row < length rows.now }
     ensures { result ≡ slice_index rows.now (row + 1) }
 {
@@ -44,13 +44,15 @@ fn below(rows: &[u64], row: usize) -> u64
 }
 
 /// Adds the points of a row that there is room for beside points of the set.
-fn grow_row(rows: &mut [u64], room: &[u64], row: usize)
+pub(crate) fn grow_row(rows: &mut [u64], room: &[u64], row: usize)
     requires same { length rows.old ≡ length room.now }
     requires row { row < length rows.old }
     requires within { IsAmong (is_set rows.old) (is_set room.now) }
     ensures grows { Grows (is_set room.now) (is_set rows.old) (is_set rows.new) }
     ensures closed { IsRowClosed (is_set room.now) (is_set rows.new) row }
     ensures others { (other : ℕ) → other ≢ row → slice_index rows.new other ≡ slice_index rows.old other }
+    ensures unchanged { slice_index rows.new row ≡ slice_index rows.old row → rows.new ≡ rows.old }
+    ensures fuller { slice_index rows.new row ≢ slice_index rows.old row → lacking rows.new < lacking rows.old }
 {
     let beside = above(rows, row) | below(rows, row);
     rows[row] = widened((rows[row] | beside) & room[row], room[row]);

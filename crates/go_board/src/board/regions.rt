@@ -59,7 +59,7 @@ pub(crate) fn rows_of(cells: &[Cell], size: Size, black: &mut [u64], white: &mut
 }
 
 /// The columns of a row of so many that aren't in a set.
-fn other_columns(word: u64, side: usize) -> u64
+pub(crate) fn other_columns(word: u64, side: usize) -> u64
     requires { side < 64 }
     ensures within { (col : ℕ) → col < side → has_bit result col ≡ not (has_bit word col) }
     ensures off { (col : ℕ) → IsTrue (has_bit result col) → col < side }

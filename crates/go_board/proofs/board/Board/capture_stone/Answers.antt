@@ -1,11 +1,9 @@
 -- proofs/board/Board/capture_stone/Answers.antt
-use Rattle.std.proofs.Common.{◌≡◌, sym, ap, ◌∙◌, subst, arith}
-use Rattle.go_board.specs.Point.{IsOn}
-use Rattle.go_board.specs.Clearing.{clear}
-use Rattle.go_board.proofs.RuleLemmas.{side-clear}
-use Rattle.go_board.specs.inner.Groups.{LosesDead, ReachesIfStone}
-use Rattle.go_board.proofs.FrontLemmas.{length-grid_in}
-use Rattle.go_board.proofs.SettledLemmas.{LosesDead-clear, AllReach-clear}
+use Rattle.std.proofs.Common.{sym, ◌∙◌}
+use Rattle.go_board.specs.declared.size.TheConstants.{MAX_ROWS}
+use Rattle.go_board.proofs.LinkedLemmas.{none_in_front}
+use Rattle.go_board.proofs.StoneGroupLemmas.{LosesDead-without}
+use Rattle.go_board.proofs.GroupLemmas.{stone_of≢Empty}
 use Rattle.go_board.proofs.CaptureLemmas.{reaches_liberty}
 use Rattle.go_board.proofs.board.Board.capture_stone.Goals as goal
 
@@ -14,21 +12,12 @@ returns-then-has_liberty-clause-settled c =
     λ _.
     reaches_liberty c.args.self.now c.args.from c.requires.on_board (sym c.has_liberty.ensures ∙ c.if-has_liberty.true)
 
--- a search with too little room did nothing
-pub returns-then-not-capture_group-clause-taken : goal.returns-then-not-capture_group-clause-taken
-returns-then-not-capture_group-clause-taken c =
-    let g = c.args.self.now in
-    let k = c.args.colour in
-    let i = c.self.inside in
-    let all = length-grid_in i.size i.cells g c.self.view_is (omega (arith, c.self.invariant)) in
-    let same : c.clear.new.self ≡ clear g k = c.clear.ensures.value ∙ ap (λ h. clear h k) (c.capture_group.ensures.nothing_done c.if-not-capture_group.true) in
-    subst (λ h. LosesDead g h k) (sym same) (LosesDead-clear g k all)
+pub group_has_liberty-requires-clause-none : goal.group_has_liberty-requires-clause-none
+group_has_liberty-requires-clause-none c = λ p. none_in_front c.from.result MAX_ROWS c.no_rows-words.result p c.no_rows-words.ensures
 
-pub returns-then-not-capture_group-clause-settled : goal.returns-then-not-capture_group-clause-settled
-returns-then-not-capture_group-clause-settled c =
+pub returns-then-not-group_has_liberty-clause-taken : goal.returns-then-not-group_has_liberty-clause-taken
+returns-then-not-group_has_liberty-clause-taken c =
     let g = c.args.self.now in
     let k = c.args.colour in
-    let from = c.args.from in
-    let same : c.clear.new.self ≡ clear g k = c.clear.ensures.value ∙ ap (λ h. clear h k) (c.capture_group.ensures.nothing_done c.if-not-capture_group.true) in
-    subst (λ h. ReachesIfStone h k from) (sym same)
-    (λ own. AllReach-clear g k from (subst (λ n. IsOn n from) (sym (side-clear g k)) c.requires.on_board) own)
+    let dead = c.group_has_liberty.ensures.dead (λ free. stone_of≢Empty k (sym c.requires.stone ∙ free)) c.if-not-group_has_liberty.true in
+    LosesDead-without g c.empty_set.new.self k c.group_has_liberty.new.group dead c.empty_set.ensures

@@ -1,0 +1,295 @@
+-- proofs/LinkedLemmas.antt
+-- Filling the group of a stone row by row.
+use Rattle.std.proofs.Common.{◌≡◌, ◌≢◌, ◌⊎◌, inl, inr, ℕ, zero, suc, ◌+◌, ◌-◌, ◌*◌, ◌/◌, ◌%◌, ◌^◌, ◌<◌, ◌≤◌, ◌||◌, Bool, true, false, not, nat_eq, w64, IsTrue, IsFalse, List, length, get_or, set, take, replicate, bit_and, bit_or, slice_index, refl, sym, ap, ◌∙◌, arith, subst}
+use Rattle.std.proofs.lemmas.Bool.{or_cases, and_parts, and_from, false≢true, true≢false, cases_eq, cases_Bool}
+use Rattle.std.proofs.lemmas.Bool.Decides.{Decides-not, Decides-eqb}
+use Rattle.std.specs.Int.{trailing_zeros}
+use Rattle.std.proofs.lemmas.List.{length-set, get_or-set_same, get_or-set_other}
+use Rattle.go_board.specs.declared.points.Point.{Point}
+use Rattle.go_board.specs.Point.{IsOn, AreAdjacent, DifferByOne}
+use Rattle.go_board.specs.inner.Rows.{has_bit, is_set, row_above, IsAmong, IsClosed, IsRowClosed, Grows, lacking}
+use Rattle.go_board.specs.inner.Linked.{IsInOrBeside, IsLinked, IsFilled, IsLiberty, IsBegun, IsShutIn}
+use Rattle.go_board.proofs.WordLemmas.{has_bit-or, has_bit-and, has_bit-left, from_left, has_bit-right, has_bit-zero, column_below}
+use Rattle.go_board.proofs.GrowLemmas.{row_below, above_at}
+use Rattle.go_board.proofs.SweepLemmas.{lowest_left}
+
+pub or_true : (x : Bool) → (x || true) ≡ true
+or_true true = refl
+or_true false = refl
+
+or_left : (x y : Bool) → x ≡ true → (x || y) ≡ true
+or_left x y h = rw h refl
+
+or_right : (x y : Bool) → y ≡ true → (x || y) ≡ true
+or_right true y h = refl
+or_right false y h = h
+
+-- the columns of two rows and those beside the columns of the row between them
+abbrev pub beside_columns : ℕ → ℕ → ℕ → ℕ
+beside_columns above here below = bit_or (bit_or (bit_or above below) (here * 2 ^ 1 % 2 ^ 64)) (here / 2 ^ 1)
+
+pub beside-from : (above here below col : ℕ) → has_bit (beside_columns above here below) col ≡ true → IsInOrBeside above here below col
+beside-from above here below col is =
+    elim (or_cases _ _ (sym (has_bit-or (bit_or (bit_or above below) (here * 2 ^ 1 % 2 ^ 64)) (here / 2 ^ 1) col) ∙ is)) [
+      | inr right ↦ inr (inr (suc col, inl (omega arith), sym (has_bit-right here col) ∙ right))
+      | inl rest ↦
+          elim (or_cases _ _ (sym (has_bit-or (bit_or above below) (here * 2 ^ 1 % 2 ^ 64) col) ∙ rest)) [
+            | inr left ↦ (let from = from_left here col left in inr (inr (from.0, inr from.1, from.2)))
+            | inl both ↦
+                elim (or_cases _ _ (sym (has_bit-or above below col) ∙ both)) [ inl up ↦ inl up | inr down ↦ inr (inl down) ]
+          ]
+    ]
+
+pub beside-to : (above here below col : ℕ) → col < 64 → IsInOrBeside above here below col → has_bit (beside_columns above here below) col ≡ true
+beside-to above here below col low is =
+    has_bit-or (bit_or (bit_or above below) (here * 2 ^ 1 % 2 ^ 64)) (here / 2 ^ 1) col
+    ∙ (elim is [
+      | inl up ↦
+          or_left _ _
+          (has_bit-or (bit_or above below) (here * 2 ^ 1 % 2 ^ 64) col ∙ or_left _ _ (has_bit-or above below col ∙ or_left _ _ up))
+      | inr (inl down) ↦
+          or_left _ _
+          (has_bit-or (bit_or above below) (here * 2 ^ 1 % 2 ^ 64) col ∙ or_left _ _ (has_bit-or above below col ∙ or_right _ _ down))
+      | inr (inr (d, inl next, there)) ↦
+          or_right _ _ (has_bit-right here col ∙ ap (has_bit here) (omega arith) ∙ there)
+      | inr (inr (d, inr next, there)) ↦
+          or_left _ _
+          (has_bit-or (bit_or above below) (here * 2 ^ 1 % 2 ^ 64) col
+          ∙ or_right _ _ (ap (has_bit (here * 2 ^ 1 % 2 ^ 64)) (sym next) ∙ has_bit-left here d (omega arith) ∙ there))
+    ])
+
+-- the columns that two sets have in common
+pub common-some : (a b : ℕ) → a < 2 ^ 64 → not (nat_eq (bit_and a b) 0) ≡ true → (col : ℕ) × (has_bit a col ≡ true) × (has_bit b col ≡ true)
+common-some a b low some =
+    let lowest = lowest_left a (bit_and a b) ((Decides-not _ (Decides-eqb (bit_and a b) 0)).0 some) low (λ c is. (and_parts _ _ (sym (has_bit-and a b c) ∙ is)).0) in
+    let both = and_parts _ _ (sym (has_bit-and a b (trailing_zeros w64 (bit_and a b))) ∙ lowest.0) in
+    (trailing_zeros w64 (bit_and a b), both.0, both.1)
+
+pub common-none : (a b : ℕ) → not (nat_eq (bit_and a b) 0) ≡ false → (col : ℕ) → has_bit a col ≡ true → has_bit b col ≡ false
+common-none a b none col is =
+    elim (cases_Bool (nat_eq (bit_and a b) 0)) [
+      | inl zero_is ↦
+          let same : bit_and a b ≡ 0 = (Decides-eqb (bit_and a b) 0).0 zero_is in
+          elim (cases_Bool (has_bit b col)) [
+            | inl there ↦
+                absurd (false≢true (sym (ap (λ w. has_bit w col) same ∙ has_bit-zero col) ∙ has_bit-and a b col ∙ and_from _ _ is there))
+            | inr gone ↦ gone
+          ]
+      | inr other ↦ absurd (true≢false (sym (ap not other) ∙ none))
+    ]
+
+-- the columns in neither of two sets, and in one of them
+pub in_neither : (a b col : ℕ) → not (has_bit (bit_or a b) col) ≡ true → (has_bit a col ≡ false) × (has_bit b col ≡ false)
+in_neither a b col none = neither_of (has_bit a col) (has_bit b col) (sym (ap not (has_bit-or a b col)) ∙ none)
+  where
+    neither_of : (x y : Bool) → not (x || y) ≡ true → (x ≡ false) × (y ≡ false)
+    neither_of false false h = (refl, refl)
+    neither_of true y h = absurd (false≢true h)
+    neither_of false true h = absurd (false≢true h)
+
+pub in_either : (a b col : ℕ) → not (has_bit (bit_or a b) col) ≡ false → (has_bit a col ≡ true) ⊎ (has_bit b col ≡ true)
+in_either a b col some = either_of (has_bit a col) (has_bit b col) (sym (ap not (has_bit-or a b col)) ∙ some)
+  where
+    either_of : (x y : Bool) → not (x || y) ≡ false → (x ≡ true) ⊎ (y ≡ true)
+    either_of true y h = inl refl
+    either_of false true h = inr refl
+    either_of false false h = absurd (true≢false h)
+
+-- with no row set no point is
+pub none_in_front : (n m : ℕ) (words : List ℕ) (p : Point) → words ≡ replicate m 0 → is_set (take n words) p ≡ false
+none_in_front n m words p is = ap (λ ws. is_set (take n ws) p) is ∙ ap (λ w. has_bit w p.col) (zeros n m p.row) ∙ has_bit-zero p.col
+  where
+    zeros : (n m r : ℕ) → ◌≡◌ {A = ℕ} (get_or (take n (replicate m 0)) r 0) 0
+    zeros zero m r = refl
+    zeros (suc n) zero r = refl
+    zeros (suc n) (suc m) zero = refl
+    zeros (suc n) (suc m) (suc r) = zeros n m r
+
+-- what stands beside a point of a row is in the rows above and below it, or beside it in the row
+pub IsInOrBeside-adjacent : (rows : List ℕ) (row : ℕ) (p q : Point) → p.row ≡ row → AreAdjacent p q → is_set rows q ≡ true → IsInOrBeside (row_above rows row) (slice_index rows row) (slice_index rows (row + 1)) p.col
+IsInOrBeside-adjacent rows row p q same adjacent is =
+    elim adjacent [
+      | inl (cols, inl next) ↦
+          inr (inl (ap (λ r. has_bit (get_or rows r 0) p.col) (ap (λ n. n + 1) (sym same) ∙ next) ∙ ap (has_bit (get_or rows q.row 0)) cols ∙ is))
+      | inl (cols, inr next) ↦ inl (above_at rows row p.col q (next ∙ same) (sym cols) is)
+      | inr (line, differ) ↦
+          inr (inr (q.col, differ, ap (λ r. has_bit (get_or rows r 0) q.col) (sym same ∙ line) ∙ is))
+    ]
+
+above_from : (rows : List ℕ) (row col : ℕ) → has_bit (row_above rows row) col ≡ true → (q : Point) × AreAdjacent (record { col = col; row = row }) q × (is_set rows q ≡ true)
+above_from rows zero col is = absurd (false≢true (sym (has_bit-zero col) ∙ is))
+above_from rows (suc r) col is = (record { col = col; row = r }, inl (refl, inr (omega arith)), is)
+
+-- and the other way round
+pub adjacent-from : (rows : List ℕ) (row col : ℕ) → IsInOrBeside (row_above rows row) (slice_index rows row) (slice_index rows (row + 1)) col → (q : Point) × AreAdjacent (record { col = col; row = row }) q × (is_set rows q ≡ true)
+adjacent-from rows row col (inl up) = above_from rows row col up
+adjacent-from rows row col (inr (inl down)) = (record { col = col; row = row + 1 }, inl (refl, inl refl), down)
+adjacent-from rows row col (inr (inr (d, differ, there))) = (record { col = d; row = row }, inr (refl, differ), there)
+
+-- adjacent points are in one row, or in rows that differ by one
+adjacent_rows : (p q : Point) → AreAdjacent p q → (p.row ≡ q.row) ⊎ DifferByOne p.row q.row
+adjacent_rows p q (inl (cols, differ)) = inr differ
+adjacent_rows p q (inr (line, differ)) = inl line
+
+-- a row is filled: the points of it beside the group are of the group where there is room, and a stone is on each
+pub record IsRowShut (own others : List ℕ) (besides : Point) (group : List ℕ) (row : ℕ) : Type 0 where
+  pub closed : IsRowClosed (is_set own) (is_set group) row
+  pub filled : (p q : Point) → p.row ≡ row → IsOn (length own) p → AreAdjacent p q → IsTrue (is_set group q) → IsFilled own others besides p
+
+-- a group that is filled, but for some rows
+pub record IsSpread (own others : List ℕ) (besides from : Point) (group : List ℕ) (waiting : ℕ) : Type 0 where
+  pub all : length group ≡ length own
+  pub within : IsAmong (is_set group) (is_set own)
+  pub start : IsTrue (is_set group from)
+  pub linked : (p : Point) → IsTrue (is_set group p) → IsLinked (is_set own) from p
+  pub rows_in : (row : ℕ) → IsTrue (has_bit waiting row) → row < length own
+  pub shut : (row : ℕ) → row < length own → has_bit waiting row ≡ false → IsRowShut own others besides group row
+
+module _ (own others : List ℕ) (besides from : Point) where
+  shut_still : (group next : List ℕ) (row : ℕ) → IsAmong (is_set group) (is_set next) → ((p q : Point) → p.row ≡ row → AreAdjacent p q → is_set next q ≡ true → is_set group q ≡ true) → IsRowShut own others besides group row → IsRowShut own others besides next row
+  shut_still group next row kept back was = record {
+    closed = λ p q same adjacent there is. kept p (was.closed p q same adjacent there (back p q same adjacent is));
+    filled = λ p q same on adjacent is. was.filled p q same on adjacent (back p q same adjacent is);
+  }
+
+  -- at first the group is one row
+  module _ (old first grown : List ℕ) (word : ℕ) (none : (p : Point) → is_set old p ≡ false) (within_row : from.row < length old) (there : has_bit word from.col ≡ true) (alone : (k : ℕ) → k ≢ from.col → has_bit word k ≡ false) (first_is : first ≡ set old from.row word) where
+    in_first : (p : Point) → is_set first p ≡ true → p ≡ from
+    in_first p is =
+        elim (cases_eq p.row from.row) [
+          | inl row ↦
+              elim (cases_eq p.col from.col) [
+                | inl col ↦ ap (λ a. record { col = a; row = p.row }) col ∙ ap (λ b. record { col = from.col; row = b }) row
+                | inr other ↦
+                    absurd (false≢true
+                    (sym (ap (λ rows. is_set rows p) first_is ∙ ap (λ r. has_bit (get_or (set old from.row word) r 0) p.col) row
+                    ∙ ap (λ w. has_bit w p.col) (get_or-set_same old from.row word 0 within_row) ∙ alone p.col other) ∙ is))
+              ]
+          | inr other ↦
+              absurd (false≢true
+              (sym (ap (λ rows. is_set rows p) first_is ∙ ap (λ w. has_bit w p.col) (get_or-set_other old from.row p.row word 0 other) ∙ none p) ∙ is))
+        ]
+
+    from_in_first : is_set first from ≡ true
+    from_in_first = ap (λ rows. is_set rows from) first_is ∙ ap (λ w. has_bit w from.col) (get_or-set_same old from.row word 0 within_row) ∙ there
+
+    pub first_within : is_set own from ≡ true → IsAmong (is_set first) (is_set own)
+    first_within stone = λ p is. ap (is_set own) (in_first p is) ∙ stone
+
+    pub IsBegun-grown : is_set own from ≡ true → Grows (is_set own) (is_set first) (is_set grown) → ((k : ℕ) → k ≢ from.row → slice_index grown k ≡ slice_index first k) → IsRowClosed (is_set own) (is_set grown) from.row → IsBegun own from grown
+    IsBegun-grown stone grows others_same closed = record {
+      within = grows.within;
+      start = grows.kept from from_in_first;
+      linked = λ p is set shut has. grows.least set shut (λ q there_q. ap set (in_first q there_q) ∙ has) p is;
+      one_row = λ p is.
+          elim (cases_eq p.row from.row) [
+            | inl same ↦ same
+            | inr other ↦ ap (λ (x : Point). x.row) (in_first p (ap (λ w. has_bit w p.col) (sym (others_same p.row other)) ∙ is))
+          ];
+      closed = closed;
+    }
+
+  pub IsSpread-begun : (group : List ℕ) (waiting : ℕ) → IsBegun own from group → length group ≡ length own → ((p q : Point) → p.row ≡ from.row → IsOn (length own) p → AreAdjacent p q → is_set group q ≡ true → IsFilled own others besides p) → ((r : ℕ) → has_bit waiting r ≡ true → r < length own) → ((r : ℕ) → DifferByOne r from.row → r < length own → has_bit waiting r ≡ true) → IsSpread own others besides from group waiting
+  IsSpread-begun group waiting begun all filled rows_in beside = record {
+    all = all;
+    within = begun.within;
+    start = begun.start;
+    linked = begun.linked;
+    rows_in = rows_in;
+    shut = λ row below not_waiting.
+        elim (cases_eq row from.row) [
+          | inl same ↦
+              subst (λ r. IsRowShut own others besides group r) (sym same) (record { closed = begun.closed; filled = filled })
+          | inr other ↦
+              record {
+                closed = λ p q same adjacent room is. absurd (nothing row below not_waiting other p q same adjacent is);
+                filled = λ p q same on adjacent is. absurd (nothing row below not_waiting other p q same adjacent is);
+              }
+        ];
+  }
+    where
+      nothing : (row : ℕ) → row < length own → has_bit waiting row ≡ false → row ≢ from.row → (p q : Point) → p.row ≡ row → AreAdjacent p q → is_set group q ≡ true → ⊥
+      nothing row below not_waiting other p q same adjacent is =
+          elim (adjacent_rows p q adjacent) [
+            | inl line ↦ other (sym same ∙ line ∙ begun.one_row q is)
+            | inr differ ↦
+                false≢true
+                (sym not_waiting
+                ∙ beside row (subst (λ r. DifferByOne r from.row) same (subst (λ r. DifferByOne p.row r) (begun.one_row q is) differ)) below)
+          ]
+
+  -- one row is grown
+  module _ (group next : List ℕ) (row waiting left after : ℕ) (was : IsSpread own others besides from group waiting) (grows : Grows (is_set own) (is_set group) (is_set next)) (others_same : (k : ℕ) → k ≢ row → slice_index next k ≡ slice_index group k) (gone : (k : ℕ) → k ≢ row → has_bit left k ≡ has_bit waiting k) (not_there : has_bit left row ≡ false) where
+    pub linked_still : (p : Point) → is_set next p ≡ true → IsLinked (is_set own) from p
+    linked_still p is = λ set closed has. grows.least set closed (λ q there. was.linked q there set closed has) p is
+
+    left_in : (k : ℕ) → has_bit left k ≡ true → k < length own
+    left_in k is =
+        elim (cases_eq k row) [
+          | inl same ↦ absurd (false≢true (sym not_there ∙ ap (has_bit left) (sym same) ∙ is))
+          | inr other ↦ was.rows_in k (sym (gone k other) ∙ is)
+        ]
+
+    module _ (long : length next ≡ length group) (here : IsRowShut own others besides next row) (kept_waiting : (k : ℕ) → has_bit left k ≡ true → has_bit after k ≡ true) (from_left : (k : ℕ) → has_bit after k ≡ true → (has_bit left k ≡ true) ⊎ (k < length own)) (either : (slice_index next row ≡ slice_index group row) ⊎ ((k : ℕ) → DifferByOne k row → k < length own → has_bit after k ≡ true)) where
+      pub IsSpread-next : IsSpread own others besides from next after
+      IsSpread-next = record {
+        all = long ∙ was.all;
+        within = grows.within;
+        start = grows.kept from was.start;
+        linked = linked_still;
+        rows_in = λ k is. elim (from_left k is) [ inl old ↦ left_in k old | inr new ↦ new ];
+        shut = λ k below not_waiting.
+            elim (cases_eq k row) [
+              | inl same ↦ subst (λ r. IsRowShut own others besides next r) (sym same) here
+              | inr other ↦ shut_still group next k grows.kept (back k below not_waiting other) (was.shut k below (sym (gone k other) ∙ none_left k not_waiting))
+            ];
+      }
+        where
+          none_left : (k : ℕ) → has_bit after k ≡ false → has_bit left k ≡ false
+          none_left k none =
+              elim (cases_Bool (has_bit left k)) [ inl is ↦ absurd (false≢true (sym none ∙ kept_waiting k is)) | inr not_so ↦ not_so ]
+
+          back : (k : ℕ) → k < length own → has_bit after k ≡ false → k ≢ row → (p q : Point) → p.row ≡ k → AreAdjacent p q → is_set next q ≡ true → is_set group q ≡ true
+          back k below not_waiting other p q same adjacent is =
+              elim (cases_eq q.row row) [
+                | inr apart ↦ ap (λ w. has_bit w q.col) (sym (others_same q.row apart)) ∙ is
+                | inl line ↦
+                    elim either [
+                      | inl unchanged ↦
+                          ap (λ r. has_bit (slice_index group r) q.col) line ∙ ap (λ w. has_bit w q.col) (sym unchanged)
+                          ∙ ap (λ r. has_bit (slice_index next r) q.col) (sym line) ∙ is
+                      | inr beside ↦
+                          elim (adjacent_rows p q adjacent) [
+                            | inl level ↦ absurd (other (sym same ∙ level ∙ line))
+                            | inr differ ↦
+                                absurd (false≢true
+                                (sym not_waiting
+                                ∙ beside k (subst (λ r. DifferByOne r row) same (subst (λ r. DifferByOne p.row r) line differ)) below))
+                          ]
+                    ]
+              ]
+
+  -- where no row is left, the group is shut in
+  pub IsShutIn-all : (group : List ℕ) (waiting : ℕ) → IsSpread own others besides from group waiting → waiting ≡ 0 → IsShutIn own others besides from group
+  IsShutIn-all group waiting spread none = record {
+    within = spread.within;
+    start = spread.start;
+    closed = λ p q adjacent there is. (each p.row (row_below own p there)).closed p q refl adjacent there is;
+    filled = λ p q on adjacent is. (each p.row on.1).filled p q refl on adjacent is;
+  }
+    where
+      each : (row : ℕ) → row < length own → IsRowShut own others besides group row
+      each row below = spread.shut row below (ap (λ w. has_bit w row) none ∙ has_bit-zero row)
+
+  -- a point beside the group that is in neither set is a liberty
+  pub IsLiberty-beside : (group : List ℕ) (p q : Point) → IsAmong (is_set group) (is_set own) → ((x : Point) → is_set group x ≡ true → IsLinked (is_set own) from x) → IsOn (length own) p → AreAdjacent p q → is_set group q ≡ true → is_set own p ≡ false → is_set others p ≡ false → p ≢ besides → IsLiberty own others besides from p
+  IsLiberty-beside group p q within linked on adjacent is not_own not_other another = record {
+    stone = q;
+    on_grid = on;
+    adjacent = adjacent;
+    own_stone = within q is;
+    linked = linked q is;
+    not_own = not_own;
+    not_other = not_other;
+    another = another;
+  }

@@ -1,0 +1,121 @@
+-- proofs/StoneGroupLemmas.antt
+-- What the rows of a stone's group tell of a grid: the stone reaches empty, or its group has no liberty.
+use Rattle.std.proofs.Common.{◌≡◌, ◌≢◌, inl, inr, ℕ, ◌&&◌, ◌||◌, Bool, true, false, not, IsTrue, List, [], ◌∷◌, length, refl, sym, ap, ◌∙◌, subst}
+use Rattle.std.proofs.lemmas.Bool.{and_parts, and_from, false≢true, true≢false}
+use Rattle.go_board.specs.declared.stones.Cell.{Cell}
+use Rattle.go_board.specs.declared.stones.Cell.TheVariants.{Black as BlackStone, White as WhiteStone, Empty}
+use Rattle.go_board.specs.declared.stones.Colour.{Colour}
+use Rattle.go_board.specs.declared.stones.Colour.TheVariants.{Black, White}
+use Rattle.go_board.specs.declared.points.Point.{Point}
+use Rattle.go_board.specs.Colour.{opponent, stone_of, same_cell}
+use Rattle.go_board.specs.Point.{IsOn, AreAdjacent}
+use Rattle.go_board.specs.Grid.{Grid, cell_at}
+use Rattle.go_board.specs.Reaching.{Reaches, reaches}
+use Rattle.go_board.specs.inner.Groups.{IsDead, LosesDead}
+use Rattle.go_board.specs.inner.Sweep.{IsWithout}
+use Rattle.go_board.specs.inner.Rows.{is_set, IsClosed}
+use Rattle.go_board.specs.inner.Regions.{AreRowsOf}
+use Rattle.go_board.specs.inner.Linked.{IsLiberty, IsShutIn, IsSameBut}
+use Rattle.go_board.proofs.PointLemmas.{same_or_not}
+use Rattle.go_board.proofs.GridLemmas.{same_grid, Decides-same_cell}
+use Rattle.go_board.proofs.NeighbourLemmas.{AreAdjacent-sym}
+use Rattle.go_board.proofs.GroupLemmas.{stone_of≢Empty, LosesDead-group}
+use Rattle.go_board.proofs.ReachingLemmas.{Decides-reaches, path_by_step}
+
+not_true : (x y : Bool) → x ≡ true → (not x || y) ≡ true → y ≡ true
+not_true true y is h = h
+not_true false y is h = absurd (false≢true is)
+
+implies : (x y : Bool) → (x ≡ true → y ≡ true) → (not x || y) ≡ true
+implies true y h = h refl
+implies false y h = refl
+
+neither : (k : Colour) (c : Cell) → same_cell c (stone_of k) ≡ false → same_cell c (stone_of (opponent k)) ≡ false → c ≡ Empty
+neither k Empty own other = refl
+neither Black BlackStone own other = absurd (false≢true (sym own))
+neither Black WhiteStone own other = absurd (false≢true (sym other))
+neither White BlackStone own other = absurd (false≢true (sym other))
+neither White WhiteStone own other = absurd (false≢true (sym own))
+
+module _ (g : Grid) (k : Colour) (own others : List ℕ) (besides from : Point) (all : length own ≡ g.side) (is_own : AreRowsOf g.side (λ p. same_cell (cell_at g p) (stone_of k)) own) (is_other : AreRowsOf g.side (λ p. same_cell (cell_at g p) (stone_of (opponent k))) others) where
+  own_stone : (p : Point) → is_set own p ≡ true → cell_at g p ≡ stone_of k
+  own_stone p is = (Decides-same_cell _ _).0 (sym (is_own.on p (is_own.off p is)) ∙ is)
+
+  other_stone : (p : Point) → is_set others p ≡ true → cell_at g p ≡ stone_of (opponent k)
+  other_stone p is = (Decides-same_cell _ _).0 (sym (is_other.on p (is_other.off p is)) ∙ is)
+
+  own_set : (p : Point) → IsOn g.side p → cell_at g p ≡ stone_of k → is_set own p ≡ true
+  own_set p on stone = is_own.on p on ∙ (Decides-same_cell _ _).1 stone
+
+  -- a group beside which each point has a stone is dead
+  pub IsDead-shut : (group : List ℕ) → cell_at g besides ≢ Empty → IsShutIn own others besides from group → IsDead g k (λ p. is_set group p)
+  IsDead-shut group stone shut = record {
+    stones = λ p on is. own_stone p (shut.within p is);
+    shut = λ p q on at adjacent is free.
+        elim (shut.filled q p (subst (λ n. IsOn n q) (sym all) at) (AreAdjacent-sym p q adjacent) is) [
+          | inl own_q ↦ stone_of≢Empty k (sym (own_stone q own_q) ∙ free)
+          | inr (inl other_q) ↦ stone_of≢Empty (opponent k) (sym (other_stone q other_q) ∙ free)
+          | inr (inr same) ↦ stone (ap (cell_at g) (sym same) ∙ free)
+        ];
+    whole = λ p q on at adjacent is stone_q. shut.closed q p (AreAdjacent-sym p q adjacent) (own_set q at stone_q) is;
+  }
+
+  pub on_grid-shut : (group : List ℕ) → IsShutIn own others besides from group → (p : Point) → is_set group p ≡ true → IsOn g.side p
+  on_grid-shut group shut p is = is_own.off p (shut.within p is)
+
+  -- a liberty is one after a stone was put on another point
+  module _ (h : Grid) (same : IsSameBut g h k besides) where
+    still_own : (p : Point) → is_set own p ≡ true → cell_at h p ≡ stone_of k
+    still_own p is =
+        elim (same_or_not p besides) [
+          | inl here ↦ ap (cell_at h) here ∙ same.own (ap (cell_at g) (sym here) ∙ own_stone p is)
+          | inr other ↦ same.elsewhere p (is_own.off p is) other ∙ own_stone p is
+        ]
+
+    on_h : (p : Point) → IsOn g.side p → IsOn h.side p
+    on_h p on = subst (λ n. IsOn n p) (sym same.same_side) on
+
+    -- the own stones that reach empty only if the one on the point does
+    carries : Point → Bool
+    carries p = is_set own p && (not (reaches h Empty p) || reaches h Empty from)
+
+    carries-closed : IsClosed (is_set own) carries
+    unfolding carries
+    carries-closed p q adjacent there is =
+        let both = and_parts _ _ is in
+        let on_p = on_h p (is_own.off p there) in
+        let on_q = on_h q (is_own.off q both.0) in
+        and_from _ _ there
+        (implies _ _
+        (λ way.
+        not_true _ _
+        ((Decides-reaches h Empty q on_q).1
+        (path_by_step h Empty q p on_q (AreAdjacent-sym p q adjacent) on_p (inl (still_own p there ∙ sym (still_own q both.0)))
+        ((Decides-reaches h Empty p on_p).0 way)))
+        both.1))
+
+    pub Reaches-liberty : IsOn g.side from → cell_at g from ≡ stone_of k → (p : Point) → IsLiberty own others besides from p → Reaches h Empty from
+    unfolding carries
+    Reaches-liberty on_from cell p free =
+        let stone : is_set own from ≡ true = own_set from on_from cell in
+        let q = free.stone in
+        let on_p = subst (λ n. IsOn n p) all free.on_grid in
+        let on_q = is_own.off q free.own_stone in
+        let empty : cell_at g p ≡ Empty = neither k (cell_at g p) (sym (is_own.on p on_p) ∙ free.not_own) (sym (is_other.on p on_p) ∙ free.not_other) in
+        let way : Reaches h Empty q = path_by_step h Empty q p (on_h q on_q) (AreAdjacent-sym p q free.adjacent) (on_h p on_p) (inr (same.elsewhere p on_p free.another ∙ empty)) ([], (on_h p on_p, same.elsewhere p on_p free.another ∙ empty)) in
+        let both = and_parts _ _ (free.linked carries carries-closed (and_from _ _ stone (implies (reaches h Empty from) (reaches h Empty from) (λ is. is)))) in
+        (Decides-reaches h Empty from (on_h from (is_own.off from stone))).0
+        (not_true _ _ ((Decides-reaches h Empty q (on_h q on_q)).1 way) both.1)
+
+-- the rows of a colour, by another word
+pub rows_of_colour : (g : Grid) (k d : Colour) (rows : List ℕ) → d ≡ k → AreRowsOf g.side (λ p. same_cell (cell_at g p) (stone_of k)) rows → AreRowsOf g.side (λ p. same_cell (cell_at g p) (stone_of d)) rows
+rows_of_colour g k d rows is are = subst (λ c. AreRowsOf g.side (λ p. same_cell (cell_at g p) (stone_of c)) rows) (sym is) are
+
+-- a dead group is taken off by emptying its points
+pub LosesDead-without : (g h : Grid) (k : Colour) (rows : List ℕ) → IsDead g k (λ p. is_set rows p) → IsWithout g h (λ p. IsTrue (is_set rows p)) → LosesDead g h k
+LosesDead-without g h k rows dead is =
+    let same : record g { cells = h.cells } ≡ h = same_grid (record g { cells = h.cells }) h (sym is.same_side) refl in
+    subst (λ x. LosesDead g x k) same
+    (LosesDead-group g k (λ p. is_set rows p) dead h.cells is.all
+    (λ p on at. ap (λ x. cell_at x p) same ∙ is.emptied p on at)
+    (λ p on other. ap (λ x. cell_at x p) same ∙ is.kept p on (λ gone. true≢false (sym gone ∙ other))))
