@@ -1,16 +1,16 @@
 -- proofs/LinkedLemmas.antt
 -- Filling the group of a stone row by row.
-use Rattle.std.proofs.Common.{◌≡◌, ◌≢◌, ◌⊎◌, inl, inr, ℕ, zero, suc, ◌+◌, ◌-◌, ◌*◌, ◌/◌, ◌%◌, ◌^◌, ◌<◌, ◌≤◌, ◌||◌, Bool, true, false, not, nat_eq, w64, IsTrue, IsFalse, List, length, get_or, set, take, replicate, bit_and, bit_or, slice_index, refl, sym, ap, ◌∙◌, arith, subst}
+use Rattle.std.proofs.Common.{◌≡◌, ◌≢◌, ◌⊎◌, inl, inr, ℕ, zero, suc, ◌+◌, ◌*◌, ◌/◌, ◌%◌, ◌^◌, ◌<◌, ◌||◌, Bool, true, false, not, nat_eq, w64, IsTrue, List, length, get_or, set, take, replicate, bit_and, bit_or, slice_index, refl, sym, ap, ◌∙◌, arith, subst}
 use Rattle.std.proofs.lemmas.Bool.{or_cases, and_parts, and_from, false≢true, true≢false, cases_eq, cases_Bool}
 use Rattle.std.proofs.lemmas.Bool.Decides.{Decides-not, Decides-eqb}
 use Rattle.std.specs.Int.{trailing_zeros}
-use Rattle.std.proofs.lemmas.List.{length-set, get_or-set_same, get_or-set_other}
+use Rattle.std.proofs.lemmas.List.{get_or-set_same, get_or-set_other}
 use Rattle.go_board.specs.declared.points.Point.{Point}
 use Rattle.go_board.specs.Point.{IsOn, AreAdjacent, DifferByOne}
-use Rattle.go_board.specs.inner.Rows.{has_bit, is_set, row_above, IsAmong, IsClosed, IsRowClosed, Grows, lacking}
+use Rattle.go_board.specs.inner.Rows.{has_bit, is_set, row_above, IsAmong, IsRowClosed, Grows}
 use Rattle.go_board.specs.inner.Linked.{IsInOrBeside, IsLinked, IsFilled, IsLiberty, IsBegun, IsShutIn}
-use Rattle.go_board.proofs.WordLemmas.{has_bit-or, has_bit-and, has_bit-left, from_left, has_bit-right, has_bit-zero, column_below}
-use Rattle.go_board.proofs.GrowLemmas.{row_below, above_at}
+use Rattle.go_board.proofs.WordLemmas.{has_bit-or, has_bit-and, has_bit-left, from_left, has_bit-right, has_bit-zero}
+use Rattle.go_board.proofs.GrowLemmas.{row_below}
 use Rattle.go_board.proofs.SweepLemmas.{lowest_left}
 
 pub or_true : (x : Bool) → (x || true) ≡ true
@@ -105,22 +105,11 @@ none_in_front n m words p is = ap (λ ws. is_set (take n ws) p) is ∙ ap (λ w.
     zeros (suc n) (suc m) zero = refl
     zeros (suc n) (suc m) (suc r) = zeros n m r
 
--- what stands beside a point of a row is in the rows above and below it, or beside it in the row
-pub IsInOrBeside-adjacent : (rows : List ℕ) (row : ℕ) (p q : Point) → p.row ≡ row → AreAdjacent p q → is_set rows q ≡ true → IsInOrBeside (row_above rows row) (slice_index rows row) (slice_index rows (row + 1)) p.col
-IsInOrBeside-adjacent rows row p q same adjacent is =
-    elim adjacent [
-      | inl (cols, inl next) ↦
-          inr (inl (ap (λ r. has_bit (get_or rows r 0) p.col) (ap (λ n. n + 1) (sym same) ∙ next) ∙ ap (has_bit (get_or rows q.row 0)) cols ∙ is))
-      | inl (cols, inr next) ↦ inl (above_at rows row p.col q (next ∙ same) (sym cols) is)
-      | inr (line, differ) ↦
-          inr (inr (q.col, differ, ap (λ r. has_bit (get_or rows r 0) q.col) (sym same ∙ line) ∙ is))
-    ]
-
 above_from : (rows : List ℕ) (row col : ℕ) → has_bit (row_above rows row) col ≡ true → (q : Point) × AreAdjacent (record { col = col; row = row }) q × (is_set rows q ≡ true)
 above_from rows zero col is = absurd (false≢true (sym (has_bit-zero col) ∙ is))
 above_from rows (suc r) col is = (record { col = col; row = r }, inl (refl, inr (omega arith)), is)
 
--- and the other way round
+-- a column of a row, in the rows above and below it or beside it in the row, has a set point beside it
 pub adjacent-from : (rows : List ℕ) (row col : ℕ) → IsInOrBeside (row_above rows row) (slice_index rows row) (slice_index rows (row + 1)) col → (q : Point) × AreAdjacent (record { col = col; row = row }) q × (is_set rows q ≡ true)
 adjacent-from rows row col (inl up) = above_from rows row col up
 adjacent-from rows row col (inr (inl down)) = (record { col = col; row = row + 1 }, inl (refl, inl refl), down)

@@ -2,7 +2,7 @@
 -- Ranges of two lists that are the same.
 use Rattle.std.proofs.Common.{◌≡◌, ℕ, ◌+◌, ◌-◌, ◌<◌, ◌≤◌, List, [], ◌∷◌, ◌++◌, length, get_or, take, drop, slice_range, sym, ap, ◌∙◌, arith, rules, length-take}
 use Rattle.std.proofs.Math.Seq.{take-append_seam, get_or-append_seam}
-use Rattle.std.proofs.lemmas.List.{places, take_all, take-append-drop, take-take, drop-drop, drop_more, drop-append-le}
+use Rattle.std.proofs.lemmas.List.{places, take-append-drop, take-take, drop-drop, drop_more, drop-append-le}
 use Rattle.std.proofs.lemmas.Slice.{between_is}
 
 module _ {X : Type 0} (xs : List X) where

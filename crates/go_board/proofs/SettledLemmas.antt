@@ -1,6 +1,6 @@
 -- proofs/SettledLemmas.antt
 -- Grids on which stones reach empty: clearing them changes nothing, and after a move all do.
-use Rattle.std.proofs.Common.{◌≡◌, ◌≢◌, ◌⊎◌, inl, inr, ◌*◌, false, List, [], ◌∷◌, length, refl, sym, ap, ◌∙◌, ℕ}
+use Rattle.std.proofs.Common.{◌≡◌, ◌≢◌, ◌⊎◌, inl, inr, ◌*◌, false, List, [], ◌∷◌, length, refl, sym, ◌∙◌, ℕ}
 use Rattle.std.proofs.lemmas.Bool.{cases_Bool, true≢false}
 use Rattle.std.proofs.lemmas.Bool.Decides.{not_from_Decides}
 use Rattle.go_board.specs.declared.stones.Cell.{Cell}
@@ -13,10 +13,10 @@ use Rattle.go_board.specs.Point.{IsOn, index_of}
 use Rattle.go_board.specs.Grid.{Grid, cell_at, with_cell, empty_grid}
 use Rattle.go_board.specs.Reaching.{Leads, Reaches, reaches}
 use Rattle.go_board.specs.Clearing.{cleared_cell, clear, play, has_unreaching}
-use Rattle.go_board.specs.inner.Groups.{AllReach, LosesDead}
+use Rattle.go_board.specs.inner.Groups.{AllReach}
 use Rattle.go_board.proofs.GridLemmas.{get_or-replicate_default}
 use Rattle.go_board.proofs.ReachingLemmas.{Decides-reaches}
-use Rattle.go_board.proofs.RuleLemmas.{side-clear, length-clear, cell_at-clear, emptied, kept, others_kept, Decides-has_unreaching}
+use Rattle.go_board.proofs.RuleLemmas.{side-clear, cell_at-clear, emptied, kept, others_kept, Decides-has_unreaching}
 use Rattle.go_board.proofs.GroupLemmas.{coloured_or_not, stone_of≢Empty, Reaches-Leads, grid_of-cells}
 
 -- a point reaches a colour or not
@@ -135,21 +135,3 @@ settled-empty_grid side =
 pub side_play : (g : Grid) (k : Colour) (p : Point) → (play g k p).side ≡ g.side
 unfolding play
 side_play g k p = side-clear _ k ∙ side-clear _ (opponent k)
-
--- a grid whose colour is cleared has lost groups without a liberty
-pub LosesDead-clear : (g : Grid) (k : Colour) → length g.cells ≡ g.side * g.side → LosesDead g (clear g k) k
-LosesDead-clear g k all = record {
-  same_side = side-clear g k;
-  all = length-clear g k ∙ sym all;
-  taken = λ p on.
-      elim (coloured_or_not (cell_at g p) (stone_of k)) [
-        | inl own ↦
-            elim (reaches_or_not g Empty p on) [
-              | inl way ↦ inl (cell_at-clear g k p on ∙ kept g k p on way)
-              | inr shut ↦ inr (cell_at-clear g k p on ∙ emptied g k p on own shut, own)
-            ]
-        | inr other ↦ inl (cell_at-clear g k p on ∙ others_kept g k p other)
-      ];
-  still = λ p on way. reaches_after_clear g k p way;
-  cleared = clear-AllReach (clear g k) k (length-clear g k ∙ ap (λ n. n * n) (sym (side-clear g k))) (AllReach-clear g k);
-}

@@ -1,6 +1,6 @@
 -- proofs/SweepLemmas.antt
 -- Grids with points emptied, one after another.
-use Rattle.std.proofs.Common.{◌≡◌, ◌≢◌, ◌⊎◌, ℕ, ◌+◌, ◌*◌, ◌^◌, ◌<◌, ◌≤◌, ◌==◌, Bool, cond, w64, true, false, List, length, slice_index, refl, sym, ap, subst, ◌∙◌, arith, inl, inr, IsTrue}
+use Rattle.std.proofs.Common.{◌≡◌, ◌≢◌, ◌⊎◌, ℕ, ◌+◌, ◌*◌, ◌^◌, ◌<◌, ◌==◌, Bool, cond, w64, true, false, List, length, slice_index, refl, sym, ap, subst, ◌∙◌, arith, inl, inr, IsTrue}
 use Rattle.std.specs.Int.{trailing_zeros}
 use Rattle.std.proofs.lemmas.List.{length-set}
 use Rattle.std.proofs.lemmas.Nat.Bits.{bit_at-trailing_zeros}
@@ -18,8 +18,7 @@ use Rattle.go_board.specs.inner.Sweep.{IsWithout}
 use Rattle.go_board.proofs.PointLemmas.{same_or_not}
 use Rattle.go_board.proofs.GridLemmas.{cell_at-with_cell_elsewhere}
 use Rattle.go_board.proofs.GroupLemmas.{grid_of-cells}
-use Rattle.go_board.proofs.GrowLemmas.{row_below}
-use Rattle.go_board.proofs.WordLemmas.{has_bit-zero, le_from_part}
+use Rattle.go_board.proofs.WordLemmas.{le_from_part}
 use Rattle.go_board.proofs.EmptiedLemmas.{cell_at-emptied}
 
 -- one point more is emptied

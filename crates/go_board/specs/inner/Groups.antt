@@ -1,12 +1,12 @@
 -- specs/inner/Groups.antt
 -- Groups without liberties, and grids on which every stone reaches empty.
-use Rattle.std.specs.Prelude.{◌≡◌, ◌≢◌, ◌⊎◌, Bool, false, ◌||◌, ◌&&◌, not, IsTrue, Option, Some, None, List, [], ◌∷◌, length}
+use Rattle.std.specs.Prelude.{◌≡◌, ◌≢◌, ◌⊎◌, Bool, false, ◌||◌, ◌&&◌, not, IsTrue, Option, Some, None, length}
 use Rattle.go_board.specs.declared.stones.Cell.TheVariants.{Empty}
 use Rattle.go_board.specs.declared.stones.Colour.{Colour}
 use Rattle.go_board.specs.declared.points.Point.{Point}
 use Rattle.go_board.specs.Colour.{opponent, stone_of, same_cell}
 use Rattle.go_board.specs.Point.{IsOn, AreAdjacent}
-use Rattle.go_board.specs.Grid.{Grid, cell_at, with_cell}
+use Rattle.go_board.specs.Grid.{Grid, cell_at}
 use Rattle.go_board.specs.Reaching.{Reaches, reaches}
 use Rattle.go_board.specs.Clearing.{clear}
 use Rattle.go_board.specs.inner.Neighbour.{left_of, right_of, above, below}
@@ -37,11 +37,6 @@ is_free g (Some q) = same_cell (cell_at g q) Empty
 unfoldable pub has_liberty : Grid → Point → Bool
 has_liberty g p =
     (is_free g (left_of p) || is_free g (right_of g.side p)) || (is_free g (above p) || is_free g (below g.side p))
-
--- the grid with the points of a list emptied
-unfoldable pub emptied : Grid → List Point → Grid
-emptied g [] = g
-emptied g (p ∷ ps) = emptied (with_cell g p Empty) ps
 
 -- a stone of the colour on p reaches empty
 abbrev pub ReachesIfStone : Grid → Colour → Point → Type 0

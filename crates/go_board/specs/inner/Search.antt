@@ -1,6 +1,6 @@
 -- specs/inner/Search.antt
 -- A search over the points of a grid: the points found so far, each marked, and how many of them were taken.
-use Rattle.std.specs.Prelude.{◌≡◌, ◌⊎◌, ℕ, ◌+◌, ◌*◌, ◌≤◌, true, List, [], ◌∷◌, ◌++◌, All, Contains, IsTrue, if◌then◌else◌, replicate, length, slice_set, false}
+use Rattle.std.specs.Prelude.{◌≡◌, ◌⊎◌, ℕ, ◌+◌, ◌*◌, ◌≤◌, true, List, [], ◌∷◌, ◌++◌, All, IsTrue, if◌then◌else◌, replicate, length, slice_set, false}
 use Rattle.go_board.specs.declared.points.Point.{Point}
 use Rattle.go_board.specs.Point.{IsOn, index_of}
 use Rattle.go_board.specs.Marking.{Marking, is_marked, marked_count}
@@ -40,7 +40,3 @@ pub record IsSound (s : Searched) : Type 0 where
 -- a search with so much room can find so many points more; with room for all points of the grid, always
 abbrev pub HasRoom : ℕ → ℕ → Searched → Type 0
 HasRoom room more s = (s.marking.side * s.marking.side ≤ room) ⊎ (length s.found + more ≤ room)
-
--- each marked point is one of those found
-abbrev pub AllListed : Searched → Type 0
-AllListed s = (p : Point) → IsOn s.marking.side p → IsTrue (is_marked s.marking p) → Contains s.found p

@@ -46,15 +46,6 @@ impl<const N: usize> Search<N> {
         }
     }
 
-    /// Whether there is room for so many points more. There always is where N is no less than the number of the board's
-    /// points.
-    pub fn has_room(&self, more: usize) -> bool
-        ensures room { IsTrue result ↔ HasRoom N more self.now }
-        ensures greatest { MAX_POINTS ≤ N → IsTrue result }
-    {
-        self.marks.size().points() <= N || more <= N - self.filled
-    }
-
     /// Adds a point, unless it was found before.
     pub fn offer(&mut self, point: Point)
         requires on_board { IsOn self.old.marking.side point }
@@ -84,15 +75,6 @@ impl<const N: usize> Search<N> {
         let point = self.points[self.taken];
         self.taken += 1;
         Some(point)
-    }
-
-    /// The points found, in the order they were found.
-    pub fn found(&self) -> &[Point]
-        ensures points { result.now ≡ self.now.found }
-        ensures on_grid { All (IsOn self.now.marking.side) result.now }
-        ensures marked { All (λ p. IsTrue (is_marked self.now.marking p)) result.now }
-    {
-        &self.points[..self.filled]
     }
 
     /// The points found, as a set.

@@ -3,7 +3,6 @@ use Rattle.std.proofs.Common.{◌≡◌, ◌+◌, get_or, set, sym, ap, ◌∙�
 use Rattle.std.proofs.lemmas.List.{get_or-set_same, set-get_or}
 use Rattle.std.proofs.lemmas.Bool.{and_parts}
 use Rattle.go_board.specs.inner.Rows.{has_bit, row_above}
-use Rattle.go_board.specs.declared.points.Point.{Point}
 use Rattle.go_board.proofs.WordLemmas.{has_bit-and, le_from_part}
 use Rattle.go_board.proofs.GrowLemmas.{Grows-row, IsRowClosed-row, lacking-more}
 use Rattle.go_board.proofs.board.fill.grow_row.Goals as goal

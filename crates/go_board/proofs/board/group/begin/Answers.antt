@@ -1,5 +1,5 @@
 -- proofs/board/group/begin/Answers.antt
-use Rattle.std.proofs.Common.{◌≡◌, ◌≢◌, true, set, sym, ap, ◌∙◌}
+use Rattle.std.proofs.Common.{◌≡◌, true, set, sym, ap, ◌∙◌}
 use Rattle.go_board.specs.inner.Rows.{has_bit}
 use Rattle.go_board.proofs.WordLemmas.{has_bit-zero}
 use Rattle.go_board.proofs.LinkedLemmas.{or_true, IsBegun-grown}

@@ -1,10 +1,9 @@
 -- proofs/board/group/has_liberty/Answers.antt
-use Rattle.std.proofs.Common.{◌≡◌, ◌≢◌, ◌⊎◌, inl, inr, ℕ, ◌<◌, true, false, w64, length, slice_index, get_or, set, refl, sym, ap, ◌∙◌, subst, arith, rules}
+use Rattle.std.proofs.Common.{◌≡◌, inl, inr, w64, length, refl, sym, ap, ◌∙◌, subst, arith, rules}
 use Rattle.std.specs.Int.{trailing_zeros}
 use Rattle.std.proofs.lemmas.Bool.{false≢true}
 use Rattle.go_board.specs.Point.{IsOn, DifferByOne}
-use Rattle.go_board.specs.inner.Rows.{has_bit, is_set, lacking}
-use Rattle.go_board.specs.inner.Linked.{IsLinked, IsLiberty}
+use Rattle.go_board.specs.inner.Rows.{lacking}
 use Rattle.go_board.proofs.WordLemmas.{has_bit-zero}
 use Rattle.go_board.proofs.SweepLemmas.{lowest_left, next_smaller}
 use Rattle.go_board.proofs.LinkedLemmas.{IsSpread-begun, linked_still, IsSpread-next, IsShutIn-all, IsLiberty-beside}
