@@ -9,7 +9,7 @@ use Rattle.go_board.specs.declared.stones.Colour.TheVariants.{Black, White}
 use Rattle.go_board.specs.declared.points.Point.{Point}
 use Rattle.go_board.specs.Colour.{opponent, stone_of, same_cell}
 use Rattle.go_board.specs.Point.{IsOn}
-use Rattle.go_board.specs.Grid.{Grid, cell_at}
+use Rattle.go_board.specs.Grid.{Grid, cell_at, with_cell}
 use Rattle.go_board.specs.Reaching.{Reaches, reaches}
 use Rattle.go_board.specs.inner.Groups.{IsDead, LosesDead}
 use Rattle.go_board.specs.inner.Sweep.{IsWithout}
@@ -17,7 +17,7 @@ use Rattle.go_board.specs.inner.Rows.{is_set, IsClosed}
 use Rattle.go_board.specs.inner.Regions.{AreRowsOf}
 use Rattle.go_board.specs.inner.Linked.{IsLiberty, IsShutIn, IsSameBut}
 use Rattle.go_board.proofs.PointLemmas.{same_or_not}
-use Rattle.go_board.proofs.GridLemmas.{same_grid, Decides-same_cell}
+use Rattle.go_board.proofs.GridLemmas.{same_grid, Decides-same_cell, cell_at-with_cell_elsewhere}
 use Rattle.go_board.proofs.NeighbourLemmas.{AreAdjacent-sym}
 use Rattle.go_board.proofs.GroupLemmas.{stone_of≢Empty, LosesDead-group}
 use Rattle.go_board.proofs.ReachingLemmas.{Decides-reaches, path_by_step}
@@ -119,3 +119,11 @@ LosesDead-without g h k rows dead is =
     (LosesDead-group g k (λ p. is_set rows p) dead h.cells is.all
     (λ p on at. ap (λ x. cell_at x p) same ∙ is.emptied p on at)
     (λ p on other. ap (λ x. cell_at x p) same ∙ is.kept p on (λ gone. true≢false (sym gone ∙ other))))
+
+-- a stone on an empty point changes no other
+pub IsSameBut-stone : (g : Grid) (k d : Colour) (p : Point) → IsOn g.side p → cell_at g p ≡ Empty → IsSameBut g (with_cell g p (stone_of k)) d p
+IsSameBut-stone g k d p on empty = record {
+  same_side = refl;
+  elsewhere = λ q at other. cell_at-with_cell_elsewhere g p q (stone_of k) on at other;
+  own = λ stone. absurd (stone_of≢Empty d (sym stone ∙ empty));
+}

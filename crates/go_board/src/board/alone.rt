@@ -7,10 +7,12 @@ ghost use Rattle.go_board.specs.declared.stones.Colour.{Colour};
 ghost use Rattle.go_board.specs.Colour.{opponent, stone_of};
 ghost use Rattle.go_board.specs.Point.{IsOn};
 ghost use Rattle.go_board.specs.Grid.{cell_at, with_cell};
+ghost use Rattle.go_board.specs.Reaching.{Reaches};
 ghost use Rattle.go_board.specs.Clearing.{play};
 ghost use Rattle.go_board.specs.inner.Groups.{is_free, has_liberty, ReachesIfStone, LivesAt, AllLive};
 
 use crate::board::Board;
+use crate::board::regions::no_rows;
 use crate::points::Point;
 use crate::stones::{Cell, Colour};
 
@@ -52,7 +54,11 @@ impl Board {
         match at {
             Some(point) => {
                 let opponent = player.opponent();
-                self.at(point) != opponent.stone() || self.lives(opponent, point, stone)
+                if self.at(point) == opponent.stone() {
+                    self.group_lives(opponent, point, stone)
+                } else {
+                    true
+                }
             }
             None => true,
         }
@@ -74,7 +80,8 @@ impl Board {
             || self.one_neighbour_lives(colour, from.above(), from.below(size), stone)
     }
 
-    /// Whether one of two neighbours of a point is there with a stone of that colour that has a liberty besides a point.
+    /// Whether one of two neighbours of a point is there with a stone of that colour whose group has a liberty besides a
+    /// point.
     fn one_neighbour_lives(
         &self,
         colour: Colour,
@@ -92,7 +99,7 @@ impl Board {
         self.neighbour_lives(colour, one, besides) || self.neighbour_lives(colour, other, besides)
     }
 
-    /// Whether there is a point with a stone of that colour that has a liberty besides a point.
+    /// Whether there is a point with a stone of that colour whose group has a liberty besides a point.
     fn neighbour_lives(&self, colour: Colour, at: Option<Point>, besides: Point) -> bool
         requires at { ForSome at (IsOn self.now.side) }
         requires besides { IsOn self.now.side besides }
@@ -101,10 +108,26 @@ impl Board {
     {
         match at {
             Some(point) => {
-                self.at(point) == colour.stone() && self.has_other_liberty(point, besides)
+                self.at(point) == colour.stone() && self.group_lives(colour, point, besides)
             }
             None => false,
         }
+    }
+
+    /// Whether the group of a stone has a liberty besides an empty point.
+    fn group_lives(&self, colour: Colour, from: Point, besides: Point) -> bool
+        requires on_board { IsOn self.now.side from }
+        requires stone { cell_at self.now from ≡ stone_of colour }
+        requires besides { IsOn self.now.side besides }
+        requires empty { cell_at self.now besides ≡ Empty }
+        ensures { (k : Colour) → IsTrue result → Reaches (with_cell self.now besides (stone_of k)) Empty from }
+    {
+        if self.has_other_liberty(from, besides) {
+            return true;
+        }
+        let mut words = no_rows();
+        let group = &mut words[..usize::from(self.size.side())];
+        self.group_has_liberty(colour, from, besides, group)
     }
 
     /// Whether a point has an empty neighbour besides one.

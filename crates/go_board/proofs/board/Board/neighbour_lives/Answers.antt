@@ -4,7 +4,6 @@ use Rattle.go_board.specs.Colour.{stone_of}
 use Rattle.go_board.specs.Grid.{cell_at, with_cell}
 use Rattle.go_board.specs.inner.Groups.{LivesAt}
 use Rattle.go_board.proofs.GridLemmas.{Decides-cell_eq}
-use Rattle.go_board.proofs.CaptureLemmas.{reaches_liberty}
 use Rattle.go_board.proofs.AloneLemmas.{stone_stays}
 use Rattle.go_board.proofs.board.Board.neighbour_lives.Goals as goal
 
@@ -18,5 +17,5 @@ returns-then-eq c =
     let stone : cell_at g q ≡ stone_of c.args.colour = sym c.at.ensures ∙ (Decides-cell_eq _ _).0 (sym c.if-eq.ensures) ∙ c.stone.ensures in
     subst (LivesAt h c.args.colour) (sym c.in-Some.is) (
       stone_stays g c.args.besides k c.requires.besides q c.args.colour c.requires.empty on stone,
-      reaches_liberty h q on (sym (c.has_other_liberty.ensures k) ∙ some),
+      c.group_lives.ensures k some,
     )
