@@ -23,7 +23,7 @@ use crate::board::regions::{count_apart, no_rows};
 use crate::board::stone_rows::StoneRows;
 use crate::past::print::{print_of, print_with};
 use crate::points::Point;
-use crate::size::{MAX_POINTS, MAX_SIDE, Size};
+use crate::size::{MAX_POINTS, MAX_ROWS, MAX_SIDE, Size, USUAL_ROWS};
 use crate::stones::{Cell, Colour};
 use std::marker::Model;
 
@@ -273,10 +273,32 @@ impl Board {
         if self.settled {
             return;
         }
-        let mut shut_words = no_rows();
+        if self.is_usual() {
+            self.clear_by::<USUAL_ROWS>(colour);
+        } else {
+            self.clear_by::<MAX_ROWS>(colour);
+        }
+    }
+
+    /// The same, where every stone reaches empty or not. `N` rows are enough for the board.
+    fn clear_by<const N: usize>(&mut self, colour: Colour)
+        requires enough { self.old.side ≤ N }
+        requires at_most { N ≤ MAX_ROWS }
+        ensures value { self.new ≡ clear self.old colour }
+        ensures side { self.new.side ≡ self.old.side }
+    {
+        let mut shut_words = no_rows::<N>();
         let shut = &mut shut_words[..usize::from(self.size.side())];
-        self.shut_stones(colour, shut);
+        self.shut_stones::<N>(colour, shut);
         self.empty_set(shut);
+    }
+
+    /// Whether the board is no greater than the usual ones.
+    fn is_usual(&self) -> bool
+        ensures usual { IsTrue result → self.now.side ≤ USUAL_ROWS }
+        ensures at_most { self.now.side ≤ MAX_ROWS }
+    {
+        usize::from(self.size.side()) <= USUAL_ROWS
     }
 
     /// The whole move: the point takes the player's colour, then the opponent's colour is cleared, then the player's
@@ -329,11 +351,25 @@ impl Board {
         ensures black { result.0 ≡ score_of self.now Black }
         ensures white { result.1 ≡ score_of self.now White }
     {
+        if self.is_usual() {
+            self.score_by::<USUAL_ROWS>()
+        } else {
+            self.score_by::<MAX_ROWS>()
+        }
+    }
+
+    /// The same. `N` rows are enough for the board.
+    fn score_by<const N: usize>(&self) -> (u32, u32)
+        requires enough { self.now.side ≤ N }
+        requires at_most { N ≤ MAX_ROWS }
+        ensures black { result.0 ≡ score_of self.now Black }
+        ensures white { result.1 ≡ score_of self.now White }
+    {
         let side = usize::from(self.size.side());
-        let (mut black_rows, mut white_rows) = (no_rows(), no_rows());
+        let (mut black_rows, mut white_rows) = (no_rows::<N>(), no_rows::<N>());
         let black = &mut black_rows[..side];
         let white = &mut white_rows[..side];
-        self.areas(black, white);
+        self.areas::<N>(black, white);
         (count_apart(black, white), count_apart(white, black))
     }
 
@@ -344,13 +380,26 @@ impl Board {
         if self.settled {
             return false;
         }
-        let (mut black_rows, mut white_rows) = (no_rows(), no_rows());
+        if self.is_usual() {
+            self.has_unreaching_by::<USUAL_ROWS>()
+        } else {
+            self.has_unreaching_by::<MAX_ROWS>()
+        }
+    }
+
+    /// The same, where it isn't known. `N` rows are enough for the board.
+    fn has_unreaching_by<const N: usize>(&self) -> bool
+        requires enough { self.now.side ≤ N }
+        requires at_most { N ≤ MAX_ROWS }
+        ensures { result ≡ has_unreaching self.now }
+    {
+        let (mut black_rows, mut white_rows) = (no_rows::<N>(), no_rows::<N>());
         let side = usize::from(self.size.side());
         let black = &mut black_rows[..side];
         let white = &mut white_rows[..side];
         self.stones(black, white);
-        let black_reach = self.all_reach(Colour::Black, black, white);
-        let white_reach = self.all_reach(Colour::White, white, black);
+        let black_reach = self.all_reach::<N>(Colour::Black, black, white);
+        let white_reach = self.all_reach::<N>(Colour::White, white, black);
         !(black_reach & white_reach)
     }
 }

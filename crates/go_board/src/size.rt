@@ -16,6 +16,9 @@ pub(crate) const MAX_ROWS: usize = MAX_SIDE as usize;
 /// The number of points of the greatest board.
 pub const MAX_POINTS: usize = 2704;
 
+/// The number of rows of a board of side 19.
+pub(crate) const USUAL_ROWS: usize = 19;
+
 /// The number of points of a board of side 9.
 pub(crate) const SMALL_POINTS: usize = 81;
 

@@ -79,11 +79,12 @@ fn other_points(rows: &[u64], others: &mut [u64])
     }
 }
 
-/// The rows of the greatest board, with no bit set.
-pub(crate) fn no_rows() -> [u64; MAX_ROWS]
-    ensures { result ≡ replicate MAX_ROWS 0 }
+/// So many rows, with no bit set.
+pub(crate) fn no_rows<const N: usize>() -> [u64; N]
+    requires { N ≤ MAX_ROWS }
+    ensures { result ≡ replicate N 0 }
 {
-    [0; MAX_ROWS]
+    [0; N]
 }
 
 /// How many points are set in the one and not in the other.
@@ -125,7 +126,10 @@ fn is_none(rows: &[u64]) -> bool
 
 impl Board {
     /// The black points with the empty ones that reach black, and the white points with the empty ones that reach white.
-    pub(crate) fn areas(&self, black: &mut [u64], white: &mut [u64])
+    /// `N` rows are enough for the board, here and below: few are made ready for a small one.
+    pub(crate) fn areas<const N: usize>(&self, black: &mut [u64], white: &mut [u64])
+        requires enough { self.now.side ≤ N }
+        requires at_most { N ≤ MAX_ROWS }
         requires black { length black.old ≡ self.now.side }
         requires white { length white.old ≡ self.now.side }
         ensures black { AreRowsOf self.now.side (reaches_through_own self.now Empty Black) black.new }
@@ -133,7 +137,7 @@ impl Board {
         ensures black_rows { length black.new ≡ self.now.side }
         ensures white_rows { length white.new ≡ self.now.side }
     {
-        let (mut black_words, mut white_words) = (no_rows(), no_rows());
+        let (mut black_words, mut white_words) = (no_rows::<N>(), no_rows::<N>());
         let size = self.size();
         let side = usize::from(size.side());
         let black_room = &mut black_words[..side];
@@ -162,7 +166,14 @@ impl Board {
     }
 
     /// Whether all stones of a colour reach empty, from the points of that colour and those of the other.
-    pub(crate) fn all_reach(&self, colour: Colour, rows: &[u64], others: &[u64]) -> bool
+    pub(crate) fn all_reach<const N: usize>(
+        &self,
+        colour: Colour,
+        rows: &[u64],
+        others: &[u64],
+    ) -> bool
+        requires enough { self.now.side ≤ N }
+        requires at_most { N ≤ MAX_ROWS }
         requires own { AreRowsOf self.now.side (λ p. same_cell (cell_at self.now p) (stone_of colour)) rows.now }
         requires other { AreRowsOf self.now.side
             (λ p. same_cell (cell_at self.now p) (stone_of (opponent colour))) others.now }
@@ -170,32 +181,42 @@ impl Board {
         requires other_rows { length others.now ≡ self.now.side }
         ensures { IsTrue result ↔ AllReach self.now colour }
     {
-        let mut shut_words = no_rows();
+        let mut shut_words = no_rows::<N>();
         let side = usize::from(self.size().side());
         let shut = &mut shut_words[..side];
-        self.shut_among(colour, rows, others, shut);
+        self.shut_among::<N>(colour, rows, others, shut);
         is_none(shut)
     }
 
     /// The stones of a colour that don't reach empty.
-    pub(crate) fn shut_stones(&self, colour: Colour, shut: &mut [u64])
-        requires { length shut.old ≡ self.now.side }
+    pub(crate) fn shut_stones<const N: usize>(&self, colour: Colour, shut: &mut [u64])
+        requires enough { self.now.side ≤ N }
+        requires at_most { N ≤ MAX_ROWS }
+        requires rows { length shut.old ≡ self.now.side }
         ensures shut { AreRowsOf self.now.side (is_shut self.now colour) shut.new }
         ensures rows { length shut.new ≡ self.now.side }
     {
-        let (mut black_words, mut white_words) = (no_rows(), no_rows());
+        let (mut black_words, mut white_words) = (no_rows::<N>(), no_rows::<N>());
         let side = usize::from(self.size().side());
         let black = &mut black_words[..side];
         let white = &mut white_words[..side];
         self.stones(black, white);
         match colour {
-            Colour::Black => self.shut_among(colour, black, white, shut),
-            Colour::White => self.shut_among(colour, white, black, shut),
+            Colour::Black => self.shut_among::<N>(colour, black, white, shut),
+            Colour::White => self.shut_among::<N>(colour, white, black, shut),
         }
     }
 
     /// The stones of a colour that don't reach empty, from the points of that colour and those of the other.
-    fn shut_among(&self, colour: Colour, rows: &[u64], others: &[u64], shut: &mut [u64])
+    fn shut_among<const N: usize>(
+        &self,
+        colour: Colour,
+        rows: &[u64],
+        others: &[u64],
+        shut: &mut [u64],
+    )
+        requires enough { self.now.side ≤ N }
+        requires at_most { N ≤ MAX_ROWS }
         requires own { AreRowsOf self.now.side (λ p. same_cell (cell_at self.now p) (stone_of colour)) rows.now }
         requires other { AreRowsOf self.now.side
             (λ p. same_cell (cell_at self.now p) (stone_of (opponent colour))) others.now }
@@ -206,7 +227,7 @@ impl Board {
         ensures rows { length shut.new ≡ self.now.side }
     {
         let _ = colour;
-        let (mut room_words, mut reached_words) = (no_rows(), no_rows());
+        let (mut room_words, mut reached_words) = (no_rows::<N>(), no_rows::<N>());
         let side = usize::from(self.size().side());
         let room = &mut room_words[..side];
         let reached = &mut reached_words[..side];

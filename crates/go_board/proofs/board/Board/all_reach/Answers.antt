@@ -3,7 +3,7 @@ use Rattle.go_board.proofs.LibertyLemmas.{reach_where_none_shut, none_shut}
 use Rattle.go_board.proofs.board.Board.all_reach.Goals as goal
 
 pub returns : goal.returns
-returns c =
+returns n c =
     let g = c.args.self.now in
     let shut = c.shut_among.new.shut in (
       λ is. reach_where_none_shut g c.args.colour shut c.shut_among.ensures.shut (c.is_none.ensures.0 is),

@@ -4,7 +4,7 @@ use Rattle.go_board.proofs.RegionLemmas.{not_white, not_black, seed_is, room_is,
 use Rattle.go_board.proofs.board.Board.areas.Goals as goal
 
 pub returns-clause-black : goal.returns-clause-black
-returns-clause-black c =
+returns-clause-black n c =
     let g = c.args.self.now in
     let rows = c.stones.new.black in
     let others = c.stones.new.white in
@@ -16,7 +16,7 @@ returns-clause-black c =
     c.fill.ensures.grows c.fill.ensures.closed
 
 pub returns-clause-white : goal.returns-clause-white
-returns-clause-white c =
+returns-clause-white n c =
     let g = c.args.self.now in
     let rows = c.stones.new.white in
     let others = c.stones.new.black in

@@ -4,7 +4,7 @@ use Rattle.go_board.proofs.LibertyLemmas.{shut_left}
 use Rattle.go_board.proofs.board.Board.shut_among.Goals as goal
 
 pub returns-clause-shut : goal.returns-clause-shut
-returns-clause-shut c =
+returns-clause-shut n c =
     let g = c.args.self.now in
     let room = c.other_points.new.others in
     let small : g.side ≤ 52 = omega (arith, c.size.ensures, c.side.ensures.value, c.side.ensures.at_most) in
