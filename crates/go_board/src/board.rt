@@ -175,7 +175,7 @@ impl Board {
         self.settled = other.settled;
         self.print = other.print;
         self.printed = other.printed;
-        self.rows = other.rows;
+        self.rows.copy_from(&other.rows, self.size);
     }
 
     /// Whether it is known that every stone reaches empty: true only where each does.

@@ -44,6 +44,16 @@ impl StoneRows {
         self.known = true;
     }
 
+    /// Those of another board of that size, in place of what they were.
+    pub(crate) fn copy_from(&mut self, other: &StoneRows, size: Size)
+        ensures { (g h : Grid) → AreKept g self.old → AreKept h other.now → h.side ≡ size → AreKept h self.new }
+    {
+        let side = usize::from(size.side());
+        self.black[..side].copy_from_slice(&other.black[..side]);
+        self.white[..side].copy_from_slice(&other.white[..side]);
+        self.known = other.known;
+    }
+
     /// Those of a colouring.
     pub(crate) fn of(cells: &[Cell], size: Size) -> StoneRows
         requires { length cells.now ≡ size * size }

@@ -3,7 +3,6 @@ use Rattle.std.proofs.Common.{sym, ap, ◌∙◌, arith}
 use Rattle.go_board.specs.Clearing.{has_unreaching}
 use Rattle.go_board.proofs.FrontLemmas.{length-grid_in}
 use Rattle.go_board.proofs.SettledLemmas.{clear-settled}
-use Rattle.go_board.proofs.SweepLemmas.{without_shut}
 use Rattle.go_board.proofs.board.Board.clear.Goals as goal
 
 -- where every stone reaches empty, nothing is to be cleared

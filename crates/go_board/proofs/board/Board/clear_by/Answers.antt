@@ -1,8 +1,6 @@
 -- proofs/board/Board/clear/Answers.antt
-use Rattle.std.proofs.Common.{sym, ap, ◌∙◌, arith}
-use Rattle.go_board.specs.Clearing.{has_unreaching}
+use Rattle.std.proofs.Common.{arith}
 use Rattle.go_board.proofs.FrontLemmas.{length-grid_in}
-use Rattle.go_board.proofs.SettledLemmas.{clear-settled}
 use Rattle.go_board.proofs.SweepLemmas.{without_shut}
 use Rattle.go_board.proofs.board.Board.clear_by.Goals as goal
 
