@@ -59,7 +59,7 @@ impl Board {
         if self.has_liberty(from) {
             return;
         }
-        let mut words = no_rows();
+        let mut words = no_rows::<MAX_ROWS>();
         let group = &mut words[..usize::from(self.size.side())];
         if !self.group_has_liberty(colour, from, from, group) {
             self.empty_set(group);
@@ -91,7 +91,7 @@ impl Board {
             let white = &self.rows.white[..side];
             return self.rows_have_liberty(colour, black, white, from, besides, group);
         }
-        let (mut black_words, mut white_words) = (no_rows(), no_rows());
+        let (mut black_words, mut white_words) = (no_rows::<MAX_ROWS>(), no_rows::<MAX_ROWS>());
         let black = &mut black_words[..side];
         let white = &mut white_words[..side];
         self.stones(black, white);
