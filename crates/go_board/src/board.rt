@@ -294,7 +294,7 @@ impl Board {
     }
 
     /// Whether the board is no greater than the usual ones.
-    fn is_usual(&self) -> bool
+    pub(crate) fn is_usual(&self) -> bool
         ensures usual { IsTrue result → self.now.side ≤ USUAL_ROWS }
         ensures at_most { self.now.side ≤ MAX_ROWS }
     {

@@ -1,6 +1,6 @@
 //! Stones that capture nothing: mostly a look at the points around one tells that it does not.
 
-ghost use Rattle.std.specs.Prelude.{◌≡◌, ◌||◌, ◌⊎◌, IsTrue};
+ghost use Rattle.std.specs.Prelude.{◌≡◌, ◌≤◌, ◌||◌, ◌⊎◌, IsTrue};
 ghost use Rattle.std.specs.Option.{ForSome};
 ghost use Rattle.go_board.specs.declared.stones.Cell.TheVariants.{Empty};
 ghost use Rattle.go_board.specs.declared.stones.Colour.{Colour};
@@ -14,6 +14,7 @@ ghost use Rattle.go_board.specs.inner.Groups.{is_free, has_liberty, ReachesIfSto
 use crate::board::Board;
 use crate::board::regions::no_rows;
 use crate::points::Point;
+use crate::size::{MAX_ROWS, USUAL_ROWS};
 use crate::stones::{Cell, Colour};
 
 impl Board {
@@ -125,7 +126,29 @@ impl Board {
         if self.has_other_liberty(from, besides) {
             return true;
         }
-        let mut words = no_rows();
+        if self.is_usual() {
+            self.searched_group_lives::<USUAL_ROWS>(colour, from, besides)
+        } else {
+            self.searched_group_lives::<MAX_ROWS>(colour, from, besides)
+        }
+    }
+
+    /// The same, by a search of the group. `N` rows are enough for the board.
+    fn searched_group_lives<const N: usize>(
+        &self,
+        colour: Colour,
+        from: Point,
+        besides: Point,
+    ) -> bool
+        requires enough { self.now.side ≤ N }
+        requires at_most { N ≤ MAX_ROWS }
+        requires on_board { IsOn self.now.side from }
+        requires stone { cell_at self.now from ≡ stone_of colour }
+        requires besides { IsOn self.now.side besides }
+        requires empty { cell_at self.now besides ≡ Empty }
+        ensures { (k : Colour) → IsTrue result → Reaches (with_cell self.now besides (stone_of k)) Empty from }
+    {
+        let mut words = no_rows::<N>();
         let group = &mut words[..usize::from(self.size.side())];
         self.group_has_liberty(colour, from, besides, group)
     }

@@ -1,6 +1,6 @@
 //! Taking groups without a liberty off a board, one at a time.
 
-ghost use Rattle.std.specs.Prelude.{◌≡◌, ◌≢◌, ◌||◌, false, length, IsFalse, IsTrue};
+ghost use Rattle.std.specs.Prelude.{◌≡◌, ◌≤◌, ◌≢◌, ◌||◌, false, length, IsFalse, IsTrue};
 ghost use Rattle.std.specs.Option.{ForSome};
 ghost use Rattle.go_board.specs.declared.points.Point.{Point};
 ghost use Rattle.go_board.specs.declared.stones.Cell.TheVariants.{Black, White, Empty};
@@ -17,7 +17,7 @@ use crate::board::Board;
 use crate::board::group::has_liberty;
 use crate::board::regions::no_rows;
 use crate::points::Point;
-use crate::size::MAX_ROWS;
+use crate::size::{MAX_ROWS, USUAL_ROWS};
 use crate::stones::{Cell, Colour};
 
 impl Board {
@@ -59,7 +59,23 @@ impl Board {
         if self.has_liberty(from) {
             return;
         }
-        let mut words = no_rows::<MAX_ROWS>();
+        if self.is_usual() {
+            self.capture_group::<USUAL_ROWS>(colour, from);
+        } else {
+            self.capture_group::<MAX_ROWS>(colour, from);
+        }
+    }
+
+    /// The same, by a search of the group. `N` rows are enough for the board.
+    fn capture_group<const N: usize>(&mut self, colour: Colour, from: Point)
+        requires enough { self.old.side ≤ N }
+        requires at_most { N ≤ MAX_ROWS }
+        requires on_board { IsOn self.old.side from }
+        requires stone { cell_at self.old from ≡ stone_of colour }
+        ensures taken { LosesDead self.old self.new colour }
+        ensures settled { ReachesIfStone self.new colour from }
+    {
+        let mut words = no_rows::<N>();
         let group = &mut words[..usize::from(self.size.side())];
         if !self.group_has_liberty(colour, from, from, group) {
             self.empty_set(group);
