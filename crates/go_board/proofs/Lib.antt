@@ -37,3 +37,4 @@ pub mod ColouringsLemmas
 pub mod TableLemmas
 pub mod StoneRowsLemmas
 pub mod AloneLemmas
+pub mod GlanceLemmas

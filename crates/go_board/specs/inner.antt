@@ -4,6 +4,7 @@ pub mod Rows
 pub mod Linked
 pub mod Regions
 pub mod StoneRows
+pub mod Glance
 pub mod Search
 pub mod Flood
 pub mod Groups

@@ -5,6 +5,7 @@ mod areas;
 mod capture;
 mod fill;
 mod flood;
+mod glance;
 mod group;
 #[cfg(test)]
 mod move_tests;

@@ -1,4 +1,7 @@
-//! Stones that capture nothing: mostly a look at the points around one tells that it does not.
+//! Stones that capture nothing: mostly a glance at the points around one tells that it does not.
+
+#[cfg(test)]
+mod tests;
 
 ghost use Rattle.std.specs.Prelude.{◌≡◌, ◌≤◌, ◌||◌, ◌⊎◌, IsTrue};
 ghost use Rattle.std.specs.Option.{ForSome};
@@ -12,6 +15,7 @@ ghost use Rattle.go_board.specs.Clearing.{play};
 ghost use Rattle.go_board.specs.inner.Groups.{is_free, has_liberty, ReachesIfStone, LivesAt, AllLive};
 
 use crate::board::Board;
+use crate::board::glance::leaves_all_alive;
 use crate::board::regions::no_rows;
 use crate::points::Point;
 use crate::size::{MAX_ROWS, USUAL_ROWS};
@@ -31,6 +35,33 @@ impl Board {
 
     /// Whether a look around an empty point tells that a stone there leaves each group beside it a liberty, and has one.
     fn all_live(&self, colour: Colour, point: Point) -> bool
+        requires on_board { IsOn self.now.side point }
+        requires empty { cell_at self.now point ≡ Empty }
+        ensures { IsTrue result → AllLive (with_cell self.now point (stone_of colour)) colour point }
+    {
+        self.all_live_at_a_glance(colour, point) || self.all_live_by_points(colour, point)
+    }
+
+    /// The same, by a glance at the rows of the stones.
+    fn all_live_at_a_glance(&self, colour: Colour, point: Point) -> bool
+        requires { IsOn self.now.side point }
+        ensures { IsTrue result → AllLive (with_cell self.now point (stone_of colour)) colour point }
+    {
+        if !self.rows.known {
+            return false;
+        }
+        let side = usize::from(self.size.side());
+        let black = &self.rows.black[..side];
+        let white = &self.rows.white[..side];
+        match colour {
+            Colour::Black => leaves_all_alive(black, white, point),
+            Colour::White => leaves_all_alive(white, black, point),
+        }
+    }
+
+    /// The same, point by point, with a search of the groups.
+    #[inline(never)]
+    fn all_live_by_points(&self, colour: Colour, point: Point) -> bool
         requires on_board { IsOn self.now.side point }
         requires empty { cell_at self.now point ≡ Empty }
         ensures { IsTrue result → AllLive (with_cell self.now point (stone_of colour)) colour point }

@@ -1,0 +1,237 @@
+-- proofs/GlanceLemmas.antt
+-- What the words of bits around a point tell of a stone on it.
+use Rattle.std.proofs.Common.{◌≡◌, ◌≢◌, ◌⊎◌, inl, inr, ℕ, suc, ◌+◌, ◌*◌, ◌/◌, ◌%◌, ◌^◌, ◌<◌, true, false, not, List, [], length, get_or, bit_and, bit_or, w64, refl, sym, ap, ◌∙◌, arith, subst}
+use Rattle.std.specs.Int.{bit_not}
+use Rattle.std.proofs.lemmas.Bool.{or_cases, or_left, or_right, or_parts, and_parts, and_from, not-true, not_from_false, false≢true, true≢false, cases_Bool, cases_eq}
+use Rattle.go_board.specs.declared.stones.Cell.{Cell}
+use Rattle.go_board.specs.declared.stones.Cell.TheVariants.{Black as BlackStone, White as WhiteStone, Empty}
+use Rattle.go_board.specs.declared.stones.Colour.{Colour}
+use Rattle.go_board.specs.declared.stones.Colour.TheVariants.{Black, White}
+use Rattle.go_board.specs.declared.points.Point.{Point}
+use Rattle.go_board.specs.declared.board.glance.Row.{Row}
+use Rattle.go_board.specs.Colour.{opponent, stone_of, same_cell}
+use Rattle.go_board.specs.Point.{IsOn, DifferByOne, AreAdjacent}
+use Rattle.go_board.specs.Grid.{Grid, cell_at, with_cell}
+use Rattle.go_board.specs.Reaching.{Reaches}
+use Rattle.go_board.specs.inner.Glance.{IsIn, IsRowAt, IsOpen}
+use Rattle.go_board.specs.inner.Groups.{ReachesIfStone}
+use Rattle.go_board.specs.inner.Regions.{AreRowsOf}
+use Rattle.go_board.specs.inner.Rows.{has_bit, is_set}
+use Rattle.go_board.proofs.GridLemmas.{Decides-same_cell, cell_at-with_cell_elsewhere}
+use Rattle.go_board.proofs.ReachingLemmas.{path_by_step}
+use Rattle.go_board.proofs.SweepLemmas.{lowest_left}
+use Rattle.go_board.proofs.WordLemmas.{has_bit-or, has_bit-and, has_bit-without, has_bit-zero, has_bit-left, has_bit-right, from_left, column_below}
+
+-- the columns beside those of a word
+pub beside_from : (w c : ℕ) → has_bit (bit_or (w * 2 ^ 1 % 2 ^ 64) (w / 2 ^ 1)) c ≡ true → (d : ℕ) × DifferByOne c d × (has_bit w d ≡ true)
+beside_from w c is =
+    elim (or_cases _ _ (sym (has_bit-or (w * 2 ^ 1 % 2 ^ 64) (w / 2 ^ 1) c) ∙ is)) [
+      | inl left ↦ (let from = from_left w c left in (from.0, inr from.1, from.2))
+      | inr right ↦ (suc c, inl (omega arith), sym (has_bit-right w c) ∙ right)
+    ]
+
+pub beside_to : (w c d : ℕ) → c < 64 → DifferByOne c d → has_bit w d ≡ true → has_bit (bit_or (w * 2 ^ 1 % 2 ^ 64) (w / 2 ^ 1)) c ≡ true
+beside_to w c d low (inl right) is =
+    has_bit-or (w * 2 ^ 1 % 2 ^ 64) (w / 2 ^ 1) c ∙ or_right _ _ (has_bit-right w c ∙ ap (has_bit w) (omega arith) ∙ is)
+beside_to w c d low (inr left) is =
+    has_bit-or (w * 2 ^ 1 % 2 ^ 64) (w / 2 ^ 1) c
+    ∙ or_left _ _ (ap (has_bit (w * 2 ^ 1 % 2 ^ 64)) (sym left) ∙ has_bit-left w d (omega arith) ∙ is)
+
+-- the columns of a word that are in another one, or in two more
+pub either_from : (columns one other with c : ℕ) → has_bit (bit_and columns (bit_or one (bit_and other with))) c ≡ true
+    → (has_bit columns c ≡ true) × ((has_bit one c ≡ true) ⊎ ((has_bit other c ≡ true) × (has_bit with c ≡ true)))
+either_from columns one other with c is =
+    let both = and_parts _ _ (sym (has_bit-and columns _ c) ∙ is) in (
+      both.0,
+      elim (or_cases _ _ (sym (has_bit-or one _ c) ∙ both.1)) [
+        | inl first ↦ inl first
+        | inr second ↦ inr (and_parts _ _ (sym (has_bit-and other with c) ∙ second))
+      ],
+    )
+
+-- a column of two words that isn't left without those of a third
+pub without_from : (one other without c : ℕ) → one < 2 ^ 64 → without < 2 ^ 64 → has_bit (bit_and (bit_and one other) (bit_not w64 without)) c ≡ false
+    → has_bit one c ≡ true → has_bit other c ≡ true → has_bit without c ≡ true
+without_from one other without c low few none first second =
+    elim (cases_Bool (has_bit without c)) [
+      | inl there ↦ there
+      | inr gone ↦
+          absurd (false≢true
+          (sym none
+          ∙ has_bit-without (bit_and one other) without c few (column_below 64 one c low first)
+          ∙ and_from _ _ (has_bit-and one other c ∙ and_from _ _ first second) (not_from_false _ gone)))
+    ]
+
+-- a word that isn't 0 has a column
+some_bit : (w : ℕ) → w < 2 ^ 64 → w ≢ 0 → (c : ℕ) × (has_bit w c ≡ true)
+some_bit w low some = (_, (lowest_left w w some low (λ c is. is)).0)
+
+pub some_of_three : (a b c : ℕ) → a < 2 ^ 64 → b < 2 ^ 64 → c < 2 ^ 64 → bit_or (bit_or a b) c ≢ 0
+    → ((col : ℕ) × (has_bit a col ≡ true)) ⊎ (((col : ℕ) × (has_bit b col ≡ true)) ⊎ ((col : ℕ) × (has_bit c col ≡ true)))
+some_of_three a b c low_a low_b low_c some =
+    elim (cases_eq a 0) [
+      | inr first ↦ inl (some_bit a low_a first)
+      | inl no_a ↦
+          elim (cases_eq b 0) [
+            | inr second ↦ inr (inl (some_bit b low_b second))
+            | inl no_b ↦
+                inr (inr (some_bit c low_c
+                (λ no_c. some (ap (λ x. bit_or (bit_or x b) c) no_a ∙ ap (λ x. bit_or (bit_or 0 x) c) no_b ∙ ap (bit_or (bit_or 0 0)) no_c))))
+          ]
+    ]
+
+pub none_of_three : (a b c col : ℕ) → bit_or (bit_or a b) c ≡ 0 → (has_bit a col ≡ false) × (has_bit b col ≡ false) × (has_bit c col ≡ false)
+none_of_three a b c col none =
+    let no : has_bit (bit_or (bit_or a b) c) col ≡ false = ap (λ w. has_bit w col) none ∙ has_bit-zero col in
+    let last = or_parts _ _ (sym (has_bit-or (bit_or a b) c col) ∙ no) in
+    let first = or_parts _ _ (sym (has_bit-or a b col) ∙ last.0) in
+    (first.0, first.1, last.1)
+
+-- a row around a row of the board
+pub row_inside : (own others : List ℕ) (middle i r free : ℕ) → r + 2 ≡ middle + i → r < length own
+    → ((col : ℕ) → col < length own → has_bit free col ≡ not (has_bit (bit_or (get_or own r 0) (get_or others r 0)) col))
+    → ((col : ℕ) → has_bit free col ≡ true → col < length own)
+    → IsRowAt own others middle i (record { own = get_or own r 0; others = get_or others r 0; free = free })
+row_inside own others middle i r free at below within off = record {
+  are_free = λ col is.
+      let low = off col is in
+      let none = not-true _ (sym (within col low) ∙ is) in
+      let parts = or_parts _ _ (sym (has_bit-or (get_or own r 0) (get_or others r 0) col) ∙ none) in
+      (record { col = col; row = r }, (refl, at), (low, below), parts.0, parts.1);
+  are_own = λ col is. (record { col = col; row = r }, (refl, at), is);
+  has_others = λ p there is. ap (λ n. has_bit (get_or others n 0) p.col) (omega (arith, there, at)) ∙ is;
+}
+
+pub row_besides : (own others : List ℕ) (middle i free : ℕ) (row : Row) → ((col : ℕ) → has_bit free col ≡ true → has_bit row.free col ≡ true)
+    → IsRowAt own others middle i row → IsRowAt own others middle i (record { own = row.own; others = row.others; free = free })
+row_besides own others middle i free row part is = record {
+  are_free = λ col there. is.are_free col (part col there);
+  are_own = is.are_own;
+  has_others = is.has_others;
+}
+
+-- a column of three words
+pub open_from : (above here below wide c : ℕ) → ((col : ℕ) → has_bit wide col ≡ true → (d : ℕ) × DifferByOne col d × (has_bit here d ≡ true))
+    → has_bit (bit_or (bit_or above below) wide) c ≡ true → IsOpen above here below c
+open_from above here below wide c from is =
+    elim (or_cases _ _ (sym (has_bit-or (bit_or above below) wide c) ∙ is)) [
+      | inl low ↦
+          elim (or_cases _ _ (sym (has_bit-or above below c) ∙ low)) [
+            | inl up ↦ inl up
+            | inr down ↦ inr (inl down)
+          ]
+      | inr along ↦ inr (inr (from c along))
+    ]
+
+-- a cell with neither stone
+neither : (k : Colour) (c : Cell) → same_cell c (stone_of k) ≡ false → same_cell c (stone_of (opponent k)) ≡ false → c ≡ Empty
+neither Black BlackStone one other = absurd (true≢false one)
+neither Black WhiteStone one other = absurd (true≢false other)
+neither White BlackStone one other = absurd (true≢false other)
+neither White WhiteStone one other = absurd (true≢false one)
+neither k Empty one other = refl
+
+-- the point beside another one is another
+apart : (p q : Point) → AreAdjacent p q → q ≢ p
+apart p q (inl (e, inl d)) same = (let row = ap (λ (x : Point). x.row) same in omega (arith, row, d))
+apart p q (inl (e, inr d)) same = (let row = ap (λ (x : Point). x.row) same in omega (arith, row, d))
+apart p q (inr (e, inl d)) same = (let col = ap (λ (x : Point). x.col) same in omega (arith, col, d))
+apart p q (inr (e, inr d)) same = (let col = ap (λ (x : Point). x.col) same in omega (arith, col, d))
+
+pub swapped : (a b : ℕ) → DifferByOne a b → DifferByOne b a
+swapped a b (inl e) = inr e
+swapped a b (inr e) = inl e
+
+-- the columns of a row that are beside a point
+abbrev pub AreBeside : Point → ℕ → ℕ → Type 0
+AreBeside p i columns = (q : Point) → q.row + 2 ≡ p.row + i → has_bit columns q.col ≡ true → AreAdjacent p q
+
+-- what a look at some columns of a row tells
+abbrev pub TellsAlive : ℕ → ℕ → Row → ℕ → ℕ → Type 0
+TellsAlive columns above row below alive =
+    (col : ℕ) → has_bit alive col ≡ true
+    → (has_bit columns col ≡ true) × ((has_bit row.free col ≡ true) ⊎ ((has_bit row.own col ≡ true) × IsOpen above row.free below col))
+
+abbrev pub TellsShut : ℕ → ℕ → Row → ℕ → ℕ → Type 0
+TellsShut columns above row below shut =
+    (col : ℕ) → has_bit shut col ≡ false → has_bit columns col ≡ true → has_bit row.others col ≡ true → IsOpen above row.free below col
+
+module _ (g : Grid) (k : Colour) (p : Point) (own others : List ℕ) (side : g.side ≡ length own) (on : IsOn g.side p)
+    (is_own : AreRowsOf g.side (λ q. same_cell (cell_at g q) (stone_of k)) own)
+    (is_others : AreRowsOf g.side (λ q. same_cell (cell_at g q) (stone_of (opponent k))) others) where
+  abbrev after : Grid
+  after = with_cell g p (stone_of k)
+
+  -- the columns of a row around the stone's are those of free points
+  abbrev pub AreFree : ℕ → ℕ → Type 0
+  AreFree i word = (col : ℕ) → has_bit word col ≡ true → (z : Point) × IsIn p.row i col z × IsOn g.side z × (cell_at (with_cell g p (stone_of k)) z ≡ Empty)
+
+  free_point : (i : ℕ) (row : Row) → IsRowAt own others p.row i row → ((z : Point) → IsIn p.row i z.col z → has_bit row.free z.col ≡ true → z ≢ p) → AreFree i row.free
+  free_point i row is other =
+      λ col set.
+      let found = is.are_free col set in
+      let z = found.0 in
+      let on_z : IsOn g.side z = (omega (arith, found.2.0, side), omega (arith, found.2.1, side)) in
+      let another : z ≢ p = other z (refl, found.1.1) (ap (has_bit row.free) found.1.0 ∙ set) in (
+        z,
+        found.1,
+        on_z,
+        cell_at-with_cell_elsewhere g p z (stone_of k) on on_z another
+            ∙ neither k (cell_at g z) (sym (is_own.on z on_z) ∙ found.3) (sym (is_others.on z on_z) ∙ found.4),
+      )
+
+  pub free_elsewhere : (i : ℕ) (row : Row) → IsRowAt own others p.row i row → i ≢ 2 → AreFree i row.free
+  free_elsewhere i row is other = free_point i row is (λ z at _ same. other (let row = ap (λ (x : Point). x.row) same in omega (arith, row, at.1)))
+
+  pub free_besides : (row : Row) → IsRowAt own others p.row 2 row → has_bit row.free p.col ≡ false → AreFree 2 row.free
+  free_besides row is none =
+      free_point 2 row is (λ z at set same. false≢true (sym none ∙ ap (λ (x : Point). has_bit row.free x.col) (sym same) ∙ set))
+
+  to_free : (q z : Point) → IsOn g.side q → AreAdjacent q z → IsOn g.side z → cell_at after z ≡ Empty → Reaches after Empty q
+  to_free q z on_q next on_z empty = path_by_step after Empty q z on_q next on_z (inr empty) ([], (on_z, empty))
+
+  module _ (i columns above : ℕ) (row : Row) (below : ℕ) (is_row : IsRowAt own others p.row (i + 1) row)
+      (free_above : AreFree i above) (free_here : AreFree (i + 1) row.free) (free_below : AreFree (i + 2) below) where
+    open_reaches : (q : Point) → q.row + 2 ≡ p.row + (i + 1) → IsOn g.side q → IsOpen above row.free below q.col → Reaches after Empty q
+    open_reaches q at on_q is_open =
+        elim is_open [
+          | inl up ↦
+              let f = free_above q.col up in
+              to_free q f.0 on_q (inl (sym f.1.0, inr (omega (arith, f.1.1, at)))) f.2 f.3
+          | inr (inl down) ↦
+              let f = free_below q.col down in
+              to_free q f.0 on_q (inl (sym f.1.0, inl (omega (arith, f.1.1, at)))) f.2 f.3
+          | inr (inr w) ↦
+              let f = free_here w.0 w.2 in
+              to_free q f.0 on_q (inr (omega (arith, f.1.1, at), subst (DifferByOne q.col) (sym f.1.0) w.1)) f.2 f.3
+        ]
+
+    -- the stone has a liberty, by itself or by a stone beside it
+    pub alive_reaches : (alive : ℕ) → AreBeside p (i + 1) columns → TellsAlive columns above row below alive → ((col : ℕ) × (has_bit alive col ≡ true)) → ReachesIfStone after k p
+    alive_reaches alive beside tells some =
+        λ stone.
+        let told = tells some.0 some.1 in
+        elim told.1 [
+          | inl free ↦
+              let f = free_here some.0 free in
+              to_free p f.0 on (beside f.0 f.1.1 (ap (has_bit columns) f.1.0 ∙ told.0)) f.2 f.3
+          | inr both ↦
+              let found = is_row.are_own some.0 both.0 in
+              let q = found.0 in
+              let on_q = is_own.off q found.2 in
+              let next : AreAdjacent p q = beside q found.1.1 (ap (has_bit columns) found.1.0 ∙ told.0) in
+              let same : cell_at after q ≡ stone_of k =
+              cell_at-with_cell_elsewhere g p q (stone_of k) on on_q (apart p q next)
+              ∙ (Decides-same_cell _ _).0 (sym (is_own.on q on_q) ∙ found.2) in
+              path_by_step after Empty p q on next on_q (inl (same ∙ sym stone))
+              (open_reaches q found.1.1 on_q (subst (IsOpen above row.free below) (sym found.1.0) both.1))
+        ]
+
+    -- a stone of the opponent beside it has a liberty of its own
+    pub left_reaches : (shut : ℕ) → TellsShut columns above row below shut → ((col : ℕ) → has_bit shut col ≡ false)
+        → (q : Point) → q.row + 2 ≡ p.row + (i + 1) → IsOn g.side q → AreAdjacent p q → has_bit columns q.col ≡ true → ReachesIfStone after (opponent k) q
+    left_reaches shut tells none q at on_q next there =
+        λ stone.
+        let before : cell_at g q ≡ stone_of (opponent k) = sym (cell_at-with_cell_elsewhere g p q (stone_of k) on on_q (apart p q next)) ∙ stone in
+        let set : is_set others q ≡ true = is_others.on q on_q ∙ (Decides-same_cell _ _).1 before in
+        open_reaches q at on_q (tells q.col (none q.col) there (is_row.has_others q at set))

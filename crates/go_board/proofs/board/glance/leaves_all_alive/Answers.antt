@@ -1,0 +1,77 @@
+-- proofs/board/glance/leaves_all_alive/Answers.antt
+use Rattle.std.proofs.Common.{◌≡◌, ℕ, inl, inr, true, refl, sym, ap, ◌∙◌, arith, subst}
+use Rattle.std.proofs.lemmas.Bool.{cases_eq, or_right, false≢true}
+use Rattle.go_board.specs.Point.{IsOn, DifferByOne}
+use Rattle.go_board.specs.inner.Glance.{IsRowAt}
+use Rattle.go_board.specs.inner.Rows.{has_bit}
+use Rattle.go_board.proofs.WordLemmas.{has_bit-zero}
+use Rattle.go_board.proofs.GlanceLemmas.{AreBeside, free_elsewhere, free_besides, alive_reaches, left_reaches, swapped}
+use Rattle.go_board.proofs.board.glance.leaves_all_alive.Goals as goal
+
+pub returns-then-some_of : goal.returns-then-some_of
+returns-then-some_of c = λ g k side is_own is_others none.
+    let p = c.args.point in
+    let own = c.args.own.now in
+    let others = c.args.others.now in
+    let on : IsOn g.side p = (omega (arith, side, c.requires.on_board), omega (arith, side, c.requires.on_board)) in
+    let at : c.from-middle.result ≡ p.row = c.from-middle.ensures in
+    let col : c.from-col.result ≡ p.col = c.from-col.ensures in
+    let first = c.row_at-first.result in
+    let above = c.row_at-above.result in
+    let here = c.besides-here.result in
+    let below = c.row_at-below.result in
+    let last = c.row_at-last.result in
+    let stone = c.with_column-stone.result in
+    let wide = c.beside.result in
+    let is_first : IsRowAt own others p.row 0 first = subst (λ m. IsRowAt own others m 0 first) at c.row_at-first.ensures in
+    let is_above : IsRowAt own others p.row 1 above = subst (λ m. IsRowAt own others m 1 above) at c.row_at-above.ensures in
+    let is_here : IsRowAt own others p.row 2 here = subst (λ m. IsRowAt own others m 2 here) at (c.besides-here.ensures.still own others c.from-middle.result 2 c.row_at.ensures) in
+    let is_below : IsRowAt own others p.row 3 below = subst (λ m. IsRowAt own others m 3 below) at c.row_at-below.ensures in
+    let is_last : IsRowAt own others p.row 4 last = subst (λ m. IsRowAt own others m 4 last) at c.row_at-last.ensures in
+    let free_first = free_elsewhere g k p own others side on is_own is_others 0 first is_first (λ e. omega (arith, e)) in
+    let free_above = free_elsewhere g k p own others side on is_own is_others 1 above is_above (λ e. omega (arith, e)) in
+    let free_here = free_besides g k p own others side on is_own is_others here is_here (ap (has_bit here.free) (sym col) ∙ c.besides-here.ensures.there) in
+    let free_below = free_elsewhere g k p own others side on is_own is_others 3 below is_below (λ e. omega (arith, e)) in
+    let free_last = free_elsewhere g k p own others side on is_own is_others 4 last is_last (λ e. omega (arith, e)) in
+    let up = c.look_at_row-up in
+    let along = c.look_at_row-along in
+    let down = c.look_at_row-down in
+    let alone = λ (n : ℕ) (is : has_bit stone n ≡ true).
+    elim (cases_eq n p.col) as (λ _. n ≡ p.col) [
+      | inl same ↦ same
+      | inr other ↦ absurd (false≢true (sym (has_bit-zero n) ∙ sym (c.with_column-stone.ensures.elsewhere n (λ e. other (e ∙ col))) ∙ is))
+    ] in
+    let there : has_bit stone p.col ≡ true =
+    ap (has_bit stone) (sym col) ∙ c.with_column-stone.ensures.there ∙ or_right (has_bit 0 c.from-col.result) true refl in
+    let beside_up : AreBeside p 1 stone = λ q row is. inl (sym (alone q.col is), inr (omega (arith, row))) in
+    let beside_down : AreBeside p 3 stone = λ q row is. inl (sym (alone q.col is), inl (omega (arith, row))) in
+    let beside_along : AreBeside p 2 wide = λ q row is.
+    let w = c.beside.ensures.from q.col is in
+    inr (omega (arith, row), swapped q.col p.col (subst (DifferByOne q.col) (alone w.0 w.2) w.1)) in
+    let lost = c.none_of.ensures none in (
+      λ own_stone.
+          elim (c.some_of.ensures c.if-some_of.true) [
+            | inl some ↦
+                alive_reaches g k p own others side on is_own is_others 0 stone first.free above here.free is_above free_first free_above free_here
+                up.result.alive beside_up up.ensures.alive some own_stone
+            | inr (inl some) ↦
+                alive_reaches g k p own others side on is_own is_others 1 wide above.free here below.free is_here free_above free_here free_below
+                along.result.alive beside_along along.ensures.alive some own_stone
+            | inr (inr some) ↦
+                alive_reaches g k p own others side on is_own is_others 2 stone here.free below last.free is_below free_here free_below free_last
+                down.result.alive beside_down down.ensures.alive some own_stone
+          ],
+      λ q on_q next.
+          elim next [
+            | inl (same, inl row) ↦
+                left_reaches g k p own others side on is_own is_others 2 stone here.free below last.free is_below free_here free_below free_last
+                down.result.shut down.ensures.shut (λ n. (lost n).2) q (omega (arith, row)) on_q (inl (same, inl row)) (ap (has_bit stone) (sym same) ∙ there)
+            | inl (same, inr row) ↦
+                left_reaches g k p own others side on is_own is_others 0 stone first.free above here.free is_above free_first free_above free_here
+                up.result.shut up.ensures.shut (λ n. (lost n).0) q (omega (arith, row)) on_q (inl (same, inr row)) (ap (has_bit stone) (sym same) ∙ there)
+            | inr (same, differ) ↦
+                left_reaches g k p own others side on is_own is_others 1 wide above.free here below.free is_here free_above free_here free_below
+                along.result.shut along.ensures.shut (λ n. (lost n).1) q (omega (arith, same)) on_q (inr (same, differ))
+                (c.beside.ensures.to q.col p.col (omega (arith, on_q.0, side, c.requires.few)) (swapped p.col q.col differ) there)
+          ],
+    )

@@ -1,0 +1,9 @@
+-- proofs/board/glance/row_at/Answers.antt
+use Rattle.std.proofs.Common.{◌+◌, ◌-◌, arith}
+use Rattle.go_board.proofs.GlanceLemmas.{row_inside}
+use Rattle.go_board.proofs.board.glance.row_at.Goals as goal
+
+pub returns-then-middle-i : goal.returns-then-middle-i
+returns-then-middle-i c =
+    row_inside c.args.own.now c.args.others.now c.args.middle c.args.i (c.args.middle + c.args.i - 2) c.other_columns.result
+    (omega arith) (omega arith) c.other_columns.ensures.within c.other_columns.ensures.off
