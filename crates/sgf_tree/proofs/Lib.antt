@@ -5,6 +5,8 @@ pub mod Rows
 pub mod Names
 pub mod ValueEnds
 pub mod ValueSpelled
+pub mod ValueUnits
+pub mod NearBrackets
 pub mod ValuesRead
 pub mod NameEnds
 pub mod NodeEnds

@@ -78,7 +78,7 @@ module _ (b x y : ℕ) (upper : IsTrue (is_upper b)) (h : IsTrue (is_plain x)) (
       past = record {
         values = (x ∷ y ∷ []) ∷ [];
         spelled = value (two-plain x y (c ∷ t) h k) no_value;
-        none_left = no-bracket (c ∷ t) 0 (no-span c t next) (λ lt e. false≢true (sym (upper-not_bracket c next) ∙ ap (λ a. a == 91) e));
+        none_left = no-bracket (c ∷ t) 0 0 (no-span c t next) (λ lt e. false≢true (sym (upper-not_bracket c next) ∙ ap (λ a. a == 91) e));
       }
 
 -- its bytes in a node

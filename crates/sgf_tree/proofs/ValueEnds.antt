@@ -1,12 +1,12 @@
--- Where a raw value ends, by the machine.
-use Rattle.std.proofs.Common.{◌≡◌, ◌≢◌, ℕ, zero, suc, ◌+◌, ◌-◌, ◌<◌, ◌≤◌, Bool, true, false, not, ◌||◌, ◌&&◌, ◌==◌, List, [], ◌∷◌, ◌++◌, length, get_or, take, drop, slice_range, Some, None, refl, sym, ap, subst, ◌∙◌, arith, eqb-true, get_or-take, get_or-drop}
-use Rattle.std.proofs.Common.{inl, inr, length-take, length-drop}
-use Rattle.std.proofs.lemmas.Bool.{and_parts, and_cases, not-true, not-false, cases_lt, eqb-false, false≢true}
-use Rattle.memchr.specs.Find.{IsFirstByte, is_byte2}
+-- The units of a raw value, by the machine, and where the next `]` stands.
+use Rattle.std.proofs.Common.{◌≡◌, ◌≢◌, ℕ, zero, suc, ◌+◌, ◌-◌, ◌<◌, ◌≤◌, true, not, ◌==◌, List, [], ◌∷◌, ◌++◌, length, get_or, take, drop, slice_range, Some, None, refl, sym, ap, subst, ◌∙◌, arith, eqb-true, get_or-take, get_or-drop, ne_eqb}
+use Rattle.std.proofs.Common.{length-take, length-drop}
+use Rattle.std.proofs.lemmas.Bool.{and_parts, not-true, eqb-false, eq-eqb}
+use Rattle.memchr.specs.Find.{IsFirstByte, is_byte}
 use Rattle.std.proofs.lemmas.List.{drop-drop, take_all}
 use Rattle.sgf_tree.specs.inner.Machine.{Started, MachineState, start, in_value, after_escape, next_state, run, accepted}
 use Rattle.sgf_tree.specs.Refusal.{IsFaultyAt}
-use Rattle.sgf_tree.specs.inner.Progress.{ComesTo, IsSpan, is_plain, IsUnended}
+use Rattle.sgf_tree.specs.inner.Progress.{ComesTo, ArePlain, HasNoBracket, IsNextBracket, is_plain, IsUnended}
 use Rattle.sgf_tree.proofs.Faults.{ended-fault, refused-fault}
 use Rattle.sgf_tree.proofs.Run.{run-take-step}
 use Rattle.sgf_tree.proofs.Spans.{run-plain, run-escape}
@@ -48,22 +48,8 @@ plain-other b h =
     (eqb-false b 93 (not-true (b == 93) parts.0), eqb-false b 92 (not-true (b == 92) parts.1))
 
 -- and a byte that is neither is plain
-pub escape-other : (b : ℕ) → is_plain b ≡ false → b ≢ 93 → b ≡ 92
-escape-other b h ne =
-    elim (and_cases (not (b == 93)) (not (b == 92)) h) [
-      | inl p ↦ absurd (ne (eqb-true b 93 (not-false (b == 93) p)))
-      | inr p ↦ eqb-true b 92 (not-false (b == 92) p)
-    ]
-
-both-not : (x y : Bool) → ((x || y) ≡ true → ⊥) → (not x && not y) ≡ true
-both-not true y h = absurd (h refl)
-both-not false true h = absurd (h refl)
-both-not false false h = refl
-
-some-not : (x y : Bool) → (x || y) ≡ true → (not x && not y) ≡ false
-some-not true y h = refl
-some-not false true h = refl
-some-not false false h = absurd (false≢true h)
+pub other-plain : (b : ℕ) → b ≢ 93 → b ≢ 92 → is_plain b ≡ true
+other-plain b x y = rw (ne_eqb b 93 x, ne_eqb b 92 y)
 
 span-at : (t : List ℕ) (end i : ℕ) → end ≤ i → i < length t → get_or (slice_range t end (length t)) (i - end) 0 ≡ get_or t i 0
 span-at t end i le lt =
@@ -71,50 +57,27 @@ span-at t end i le lt =
     let e : end + (i - end) ≡ i = omega arith in
     rw get_or-take (get_or-drop end t (i - end) 0 ∙ ap (λ k. get_or t k 0) e)
 
--- the search for `]` or `\` finds where the plain bytes end
-pub plain-found : (t : List ℕ) (end further : ℕ) → end ≤ length t
-    → IsFirstByte (is_byte2 93 92) (slice_range t end (length t)) (Some further) → IsSpan is_plain t end (end + further)
-plain-found t end further le found =
-    let hay : List ℕ = slice_range t end (length t) in
-    let long : length hay + end ≡ length t = omega (arith, length-take (length t - end) (drop end t), length-drop end t) in
+-- the search for `]` finds the next one
+pub bracket-found : (t : List ℕ) (at further : ℕ) → at ≤ length t
+    → IsFirstByte (is_byte 93) (slice_range t at (length t)) (Some further) → IsNextBracket t at (at + further)
+bracket-found t at further le found =
+    let hay : List ℕ = slice_range t at (length t) in
+    let long : length hay + at ≡ length t = omega (arith, length-take (length t - at) (drop at t), length-drop at t) in
     let high : further < length hay = found.0.high in
+    let same : at + further - at ≡ further = omega arith in
     record {
       rises = omega arith;
       within = omega arith;
-      passing = λ i low lt.
-          let here : get_or hay (i - end) 0 ≡ get_or t i 0 = span-at t end i low (omega arith) in
-          subst (λ b. is_plain b ≡ true) here (both-not (get_or hay (i - end) 0 == 93) (get_or hay (i - end) 0 == 92) (found.0.before (i - end) (omega arith) (omega arith)));
-      stops = λ lt.
-          let here : get_or hay (end + further - end) 0 ≡ get_or t (end + further) 0 = span-at t end (end + further) (omega arith) lt in
-          let same : end + further - end ≡ further = omega arith in
-          subst (λ b. is_plain b ≡ false) (ap (λ k. get_or hay k 0) (sym same) ∙ here) (some-not (get_or hay further 0 == 93) (get_or hay further 0 == 92) found.1);
+      bracket = sym (span-at t at (at + further) (omega arith) (omega arith)) ∙ ap (λ k. get_or hay k 0) same ∙ eqb-true (get_or hay further 0) 93 found.1;
+      before = λ i low lt is. found.0.before (i - at) (omega arith) (omega arith)
+          (eq-eqb (get_or hay (i - at) 0) 93 (span-at t at i low (omega arith) ∙ is));
     }
 
-pub plain-none : (t : List ℕ) (end : ℕ) → end ≤ length t → IsFirstByte (is_byte2 93 92) (slice_range t end (length t)) None → IsSpan is_plain t end (length t)
-plain-none t end le none =
-    let hay : List ℕ = slice_range t end (length t) in
-    let long : length hay + end ≡ length t = omega (arith, length-take (length t - end) (drop end t), length-drop end t) in
-    record {
-      rises = omega arith;
-      within = omega arith;
-      passing = λ i low lt.
-          let here : get_or hay (i - end) 0 ≡ get_or t i 0 = span-at t end i low lt in
-          subst (λ b. is_plain b ≡ true) here (both-not (get_or hay (i - end) 0 == 93) (get_or hay (i - end) 0 == 92) (none (i - end) (omega arith) (omega arith)));
-      stops = λ lt. absurd (omega arith);
-    }
-
--- a run of plain bytes further back
-pub plain-join : (t : List ℕ) (at end last : ℕ) → at ≤ end → ((i : ℕ) → at ≤ i → i < end → is_plain (get_or t i 0) ≡ true) → IsSpan is_plain t end last → IsSpan is_plain t at last
-plain-join t at end last le passing run =
-    record {
-      rises = omega (arith, run.rises);
-      within = run.within;
-      passing = λ i low lt. elim (cases_lt i end) [
-        | inl before ↦ passing i low before
-        | inr later ↦ run.passing i later lt
-      ];
-      stops = run.stops;
-    }
+pub bracket-none : (t : List ℕ) (at : ℕ) → at ≤ length t → IsFirstByte (is_byte 93) (slice_range t at (length t)) None → HasNoBracket t at (length t)
+bracket-none t at le none =
+    let hay : List ℕ = slice_range t at (length t) in
+    let long : length hay + at ≡ length t = omega (arith, length-take (length t - at) (drop at t), length-drop at t) in
+    λ i low lt is. none (i - at) (omega arith) (omega arith) (eq-eqb (get_or hay (i - at) 0) 93 (span-at t at i low lt ∙ is))
 
 -- the states inside a value, and after a `\`, are no ends
 value-unaccepted : (n : Started) (name : List ℕ) (before : List (List ℕ)) (so_far : List ℕ) → accepted (in_value n name before so_far) ≡ None
@@ -139,7 +102,7 @@ module _ (t : List ℕ) (at : ℕ) where
   pub units-none : AreUnits at
   units-none n name before h = let e : at - at ≡ 0 = omega arith in rw e h
 
-  pub units-plain : (a b : ℕ) → at ≤ a → AreUnits a → IsSpan is_plain t a b → AreUnits b
+  pub units-plain : (a b : ℕ) → at ≤ a → AreUnits a → ArePlain t a b → AreUnits b
   units-plain a b le units plain n name before h =
       rw (← span-join t at a b le plain.rises)
       (run-plain t a b n name before (slice_range t at a) plain.rises plain.within (λ i low lt. plain-other (get_or t i 0) (plain.passing i low lt)) (units n name before h))

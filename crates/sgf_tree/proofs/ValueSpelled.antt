@@ -2,7 +2,7 @@
 use Rattle.std.proofs.Common.{◌≡◌, ◌≢◌, ℕ, zero, suc, ◌+◌, ◌-◌, ◌<◌, ◌≤◌, List, [], ◌∷◌, ◌++◌, length, get_or, take, drop, slice_range, refl, sym, ap, subst, ◌∙◌, arith, length-drop, get_or-drop}
 use Rattle.std.proofs.lemmas.List.{drop-drop}
 use Rattle.sgf_tree.specs.RawValue.{IsValue, no_unit, plain, escaped}
-use Rattle.sgf_tree.specs.inner.Progress.{IsSpan, SpellsValue, SpellsNoValue, is_plain}
+use Rattle.sgf_tree.specs.inner.Progress.{ArePlain, SpellsValue, SpellsNoValue}
 use Rattle.sgf_tree.proofs.ValueEnds.{span-join, plain-other}
 
 -- units after units
@@ -34,7 +34,7 @@ module _ (t : List ℕ) (at : ℕ) where
   spelled-more : (a b : ℕ) → at ≤ a → a ≤ b → SpellsValue t at a → SpellsValue t a b → SpellsValue t at b
   spelled-more a b low le h k = rw (← span-join t at a b low le) (value-join h k)
 
-  pub spelled-plain : (a b : ℕ) → at ≤ a → SpellsValue t at a → IsSpan is_plain t a b → SpellsValue t at b
+  pub spelled-plain : (a b : ℕ) → at ≤ a → SpellsValue t at a → ArePlain t a b → SpellsValue t at b
   spelled-plain a b low h run =
       let le : a ≤ b = run.rises in
       let units : IsValue (take (b - a) (drop a t)) (drop a t) (drop (b - a) (drop a t)) =

@@ -65,26 +65,6 @@ module _ (s : List ℕ) (k : ℕ) (run : IsSpan is_white s 0 k) where
   pub white-all : length s ≤ k → White s []
   white-all le = subst (White s) (drop_all k s le) white-run
 
-  -- no `[` there
-  pub no-bracket : (k < length s → get_or s k 0 ≢ 91) → IsNoPropValue s
-  no-bracket other v r (prop_value {t} w h) =
-      elim (cases_lt k (length s)) [
-        | inl lt ↦ other lt (white-same (white-to lt) w (run.stops lt) refl).0
-        | inr le ↦ white-none (white-all le) w refl
-      ]
-
-  pub no-end : k < length s → get_or s k 0 ≡ 91 → SpellsNoValue s (k + 1) → IsNoPropValue s
-  no-end lt e none v r (prop_value {t} w h) =
-      let same : drop (k + 1) s ≡ t = (white-same (white-to lt) w (run.stops lt) refl).1 in
-      none v r (subst (λ u. IsValue v u (93 ∷ r)) (sym same) h)
-
-  pub first-value : (end : ℕ) → k < length s → get_or s k 0 ≡ 91 → end < length s → get_or s end 0 ≡ 93 → SpellsValue s (k + 1) end
-      → IsPropValue (slice_range s (k + 1) end) s (drop (end + 1) s)
-  first-value end lt e inside close spelled =
-      prop_value (subst (λ b. White s (b ∷ drop (k + 1) s)) e (white-to lt))
-      (subst (λ b. IsValue (slice_range s (k + 1) end) (drop (k + 1) s) (b ∷ drop (end + 1) s)) close
-      (subst (IsValue (slice_range s (k + 1) end) (drop (k + 1) s)) (byte-at s end inside) spelled))
-
   -- no property there
   pub no-property : ArePropertiesIn s → (k < length s → is_upper (get_or s k 0) ≡ false) → properties_in s ≡ []
   no-property held other = none held.properties held.rest held.spelled held.ends
@@ -167,6 +147,37 @@ module _ (s : List ℕ) (k : ℕ) (run : IsSpan is_white s 0 k) where
                 ∙ ap (λ x. x ∷ ps) (sym p_is)
                 ∙ ap (λ xs. property_from (name_in (slice_range s k end)) (values_in (drop end s)) ∷ xs) (sym (properties-in left ends));
           }
+
+-- a value further on, after white space from one offset to another
+module _ (t : List ℕ) (from k : ℕ) (run : IsSpan is_white t from k) where
+  white-between : White (drop from t) (drop k t)
+  white-between =
+      let rises : from ≤ k = run.rises in
+      let e : from + (k - from) ≡ k = omega arith in
+      subst (White (drop from t)) (drop-drop (k - from) from t ∙ ap (λ i. drop i t) e) (white-run (drop from t) (k - from) (run-drop is_white t from k run))
+
+  white-up-to : k < length t → White (drop from t) (get_or t k 0 ∷ drop (k + 1) t)
+  white-up-to lt = subst (White (drop from t)) (byte-at t k lt) white-between
+
+  -- no `[` there
+  pub no-bracket : (k < length t → get_or t k 0 ≢ 91) → IsNoPropValue (drop from t)
+  no-bracket other v r (prop_value {t = u} w h) =
+      elim (cases_lt k (length t)) [
+        | inl lt ↦ other lt (white-same (white-up-to lt) w (run.stops lt) refl).0
+        | inr le ↦ white-none (subst (White (drop from t)) (drop_all k t le) white-between) w refl
+      ]
+
+  pub no-end : k < length t → get_or t k 0 ≡ 91 → SpellsNoValue t (k + 1) → IsNoPropValue (drop from t)
+  no-end lt e none v r (prop_value {t = u} w h) =
+      let same : drop (k + 1) t ≡ u = (white-same (white-up-to lt) w (run.stops lt) refl).1 in
+      none v r (subst (λ x. IsValue v x (93 ∷ r)) (sym same) h)
+
+  pub first-value : (end : ℕ) → k < length t → get_or t k 0 ≡ 91 → end < length t → get_or t end 0 ≡ 93 → SpellsValue t (k + 1) end
+      → IsPropValue (slice_range t (k + 1) end) (drop from t) (drop (end + 1) t)
+  first-value end lt e inside close spelled =
+      prop_value (subst (λ b. White (drop from t) (b ∷ drop (k + 1) t)) e (white-up-to lt))
+      (subst (λ b. IsValue (slice_range t (k + 1) end) (drop (k + 1) t) (b ∷ drop (end + 1) t)) close
+      (subst (IsValue (slice_range t (k + 1) end) (drop (k + 1) t)) (byte-at t end inside) spelled))
 
 -- one more value after others
 pub values-more : {vs : List (List ℕ)} {v s m r : List ℕ} → ArePropValues vs s m → IsPropValue v m r → ArePropValues (vs ++ v ∷ []) s r

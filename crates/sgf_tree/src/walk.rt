@@ -3,7 +3,7 @@
 
 ghost use Rattle.std.specs.Prelude.{◌≡◌, ◌↔◌, ◌≤◌, [], ◌∷◌, length, drop, IsTrue, IfSome, MatchOption};
 ghost use Rattle.sgf_tree.specs.Written.{IsWrittenFront};
-ghost use Rattle.sgf_tree.specs.inner.NodeText.{ArePropertiesIn, AreValuesWritten, IsPropertyWritten, ArePropertiesWritten, IsPastValues, IsNoPropValue, IsFirstValue};
+ghost use Rattle.sgf_tree.specs.inner.NodeText.{ArePropertiesIn, AreValuesWritten, IsPropertyWritten, ArePropertiesWritten, IsValuesEnd, IsNoPropValue, IsFirstValue};
 
 use crate::property::PropRef;
 use crate::reader::scan::{capitals_end, identifier_end, part, rest_from, skip_white, value_end};
@@ -53,8 +53,9 @@ impl<'a> Properties<'a> {
             return None;
         }
         let end = identifier_end(text, start);
+        let next = values_end(text, end);
         let values = rest_from(text, end);
-        self.rest = after_values(values);
+        self.rest = rest_from(text, next);
         Some(PropRef {
             identifier: part(text, start, end),
             values,
@@ -72,6 +73,24 @@ impl<'a> Properties<'a> {
         let end = written_properties_end(text, start);
         self.rest = rest_from(text, end);
         part(text, start, end)
+    }
+}
+
+/// The end of the values at `at`.
+fn values_end(text: &[u8], at: usize) -> usize
+    requires { at ≤ length text.now }
+    ensures { IsValuesEnd text.now at result }
+{
+    let mut end = at;
+    'values: loop {
+        let bracket = skip_white(text, end);
+        if bracket == text.len() || text[bracket] != b'[' {
+            return end;
+        }
+        let Some(close) = value_end(text, bracket + 1) else {
+            return end;
+        };
+        end = close + 1;
     }
 }
 
@@ -171,17 +190,6 @@ fn split_value(text: &[u8]) -> Option<(&[u8], &[u8])>
         return None;
     };
     Some((part(text, bracket + 1, end), rest_from(text, end + 1)))
-}
-
-/// What is left after the values in front.
-fn after_values(text: &[u8]) -> &[u8]
-    ensures { IsPastValues text.now result.now }
-{
-    let mut rest = text;
-    while let Some((_value, after)) = split_value(rest) {
-        rest = after;
-    }
-    rest
 }
 
 #[cfg(test)]

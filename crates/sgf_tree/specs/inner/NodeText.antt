@@ -127,6 +127,11 @@ pub record IsPastValues (s r : List ℕ) : Type 0 where
   pub spelled : ArePropValues values s r
   pub none_left : IsNoPropValue r
 
+-- the same, by the offset where it begins
+pub record IsValuesEnd (t : List ℕ) (from end : ℕ) : Type 0 where
+  pub within : end ≤ length t
+  pub past : IsPastValues (drop from t) (drop end t)
+
 -- whole values stand in front, one at least
 pub record IsPropertyHeld (s : List ℕ) : Type 0 where
   pub first : List ℕ

@@ -1,5 +1,5 @@
 -- How far a text was read: the words of the contracts inside `reader`.
-use Rattle.std.specs.Prelude.{◌≡◌, ℕ, ◌+◌, ◌<◌, ◌≤◌, Bool, false, not, ◌&&◌, ◌==◌, List, [], ◌∷◌, length, slice_index, slice_range, take, drop, Some, IsTrue}
+use Rattle.std.specs.Prelude.{◌≡◌, ◌≢◌, ℕ, ◌+◌, ◌-◌, ◌*◌, ◌<◌, ◌≤◌, Bool, false, not, ◌&&◌, ◌==◌, List, [], ◌∷◌, length, slice_index, slice_range, take, drop, Some, IsTrue}
 use Rattle.sgf_tree.specs.Bytes.{capital_a, open_bracket, backslash, close_bracket}
 use Rattle.sgf_tree.specs.RawValue.{IsValue}
 use Rattle.sgf_tree.specs.Spelling.{is_white, is_upper}
@@ -28,6 +28,42 @@ pub record IsSpan (test : ℕ → Bool) (t : List ℕ) (at end : ℕ) : Type 0 w
 abbrev pub is_plain : ℕ → Bool
 is_plain b = not (b == close_bracket) && not (b == backslash)
 
+-- the bytes from `at` to `end` are such
+pub record ArePlain (t : List ℕ) (at end : ℕ) : Type 0 where
+  pub rises : at ≤ end
+  pub within : end ≤ length t
+  pub passing : (i : ℕ) → at ≤ i → i < end → IsTrue (is_plain (slice_index t i))
+
+-- no `]` stands from `at` to `end`
+abbrev pub HasNoBracket : List ℕ → ℕ → ℕ → Type 0
+HasNoBracket t at end = (i : ℕ) → at ≤ i → i < end → slice_index t i ≢ close_bracket
+
+-- the first `]` from `at` on stands at `end`
+pub record IsNextBracket (t : List ℕ) (at end : ℕ) : Type 0 where
+  pub rises : at ≤ end
+  pub within : end < length t
+  pub bracket : slice_index t end ≡ close_bracket
+  pub before : HasNoBracket t at end
+
+-- and no `\` stands directly before it
+pub record IsBareBracket (t : List ℕ) (at end : ℕ) : Type 0 where
+  pub next : IsNextBracket t at end
+  pub bare : at < end → slice_index t (end - 1) ≢ backslash
+
+-- as many `\` as stand directly before `end`, from `at` on, are those from `first` to `end`
+pub record IsEscapeRun (t : List ℕ) (at first end : ℕ) : Type 0 where
+  pub low : at ≤ first
+  pub rises : first ≤ end
+  pub escapes : (i : ℕ) → first ≤ i → i < end → slice_index t i ≡ backslash
+  pub begins : at < first → slice_index t (first - 1) ≢ backslash
+
+-- escapes, a `\` and a byte each, stand side by side from `at` to `end`
+pub record AreEscapes (t : List ℕ) (at end : ℕ) : Type 0 where
+  pub within : end ≤ length t
+  pub count : ℕ
+  pub bytes : end ≡ at + 2 * count
+  pub each : (k : ℕ) → k < count → slice_index t (at + 2 * k) ≡ backslash
+
 -- the raw value that begins at `at` ends at `end`, where its `]` stands
 pub record IsValueEnd (t : List ℕ) (at end : ℕ) : Type 0 where
   pub rises : at ≤ end
@@ -43,7 +79,7 @@ SpellsValue t at end = IsValue (slice_range t at end) (drop at t) (drop end t)
 -- two plain bytes and a `]`
 pub record IsTwoPlain (t : List ℕ) (at : ℕ) : Type 0 where
   pub within : at + 2 < length t
-  pub plain : IsSpan is_plain t at (at + 2)
+  pub plain : ArePlain t at (at + 2)
   pub bracket : slice_index t (at + 2) ≡ close_bracket
 
 -- white space begins at `at`, or none, and a byte that is less than each letter and each bracket follows

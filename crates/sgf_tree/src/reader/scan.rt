@@ -1,15 +1,15 @@
 //! Where spans of a text end.
 
-ghost use Rattle.std.specs.Prelude.{◌≡◌, ◌≤◌, ◌<◌, length, drop, slice_index, slice_range, IsTrue, MatchOption};
+ghost use Rattle.std.specs.Prelude.{◌≡◌, ◌+◌, ◌≤◌, ◌<◌, length, drop, slice_index, slice_range, IsTrue, IfSome, MatchOption};
 ghost use Rattle.sgf_tree.specs.Spelling.{is_white, is_upper};
 ghost use Rattle.sgf_tree.specs.inner.NodeText.{is_letter};
-ghost use Rattle.sgf_tree.specs.inner.Progress.{IsSpan, IsValueEnd, IsUnended, SpellsValue, SpellsNoValue, IsTwoPlain, IsNodeEnd, IsPlainFront, IsLoneNode, IsFrontOfMore, is_plain};
+ghost use Rattle.sgf_tree.specs.inner.Progress.{IsSpan, IsValueEnd, IsUnended, SpellsValue, SpellsNoValue, HasNoBracket, IsNextBracket, IsBareBracket, IsEscapeRun, AreEscapes, IsTwoPlain, IsNodeEnd, IsPlainFront, IsLoneNode, IsFrontOfMore};
 
-use memchr::memchr2;
+use memchr::memchr;
+use std::simd::prelude::*;
 
-/// How many bytes are looked at one by one before a search, which costs as much to begin: sizes, names and clock times are
-/// short.
-const TRIED: usize = 16;
+/// How many bytes are looked at before a search, which costs more to begin: sizes, names and clock times are short.
+const NEAR: usize = 16;
 
 /// The text from an offset on.
 pub(crate) fn rest_from(text: &[u8], at: usize) -> &[u8]
@@ -107,45 +107,56 @@ fn far_capitals_end(text: &[u8], at: usize) -> usize
     end
 }
 
-/// The first `]` or `\` from `at` on, or the end of the text, by a search that costs something to begin.
-fn far_plain_end(text: &[u8], at: usize) -> usize
-    requires { at ≤ length text.now }
-    ensures { IsSpan is_plain text.now at result }
+/// The first `]` among the `NEAR` bytes at `at`, all compared at once.
+fn near_bracket(text: &[u8], at: usize) -> Option<usize>
+    requires { at + NEAR ≤ length text.now }
+    ensures { MatchOption result (HasNoBracket text.now at (at + NEAR)) (λ end. IsNextBracket text.now at end) }
 {
-    match memchr2(b']', b'\\', &text[at..]) {
-        Some(further) => at + further,
-        None => text.len(),
-    }
-}
-
-/// The same, where it is often near.
-fn plain_end(text: &[u8], at: usize) -> usize
-    requires { at ≤ length text.now }
-    ensures { IsSpan is_plain text.now at result }
-{
-    if text.len() - at < TRIED {
-        return far_plain_end(text, at);
-    }
-    let mut end = at;
-    'plain: while end - at < TRIED {
-        if text[end] == b']' || text[end] == b'\\' {
-            return end;
-        }
-        end += 1;
-    }
-    far_plain_end(text, end)
-}
-
-/// The same after an escape, where another one may follow at once, and where else the value is a long text.
-fn plain_end_after_escape(text: &[u8], at: usize) -> usize
-    requires { at ≤ length text.now }
-    ensures { IsSpan is_plain text.now at result }
-{
-    if at < text.len() && (text[at] == b']' || text[at] == b'\\') {
-        at
+    let marked = u8x16::from_slice(&text[at..])
+        .simd_eq(u8x16::splat(b']'))
+        .to_bitmask();
+    if marked == 0 {
+        None
     } else {
-        far_plain_end(text, at)
+        Some(at + marked.trailing_zeros() as usize)
     }
+}
+
+/// The first `]` from `at` on, by a search that costs something to begin.
+#[inline(never)]
+fn far_bracket(text: &[u8], at: usize) -> Option<usize>
+    requires { at ≤ length text.now }
+    ensures { MatchOption result (HasNoBracket text.now at (length text.now)) (λ end. IsNextBracket text.now at end) }
+{
+    match memchr(b']', &text[at..]) {
+        Some(further) => Some(at + further),
+        None => None,
+    }
+}
+
+/// The first of the `\` that stand directly before `end`, from `at` on, or `end` where none does.
+fn first_escape(text: &[u8], at: usize, end: usize) -> usize
+    requires rises { at ≤ end }
+    requires within { end ≤ length text.now }
+    ensures { IsEscapeRun text.now at result end }
+{
+    let mut first = end;
+    'escapes: while first != at && text[first - 1] == b'\\' {
+        first -= 1;
+    }
+    first
+}
+
+/// The end of the escapes that stand side by side at `at`.
+fn escapes_end(text: &[u8], at: usize) -> usize
+    requires { at ≤ length text.now }
+    ensures { AreEscapes text.now at result }
+{
+    let mut end = at;
+    'escapes: while text.len() - end > 1 && text[end] == b'\\' {
+        end += 2;
+    }
+    end
 }
 
 /// Whether the raw value at `at` is two bytes, as a point is, that stand for themselves.
@@ -191,26 +202,42 @@ pub(crate) fn is_front_of_more(text: &[u8]) -> bool
     is_plain_front(text) && text[6].is_ascii_uppercase()
 }
 
-/// The same as `value_end`, for each other value.
+/// The `]` that ends the raw value at `at`, where it is the first one, among the `NEAR` bytes there.
+/// Where it answers None, nothing is known.
+fn near_value_end(text: &[u8], at: usize) -> Option<usize>
+    requires { at ≤ length text.now }
+    ensures { IfSome result (IsBareBracket text.now at) }
+{
+    if text.len() - at < NEAR {
+        return None;
+    }
+    let bracket = near_bracket(text, at)?;
+    if bracket != at && text[bracket - 1] == b'\\' {
+        return None;
+    }
+    Some(bracket)
+}
+
+/// The `]` that ends the raw value at `at`, by searches.
+/// None where the text ends before it.
+///
+/// A `]` is escaped where an odd number of `\` stand directly before it. They are counted from the value's start on, or from the
+/// end of an escape on, since the bytes before belong to other units.
 #[inline(never)]
 fn far_value_end(text: &[u8], at: usize) -> Option<usize>
     requires { at ≤ length text.now }
     ensures read { MatchOption result (IsUnended text.now at) (λ end. IsValueEnd text.now at end) }
     ensures spelled { MatchOption result (SpellsNoValue text.now at) (λ end. SpellsValue text.now at end) }
 {
-    let mut end = plain_end(text, at);
-    'units: loop {
-        if end == text.len() {
-            return None;
+    let mut start = at;
+    'brackets: while let Some(bracket) = far_bracket(text, start) {
+        let escapes = bracket - first_escape(text, start, bracket);
+        if escapes % 2 == 0 {
+            return Some(bracket);
         }
-        if text[end] == b']' {
-            return Some(end);
-        }
-        if text.len() - end < 2 {
-            return None;
-        }
-        end = plain_end_after_escape(text, end + 2);
+        start = escapes_end(text, bracket + 1);
     }
+    None
 }
 
 /// The `]` that ends the raw value at `at`.
@@ -221,8 +248,69 @@ pub(crate) fn value_end(text: &[u8], at: usize) -> Option<usize>
     ensures spelled { MatchOption result (SpellsNoValue text.now at) (λ end. SpellsValue text.now at end) }
 {
     if is_two_plain(text, at) {
-        Some(at + 2)
-    } else {
-        far_value_end(text, at)
+        return Some(at + 2);
+    }
+    if let Some(near) = near_value_end(text, at) {
+        return Some(near);
+    }
+    far_value_end(text, at)
+}
+
+#[cfg(test)]
+mod tests {
+    use super::*;
+    use std::test::Fail;
+
+    /// Values of so many plain bytes and then the text of a row, with more text after it or none: what is looked at one by
+    /// one, what is compared at once and what is searched for gives the same.
+    #[test]
+    fn finds_the_end_of_a_value(rt: HostRuntime) -> Result<(), Fail> {
+        for plain in [0, 1, 2, 3, 13, 15, 16, 17, 100, 127, 128, 129, 200] {
+            for (rest, want) in [
+                ("]", Some(0)),
+                ("]]", Some(0)),
+                ("\\]]", Some(2)),
+                ("\\\\]", Some(2)),
+                ("\\\\\\]]", Some(4)),
+                ("\\\\\\\\]]", Some(4)),
+                ("\\]\\]]", Some(4)),
+                ("\\]\\\\]]", Some(4)),
+                ("\\]\\\\\\]]", Some(6)),
+                ("\\]a\\]b]", Some(6)),
+                ("\\:\\\\:]", Some(5)),
+                ("\\]01234567890123456789\\]]", Some(24)),
+            ] {
+                for after in ["", "W[aa];B[bb]\\];W[cc]"] {
+                    let mut text = Vec::new(rt.alloc());
+                    text.resize(plain, b'a')?;
+                    text.extend_from_slice(rest.as_bytes())?;
+                    text.extend_from_slice(after.as_bytes())?;
+                    let want = want.map(|end: usize| end.wrapping_add(plain));
+                    assert_eq!(rt; value_end(&text, 0), want, "of {plain} and {rest:?}");
+                }
+            }
+            for rest in ["", "\\", "\\]", "\\\\", "\\]\\", "\\]a\\\\", "\\\\\\]"] {
+                let mut text = Vec::new(rt.alloc());
+                text.resize(plain, b'a')?;
+                text.extend_from_slice(rest.as_bytes())?;
+                assert_eq!(rt; value_end(&text, 0), None, "of {plain} and {rest:?}");
+            }
+        }
+        Ok(())
+    }
+
+    /// A `\` before the value is none of its own.
+    #[test]
+    fn looks_at_the_value_alone(rt: HostRuntime) {
+        for (text, want) in [
+            ("\\]", Some(1)),
+            ("\\]0123456789abcdef", Some(1)),
+            ("\\\\]]", Some(3)),
+            ("\\\\]]0123456789abcdef", Some(3)),
+            ("\\\\", None),
+        ] {
+            assert!(rt; !text.is_empty());
+            assert_eq!(rt; value_end(text.as_bytes(), 1), want, "of {text:?}");
+        }
     }
 }

@@ -11,14 +11,14 @@ returns-then-bracket-text c =
       | then-bracket-text-via-then-bracket-text w ↦ λ lt. absurd (omega (arith, w.if-bracket-text.true))
       | then-bracket-text-via-else-bracket-text+then-text-bracket-ne91 w ↦ λ _. w.if-text-bracket-ne91.true
     ] in
-    no-bracket t at c.skip_white-bracket.ensures other
+    no-bracket t 0 at c.skip_white-bracket.ensures other
 
 pub returns-in_default : goal.returns-in_default
 returns-in_default c =
-    no-end c.args.text.now c.skip_white-bracket.result c.skip_white-bracket.ensures (omega (arith, c.skip_white-bracket.ensures.within)) c.if-text-bracket-ne91.false c.in_default.ensures.spelled
+    no-end c.args.text.now 0 c.skip_white-bracket.result c.skip_white-bracket.ensures (omega (arith, c.skip_white-bracket.ensures.within)) c.if-text-bracket-ne91.false c.in_default.ensures.spelled
 
 pub returns : goal.returns
 returns c =
     let read = c.in-Some.ensures.read in
     rw (c.part.ensures, c.rest_from.ensures)
-    (first-value c.args.text.now c.skip_white-bracket.result c.skip_white-bracket.ensures c.in-Some.end (omega (arith, c.skip_white-bracket.ensures.within)) c.if-text-bracket-ne91.false read.within read.bracket c.in-Some.ensures.spelled)
+    (first-value c.args.text.now 0 c.skip_white-bracket.result c.skip_white-bracket.ensures c.in-Some.end (omega (arith, c.skip_white-bracket.ensures.within)) c.if-text-bracket-ne91.false read.within read.bracket c.in-Some.ensures.spelled)

@@ -1,0 +1,140 @@
+-- Which `]` ends a raw value: the first one with an even number of `\` directly before it.
+use Rattle.std.proofs.Common.{◌≡◌, ◌≢◌, ℕ, zero, suc, ◌+◌, ◌-◌, ◌*◌, ◌/◌, ◌%◌, ◌<◌, ◌≤◌, ◌⊎◌, inl, inr, List, length, get_or, true, sym, ap, subst, ◌∙◌, arith}
+use Rattle.std.proofs.lemmas.Bool.{cases_eq}
+use Rattle.sgf_tree.specs.inner.Progress.{is_plain, ArePlain, HasNoBracket, IsBareBracket, IsEscapeRun, AreEscapes, SpellsValue, SpellsNoValue, IsUnended}
+use Rattle.sgf_tree.proofs.ValueEnds.{AreUnits, other-plain, units-none, units-plain, units-escape, units-end, escape-end}
+use Rattle.sgf_tree.proofs.ValueSpelled.{spelled-none, spelled-plain, spelled-escape, none-ended, none-cut}
+
+-- whole units of a value stand from `at` to `end`
+pub record AreValueUnits (t : List ℕ) (at end : ℕ) : Type 0 where
+  pub rises : at ≤ end
+  pub read : AreUnits t at end
+  pub spelled : SpellsValue t at end
+
+-- and behind these a `\` as the last byte before `end`
+record AreCutUnits (t : List ℕ) (at start end : ℕ) : Type 0 where
+  last : ℕ
+  rises : start ≤ last
+  next : last + 1 ≡ end
+  escape : get_or t last 0 ≡ 92
+  before : AreValueUnits t at last
+
+module _ (t : List ℕ) (at : ℕ) where
+  pub no-units : AreValueUnits t at at
+  no-units = record { rises = omega arith; read = units-none t at; spelled = spelled-none t at }
+
+  pub plain-units : (a b : ℕ) → AreValueUnits t at a → ArePlain t a b → AreValueUnits t at b
+  plain-units a b units plain =
+      let low : at ≤ a = units.rises in
+      record {
+        rises = omega (arith, low, plain.rises);
+        read = units-plain t at a b low units.read plain;
+        spelled = spelled-plain t at a b low units.spelled plain;
+      }
+
+  one-plain : (a : ℕ) → a < length t → get_or t a 0 ≢ 93 → get_or t a 0 ≢ 92 → AreValueUnits t at a → AreValueUnits t at (a + 1)
+  one-plain a lt x y units =
+      plain-units a (a + 1) units (record {
+        rises = omega arith;
+        within = omega arith;
+        passing = λ i low high. let e : a ≡ i = omega arith in subst (λ k. is_plain (get_or t k 0) ≡ true) e (other-plain (get_or t a 0) x y);
+      })
+
+  escape-units : (a : ℕ) → a + 1 < length t → get_or t a 0 ≡ 92 → AreValueUnits t at a → AreValueUnits t at (a + 2)
+  escape-units a lt e units =
+      let low : at ≤ a = units.rises in
+      record {
+        rises = omega (arith, low);
+        read = units-escape t at a low lt e units.read;
+        spelled = spelled-escape t at a low lt e units.spelled;
+      }
+
+  -- where no `]` stands, units go on up to the end, or a `\` is left there
+  units-to : (n start end : ℕ) → start + n ≡ end → end ≤ length t → HasNoBracket t start end → AreValueUnits t at start
+      → AreValueUnits t at end ⊎ AreCutUnits t at start end
+  units-to zero start end e within none units = let same : start ≡ end = omega arith in inl (subst (AreValueUnits t at) same units)
+  units-to (suc zero) start end e within none units =
+      let next : start + 1 ≡ end = omega arith in
+      elim (cases_eq (get_or t start 0) 92) [
+        | inl is ↦ inr (record { last = start; rises = omega arith; next = next; escape = is; before = units })
+        | inr other ↦ inl (subst (AreValueUnits t at) next (one-plain start (omega arith) (none start (omega arith) (omega arith)) other units))
+      ]
+  units-to (suc (suc n)) start end e within none units =
+      elim (cases_eq (get_or t start 0) 92) [
+        | inl is ↦ from-further (start + 2) (omega arith) (units-to n (start + 2) end (omega arith) within (λ i low high. none i (omega arith) high) (escape-units start (omega arith) is units))
+        | inr other ↦ from-further (start + 1) (omega arith)
+            (units-to (suc n) (start + 1) end (omega arith) within (λ i low high. none i (omega arith) high) (one-plain start (omega arith) (none start (omega arith) (omega arith)) other units))
+      ]
+    where
+      from-further : (further : ℕ) → start ≤ further → AreValueUnits t at end ⊎ AreCutUnits t at further end → AreValueUnits t at end ⊎ AreCutUnits t at start end
+      from-further further le (inl all) = inl all
+      from-further further le (inr cut) = inr (record { last = cut.last; rises = omega (arith, cut.rises); next = cut.next; escape = cut.escape; before = cut.before })
+
+  -- escapes side by side
+  side-by-side : (k a : ℕ) → a + 2 * k ≤ length t → ((i : ℕ) → i < k → get_or t (a + 2 * i) 0 ≡ 92) → AreValueUnits t at a → AreValueUnits t at (a + 2 * k)
+  side-by-side zero a within escapes units = let e : a ≡ a + 2 * 0 = omega arith in subst (AreValueUnits t at) e units
+  side-by-side (suc k) a within escapes units =
+      let here : a + 2 * 0 ≡ a = omega arith in
+      let e : a + 2 + 2 * k ≡ a + 2 * suc k = omega arith in
+      subst (AreValueUnits t at) e
+      (side-by-side k (a + 2) (omega arith)
+      (λ i lt. let f : a + 2 * suc i ≡ a + 2 + 2 * i = omega arith in subst (λ j. get_or t j 0 ≡ 92) f (escapes (suc i) (omega arith)))
+      (escape-units a (omega arith) (subst (λ j. get_or t j 0 ≡ 92) here (escapes 0 (omega arith))) units))
+
+  pub escapes-units : (a b : ℕ) → AreEscapes t a b → AreValueUnits t at a → AreValueUnits t at b
+  escapes-units a b escapes units =
+      subst (AreValueUnits t at) (sym escapes.bytes) (side-by-side escapes.count a (omega (arith, escapes.bytes, escapes.within)) escapes.each units)
+
+  module _ (start first end : ℕ) (within : end ≤ length t) (none : HasNoBracket t start end) (run : IsEscapeRun t start first end) (units : AreValueUnits t at start) where
+    -- the run of `\` begins between units
+    run-units : AreValueUnits t at first
+    run-units =
+        let low : start ≤ first = run.low in
+        let high : first ≤ end = run.rises in
+        elim (units-to (first - start) start first (omega arith) (omega arith) (λ i least lt. none i least (omega arith)) units) [
+          | inl all ↦ all
+          | inr cut ↦
+              let e : cut.last ≡ first - 1 = omega (arith, cut.next) in
+              absurd (run.begins (omega (arith, cut.rises, cut.next)) (ap (λ i. get_or t i 0) (sym e) ∙ cut.escape))
+        ]
+
+    -- and its escapes are units
+    run-pairs : (k : ℕ) → first + 2 * k ≤ end → AreValueUnits t at (first + 2 * k)
+    run-pairs k le = side-by-side k first (omega arith) (λ i lt. run.escapes (first + 2 * i) (omega arith) (omega arith)) run-units
+
+    pub even-units : (end - first) % 2 ≡ 0 → AreValueUnits t at end
+    even-units even =
+        let high : first ≤ end = run.rises in
+        let e : first + 2 * ((end - first) / 2) ≡ end = omega arith in
+        subst (AreValueUnits t at) e (run-pairs ((end - first) / 2) (omega arith))
+
+    pub odd-units : end < length t → (end - first) % 2 ≢ 0 → AreValueUnits t at (end + 1)
+    odd-units inside odd =
+        let high : first ≤ end = run.rises in
+        let last : ℕ = first + 2 * ((end - first) / 2) in
+        let e : first + 2 * ((end - first) / 2) + 1 ≡ end = omega arith in
+        let f : last + 2 ≡ end + 1 = omega arith in
+        subst (AreValueUnits t at) f (escape-units last (omega arith) (run.escapes last (omega arith) (omega arith)) (run-pairs ((end - first) / 2) (omega arith)))
+
+  -- the same where none stands there
+  pub bare-units : (end : ℕ) → IsBareBracket t at end → AreValueUnits t at end
+  bare-units end is =
+      let next = is.next in
+      let inside : end < length t = next.within in
+      even-units at end end (omega (arith, inside)) next.before
+      (record { low = next.rises; rises = omega arith; escapes = λ i low lt. absurd (omega arith); begins = is.bare }) no-units (omega arith)
+
+  -- with no further `]` the value is unended
+  pub record IsEndless : Type 0 where
+    pub read : IsUnended t at
+    pub spelled : SpellsNoValue t at
+
+  pub endless : (start : ℕ) → start ≤ length t → HasNoBracket t start (length t) → AreValueUnits t at start → IsEndless
+  endless start le none units =
+      elim (units-to (length t - start) start (length t) (omega arith) (omega arith) none units) [
+        | inl all ↦ record { read = units-end t at all.read; spelled = none-ended t at all.spelled }
+        | inr cut ↦ record {
+          read = escape-end t at cut.last cut.next cut.escape cut.before.read;
+          spelled = none-cut t at cut.last cut.next cut.escape cut.before.spelled;
+        }
+      ]
