@@ -8,7 +8,7 @@ use std::alloc::Global;
 use std::marker::Model;
 
 /// How many heads the table of a new past has.
-const FIRST_HEADS: usize = 128;
+const FIRST_HEADS: usize = 512;
 
 /// How many prints a new past has room for.
 const FIRST_PRINTS: usize = 64;
@@ -102,6 +102,7 @@ impl Table {
     }
 
     /// Doubles the number of heads, and links all prints anew.
+    #[inline(never)]
     fn grow(&mut self) -> Result<(), MemoryFault>
         requires { length self.old < 2 ^ 32 }
         ensures { self.new ≡ self.old }
@@ -119,12 +120,14 @@ impl Table {
         ensures ok { OnOk result (self.new ≡ self.old ++ print ∷ []) }
         ensures err { OnErr result (self.new ≡ self.old) }
     {
-        let index = self.prints.len();
-        self.prints.reserve(1)?;
-        self.links.reserve(1)?;
-        self.prints.push(print).unwrap();
-        self.links.push(0).unwrap();
-        link(&mut self.heads, &self.prints, &mut self.links, index);
+        let number = (self.prints.len() + 1) as u32;
+        let key = key_of(self.heads.len(), print);
+        self.prints.push(print)?;
+        if self.links.push(self.heads[key]).is_err() {
+            let _ = self.prints.pop();
+            return Err(MemoryFault);
+        }
+        self.heads[key] = number;
         Ok(())
     }
 
