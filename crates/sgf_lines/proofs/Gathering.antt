@@ -1,7 +1,10 @@
 -- A node's contents, gathered value after value.
-use Rattle.std.proofs.Common.{◌≡◌, ◌⊎◌, ℕ, Bool, true, false, Option, Some, None, List, [], ◌∷◌, ◌++◌, All, refl, sym, ap, ◌∙◌, inl, inr, subst, append-nil, append_assoc}
-use Rattle.std.specs.Prelude.{option_map, option_and_then, codes, bytes_eq}
+use Rattle.std.proofs.Common.{◌≡◌, ◌⊎◌, ℕ, Bool, true, Option, Some, None, List, [], ◌∷◌, ◌++◌, All, refl, sym, ap, ◌∙◌, inl, inr, subst, append-nil}
+use Rattle.std.specs.Prelude.{option_map, option_and_then, option_copied, find, codes, bytes_eq}
+use Rattle.std.specs.Option.{option_or}
 use Rattle.std.specs.List.{flat_map}
+use Rattle.std.proofs.lemmas.Grind.{flat_map-append}
+use Rattle.std.proofs.lemmas.List.Folds.{find-append}
 use Rattle.std.proofs.lemmas.List.Elements.{All-append, All-from_recursion}
 use Rattle.std.proofs.lemmas.Bool.{cases_Bool}
 use Rattle.std.proofs.lemmas.Slice.Eq.{bytes_eq-Decides}
@@ -12,11 +15,13 @@ use Rattle.go_board.specs.declared.referee.plays.SetupOp.{SetupOp}
 use Rattle.go_board.specs.Point.{IsRectOn}
 use Rattle.go_board.specs.Values.{rect_value}
 use Rattle.sgf_lines.specs.declared.contents.Moves.{Moves}
+use Rattle.sgf_lines.specs.declared.contents.Contents.{Contents}
 use Rattle.sgf_lines.specs.declared.contents.Kind.{Kind}
 use Rattle.sgf_lines.specs.declared.contents.Kind.TheVariants.{Move as move_kind, Stones as stones_kind, Player as player_kind, Comment as comment_kind}
-use Rattle.sgf_lines.specs.NodeContents.{Stones, moves_in, stones_in, players_in, first_value}
+use Rattle.sgf_lines.specs.NodeContents.{Move, Stones, moves_in, stones_in, players_in, is_named, first_value}
 use Rattle.sgf_lines.specs.Values.{player_value, operation, operations, last_player}
-use Rattle.sgf_lines.specs.inner.Contents.{Lists, empty_lists, combined, kind_of, lists_of_kind, lists_by, lists_in, AreMoves, AreTold}
+use Rattle.sgf_lines.specs.inner.Contents.{Lists, empty_lists, combined, kind_of, lists_by, lists_in, AreMoves, AreTold, IsContents, IsGathered}
+use Rattle.sgf_lines.specs.inner.Plain.{first_of}
 
 -- one operation before others, and after them
 abbrev before_all : Option SetupOp → Option (List SetupOp) → Option (List SetupOp)
@@ -136,15 +141,19 @@ module _ (side : ℕ) (moves : Moves) (ops : List SetupOp) (player : Option Colo
       none_after None = refl
       none_after (Some before) = refl
 
--- no contents yet
-pub tells_nothing : (side : ℕ) (moves : Moves) → AreMoves moves [] → AreTold side moves [] None false empty_lists
-tells_nothing side moves h = record {
-  moves_are = h;
-  stones = λ good. refl;
-  players = λ good. refl;
-  faults = λ bad. absurd cc;
-  on_board = All-from_recursion (λ (o : SetupOp). IsRectOn side o.area) [] tt;
-}
+  -- moves
+  pub tells_moves : (longer : Moves) (more : List Move) → AreMoves longer (held.moves ++ more) → AreTold side longer ops player faulty (combined held (record { moves = more; stones = []; players = [] }))
+  tells_moves longer more is = record {
+    moves_are = is;
+    stones = λ good. same_stones ∙ h.stones good;
+    players = λ good. same_players ∙ h.players good;
+    faults = λ bad. elim (h.faults bad) [ inl b ↦ inl (same_stones ∙ b) | inr b ↦ inr (same_players ∙ b) ];
+    on_board = h.on_board;
+  }
+
+  -- nothing
+  pub tells_no_more : AreTold side moves ops player faulty (combined held empty_lists)
+  tells_no_more = tells_moves moves [] same_moves
 
 -- what a property holds, by its name
 abbrev pub held_by : Property → Lists
@@ -184,7 +193,44 @@ by_name name first more =
       ]
     ]
 
--- what a node's properties hold is what the node holds
-pub lists_of_node : (ps : List Property) → lists_in ps ≡ record { moves = flat_map moves_in ps; stones = flat_map stones_in ps; players = flat_map players_in ps }
-lists_of_node [] = refl
-lists_of_node (p ∷ ps) = ap (λ a. combined a (lists_in ps)) (by_name p.name p.first p.more).0 ∙ ap (λ b. combined (held_by p) b) (lists_of_node ps)
+one_more : {A : Type 0} (f : Property → List A) (ps : List Property) (p : Property) (xs : List A) → f p ≡ xs → flat_map f (ps ++ p ∷ []) ≡ flat_map f ps ++ xs
+one_more f ps p xs is = flat_map-append f ps (p ∷ []) ∙ ap (λ t. flat_map f ps ++ t) (append-nil (f p) ∙ is)
+
+map_or : (x y : Option Property) → option_map (λ (p : Property). p.first) (option_or x y) ≡ option_or (option_map (λ (p : Property). p.first) x) (option_map (λ (p : Property). p.first) y)
+map_or None y = refl
+map_or (Some p) y = refl
+
+-- what properties hold, and one more of some kind
+module _ (ps : List Property) (p : Property) (k : Option Kind) (is : kind_of p ≡ k) where
+  pub held_is : held_by p ≡ lists_by k (values p)
+  held_is = sym (by_name p.name p.first p.more).0 ∙ ap (λ o. lists_by o (values p)) is
+
+  pub lists_more : lists_in (ps ++ p ∷ []) ≡ combined (lists_in ps) (lists_by k (values p))
+  lists_more =
+      let l = lists_by k (values p) in
+      let m = one_more moves_in ps p l.moves (ap (λ (l : Lists). l.moves) held_is) in
+      let s = one_more stones_in ps p l.stones (ap (λ (l : Lists). l.stones) held_is) in
+      let q = one_more players_in ps p l.players (ap (λ (l : Lists). l.players) held_is) in
+      rw (m, s, q)
+
+  pub first_value_more : first_value (codes "C") (ps ++ p ∷ []) ≡ option_or (first_value (codes "C") ps) (comment_by k p)
+  first_value_more =
+      ap (option_map (λ (p : Property). p.first)) (find-append (is_named (codes "C")) ps (p ∷ []))
+      ∙ map_or (find (is_named (codes "C")) ps) (find (is_named (codes "C")) (p ∷ []))
+      ∙ ap (option_or (first_value (codes "C") ps)) ((by_name p.name p.first p.more).1 ∙ ap (λ o. comment_by o p) is)
+
+  -- contents that tell it
+  pub gathered_more : (side : ℕ) (old new : Contents) → IsGathered side ps old → IsContents side new (combined (lists_in ps) (lists_by k (values p)))
+      → option_copied new.comment ≡ option_or (option_copied old.comment) (comment_by k p) → IsGathered side (ps ++ p ∷ []) new
+  gathered_more side old new h told comment = record {
+    told = subst (IsContents side new) (sym lists_more) told;
+    comment_is = comment ∙ ap (λ o. option_or o (comment_by k p)) h.comment_is ∙ sym first_value_more;
+  }
+
+pub no_comment : (o : Option (List ℕ)) → o ≡ option_or o None
+no_comment None = refl
+no_comment (Some c) = refl
+
+pub first_is : (o : Option (List ℕ)) (first : List ℕ) → first_of o first ≡ option_or o (Some first)
+first_is None first = refl
+first_is (Some c) first = refl

@@ -1,13 +1,17 @@
 //! What a node holds for the referee: moves, stones and players (SGF FF[4], move and setup properties).
 
-ghost use Rattle.std.specs.Prelude.{◌≡◌, ◌∷◌, ◌++◌, [], ℕ, OnOk, IfOk};
-ghost use Rattle.sgf_tree.specs.Tree.{values};
-ghost use Rattle.sgf_lines.specs.inner.Contents.{Lists, empty_lists, combined, kind_named as kind_named_lem, kind_of as kind_of_lem, lists_by, lists_of_kind, lists_in, IsContents};
+ghost use Rattle.std.specs.Prelude.{◌≡◌, ◌∷◌, ◌++◌, [], ℕ, List, OnOk, IfOk};
+ghost use Rattle.sgf_tree.specs.Tree.{Property, values};
+ghost use Rattle.sgf_lines.specs.inner.Contents.{Lists, combined, kind_named as kind_named_lem, kind_of as kind_of_lem, lists_of_kind, IsContents, IsGathered};
 
+use crate::plain::{first_comment, with_moves};
 use crate::values::player_value;
 use go_board::{Cell, Colour, SetupOp, Size, rect};
 use sgf_tree::{MemoryFault, NodeRef, PropRef};
 use std::alloc::Global;
+
+/// How many operations there is room for at first: few setups have more.
+const USUAL_OPERATIONS: usize = 40;
 
 /// The moves of a node, as far as a step asks for them.
 #[derive(Clone, Copy)]
@@ -23,6 +27,8 @@ pub(crate) enum Moves<'a> {
 #[derive(Drop)]
 pub(crate) struct Contents<'a> {
     pub(crate) moves: Moves<'a>,
+    /// The first value of its first C.
+    pub(crate) comment: Option<&'a [u8]>,
     /// What its stones set up, in order.
     pub(crate) operations: Vec<SetupOp>,
     /// The player that it names last.
@@ -47,64 +53,61 @@ impl<'a> Contents<'a> {
         node: &NodeRef<'a>,
         size: Size,
     ) -> Result<Contents<'a>, MemoryFault>
-        ensures { IfOk result (λ contents. IsContents size contents (lists_in node.now.properties)) }
+        ensures { IfOk result (IsGathered size node.now.properties) }
     {
         let mut contents = Contents {
             moves: Moves::Nothing,
-            operations: Vec::new(alloc),
+            comment: None,
+            operations: Vec::with_capacity(alloc, USUAL_OPERATIONS)?,
             player: None,
             faulty: false,
         };
-        let mut properties = node.walk();
-        while let Some(property) = properties.next() {
+        let mut left = node.walk();
+        while let Some(property) = left.next() {
             contents.take_property(&property, size)?;
         }
         Ok(contents)
     }
 
-    /// Takes the values of a property.
+    /// Takes what a property holds.
     fn take_property(&mut self, property: &PropRef<'a>, size: Size) -> Result<(), MemoryFault>
-        ensures { (held : Lists) → IsContents size self.old held
-            → OnOk result (IsContents size self.new
-            (combined held (lists_by (kind_of_lem property.now) (values property.now)))) }
+        ensures { (ps : List Property) → IsGathered size ps self.old
+            → OnOk result (IsGathered size (ps ++ property.now ∷ []) self.new) }
     {
-        let Some(kind) = kind_of(property) else {
-            return Ok(());
-        };
+        match kind_of(property) {
+            Some(Kind::Move(colour)) => self.moves = with_moves(self.moves, colour, property),
+            Some(Kind::Stones(cell)) => self.take_stones(cell, property, size)?,
+            Some(Kind::Player) => self.take_players(property),
+            Some(Kind::Comment) => self.comment = first_comment(self.comment, property),
+            None => {}
+        }
+        Ok(())
+    }
+
+    /// Takes the stones of a property.
+    fn take_stones(
+        &mut self,
+        cell: Cell,
+        property: &PropRef<'a>,
+        size: Size,
+    ) -> Result<(), MemoryFault>
+        ensures told { (held : Lists) → IsContents size self.old held
+            → OnOk result (IsContents size self.new
+            (combined held (lists_of_kind (Kind.Stones cell) (values property.now)))) }
+        ensures comment { self.new.comment ≡ self.old.comment }
+    {
         let mut values = property.walk();
         while let Some(raw) = values.next() {
-            self.take_value(kind, raw, size)?;
+            self.take_area(cell, raw, size)?;
         }
         Ok(())
     }
 
-    /// Takes one value.
-    fn take_value(&mut self, kind: Kind, raw: &'a [u8], size: Size) -> Result<(), MemoryFault>
-        ensures { (held : Lists) → IsContents size self.old held
-            → OnOk result (IsContents size self.new (combined held (lists_of_kind kind (raw.now ∷ [])))) }
-    {
-        match kind {
-            Kind::Move(colour) => self.take_move(colour, raw),
-            Kind::Stones(cell) => self.take_stones(cell, raw, size)?,
-            Kind::Player => self.take_player(raw),
-            Kind::Comment => {}
-        }
-        Ok(())
-    }
-
-    fn take_move(&mut self, colour: Colour, raw: &'a [u8])
-        ensures { (side : ℕ) (held : Lists) → IsContents side self.old held
-            → IsContents side self.new (combined held (lists_of_kind (Kind.Move colour) (raw.now ∷ []))) }
-    {
-        self.moves = match self.moves {
-            Moves::Nothing => Moves::One(colour, raw),
-            Moves::One(..) | Moves::Several => Moves::Several,
-        };
-    }
-
-    fn take_stones(&mut self, cell: Cell, raw: &[u8], size: Size) -> Result<(), MemoryFault>
-        ensures { (held : Lists) → IsContents size self.old held
+    /// Takes one value of stones.
+    fn take_area(&mut self, cell: Cell, raw: &[u8], size: Size) -> Result<(), MemoryFault>
+        ensures told { (held : Lists) → IsContents size self.old held
             → OnOk result (IsContents size self.new (combined held (lists_of_kind (Kind.Stones cell) (raw.now ∷ [])))) }
+        ensures comment { self.new.comment ≡ self.old.comment }
     {
         match rect(raw, size) {
             Some(area) => {
@@ -115,9 +118,23 @@ impl<'a> Contents<'a> {
         Ok(())
     }
 
+    /// Takes the players of a property.
+    fn take_players(&mut self, property: &PropRef<'a>)
+        ensures told { (side : ℕ) (held : Lists) → IsContents side self.old held
+            → IsContents side self.new (combined held (lists_of_kind Kind.Player (values property.now))) }
+        ensures comment { self.new.comment ≡ self.old.comment }
+    {
+        let mut values = property.walk();
+        while let Some(raw) = values.next() {
+            self.take_player(raw);
+        }
+    }
+
+    /// Takes one value of a player.
     fn take_player(&mut self, raw: &[u8])
-        ensures { (side : ℕ) (held : Lists) → IsContents side self.old held
+        ensures told { (side : ℕ) (held : Lists) → IsContents side self.old held
             → IsContents side self.new (combined held (lists_of_kind Kind.Player (raw.now ∷ []))) }
+        ensures comment { self.new.comment ≡ self.old.comment }
     {
         match player_value(raw) {
             Some(colour) => self.player = Some(colour),

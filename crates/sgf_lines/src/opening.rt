@@ -35,7 +35,7 @@ pub(crate) fn opening_of(root: &NodeRef<'_>) -> Opening
 }
 
 /// The first value of a node's first property of that name.
-pub(crate) fn first_value<'a>(node: &NodeRef<'a>, name: &[u8]) -> Option<&'a [u8]>
+fn first_value<'a>(node: &NodeRef<'a>, name: &[u8]) -> Option<&'a [u8]>
     ensures { option_copied result ≡ first_value_lem name.now node.now.properties }
 {
     let property = node.first(name)?;

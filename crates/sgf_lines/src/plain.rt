@@ -104,7 +104,7 @@ impl<'a> Plain<'a> {
 
 /// These moves and those of a property.
 #[tactic(auto, using(crate::proofs::PlainNodes::two_at_least))]
-fn with_moves<'a>(moves: Moves<'a>, colour: Colour, property: &PropRef<'a>) -> Moves<'a>
+pub(crate) fn with_moves<'a>(moves: Moves<'a>, colour: Colour, property: &PropRef<'a>) -> Moves<'a>
     ensures { (ms : List Move) → AreMoves moves.entry ms → AreMoves result (ms ++ moves_by colour property.now) }
 {
     let mut values = property.walk();
@@ -119,7 +119,10 @@ fn with_moves<'a>(moves: Moves<'a>, colour: Colour, property: &PropRef<'a>) -> M
 }
 
 /// The comment that was met, else that of a property.
-fn first_comment<'a>(comment: Option<&'a [u8]>, property: &PropRef<'a>) -> Option<&'a [u8]>
+pub(crate) fn first_comment<'a>(
+    comment: Option<&'a [u8]>,
+    property: &PropRef<'a>,
+) -> Option<&'a [u8]>
     ensures { option_copied result ≡ first_of (option_copied comment.entry) property.now.first }
 {
     match comment {

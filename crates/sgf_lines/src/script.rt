@@ -1,8 +1,9 @@
 //! The script of a line: commands of the Go Text Protocol (GTP 2).
 
-ghost use Rattle.std.specs.Prelude.{◌≡◌, [], ◌∷◌, ◌++◌, ◌≤◌, ◌<◌, ◌*◌, Some, slice_get, OnOk, option_copied};
+ghost use Rattle.std.specs.Prelude.{◌≡◌, [], ◌∷◌, ◌++◌, ◌≤◌, ◌<◌, ◌*◌, OnOk, option_copied};
 ghost use Rattle.sgf_tree.specs.Tree.{Node};
-ghost use Rattle.go_board.specs.Point.{IsOn, points};
+ghost use Rattle.go_board.specs.Point.{IsOn, point_at as point_at_lem};
+ghost use Rattle.go_board.specs.Grid.{Grid, cell_at};
 ghost use Rattle.go_board.specs.State.{State, IsPlayOn};
 ghost use Rattle.sgf_lines.specs.Script.{text_lines, comment_line, comment_text, colour_letter, play_line, stone_lines, board_lines, node_script, board_commands};
 ghost use Rattle.sgf_lines.specs.inner.Stepping.{IsStepOf};
@@ -10,7 +11,7 @@ ghost use Rattle.sgf_lines.specs.inner.Cutting.{lines_at, pass_line, stone_line}
 
 use crate::step::{Effect, TakenStep};
 use crate::text::{push_bytes, push_number};
-use go_board::{Board, Colour, MAX_VERTEX_SIDE, Play, Point, Size, Vertex, vertex};
+use go_board::{Board, Cell, Colour, MAX_VERTEX_SIDE, Play, Point, Size, Vertex, vertex};
 use sgf_tree::{MemoryFault, push_text};
 use std::alloc::Global;
 
@@ -97,25 +98,28 @@ fn push_stones(board: &Board, colour: Colour, output: &mut Vec<u8>) -> Result<()
     ensures { OnOk result (output.new.items ≡ output.old.items ++ stone_lines board.now colour) }
 {
     let size = board.size();
-    for index in 0..size.points() {
-        push_stone_at(board, colour, point_at(index, size), output)?;
+    let cells = board.cells();
+    for index in 0..cells.len() {
+        push_cell(cells[index], index, size, colour, output)?;
     }
     Ok(())
 }
 
-/// Appends the stone on a point, if it is of that colour.
-fn push_stone_at(
-    board: &Board,
+/// Appends the stone that stands at an index, if it is of that colour.
+fn push_cell(
+    cell: Cell,
+    index: usize,
+    size: Size,
     colour: Colour,
-    point: Point,
     output: &mut Vec<u8>,
 ) -> Result<(), MemoryFault>
-    requires letters { board.now.side ≤ MAX_VERTEX_SIDE }
-    requires on_board { IsOn board.now.side point }
-    ensures { OnOk result (output.new.items ≡ output.old.items ++ lines_at board.now colour point) }
+    requires letters { size ≤ MAX_VERTEX_SIDE }
+    requires on_board { index < size * size }
+    ensures { (grid : Grid) → grid.side ≡ size → cell_at grid (point_at_lem size index) ≡ cell
+        → OnOk result (output.new.items ≡ output.old.items ++ lines_at grid colour (point_at_lem size index)) }
 {
-    if board.at(point) == colour.stone() {
-        push_play(board.size(), colour, Play::Stone(point), output)
+    if cell == colour.stone() {
+        push_play(size, colour, Play::Stone(point_at(index, size)), output)
     } else {
         Ok(())
     }
@@ -124,7 +128,7 @@ fn push_stone_at(
 /// The point of that index in a list that goes row by row from the top, from left to right.
 fn point_at(index: usize, size: Size) -> Point
     requires { index < size * size }
-    ensures value { slice_get (points size) index ≡ Some result }
+    ensures value { result ≡ point_at_lem size index }
     ensures on_board { IsOn size result }
 {
     let side = usize::from(size.side());

@@ -10,7 +10,6 @@ ghost use Rattle.sgf_lines.specs.inner.Plain.{IsPlain, HasMovesAlone};
 ghost use Rattle.sgf_lines.specs.inner.Stepping.{IsStepped, IsStepOf, IsEffect, IsEffectBy, IsTurnBy, IsSetupMet, fault_of};
 
 use crate::contents::{Contents, Moves};
-use crate::opening::first_value;
 use crate::plain::Plain;
 use crate::values::move_value;
 use go_board::{Colour, Past, Play, Reason, Referee, Size, TurnFault};
@@ -144,7 +143,7 @@ fn play_setup<'a, P: Past>(
     match play_contents(referee, &contents, size) {
         Ok(effect) => Ok(TakenStep {
             effect,
-            comment: first_value(node, b"C"),
+            comment: contents.comment,
         }),
         Err(fault) => Err(fault),
     }

@@ -1,6 +1,7 @@
 -- How a node's contents are gathered, value after value.
-use Rattle.std.specs.Prelude.{◌≡◌, ◌⊎◌, ℕ, Bool, true, false, if◌then◌else◌, Option, Some, None, List, [], ◌∷◌, ◌++◌, map, All, codes, bytes_eq}
-use Rattle.sgf_tree.specs.Tree.{Property, values}
+use Rattle.std.specs.Prelude.{◌≡◌, ◌⊎◌, ℕ, Bool, true, false, if◌then◌else◌, Option, Some, None, List, [], ◌∷◌, ◌++◌, map, All, codes, bytes_eq, option_copied}
+use Rattle.std.specs.List.{flat_map}
+use Rattle.sgf_tree.specs.Tree.{Property}
 use Rattle.go_board.specs.declared.stones.Colour.{Colour}
 use Rattle.go_board.specs.declared.stones.Colour.TheVariants.{Black, White}
 use Rattle.go_board.specs.declared.stones.Cell.TheVariants.{Black as BlackStone, White as WhiteStone, Empty}
@@ -11,7 +12,7 @@ use Rattle.sgf_lines.specs.declared.contents.Moves.TheVariants.{Nothing, One, Se
 use Rattle.sgf_lines.specs.declared.contents.Kind.{Kind}
 use Rattle.sgf_lines.specs.declared.contents.Kind.TheVariants.{Move as move_kind, Stones as stones_kind, Player as player_kind, Comment as comment_kind}
 use Rattle.sgf_lines.specs.declared.contents.Contents.{Contents}
-use Rattle.sgf_lines.specs.NodeContents.{Move, Stones}
+use Rattle.sgf_lines.specs.NodeContents.{Move, Stones, moves_in, stones_in, players_in, first_value}
 use Rattle.sgf_lines.specs.Values.{operations, last_player}
 
 -- moves, stones and players
@@ -53,8 +54,7 @@ lists_by None raws = empty_lists
 
 -- those of properties
 abbrev pub lists_in : List Property → Lists
-lists_in [] = empty_lists
-lists_in (p ∷ ps) = combined (lists_by (kind_of p) (values p)) (lists_in ps)
+lists_in ps = record { moves = flat_map moves_in ps; stones = flat_map stones_in ps; players = flat_map players_in ps }
 
 -- the moves, as far as they are told
 abbrev pub AreMoves : Moves → List Move → Type 0
@@ -72,3 +72,8 @@ pub record AreTold (side : ℕ) (moves : Moves) (ops : List SetupOp) (player : O
 
 abbrev pub IsContents : ℕ → Contents → Lists → Type 0
 IsContents side c held = AreTold side c.moves c.operations.items c.player c.faulty held
+
+-- the contents tell what properties hold
+pub record IsGathered (side : ℕ) (ps : List Property) (c : Contents) : Type 0 where
+  pub told : IsContents side c (lists_in ps)
+  pub comment_is : option_copied c.comment ≡ first_value (codes "C") ps

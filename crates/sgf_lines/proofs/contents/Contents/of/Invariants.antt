@@ -1,10 +1,11 @@
--- What the contents tell, combined with what the properties left hold, is what the node's properties hold.
-use Rattle.std.proofs.Common.{◌≡◌, length}
-use Rattle.sgf_lines.specs.inner.Contents.{Lists, combined, lists_in, IsContents}
+-- The contents tell what the properties hold that were taken off.
+use Rattle.std.proofs.Common.{◌≡◌, ◌++◌, List, length}
+use Rattle.sgf_tree.specs.Tree.{Property}
+use Rattle.sgf_lines.specs.inner.Contents.{IsGathered}
 use Rattle.sgf_lines.proofs.contents.Contents.of.Given as goal
 
 abbrev pub invariant-loop-property : goal.invariant-loop-property
-invariant-loop-property l = (told : Lists) × IsContents l.size l.contents told × (combined told (lists_in l.properties) ≡ lists_in l.node.properties)
+invariant-loop-property l = (front : List Property) × IsGathered l.size front l.contents × (front ++ l.left ≡ l.node.properties)
 
 abbrev pub decreases-loop-property : goal.decreases-loop-property
-decreases-loop-property l = length l.properties
+decreases-loop-property l = length l.left

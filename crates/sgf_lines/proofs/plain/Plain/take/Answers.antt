@@ -3,7 +3,8 @@ use Rattle.std.proofs.Common.{Some, None, refl, sym, ap, ◌∙◌}
 use Rattle.std.specs.Prelude.{option_copied}
 use Rattle.sgf_lines.specs.declared.contents.Kind.TheVariants.{Move, Comment}
 use Rattle.sgf_lines.specs.declared.plain.Plain.{Plain}
-use Rattle.sgf_lines.proofs.PlainNodes.{plain_more, same_moves, no_comment, first_is}
+use Rattle.sgf_lines.proofs.Gathering.{no_comment, first_is}
+use Rattle.sgf_lines.proofs.PlainNodes.{plain_more, same_moves}
 use Rattle.sgf_lines.proofs.plain.Plain.take.Goals as goal
 
 pub returns-in-Some-Move : goal.returns-in-Some-Move
