@@ -135,6 +135,19 @@ impl Board {
         self.settled = false;
     }
 
+    /// Colours one point as `set` does, where the print of what that makes isn't asked for, or is given back by `restore`.
+    pub(crate) fn set_unprinted(&mut self, point: Point, cell: Cell)
+        requires { IsOn self.old.side point }
+        ensures { self.new ≡ with_cell self.old point cell }
+    {
+        prove!(self.size.side() <= MAX_SIDE);
+        let index = point.index(self.size);
+        self.cells[index] = cell;
+        self.rows.set(point, cell);
+        self.settled = false;
+        self.printed = false;
+    }
+
     /// Colours every point: cells are the points row by row from the top, from left to right.
     pub fn set_cells(&mut self, cells: &[Cell])
         requires { length cells.now ≡ self.old.side * self.old.side }
@@ -186,12 +199,15 @@ impl Board {
         self.settled
     }
 
-    /// Gives back what `is_settled` told of this same colouring. Nothing that is seen changes.
-    pub(crate) fn restore_settled(&mut self, settled: bool)
-        requires { IsTrue settled → has_unreaching self.old ≡ false }
+    /// Gives back what was known of this same colouring: what `is_settled` told, and its print. Nothing that is seen changes.
+    pub(crate) fn restore(&mut self, settled: bool, print: u64)
+        requires settled { IsTrue settled → has_unreaching self.old ≡ false }
+        requires print { print ≡ print_of self.old.cells }
         ensures { self.new ≡ self.old }
     {
         self.settled = settled;
+        self.print = print;
+        self.printed = true;
     }
 
     /// The print of the colouring: kept where points are set one by one, else worked out from all points.

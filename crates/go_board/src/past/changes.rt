@@ -34,7 +34,7 @@ pub(crate) struct Older {
     pub settled: bool,
 }
 
-/// Takes a board back by changes, one after another.
+/// Takes a board back by changes, one after another. Its print isn't carried along.
 pub(crate) fn take_back(board: &mut Board, changes: &[Change])
     requires { AreOn board.old.side changes.now }
     ensures { board.new ≡ after_changes board.old changes.now }
@@ -51,10 +51,10 @@ fn colour(board: &mut Board, change: &Change)
 {
     let size = board.size();
     let mut point = change.point;
-    board.set(point, change.cell);
+    board.set_unprinted(point, change.cell);
     for after in 0..change.more {
         point = point.following(size);
-        board.set(point, change.cell);
+        board.set_unprinted(point, change.cell);
     }
 }
 

@@ -4,7 +4,7 @@ ghost use Rattle.std.specs.Prelude.{◌≡◌, ◌+◌, ◌-◌, ◌<◌, ◌≤
 ghost use Rattle.go_board.specs.declared.stones.Cell.TheVariants.{Empty};
 ghost use Rattle.go_board.specs.Colour.{stone_of};
 ghost use Rattle.go_board.specs.Point.{IsOn};
-ghost use Rattle.go_board.specs.Grid.{cell_at, with_cell, empty_grid};
+ghost use Rattle.go_board.specs.Grid.{Grid, cell_at, with_cell, empty_grid};
 ghost use Rattle.go_board.specs.Clearing.{play};
 ghost use Rattle.go_board.specs.Past.{Held, newest, newest_grid, present_stretch, HaveSide};
 ghost use Rattle.go_board.specs.inner.Print.{print_of};
@@ -160,15 +160,16 @@ impl Colourings {
         Ok(())
     }
 
-    /// Takes the newest colouring back.
-    pub(crate) fn pop(&mut self)
-        requires { 2 ≤ length self.old }
+    /// Takes the newest colouring back. The print is that of the colouring before it.
+    pub(crate) fn pop(&mut self, print: u64)
+        requires some { 2 ≤ length self.old }
+        requires print { (g : Grid) → newest (drop 1 self.old) ≡ Some g → print ≡ print_of g.cells }
         ensures { self.new ≡ drop 1 self.old }
     {
         let kept = self.older.pop().unwrap();
         let start = self.changes.len() - usize::from(kept.changes);
         take_back(&mut self.newest, &self.changes[start..]);
-        self.newest.restore_settled(kept.settled);
+        self.newest.restore(kept.settled, print);
         self.changes.truncate(start);
         self.since = kept.since;
     }

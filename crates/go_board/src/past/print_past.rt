@@ -94,8 +94,8 @@ impl Past for PrintPast {
     }
 
     fn pop(&mut self) {
-        self.colourings.pop();
         let _ = self.prints.pop();
+        self.colourings.pop(self.prints.newest());
     }
 
     fn reset(&mut self, _alloc: Global, size: Size) -> Result<(), MemoryFault> {

@@ -1,6 +1,6 @@
 //! A list of prints in which one print is found without a look at most of the others.
 
-ghost use Rattle.std.specs.Prelude.{◌≡◌, ◌+◌, ◌<◌, ◌≤◌, ◌^◌, [], ◌∷◌, ◌++◌, IfOk, OnOk, OnErr, length, replicate};
+ghost use Rattle.std.specs.Prelude.{◌≡◌, ◌+◌, ◌-◌, ◌<◌, ◌≤◌, ◌^◌, [], ◌∷◌, ◌++◌, IfOk, OnOk, OnErr, length, replicate, slice_index};
 ghost use Rattle.go_board.specs.inner.Table.{key_of, mixed, folded, AreLinked, IsLastOf};
 
 use crate::fault::MemoryFault;
@@ -8,7 +8,7 @@ use std::alloc::Global;
 use std::marker::Model;
 
 /// How many heads the table of a new past has.
-const FIRST_HEADS: usize = 512;
+const FIRST_HEADS: usize = 1024;
 
 /// How many prints a new past has room for.
 const FIRST_PRINTS: usize = 64;
@@ -19,8 +19,8 @@ const HEADS_AT_ONCE: usize = 64;
 /// An odd number with many bits set, which spreads the bits of a print upwards.
 const MIXER: u64 = 0xd6e8_feb8_6659_fd93;
 
-/// Prints, oldest first. Those with one key are linked from the newest to the oldest. There
-/// are at least half as many keys as prints, once there are many.
+/// Prints, oldest first. Those with one key are linked from the newest to the oldest. There are
+/// at least as many keys as prints, so that mostly none has the key of another one.
 #[derive(Drop)]
 pub(crate) struct Table {
     /// For each key the number of the newest print that has it: one more than its index, or 0 where there is none.
@@ -70,6 +70,14 @@ impl Table {
         self.prints.len()
     }
 
+    /// The newest print.
+    pub(crate) fn newest(&self) -> u64
+        requires { 0 < length self.now }
+        ensures { result ≡ slice_index self.now (length self.now - 1) }
+    {
+        self.prints[self.prints.len() - 1]
+    }
+
     /// The index of the last print from one index to another that is that one.
     pub(crate) fn last_between(&self, print: u64, start: usize, end: usize) -> Option<usize>
         requires { end ≤ length self.now }
@@ -95,7 +103,7 @@ impl Table {
         if index >= u32::MAX as usize {
             return Err(MemoryFault);
         }
-        if index / 2 >= self.heads.len() {
+        if index >= self.heads.len() {
             self.grow()?;
         }
         self.add(print)

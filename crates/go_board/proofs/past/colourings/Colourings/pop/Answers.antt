@@ -12,4 +12,4 @@ invariant_of-self c =
     let start : c.len.result - c.from.result ≡ length p.changes.items - o.changes = search rules in
     let less = past-pop p.newest p.since p.older.items c.pop.new.self.items o p.changes.items parts c.self.invariant in
     let board = rw (c.deref.ensures.value, take_rest p.changes.items (c.len.result - c.from.result), start) at c.take_back.ensures in
-    rw (c.restore_settled.ensures, board, c.truncate.ensures.items, start) less
+    rw (c.restore.ensures, board, c.truncate.ensures.items, start) less
