@@ -71,7 +71,7 @@ reaches_beside_one h d from one other on by by_other lives =
     elim lives [ inl a ↦ reaches_beside h d from one on by a | inr b ↦ reaches_beside h d from other on by_other b ]
 
 -- taking nothing off
-LosesDead-none : (g : Grid) (k : Colour) → LosesDead g g k
+pub LosesDead-none : (g : Grid) (k : Colour) → LosesDead g g k
 LosesDead-none g k = record {
   same_side = refl;
   all = refl;

@@ -21,7 +21,7 @@ with_cell-back g p c =
     (set-set g.cells (index_of g.side p) c (cell_at g p) ∙ set-get_or g.cells (index_of g.side p) Empty)
 
 -- a change of one point
-with_run-one : (g : Grid) (p : Point) (c : Cell) → with_run g (record { point = p; cell = c; more = 0 }) ≡ with_cell g p c
+pub with_run-one : (g : Grid) (p : Point) (c : Cell) → with_run g (record { point = p; cell = c; more = 0 }) ≡ with_cell g p c
 with_run-one g p c =
     let same : index_of g.side p + 0 ≡ index_of g.side p = omega arith in
     ap (λ i. record { side = g.side; cells = set g.cells i c }) same

@@ -10,7 +10,7 @@ use Rattle.go_board.specs.declared.past.changes.Older.{Older}
 use Rattle.go_board.specs.Grid.{Grid}
 use Rattle.go_board.specs.Clearing.{has_unreaching}
 use Rattle.go_board.specs.Past.{Held, newest, present_stretch}
-use Rattle.go_board.specs.inner.Changes.{after_changes, with_run, IsRunOn, before, changes_before, held_before, AreKept, AreCounted, IsPast}
+use Rattle.go_board.specs.inner.Changes.{after_changes, with_run, IsRunOn, before, changes_before, held_before, AreKept, AreCounted, AreOn, IsPast}
 use Rattle.go_board.proofs.ChangesLemmas.{after-side, last-back, last-front}
 
 -- a stretch has no more older colourings than there are
@@ -53,6 +53,16 @@ past-pop g since older older' o changes parts past =
       kept = kept.2;
       counted = counted.1;
       on_grid = rw side (All-take (IsRunOn g.side) (length changes - o.changes) changes past.on_grid);
+    }
+
+-- one colouring more, from which the newest changes lead back
+pub past-more : (g h : Grid) (since next : ℕ) (older : List Older) (o : Older) (old new : List Change) → next ≡ since + 1 → o.since ≡ since → o.changes ≤ length new → before h o new ≡ g → changes_before o new ≡ old → IsPast g since older old → (IsTrue o.settled → has_unreaching g ≡ false) → AreOn h.side new → IsPast h next (older ++ o ∷ []) new
+past-more g h since next older o old new follows same few before_is rest_is past settled on =
+    let turned : reverse (older ++ o ∷ []) ≡ o ∷ reverse older = reverse-append older (o ∷ []) in
+    record {
+      kept = rw turned (few, λ is. ap has_unreaching before_is ∙ settled is, rw (before_is, rest_is) past.kept);
+      counted = rw turned ((λ _. omega (arith, follows, same)), rw same past.counted);
+      on_grid = on;
     }
 
 -- one colouring more, from which one change leads back

@@ -34,6 +34,7 @@ pub mod PrintPastLemmas
 pub mod RangeLemmas
 pub mod ChangesLemmas
 pub mod ColouringsLemmas
+pub mod TakenLemmas
 pub mod TableLemmas
 pub mod StoneRowsLemmas
 pub mod AloneLemmas

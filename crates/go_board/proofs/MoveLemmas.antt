@@ -170,6 +170,21 @@ still_settled g h k q loses on settled = λ stone. loses.still q on (settled (le
 on_next : (g h : Grid) (k : Colour) (q : Point) → LosesDead g h k → IsOn g.side q → IsOn h.side q
 on_next g h k q loses on = subst (λ s. IsOn s q) (sym loses.same_side) on
 
+-- dead groups are taken after others
+pub LosesDead-twice : (a b c : Grid) (k : Colour) → LosesDead a b k → LosesDead b c k → LosesDead a c k
+LosesDead-twice a b c k ab bc = record {
+  same_side = bc.same_side ∙ ab.same_side;
+  all = bc.all ∙ ab.all;
+  taken = λ p on.
+      elim (bc.taken p (on_next a b k p ab on)) [
+        | inl same ↦
+            elim (ab.taken p on) [ inl was ↦ inl (same ∙ was) | inr gone ↦ inr (same ∙ gone.0, gone.1) ]
+        | inr gone ↦ inr (gone.0, left_over a b k k p ab on gone.1)
+      ];
+  still = λ p on way. bc.still p (on_next a b k p ab on) (ab.still p on way);
+  cleared = bc.cleared ∙ ab.cleared;
+}
+
 -- the dead groups of the four neighbours are taken in turn
 pub ReachBeside-four : (a b c d e : Grid) (k : Colour) (p : Point) → LosesDead a b k → LosesDead b c k → LosesDead c d k → LosesDead d e k → ForSome (left_of p) (ReachesIfStone b k) → ForSome (right_of a.side p) (ReachesIfStone c k) → ForSome (above p) (ReachesIfStone d k) → ForSome (below a.side p) (ReachesIfStone e k) → ReachBeside e k p
 unfolding IsNeighbour

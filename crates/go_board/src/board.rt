@@ -9,10 +9,10 @@ mod glance;
 mod group;
 #[cfg(test)]
 mod move_tests;
-mod regions;
+pub(crate) mod regions;
 mod reset;
 mod search;
-mod stone_rows;
+pub(crate) mod stone_rows;
 mod sweep;
 #[cfg(test)]
 mod tests;

@@ -1,5 +1,6 @@
 //! The colourings that a game has been through.
 
+mod captures;
 mod changes;
 mod colourings;
 mod differences;
@@ -61,7 +62,7 @@ pub trait Past: Drop {
             ≡ record { colouring = board.now; begins = true } ∷ held self.old) }
         ensures err { OnErr result (held self.new ≡ held self.old) };
 
-    /// Tries a stone on an empty point of the newest colouring: where it is quickly told that it captures nothing and that
+    /// Tries a stone on an empty point of the newest colouring: where it is told in place what the stone captures and that
     /// the present stretch hasn't the colouring that it makes, that colouring is added to the stretch. Tells whether it
     /// was. If not, nothing is changed, and nothing is known of the stone. Memory is asked for only once it is told.
     fn try_stone(&mut self, colour: Colour, point: Point) -> Result<bool, MemoryFault>

@@ -1,5 +1,7 @@
 //! The referee: the rules of Tromp-Taylor over a past, with undo.
 
+#[cfg(test)]
+mod capture_tests;
 mod earlier;
 mod plays;
 mod reset;

@@ -82,6 +82,22 @@ impl Board {
         }
     }
 
+    /// Whether there is no stone of a colour on a point, or its group has a liberty.
+    pub(crate) fn lives_if_stone(&self, colour: Colour, point: Point) -> bool
+        requires { IsOn self.now.side point }
+        ensures { IsTrue result → ReachesIfStone self.now colour point }
+    {
+        if self.at(point) != colour.stone() {
+            return true;
+        }
+        if self.has_liberty(point) {
+            return true;
+        }
+        let mut words = no_rows::<MAX_ROWS>();
+        let group = &mut words[..usize::from(self.size.side())];
+        self.group_has_liberty(colour, point, point, group)
+    }
+
     /// Whether the group of a stone has a liberty, besides a certain point. If not, the whole group is found.
     pub(crate) fn group_has_liberty(
         &self,
@@ -148,7 +164,7 @@ impl Board {
 
     /// Whether a point has an empty neighbour.
     #[tactic(auto, unfolding(crate::specs::inner::Groups::has_liberty))]
-    fn has_liberty(&self, point: Point) -> bool
+    pub(crate) fn has_liberty(&self, point: Point) -> bool
         requires { IsOn self.now.side point }
         ensures { result ≡ has_liberty self.now point }
     {

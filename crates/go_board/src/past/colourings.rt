@@ -1,6 +1,6 @@
 //! Past colourings, of which the newest is kept whole, and of each older one the changes that lead back to it.
 
-ghost use Rattle.std.specs.Prelude.{◌≡◌, ◌+◌, ◌-◌, ◌<◌, ◌≤◌, ◌↔◌, [], ◌∷◌, Some, true, false, IsTrue, IfOk, OnOk, OnErr, if◌then◌else◌, length, map, take, drop};
+ghost use Rattle.std.specs.Prelude.{◌≡◌, ◌+◌, ◌-◌, ◌<◌, ◌≤◌, ◌↔◌, [], ◌∷◌, Some, true, false, IsTrue, IsFalse, IfOk, OnOk, OnErr, if◌then◌else◌, length, map, take, drop};
 ghost use Rattle.go_board.specs.declared.stones.Cell.TheVariants.{Empty};
 ghost use Rattle.go_board.specs.Colour.{stone_of};
 ghost use Rattle.go_board.specs.Point.{IsOn};
@@ -11,6 +11,7 @@ ghost use Rattle.go_board.specs.inner.Print.{print_of};
 
 use crate::board::Board;
 use crate::fault::MemoryFault;
+use crate::past::captures::place_on;
 use crate::past::changes::{Change, Older, follow, take_back};
 use crate::points::Point;
 use crate::size::Size;
@@ -158,6 +159,39 @@ impl Colourings {
         self.older.push(kept).unwrap();
         self.since = since;
         Ok(())
+    }
+
+    /// Places a stone on an empty point of the newest colouring, and takes off what it captures: that colouring goes on in
+    /// the present stretch. Tells whether it was done. It takes no memory, and is done only where every stone is known to
+    /// reach empty, the stone isn't captured itself, and there is room for what is kept.
+    pub(crate) fn place(&mut self, colour: Colour, point: Point) -> bool
+        requires on_board { IsOn (newest_grid self.old).side point }
+        requires empty { cell_at (newest_grid self.old) point ≡ Empty }
+        ensures done { IsTrue result → self.new ≡ record {
+          colouring = play (newest_grid self.old) colour point;
+          begins = false;
+        } ∷ self.old }
+        ensures unchanged { IsFalse result → self.new ≡ self.old }
+    {
+        let Ok(since) = next_since(self.since, false) else {
+            return false;
+        };
+        if self.older.len() >= self.older.capacity() {
+            return false;
+        }
+        let settled = self.newest.is_settled();
+        let placed = place_on(&mut self.newest, colour, point, &mut self.changes);
+        let Some(changes) = placed else {
+            return false;
+        };
+        let kept = Older {
+            since: self.since,
+            changes,
+            settled,
+        };
+        self.older.push(kept).unwrap();
+        self.since = since;
+        true
     }
 
     /// Takes the newest colouring back. The print is that of the colouring before it.

@@ -79,7 +79,7 @@ impl Past for PrintPast {
     fn try_stone(&mut self, colour: Colour, point: Point) -> Result<bool, MemoryFault> {
         let newest = self.colourings.newest();
         if !newest.captures_nothing(colour, point) {
-            return Ok(false);
+            return self.try_captures(colour, point);
         }
         let print = newest.print_after(point, colour.stone());
         if self.has_print(print) {
@@ -106,9 +106,12 @@ impl Past for PrintPast {
 }
 
 impl PrintPast {
-    ghost use Rattle.std.specs.Prelude.{◌≡◌, ◌∷◌, IsFalse, OnOk, OnErr};
-    ghost use Rattle.go_board.specs.Grid.{Grid};
-    ghost use Rattle.go_board.specs.Past.{HaveSide};
+    ghost use Rattle.std.specs.Prelude.{◌≡◌, ◌∷◌, false, if◌then◌else◌, IsFalse, IfOk, OnOk, OnErr};
+    ghost use Rattle.go_board.specs.declared.stones.Cell.TheVariants.{Empty};
+    ghost use Rattle.go_board.specs.Point.{IsOn};
+    ghost use Rattle.go_board.specs.Grid.{Grid, cell_at};
+    ghost use Rattle.go_board.specs.Clearing.{play};
+    ghost use Rattle.go_board.specs.Past.{HaveSide, newest_grid};
     ghost use Rattle.go_board.specs.inner.Print.{print_of};
 
     /// Whether a colouring of the present stretch has that print.
@@ -120,6 +123,38 @@ impl PrintPast {
         self.prints
             .last_between(print, start, self.prints.len())
             .is_some()
+    }
+
+    /// Tries a stone that may capture: the colouring that it makes is made in place, and taken back where the present stretch
+    /// has its print. Tells whether it was added. No memory is asked for before the print is known to be new.
+    fn try_captures(&mut self, colour: Colour, point: Point) -> Result<bool, MemoryFault>
+        requires on_board { IsOn (newest_grid self.old).side point }
+        requires empty { cell_at (newest_grid self.old) point ≡ Empty }
+        ensures new { IfOk result (λ taken. IsTrue taken
+            → ¬ Contains (present_stretch self.old) (play (newest_grid self.old) colour point)) }
+        ensures ok { IfOk result (λ taken. self.new ≡ (if taken then
+            record { colouring = play (newest_grid self.old) colour point; begins = false } ∷ self.old
+            else self.old)) }
+        ensures refused { OnErr result
+            (¬ Contains (present_stretch self.old) (play (newest_grid self.old) colour point)) }
+        ensures err { OnErr result (self.new ≡ self.old) }
+    {
+        let before = self.colourings.newest().print();
+        let start = self.colourings.stretch_start();
+        if !self.colourings.place(colour, point) {
+            return Ok(false);
+        }
+        let print = self.colourings.newest().print();
+        let same = self.prints.last_between(print, start, self.prints.len());
+        if same.is_some() {
+            self.colourings.pop(before);
+            return Ok(false);
+        }
+        if self.prints.push(print).is_err() {
+            self.colourings.pop(before);
+            return Err(MemoryFault);
+        }
+        Ok(true)
     }
 
     /// Adds a colouring, which begins a stretch or goes on in the present one.
