@@ -88,7 +88,7 @@ def main():
     boards("ko.svg",
            ([".XO.", "XO.O", ".XO.", "...."], "the setup", ["AB[ba][ab][bc]", "AW[ca][db][cc][bb]"]),
            ([".XO.", "X.CO", ".XO.", "...."], "Black takes", ["B[cb]: the white stone at B3", "has no liberty left"]),
-           ([".XO.", "X!XO", ".XO.", "...."], "White may not take back", ["W[bb] would make the", "setup again: illegal 2 .. repeat"]),
+           ([".XO.", "X!XO", ".XO.", "...."], "White may not retake", ["W[bb] would make the", "setup again: illegal 2 .. repeat"]),
            ([".XO.", "XD.O", ".XO.", "O..X"], "later she may", ["W[ad], B[dd], W[bb]: two stones", "are new, so nothing repeats"]))
     boards("setup.svg",
            (["XO.", "O..", "..."], "a setup clears nothing", ["AB[aa]AW[ba][ab]: the black stone", "reaches no empty point, and stands"]),

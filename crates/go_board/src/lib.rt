@@ -4,7 +4,7 @@
 //! playing a stone captures the opponent's groups without a liberty and then, where its own has none, that (suicide). A
 //! `Referee` is seen as the list of the states that a game went through: an accepted setup or turn adds the state that
 //! the rules say, a refusal changes nothing, and undo takes the newest state back. A turn that would bring back a
-//! colouring since the last setup is refused (positional superko), for which a `Past` holds the colourings.
+//! colouring since the last setup of stones is refused (positional superko), for which a `Past` holds the colourings.
 //!
 //! ```text
 //! let mut referee = Referee::<ListPast>::new(alloc, size)?;
