@@ -95,6 +95,8 @@ impl Table {
     }
 
     /// Adds a print. After a refusal nothing is changed. Memory is refused, too, for more than 4,294,967,295 prints.
+    // inlined, its key is worked out once for it and the look-up before it
+    #[inline(always)]
     pub(crate) fn push(&mut self, print: u64) -> Result<(), MemoryFault>
         ensures ok { OnOk result (self.new ≡ self.old ++ print ∷ []) }
         ensures err { OnErr result (self.new ≡ self.old) }
@@ -123,6 +125,7 @@ impl Table {
     }
 
     /// Adds a print, by the heads that there are.
+    #[inline(always)]
     fn add(&mut self, print: u64) -> Result<(), MemoryFault>
         requires { length self.old + 1 < 2 ^ 32 }
         ensures ok { OnOk result (self.new ≡ self.old ++ print ∷ []) }
