@@ -53,8 +53,8 @@ some_cut false side nodes less old new was is some same h back = tt
 some_cut true side nodes less old new was is some same h back = let there : HasCommands true side nodes (Some was) = subst (HasCommands true side nodes) (sym same ∙ some) h in back there
 
 -- the node of a step that was taken
-pub step_of : (at : Option Node) (side : ℕ) (node : Node) (o : Option TakenStep) → at ≡ Some node → IfSome o (λ t. (n : Node) × (at ≡ Some n) × IsStepOf side n t) → IfSome o (IsStepOf side node)
-step_of at side node None e h = tt
-step_of at side node (Some t) e h =
+pub step_of : (at : Option Node) (node : Node) (o : Option TakenStep) → at ≡ Some node → IfSome o (λ t. (n : Node) × (at ≡ Some n) × IsStepOf n t) → IfSome o (IsStepOf node)
+step_of at node None e h = tt
+step_of at node (Some t) e h =
     let same : h.0 ≡ node = (let both : Some h.0 ≡ Some node = sym h.1 ∙ e in cc) in
-    subst (λ (n : Node). IsStepOf side n t) same h.2
+    subst (λ (n : Node). IsStepOf n t) same h.2

@@ -181,10 +181,10 @@ takes_turn old new k play u h e =
 
 pub refuses_turn : (old new : States) (k : Colour) (play : Play) (fault : TurnFault) (refused : StepFault) → refused ≡ fault_of fault
     → ((r : Reason) → IsErrOf {T = Unit {0}} (Err fault) (TurnIllegal r) ↔ (reason_of old.present k play ≡ Some r)) → new ≡ old
-    → IsStepped {A = Effect} (taken old.present k play (reason_of old.present k play)) old new (Err refused)
-refuses_turn old new k play fault refused is h e = subst (λ f. IsStepped {A = Effect} (taken old.present k play (reason_of old.present k play)) old new (Err f)) (sym is) (by fault h)
+    → IsStepped {A = Unit {0}} (taken old.present k play (reason_of old.present k play)) old new (Err refused)
+refuses_turn old new k play fault refused is h e = subst (λ f. IsStepped {A = Unit {0}} (taken old.present k play (reason_of old.present k play)) old new (Err f)) (sym is) (by fault h)
   where
-    by : (f : TurnFault) → ((r : Reason) → IsErrOf {T = Unit {0}} (Err f) (TurnIllegal r) ↔ (reason_of old.present k play ≡ Some r)) → IsStepped {A = Effect} (taken old.present k play (reason_of old.present k play)) old new (Err (fault_of f))
+    by : (f : TurnFault) → ((r : Reason) → IsErrOf {T = Unit {0}} (Err f) (TurnIllegal r) ↔ (reason_of old.present k play ≡ Some r)) → IsStepped {A = Unit {0}} (taken old.present k play (reason_of old.present k play)) old new (Err (fault_of f))
     by (TurnIllegal r) h = (ap (taken old.present k play) ((h r).0 refl), e)
     by TurnMemory h = e
 

@@ -60,9 +60,9 @@ impl Commands {
         step: Option<TakenStep<'_>>,
         board: &Board,
     ) -> Result<(), MemoryFault>
-        requires { IfSome step (λ taken. (node : Node) × IsStepOf board.now.side node taken) }
+        requires { IfSome step (λ taken. (node : Node) × IsStepOf node taken) }
         ensures { (side : ℕ) (nodes : List Node) (node : Node) → AreCommands side nodes self.old → board.now.side ≡ side
-            → HasChanged side nodes node board.now step.entry → IfSome step.entry (IsStepOf board.now.side node)
+            → HasChanged side nodes node board.now step.entry → IfSome step.entry (IsStepOf node)
             → OnOk result (AreCommands side (nodes ++ node ∷ []) self.new) }
     {
         let index = self.kept.nodes();
@@ -125,8 +125,8 @@ fn push_lettered(
     board: &Board,
     output: &mut Vec<u8>,
 ) -> Result<(), MemoryFault>
-    requires { (node : Node) × IsStepOf board.now.side node step }
-    ensures { (node : Node) (after : State) → IsStepOf board.now.side node step.entry → after.colouring ≡ board.now
+    requires { (node : Node) × IsStepOf node step }
+    ensures { (node : Node) (after : State) → IsStepOf node step.entry → after.colouring ≡ board.now
         → OnOk result (output.new.items ≡ output.old.items ++ lettered_script board.now.side after node) }
 {
     if board.size().side() > MAX_VERTEX_SIDE {
@@ -136,8 +136,8 @@ fn push_lettered(
 }
 
 /// Whether a node with that effect set up stones of which one doesn't reach empty.
-fn leaves_unreaching(effect: Effect, board: &Board) -> bool
-    ensures { (node : Node) → IsEffect board.now.side node effect
+fn leaves_unreaching(effect: Effect<'_>, board: &Board) -> bool
+    ensures { (node : Node) → IsEffect node effect.entry
         → result ≡ leaves_unreaching_by board.now (stones node) }
 {
     match effect {

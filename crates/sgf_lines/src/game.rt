@@ -120,7 +120,7 @@ impl Game {
             → node_at collection.now number ≡ Some node
             → IfOk result (HasChanged side nodes node self.new.referee.present.colouring) }
         ensures told { IfOk result (λ step. IfSome step (λ taken. (node : Node) × (node_at collection.now number ≡ Some node)
-            × IsStepOf self.new.referee.present.colouring.side node taken)) }
+            × IsStepOf node taken)) }
         ensures counted { (side : ℕ) (nodes : List Node) (node : Node) → IsPlayed side nodes self.old
             → Counts plays.old plays.new side nodes (nodes ++ node ∷ []) result }
         ensures one_at_most { plays.new ≤ plays.old + 1 }

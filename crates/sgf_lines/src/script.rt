@@ -5,12 +5,14 @@ ghost use Rattle.sgf_tree.specs.Tree.{Node};
 ghost use Rattle.go_board.specs.Point.{IsOn, point_at as point_at_lem};
 ghost use Rattle.go_board.specs.Grid.{Grid, cell_at};
 ghost use Rattle.go_board.specs.State.{State, IsPlayOn};
-ghost use Rattle.sgf_lines.specs.Script.{text_lines, comment_line, comment_text, colour_letter, play_line, stone_lines, board_lines, node_script, board_commands};
+ghost use Rattle.sgf_lines.specs.Script.{text_lines, comment_line, comment_text, colour_letter, move_lines_by, play_line, stone_lines, board_lines, node_script, board_commands};
+ghost use Rattle.sgf_lines.specs.Values.{move_value as move_value_lem};
 ghost use Rattle.sgf_lines.specs.inner.Stepping.{IsStepOf};
 ghost use Rattle.sgf_lines.specs.inner.Cutting.{lines_at, pass_line, stone_line};
 
 use crate::step::{Effect, TakenStep};
 use crate::text::{push_bytes, push_number};
+use crate::values::move_value;
 use go_board::{Board, Cell, Colour, MAX_VERTEX_SIDE, Play, Point, Size, Vertex, vertex};
 use sgf_tree::{MemoryFault, push_text};
 use std::alloc::Global;
@@ -32,15 +34,15 @@ pub(crate) fn push_node_script(
     output: &mut Vec<u8>,
 ) -> Result<(), MemoryFault>
     requires letters { board.now.side ≤ MAX_VERTEX_SIDE }
-    requires step { (node : Node) × IsStepOf board.now.side node step }
-    ensures { (node : Node) (after : State) → IsStepOf board.now.side node step.entry → after.colouring ≡ board.now
+    requires step { (node : Node) × IsStepOf node step }
+    ensures { (node : Node) (after : State) → IsStepOf node step.entry → after.colouring ≡ board.now
         → OnOk result (output.new.items ≡ output.old.items ++ node_script after node) }
 {
     push_comment(alloc, step.comment, output)?;
     match step.effect {
         Effect::Nothing => Ok(()),
         Effect::Stones => push_board(board, output),
-        Effect::Turn(colour, play) => push_play(board.size(), colour, play, output),
+        Effect::Turn(colour, raw) => push_move(board.size(), colour, raw, output),
     }
 }
 
@@ -135,6 +137,22 @@ fn point_at(index: usize, size: Size) -> Point
     Point {
         col: (index % side) as u8,
         row: (index / side) as u8,
+    }
+}
+
+/// Appends the play line of a move; none where its value is no play.
+fn push_move(
+    size: Size,
+    colour: Colour,
+    raw: &[u8],
+    output: &mut Vec<u8>,
+) -> Result<(), MemoryFault>
+    requires { size ≤ MAX_VERTEX_SIDE }
+    ensures { OnOk result (output.new.items ≡ output.old.items ++ move_lines_by size colour (move_value_lem size raw.now)) }
+{
+    match move_value(raw, size) {
+        Some(play) => push_play(size, colour, play, output),
+        None => Ok(()),
     }
 }
 

@@ -7,12 +7,12 @@ ghost use Rattle.sgf_lines.specs.Step.{step, step_by, move_step};
 ghost use Rattle.sgf_lines.specs.inner.Contents.{Lists, IsContents};
 ghost use Rattle.sgf_tree.specs.Tree.{Node};
 ghost use Rattle.sgf_lines.specs.inner.Plain.{IsPlain, HasMovesAlone};
-ghost use Rattle.sgf_lines.specs.inner.Stepping.{IsStepped, IsStepOf, IsEffect, IsEffectBy, IsTurnBy, IsSetupMet, fault_of};
+ghost use Rattle.sgf_lines.specs.inner.Stepping.{IsStepped, IsStepOf, IsEffect, IsEffectBy, IsMoveOf, IsSetupMet, fault_of};
 
 use crate::contents::{Contents, Moves};
 use crate::plain::Plain;
 use crate::values::move_value;
-use go_board::{Colour, Past, Play, Reason, Referee, Size, TurnFault};
+use go_board::{Colour, Past, Reason, Referee, Size, TurnFault};
 use sgf_tree::{MemoryFault, NodeRef};
 use std::alloc::Global;
 
@@ -58,19 +58,19 @@ impl From<TurnFault> for StepFault {
 
 /// What a node did on the board.
 #[derive(Clone, Copy, Debug)]
-pub(crate) enum Effect {
+pub(crate) enum Effect<'a> {
     /// It has no moves and no stones.
     Nothing,
     /// It set up stones.
     Stones,
-    /// It has that move.
-    Turn(Colour, Play),
+    /// It has a move: the player, and the raw value that says where.
+    Turn(Colour, &'a [u8]),
 }
 
 /// A node's step that was taken, and what the node says beside it.
 #[derive(Clone, Copy, Debug)]
 pub(crate) struct TakenStep<'a> {
-    pub(crate) effect: Effect,
+    pub(crate) effect: Effect<'a>,
     /// The first value of its first C.
     pub(crate) comment: Option<&'a [u8]>,
 }
@@ -84,7 +84,7 @@ pub(crate) fn play_node<'a, P: Past>(
     node: &NodeRef<'a>,
 ) -> Result<TakenStep<'a>, StepFault>
     ensures stepped { IsStepped (step referee.old.present node.now) referee.old referee.new result }
-    ensures told { IfOk result (IsStepOf referee.old.present.colouring.side node.now) }
+    ensures told { IfOk result (IsStepOf node.now) }
 {
     match Plain::of(node) {
         Some(plain) => play_plain(referee, plain),
@@ -100,7 +100,7 @@ fn play_plain<'a, P: Past>(
     ensures stepped { (node : Node) → IsPlain node.properties plain.entry
         → IsStepped (step referee.old.present node) referee.old referee.new result }
     ensures told { (node : Node) → IsPlain node.properties plain.entry
-        → IfOk result (IsStepOf referee.old.present.colouring.side node) }
+        → IfOk result (IsStepOf node) }
 {
     match play_moves(referee, plain.moves) {
         Ok(effect) => Ok(TakenStep {
@@ -112,11 +112,14 @@ fn play_plain<'a, P: Past>(
 }
 
 /// Takes the step of a node with these moves that sets nothing up.
-fn play_moves<P: Past>(referee: &mut Referee<P>, moves: Moves<'_>) -> Result<Effect, StepFault>
+fn play_moves<'a, P: Past>(
+    referee: &mut Referee<P>,
+    moves: Moves<'a>,
+) -> Result<Effect<'a>, StepFault>
     ensures stepped { (node : Node) → HasMovesAlone node moves.entry
         → IsStepped (step referee.old.present node) referee.old referee.new result }
     ensures effect { (node : Node) → HasMovesAlone node moves.entry
-        → IfOk result (IsEffect referee.old.present.colouring.side node) }
+        → IfOk result (IsEffect node) }
 {
     match moves {
         Moves::Nothing => Ok(Effect::Nothing),
@@ -136,7 +139,7 @@ fn play_setup<'a, P: Past>(
     node: &NodeRef<'a>,
 ) -> Result<TakenStep<'a>, StepFault>
     ensures stepped { IsStepped (step referee.old.present node.now) referee.old referee.new result }
-    ensures told { IfOk result (IsStepOf referee.old.present.colouring.side node.now) }
+    ensures told { IfOk result (IsStepOf node.now) }
 {
     let size = referee.board().size();
     let contents = Contents::of(alloc, node, size)?;
@@ -150,17 +153,17 @@ fn play_setup<'a, P: Past>(
 }
 
 /// Takes the step of a node with these contents.
-fn play_contents<P: Past>(
+fn play_contents<'a, P: Past>(
     referee: &mut Referee<P>,
-    contents: &Contents<'_>,
+    contents: &Contents<'a>,
     size: Size,
-) -> Result<Effect, StepFault>
+) -> Result<Effect<'a>, StepFault>
     requires side { size ≡ referee.old.present.colouring.side }
     requires areas { All (λ op. IsRectOn size op.area) contents.now.operations.items }
     ensures stepped { (held : Lists) → IsContents size contents.now held
         → IsStepped (step_by referee.old.present held.moves held.stones held.players) referee.old referee.new result }
     ensures effect { (held : Lists) → IsContents size contents.now held
-        → IfOk result (IsEffectBy size held.moves held.stones) }
+        → IfOk result (IsEffectBy held.moves held.stones) }
 {
     match (contents.moves, has_setup(contents)) {
         (Moves::Nothing, _) => set_up(referee, contents, size),
@@ -184,17 +187,17 @@ fn has_setup(contents: &Contents<'_>) -> bool
 }
 
 /// Sets up the stones and the player of contents without moves.
-fn set_up<P: Past>(
+fn set_up<'a, P: Past>(
     referee: &mut Referee<P>,
-    contents: &Contents<'_>,
+    contents: &Contents<'a>,
     size: Size,
-) -> Result<Effect, StepFault>
+) -> Result<Effect<'a>, StepFault>
     requires side { size ≡ referee.old.present.colouring.side }
     requires areas { All (λ op. IsRectOn size op.area) contents.now.operations.items }
     ensures stepped { (held : Lists) → IsContents size contents.now held
         → IsStepped (step_by referee.old.present [] held.stones held.players) referee.old referee.new result }
     ensures effect { (held : Lists) → IsContents size contents.now held
-        → IfOk result (IsEffectBy size [] held.stones) }
+        → IfOk result (IsEffectBy [] held.stones) }
 {
     if contents.faulty {
         return Err(StepFault::Illegal(Reason::BadSetup));
@@ -208,40 +211,58 @@ fn set_up<P: Past>(
 }
 
 /// Sets up the player of contents without moves and stones.
-fn set_player<P: Past>(
+fn set_player<'a, P: Past>(
     referee: &mut Referee<P>,
-    contents: &Contents<'_>,
+    contents: &Contents<'a>,
     size: Size,
-) -> Result<Effect, StepFault>
+) -> Result<Effect<'a>, StepFault>
     requires side { size ≡ referee.old.present.colouring.side }
     requires good { contents.now.faulty ≡ false }
     requires no_stones { length contents.now.operations.items ≡ 0 }
     ensures stepped { (held : Lists) → IsContents size contents.now held
         → IsStepped (step_by referee.old.present [] held.stones held.players) referee.old referee.new result }
     ensures effect { (held : Lists) → IsContents size contents.now held
-        → IfOk result (IsEffectBy size [] held.stones) }
+        → IfOk result (IsEffectBy [] held.stones) }
 {
-    if contents.player.is_some() {
-        referee.setup(&[], contents.player)?;
+    if contents.player.is_none() {
+        return Ok(Effect::Nothing);
     }
+    referee.setup(&[], contents.player)?;
     Ok(Effect::Nothing)
 }
 
-/// Takes the turn of a move.
-fn take_move<P: Past>(
+/// Takes the step of a move.
+fn take_move<'a, P: Past>(
+    referee: &mut Referee<P>,
+    colour: Colour,
+    raw: &'a [u8],
+    size: Size,
+) -> Result<Effect<'a>, StepFault>
+    requires { size ≡ referee.old.present.colouring.side }
+    ensures stepped { IsStepped (move_step referee.old.present colour (move_value_lem size raw.now))
+        referee.old referee.new result }
+    ensures effect { IfOk result (IsMoveOf colour raw.now) }
+{
+    match take_turn(referee, colour, raw, size) {
+        Ok(()) => Ok(Effect::Turn(colour, raw)),
+        Err(fault) => Err(fault),
+    }
+}
+
+/// Takes the turn of a move. It is kept apart, so that what the move was doesn't go through it.
+#[inline(never)]
+fn take_turn<P: Past>(
     referee: &mut Referee<P>,
     colour: Colour,
     raw: &[u8],
     size: Size,
-) -> Result<Effect, StepFault>
+) -> Result<(), StepFault>
     requires { size ≡ referee.old.present.colouring.side }
-    ensures stepped { IsStepped (move_step referee.old.present colour (move_value_lem size raw.now))
-        referee.old referee.new result }
-    ensures effect { IfOk result (IsTurnBy size colour (move_value_lem size raw.now)) }
+    ensures { IsStepped (move_step referee.old.present colour (move_value_lem size raw.now)) referee.old referee.new result }
 {
     let Some(play) = move_value(raw, size) else {
         return Err(StepFault::Illegal(Reason::BadPoint));
     };
     referee.turn(colour, play)?;
-    Ok(Effect::Turn(colour, play))
+    Ok(())
 }

@@ -2,11 +2,10 @@
 use Rattle.std.specs.Prelude.{◌≡◌, ◌⊎◌, ◌+◌, ◌<◌, ℕ, Bool, Option, Some, List, [], ◌∷◌, length, Result, Ok, Err, MatchBool, codes, option_copied}
 use Rattle.sgf_tree.specs.Tree.{Node}
 use Rattle.go_board.specs.declared.stones.Colour.{Colour}
-use Rattle.go_board.specs.declared.referee.plays.Play.{Play}
 use Rattle.go_board.specs.declared.reason.Reason.{Reason}
 use Rattle.go_board.specs.declared.fault.TurnFault.{TurnFault}
 use Rattle.go_board.specs.declared.fault.TurnFault.TheVariants.{Illegal as TurnIllegal, Memory as TurnMemory}
-use Rattle.go_board.specs.State.{State, States, followed_by, IsPlayOn}
+use Rattle.go_board.specs.State.{State, States, followed_by}
 use Rattle.sgf_tree.specs.declared.fault.MemoryFault.{MemoryFault}
 use Rattle.sgf_lines.specs.declared.verdict.Verdict.{Verdict}
 use Rattle.sgf_lines.specs.declared.verdict.Verdict.TheVariants.{Illegal as IllegalLine}
@@ -16,7 +15,6 @@ use Rattle.sgf_lines.specs.declared.step.TakenStep.{TakenStep}
 use Rattle.sgf_lines.specs.declared.step.StepFault.{StepFault}
 use Rattle.sgf_lines.specs.declared.step.StepFault.TheVariants.{Illegal, Memory}
 use Rattle.sgf_lines.specs.NodeContents.{Move, Stones, moves, stones, first_value}
-use Rattle.sgf_lines.specs.Values.{move_value}
 use Rattle.sgf_lines.specs.inner.Contents.{Lists}
 
 -- why a turn wasn't taken, as the fault of a step
@@ -35,23 +33,22 @@ IsStepped step old new (Err (Illegal reason)) = (step ≡ Err reason) × (new �
 IsStepped step old new (Err Memory) = new ≡ old
 
 -- the effect of moves and stones
-abbrev pub IsEffectBy : ℕ → List Move → List Stones → Effect → Type 0
-IsEffectBy side ms ts Nothing = (ms ≡ []) × (ts ≡ [])
-IsEffectBy side ms ts stones_set = (ms ≡ []) × (0 < length ts)
-IsEffectBy side ms ts (Turn colour play) =
-    (raw : List ℕ) × (ms ≡ record { player = colour; raw = raw } ∷ []) × (ts ≡ []) × (move_value side raw ≡ Some play) × IsPlayOn side play
+abbrev pub IsEffectBy : List Move → List Stones → Effect → Type 0
+IsEffectBy ms ts Nothing = (ms ≡ []) × (ts ≡ [])
+IsEffectBy ms ts stones_set = (ms ≡ []) × (0 < length ts)
+IsEffectBy ms ts (Turn colour raw) = (ms ≡ record { player = colour; raw = raw.now } ∷ []) × (ts ≡ [])
 
-abbrev pub IsEffect : ℕ → Node → Effect → Type 0
-IsEffect side n effect = IsEffectBy side (moves n) (stones n) effect
+abbrev pub IsEffect : Node → Effect → Type 0
+IsEffect n effect = IsEffectBy (moves n) (stones n) effect
 
 -- the step of a node has that effect, and the node has that comment
-pub record IsStepOf (side : ℕ) (n : Node) (taken : TakenStep) : Type 0 where
-  pub effect_is : IsEffect side n taken.effect
+pub record IsStepOf (n : Node) (taken : TakenStep) : Type 0 where
+  pub effect_is : IsEffect n taken.effect
   pub comment_is : option_copied taken.comment ≡ first_value (codes "C") n.properties
 
--- a turn of that player with that play
-abbrev pub IsTurnBy : ℕ → Colour → Option Play → Effect → Type 0
-IsTurnBy side colour play effect = (p : Play) × (play ≡ Some p) × IsPlayOn side p × (effect ≡ Turn colour p)
+-- a move of that player with that value
+abbrev pub IsMoveOf : Colour → List ℕ → Effect → Type 0
+IsMoveOf colour raw effect = IsEffectBy (record { player = colour; raw = raw } ∷ []) [] effect
 
 -- whether there are stones or players
 abbrev pub IsSetupMet : Lists → Bool → Type 0

@@ -8,7 +8,7 @@ use Rattle.sgf_lines.proofs.script.push_node_script.Goals as goal
 pub returns-in-Stones : goal.returns-in-Stones
 returns-in-Stones c = λ n after of e.
     let old = c.args.output.now.items in
-    let h = subst (λ effect. IsEffect c.args.board.now.side n effect) c.in-Stones.is of.effect_is in
+    let h = subst (λ effect. IsEffect n effect) c.in-Stones.is of.effect_is in
     let pushed : OnOk c.push_comment.result (c.push_comment.new.output.items ≡ old ++ comment_lines n) =
     subst (λ o. OnOk c.push_comment.result (c.push_comment.new.output.items ≡ old ++ text_lines (comment_text o))) of.comment_is c.push_comment.ensures in
     subst (λ t. OnOk c.push_board.result (c.push_board.new.output.items ≡ old ++ t)) (sym (script-stones after c.args.board.now n e h.0 h.1))

@@ -1,10 +1,7 @@
-use Rattle.std.proofs.Common.{ap, subst, ◌≡◌, ◌∙◌}
-use Rattle.go_board.specs.Grid.{Grid}
 use Rattle.sgf_lines.specs.declared.step.Effect.{Effect}
 use Rattle.sgf_lines.specs.declared.step.TakenStep.{TakenStep}
 use Rattle.sgf_lines.specs.Step.{step}
 use Rattle.sgf_lines.specs.inner.Contents.{lists_in}
-use Rattle.sgf_lines.specs.inner.Stepping.{IsEffect}
 use Rattle.sgf_lines.proofs.Stepping.{refused_alike}
 use Rattle.sgf_lines.proofs.step.play_setup.Goals as goal
 
@@ -17,9 +14,7 @@ returns-clause-stepped g c =
     (c.in-Err.ensures.stepped (lists_in c.args.node.now.properties) c.in_ok-contents.ensures.told)
 
 pub returns-in-Ok-clause-told : goal.returns-in-Ok-clause-told
-returns-in-Ok-clause-told g c =
-    let side : c.size-size.result ≡ c.args.referee.now.present.colouring.side = c.size-size.ensures ∙ ap (λ (b : Grid). b.side) c.board.ensures in
-    record {
-      effect_is = subst (λ n. IsEffect n c.args.node.now c.in-Ok.effect) side (c.in-Ok.ensures.effect (lists_in c.args.node.now.properties) c.in_ok-contents.ensures.told);
-      comment_is = c.in_ok-contents.ensures.comment_is;
-    }
+returns-in-Ok-clause-told g c = record {
+  effect_is = c.in-Ok.ensures.effect (lists_in c.args.node.now.properties) c.in_ok-contents.ensures.told;
+  comment_is = c.in_ok-contents.ensures.comment_is;
+}

@@ -18,7 +18,7 @@ returns-in-Some c = λ side nodes n h on changed told.
     let old = c.args.self.now in
     let board = c.args.board.now in
     let after : HasChanged {A = TakenStep} side nodes n board (Some c.in-Some.taken) = rw c.in-Some.is at changed in
-    let is : IsStepOf board.side n c.in-Some.taken = rw c.in-Some.is at told in
+    let is : IsStepOf n c.in-Some.taken = rw c.in-Some.is at told in
     let kept : KeptText = record { text = c.push_lettered.new.output; marks = c.begin_node.new.self.marks } in
     on_ok_weaker c.push_lettered.result
     (λ text.

@@ -35,8 +35,7 @@ returns-in-Some-clause-played c = λ scripted side nodes node h e.
     subst (λ (g : Grid). HasChanged {A = TakenStep} side nodes node g c.in_ok-step.step) (sym c.board.ensures) (c.in_ok-step.ensures.changed side nodes node h.played e) in
     let here : c.board.result.now.side ≡ new.referee.present.colouring.side = ap (λ (g : Grid). g.side) c.board.ensures in
     let on : c.board.result.now.side ≡ side = here ∙ side_played side more new played in
-    let told = subst (λ k. IfSome c.in_ok-step.step (IsStepOf k node)) (sym here)
-    (step_of (node_at c.args.collection.now c.args.number) new.referee.present.colouring.side node c.in_ok-step.step e c.in_ok-step.ensures.told) in
+    let told = step_of (node_at c.args.collection.now c.args.number) node c.in_ok-step.step e c.in_ok-step.ensures.told in
     on_ok_weaker c.go_on.result (λ kept. record { played = with_commands side more new (Some c.go_on.new.self) played; commands = kept })
     (some_asked scripted side nodes more c.args.self.now.commands new.commands c.in-Some.commands c.go_on.new.self c.go_on.result c.in-Some.is c.take_step.ensures.commands h.commands
     (λ are. c.go_on.ensures side nodes node are on changed told))

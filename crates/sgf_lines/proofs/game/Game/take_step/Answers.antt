@@ -3,8 +3,6 @@ use Rattle.std.proofs.Common.{◌≡◌, ◌++◌, ◌∷◌, [], inl, Some, ref
 use Rattle.sgf_lines.specs.declared.game.MetFault.{MetFault}
 use Rattle.sgf_lines.specs.declared.game.Game.{Game}
 use Rattle.sgf_lines.specs.Walk.{Walk}
-use Rattle.sgf_lines.specs.inner.Stepping.{IsStepOf}
-use Rattle.sgf_lines.proofs.Commanding.{side-step}
 use Rattle.sgf_lines.proofs.Named.{place_of_node}
 use Rattle.sgf_lines.proofs.Played.{mark_now, passes, passed_same, plays_on, stops}
 use Rattle.sgf_lines.proofs.Counted.{counts_passed, counts_one}
@@ -48,10 +46,7 @@ pub returns-in-Err-Illegal-clause-counted : goal.returns-in-Err-Illegal-clause-c
 returns-in-Err-Illegal-clause-counted c = λ side nodes node h. counts_one side nodes node c.args.self.now h c.args.plays.now c.add_one.new.self _ c.in-None.is c.add_one.ensures
 
 pub returns-in-Ok-clause-told : goal.returns-in-Ok-clause-told
-returns-in-Ok-clause-told c =
-    let now = c.play_node.new.referee.present in
-    let side = side-step c.args.self.now.referee.present now c.node.result c.in-Ok.ensures.stepped.0 in
-    (c.node.result, c.node.ensures, subst (λ k. IsStepOf k c.node.result c.in-Ok.step) (sym side) c.in-Ok.ensures.told)
+returns-in-Ok-clause-told c = (c.node.result, c.node.ensures, c.in-Ok.ensures.told)
 
 pub returns-in_default-clause-changed : goal.returns-in_default-clause-changed
 returns-in_default-clause-changed c = λ side nodes node h e. ap (λ (w : Walk). w.played) (passed_same side nodes c.args.self.now node h c.in_default.not-None)
