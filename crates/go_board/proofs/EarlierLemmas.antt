@@ -8,11 +8,11 @@ use Rattle.go_board.specs.declared.stones.Colour.{Colour}
 use Rattle.go_board.specs.Grid.{Grid}
 use Rattle.go_board.specs.Past.{Held, newest_grid, HaveSide}
 use Rattle.go_board.specs.State.{starting}
-use Rattle.go_board.specs.inner.Earlier.{held_before, states_before, IsKept}
+use Rattle.go_board.specs.inner.Earlier.{held_before_call, states_before, IsKept}
 
 length-states_before : (held : List Held) (es : List Earlier) → length (states_before held es) ≡ length es
 length-states_before held [] = refl
-length-states_before held (e ∷ es) = ap suc (length-states_before (held_before held e) es)
+length-states_before held (e ∷ es) = ap suc (length-states_before (held_before_call held e) es)
 
 pub length-earlier : (held : List Held) (es : List Earlier) → length (states_before held (reverse es)) ≡ length es
 length-earlier held es = length-states_before held (reverse es) ∙ length-reverse es

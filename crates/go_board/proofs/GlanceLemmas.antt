@@ -13,10 +13,10 @@ use Rattle.go_board.specs.Colour.{opponent, stone_of, same_cell}
 use Rattle.go_board.specs.Point.{IsOn, DifferByOne, AreAdjacent}
 use Rattle.go_board.specs.Grid.{Grid, cell_at, with_cell}
 use Rattle.go_board.specs.Reaching.{Reaches}
-use Rattle.go_board.specs.inner.Glance.{IsIn, IsRowAt, IsOpen}
+use Rattle.go_board.specs.inner.Glance.{IsIn, IsRowAt}
 use Rattle.go_board.specs.inner.Groups.{ReachesIfStone}
 use Rattle.go_board.specs.inner.Regions.{AreRowsOf}
-use Rattle.go_board.specs.inner.Rows.{has_bit, is_set}
+use Rattle.go_board.specs.inner.Rows.{has_bit, is_set, IsInOrBeside}
 use Rattle.go_board.proofs.GridLemmas.{Decides-same_cell, cell_at-with_cell_elsewhere}
 use Rattle.go_board.proofs.ReachingLemmas.{path_by_step}
 use Rattle.go_board.proofs.SweepLemmas.{lowest_left}
@@ -112,7 +112,7 @@ row_besides own others middle i free row part is = record {
 
 -- a column of three words
 pub open_from : (above here below wide c : ℕ) → ((col : ℕ) → has_bit wide col ≡ true → (d : ℕ) × DifferByOne col d × (has_bit here d ≡ true))
-    → has_bit (bit_or (bit_or above below) wide) c ≡ true → IsOpen above here below c
+    → has_bit (bit_or (bit_or above below) wide) c ≡ true → IsInOrBeside above here below c
 open_from above here below wide c from is =
     elim (or_cases _ _ (sym (has_bit-or (bit_or above below) wide c) ∙ is)) [
       | inl low ↦
@@ -150,11 +150,11 @@ AreBeside p i columns = (q : Point) → q.row + 2 ≡ p.row + i → has_bit colu
 abbrev pub TellsAlive : ℕ → ℕ → Row → ℕ → ℕ → Type 0
 TellsAlive columns above row below alive =
     (col : ℕ) → has_bit alive col ≡ true
-    → (has_bit columns col ≡ true) × ((has_bit row.free col ≡ true) ⊎ ((has_bit row.own col ≡ true) × IsOpen above row.free below col))
+    → (has_bit columns col ≡ true) × ((has_bit row.free col ≡ true) ⊎ ((has_bit row.own col ≡ true) × IsInOrBeside above row.free below col))
 
 abbrev pub TellsShut : ℕ → ℕ → Row → ℕ → ℕ → Type 0
 TellsShut columns above row below shut =
-    (col : ℕ) → has_bit shut col ≡ false → has_bit columns col ≡ true → has_bit row.others col ≡ true → IsOpen above row.free below col
+    (col : ℕ) → has_bit shut col ≡ false → has_bit columns col ≡ true → has_bit row.others col ≡ true → IsInOrBeside above row.free below col
 
 module _ (g : Grid) (k : Colour) (p : Point) (own others : List ℕ) (side : g.side ≡ length own) (on : IsOn g.side p)
     (is_own : AreRowsOf g.side (λ q. same_cell (cell_at g q) (stone_of k)) own)
@@ -192,7 +192,7 @@ module _ (g : Grid) (k : Colour) (p : Point) (own others : List ℕ) (side : g.s
 
   module _ (i columns above : ℕ) (row : Row) (below : ℕ) (is_row : IsRowAt own others p.row (i + 1) row)
       (free_above : AreFree i above) (free_here : AreFree (i + 1) row.free) (free_below : AreFree (i + 2) below) where
-    open_reaches : (q : Point) → q.row + 2 ≡ p.row + (i + 1) → IsOn g.side q → IsOpen above row.free below q.col → Reaches after Empty q
+    open_reaches : (q : Point) → q.row + 2 ≡ p.row + (i + 1) → IsOn g.side q → IsInOrBeside above row.free below q.col → Reaches after Empty q
     open_reaches q at on_q is_open =
         elim is_open [
           | inl up ↦
@@ -224,7 +224,7 @@ module _ (g : Grid) (k : Colour) (p : Point) (own others : List ℕ) (side : g.s
               cell_at-with_cell_elsewhere g p q (stone_of k) on on_q (apart p q next)
               ∙ (Decides-same_cell _ _).0 (sym (is_own.on q on_q) ∙ found.2) in
               path_by_step after Empty p q on next on_q (inl (same ∙ sym stone))
-              (open_reaches q found.1.1 on_q (subst (IsOpen above row.free below) (sym found.1.0) both.1))
+              (open_reaches q found.1.1 on_q (subst (IsInOrBeside above row.free below) (sym found.1.0) both.1))
         ]
 
     -- a stone of the opponent beside it has a liberty of its own

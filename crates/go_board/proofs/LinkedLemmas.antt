@@ -7,8 +7,8 @@ use Rattle.std.specs.Int.{trailing_zeros}
 use Rattle.std.proofs.lemmas.List.{get_or-set_same, get_or-set_other}
 use Rattle.go_board.specs.declared.points.Point.{Point}
 use Rattle.go_board.specs.Point.{IsOn, AreAdjacent, DifferByOne}
-use Rattle.go_board.specs.inner.Rows.{has_bit, is_set, row_above, IsAmong, IsRowClosed, Grows}
-use Rattle.go_board.specs.inner.Linked.{IsInOrBeside, IsLinked, IsFilled, IsLiberty, IsBegun, IsShutIn}
+use Rattle.go_board.specs.inner.Rows.{has_bit, is_set, row_above, IsAmong, IsRowClosed, Grows, IsInOrBeside}
+use Rattle.go_board.specs.inner.Linked.{IsLinked, IsFilled, IsLiberty, IsBegun, IsShutIn}
 use Rattle.go_board.proofs.WordLemmas.{has_bit-or, has_bit-and, has_bit-left, from_left, has_bit-right, has_bit-zero}
 use Rattle.go_board.proofs.GrowLemmas.{row_below}
 use Rattle.go_board.proofs.SweepLemmas.{lowest_left}

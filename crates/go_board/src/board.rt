@@ -49,7 +49,7 @@ impl Model for Board {
     ghost use Rattle.go_board.specs.declared.size.TheConstants.{MAX_POINTS};
     ghost use Rattle.go_board.specs.Grid.{Grid};
     ghost use Rattle.go_board.specs.inner.Print.{print_of};
-    ghost use Rattle.go_board.specs.inner.StoneRows.{AreKept};
+    ghost use Rattle.go_board.specs.inner.StoneRows.{AreRowsKept};
 
     ghost Value = { Grid };
 
@@ -60,7 +60,7 @@ impl Model for Board {
         × (IsTrue b.settled
         → has_unreaching (record { side = b.size; cells = take (b.size * b.size) b.cells }) ≡ false)
         × (IsTrue b.printed → b.print ≡ print_of (take (b.size * b.size) b.cells))
-        × AreKept (record { side = b.size; cells = take (b.size * b.size) b.cells }) b.rows };
+        × AreRowsKept (record { side = b.size; cells = take (b.size * b.size) b.cells }) b.rows };
 }
 
 // The cells of the greatest board, on which nothing stands.

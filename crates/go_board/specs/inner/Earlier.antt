@@ -22,14 +22,14 @@ state_of held player passes turns =
     }
 
 -- the past before the call that left an earlier state
-abbrev pub held_before : List Held → Earlier → List Held
-held_before held left = if left.grew then drop 1 held else held
+abbrev pub held_before_call : List Held → Earlier → List Held
+held_before_call held left = if left.grew then drop 1 held else held
 
 -- the earlier states, newest first
 abbrev pub states_before : List Held → List Earlier → List State
 states_before held [] = []
 states_before held (left ∷ others) =
-    state_of (held_before held left) left.player left.passes left.turns ∷ states_before (held_before held left) others
+    state_of (held_before_call held left) left.player left.passes left.turns ∷ states_before (held_before_call held left) others
 
 -- the present state and the earlier ones; what is kept of these stands oldest first
 abbrev pub states_of : List Held → Option Colour → ℕ → ℕ → List Earlier → States

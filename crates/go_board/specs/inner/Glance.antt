@@ -1,10 +1,10 @@
 -- specs/inner/Glance.antt
 -- What the words of bits around a point tell of a stone on it. The rows around it are counted from the second one above
 -- it: 0 and 1 are above it, 2 is its own, 3 and 4 are below it.
-use Rattle.std.specs.Prelude.{◌≡◌, ◌⊎◌, ℕ, ◌+◌, false, IsTrue, List, length}
+use Rattle.std.specs.Prelude.{◌≡◌, ℕ, ◌+◌, false, IsTrue, List, length}
 use Rattle.go_board.specs.declared.points.Point.{Point}
 use Rattle.go_board.specs.declared.board.glance.Row.{Row}
-use Rattle.go_board.specs.Point.{IsOn, DifferByOne}
+use Rattle.go_board.specs.Point.{IsOn}
 use Rattle.go_board.specs.inner.Rows.{has_bit, is_set}
 
 -- the point is in that column of a row around a row of the board
@@ -17,9 +17,3 @@ pub record IsRowAt (own others : List ℕ) (middle i : ℕ) (row : Row) : Type 0
       → (p : Point) × IsIn middle i col p × IsOn (length own) p × (is_set own p ≡ false) × (is_set others p ≡ false)
   pub are_own : (col : ℕ) → IsTrue (has_bit row.own col) → (p : Point) × IsIn middle i col p × IsTrue (is_set own p)
   pub has_others : (p : Point) → p.row + 2 ≡ middle + i → IsTrue (is_set others p) → IsTrue (has_bit row.others p.col)
-
--- a column of a row, or one beside it, is in the columns of that row or of those above and below it
-abbrev pub IsOpen : ℕ → ℕ → ℕ → ℕ → Type 0
-IsOpen above here below col =
-    IsTrue (has_bit above col)
-    ⊎ (IsTrue (has_bit below col) ⊎ ((beside : ℕ) × DifferByOne col beside × IsTrue (has_bit here beside)))

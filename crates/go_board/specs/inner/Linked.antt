@@ -4,19 +4,13 @@ use Rattle.std.specs.Prelude.{◌≡◌, ◌≢◌, ◌⊎◌, ℕ, Bool, false,
 use Rattle.go_board.specs.declared.points.Point.{Point}
 use Rattle.go_board.specs.declared.stones.Colour.{Colour}
 use Rattle.go_board.specs.Colour.{stone_of}
-use Rattle.go_board.specs.Point.{IsOn, AreAdjacent, DifferByOne}
+use Rattle.go_board.specs.Point.{IsOn, AreAdjacent}
 use Rattle.go_board.specs.Grid.{Grid, cell_at}
-use Rattle.go_board.specs.inner.Rows.{has_bit, is_set, IsAmong, IsClosed, IsRowClosed}
+use Rattle.go_board.specs.inner.Rows.{is_set, IsAmong, IsClosed, IsRowClosed}
 
 -- the point is at that row and that column
 abbrev pub IsAt : ℕ → ℕ → Point → Type 0
 IsAt row col p = (p.row ≡ row) × (p.col ≡ col)
-
--- a column is in one of two rows, or beside one of the row between them
-abbrev pub IsInOrBeside : ℕ → ℕ → ℕ → ℕ → Type 0
-IsInOrBeside above here below col =
-    IsTrue (has_bit above col)
-    ⊎ (IsTrue (has_bit below col) ⊎ ((beside : ℕ) × DifferByOne col beside × IsTrue (has_bit here beside)))
 
 -- a set that has the one point, and with a point each adjacent one that there is room for, has the other point, too
 abbrev pub IsLinked : (Point → Bool) → Point → Point → Type 0

@@ -1,6 +1,6 @@
 -- specs/inner/Rows.antt
 -- A set of points as a number for each row, with a bit for each column.
-use Rattle.std.specs.Prelude.{◌≡◌, ℕ, zero, suc, ◌-◌, ◌+◌, ◌^◌, ◌<◌, ◌≤◌, Bool, ◌==◌, IsTrue, List, length, slice_index, sum_by}
+use Rattle.std.specs.Prelude.{◌≡◌, ◌⊎◌, ℕ, zero, suc, ◌-◌, ◌+◌, ◌^◌, ◌<◌, ◌≤◌, Bool, ◌==◌, IsTrue, List, length, slice_index, sum_by}
 use Rattle.std.specs.Int.{bit_at}
 use Rattle.go_board.specs.declared.points.Point.{Point}
 use Rattle.go_board.specs.Point.{DifferByOne, AreAdjacent}
@@ -49,6 +49,12 @@ TakeAbove room rows n =
 abbrev pub TakeBelow : List ℕ → List ℕ → ℕ → Type 0
 TakeBelow room rows start =
     (row : ℕ) → start ≤ row → row < length rows → IsTaken room rows row (slice_index rows (row + 1))
+
+-- a column is in one of two rows, or beside one of the row between them
+abbrev pub IsInOrBeside : ℕ → ℕ → ℕ → ℕ → Type 0
+IsInOrBeside above here below col =
+    IsTrue (has_bit above col)
+    ⊎ (IsTrue (has_bit below col) ⊎ ((beside : ℕ) × DifferByOne col beside × IsTrue (has_bit here beside)))
 
 -- Sets of points.
 

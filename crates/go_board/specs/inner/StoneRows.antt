@@ -9,7 +9,7 @@ use Rattle.go_board.specs.Grid.{Grid, cell_at}
 use Rattle.go_board.specs.inner.Regions.{AreRowsOf}
 
 -- where they are known, the rows of the board are those of its stones
-pub record AreKept (g : Grid) (rows : StoneRows) : Type 0 where
+pub record AreRowsKept (g : Grid) (rows : StoneRows) : Type 0 where
   pub black_rows : length rows.black ≡ MAX_ROWS
   pub white_rows : length rows.white ≡ MAX_ROWS
   pub black : IsTrue rows.known → AreRowsOf g.side (λ p. same_cell (cell_at g p) Black) (take g.side rows.black)

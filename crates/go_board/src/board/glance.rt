@@ -6,10 +6,10 @@ ghost use Rattle.go_board.specs.declared.stones.Colour.{Colour};
 ghost use Rattle.go_board.specs.Colour.{opponent, same_cell, stone_of};
 ghost use Rattle.go_board.specs.Point.{IsOn, DifferByOne};
 ghost use Rattle.go_board.specs.Grid.{Grid, cell_at, with_cell};
-ghost use Rattle.go_board.specs.inner.Glance.{IsRowAt, IsOpen};
+ghost use Rattle.go_board.specs.inner.Glance.{IsRowAt};
 ghost use Rattle.go_board.specs.inner.Groups.{AllLive};
 ghost use Rattle.go_board.specs.inner.Regions.{AreRowsOf};
-ghost use Rattle.go_board.specs.inner.Rows.{has_bit};
+ghost use Rattle.go_board.specs.inner.Rows.{has_bit, IsInOrBeside};
 
 use crate::board::regions::{other_columns, with_column};
 use crate::board::stone_rows::without_column;
@@ -97,9 +97,9 @@ fn besides(row: Row, col: usize) -> Row
 /// Looks at the stones in some columns of a row, by the free columns of the rows above and below it.
 fn look_at_row(columns: u64, above: u64, row: Row, below: u64) -> Look
     ensures alive { (col : ℕ) → IsTrue (has_bit result.alive col) → IsTrue (has_bit columns col)
-        × (IsTrue (has_bit row.free col) ⊎ (IsTrue (has_bit row.own col) × IsOpen above row.free below col)) }
+        × (IsTrue (has_bit row.free col) ⊎ (IsTrue (has_bit row.own col) × IsInOrBeside above row.free below col)) }
     ensures shut { (col : ℕ) → has_bit result.shut col ≡ false → IsTrue (has_bit columns col)
-        → IsTrue (has_bit row.others col) → IsOpen above row.free below col }
+        → IsTrue (has_bit row.others col) → IsInOrBeside above row.free below col }
 {
     let open = open_columns(above, row.free, below);
     Look {
@@ -110,7 +110,7 @@ fn look_at_row(columns: u64, above: u64, row: Row, below: u64) -> Look
 
 /// The columns of a row of which a neighbour is free.
 fn open_columns(above: u64, here: u64, below: u64) -> u64
-    ensures { (col : ℕ) → IsTrue (has_bit result col) → IsOpen above here below col }
+    ensures { (col : ℕ) → IsTrue (has_bit result col) → IsInOrBeside above here below col }
 {
     above | below | beside(here)
 }

@@ -3,8 +3,8 @@
 ghost use Rattle.std.specs.Prelude.{◌≡◌, ◌≢◌, ◌⊎◌, false, ℕ, ◌+◌, ◌<◌, ◌&&◌, IsTrue, IsFalse, length, slice_index};
 ghost use Rattle.go_board.specs.declared.points.Point.{Point};
 ghost use Rattle.go_board.specs.Point.{IsOn, AreAdjacent, DifferByOne};
-ghost use Rattle.go_board.specs.inner.Rows.{has_bit, is_set, row_above, IsPart};
-ghost use Rattle.go_board.specs.inner.Linked.{IsFilled, IsLiberty, IsAt, IsInOrBeside, IsBegun, IsShutIn};
+ghost use Rattle.go_board.specs.inner.Rows.{has_bit, is_set, row_above, IsPart, IsInOrBeside};
+ghost use Rattle.go_board.specs.inner.Linked.{IsFilled, IsLiberty, IsAt, IsBegun, IsShutIn};
 
 use crate::board::fill::{above, below, grow_row};
 use crate::board::regions::{other_columns, with_column};

@@ -7,7 +7,7 @@ ghost use Rattle.go_board.specs.Point.{IsOn};
 ghost use Rattle.go_board.specs.Colour.{same_cell};
 ghost use Rattle.go_board.specs.Grid.{Grid, with_cell, empty_grid};
 ghost use Rattle.go_board.specs.inner.Rows.{has_bit};
-ghost use Rattle.go_board.specs.inner.StoneRows.{AreKept};
+ghost use Rattle.go_board.specs.inner.StoneRows.{AreRowsKept};
 
 use crate::board::regions::{no_rows, rows_of, with_column};
 use crate::points::Point;
@@ -25,7 +25,7 @@ pub(crate) struct StoneRows {
 impl StoneRows {
     /// Those of a board on which nothing stands.
     pub(crate) fn none() -> StoneRows
-        ensures { (side : ℕ) → side ≤ MAX_ROWS → AreKept (empty_grid side) result }
+        ensures { (side : ℕ) → side ≤ MAX_ROWS → AreRowsKept (empty_grid side) result }
     {
         StoneRows {
             known: true,
@@ -36,7 +36,7 @@ impl StoneRows {
 
     /// Those of a board of that size on which nothing stands, in place of what they were.
     pub(crate) fn reset(&mut self, size: Size)
-        ensures { (g : Grid) → AreKept g self.old → AreKept (empty_grid size) self.new }
+        ensures { (g : Grid) → AreRowsKept g self.old → AreRowsKept (empty_grid size) self.new }
     {
         let side = usize::from(size.side());
         self.black[..side].fill(0);
@@ -46,7 +46,7 @@ impl StoneRows {
 
     /// Those of another board of that size, in place of what they were.
     pub(crate) fn copy_from(&mut self, other: &StoneRows, size: Size)
-        ensures { (g h : Grid) → AreKept g self.old → AreKept h other.now → h.side ≡ size → AreKept h self.new }
+        ensures { (g h : Grid) → AreRowsKept g self.old → AreRowsKept h other.now → h.side ≡ size → AreRowsKept h self.new }
     {
         let side = usize::from(size.side());
         self.black[..side].copy_from_slice(&other.black[..side]);
@@ -57,7 +57,7 @@ impl StoneRows {
     /// Those of a colouring.
     pub(crate) fn of(cells: &[Cell], size: Size) -> StoneRows
         requires { length cells.now ≡ size * size }
-        ensures { AreKept (record { side = size; cells = cells.now }) result }
+        ensures { AreRowsKept (record { side = size; cells = cells.now }) result }
     {
         let side = usize::from(size.side());
         let (mut black, mut white) = (no_rows(), no_rows());
@@ -84,7 +84,7 @@ impl StoneRows {
     pub(crate) fn set(&mut self, point: Point, cell: Cell)
         requires small { IsOn MAX_ROWS point }
         ensures { (g : Grid) → IsOn g.side point → length g.cells ≡ g.side * g.side → g.side ≤ MAX_ROWS
-            → AreKept g self.old → AreKept (with_cell g point cell) self.new }
+            → AreRowsKept g self.old → AreRowsKept (with_cell g point cell) self.new }
     {
         if !self.known {
             return;

@@ -2,7 +2,7 @@ use Rattle.std.proofs.Common.{◌≡◌, sym, ap, ◌∙◌, subst}
 use Rattle.go_board.specs.Grid.{Grid}
 use Rattle.go_board.specs.Clearing.{has_unreaching}
 use Rattle.go_board.specs.inner.Print.{print_of}
-use Rattle.go_board.specs.inner.StoneRows.{AreKept}
+use Rattle.go_board.specs.inner.StoneRows.{AreRowsKept}
 use Rattle.go_board.proofs.FrontLemmas.{grid_in}
 use Rattle.go_board.proofs.board.Board.copy_from.Goals as goal
 
@@ -19,6 +19,6 @@ invariant_of-self c =
       c.self.invariant.1,
       λ settled. ap has_unreaching same ∙ c.other.invariant.2 settled,
       λ printed. c.other.invariant.3 printed ∙ ap (λ (g : Grid). print_of g.cells) (sym same),
-      subst (λ g. AreKept g c.copy_from.new.self) (sym same)
+      subst (λ g. AreRowsKept g c.copy_from.new.self) (sym same)
           (c.copy_from.ensures (grid_in i.size i.cells) (grid_in o.size o.cells) c.self.invariant.4 c.other.invariant.4 (ap (λ (g : Grid). g.side) (sym same))),
     )

@@ -6,7 +6,7 @@ use Rattle.go_board.specs.declared.size.TheConstants.{MAX_POINTS}
 use Rattle.go_board.specs.Grid.{Grid, empty_grid}
 use Rattle.go_board.specs.Clearing.{has_unreaching}
 use Rattle.go_board.specs.inner.Print.{print_of}
-use Rattle.go_board.specs.inner.StoneRows.{AreKept}
+use Rattle.go_board.specs.inner.StoneRows.{AreRowsKept}
 use Rattle.go_board.proofs.PrintSetLemmas.{print-empty}
 use Rattle.go_board.proofs.FrontLemmas.{grid_in, grid_in-replicate}
 use Rattle.go_board.proofs.SettledLemmas.{settled-empty_grid}
@@ -21,7 +21,7 @@ invariant_of-result c = (
   omega arith,
   λ _. ap has_unreaching (empty_front c) ∙ settled-empty_grid c.args.size,
   λ _. sym (ap (λ (g : Grid). print_of g.cells) (empty_front c) ∙ print-empty (c.args.size * c.args.size)),
-  subst (λ g. AreKept g c.none.result) (sym (empty_front c)) (c.none.ensures c.args.size (omega arith)),
+  subst (λ g. AreRowsKept g c.none.result) (sym (empty_front c)) (c.none.ensures c.args.size (omega arith)),
 )
 
 pub returns : goal.returns

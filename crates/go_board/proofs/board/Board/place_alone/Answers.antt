@@ -5,7 +5,7 @@ use Rattle.go_board.specs.Point.{IsOn}
 use Rattle.go_board.specs.Grid.{Grid, with_cell}
 use Rattle.go_board.specs.Clearing.{has_unreaching}
 use Rattle.go_board.specs.inner.Print.{print_of}
-use Rattle.go_board.specs.inner.StoneRows.{AreKept}
+use Rattle.go_board.specs.inner.StoneRows.{AreRowsKept}
 use Rattle.go_board.proofs.FrontLemmas.{grid_in, grid_in-set}
 use Rattle.go_board.proofs.SettledLemmas.{settled_by_play}
 use Rattle.go_board.proofs.board.Board.place_alone.Goals as goal
@@ -32,7 +32,7 @@ invariant_of-self c =
           let on_board : IsOn i.size p = subst (λ (h : Grid). IsOn h.side p) (sym c.self.view_is) c.requires.on_board in
           let all : length front.cells ≡ i.size * i.size = length-take-le (i.size * i.size) i.cells (omega (arith, c.self.invariant.0, c.self.invariant.1)) in
           let small : i.size ≤ 52 = omega (arith, c.side.ensures.value, c.side.ensures.at_most) in
-          subst (λ h. AreKept h c.set.new.self)
+          subst (λ h. AreRowsKept h c.set.new.self)
           (sym (grid_in-set i.size i.cells front p c.stone-cell.result index refl c.index-index.ensures.value below))
           (c.set.ensures front on_board all small c.self.invariant.4),
     )

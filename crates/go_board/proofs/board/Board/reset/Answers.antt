@@ -4,7 +4,7 @@ use Rattle.go_board.specs.declared.stones.Cell.TheVariants.{Empty}
 use Rattle.go_board.specs.Grid.{Grid}
 use Rattle.go_board.specs.Clearing.{has_unreaching}
 use Rattle.go_board.specs.inner.Print.{print_of}
-use Rattle.go_board.specs.inner.StoneRows.{AreKept}
+use Rattle.go_board.specs.inner.StoneRows.{AreRowsKept}
 use Rattle.go_board.proofs.PrintSetLemmas.{print-empty}
 use Rattle.go_board.proofs.FrontLemmas.{grid_in-emptied, length-rewritten}
 use Rattle.go_board.proofs.SettledLemmas.{settled-empty_grid}
@@ -18,7 +18,7 @@ invariant_of-self c =
       omega (arith, c.points.ensures.value, c.points.ensures.at_most),
       λ _. ap has_unreaching (grid_in-emptied side c.fill.new.self _ front) ∙ settled-empty_grid side,
       λ _. sym (ap (λ (g : Grid). print_of g.cells) (grid_in-emptied side c.fill.new.self _ front) ∙ print-empty (side * side)),
-      subst (λ g. AreKept g c.reset.new.self) (sym (grid_in-emptied side c.fill.new.self _ front)) (c.reset.ensures _ c.self.invariant.4),
+      subst (λ g. AreRowsKept g c.reset.new.self) (sym (grid_in-emptied side c.fill.new.self _ front)) (c.reset.ensures _ c.self.invariant.4),
     )
 
 pub returns : goal.returns

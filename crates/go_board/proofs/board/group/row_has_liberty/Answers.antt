@@ -1,7 +1,7 @@
 -- proofs/board/group/row_has_liberty/Answers.antt
 use Rattle.std.proofs.Common.{◌+◌, sym, ap, subst, arith, slice_index}
+use Rattle.go_board.specs.inner.Rows.{IsInOrBeside}
 use Rattle.go_board.specs.declared.points.Point.{Point}
-use Rattle.go_board.specs.inner.Linked.{IsInOrBeside}
 use Rattle.go_board.proofs.LinkedLemmas.{adjacent-from}
 use Rattle.go_board.proofs.board.group.row_has_liberty.Goals as goal
 
