@@ -4,7 +4,7 @@ use Rattle.std.specs.List.{flat_map}
 use Rattle.std.proofs.lemmas.Bool.{false≢true}
 use Rattle.sgf_tree.specs.Tree.{Property, lone_property}
 use Rattle.sgf_tree.specs.RawValue.{no_unit, plain}
-use Rattle.sgf_tree.specs.Spelling.{is_white, is_upper, no_white, no_letter, IsPropValue, prop_value, no_value, value, AreProperties, property, no_property, properties}
+use Rattle.sgf_tree.specs.Spelling.{is_white, is_upper, no_white, no_letter, IsPropValue, prop_value, no_value, AreProperties, property, no_property, properties}
 use Rattle.sgf_tree.specs.Written.{property_text}
 use Rattle.sgf_tree.specs.inner.NodeText.{is_letter, properties_in, EndsNode, ArePropertiesIn, IsPastValues}
 use Rattle.sgf_tree.specs.inner.Progress.{IsSpan, is_plain, IsNodeEnd, IsPlainFront, IsLoneNode, IsFrontOfMore}
@@ -56,7 +56,7 @@ module _ (b x y : ℕ) (upper : IsTrue (is_upper b)) (h : IsTrue (is_plain x)) (
   -- another one after it
   front-left : (c : ℕ) (t : List ℕ) → IsTrue (is_upper c) → ArePropertiesIn (b ∷ 91 ∷ x ∷ y ∷ 93 ∷ c ∷ t) → ArePropertiesIn (c ∷ t)
   front-left c t next held =
-      (next-property (b ∷ 91 ∷ x ∷ y ∷ 93 ∷ c ∷ t) 0 (no-span b (91 ∷ x ∷ y ∷ 93 ∷ c ∷ t) upper) 1 (c ∷ t) held (omega arith) upper letters past).left
+      (next-property (b ∷ 91 ∷ x ∷ y ∷ 93 ∷ c ∷ t) 0 (no-span b (91 ∷ x ∷ y ∷ 93 ∷ c ∷ t) upper) held (omega arith) upper 1 letters (x ∷ y ∷ []) (c ∷ t) (c ∷ t) (two-plain x y (c ∷ t) h k) past).left
     where
       no-span : (b : ℕ) (t : List ℕ) → IsTrue (is_upper b) → IsSpan is_white (b ∷ t) 0 0
       no-span b t upper = record {
@@ -74,10 +74,10 @@ module _ (b x y : ℕ) (upper : IsTrue (is_upper b)) (h : IsTrue (is_plain x)) (
         stops = λ _. refl;
       }
 
-      past : IsPastValues (91 ∷ x ∷ y ∷ 93 ∷ c ∷ t) (c ∷ t)
+      past : IsPastValues (c ∷ t) (c ∷ t)
       past = record {
-        values = (x ∷ y ∷ []) ∷ [];
-        spelled = value (two-plain x y (c ∷ t) h k) no_value;
+        values = [];
+        spelled = no_value;
         none_left = no-bracket (c ∷ t) 0 0 (no-span c t next) (λ lt e. false≢true (sym (upper-not_bracket c next) ∙ ap (λ a. a == 91) e));
       }
 

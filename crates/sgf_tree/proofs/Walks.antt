@@ -3,7 +3,7 @@ use Rattle.std.proofs.Common.{◌≡◌, ◌≢◌, ℕ, zero, suc, ◌+◌, ◌
 use Rattle.std.proofs.lemmas.Bool.{cases_lt, false≢true}
 use Rattle.std.proofs.Math.Seq.{drop-cons}
 use Rattle.std.proofs.lemmas.List.{drop-drop, drop_all}
-use Rattle.sgf_tree.specs.Tree.{Property, values}
+use Rattle.sgf_tree.specs.Tree.{Property}
 use Rattle.sgf_tree.specs.RawValue.{IsValue}
 use Rattle.sgf_tree.specs.Spelling.{is_white, is_upper, White, no_white, white, IsPropValue, prop_value, ArePropValues, no_value, value, property, AreProperties, no_property, properties}
 use Rattle.sgf_tree.specs.inner.NodeText.{is_letter, left_after, front, values_in, property_from, name_in, properties_in, EndsValues, EndsNode, AreValuesIn, ArePropertiesIn, IsNoPropValue, IsPastValues, IsPropertyHeld}
@@ -111,16 +111,16 @@ module _ (s : List ℕ) (k : ℕ) (run : IsSpan is_white s 0 k) where
           ]
 
   -- a property there, whose identifier ends at `end`, and whose values r is left after
-  pub record IsNextProperty (end : ℕ) (r : List ℕ) : Type 0 where
+  record IsPropertyAt (end : ℕ) (r : List ℕ) : Type 0 where
     pub held : IsPropertyHeld (drop end s)
     pub left : ArePropertiesIn r
     pub is : properties_in s ≡ property_from (name_in (slice_range s k end)) (values_in (drop end s)) ∷ properties_in r
 
-  pub next-property : (end : ℕ) (r : List ℕ) → ArePropertiesIn s → k < length s → IsTrue (is_upper (get_or s k 0)) → IsSpan is_letter s k end → IsPastValues (drop end s) r
-      → IsNextProperty end r
-  next-property end r held lt capital letters past = next held.properties held.rest held.spelled held.ends
+  property-at : (end : ℕ) (r : List ℕ) → ArePropertiesIn s → k < length s → IsTrue (is_upper (get_or s k 0)) → IsSpan is_letter s k end → IsPastValues (drop end s) r
+      → IsPropertyAt end r
+  property-at end r held lt capital letters past = next held.properties held.rest held.spelled held.ends
     where
-      next : (ps : List Property) (q : List ℕ) → AreProperties ps s q → EndsNode q → IsNextProperty end r
+      next : (ps : List Property) (q : List ℕ) → AreProperties ps s q → EndsNode q → IsPropertyAt end r
       next [] q no_property ends =
           absurd (false≢true (sym (ends (get_or s k 0) (drop (k + 1) s) (white-to lt)).1 ∙ capital))
       next (p ∷ ps) q (properties {t = m} (property {b} {name} {v} {t = t} {u} {vs = vs} w h l first more) are) ends =
@@ -203,17 +203,32 @@ next-value {v} {s} {r} held h = next held.values held.rest held.spelled held.end
           record { values = us; rest = q; spelled = left; ends = ends },
         )
 
--- a property's values, which are all of its own
-pub values_held : {s : List ℕ} → IsPropertyHeld s → AreValuesIn s
-values_held held = record { values = held.first ∷ held.more; rest = held.rest; spelled = held.spelled; ends = held.ends }
+-- the first property of a text: its identifier stands between two offsets, v is its first value, its further ones stand in m, and
+-- r is left after it
+pub record IsNextProperty (s : List ℕ) (k end : ℕ) (v m r : List ℕ) : Type 0 where
+  pub more : AreValuesIn m
+  pub left : ArePropertiesIn r
+  pub is : properties_in s ≡ record { name = name_in (slice_range s k end); first = v; more = values_in m } ∷ properties_in r
 
-pub values_shown : {s : List ℕ} (name : List ℕ) → IsPropertyHeld s → values (property_from name (values_in s)) ≡ values_in s
-values_shown name held =
-    let is = values-in held.spelled held.ends in rw is
+module _ (s : List ℕ) (k : ℕ) (run : IsSpan is_white s 0 k) (held : ArePropertiesIn s) (lt : k < length s) (capital : IsTrue (is_upper (get_or s k 0))) (end : ℕ) (letters : IsSpan is_letter s k end) where
+  -- it has one
+  pub value-there : ¬ IsNoPropValue (drop end s)
+  value-there none = there (property-at s k run end (drop end s) held lt capital letters (record { values = []; spelled = no_value; none_left = none })).held.spelled
+    where
+      there : {v r : List ℕ} {vs : List (List ℕ)} → ¬ ArePropValues (v ∷ vs) (drop end s) r
+      there {v} (value {t} first more) = none v t first
 
-pub name-shown : (name : List ℕ) (vs : List (List ℕ)) → (property_from name vs).name ≡ name
-name-shown name [] = refl
-name-shown name (v ∷ vs) = refl
+  pub next-property : (v m r : List ℕ) → IsPropValue v (drop end s) m → IsPastValues m r → IsNextProperty s k end v m r
+  next-property v m r first past =
+      let at = property-at s k run end r held lt capital letters (record { values = v ∷ past.values; spelled = value first past.spelled; none_left = past.none_left }) in
+      let own = at.held in
+      let all : AreValuesIn (drop end s) = record { values = own.first ∷ own.more; rest = own.rest; spelled = own.spelled; ends = own.ends } in
+      let step = next-value all first in
+      record {
+        more = step.1;
+        left = at.left;
+        is = at.is ∙ ap (λ vs. property_from (name_in (slice_range s k end)) vs ∷ properties_in r) step.0;
+      }
 
 -- there are no more of them than bytes
 pub count-properties-held : {s : List ℕ} → ArePropertiesIn s → length (properties_in s) ≤ length s

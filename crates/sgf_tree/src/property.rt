@@ -13,7 +13,8 @@ use std::marker::Model;
 #[derive(Drop)]
 pub struct PropRef<'a> {
     pub(crate) identifier: &'a [u8],
-    pub(crate) values: &'a [u8],
+    pub(crate) first: &'a [u8],
+    pub(crate) more: &'a [u8],
 }
 
 impl<'a> Model for PropRef<'a> {
@@ -24,11 +25,11 @@ impl<'a> Model for PropRef<'a> {
 
     ghost coded = { property_code };
 
-    ghost use Rattle.sgf_tree.specs.inner.NodeText.{property_from, name_in, values_in, IsPropertyHeld};
+    ghost use Rattle.sgf_tree.specs.inner.NodeText.{name_in, values_in, AreValuesIn};
 
-    ghost view = { λ p. property_from (name_in p.identifier.now) (values_in p.values.now) };
+    ghost view = { λ p. record { name = name_in p.identifier.now; first = p.first.now; more = values_in p.more.now } };
 
-    ghost invariant = { λ p. IsPropertyHeld p.values.now };
+    ghost invariant = { λ p. AreValuesIn p.more.now };
 }
 
 impl<'a> PropRef<'a> {
@@ -80,11 +81,13 @@ impl<'a> PropRef<'a> {
     }
 
     /// Its raw values, to be taken off one after another.
-    #[tactic(auto, using(crate::proofs::Walks::values_held, crate::proofs::Walks::values_shown))]
     pub fn walk(&self) -> Values<'a>
         ensures { result ≡ values self.now }
     {
-        Values { rest: self.values }
+        Values {
+            first: Some(self.first),
+            rest: self.more,
+        }
     }
 
     /// The number of its values, at least 1.
@@ -92,9 +95,12 @@ impl<'a> PropRef<'a> {
     pub fn values(&self) -> usize
         ensures { result ≡ length (values self.now) }
     {
-        let text = self.values;
-        let mut left = Values { rest: text };
-        let mut count = 0;
+        let more = self.more;
+        let mut left = Values {
+            first: None,
+            rest: more,
+        };
+        let mut count = 1;
         while let Some(_value) = left.next() {
             count += 1;
         }

@@ -1,9 +1,9 @@
 //! Steps forward over the properties of a node, and over the values of a property.
 //! All steps over a node together cost what its text costs, however many properties and values it has.
 
-ghost use Rattle.std.specs.Prelude.{◌≡◌, ◌↔◌, ◌≤◌, [], ◌∷◌, length, drop, IsTrue, IfSome, MatchOption};
+ghost use Rattle.std.specs.Prelude.{◌≡◌, ◌↔◌, ◌≤◌, false, [], ◌∷◌, length, drop, IsTrue, IfSome, MatchOption};
 ghost use Rattle.sgf_tree.specs.Written.{IsWrittenFront};
-ghost use Rattle.sgf_tree.specs.inner.NodeText.{ArePropertiesIn, AreValuesWritten, IsPropertyWritten, ArePropertiesWritten, IsValuesEnd, IsNoPropValue, IsFirstValue};
+ghost use Rattle.sgf_tree.specs.inner.NodeText.{ArePropertiesIn, AreValuesWritten, IsPropertyWritten, ArePropertiesWritten, IsValueAt, IsValuesEnd, IsNoPropValue};
 
 use crate::property::PropRef;
 use crate::reader::scan::{capitals_end, identifier_end, part, rest_from, skip_white, value_end};
@@ -53,12 +53,14 @@ impl<'a> Properties<'a> {
             return None;
         }
         let end = identifier_end(text, start);
-        let next = values_end(text, end);
-        let values = rest_from(text, end);
+        let (from, close) = value_at(text, end).unwrap();
+        let more = close + 1;
+        let next = values_end(text, more);
         self.rest = rest_from(text, next);
         Some(PropRef {
             identifier: part(text, start, end),
-            values,
+            first: part(text, from, close),
+            more: rest_from(text, more),
         })
     }
 
@@ -76,21 +78,56 @@ impl<'a> Properties<'a> {
     }
 }
 
-/// The end of the values at `at`.
-fn values_end(text: &[u8], at: usize) -> usize
+/// Where the raw value at `at` begins, after white space and a `[`, and where its `]` stands.
+/// None where no value is there.
+///
+/// It is compiled into its callers, as a call would hand its offsets over in memory.
+#[inline(always)]
+fn value_at(text: &[u8], at: usize) -> Option<(usize, usize)>
+    requires { at ≤ length text.now }
+    ensures { MatchOption result (IsNoPropValue (drop at text.now)) (λ value. IsValueAt text.now at value.0 value.1) }
+{
+    let bracket = skip_white(text, at);
+    if bracket == text.len() || text[bracket] != b'[' {
+        return None;
+    }
+    let Some(close) = value_end(text, bracket + 1) else {
+        return None;
+    };
+    Some((bracket + 1, close))
+}
+
+/// Whether a value may be at `at`: white space there, or none, and a `[`.
+fn begins_value(text: &[u8], at: usize) -> bool
+    requires { at ≤ length text.now }
+    ensures { result ≡ false → IsNoPropValue (drop at text.now) }
+{
+    let bracket = skip_white(text, at);
+    bracket < text.len() && text[bracket] == b'['
+}
+
+/// The end of the values at `at`, of which there are some.
+#[inline(never)]
+fn far_values_end(text: &[u8], at: usize) -> usize
     requires { at ≤ length text.now }
     ensures { IsValuesEnd text.now at result }
 {
     let mut end = at;
-    'values: loop {
-        let bracket = skip_white(text, end);
-        if bracket == text.len() || text[bracket] != b'[' {
-            return end;
-        }
-        let Some(close) = value_end(text, bracket + 1) else {
-            return end;
-        };
+    'values: while let Some((_start, close)) = value_at(text, end) {
         end = close + 1;
+    }
+    end
+}
+
+/// The end of the values at `at`. After the first value of a property there are mostly none.
+fn values_end(text: &[u8], at: usize) -> usize
+    requires { at ≤ length text.now }
+    ensures { IsValuesEnd text.now at result }
+{
+    if begins_value(text, at) {
+        far_values_end(text, at)
+    } else {
+        at
     }
 }
 
@@ -146,20 +183,22 @@ fn written_end(text: &[u8], at: usize) -> Option<usize>
 /// No call on it takes memory.
 #[derive(Drop)]
 pub struct Values<'a> {
+    /// The first one, until it is taken off: where it ends is known already.
+    pub(crate) first: Option<&'a [u8]>,
     pub(crate) rest: &'a [u8],
 }
 
 impl<'a> Model for Values<'a> {
-    ghost use Rattle.std.specs.Prelude.{ℕ, List};
+    ghost use Rattle.std.specs.Prelude.{ℕ, List, option_copied};
     ghost use Rattle.sgf_tree.specs.inner.TreeCode.{values_code};
 
     ghost Value = { List (List ℕ) };
 
     ghost coded = { values_code };
 
-    ghost use Rattle.sgf_tree.specs.inner.NodeText.{values_in, AreValuesIn};
+    ghost use Rattle.sgf_tree.specs.inner.NodeText.{values_in, values_left, AreValuesIn};
 
-    ghost view = { λ p. values_in p.rest.now };
+    ghost view = { λ p. values_left (option_copied p.first) (values_in p.rest.now) };
 
     ghost invariant = { λ p. AreValuesIn p.rest.now };
 }
@@ -170,26 +209,17 @@ impl<'a> Values<'a> {
     pub fn next(&mut self) -> Option<&'a [u8]>
         ensures { MatchOption result ((self.old ≡ []) × (self.new ≡ [])) (λ v. self.old ≡ v.now ∷ self.new) }
     {
-        let Some((value, rest)) = split_value(self.rest) else {
+        if let Some(first) = self.first {
+            self.first = None;
+            return Some(first);
+        }
+        let text = self.rest;
+        let Some((start, close)) = value_at(text, 0) else {
             return None;
         };
-        self.rest = rest;
-        Some(value)
+        self.rest = rest_from(text, close + 1);
+        Some(part(text, start, close))
     }
-}
-
-/// The raw value in front, after white space and a `[`, and what is left after its `]`.
-fn split_value(text: &[u8]) -> Option<(&[u8], &[u8])>
-    ensures { MatchOption result (IsNoPropValue text.now) (λ parts. IsFirstValue text.now parts.0.now parts.1.now) }
-{
-    let bracket = skip_white(text, 0);
-    if bracket == text.len() || text[bracket] != b'[' {
-        return None;
-    }
-    let Some(end) = value_end(text, bracket + 1) else {
-        return None;
-    };
-    Some((part(text, bracket + 1, end), rest_from(text, end + 1)))
 }
 
 #[cfg(test)]

@@ -1,6 +1,6 @@
 -- The properties and the raw values that stand at the front of a text, as functions, so that they may be what is seen of a
 -- part of the text. `ArePropertiesIn` and `AreValuesIn` tie them to the grammar.
-use Rattle.std.specs.Prelude.{◌≡◌, ◌≢◌, ℕ, zero, suc, ◌<◌, ◌≤◌, Bool, false, ◌||◌, ◌==◌, if◌then◌else◌, List, [], ◌∷◌, length, drop, slice_range, filter}
+use Rattle.std.specs.Prelude.{◌≡◌, ◌≢◌, ℕ, zero, suc, ◌+◌, ◌<◌, ◌≤◌, Bool, false, ◌||◌, ◌==◌, if◌then◌else◌, List, [], ◌∷◌, length, drop, slice_range, filter, Option, None, Some}
 use Rattle.std.specs.List.{flat_map}
 use Rattle.sgf_tree.specs.Bytes.{semicolon, open_bracket, backslash, close_bracket}
 use Rattle.sgf_tree.specs.Tree.{Property}
@@ -60,6 +60,11 @@ after_values_up_to (suc n) s =
 unfoldable pub values_in : List ℕ → List (List ℕ)
 values_in s = values_up_to (length s) s
 
+-- the values that are left, of which the first may be known
+abbrev pub values_left : Option (List ℕ) → List (List ℕ) → List (List ℕ)
+values_left None vs = vs
+values_left (Some v) vs = v ∷ vs
+
 -- the property of a name and raw values, of which there is one at least
 abbrev pub property_from : List ℕ → List (List ℕ) → Property
 property_from name [] = record { name = name; first = []; more = [] }
@@ -117,9 +122,12 @@ pub record IsNodeIn (s : List ℕ) : Type 0 where
 abbrev pub IsNoPropValue : List ℕ → Type 0
 IsNoPropValue s = (v r : List ℕ) → ¬ IsPropValue v s r
 
--- a value is in front, with what is left after it
-abbrev pub IsFirstValue : List ℕ → List ℕ → List ℕ → Type 0
-IsFirstValue s v r = IsPropValue v s r
+-- a value stands between two offsets, after white space and a `[`, and a `]` behind it
+pub record IsValueAt (t : List ℕ) (from start close : ℕ) : Type 0 where
+  pub begins : from < start
+  pub rises : start ≤ close
+  pub within : close < length t
+  pub spelled : IsPropValue (slice_range t start close) (drop from t) (drop (close + 1) t)
 
 -- what is left after as many values as there are in front
 pub record IsPastValues (s r : List ℕ) : Type 0 where

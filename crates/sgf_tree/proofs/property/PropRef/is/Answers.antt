@@ -2,9 +2,7 @@ use Rattle.std.proofs.Common.{◌≢◌, ◌<◌, ◌∙◌, length, get_or, sym
 use Rattle.std.proofs.lemmas.Bool.{false≢true}
 use Rattle.sgf_tree.specs.Spelling.{is_upper}
 use Rattle.sgf_tree.specs.Tree.{Property}
-use Rattle.sgf_tree.specs.inner.NodeText.{name_in, values_in}
 use Rattle.sgf_tree.proofs.Names.{filter-other}
-use Rattle.sgf_tree.proofs.Walks.{name-shown}
 use Rattle.sgf_tree.proofs.property.PropRef.is.Goals as goal
 use Rattle.sgf_tree.proofs.property.PropRef.is.Goals.{then-matched-name-via-then-matched-name, then-matched-name-via-else-matched-name+then-name-matched}
 
@@ -19,5 +17,5 @@ returns-then-matched-name c =
       | then-matched-name-via-else-matched-name+then-name-matched w ↦ λ _. w.if-name-matched.true
     ] in (
       λ t. absurd (false≢true t),
-      λ same. absurd (filter-other is_upper xs i c.loop-letter-test.true ys m c.loop-letter.invariant.within c.loop-letter.invariant.front (sym c.is_ascii_uppercase.ensures.value ∙ c.if-is_ascii_uppercase.true) other (sym (name-shown (name_in c.self.inside.identifier.now) (values_in c.self.inside.values.now)) ∙ ap (λ (p : Property). p.name) c.self.view_is ∙ same)),
+      λ same. absurd (filter-other is_upper xs i c.loop-letter-test.true ys m c.loop-letter.invariant.within c.loop-letter.invariant.front (sym c.is_ascii_uppercase.ensures.value ∙ c.if-is_ascii_uppercase.true) other (ap (λ (p : Property). p.name) c.self.view_is ∙ same)),
     )

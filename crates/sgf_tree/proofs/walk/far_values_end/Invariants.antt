@@ -1,6 +1,6 @@
 use Rattle.std.proofs.Common.{ℕ, ◌-◌, ◌≤◌, List, length, drop}
 use Rattle.sgf_tree.specs.Spelling.{ArePropValues}
-use Rattle.sgf_tree.proofs.walk.values_end.Given as goal
+use Rattle.sgf_tree.proofs.walk.far_values_end.Given as goal
 
 abbrev pub invariant-values : goal.invariant-values
 invariant-values l = record {
