@@ -33,6 +33,16 @@ impl Board {
         self.is_settled() && self.all_live(colour, point)
     }
 
+    /// The same, by a glance alone: it tells of most such stones, and not of all.
+    pub(crate) fn captures_nothing_at_a_glance(&self, colour: Colour, point: Point) -> bool
+        requires on_board { IsOn self.now.side point }
+        requires empty { cell_at self.now point ≡ Empty }
+        ensures { IsTrue result → play self.now colour point ≡ with_cell self.now point (stone_of colour) }
+    {
+        let _ = &self.size;
+        self.is_settled() && self.all_live_at_a_glance(colour, point)
+    }
+
     /// Whether a look around an empty point tells that a stone there leaves each group beside it a liberty, and has one.
     fn all_live(&self, colour: Colour, point: Point) -> bool
         requires on_board { IsOn self.now.side point }

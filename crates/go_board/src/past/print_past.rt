@@ -78,19 +78,10 @@ impl Past for PrintPast {
 
     fn try_stone(&mut self, colour: Colour, point: Point) -> Result<bool, MemoryFault> {
         let newest = self.colourings.newest();
-        if !newest.captures_nothing(colour, point) {
-            return self.try_captures(colour, point);
+        if newest.captures_nothing_at_a_glance(colour, point) {
+            return self.try_alone(colour, point);
         }
-        let print = newest.print_after(point, colour.stone());
-        if self.has_print(print) {
-            return Ok(false);
-        }
-        self.prints.push(print)?;
-        if self.colourings.add_stone(colour, point, print).is_err() {
-            self.prints.pop();
-            return Err(MemoryFault);
-        }
-        Ok(true)
+        self.try_captures(colour, point)
     }
 
     fn pop(&mut self) {
@@ -109,7 +100,8 @@ impl PrintPast {
     ghost use Rattle.std.specs.Prelude.{◌≡◌, ◌∷◌, false, if◌then◌else◌, IsFalse, IfOk, OnOk, OnErr};
     ghost use Rattle.go_board.specs.declared.stones.Cell.TheVariants.{Empty};
     ghost use Rattle.go_board.specs.Point.{IsOn};
-    ghost use Rattle.go_board.specs.Grid.{Grid, cell_at};
+    ghost use Rattle.go_board.specs.Colour.{stone_of};
+    ghost use Rattle.go_board.specs.Grid.{Grid, cell_at, with_cell};
     ghost use Rattle.go_board.specs.Clearing.{play};
     ghost use Rattle.go_board.specs.Past.{HaveSide, newest_grid};
     ghost use Rattle.go_board.specs.inner.Print.{print_of};
@@ -123,6 +115,54 @@ impl PrintPast {
         self.prints
             .last_between(print, start, self.prints.len())
             .is_some()
+    }
+
+    /// Tries a stone that captures nothing, whose print is worked out before it is placed.
+    fn try_alone(&mut self, colour: Colour, point: Point) -> Result<bool, MemoryFault>
+        requires on_board { IsOn (newest_grid self.old).side point }
+        requires empty { cell_at (newest_grid self.old) point ≡ Empty }
+        requires alone { play (newest_grid self.old) colour point
+            ≡ with_cell (newest_grid self.old) point (stone_of colour) }
+        ensures new { IfOk result (λ taken. IsTrue taken
+            → ¬ Contains (present_stretch self.old) (play (newest_grid self.old) colour point)) }
+        ensures ok { IfOk result (λ taken. self.new ≡ (if taken then
+            record { colouring = play (newest_grid self.old) colour point; begins = false } ∷ self.old
+            else self.old)) }
+        ensures refused { OnErr result
+            (¬ Contains (present_stretch self.old) (play (newest_grid self.old) colour point)) }
+        ensures err { OnErr result (self.new ≡ self.old) }
+    {
+        let newest = self.colourings.newest();
+        let print = newest.print_after(point, colour.stone());
+        if self.has_print(print) {
+            return Ok(false);
+        }
+        self.prints.push(print)?;
+        if self.colourings.add_stone(colour, point, print).is_err() {
+            self.prints.pop();
+            return Err(MemoryFault);
+        }
+        Ok(true)
+    }
+
+    /// Tries a stone that wasn't placed: where it captures nothing, that was for want of room alone.
+    fn try_not_placed(&mut self, colour: Colour, point: Point) -> Result<bool, MemoryFault>
+        requires on_board { IsOn (newest_grid self.old).side point }
+        requires empty { cell_at (newest_grid self.old) point ≡ Empty }
+        ensures new { IfOk result (λ taken. IsTrue taken
+            → ¬ Contains (present_stretch self.old) (play (newest_grid self.old) colour point)) }
+        ensures ok { IfOk result (λ taken. self.new ≡ (if taken then
+            record { colouring = play (newest_grid self.old) colour point; begins = false } ∷ self.old
+            else self.old)) }
+        ensures refused { OnErr result
+            (¬ Contains (present_stretch self.old) (play (newest_grid self.old) colour point)) }
+        ensures err { OnErr result (self.new ≡ self.old) }
+    {
+        let newest = self.colourings.newest();
+        if newest.captures_nothing(colour, point) {
+            return self.try_alone(colour, point);
+        }
+        Ok(false)
     }
 
     /// Tries a stone that may capture: the colouring that it makes is made in place, and taken back where the present stretch
@@ -142,7 +182,7 @@ impl PrintPast {
         let before = self.colourings.newest().print();
         let start = self.colourings.stretch_start();
         if !self.colourings.place(colour, point) {
-            return Ok(false);
+            return self.try_not_placed(colour, point);
         }
         let print = self.colourings.newest().print();
         let same = self.prints.last_between(print, start, self.prints.len());
