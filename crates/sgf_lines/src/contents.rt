@@ -58,7 +58,7 @@ impl<'a> Contents<'a> {
         let mut contents = Contents {
             moves: Moves::Nothing,
             comment: None,
-            operations: Vec::with_capacity(alloc, USUAL_OPERATIONS)?,
+            operations: Vec::new(alloc),
             player: None,
             faulty: false,
         };
@@ -96,6 +96,7 @@ impl<'a> Contents<'a> {
             (combined held (lists_of_kind (Kind.Stones cell) (values property.now)))) }
         ensures comment { self.new.comment ≡ self.old.comment }
     {
+        make_room(&mut self.operations)?;
         let mut values = property.walk();
         while let Some(raw) = values.next() {
             self.take_area(cell, raw, size)?;
@@ -141,6 +142,16 @@ impl<'a> Contents<'a> {
             None => self.faulty = true,
         }
     }
+}
+
+/// Makes room for as many operations as are usual, where there are none yet.
+fn make_room(operations: &mut Vec<SetupOp>) -> Result<(), MemoryFault>
+    ensures { operations.new.items ≡ operations.old.items }
+{
+    if operations.is_empty() {
+        operations.reserve(USUAL_OPERATIONS)?;
+    }
+    Ok(())
 }
 
 /// Appends an operation.

@@ -132,7 +132,12 @@ impl Game {
             return Ok(None);
         };
         plays.add_one();
-        match play_node(alloc, &mut self.referee, &collection.node(number)) {
+        match play_node(
+            alloc,
+            &mut self.referee,
+            &collection.node(number),
+            index == 0,
+        ) {
             Ok(step) => Ok(Some(step)),
             Err(StepFault::Memory) => Err(MemoryFault),
             Err(StepFault::Illegal(reason)) => {

@@ -69,7 +69,7 @@ fn judge_on(
     };
     for number in path {
         let node = collection.node(*number);
-        match play_node(alloc, &mut referee, &node) {
+        match play_node(alloc, &mut referee, &node, false) {
             Ok(_) => {}
             Err(fault) => return ended(fault, referee.turns(), collection.place(*number)),
         }

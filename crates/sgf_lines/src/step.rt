@@ -78,14 +78,19 @@ pub(crate) struct TakenStep<'a> {
 /// Takes a node's step: plays its move, or sets its stones and its player up.
 /// Where the node isn't allowed, the first reason comes back.
 /// After a refusal the referee is unchanged.
+/// `first` tells that the node is the first of a game, as such a one often sets something up: it is then gone over once.
 pub(crate) fn play_node<'a, P: Past>(
     alloc: Global,
     referee: &mut Referee<P>,
     node: &NodeRef<'a>,
+    first: bool,
 ) -> Result<TakenStep<'a>, StepFault>
     ensures stepped { IsStepped (step referee.old.present node.now) referee.old referee.new result }
     ensures told { IfOk result (IsStepOf node.now) }
 {
+    if first {
+        return play_setup(alloc, referee, node);
+    }
     match Plain::of(node) {
         Some(plain) => play_plain(referee, plain),
         None => play_setup(alloc, referee, node),
@@ -131,7 +136,7 @@ fn play_moves<'a, P: Past>(
     }
 }
 
-/// Takes the step of a node that sets something up. It is kept apart, since few nodes do, and it gathers what they hold.
+/// Takes the step of a node that may set something up. It is kept apart, since few nodes do, and it gathers what they hold.
 #[inline(never)]
 fn play_setup<'a, P: Past>(
     alloc: Global,
