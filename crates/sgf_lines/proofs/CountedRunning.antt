@@ -1,20 +1,18 @@
 -- By how much the parts of a run raise a count of plays.
-use Rattle.std.proofs.Common.{◌≡◌, ℕ, ◌+◌, List, drop, Option, Some, Result, Ok, Err, inl, inr, refl, sym, ap, arith}
-use Rattle.std.specs.Prelude.{option_map}
+use Rattle.std.proofs.Common.{◌≡◌, ℕ, ◌+◌, List, Option, Some, Result, Ok, Err, inl, inr, refl, sym, arith}
 use Rattle.sgf_tree.specs.Tree.{Games}
 use Rattle.sgf_tree.specs.Spelling.{Spells}
-use Rattle.sgf_lines.specs.Lines.{Line, lines}
-use Rattle.sgf_lines.specs.Page.{page, limited, lines_from_place}
+use Rattle.sgf_lines.specs.Lines.{Line}
+use Rattle.sgf_lines.specs.Page.{page}
 use Rattle.sgf_lines.specs.Ends.{SourceState, SinkState}
-use Rattle.sgf_lines.specs.Cursor.{Position}
 use Rattle.sgf_lines.specs.Answer.{IsWhole}
 use Rattle.sgf_lines.specs.CountedRun.{AnswersPlays, IsCountedRun}
 use Rattle.sgf_lines.specs.inner.Running.{AnswersReading, IsReading, IsSplit, IsStart}
-use Rattle.sgf_lines.specs.inner.CountedLines.{AnswersPlaysFor, CountsLines, CountsSplit, CountsSplitOf}
+use Rattle.sgf_lines.specs.inner.CountedLines.{AnswersPlaysFor, CountsSplit}
 use Rattle.sgf_lines.specs.declared.options.Options.{Options}
 use Rattle.sgf_lines.specs.declared.fault.RunFault.{RunFault}
 use Rattle.sgf_lines.specs.declared.fault.RunFault.TheVariants.{Read, TooLong, NotSgf, NoSuchLine, Write, Memory}
-use Rattle.sgf_lines.proofs.Running.{run_of_fault, run_of_text}
+use Rattle.sgf_lines.proofs.Running.{run_of_text}
 
 no_more : (count : ℕ) → count ≡ count + 0
 no_more count = omega arith

@@ -1,15 +1,15 @@
 -- The loop that writes the lines of a page, one record after the other.
 use Rattle.std.proofs.Common.{◌≡◌, ℕ, ◌+◌, ◌<◌, ◌≤◌, List, [], ◌++◌, length, take, drop, slice_get, Option, Some, None, Result, Ok, Err, refl, sym, ap, ◌∙◌, arith, append-nil}
 use Rattle.std.specs.Prelude.{unwrap_or}
-use Rattle.std.specs.Io.KnownBytes.{Keeps, Appends}
-use Rattle.std.proofs.KnownBytes.{Appends-nil, Appends-trans}
+use Rattle.std.specs.Io.KnownBytes.{Appends}
+use Rattle.std.proofs.KnownBytes.{Appends-trans}
 use Rattle.std.proofs.lemmas.List.{take_all, length-take, length-drop}
 use Rattle.sgf_tree.specs.Tree.{Games, node_count}
 use Rattle.sgf_lines.specs.Lines.{Line, lines}
 use Rattle.sgf_lines.specs.Page.{limited}
 use Rattle.sgf_lines.specs.Record.{record_of}
 use Rattle.sgf_lines.specs.Output.{output}
-use Rattle.sgf_lines.specs.Ends.{SinkState, Takes, TakesNothing}
+use Rattle.sgf_lines.specs.Ends.{SinkState, Takes}
 use Rattle.sgf_lines.specs.Cursor.{Position}
 use Rattle.sgf_lines.specs.inner.Running.{WritesLines, HasRecord}
 use Rattle.sgf_lines.specs.declared.options.Form.{Form}
@@ -17,7 +17,7 @@ use Rattle.sgf_lines.specs.declared.fault.RunFault.{RunFault}
 use Rattle.sgf_lines.specs.declared.fault.RunFault.TheVariants.{Write, Memory}
 use Rattle.sgf_lines.proofs.Pages.{get_dropped, get_taken, get_none, get_some, limited_is}
 use Rattle.sgf_lines.proofs.LineCounts.{lines_within}
-use Rattle.sgf_lines.proofs.Running.{one_more, cut_in, all_taken}
+use Rattle.sgf_lines.proofs.Running.{one_more, cut_in}
 
 -- at most `limit` of the lines from the index `first` on
 abbrev pub page_from : Games → ℕ → ℕ → List Line

@@ -4,7 +4,7 @@ use Rattle.std.proofs.lemmas.List.Elements.{All-from_recursion}
 use Rattle.sgf_tree.specs.Tree.{Games, node_count}
 use Rattle.sgf_tree.specs.declared.fault.MemoryFault.{MemoryFault}
 use Rattle.sgf_lines.specs.Paths.{paths}
-use Rattle.sgf_lines.specs.Cursor.{Position, advanced, shown, IsLine, GivesLine, LeavesCursor}
+use Rattle.sgf_lines.specs.Cursor.{Position, advanced, shown, IsLine, LeavesCursor}
 use Rattle.sgf_lines.specs.inner.Ways.{top}
 use Rattle.sgf_lines.specs.declared.line.LineRef.{LineRef}
 use Rattle.sgf_lines.proofs.Lists.{each_get}

@@ -1,22 +1,21 @@
 -- A node's step by what its contents tell.
-use Rattle.std.proofs.Common.{◌≡◌, ◌⊎◌, ◌+◌, ◌<◌, ℕ, Bool, true, false, Option, Some, None, List, [], ◌∷◌, not, ◌==◌, length, Result, Ok, Err, refl, sym, ap, ◌∙◌, inl, inr, subst, arith}
+use Rattle.std.proofs.Common.{◌≡◌, ◌⊎◌, ◌<◌, ℕ, Bool, true, false, Option, Some, None, List, [], ◌∷◌, not, ◌==◌, length, Result, Ok, Err, refl, sym, ap, ◌∙◌, inl, inr, subst, arith}
 use Rattle.std.proofs.lemmas.Bool.{eqb-true, eqb-false}
-use Rattle.std.specs.Prelude.{option_map, option_and_then, is_some, is_none, IsSome, IsErrOf, ◌↔◌}
+use Rattle.std.specs.Prelude.{option_map, option_and_then, is_some, IsSome, IsErrOf, ◌↔◌}
 use Rattle.go_board.specs.declared.stones.Colour.{Colour}
 use Rattle.go_board.specs.declared.referee.plays.Play.{Play}
 use Rattle.go_board.specs.declared.referee.plays.SetupOp.{SetupOp}
 use Rattle.go_board.specs.declared.reason.Reason.{Reason}
-use Rattle.go_board.specs.declared.reason.Reason.TheVariants.{Mixed, BadSetup}
+use Rattle.go_board.specs.declared.reason.Reason.TheVariants.{BadSetup}
 use Rattle.go_board.specs.declared.fault.TurnFault.{TurnFault}
 use Rattle.go_board.specs.declared.fault.TurnFault.TheVariants.{Illegal as TurnIllegal, Memory as TurnMemory}
 use Rattle.go_board.specs.State.{State, States, set_up, turned, followed_by}
 use Rattle.go_board.specs.Reason.{reason_of}
-use Rattle.sgf_lines.specs.NodeContents.{Move, Stones}
+use Rattle.sgf_lines.specs.NodeContents.{Stones}
 use Rattle.sgf_lines.specs.Values.{player_value, operation, operations, last_player}
 use Rattle.sgf_lines.specs.Step.{step_by, setup_step, taken, side_in}
 use Rattle.sgf_lines.specs.declared.contents.Moves.{Moves}
 use Rattle.sgf_lines.specs.inner.Contents.{Lists, AreTold}
-use Rattle.sgf_lines.specs.declared.step.Effect.{Effect}
 use Rattle.sgf_lines.specs.declared.step.StepFault.{StepFault}
 use Rattle.sgf_lines.specs.declared.step.StepFault.TheVariants.{Illegal, Memory}
 use Rattle.sgf_lines.specs.inner.Stepping.{IsSetupMet, IsStepped, GrowsByOne, fault_of}

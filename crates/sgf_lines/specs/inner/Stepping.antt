@@ -1,5 +1,5 @@
 -- What a node's step does to a referee.
-use Rattle.std.specs.Prelude.{◌≡◌, ◌⊎◌, ◌+◌, ◌<◌, ℕ, Bool, Option, Some, List, [], ◌∷◌, length, Result, Ok, Err, MatchBool, codes, option_copied}
+use Rattle.std.specs.Prelude.{◌≡◌, ◌⊎◌, ◌+◌, ◌<◌, ℕ, Bool, List, [], ◌∷◌, length, Result, Ok, Err, MatchBool, codes, option_copied}
 use Rattle.sgf_tree.specs.Tree.{Node}
 use Rattle.go_board.specs.declared.stones.Colour.{Colour}
 use Rattle.go_board.specs.declared.reason.Reason.{Reason}

@@ -1,4 +1,4 @@
-use Rattle.std.proofs.Common.{◌≡◌, false, refl, sym, ◌∙◌, inl}
+use Rattle.std.proofs.Common.{◌≡◌, false, refl, inl}
 use Rattle.std.specs.Prelude.{is_some}
 use Rattle.sgf_lines.proofs.Stepping.{sets_nothing, has_no_stones}
 use Rattle.sgf_lines.proofs.step.set_player.Goals as goal

@@ -2,11 +2,9 @@
 use Rattle.std.proofs.Common.{◌≡◌, ◌++◌, ◌∷◌, [], Some, sym, ap, ◌∙◌, subst}
 use Rattle.std.proofs.lemmas.Result.{on_ok_weaker}
 use Rattle.go_board.specs.Grid.{Grid}
-use Rattle.std.specs.Prelude.{IfSome}
 use Rattle.sgf_tree.specs.FileOrder.{node_at}
 use Rattle.sgf_lines.specs.declared.step.TakenStep.{TakenStep}
 use Rattle.sgf_lines.specs.inner.KeptCommands.{HasChanged}
-use Rattle.sgf_lines.specs.inner.Stepping.{IsStepOf}
 use Rattle.sgf_lines.proofs.Counted.{counts_ok, counts_err}
 use Rattle.sgf_lines.proofs.PlayedScripts.{side_played, with_commands, none_asked, some_asked, step_of}
 use Rattle.sgf_lines.proofs.game.Game.play.Goals as goal

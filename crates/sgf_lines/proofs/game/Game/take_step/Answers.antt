@@ -1,5 +1,5 @@
 -- The mark is of the game before the node, and the node goes on the walk.
-use Rattle.std.proofs.Common.{◌≡◌, ◌++◌, ◌∷◌, [], inl, Some, refl, sym, ap, subst, ◌∙◌, arith}
+use Rattle.std.proofs.Common.{◌≡◌, ◌++◌, ◌∷◌, [], inl, Some, refl, sym, ap, ◌∙◌, arith}
 use Rattle.sgf_lines.specs.declared.game.MetFault.{MetFault}
 use Rattle.sgf_lines.specs.declared.game.Game.{Game}
 use Rattle.sgf_lines.specs.Walk.{Walk}
