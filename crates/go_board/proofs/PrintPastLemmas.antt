@@ -78,3 +78,12 @@ module _ (held : List Held) (prints : List ℕ) (kept : reverse prints ≡ print
       let y = length held - 1 - j in
       let turned : length held - 1 - y ≡ j = omega (arith, there.2) in
       never y (omega (arith, there.1, there.2)) (omega (arith, there.2)) (rw turned there.3)
+
+  -- where a look-up by its print finds none, the stretch doesn't have it
+  pub not_found : (start end print : ℕ) (g : Grid) (found : Option ℕ) → present_stretch held ≡ map (λ (h : Held). h.colouring) (take (length held - start) held) → end ≡ length prints
+      → IsLastOf prints print start end found → is_some found ≡ false → print ≡ print_of g.cells → Contains (present_stretch held) g → ⊥
+  not_found start end print g found stretch all last none is =
+      unseen start g stretch
+      (λ y low high at.
+      let within : y < end = omega (arith, high, all, same_length) in
+      missing y print g is high (none_found prints print start end found last none y low within) at)

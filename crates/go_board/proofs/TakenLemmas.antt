@@ -2,6 +2,7 @@
 -- Points taken off a board, each kept as a change that puts its stone back.
 use Rattle.std.proofs.Common.{◌≡◌, inl, inr, ℕ, ◌+◌, ◌-◌, List, [], ◌∷◌, ◌++◌, length, set, take, drop, drop_of_length-le, refl, sym, ap, ◌∙◌, arith, subst, length-append}
 use Rattle.std.specs.List.{All}
+use Rattle.std.specs.Prelude.{Option, Some, None, IfSome, IfNone}
 use Rattle.std.proofs.Math.Seq.{take-length}
 use Rattle.std.proofs.lemmas.Bool.{cases_eq}
 use Rattle.std.proofs.lemmas.List.{set_comm, drop-append-le, take-append-le}
@@ -15,7 +16,7 @@ use Rattle.go_board.specs.Colour.{stone_of}
 use Rattle.go_board.specs.Point.{IsOn, index_of}
 use Rattle.go_board.specs.Grid.{Grid, cell_at, with_cell}
 use Rattle.go_board.specs.inner.Changes.{after_changes, with_run, IsRunOn, AreOn}
-use Rattle.go_board.specs.inner.Taken.{Puts, AreTaken}
+use Rattle.go_board.specs.inner.Taken.{Puts, AreTaken, IsTried}
 use Rattle.go_board.proofs.PointLemmas.{index_below}
 use Rattle.go_board.proofs.ChangesLemmas.{with_cell-back, with_run-one, stone-back, after-push, after-side}
 
@@ -91,6 +92,27 @@ without_stone g h b s p cs empty is back =
     ∙ ap (λ x. with_cell (with_cell g p s) p x) (sym empty)
     ∙ with_cell-back g p s
 
+pub tried : (d k : Colour) (start : ℕ) (g h b : Grid) (p : Point) (front changes : List Change) → AreTaken d start h front b changes → h ≡ with_cell g p (stone_of k)
+    → cell_at g p ≡ Empty → IsOn g.side p → IsTried p start g front b changes
+tried d k start g h b p front changes taken is empty on =
+    let side = side-taken d start h front b changes taken in
+    record {
+      starts = taken.starts;
+      front_is = taken.front_is;
+      back = without_stone g h b (stone_of k) p (drop start changes) empty is taken.back;
+      on_board = subst (λ n. IsOn n p) (sym (side ∙ ap (λ (x : Grid). x.side) is)) on;
+      on_grid = subst (λ n. AreOn n changes) (sym side) taken.on_grid;
+    }
+
+-- what an answer gives where there is one, and where there is none
+pub some_gives : {P Q R : ℕ → Type 0} (o : Option ℕ) → IfSome o P → IfSome o Q → ((n : ℕ) → P n → Q n → R n) → IfSome o R
+some_gives None p q f = p
+some_gives (Some n) p q f = f n p q
+
+pub none_gives : {X Y : Type 0} (o : Option ℕ) → IfNone o X → (X → Y) → IfNone o Y
+none_gives None x f = f x
+none_gives (Some n) x f = x
+
 -- the change that takes the stone off again comes last
 module _ (k d : Colour) (start count : ℕ) (g h b : Grid) (p : Point) (cs front items : List Change) (taken : AreTaken k start h front b cs) (items_is : items ≡ cs ++ record { point = p; cell = Empty; more = 0 } ∷ []) (count_is : count ≡ length cs + 1 - start) (is : h ≡ with_cell g p (stone_of d)) (empty : cell_at g p ≡ Empty) (on : IsOn g.side p) where
   abbrev stone : Change
@@ -110,3 +132,9 @@ module _ (k d : Colour) (start count : ℕ) (g h b : Grid) (p : Point) (cs front
       ∙ after-push b (drop start cs) stone
       ∙ ap (λ x. with_run x stone) taken.back
       ∙ stone-back g h p d is empty
+
+  pub on_grid-stone : AreOn g.side items
+  on_grid-stone =
+      let side : h.side ≡ g.side = ap (λ (x : Grid). x.side) is in
+      let all : AreOn g.side cs = subst (λ n. AreOn n cs) side taken.on_grid in
+      subst (AreOn g.side) (sym items_is) (All-push (IsRunOn g.side) cs stone all (on, omega (arith, index_below g.side p on)))

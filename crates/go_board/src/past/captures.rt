@@ -13,7 +13,7 @@ ghost use Rattle.go_board.specs.inner.Changes.{after_changes, AreOn};
 ghost use Rattle.go_board.specs.inner.Groups.{LosesDead, ReachBeside, ReachesIfStone};
 ghost use Rattle.go_board.specs.inner.Rows.{has_bit, is_set};
 ghost use Rattle.go_board.specs.inner.Sweep.{IsWithout};
-ghost use Rattle.go_board.specs.inner.Taken.{AreTaken};
+ghost use Rattle.go_board.specs.inner.Taken.{AreTaken, IsTried};
 
 use crate::board::Board;
 use crate::board::regions::no_rows;
@@ -48,16 +48,9 @@ pub(crate) fn place_on(
     if !board.is_settled() {
         return None;
     }
-    let _ = board.cells();
     let print = board.print();
     let start = changes.len();
-    board.set(point, colour.stone());
-    if !capture(board, colour, point, changes) {
-        put_back(board, point, start, changes);
-        board.restore(true, print);
-        return None;
-    }
-    let Some(count) = keep_stone(point, start, changes) else {
+    let Some(count) = place_and_keep(board, colour, point, start, changes) else {
         put_back(board, point, start, changes);
         board.restore(true, print);
         return None;
@@ -65,6 +58,38 @@ pub(crate) fn place_on(
     let made = board.print();
     board.restore(true, made);
     Some(count)
+}
+
+/// Places a stone on an empty point of a board where every stone reaches empty, and takes off what it captures. Adds
+/// changes that lead back, the stone's own last, and tells how many. Where there is no room for them, or the stone is captured itself,
+/// none, and the stone is left, and changes that put back what was taken off.
+fn place_and_keep(
+    board: &mut Board,
+    colour: Colour,
+    point: Point,
+    start: usize,
+    changes: &mut Vec<Change>,
+) -> Option<u16>
+    requires on_board { IsOn board.old.side point }
+    requires empty { cell_at board.old point ≡ Empty }
+    requires settled { has_unreaching board.old ≡ false }
+    requires on_grid { AreOn board.old.side changes.old.items }
+    requires start { start ≡ length changes.old.items }
+    ensures there { IfSome result (λ _. board.new ≡ play board.old colour point) }
+    ensures count { IfSome result (λ count. count ≤ length changes.new.items) }
+    ensures back { IfSome result (λ count.
+        after_changes board.new (drop (length changes.new.items - count) changes.new.items) ≡ board.old) }
+    ensures front { IfSome result (λ count.
+        take (length changes.new.items - count) changes.new.items ≡ changes.old.items) }
+    ensures on_grid { IfSome result (λ _. AreOn board.old.side changes.new.items) }
+    ensures tried { IfNone result (IsTried point start board.old changes.old.items board.new changes.new.items) }
+{
+    let _ = board.cells();
+    board.set(point, colour.stone());
+    if !capture(board, colour, point, changes) {
+        return None;
+    }
+    keep_stone(point, start, changes)
 }
 
 /// Takes off what a stone that was just placed captures, and adds changes that lead back. Tells whether there was room
@@ -112,8 +137,10 @@ fn put_back(board: &mut Board, point: Point, start: usize, changes: &mut Vec<Cha
     requires start { start ≤ length changes.old.items }
     requires on_grid { AreOn board.old.side changes.old.items }
     requires on_board { IsOn board.old.side point }
-    ensures board { board.new ≡ with_cell (after_changes board.old (drop start changes.old.items)) point Empty }
-    ensures changes { changes.new.items ≡ take start changes.old.items }
+    ensures board { (g : Grid) (front : List Change) → IsTried point start g front board.old changes.old.items
+        → board.new ≡ g }
+    ensures changes { (g : Grid) (front : List Change) → IsTried point start g front board.old changes.old.items
+        → changes.new.items ≡ front }
 {
     take_back(board, &changes[start..]);
     changes.truncate(start);
