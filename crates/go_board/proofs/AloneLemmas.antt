@@ -1,4 +1,3 @@
--- proofs/AloneLemmas.antt
 -- A stone that captures nothing.
 use Rattle.std.proofs.Common.{◌≡◌, ◌≢◌, ◌⊎◌, inl, inr, ◌*◌, ◌==◌, ◌&&◌, not, Decides, false, true, Option, Some, None, length, refl, sym, ap, ◌∙◌}
 use Rattle.std.proofs.lemmas.Bool.{cases_Bool, false≢true}

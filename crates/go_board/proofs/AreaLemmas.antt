@@ -1,4 +1,3 @@
--- proofs/AreaLemmas.antt
 -- An area coloured row by row.
 use Rattle.std.proofs.Common.{◌≡◌, ◌≢◌, subst, ℕ, ◌+◌, ◌-◌, ◌*◌, ◌<◌, ◌≤◌, inl, inr, nat_le, List, [], ◌∷◌, fold, length, get_or, take, replicate, map, refl, sym, ap, ◌∙◌, arith, rules, cond, Decides}
 use Rattle.std.proofs.lemmas.List.{places, get_or-take, length-take, get_or-replicate, length-replicate, length-set}

@@ -1,4 +1,3 @@
--- proofs/CaptureLemmas.antt
 -- Liberties: the empty points beside a stone.
 use Rattle.std.proofs.Common.{◌≡◌, inl, inr, true, Option, Some, None, [], ◌∷◌, refl, ap, ◌∙◌, Decides}
 use Rattle.std.proofs.lemmas.Bool.{false≢true}

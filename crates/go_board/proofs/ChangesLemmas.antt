@@ -1,4 +1,3 @@
--- proofs/ChangesLemmas.antt
 -- Changes that lead back from one grid to another.
 use Rattle.std.proofs.Common.{◌≡◌, ℕ, zero, suc, ◌+◌, ◌-◌, ◌<◌, ◌≤◌, List, [], ◌∷◌, ◌++◌, length, get_or, set, take, drop, slice_range, refl, sym, ap, ◌∙◌, arith, append_assoc, length-append, length-take}
 use Rattle.std.proofs.lemmas.List.{set-set, set-get_or, take_more, drop_more, set_at, drop-append-le, take_at, drop_at}

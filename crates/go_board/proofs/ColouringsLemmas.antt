@@ -1,4 +1,3 @@
--- proofs/ColouringsLemmas.antt
 -- Past colourings, as what is kept of them tells them.
 use Rattle.std.proofs.Common.{◌≡◌, ◌==◌, ℕ, zero, suc, ◌+◌, ◌-◌, ◌<◌, ◌≤◌, List, [], ◌∷◌, ◌++◌, Some, false, length, get_or, map, take, drop, reverse, slice_range, refl, sym, ap, subst, ◌∙◌, arith, length-take, length-append, IsTrue}
 use Rattle.std.proofs.lemmas.List.{take_more, drop-drop, take-take, reverse-append}

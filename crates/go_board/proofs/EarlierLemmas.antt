@@ -1,4 +1,3 @@
--- proofs/EarlierLemmas.antt
 -- A referee has as many earlier states as it keeps something of.
 use Rattle.std.proofs.Common.{◌≡◌, ℕ, suc, ◌+◌, true, false, Option, List, [], ◌∷◌, length, reverse, refl, sym, ap, subst, ◌∙◌, arith, IsTrue}
 use Rattle.std.proofs.lemmas.Bool.{false≢true}

@@ -1,4 +1,3 @@
--- proofs/EmptiedLemmas.antt
 -- A grid with a point emptied.
 use Rattle.std.proofs.Common.{◌≡◌, ℕ, zero, suc, List, [], ◌∷◌, get_or, set, refl}
 use Rattle.go_board.specs.declared.stones.Cell.TheVariants.{Empty}

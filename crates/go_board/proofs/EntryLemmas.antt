@@ -1,4 +1,3 @@
--- proofs/EntryLemmas.antt
 -- The stretch of past colourings whose cells stand one behind the other in one list.
 use Rattle.std.proofs.Common.{◌≡◌, ◌≢◌, ℕ, zero, suc, ◌+◌, ◌*◌, ◌<◌, ◌⊎◌, ◌↔◌, inl, inr, Bool, true, false, List, [], ◌∷◌, ◌++◌, ◌≤◌, length, drop, slice_range, slice_index_or, Contains, length-append, length-take, length-drop, take, ◌-◌, subst, IsTrue, refl, sym, ap, ◌∙◌, arith, cond}
 use Rattle.std.proofs.lemmas.List.{take-append-le, drop_at, get_or_at, get_or_append_left, take-append-drop}

@@ -1,4 +1,3 @@
--- proofs/Examples.antt
 -- The definitions, computed on worked examples: small boards, and texts that name points.
 use Rattle.std.proofs.Common.{◌≡◌, true, false, [], ◌∷◌, refl, Some, None}
 use Rattle.go_board.specs.declared.stones.Cell.TheVariants.{Black as B, White as W, Empty as E}

@@ -1,4 +1,3 @@
--- proofs/FloodLemmas.antt
 -- A flood: each point found has the property that the search is for, and each taken has had its neighbours dealt with.
 use Rattle.std.proofs.Common.{◌≡◌, ◌⊎◌, inl, inr, ℕ, zero, suc, ◌+◌, ◌*◌, ◌<◌, ◌≤◌, Bool, true, false, cond, Option, Some, None, List, [], ◌∷◌, ◌++◌, length, get_or, set, refl, sym, ap, ◌∙◌, subst, arith, below_more, IsTrue, Decides}
 use Rattle.std.proofs.lemmas.List.{length-set, length-replicate, length_push, get_or_push, get_or_append_left}

@@ -1,4 +1,3 @@
--- proofs/FrontLemmas.antt
 -- A grid as the front of an array, and what a write to the array does to it.
 use Rattle.std.proofs.Common.{◌≡◌, ℕ, ◌*◌, ◌<◌, ◌≤◌, List, ◌++◌, drop, arith, take, set, replicate, sym, ap, ◌∙◌, length}
 use Rattle.std.proofs.Math.Seq.{take-set-lt, take-append_seam}

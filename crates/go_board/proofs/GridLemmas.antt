@@ -1,4 +1,3 @@
--- proofs/GridLemmas.antt
 -- Reading the grids and markings that functions of the points make, and grids after a point was set.
 use Rattle.std.proofs.Common.{◌≡◌, ◌≢◌, ◌==◌, ℕ, ◌*◌, ◌<◌, Bool, false, List, length, get_or, refl, sym, ap, ◌∙◌, Decides, replicate, zero, suc}
 use Rattle.std.proofs.lemmas.List.{get_or_default, length-map, get_or-set_same, get_or-set_other}

@@ -1,4 +1,3 @@
--- proofs/GroupLemmas.antt
 -- A group without a liberty can be taken off before its colour is cleared: the cleared grid is the same.
 use Rattle.std.proofs.Common.{◌≡◌, ◌≢◌, ◌⊎◌, inl, inr, ℕ, ◌*◌, Bool, false, List, [], ◌∷◌, map, length, get_or, refl, sym, ap, subst, ◌∙◌, IsTrue}
 use Rattle.std.proofs.lemmas.Bool.{cases_Bool, true≢false}

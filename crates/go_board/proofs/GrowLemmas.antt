@@ -1,4 +1,3 @@
--- proofs/GrowLemmas.antt
 -- Sets of points as rows of words: one row grown, and the rows grown in turn.
 use Rattle.std.proofs.Common.{◌≡◌, ◌≢◌, inl, inr, ℕ, zero, suc, ◌+◌, ◌-◌, ◌^◌, ◌<◌, ◌≤◌, ◌||◌, Bool, true, false, IsTrue, IsFalse, List, length, get_or, set, bit_and, bit_or, refl, sym, ap, ◌∙◌, arith, subst, slice_index}
 use Rattle.std.proofs.lemmas.Bool.{or_cases, and_parts, and_from, false≢true, true≢false, cases_lt, cases_eq}

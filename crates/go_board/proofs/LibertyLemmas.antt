@@ -1,4 +1,3 @@
--- proofs/LibertyLemmas.antt
 -- Whether all stones of a colour reach empty, by filling rows of words from the empty points.
 use Rattle.std.proofs.Common.{◌≡◌, Decides, inl, inr, ℕ, ◌≤◌, ◌&&◌, ◌||◌, Bool, true, false, not, List, length, refl, sym, ap, ◌∙◌, arith, subst}
 use Rattle.std.proofs.lemmas.Bool.{and_parts, false≢true, cases_Bool}

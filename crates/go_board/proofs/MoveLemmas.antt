@@ -1,4 +1,3 @@
--- proofs/MoveLemmas.antt
 -- A move on a grid where every stone reaches empty: taking the dead groups beside the stone, and then its own, is the
 -- whole move.
 use Rattle.std.proofs.Common.{◌≡◌, ◌≢◌, ◌⊎◌, inl, inr, ◌*◌, false, List, [], ◌∷◌, length, refl, sym, ap, subst, ◌∙◌}

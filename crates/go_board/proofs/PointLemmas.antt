@@ -1,4 +1,3 @@
--- proofs/PointLemmas.antt
 -- Points, their indices in a list that goes row by row, and tests on the points of a grid.
 use Rattle.std.proofs.Common.{◌≡◌, ◌≢◌, ◌↔◌, Some, slice_get, subst, ℕ, zero, suc, ◌*◌, ◌<◌, ◌⊎◌, Bool, true, false, ◌||◌, List, [], ◌∷◌, map, length, get_or, refl, sym, ap, ◌∙◌, arith, Decides, inl, inr}
 use Rattle.std.specs.List.{list_any}

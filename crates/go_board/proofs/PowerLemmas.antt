@@ -1,4 +1,3 @@
--- proofs/PowerLemmas.antt
 -- Powers of 31, modulo 2^64.
 use Rattle.std.proofs.Common.{◌≡◌, ℕ, zero, suc, ◌+◌, ◌*◌, ◌/◌, ◌%◌, ◌^◌, ◌<◌, List, [], ◌∷◌, get_or, refl, sym, ap, ◌∙◌, arith}
 use Rattle.std.proofs.Math.Nat.{mod-add-div, mod-eq_of_lt}

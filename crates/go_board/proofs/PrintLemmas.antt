@@ -1,4 +1,3 @@
--- proofs/PrintLemmas.antt
 -- The print of a colouring.
 use Rattle.std.proofs.Common.{◌≡◌, ℕ, ◌+◌, ◌*◌, ◌%◌, ◌/◌, ◌^◌, List, [], ◌∷◌, ◌++◌, refl, sym, ap, ◌∙◌, arith}
 use Rattle.std.proofs.Math.Nat.{mod-add-div, add-mul-mod_self_left}

@@ -1,4 +1,3 @@
--- proofs/PrintPastLemmas.antt
 -- The prints of past colourings.
 use Rattle.std.proofs.Common.{◌≡◌, ◌≢◌, ℕ, zero, suc, ◌-◌, ◌<◌, ◌≤◌, false, List, [], ◌∷◌, Option, Some, None, length, get_or, map, take, drop, reverse, Contains, sym, ap, ◌∙◌, arith}
 use Rattle.std.proofs.lemmas.List.{get_or-reverse, length-reverse, length-map}

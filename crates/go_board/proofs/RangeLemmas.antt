@@ -1,4 +1,3 @@
--- proofs/RangeLemmas.antt
 -- Ranges of two lists that are the same.
 use Rattle.std.proofs.Common.{◌≡◌, ℕ, ◌+◌, ◌-◌, ◌<◌, ◌≤◌, List, [], ◌∷◌, ◌++◌, length, get_or, take, drop, slice_range, sym, ap, ◌∙◌, arith, rules, length-take}
 use Rattle.std.proofs.Math.Seq.{take-append_seam, get_or-append_seam}

@@ -1,4 +1,3 @@
--- proofs/RegionLemmas.antt
 -- Rows of words that have the points of a grid with certain cells, and those that reach a colour through them.
 use Rattle.std.proofs.Common.{◌≡◌, ◌≢◌, ◌⊎◌, inl, inr, ℕ, zero, suc, ◌+◌, ◌-◌, ◌*◌, ◌^◌, ◌%◌, ◌<◌, ◌≤◌, ◌==◌, ◌||◌, ◌&&◌, Bool, true, false, not, Some, None, List, [], ◌∷◌, length, get_or, set, slice_get, slice_range, slice_index, bit_and, bit_or, w64, refl, sym, ap, ◌∙◌, arith, subst, rules}
 use Rattle.std.proofs.lemmas.Bool.{or_cases, and_parts, and_from, false≢true, cases_lt, cases_eq}

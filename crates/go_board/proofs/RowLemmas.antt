@@ -1,4 +1,3 @@
--- proofs/RowLemmas.antt
 -- A set of points as words of bits, one for each row, as a marking.
 use Rattle.std.proofs.Common.{◌≡◌, ◌≢◌, inl, inr, ℕ, ◌*◌, ◌/◌, ◌%◌, ◌^◌, ◌<◌, ◌≤◌, ◌==◌, true, false, List, map, set, replicate, length, get_or, bit_and, bit_or, w64, sym, ap, ◌∙◌, arith}
 use Rattle.std.specs.Int.{bit_at}

@@ -1,4 +1,3 @@
--- proofs/RuleLemmas.antt
 -- Clearing, stones that don't reach empty, and the points that count for a player, by paths.
 use Rattle.std.proofs.Common.{◌≡◌, ◌≢◌, ◌*◌, Bool, true, false, not, ◌&&◌, cond, length, refl, Decides}
 use Rattle.std.proofs.lemmas.Bool.Decides.{Decides-and, Decides-or, Decides-not, Decides-like}

@@ -1,4 +1,3 @@
--- proofs/SearchLemmas.antt
 -- What a search keeps as points are found.
 use Rattle.std.proofs.Common.{◌≡◌, ℕ, zero, suc, ◌+◌, ◌*◌, ◌<◌, ◌≤◌, Bool, true, false, cond, List, [], ◌∷◌, ◌++◌, length, get_or, take, set, refl, sym, ap, ◌∙◌, subst, arith, IsTrue, inl, inr}
 use Rattle.std.proofs.lemmas.List.{get_or-set_same, length-set, length_push, take_more_set, length-take-le}

@@ -1,4 +1,3 @@
--- proofs/SettledLemmas.antt
 -- Grids on which stones reach empty: clearing them changes nothing, and after a move all do.
 use Rattle.std.proofs.Common.{◌≡◌, ◌≢◌, ◌⊎◌, inl, inr, ◌*◌, false, List, [], ◌∷◌, length, refl, sym, ◌∙◌, ℕ}
 use Rattle.std.proofs.lemmas.Bool.{cases_Bool, true≢false}

@@ -1,4 +1,3 @@
--- proofs/StoneGroupLemmas.antt
 -- What the rows of a stone's group tell of a grid: the stone reaches empty, or its group has no liberty.
 use Rattle.std.proofs.Common.{◌≡◌, ◌≢◌, inl, inr, ℕ, ◌&&◌, ◌||◌, Bool, true, false, not, IsTrue, List, [], length, refl, sym, ap, ◌∙◌, subst}
 use Rattle.std.proofs.lemmas.Bool.{and_parts, and_from, false≢true, true≢false}

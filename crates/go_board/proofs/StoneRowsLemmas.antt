@@ -1,4 +1,3 @@
--- proofs/StoneRowsLemmas.antt
 -- The rows of the stones of a board, where one point is set.
 use Rattle.std.proofs.Common.{◌≡◌, ◌≢◌, inl, inr, ℕ, ◌*◌, ◌<◌, ◌≤◌, ◌^◌, ◌%◌, ◌==◌, ◌&&◌, ◌||◌, Bool, true, false, not, List, length, get_or, set, take, replicate, bit_and, w64, refl, sym, ap, ◌∙◌, arith, subst}
 use Rattle.std.specs.Int.{bit_not}

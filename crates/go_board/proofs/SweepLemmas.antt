@@ -1,4 +1,3 @@
--- proofs/SweepLemmas.antt
 -- Grids with points emptied, one after another.
 use Rattle.std.proofs.Common.{◌≡◌, ◌≢◌, ◌⊎◌, ℕ, ◌+◌, ◌*◌, ◌^◌, ◌<◌, ◌==◌, Bool, cond, w64, true, false, List, length, slice_index, refl, sym, ap, subst, ◌∙◌, arith, inl, inr, IsTrue}
 use Rattle.std.specs.Int.{trailing_zeros}

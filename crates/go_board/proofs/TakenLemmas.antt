@@ -1,4 +1,3 @@
--- proofs/TakenLemmas.antt
 -- Points taken off a board, each kept as a change that puts its stone back.
 use Rattle.std.proofs.Common.{◌≡◌, inl, inr, ℕ, ◌+◌, ◌-◌, List, [], ◌∷◌, ◌++◌, length, set, take, drop, drop_of_length-le, refl, sym, ap, ◌∙◌, arith, subst, length-append}
 use Rattle.std.specs.List.{All}

@@ -1,4 +1,3 @@
--- proofs/TurnLemmas.antt
 -- What the tests on turns say.
 use Rattle.std.proofs.Common.{◌≡◌, ℕ, Bool, false, inl, inr, ◌↔◌, List, [], ◌∷◌, Option, Some, None, Contains, IsTrue, refl, sym, ap, ◌∙◌, cond, arith, unwrap_or, ◌<◌, ◌+◌, slice_index_or, subst, Decides, Result, OnErr, Ok, Err}
 use Rattle.std.specs.List.{list_any}

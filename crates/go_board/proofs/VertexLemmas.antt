@@ -1,4 +1,3 @@
--- proofs/VertexLemmas.antt
 -- Different points have different vertices.
 use Rattle.std.proofs.Common.{◌≡◌, ℕ, ◌-◌, ◌<◌, ◌≤◌, map, get_or, refl, sym, ap, ◌∙◌, arith, nat_lt, if◌then◌else◌, slice_index}
 use Rattle.std.specs.List.{range_with_len}

@@ -1,4 +1,3 @@
--- specs/Clearing.antt
 -- Clearing a colour and playing a stone, by the Tromp-Taylor rules.
 use Rattle.std.specs.Prelude.{◌≢◌, Bool, not, ◌&&◌, if◌then◌else◌}
 use Rattle.std.specs.List.{list_any}
@@ -23,7 +22,7 @@ unfoldable pub clear : Grid → Colour → Grid
 clear grid colour = grid_of grid.side (cleared_cell grid colour)
 
 -- playing a stone: the point takes the player's colour, then the opponent's colour is cleared, which captures, and then
--- the player's own, which is suicide
+-- the player's own, which is suicide: legal, but for the stone alone, which brings the colouring before it back (Reason.antt)
 unfoldable pub play : Grid → Colour → Point → Grid
 play grid colour point = clear (clear (with_cell grid point (stone_of colour)) (opponent colour)) colour
 

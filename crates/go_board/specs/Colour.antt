@@ -1,4 +1,3 @@
--- specs/Colour.antt
 -- Black and White, and what stands on a point.
 use Rattle.std.specs.Prelude.{Bool, true, false}
 use Rattle.go_board.specs.declared.stones.Colour.{Colour}

@@ -1,4 +1,3 @@
--- specs/Grid.antt
 -- The colouring of a square board.
 use Rattle.std.specs.Prelude.{ℕ, ◌*◌, List, map, replicate, slice_index_or, slice_set}
 use Rattle.go_board.specs.declared.stones.Cell.{Cell}

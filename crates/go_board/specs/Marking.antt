@@ -1,4 +1,3 @@
--- specs/Marking.antt
 -- A set of points of a square grid.
 use Rattle.std.specs.Prelude.{ℕ, Bool, false, List, map, count_by, slice_index_or}
 use Rattle.go_board.specs.declared.points.Point.{Point}

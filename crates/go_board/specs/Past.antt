@@ -1,5 +1,5 @@
--- specs/Past.antt
--- The past colourings of a game, newest first, each with a mark where it begins a stretch.
+-- The past colourings of a game, newest first, each with a mark where it begins a stretch. Positional superko looks at the present
+-- stretch alone: what it forbids is in Reason.antt.
 use Rattle.std.specs.Prelude.{◌≡◌, ℕ, Bool, Option, Some, None, List, [], ◌∷◌, if◌then◌else◌, unwrap_or}
 use Rattle.go_board.specs.Grid.{Grid, empty_grid}
 

@@ -1,4 +1,3 @@
--- specs/Point.antt
 -- Points and rectangles of a square grid. Columns count from 0 from the left, rows from 0 from the top.
 use Rattle.std.specs.Prelude.{◌≡◌, ℕ, ◌+◌, ◌*◌, ◌/◌, ◌%◌, ◌<◌, ◌≤◌, ◌⊎◌, Bool, ◌&&◌, ◌||◌, ◌==◌, List, map}
 use Rattle.std.specs.List.{range_with_len}

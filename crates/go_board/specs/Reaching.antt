@@ -1,4 +1,3 @@
--- specs/Reaching.antt
 -- Reaching a colour, as the Tromp-Taylor rules say it: by a path of adjacent points of the point's own colour. The empty
 -- points beside a group are its liberties: a stone reaches empty where its group has one. A point of that colour reaches
 -- it too, by itself (this project's choice; clearing and the score don't ask it).

@@ -1,4 +1,3 @@
--- specs/Reason.antt
 -- Why a turn isn't allowed: the reasons as facts, in their order, and as a function that computes.
 use Rattle.std.specs.Prelude.{◌≡◌, ◌≢◌, ℕ, ◌<◌, Bool, false, not, ◌&&◌, ◌==◌, if◌then◌else◌, Option, Some, None, List, Contains, codes}
 use Rattle.std.specs.List.{list_any}

@@ -1,4 +1,3 @@
--- specs/Score.antt
 -- The area score of the Tromp-Taylor rules.
 use Rattle.std.specs.Prelude.{◌≡◌, ◌⊎◌, ℕ, Bool, not, ◌&&◌, ◌||◌, count_by}
 use Rattle.go_board.specs.declared.stones.Cell.TheVariants.{Empty}

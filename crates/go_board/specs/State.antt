@@ -1,4 +1,3 @@
--- specs/State.antt
 -- The state of a game, and what setups and turns make of it (Tromp-Taylor; setup by SGF FF[4]).
 use Rattle.std.specs.Prelude.{◌≡◌, ℕ, ◌+◌, Bool, ◌&&◌, ◌==◌, nat_le, if◌then◌else◌, Option, Some, List, [], ◌∷◌, fold}
 use Rattle.go_board.specs.declared.stones.Colour.{Colour}

@@ -1,4 +1,3 @@
--- specs/Vertex.antt
 -- The vertices of GTP 2, which name points.
 use Rattle.std.specs.Prelude.{ℕ, ◌-◌, List, slice_index, codes}
 use Rattle.go_board.specs.declared.points.Point.{Point}

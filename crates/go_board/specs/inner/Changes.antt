@@ -1,4 +1,3 @@
--- specs/inner/Changes.antt
 -- Past colourings, of which the newest is kept whole, and of each older one the changes that lead back to it.
 use Rattle.std.specs.Prelude.{◌≡◌, ◌==◌, ℕ, zero, suc, ◌+◌, ◌-◌, ◌*◌, ◌<◌, ◌≤◌, false, List, [], ◌∷◌, ◌++◌, IsTrue, All, length, take, drop, reverse, slice_set, slice_index_or}
 use Rattle.go_board.specs.declared.stones.Cell.{Cell}

@@ -1,4 +1,3 @@
--- specs/inner/Earlier.antt
 -- A referee's states, from a past and from what it keeps of each earlier state besides.
 use Rattle.std.specs.Prelude.{◌≡◌, ℕ, ◌+◌, ◌≤◌, ◌<◌, Option, List, [], ◌∷◌, if◌then◌else◌, length, reverse, drop, false}
 use Rattle.go_board.specs.declared.stones.Colour.{Colour}

@@ -1,4 +1,3 @@
--- specs/inner/Entries.antt
 -- Past colourings whose cells stand one after the other in one list.
 use Rattle.std.specs.Prelude.{ℕ, zero, suc, ◌+◌, ◌*◌, Bool, false, List, [], ◌∷◌, slice_range, slice_index_or}
 use Rattle.go_board.specs.declared.stones.Cell.{Cell}

@@ -1,4 +1,3 @@
--- specs/inner/Flood.antt
 -- The steps of a flood: a point's neighbours, each added to the points found where it reaches a colour through the point.
 use Rattle.std.specs.Prelude.{Bool, ◌||◌, Option, Some, None, if◌then◌else◌, List, [], ◌∷◌}
 use Rattle.go_board.specs.declared.stones.Cell.{Cell}

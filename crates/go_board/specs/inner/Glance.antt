@@ -1,4 +1,3 @@
--- specs/inner/Glance.antt
 -- What the words of bits around a point tell of a stone on it. The rows around it are counted from the second one above
 -- it: 0 and 1 are above it, 2 is its own, 3 and 4 are below it.
 use Rattle.std.specs.Prelude.{◌≡◌, ℕ, ◌+◌, false, IsTrue, List, length}

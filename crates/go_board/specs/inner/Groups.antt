@@ -1,4 +1,3 @@
--- specs/inner/Groups.antt
 -- Groups without liberties, and grids on which every stone reaches empty.
 use Rattle.std.specs.Prelude.{◌≡◌, ◌≢◌, ◌⊎◌, Bool, false, ◌||◌, ◌&&◌, not, IsTrue, Option, Some, None, length}
 use Rattle.go_board.specs.declared.stones.Cell.TheVariants.{Empty}

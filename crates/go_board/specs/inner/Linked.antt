@@ -1,4 +1,3 @@
--- specs/inner/Linked.antt
 -- The group of a stone, as sets of points: the stones of its colour that are linked to it, and the liberties beside them.
 use Rattle.std.specs.Prelude.{◌≡◌, ◌≢◌, ◌⊎◌, ℕ, Bool, false, IsTrue, List, length}
 use Rattle.go_board.specs.declared.points.Point.{Point}

@@ -1,4 +1,3 @@
--- specs/inner/Neighbour.antt
 -- The four neighbours of a point, where they are on the grid.
 use Rattle.std.specs.Prelude.{ℕ, ◌+◌, ◌-◌, nat_lt, Option, Some, None, if◌then◌else◌}
 use Rattle.go_board.specs.declared.points.Point.{Point}

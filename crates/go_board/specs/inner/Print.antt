@@ -1,4 +1,3 @@
--- specs/inner/Print.antt
 -- The print of a colouring: one number made of what stands on all its points.
 use Rattle.std.specs.Prelude.{ℕ, ◌+◌, ◌*◌, ◌%◌, ◌^◌, List, [], ◌∷◌, map}
 use Rattle.go_board.specs.declared.stones.Cell.{Cell}

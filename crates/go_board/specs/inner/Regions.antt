@@ -1,4 +1,3 @@
--- specs/inner/Regions.antt
 -- Sets of a board's points by what stands on them, as rows of words.
 use Rattle.std.specs.Prelude.{◌≡◌, ◌<◌, ℕ, length, Bool, false, not, ◌&&◌, ◌||◌, IsTrue, Option, Some, None, List, count_by}
 use Rattle.go_board.specs.declared.stones.Cell.{Cell}

@@ -1,4 +1,3 @@
--- specs/inner/Rows.antt
 -- A set of points as a number for each row, with a bit for each column.
 use Rattle.std.specs.Prelude.{◌≡◌, ◌⊎◌, ℕ, zero, suc, ◌-◌, ◌+◌, ◌^◌, ◌<◌, ◌≤◌, Bool, ◌==◌, IsTrue, List, length, slice_index, sum_by}
 use Rattle.std.specs.Int.{bit_at}

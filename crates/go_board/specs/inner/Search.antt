@@ -1,4 +1,3 @@
--- specs/inner/Search.antt
 -- A search over the points of a grid: the points found so far, each marked, and how many of them were taken.
 use Rattle.std.specs.Prelude.{◌≡◌, ◌⊎◌, ℕ, ◌+◌, ◌*◌, ◌≤◌, true, List, [], ◌∷◌, ◌++◌, All, IsTrue, if◌then◌else◌, replicate, length, slice_set, false}
 use Rattle.go_board.specs.declared.points.Point.{Point}

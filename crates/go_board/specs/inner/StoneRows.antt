@@ -1,4 +1,3 @@
--- specs/inner/StoneRows.antt
 -- What is kept of the stones of a board beside its cells: for each colour the points that have it, as rows of words.
 use Rattle.std.specs.Prelude.{◌≡◌, IsTrue, length, take}
 use Rattle.go_board.specs.declared.stones.Cell.TheVariants.{Black, White}

@@ -1,4 +1,3 @@
--- specs/inner/Sweep.antt
 -- Points taken off a board.
 use Rattle.std.specs.Prelude.{◌≡◌, length}
 use Rattle.go_board.specs.declared.stones.Cell.TheVariants.{Empty}

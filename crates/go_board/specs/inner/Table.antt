@@ -1,4 +1,3 @@
--- specs/inner/Table.antt
 -- A list of prints, oldest first, in which those with one key are linked. A number in a link or a head is one more than
 -- an index; 0 stands for none.
 use Rattle.std.specs.Prelude.{◌≡◌, ◌≢◌, ℕ, ◌-◌, ◌*◌, ◌/◌, ◌%◌, ◌^◌, ◌<◌, ◌≤◌, Option, Some, None, List, length, slice_index, bit_and, bit_xor}

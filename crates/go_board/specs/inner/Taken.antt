@@ -1,4 +1,3 @@
--- specs/inner/Taken.antt
 -- Points taken off a board, each kept as a change that puts its stone back.
 use Rattle.std.specs.Prelude.{◌≡◌, ℕ, ◌≤◌, List, All, length, take, drop}
 use Rattle.go_board.specs.declared.past.changes.Change.{Change}

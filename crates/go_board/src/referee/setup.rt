@@ -12,8 +12,8 @@ impl<P: Past> Referee<P> {
     ghost use Rattle.go_board.specs.inner.Earlier.{with_setup};
 
     /// Sets stones or the player up (SGF FF[4]). With operations, these colour their areas in order, whatever stood
-    /// there; nothing is cleared, the past begins anew, no pass was made last, and the player given must move, or with
-    /// none either may. With no operation, only the player changes. `MemoryFault` comes only where memory was refused;
+    /// there; nothing is cleared, the past begins anew, so that a ko doesn't reach back over it, no pass was made last, and the
+    /// player given must move, or with none either may. With no operation, only the player changes. `MemoryFault` comes only where memory was refused;
     /// then nothing is changed.
     pub fn setup(&mut self, ops: &[SetupOp], player: Option<Colour>) -> Result<(), MemoryFault>
         requires areas { All (λ op. IsRectOn self.old.present.colouring.side op.area) ops.now }

@@ -1,4 +1,3 @@
--- proofs/laws/areas/Answers.antt
 use Rattle.go_board.specs.State.{with_area}
 use Rattle.go_board.proofs.GridLemmas.{cell_at-grid_of}
 use Rattle.go_board.proofs.laws.areas.Goals as goal

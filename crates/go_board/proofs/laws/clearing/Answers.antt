@@ -1,4 +1,3 @@
--- proofs/laws/clearing/Answers.antt
 use Rattle.std.proofs.Common.{◌∙◌}
 use Rattle.go_board.proofs.RuleLemmas.{side-clear, length-clear, cell_at-clear, emptied, kept, others_kept}
 use Rattle.go_board.proofs.laws.clearing.Goals as goal

@@ -1,4 +1,3 @@
--- proofs/laws/colouring/Answers.antt
 use Rattle.std.proofs.Common.{sym, ap, ◌∙◌, refl, subst}
 use Rattle.go_board.specs.Point.{IsOn}
 use Rattle.go_board.specs.Grid.{Grid, cell_at, grid_of}

@@ -1,4 +1,3 @@
--- proofs/laws/listing/Answers.antt
 use Rattle.go_board.proofs.PointLemmas.{length-points, slice_get-points}
 use Rattle.go_board.proofs.laws.listing.Goals as goal
 

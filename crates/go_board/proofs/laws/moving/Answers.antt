@@ -1,4 +1,3 @@
--- proofs/laws/moving/Answers.antt
 use Rattle.std.proofs.Common.{sym, ◌∙◌}
 use Rattle.std.proofs.lemmas.Bool.{true≢false}
 use Rattle.go_board.proofs.RuleLemmas.{Decides-has_unreaching}

@@ -1,4 +1,3 @@
--- proofs/laws/naming/Answers.antt
 use Rattle.go_board.proofs.VertexLemmas.{vertex_of-injective}
 use Rattle.go_board.proofs.laws.naming.Goals as goal
 

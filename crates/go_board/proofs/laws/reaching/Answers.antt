@@ -1,4 +1,3 @@
--- proofs/laws/reaching/Answers.antt
 use Rattle.go_board.proofs.ReachingLemmas.{Decides-reaches}
 use Rattle.go_board.proofs.laws.reaching.Goals as goal
 

@@ -1,4 +1,3 @@
--- proofs/laws/reasons/Answers.antt
 use Rattle.go_board.proofs.TurnLemmas.{first_reason}
 use Rattle.go_board.proofs.laws.reasons.Goals as goal
 

@@ -1,4 +1,3 @@
--- proofs/laws/scoring/Answers.antt
 use Rattle.go_board.proofs.RuleLemmas.{Decides-counts_for}
 use Rattle.go_board.proofs.laws.scoring.Goals as goal
 

@@ -1,4 +1,3 @@
--- proofs/laws/setting/Answers.antt
 use Rattle.go_board.proofs.GridLemmas.{cell_at-with_cell, cell_at-with_cell_elsewhere}
 use Rattle.go_board.proofs.laws.setting.Goals as goal
 

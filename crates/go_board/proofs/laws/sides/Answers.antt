@@ -1,4 +1,3 @@
--- proofs/laws/sides/Answers.antt
 use Rattle.go_board.proofs.TurnLemmas.{side-set_up, side-turned}
 use Rattle.go_board.proofs.laws.sides.Goals as goal
 

@@ -1,4 +1,3 @@
--- proofs/laws/unreaching/Answers.antt
 use Rattle.go_board.proofs.RuleLemmas.{Decides-has_unreaching}
 use Rattle.go_board.proofs.laws.unreaching.Goals as goal
 

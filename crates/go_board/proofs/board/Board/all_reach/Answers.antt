@@ -1,4 +1,3 @@
--- proofs/board/Board/all_reach/Answers.antt
 use Rattle.go_board.proofs.LibertyLemmas.{reach_where_none_shut, none_shut}
 use Rattle.go_board.proofs.board.Board.all_reach.Goals as goal
 

@@ -1,4 +1,3 @@
--- proofs/board/Board/areas/Answers.antt
 use Rattle.go_board.specs.declared.stones.Cell.TheVariants.{Black, White, Empty}
 use Rattle.go_board.proofs.RegionLemmas.{not_white, not_black, seed_is, room_is, AreRowsOf-filled}
 use Rattle.go_board.proofs.board.Board.areas.Goals as goal

@@ -1,4 +1,3 @@
--- proofs/board/Board/capture_around/Answers.antt
 use Rattle.std.proofs.Common.{ap, ◌∙◌, subst}
 use Rattle.std.specs.Option.{ForSome}
 use Rattle.go_board.specs.inner.Neighbour.{right_of, below}

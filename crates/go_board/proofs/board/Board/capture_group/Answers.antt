@@ -1,4 +1,3 @@
--- proofs/board/Board/capture_stone/Answers.antt
 use Rattle.std.proofs.Common.{sym, ◌∙◌}
 use Rattle.go_board.proofs.LinkedLemmas.{none_in_front}
 use Rattle.go_board.proofs.StoneGroupLemmas.{LosesDead-without}

@@ -1,4 +1,3 @@
--- proofs/board/Board/capture_stone/Answers.antt
 use Rattle.std.proofs.Common.{sym, ◌∙◌}
 use Rattle.go_board.proofs.CaptureLemmas.{reaches_liberty}
 use Rattle.go_board.proofs.board.Board.capture_stone.Goals as goal

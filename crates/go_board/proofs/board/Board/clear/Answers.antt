@@ -1,4 +1,3 @@
--- proofs/board/Board/clear/Answers.antt
 use Rattle.std.proofs.Common.{sym, ap, ◌∙◌, arith}
 use Rattle.go_board.specs.Clearing.{has_unreaching}
 use Rattle.go_board.proofs.FrontLemmas.{length-grid_in}

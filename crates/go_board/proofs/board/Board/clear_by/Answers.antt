@@ -1,4 +1,3 @@
--- proofs/board/Board/clear/Answers.antt
 use Rattle.std.proofs.Common.{arith}
 use Rattle.go_board.proofs.FrontLemmas.{length-grid_in}
 use Rattle.go_board.proofs.SweepLemmas.{without_shut}

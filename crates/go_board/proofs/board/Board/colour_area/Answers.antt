@@ -1,4 +1,3 @@
--- proofs/board/Board/colour_area/Answers.antt
 use Rattle.std.proofs.Common.{◌∙◌, arith}
 use Rattle.go_board.proofs.FrontLemmas.{length-grid_in}
 use Rattle.go_board.proofs.AreaLemmas.{area_of_point}

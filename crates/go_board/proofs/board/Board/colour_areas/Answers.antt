@@ -1,4 +1,3 @@
--- proofs/board/Board/colour_areas/Answers.antt
 use Rattle.go_board.proofs.AreaLemmas.{areas_more}
 use Rattle.go_board.proofs.board.Board.colour_areas.Goals as goal
 

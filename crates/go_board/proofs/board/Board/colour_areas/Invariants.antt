@@ -1,4 +1,3 @@
--- proofs/board/Board/colour_areas/Invariants.antt
 use Rattle.std.proofs.Common.{◌≡◌, take, fold}
 use Rattle.go_board.specs.State.{with_area}
 use Rattle.go_board.proofs.board.Board.colour_areas.Given as goal

@@ -1,4 +1,3 @@
--- proofs/board/Board/colour_rows/Answers.antt
 use Rattle.std.proofs.Common.{◌≡◌, ◌≤◌, ◌*◌, ◌+◌, refl, sym, ap, ◌∙◌, length, arith}
 use Rattle.std.proofs.lemmas.Bool.{false≢true}
 use Rattle.go_board.specs.Point.{IsRectOn}

@@ -1,4 +1,3 @@
--- proofs/board/Board/colour_rows/Invariants.antt
 use Rattle.std.proofs.Common.{◌≡◌}
 use Rattle.go_board.proofs.AreaLemmas.{IsColouredTo}
 use Rattle.go_board.proofs.board.Board.colour_rows.Given as goal

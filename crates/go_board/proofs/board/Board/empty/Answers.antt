@@ -1,4 +1,3 @@
--- proofs/board/Board/empty/Answers.antt
 use Rattle.std.proofs.Common.{◌≡◌, ◌*◌, arith, ap, sym, ◌∙◌, length, subst}
 use Rattle.std.proofs.lemmas.List.{length-replicate}
 use Rattle.go_board.specs.declared.stones.Cell.TheVariants.{Empty}

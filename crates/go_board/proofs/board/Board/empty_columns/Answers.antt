@@ -1,4 +1,3 @@
--- proofs/board/Board/empty_columns/Answers.antt
 use Rattle.std.proofs.Common.{w64, refl, sym, subst, arith}
 use Rattle.std.specs.Int.{trailing_zeros}
 use Rattle.go_board.specs.declared.points.Point.{Point}

@@ -1,4 +1,3 @@
--- proofs/board/Board/empty_columns/Invariants.antt
 use Rattle.go_board.specs.inner.Rows.{has_bit, IsPart}
 use Rattle.go_board.specs.inner.Sweep.{IsWithout}
 use Rattle.go_board.proofs.SweepLemmas.{InTaken}

@@ -1,4 +1,3 @@
--- proofs/board/Board/empty_set/Answers.antt
 use Rattle.std.proofs.Common.{slice_index, sym, true, ◌≡◌, ap, ◌∙◌, arith}
 use Rattle.go_board.specs.inner.Rows.{has_bit}
 use Rattle.go_board.proofs.board.Board.empty_set.Goals as goal

@@ -1,4 +1,3 @@
--- proofs/board/Board/empty_set/Invariants.antt
 use Rattle.go_board.specs.inner.Sweep.{IsWithout}
 use Rattle.go_board.proofs.SweepLemmas.{InRowsBefore}
 use Rattle.go_board.proofs.board.Board.empty_set.Given as goal

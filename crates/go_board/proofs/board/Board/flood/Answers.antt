@@ -1,4 +1,3 @@
--- proofs/board/Board/flood/Answers.antt
 use Rattle.std.proofs.Common.{◌≡◌, ◌+◌, ◌*◌, IsTrue, sym, ap, ◌∙◌, subst, arith}
 use Rattle.std.proofs.lemmas.Option.{get_or_from_slice_get, slice_get_within}
 use Rattle.go_board.specs.Point.{IsOn}

@@ -1,4 +1,3 @@
--- proofs/board/Board/flood/Invariants.antt
 use Rattle.std.proofs.Common.{◌≡◌, ◌+◌, ◌*◌, ◌-◌}
 use Rattle.go_board.specs.Reaching.{Reaches}
 use Rattle.go_board.proofs.FloodLemmas.{IsUnderWay}

@@ -1,4 +1,3 @@
--- proofs/board/Board/group_lives/Answers.antt
 use Rattle.std.proofs.Common.{sym, ◌∙◌}
 use Rattle.go_board.specs.Colour.{stone_of}
 use Rattle.go_board.specs.Grid.{with_cell}

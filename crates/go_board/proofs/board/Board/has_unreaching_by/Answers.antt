@@ -1,4 +1,3 @@
--- proofs/board/Board/has_unreaching/Answers.antt
 use Rattle.go_board.proofs.LibertyLemmas.{unreaching_is}
 use Rattle.go_board.proofs.board.Board.has_unreaching_by.Goals as goal
 

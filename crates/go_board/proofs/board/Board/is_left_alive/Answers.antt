@@ -1,4 +1,3 @@
--- proofs/board/Board/is_left_alive/Answers.antt
 use Rattle.std.proofs.Common.{◌≡◌, Option, Some, sym, subst}
 use Rattle.std.specs.Option.{ForSome}
 use Rattle.go_board.specs.declared.stones.Cell.TheVariants.{Empty}

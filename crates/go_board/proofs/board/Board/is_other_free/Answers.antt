@@ -1,4 +1,3 @@
--- proofs/board/Board/is_other_free/Answers.antt
 use Rattle.std.proofs.Common.{◌≡◌, ◌≢◌, sym, ap, ◌∙◌, arith}
 use Rattle.go_board.specs.declared.stones.Cell.TheVariants.{Empty}
 use Rattle.go_board.specs.Colour.{same_cell}

@@ -1,4 +1,3 @@
--- proofs/board/Board/lives/Answers.antt
 use Rattle.std.proofs.Common.{sym, ap, ◌∙◌, subst}
 use Rattle.go_board.specs.Colour.{stone_of}
 use Rattle.go_board.specs.Grid.{with_cell}

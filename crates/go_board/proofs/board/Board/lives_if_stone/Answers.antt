@@ -1,4 +1,3 @@
--- proofs/board/Board/lives_if_stone/Answers.antt
 use Rattle.std.proofs.Common.{sym, ◌∙◌}
 use Rattle.go_board.specs.declared.size.TheConstants.{MAX_ROWS}
 use Rattle.go_board.proofs.CaptureLemmas.{reaches_liberty}

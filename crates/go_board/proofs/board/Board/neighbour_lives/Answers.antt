@@ -1,4 +1,3 @@
--- proofs/board/Board/neighbour_lives/Answers.antt
 use Rattle.std.proofs.Common.{◌≡◌, sym, ◌∙◌, subst}
 use Rattle.go_board.specs.Colour.{stone_of}
 use Rattle.go_board.specs.Grid.{cell_at, with_cell}

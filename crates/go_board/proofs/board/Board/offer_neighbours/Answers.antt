@@ -1,4 +1,3 @@
--- proofs/board/Board/offer_neighbours/Answers.antt
 use Rattle.std.proofs.Common.{rules}
 use Rattle.go_board.proofs.SearchLemmas.{HasRoom-less}
 use Rattle.go_board.proofs.board.Board.offer_neighbours.Goals as goal

@@ -1,4 +1,3 @@
--- proofs/board/Board/one_neighbour_lives/Answers.antt
 use Rattle.std.proofs.Common.{inl, inr}
 use Rattle.go_board.proofs.board.Board.one_neighbour_lives.Goals as goal
 

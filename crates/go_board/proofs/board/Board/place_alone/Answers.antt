@@ -1,4 +1,3 @@
--- proofs/board/Board/place_alone/Answers.antt
 use Rattle.std.proofs.Common.{◌<◌, ◌≤◌, ◌≡◌, ◌*◌, length, ap, sym, refl, subst, arith, ◌∙◌}
 use Rattle.std.proofs.lemmas.List.{length-set, length-take-le}
 use Rattle.go_board.specs.Point.{IsOn}

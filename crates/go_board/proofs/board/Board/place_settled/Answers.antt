@@ -1,4 +1,3 @@
--- proofs/board/Board/place_settled/Answers.antt
 use Rattle.std.proofs.Common.{arith, ap, subst, refl, ◌∙◌}
 use Rattle.go_board.specs.Colour.{stone_of}
 use Rattle.go_board.specs.Grid.{with_cell}

@@ -1,4 +1,3 @@
--- proofs/board/Board/reset/Answers.antt
 use Rattle.std.proofs.Common.{rules, ◌≡◌, ◌*◌, replicate, ap, sym, ◌∙◌, arith, subst}
 use Rattle.go_board.specs.declared.stones.Cell.TheVariants.{Empty}
 use Rattle.go_board.specs.Grid.{Grid}

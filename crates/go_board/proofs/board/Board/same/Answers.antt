@@ -1,4 +1,3 @@
--- proofs/board/Board/same/Answers.antt
 use Rattle.std.proofs.Common.{◌≡◌, refl, sym, ap, ◌∙◌}
 use Rattle.std.proofs.lemmas.Slice.Eq.{slice_eq-Decides}
 use Rattle.go_board.proofs.GridLemmas.{Decides-cell_eq, Decides-same_side, Decides-other_cells}

@@ -1,4 +1,3 @@
--- proofs/board/Board/score/Answers.antt
 use Rattle.std.proofs.Common.{ap, ◌∙◌}
 use Rattle.go_board.specs.declared.stones.Colour.TheVariants.{Black, White}
 use Rattle.go_board.specs.inner.Regions.{count_apart}

@@ -1,4 +1,3 @@
--- proofs/board/Board/search_from/Answers.antt
 use Rattle.std.proofs.Common.{◌≡◌, ◌+◌, ◌*◌, ◌<◌, cond, length, ap, ◌∙◌, arith}
 use denote.Enum.Bare.{sameb}
 use Rattle.go_board.specs.contracts.stones.Cell.{the_type}

@@ -1,4 +1,3 @@
--- proofs/board/Board/search_from/Invariants.antt
 use Rattle.std.proofs.Common.{◌≡◌, ◌*◌, ◌<◌, drop}
 use Rattle.go_board.specs.Point.{index_of, points}
 use Rattle.go_board.specs.inner.Flood.{with_points, with_colour}

@@ -1,4 +1,3 @@
--- proofs/board/Board/set/Answers.antt
 use Rattle.std.proofs.Common.{◌<◌, ◌≤◌, ◌≡◌, ◌*◌, length, take, set, ap, sym, refl, subst, arith, ◌∙◌}
 use Rattle.std.proofs.Math.Seq.{take-set-lt}
 use Rattle.std.proofs.lemmas.List.{length-set, length-take-le}

@@ -1,4 +1,3 @@
--- proofs/board/Board/set_unprinted/Answers.antt
 use Rattle.std.proofs.Common.{◌<◌, ◌≤◌, ◌≡◌, ◌*◌, length, sym, refl, subst, arith, ◌∙◌}
 use Rattle.std.proofs.lemmas.List.{length-set, length-take-le}
 use Rattle.go_board.specs.Point.{IsOn}

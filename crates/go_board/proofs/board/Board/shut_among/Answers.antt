@@ -1,4 +1,3 @@
--- proofs/board/Board/shut_among/Answers.antt
 use Rattle.std.proofs.Common.{◌≡◌, ◌≤◌, length, arith, rules}
 use Rattle.go_board.proofs.LibertyLemmas.{shut_left}
 use Rattle.go_board.proofs.board.Board.shut_among.Goals as goal

@@ -1,4 +1,3 @@
--- proofs/board/fill/fill/Answers.antt
 use Rattle.std.proofs.Common.{◌≡◌, length, sym, ap, ◌∙◌, subst}
 use Rattle.go_board.specs.inner.Rows.{TakeAbove, TakeBelow}
 use Rattle.go_board.proofs.GrowLemmas.{Grows-twice, IsClosed-taken}

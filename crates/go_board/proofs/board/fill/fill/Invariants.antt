@@ -1,4 +1,3 @@
--- proofs/board/fill/fill/Invariants.antt
 use Rattle.std.proofs.Common.{length}
 use Rattle.go_board.specs.inner.Rows.{is_set, AreWide, TakeAbove, Grows, lacking}
 use Rattle.go_board.proofs.board.fill.fill.Given as goal

@@ -1,4 +1,3 @@
--- proofs/board/fill/grow_each/Answers.antt
 use Rattle.go_board.proofs.GrowLemmas.{Grows-twice, wide_more, above_more, taken_closed}
 use Rattle.go_board.proofs.board.fill.grow_each.Goals as goal
 

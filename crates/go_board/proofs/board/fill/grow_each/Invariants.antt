@@ -1,4 +1,3 @@
--- proofs/board/fill/grow_each/Invariants.antt
 use Rattle.std.proofs.Common.{ℕ, ◌<◌, slice_index}
 use Rattle.go_board.specs.inner.Rows.{has_bit, is_set, HasBeside, TakeAbove, Grows}
 use Rattle.go_board.proofs.board.fill.grow_each.Given as goal

@@ -1,4 +1,3 @@
--- proofs/board/fill/grow_row/Answers.antt
 use Rattle.std.proofs.Common.{◌≡◌, ◌+◌, get_or, set, sym, ap, ◌∙◌, bit_or, slice_index, arith}
 use Rattle.std.proofs.lemmas.List.{get_or-set_same, set-get_or}
 use Rattle.std.proofs.lemmas.Bool.{and_parts}

@@ -1,4 +1,3 @@
--- proofs/board/fill/take/Answers.antt
 use Rattle.std.proofs.Common.{sym, ◌∙◌, arith}
 use Rattle.std.proofs.lemmas.Bool.{and_parts}
 use Rattle.go_board.proofs.WordLemmas.{has_bit-and}

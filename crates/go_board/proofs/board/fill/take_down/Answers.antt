@@ -1,4 +1,3 @@
--- proofs/board/fill/take_down/Answers.antt
 use Rattle.std.proofs.Common.{◌+◌, slice_index, sym, ap, ◌∙◌, subst, arith}
 use Rattle.go_board.specs.inner.Rows.{has_bit, row_above, IsTaken}
 use Rattle.go_board.proofs.GrowLemmas.{Grows-twice, above_more, row_above-same, row_above-next, part_first, same_more, fuller_more}

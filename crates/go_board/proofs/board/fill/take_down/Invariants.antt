@@ -1,4 +1,3 @@
--- proofs/board/fill/take_down/Invariants.antt
 use Rattle.std.proofs.Common.{◌≡◌, ◌<◌, IsTrue, IsFalse}
 use Rattle.go_board.specs.inner.Rows.{is_set, row_above, AreWide, TakeAbove, Grows, lacking}
 use Rattle.go_board.proofs.board.fill.take_down.Given as goal

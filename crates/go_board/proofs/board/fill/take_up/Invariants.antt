@@ -1,4 +1,3 @@
--- proofs/board/fill/take_up/Invariants.antt
 use Rattle.std.proofs.Common.{◌≡◌, ◌<◌, slice_index, IsTrue, IsFalse}
 use Rattle.go_board.specs.inner.Rows.{is_set, AreWide, TakeBelow, Grows, lacking}
 use Rattle.go_board.proofs.board.fill.take_up.Given as goal

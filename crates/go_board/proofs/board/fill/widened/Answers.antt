@@ -1,4 +1,3 @@
--- proofs/board/fill/widened/Answers.antt
 use Rattle.std.proofs.Common.{ap, ◌∙◌, arith}
 use Rattle.go_board.specs.inner.Rows.{has_bit}
 use Rattle.go_board.proofs.WordLemmas.{wider-within, wider-kept, wider-least, wider-closed, wider-more}

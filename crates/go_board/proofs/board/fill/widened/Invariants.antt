@@ -1,4 +1,3 @@
--- proofs/board/fill/widened/Invariants.antt
 use Rattle.std.proofs.Common.{ℕ, Bool, ◌-◌, ◌^◌}
 use Rattle.go_board.specs.inner.Rows.{has_bit, IsPart, HasBeside}
 use Rattle.go_board.proofs.board.fill.widened.Given as goal

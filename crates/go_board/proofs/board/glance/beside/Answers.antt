@@ -1,4 +1,3 @@
--- proofs/board/glance/beside/Answers.antt
 use Rattle.go_board.proofs.GlanceLemmas.{beside_from, beside_to}
 use Rattle.go_board.proofs.board.glance.beside.Goals as goal
 

@@ -1,4 +1,3 @@
--- proofs/board/glance/besides/Answers.antt
 use Rattle.std.proofs.Common.{inl, inr, sym, ap, ◌∙◌}
 use Rattle.std.proofs.lemmas.Bool.{cases_eq, false≢true}
 use Rattle.go_board.specs.inner.Rows.{has_bit}

@@ -1,4 +1,3 @@
--- proofs/board/glance/both_without/Answers.antt
 use Rattle.std.proofs.Common.{arith}
 use Rattle.go_board.proofs.GlanceLemmas.{without_from}
 use Rattle.go_board.proofs.board.glance.both_without.Goals as goal

@@ -1,4 +1,3 @@
--- proofs/board/glance/either/Answers.antt
 use Rattle.go_board.proofs.GlanceLemmas.{either_from}
 use Rattle.go_board.proofs.board.glance.either.Goals as goal
 

@@ -1,4 +1,3 @@
--- proofs/board/glance/leaves_all_alive/Answers.antt
 use Rattle.std.proofs.Common.{◌≡◌, ℕ, inl, inr, true, refl, sym, ap, ◌∙◌, arith, subst}
 use Rattle.std.proofs.lemmas.Bool.{cases_eq, or_right, false≢true}
 use Rattle.go_board.specs.Point.{IsOn, DifferByOne}

@@ -1,4 +1,3 @@
--- proofs/board/glance/none_of/Answers.antt
 use Rattle.std.proofs.lemmas.Bool.{eqb-true}
 use Rattle.go_board.proofs.GlanceLemmas.{none_of_three}
 use Rattle.go_board.proofs.board.glance.none_of.Goals as goal

@@ -1,4 +1,3 @@
--- proofs/board/glance/open_columns/Answers.antt
 use Rattle.go_board.proofs.GlanceLemmas.{open_from}
 use Rattle.go_board.proofs.board.glance.open_columns.Goals as goal
 

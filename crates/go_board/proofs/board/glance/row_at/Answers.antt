@@ -1,4 +1,3 @@
--- proofs/board/glance/row_at/Answers.antt
 use Rattle.std.proofs.Common.{◌+◌, ◌-◌, arith}
 use Rattle.go_board.proofs.GlanceLemmas.{row_inside}
 use Rattle.go_board.proofs.board.glance.row_at.Goals as goal

@@ -1,4 +1,3 @@
--- proofs/board/glance/some_of/Answers.antt
 use Rattle.std.proofs.Common.{arith}
 use Rattle.std.proofs.lemmas.Bool.{eqb-false, not-true}
 use Rattle.go_board.proofs.GlanceLemmas.{some_of_three}

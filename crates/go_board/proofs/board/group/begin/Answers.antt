@@ -1,4 +1,3 @@
--- proofs/board/group/begin/Answers.antt
 use Rattle.std.proofs.Common.{◌≡◌, true, set, sym, ap, ◌∙◌}
 use Rattle.go_board.specs.inner.Rows.{has_bit}
 use Rattle.go_board.proofs.WordLemmas.{has_bit-zero}

@@ -1,4 +1,3 @@
--- proofs/board/group/columns_beside/Answers.antt
 use Rattle.go_board.proofs.LinkedLemmas.{beside-from, beside-to}
 use Rattle.go_board.proofs.board.group.columns_beside.Goals as goal
 

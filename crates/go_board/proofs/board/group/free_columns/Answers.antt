@@ -1,4 +1,3 @@
--- proofs/board/group/free_columns/Answers.antt
 use Rattle.std.proofs.Common.{sym, ◌∙◌}
 use Rattle.go_board.proofs.LinkedLemmas.{in_neither, in_either}
 use Rattle.go_board.proofs.board.group.free_columns.Goals as goal

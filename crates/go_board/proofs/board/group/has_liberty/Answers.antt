@@ -1,4 +1,3 @@
--- proofs/board/group/has_liberty/Answers.antt
 use Rattle.std.proofs.Common.{◌≡◌, inl, inr, w64, length, refl, sym, ap, ◌∙◌, subst, arith, rules}
 use Rattle.std.specs.Int.{trailing_zeros}
 use Rattle.std.proofs.lemmas.Bool.{false≢true}

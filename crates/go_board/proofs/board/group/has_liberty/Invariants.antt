@@ -1,4 +1,3 @@
--- proofs/board/group/has_liberty/Invariants.antt
 -- The group is filled, but for the rows that wait; a row that grew lacks less.
 use Rattle.std.proofs.Common.{◌≡◌, ◌+◌, ◌*◌, ◌^◌, ◌<◌, length}
 use Rattle.go_board.specs.inner.Rows.{lacking}

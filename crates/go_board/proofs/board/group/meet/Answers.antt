@@ -1,4 +1,3 @@
--- proofs/board/group/meet/Answers.antt
 use Rattle.std.proofs.Common.{arith}
 use Rattle.go_board.proofs.LinkedLemmas.{common-some, common-none}
 use Rattle.go_board.proofs.board.group.meet.Goals as goal

@@ -1,4 +1,3 @@
--- proofs/board/group/row_has_liberty/Answers.antt
 use Rattle.std.proofs.Common.{◌+◌, sym, ap, subst, arith, slice_index}
 use Rattle.go_board.specs.inner.Rows.{IsInOrBeside}
 use Rattle.go_board.specs.declared.points.Point.{Point}

@@ -1,4 +1,3 @@
--- proofs/board/regions/count_apart/Answers.antt
 use Rattle.std.proofs.Common.{◌≡◌, ◌+◌, ◌<◌, ◌^◌, length, get_or, count_ones, bit_and, w64, sym, ap, ◌∙◌, arith, rules}
 use Rattle.std.specs.Int.{bit_not}
 use Rattle.std.proofs.lemmas.Nat.{ones-le}

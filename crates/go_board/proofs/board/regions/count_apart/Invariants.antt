@@ -1,4 +1,3 @@
--- proofs/board/regions/count_apart/Invariants.antt
 use Rattle.std.proofs.Common.{◌≡◌, ◌*◌, ◌≤◌, length}
 use Rattle.go_board.proofs.CountLemmas.{apart_before}
 use Rattle.go_board.proofs.board.regions.count_apart.Given as goal

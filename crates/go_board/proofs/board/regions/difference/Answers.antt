@@ -1,4 +1,3 @@
--- proofs/board/regions/difference/Answers.antt
 use Rattle.std.proofs.Common.{◌<◌, ◌^◌, ◌∙◌, get_or, arith, rules}
 use Rattle.go_board.proofs.RegionLemmas.{left_more, IsLeft-all}
 use Rattle.go_board.proofs.board.regions.difference.Goals as goal

@@ -1,4 +1,3 @@
--- proofs/board/regions/difference/Invariants.antt
 use Rattle.go_board.proofs.RegionLemmas.{LeftBelow}
 use Rattle.go_board.proofs.board.regions.difference.Given as goal
 

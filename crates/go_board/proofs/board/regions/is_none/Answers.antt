@@ -1,4 +1,3 @@
--- proofs/board/regions/is_none/Answers.antt
 use Rattle.std.proofs.Common.{refl, arith}
 use Rattle.std.proofs.lemmas.Bool.{false≢true}
 use Rattle.go_board.proofs.RegionLemmas.{all_zero, row_zero}

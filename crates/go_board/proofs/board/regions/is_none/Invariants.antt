@@ -1,4 +1,3 @@
--- proofs/board/regions/is_none/Invariants.antt
 use Rattle.std.proofs.Common.{◌≡◌, ℕ, ◌<◌, slice_index}
 use Rattle.go_board.proofs.board.regions.is_none.Given as goal
 

@@ -1,4 +1,3 @@
--- proofs/board/regions/other_columns/Answers.antt
 use Rattle.std.proofs.Common.{arith}
 use Rattle.go_board.proofs.RegionLemmas.{others-within, others-off}
 use Rattle.go_board.proofs.board.regions.other_columns.Goals as goal

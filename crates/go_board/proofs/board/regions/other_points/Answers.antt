@@ -1,4 +1,3 @@
--- proofs/board/regions/other_points/Answers.antt
 use Rattle.std.proofs.Common.{◌∙◌, length, arith}
 use Rattle.go_board.proofs.RegionLemmas.{others_more, AreRowsOf-others}
 use Rattle.go_board.proofs.board.regions.other_points.Goals as goal

@@ -1,4 +1,3 @@
--- proofs/board/regions/other_points/Invariants.antt
 use Rattle.go_board.proofs.RegionLemmas.{OthersBelow}
 use Rattle.go_board.proofs.board.regions.other_points.Given as goal
 

@@ -1,4 +1,3 @@
--- proofs/board/regions/row_of/Invariants.antt
 use Rattle.std.proofs.Common.{◌≡◌, ℕ, ◌<◌, ◌≤◌, false, slice_get}
 use Rattle.go_board.specs.declared.stones.Cell.TheVariants.{Black, White}
 use Rattle.go_board.specs.inner.Rows.{has_bit}

@@ -1,4 +1,3 @@
--- proofs/board/regions/rows_of/Answers.antt
 use Rattle.std.proofs.Common.{◌≡◌, ◌∙◌, arith, subst}
 use Rattle.go_board.specs.declared.stones.Cell.TheVariants.{Black, White}
 use Rattle.go_board.proofs.RegionLemmas.{RowsBelow, rows_more, AreRowsOf-cells}

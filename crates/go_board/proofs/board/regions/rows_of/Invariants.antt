@@ -1,4 +1,3 @@
--- proofs/board/regions/rows_of/Invariants.antt
 use Rattle.go_board.specs.declared.stones.Cell.TheVariants.{Black, White}
 use Rattle.go_board.proofs.RegionLemmas.{RowsBelow}
 use Rattle.go_board.proofs.board.regions.rows_of.Given as goal

@@ -1,4 +1,3 @@
--- proofs/board/regions/with_column/Answers.antt
 use Rattle.go_board.proofs.RegionLemmas.{has_bit-set_there, has_bit-set_elsewhere}
 use Rattle.go_board.proofs.board.regions.with_column.Goals as goal
 

@@ -1,4 +1,3 @@
--- proofs/board/stone_rows/without_column/Answers.antt
 use Rattle.go_board.proofs.StoneRowsLemmas.{without_there, without_elsewhere}
 use Rattle.go_board.proofs.board.stone_rows.without_column.Goals as goal
 

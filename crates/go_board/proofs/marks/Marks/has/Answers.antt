@@ -1,4 +1,3 @@
--- proofs/marks/Marks/has/Answers.antt
 use Rattle.std.proofs.Common.{ap, subst, ◌∙◌, sym}
 use Rattle.go_board.specs.Point.{IsOn}
 use Rattle.go_board.specs.Marking.{is_marked}

@@ -1,4 +1,3 @@
--- proofs/marks/Marks/mark/Answers.antt
 use Rattle.std.proofs.Common.{◌*◌, ◌%◌, ◌^◌, set, get_or, bit_or, arith, ap, sym, subst, ◌∙◌}
 use Rattle.go_board.specs.Point.{IsOn}
 use Rattle.go_board.specs.Marking.{marking_of}

@@ -1,4 +1,3 @@
--- proofs/marks/Marks/none/Answers.antt
 use Rattle.go_board.specs.declared.size.TheConstants.{MAX_ROWS}
 use Rattle.go_board.proofs.RowLemmas.{rows-none}
 use Rattle.go_board.proofs.marks.Marks.none.Goals as goal

@@ -1,4 +1,3 @@
--- proofs/past/captures/capture/Answers.antt
 use Rattle.std.proofs.Common.{length, subst, refl}
 use Rattle.go_board.specs.Colour.{opponent}
 use Rattle.go_board.specs.inner.Groups.{LosesDead, ReachBeside}

@@ -1,4 +1,3 @@
--- proofs/past/captures/place_and_keep/Answers.antt
 use Rattle.std.proofs.Common.{◌+◌, ◌-◌, length, sym, ap, ◌∙◌, subst}
 use Rattle.go_board.specs.Colour.{opponent}
 use Rattle.go_board.specs.Grid.{Grid, with_cell}

@@ -1,4 +1,3 @@
--- proofs/past/captures/place_on/Answers.antt
 use Rattle.std.proofs.Common.{ap, ◌∙◌}
 use Rattle.go_board.specs.Clearing.{has_unreaching}
 use Rattle.go_board.proofs.SettledLemmas.{settled_by_play}

@@ -1,4 +1,3 @@
--- proofs/past/captures/put_back/Answers.antt
 use Rattle.std.proofs.Common.{◌≡◌, length, slice_range, sym, ap, ◌∙◌, subst}
 use Rattle.go_board.specs.Point.{IsOn}
 use Rattle.go_board.specs.Grid.{Grid}

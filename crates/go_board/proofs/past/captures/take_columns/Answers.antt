@@ -1,4 +1,3 @@
--- proofs/past/captures/take_columns/Answers.antt
 use Rattle.std.proofs.Common.{◌≡◌, ◌++◌, ◌∷◌, [], w64, refl, sym, ap, ◌∙◌, subst, arith}
 use Rattle.std.proofs.lemmas.Bool.{true≢false}
 use Rattle.std.specs.Int.{trailing_zeros}

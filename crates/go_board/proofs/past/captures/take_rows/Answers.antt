@@ -1,4 +1,3 @@
--- proofs/past/captures/take_rows/Answers.antt
 use Rattle.std.proofs.Common.{slice_index, sym, true, ◌≡◌, ap, ◌∙◌, subst, arith, IsTrue}
 use Rattle.go_board.specs.inner.Rows.{has_bit, is_set}
 use Rattle.go_board.specs.inner.Sweep.{IsWithout}

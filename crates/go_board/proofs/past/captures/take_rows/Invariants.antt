@@ -1,4 +1,3 @@
--- proofs/past/captures/take_rows/Invariants.antt
 use Rattle.std.proofs.Common.{ℕ, List}
 use Rattle.go_board.specs.declared.past.changes.Change.{Change}
 use Rattle.go_board.specs.Grid.{Grid}

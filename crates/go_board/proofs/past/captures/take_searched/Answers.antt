@@ -1,4 +1,3 @@
--- proofs/past/captures/take_searched/Answers.antt
 use Rattle.std.proofs.Common.{sym, ◌∙◌}
 use Rattle.go_board.proofs.LinkedLemmas.{none_in_front}
 use Rattle.go_board.proofs.StoneGroupLemmas.{LosesDead-without}

@@ -1,4 +1,3 @@
--- proofs/past/captures/take_stone/Answers.antt
 use Rattle.std.proofs.Common.{sym, ◌∙◌}
 use Rattle.go_board.proofs.CaptureLemmas.{reaches_liberty}
 use Rattle.go_board.proofs.past.captures.take_stone.Goals as goal

@@ -1,4 +1,3 @@
--- proofs/past/changes/add_changes/Answers.antt
 use Rattle.std.proofs.Common.{◌≡◌, ◌≤◌, ◌+◌, length, ◌∙◌, arith}
 use Rattle.std.proofs.lemmas.List.{take-append-le}
 use Rattle.go_board.proofs.ChangesLemmas.{leads-more, leads-range}

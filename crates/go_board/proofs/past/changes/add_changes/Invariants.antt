@@ -1,4 +1,3 @@
--- proofs/past/changes/add_changes/Invariants.antt
 use Rattle.std.proofs.Common.{◌≡◌, ◌-◌, ◌≤◌, length, take}
 use Rattle.go_board.specs.inner.Changes.{LeadsBack}
 use Rattle.go_board.proofs.past.changes.add_changes.Given as goal

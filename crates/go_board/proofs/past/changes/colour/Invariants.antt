@@ -1,4 +1,3 @@
--- proofs/past/changes/colour/Invariants.antt
 -- The points up to this one are coloured.
 use Rattle.std.proofs.Common.{◌≡◌, ◌+◌, suc}
 use Rattle.go_board.specs.Point.{IsOn, index_of}

@@ -1,4 +1,3 @@
--- proofs/past/changes/run_after/Invariants.antt
 use Rattle.std.proofs.Common.{◌≡◌, ◌+◌, ◌-◌, ◌≤◌, length, suc}
 use Rattle.go_board.specs.inner.Changes.{IsRunOf}
 use Rattle.go_board.proofs.past.changes.run_after.Given as goal

@@ -1,4 +1,3 @@
--- proofs/past/changes/take_back/Answers.antt
 use Rattle.std.proofs.Common.{◌≡◌, sym, ap, ◌∙◌, take, get_or}
 use Rattle.std.proofs.lemmas.List.{take_more}
 use Rattle.go_board.specs.Grid.{Grid}

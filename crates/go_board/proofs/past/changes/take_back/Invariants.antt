@@ -1,4 +1,3 @@
--- proofs/past/changes/take_back/Invariants.antt
 -- What is left of the changes leads to the same grid.
 use Rattle.std.proofs.Common.{◌≡◌, take}
 use Rattle.go_board.specs.inner.Changes.{after_changes}

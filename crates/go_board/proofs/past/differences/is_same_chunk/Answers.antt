@@ -1,4 +1,3 @@
--- proofs/past/differences/is_same_chunk/Answers.antt
 use Rattle.std.proofs.Common.{◌≡◌, ◌<◌, length, ◌+◌, ◌∙◌, sym, arith}
 use Rattle.std.proofs.lemmas.Bool.{and_parts, and_from}
 use Rattle.go_board.specs.declared.stones.Cell.TheVariants.{Black}

@@ -1,4 +1,3 @@
--- proofs/past/differences/is_same_chunk/Invariants.antt
 use Rattle.std.proofs.Common.{◌≡◌, ◌↔◌, ◌+◌, IsTrue, slice_range}
 use Rattle.go_board.proofs.past.differences.is_same_chunk.Given as goal
 

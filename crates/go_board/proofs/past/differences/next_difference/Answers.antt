@@ -1,4 +1,3 @@
--- proofs/past/differences/next_difference/Answers.antt
 use Rattle.std.proofs.Common.{◌≡◌, ◌∙◌, sym, get_or, arith}
 use Rattle.go_board.specs.declared.stones.Cell.TheVariants.{Black}
 use Rattle.go_board.proofs.RangeLemmas.{same-ranges, same-more}

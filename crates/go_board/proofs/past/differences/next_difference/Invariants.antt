@@ -1,4 +1,3 @@
--- proofs/past/differences/next_difference/Invariants.antt
 use Rattle.std.proofs.Common.{◌≡◌, ◌-◌, ◌≤◌, length, slice_range}
 use Rattle.go_board.proofs.past.differences.next_difference.Given as goal
 

@@ -1,4 +1,3 @@
--- proofs/past/differences/past_same_chunks/Answers.antt
 use Rattle.std.proofs.Common.{◌+◌, arith}
 use Rattle.go_board.proofs.RangeLemmas.{same-ranges}
 use Rattle.go_board.proofs.past.differences.past_same_chunks.Goals as goal

@@ -1,4 +1,3 @@
--- proofs/past/differences/past_same_chunks/Invariants.antt
 use Rattle.std.proofs.Common.{◌≡◌, ◌-◌, ◌≤◌, length, slice_range}
 use Rattle.go_board.proofs.past.differences.past_same_chunks.Given as goal
 

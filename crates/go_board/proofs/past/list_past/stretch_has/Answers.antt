@@ -1,4 +1,3 @@
--- proofs/list_past/stretch_has/Answers.antt
 use Rattle.std.proofs.Common.{◌≡◌, ◌-◌, suc, arith, refl, sym, ◌∙◌}
 use Rattle.std.proofs.lemmas.Bool.{false≢true}
 use Rattle.std.proofs.lemmas.Slice.Eq.{slice_eq-Decides}

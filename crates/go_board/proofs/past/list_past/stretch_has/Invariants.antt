@@ -1,4 +1,3 @@
--- proofs/list_past/stretch_has/Invariants.antt
 -- The whole stretch has the colouring exactly where the part that is left to look at has it.
 use Rattle.std.proofs.Common.{◌↔◌, length, Contains}
 use Rattle.go_board.specs.Past.{present_stretch}

@@ -1,4 +1,3 @@
--- proofs/past/print/print_of/Answers.antt
 use Rattle.std.proofs.Common.{take, get_or}
 use Rattle.std.proofs.lemmas.List.{take_more}
 use Rattle.go_board.specs.declared.stones.Cell.TheVariants.{Black}

@@ -1,4 +1,3 @@
--- proofs/past/print/print_of/Invariants.antt
 use Rattle.std.proofs.Common.{◌≡◌, take}
 use Rattle.go_board.specs.inner.Print.{print_of}
 use Rattle.go_board.proofs.past.print.print_of.Given as goal

@@ -1,4 +1,3 @@
--- proofs/past/print/print_with/Answers.antt
 use Rattle.std.proofs.Common.{◌≡◌, ◌+◌, ◌-◌, length, get_or, arith}
 use Rattle.std.proofs.lemmas.List.{get_or_default}
 use Rattle.go_board.specs.declared.stones.Cell.TheVariants.{Black, Empty}

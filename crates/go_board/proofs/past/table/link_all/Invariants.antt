@@ -1,4 +1,3 @@
--- proofs/past/table/link_all/Invariants.antt
 use Rattle.go_board.specs.inner.Table.{AreLinked}
 use Rattle.go_board.proofs.past.table.link_all.Given as goal
 

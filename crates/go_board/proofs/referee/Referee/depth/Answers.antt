@@ -1,4 +1,3 @@
--- proofs/referee/Referee/depth/Answers.antt
 use Rattle.std.proofs.Common.{sym, ◌∙◌}
 use Rattle.go_board.proofs.EarlierLemmas.{length-earlier}
 use Rattle.go_board.proofs.referee.Referee.depth.Goals as goal

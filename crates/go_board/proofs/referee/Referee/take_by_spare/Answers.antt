@@ -1,4 +1,3 @@
--- proofs/referee/Referee/take_by_spare/Answers.antt
 use Rattle.std.proofs.Common.{◌≡◌, Some, None, Option, cond, unwrap_or, ap, sym, ◌∙◌}
 use Rattle.go_board.specs.declared.reason.Reason.TheVariants.{Repeat}
 use Rattle.go_board.specs.Clearing.{play}

@@ -1,4 +1,3 @@
--- proofs/referee/Referee/take_stone/Answers.antt
 use Rattle.std.proofs.Common.{◌≡◌, ◌++◌, [], ◌∷◌, true, false, Some, IsTrue, reverse, ap, sym, ◌∙◌, rules}
 use Rattle.std.proofs.lemmas.List.{reverse-append}
 use Rattle.go_board.specs.Clearing.{play}

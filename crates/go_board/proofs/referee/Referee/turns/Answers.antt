@@ -1,4 +1,3 @@
--- proofs/referee/Referee/turns/Answers.antt
 use Rattle.std.proofs.Common.{◌≤◌, length, reverse}
 use Rattle.std.proofs.lemmas.List.{length-reverse}
 use Rattle.go_board.proofs.EarlierLemmas.{length-earlier}

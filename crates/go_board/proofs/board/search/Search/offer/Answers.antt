@@ -1,4 +1,3 @@
--- proofs/search/Search/offer/Answers.antt
 use Rattle.std.proofs.Common.{◌≡◌, ◌≤◌, false, length, sym, ap, subst, ◌∙◌, arith}
 use Rattle.std.proofs.lemmas.List.{length-set}
 use Rattle.go_board.specs.Point.{IsOn}

@@ -1,4 +1,3 @@
--- proofs/board/stone_rows/StoneRows/none/Answers.antt
 use Rattle.std.proofs.Common.{ℕ, length, refl, ap, ◌∙◌}
 use Rattle.std.proofs.lemmas.List.{length-replicate}
 use Rattle.go_board.specs.declared.stones.Cell.TheVariants.{Black, White}

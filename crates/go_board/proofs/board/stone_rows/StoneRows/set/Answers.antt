@@ -1,4 +1,3 @@
--- proofs/board/stone_rows/StoneRows/set/Answers.antt
 use Rattle.std.proofs.Common.{◌≡◌, get_or, set, take, arith, sym, ap, ◌∙◌, subst}
 use Rattle.std.proofs.lemmas.List.{length-set}
 use Rattle.go_board.specs.declared.stones.Cell.TheVariants.{Black, White}

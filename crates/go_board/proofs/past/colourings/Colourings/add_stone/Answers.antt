@@ -1,4 +1,3 @@
--- proofs/past/colourings/Colourings/add_stone/Answers.antt
 use Rattle.std.proofs.Common.{◌≡◌, ◌+◌, ◌++◌, [], ◌∷◌, List, rules, refl, ap, ◌∙◌}
 use Rattle.go_board.specs.declared.stones.Cell.TheVariants.{Empty}
 use Rattle.go_board.specs.declared.past.changes.Change.{Change}

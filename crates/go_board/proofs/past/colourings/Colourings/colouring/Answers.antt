@@ -1,4 +1,3 @@
--- proofs/past/colourings/Colourings/colouring/Answers.antt
 use Rattle.std.proofs.Common.{◌≡◌, ◌-◌, ◌+◌, ◌<◌, List, length, get_or, slice_range, reverse, ap, sym, ◌∙◌, arith}
 use Rattle.std.proofs.lemmas.Grind.{common_steps}
 use Rattle.std.proofs.lemmas.List.{length-reverse}

@@ -1,4 +1,3 @@
--- proofs/past/colourings/Colourings/colouring/Invariants.antt
 -- The board is one of the colourings, and the ones before it follow from what is kept of them.
 use Rattle.std.proofs.Common.{◌≡◌, ◌+◌, ◌-◌, ◌≤◌, Some, length, take, drop, reverse}
 use Rattle.go_board.specs.Past.{newest}

@@ -1,4 +1,3 @@
--- proofs/past/colourings/Colourings/place/Answers.antt
 use Rattle.std.proofs.Common.{◌≡◌, ◌+◌, ◌++◌, [], ◌∷◌, rules, refl, sym, ap, ◌∙◌, subst}
 use Rattle.go_board.specs.declared.past.changes.Older.{Older}
 use Rattle.go_board.specs.Grid.{Grid}

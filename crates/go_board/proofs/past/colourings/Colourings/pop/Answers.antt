@@ -1,4 +1,3 @@
--- proofs/past/colourings/Colourings/pop/Answers.antt
 use Rattle.std.proofs.Common.{◌≡◌, ◌++◌, ◌-◌, [], ◌∷◌, length, rules}
 use Rattle.std.proofs.lemmas.List.{take_rest}
 use Rattle.go_board.proofs.ColouringsLemmas.{past-pop}

@@ -1,4 +1,3 @@
--- proofs/past/colourings/Colourings/stretch_start/Answers.antt
 use Rattle.std.proofs.Common.{◌≡◌, ◌-◌, suc, length, map, take, reverse, arith, ap, ◌∙◌}
 use Rattle.std.proofs.lemmas.List.{length-reverse}
 use Rattle.go_board.specs.Past.{Held}

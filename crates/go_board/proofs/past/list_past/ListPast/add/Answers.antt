@@ -1,4 +1,3 @@
--- proofs/list_past/ListPast/add/Answers.antt
 use Rattle.std.proofs.Common.{◌≡◌, ◌++◌, [], ◌∷◌, rules}
 use Rattle.go_board.proofs.EntryLemmas.{held-add}
 use Rattle.go_board.proofs.past.list_past.ListPast.add.Goals as goal

@@ -1,4 +1,3 @@
--- proofs/list_past/ListPastPast/holds/Answers.antt
 use Rattle.std.proofs.Common.{sym, ◌∙◌}
 use Rattle.std.proofs.lemmas.Bool.{false≢true}
 use Rattle.go_board.proofs.EntryLemmas.{held-has}

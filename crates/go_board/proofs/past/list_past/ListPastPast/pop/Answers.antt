@@ -1,4 +1,3 @@
--- proofs/list_past/ListPastPast/pop/Answers.antt
 use Rattle.std.proofs.Common.{◌≡◌, ◌-◌, ◌*◌, ◌++◌, [], ◌∷◌, length, rules}
 use Rattle.go_board.proofs.EntryLemmas.{held-pop}
 use Rattle.go_board.proofs.past.list_past.ListPastPast.pop.Goals as goal

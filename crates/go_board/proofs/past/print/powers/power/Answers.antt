@@ -1,4 +1,3 @@
--- proofs/past/print/powers/power/Answers.antt
 use Rattle.go_board.proofs.PowerLemmas.{power_is}
 use Rattle.go_board.proofs.past.print.powers.power.Goals as goal
 

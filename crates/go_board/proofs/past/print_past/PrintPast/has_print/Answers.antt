@@ -1,4 +1,3 @@
--- proofs/past/print_past/PrintPast/has_print/Answers.antt
 use Rattle.std.proofs.Common.{sym, ◌∙◌}
 use Rattle.go_board.proofs.PrintPastLemmas.{not_found}
 use Rattle.go_board.proofs.past.print_past.PrintPast.has_print.Goals as goal

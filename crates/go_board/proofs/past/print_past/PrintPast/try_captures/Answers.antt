@@ -1,4 +1,3 @@
--- proofs/past/print_past/PrintPast/try_captures/Answers.antt
 use Rattle.std.proofs.Common.{◌≡◌, ℕ, List, Some, Contains, sym, ap, ◌∙◌, subst}
 use Rattle.go_board.specs.Grid.{Grid}
 use Rattle.go_board.specs.Clearing.{play}

@@ -1,4 +1,3 @@
--- proofs/past/print_past/PrintPastPast/holds/Invariants.antt
 -- What is left to look at ends before a number; no colouring of the stretch from it on is that one.
 use Rattle.std.proofs.Common.{ℕ, ◌<◌, ◌≤◌, length}
 use Rattle.go_board.proofs.PrintPastLemmas.{IsNumber}

@@ -1,4 +1,3 @@
--- proofs/past/print_past/PrintPastPast/reset/Answers.antt
 use Rattle.std.proofs.Common.{◌*◌, List, ◌∷◌, [], ℕ, reverse, ap, sym, ◌∙◌, arith}
 use Rattle.go_board.specs.inner.Print.{prints_of}
 use Rattle.go_board.proofs.PrintPastLemmas.{same_length}

@@ -1,4 +1,3 @@
--- proofs/past/table/Table/add/Answers.antt
 use Rattle.std.proofs.Common.{◌≡◌, ◌<◌, ◌++◌, [], ◌∷◌, length, get_or, rules, ap, ◌∙◌, subst}
 use Rattle.std.proofs.lemmas.List.{get_or_default}
 use Rattle.go_board.specs.inner.Table.{key_of}

@@ -1,4 +1,3 @@
--- proofs/past/table/Table/empty/Answers.antt
 use Rattle.std.proofs.Common.{lit<}
 use Rattle.go_board.proofs.TableLemmas.{table-empty}
 use Rattle.go_board.proofs.past.table.Table.empty.Goals as goal

@@ -1,4 +1,3 @@
--- proofs/past/table/Table/keep_oldest/Invariants.antt
 use Rattle.std.proofs.Common.{◌<◌, length}
 use Rattle.go_board.proofs.past.table.Table.keep_oldest.Given as goal
 

@@ -1,4 +1,3 @@
--- proofs/past/table/Table/last_between/Invariants.antt
 -- What is left to look at begins with the print of that number; no print from it on is the one that is looked for.
 use Rattle.std.proofs.Common.{◌≡◌, ◌≢◌, ℕ, ◌-◌, ◌<◌, ◌≤◌, length, slice_index}
 use Rattle.go_board.specs.inner.Table.{key_of}

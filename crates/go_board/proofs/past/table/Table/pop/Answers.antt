@@ -1,4 +1,3 @@
--- proofs/past/table/Table/pop/Answers.antt
 use Rattle.std.proofs.Common.{◌≡◌, ◌++◌, [], ◌∷◌, length, rules}
 use Rattle.go_board.specs.inner.Table.{key_of}
 use Rattle.go_board.proofs.TableLemmas.{table-pop}
