@@ -23,13 +23,15 @@
 //! | `marks`, `steps` | a set of points of a board; a count of work |
 //! | `board` | the board: reading, setting, moves, score |
 //! | `board/flood`, `board/search` | the flood that counts its steps, and its worklist |
+//! | `board/group` | whether the group of a stone has a liberty, by rows of bits |
 //! | `board/capture`, `board/sweep` | groups without a liberty taken off one at a time; sets of points taken off |
-//! | `board/alone` | stones that capture nothing, told by a look around them |
+//! | `board/glance`, `board/alone` | stones that capture nothing, told by a glance at the rows around them, or by the groups beside them |
 //! | `board/regions`, `board/fill` | sets of points as rows of bits, and filling these: the score, whether all stones reach empty |
 //! | `board/stone_rows` | the stones of a board as rows of bits, kept while points are set |
 //! | `board/areas`, `board/reset` | colouring areas; emptying the board in place |
 //! | `past` | the colourings that a game has been through; `past/list_past` and `past/print_past` keep them |
 //! | `past/colourings`, `past/changes`, `past/differences` | past colourings as changes that lead back |
+//! | `past/captures` | a stone placed on the newest colouring itself, with what it captures |
 //! | `past/print`, `past/table` | the print of a colouring, and `past/print/powers` for it; prints looked up by a table |
 //! | `reason`, `fault` | why a turn, or a node of a game record, isn't allowed; the errors |
 //! | `referee` | the referee and undo; `referee/plays`, `referee/setup`, `referee/turn`, `referee/reset` and `referee/earlier` below it |
