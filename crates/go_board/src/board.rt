@@ -297,7 +297,7 @@ impl Board {
         }
     }
 
-    /// The same, where every stone reaches empty or not. `N` rows are enough for the board.
+    /// The same, whatever is known of the board. `N` rows are enough for it.
     fn clear_by<const N: usize>(&mut self, colour: Colour)
         requires enough { self.old.side ≤ N }
         requires at_most { N ≤ MAX_ROWS }

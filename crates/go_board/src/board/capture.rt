@@ -93,9 +93,24 @@ impl Board {
         if self.has_liberty(point) {
             return true;
         }
-        let mut words = no_rows::<MAX_ROWS>();
+        if self.is_usual() {
+            self.search_finds_liberty::<USUAL_ROWS>(colour, point)
+        } else {
+            self.search_finds_liberty::<MAX_ROWS>(colour, point)
+        }
+    }
+
+    /// Whether a search of the group of a stone finds a liberty. `N` rows are enough for the board.
+    fn search_finds_liberty<const N: usize>(&self, colour: Colour, from: Point) -> bool
+        requires enough { self.now.side ≤ N }
+        requires at_most { N ≤ MAX_ROWS }
+        requires on_board { IsOn self.now.side from }
+        requires stone { cell_at self.now from ≡ stone_of colour }
+        ensures { IsTrue result → Reaches self.now Empty from }
+    {
+        let mut words = no_rows::<N>();
         let group = &mut words[..usize::from(self.size.side())];
-        self.group_has_liberty(colour, point, point, group)
+        self.group_has_liberty(colour, from, from, group)
     }
 
     /// Whether the group of a stone has a liberty, besides a certain point. If not, the whole group is found.

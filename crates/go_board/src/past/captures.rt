@@ -60,9 +60,8 @@ pub(crate) fn place_on(
     Some(count)
 }
 
-/// Places a stone on an empty point of a board where every stone reaches empty, and takes off what it captures. Adds
-/// changes that lead back, the stone's own last, and tells how many. Where there is no room for them, or the stone is captured itself,
-/// none, and the stone is left, and changes that put back what was taken off.
+/// The same on a board where every stone reaches empty, but that a try which failed is left as it stands: the stone on its
+/// point, and changes that put back what was taken off. It fails where the stone is captured itself, or there is no room.
 fn place_and_keep(
     board: &mut Board,
     colour: Colour,

@@ -1,28 +1,11 @@
 //! Games with captures: both pasts give the same answers, and an undo gives each board back.
 
 use crate::given::{at, size};
-use crate::{Colour, ListPast, Past, Play, Point, PrintPast, Reason, Referee, TurnFault};
+use crate::referee::tests::{turn, undo};
+use crate::{Colour, ListPast, Past, Play, PrintPast, Reason, Referee, TurnFault};
 use std::alloc::Global;
 use std::process::Abort;
 use std::test::Fail;
-
-/// Takes the turn of a stone, which must be on the board.
-fn turn<P: Past>(
-    rt: &impl Abort,
-    referee: &mut Referee<P>,
-    colour: Colour,
-    point: Point,
-) -> Result<(), TurnFault> {
-    let side = referee.board().size().side();
-    assert!(rt; point.col < side && point.row < side);
-    referee.turn(colour, Play::Stone(point))
-}
-
-/// Takes the newest turn back.
-fn undo<P: Past>(rt: &impl Abort, referee: &mut Referee<P>) {
-    assert!(rt; referee.depth() > 0);
-    referee.undo();
-}
 
 /// The number after one in a row of numbers in which no order is easily seen.
 fn next_number(number: u64) -> u64 {
@@ -32,7 +15,7 @@ fn next_number(number: u64) -> u64 {
 }
 
 /// A column or a row that a number stands for.
-fn place_of(rt: &impl Abort, number: u64, side: u8) -> u8 {
+fn coordinate(rt: &impl Abort, number: u64, side: u8) -> u8 {
     assert!(rt; side > 0);
     ((number >> 40) % u64::from(side)) as u8
 }
@@ -46,11 +29,11 @@ fn same_game(rt: &impl Abort, alloc: Global, side: u8, tries: u32) -> Result<(),
     for i in 0..tries {
         let col = next_number(number);
         number = next_number(col);
-        let point = at(place_of(rt, col, side), place_of(rt, number, side));
-        let answer = turn(rt, &mut printed, colour, point);
+        let point = at(coordinate(rt, col, side), coordinate(rt, number, side));
+        let answer = turn(rt, &mut printed, colour, Play::Stone(point));
         let taken = answer.is_ok();
         assert_eq!(rt;
-            turn(rt, &mut listed, colour, point),
+            turn(rt, &mut listed, colour, Play::Stone(point)),
             answer,
             "try {i} on side {side}"
         );
@@ -93,13 +76,20 @@ fn ko<P: Past>(rt: &impl Abort, alloc: Global) -> Result<(), Fail> {
         (Colour::Black, at(2, 1)),
     ];
     for (colour, point) in turns {
-        assert_eq!(rt; turn(rt, &mut game, colour, point), Ok(()), "{point:?}");
+        assert_eq!(rt;
+            turn(rt, &mut game, colour, Play::Stone(point)),
+            Ok(()),
+            "{point:?}"
+        );
     }
     let taken = game.board().copy();
-    let answer = turn(rt, &mut game, Colour::White, at(1, 1));
+    let answer = turn(rt, &mut game, Colour::White, Play::Stone(at(1, 1)));
     assert_eq!(rt; answer, Err(TurnFault::Illegal(Reason::Repeat)));
     assert!(rt; game.board().same(&taken));
-    assert_eq!(rt; turn(rt, &mut game, Colour::White, at(0, 3)), Ok(()));
+    assert_eq!(rt;
+        turn(rt, &mut game, Colour::White, Play::Stone(at(0, 3))),
+        Ok(())
+    );
     undo(rt, &mut game);
     assert!(rt; game.board().same(&taken));
     Ok(())
@@ -112,10 +102,18 @@ fn large_capture<P: Past>(rt: &impl Abort, alloc: Global) -> Result<(), Fail> {
         if index > 0 {
             game.turn(Colour::White, Play::Pass)?;
         }
-        let answer = turn(rt, &mut game, Colour::Black, at(index % 9, index / 9));
+        let answer = turn(
+            rt,
+            &mut game,
+            Colour::Black,
+            Play::Stone(at(index % 9, index / 9)),
+        );
         assert_eq!(rt; answer, Ok(()), "stone {index}");
     }
-    assert_eq!(rt; turn(rt, &mut game, Colour::White, at(8, 8)), Ok(()));
+    assert_eq!(rt;
+        turn(rt, &mut game, Colour::White, Play::Stone(at(8, 8))),
+        Ok(())
+    );
     assert_eq!(rt; game.score(), (0, 81));
     undo(rt, &mut game);
     assert_eq!(rt; game.score(), (81, 0));

@@ -10,7 +10,7 @@ use std::process::Abort;
 use std::test::Fail;
 
 /// Takes a turn, and says why it isn't taken. A stone must be on the board.
-fn turn<P: Past>(
+pub(crate) fn turn<P: Past>(
     rt: &impl Abort,
     referee: &mut Referee<P>,
     colour: Colour,
@@ -38,7 +38,7 @@ fn set_area<P: Past>(
 }
 
 /// Takes the newest call back.
-fn undo<P: Past>(rt: &impl Abort, referee: &mut Referee<P>) {
+pub(crate) fn undo<P: Past>(rt: &impl Abort, referee: &mut Referee<P>) {
     assert!(rt; referee.depth() > 0);
     referee.undo();
 }
