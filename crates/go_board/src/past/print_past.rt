@@ -145,26 +145,6 @@ impl PrintPast {
         Ok(true)
     }
 
-    /// Tries a stone that wasn't placed: where it captures nothing, that was for want of room alone.
-    fn try_not_placed(&mut self, colour: Colour, point: Point) -> Result<bool, MemoryFault>
-        requires on_board { IsOn (newest_grid self.old).side point }
-        requires empty { cell_at (newest_grid self.old) point ≡ Empty }
-        ensures new { IfOk result (λ taken. IsTrue taken
-            → ¬ Contains (present_stretch self.old) (play (newest_grid self.old) colour point)) }
-        ensures ok { IfOk result (λ taken. self.new ≡ (if taken then
-            record { colouring = play (newest_grid self.old) colour point; begins = false } ∷ self.old
-            else self.old)) }
-        ensures refused { OnErr result
-            (¬ Contains (present_stretch self.old) (play (newest_grid self.old) colour point)) }
-        ensures err { OnErr result (self.new ≡ self.old) }
-    {
-        let newest = self.colourings.newest();
-        if newest.captures_nothing(colour, point) {
-            return self.try_alone(colour, point);
-        }
-        Ok(false)
-    }
-
     /// Tries a stone that may capture: the colouring that it makes is made in place, and taken back where the present stretch
     /// has its print. Tells whether it was added. No memory is asked for before the print is known to be new.
     fn try_captures(&mut self, colour: Colour, point: Point) -> Result<bool, MemoryFault>
@@ -182,7 +162,11 @@ impl PrintPast {
         let before = self.colourings.newest().print();
         let start = self.colourings.stretch_start();
         if !self.colourings.place(colour, point) {
-            return self.try_not_placed(colour, point);
+            // a stone that captures nothing wasn't placed for want of room alone
+            if self.colourings.newest().captures_nothing(colour, point) {
+                return self.try_alone(colour, point);
+            }
+            return Ok(false);
         }
         let print = self.colourings.newest().print();
         let same = self.prints.last_between(print, start, self.prints.len());
