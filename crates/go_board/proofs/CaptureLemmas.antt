@@ -8,7 +8,7 @@ use Rattle.go_board.specs.Point.{IsOn, AreAdjacent}
 use Rattle.go_board.specs.Grid.{Grid, cell_at}
 use Rattle.go_board.specs.Reaching.{Reaches}
 use Rattle.go_board.specs.inner.Neighbour.{left_of, right_of, above, below}
-use Rattle.go_board.specs.inner.Groups.{is_free, has_liberty}
+use Rattle.go_board.specs.inner.Groups.{is_free, has_free_neighbour}
 use Rattle.go_board.proofs.GridLemmas.{Decides-same_cell}
 use Rattle.go_board.proofs.NeighbourLemmas.{IsNeighbour, IsNeighbour-adjacent, AllNeighbour, left-neighbour, right-neighbour, above-neighbour, below-neighbour}
 
@@ -25,16 +25,16 @@ Decides-is_free g (Some q) = (
 )
 
 -- a point beside p is empty
-abbrev pub HasLiberty : Grid → Point → Type 0
-HasLiberty g p = (q : Point) × IsOn g.side q × AreAdjacent p q × (cell_at g q ≡ Empty)
+abbrev pub HasFreeNeighbour : Grid → Point → Type 0
+HasFreeNeighbour g p = (q : Point) × IsOn g.side q × AreAdjacent p q × (cell_at g q ≡ Empty)
 
-from_neighbour : (g : Grid) (p : Point) (to : Option Point) → AllNeighbour g.side p to → FreeAt g to → HasLiberty g p
+from_neighbour : (g : Grid) (p : Point) (to : Option Point) → AllNeighbour g.side p to → FreeAt g to → HasFreeNeighbour g p
 unfolding FreeAt AllNeighbour
 from_neighbour g p to all w = let at = all w.0 w.1 in (w.0, at.0, at.1, w.2)
 
-pub Decides-has_liberty : (g : Grid) (p : Point) → IsOn g.side p → Decides (has_liberty g p) (HasLiberty g p)
-unfolding has_liberty FreeAt IsNeighbour
-Decides-has_liberty g p on =
+pub Decides-has_free_neighbour : (g : Grid) (p : Point) → IsOn g.side p → Decides (has_free_neighbour g p) (HasFreeNeighbour g p)
+unfolding has_free_neighbour FreeAt IsNeighbour
+Decides-has_free_neighbour g p on =
     Decides-like _
     (λ w. elim w [
       | inl (inl a) ↦ from_neighbour g p (left_of p) (left-neighbour g.side p on) a
@@ -53,7 +53,7 @@ Decides-has_liberty g p on =
     (Decides-or _ _ (Decides-is_free g (above p)) (Decides-is_free g (below g.side p))))
 
 -- a stone beside an empty point reaches it
-pub reaches_liberty : (g : Grid) (p : Point) → IsOn g.side p → has_liberty g p ≡ true → Reaches g Empty p
+pub reaches_liberty : (g : Grid) (p : Point) → IsOn g.side p → has_free_neighbour g p ≡ true → Reaches g Empty p
 reaches_liberty g p on some =
-    let w = (Decides-has_liberty g p on).0 some in
+    let w = (Decides-has_free_neighbour g p on).0 some in
     (w.0 ∷ [], (on, refl, w.2, (w.1, w.3)))

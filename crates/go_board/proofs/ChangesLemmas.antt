@@ -53,37 +53,37 @@ after-side g [] = refl
 after-side g (x ∷ xs) = after-side (with_run g x) xs
 
 -- the first n old cells, and then the new ones
-abbrev pub mixed : List Cell → List Cell → ℕ → List Cell
-mixed old new n = take n old ++ drop n new
+abbrev pub spliced : List Cell → List Cell → ℕ → List Cell
+spliced old new n = take n old ++ drop n new
 
-mixed-set : (old new : List Cell) (i : ℕ) → i < length old → i < length new → set (mixed old new i) i (get_or old i Black) ≡ mixed old new (i + 1)
-mixed-set old new i in_old in_new =
+spliced-set : (old new : List Cell) (i : ℕ) → i < length old → i < length new → set (spliced old new i) i (get_or old i Black) ≡ spliced old new (i + 1)
+spliced-set old new i in_old in_new =
     let front : length (take i old) ≡ i = length-take i old ∙ omega arith in
     ap (λ xs. set (take i old ++ xs) i (get_or old i Black)) (drop_more new i Black in_new)
     ∙ set_at (take i old) (get_or new i Black) (drop (i + 1) new) (get_or old i Black) i front
     ∙ sym (append_assoc (take i old) (get_or old i Black ∷ []) (drop (i + 1) new))
     ∙ ap (λ xs. xs ++ drop (i + 1) new) (sym (take_more old i Black in_old))
 
-mixed-same : (old new : List Cell) (i : ℕ) → i < length old → i < length new → get_or old i Black ≡ get_or new i Black → mixed old new i ≡ mixed old new (i + 1)
-mixed-same old new i in_old in_new same =
+spliced-same : (old new : List Cell) (i : ℕ) → i < length old → i < length new → get_or old i Black ≡ get_or new i Black → spliced old new i ≡ spliced old new (i + 1)
+spliced-same old new i in_old in_new same =
     ap (λ xs. take i old ++ xs) (drop_more new i Black in_new ∙ ap (λ x. x ∷ drop (i + 1) new) (sym same))
     ∙ sym (append_assoc (take i old) (get_or old i Black ∷ []) (drop (i + 1) new))
     ∙ ap (λ xs. xs ++ drop (i + 1) new) (sym (take_more old i Black in_old))
 
-pub mixed-range : (old new : List Cell) (a b : ℕ) → a ≤ b → slice_range old a b ≡ slice_range new a b → mixed old new a ≡ mixed old new b
-mixed-range old new a b h same =
+pub spliced-range : (old new : List Cell) (a b : ℕ) → a ≤ b → slice_range old a b ≡ slice_range new a b → spliced old new a ≡ spliced old new b
+spliced-range old new a b h same =
     ap (λ xs. take a old ++ xs) (back-range new a b h ∙ ap (λ xs. xs ++ drop b new) (sym same))
     ∙ sym (append_assoc (take a old) (slice_range old a b) (drop b new))
     ∙ ap (λ xs. xs ++ drop b new) (sym (front-range old a b h))
 
-painted-mixed : (old new : List Cell) (cell : Cell) (i n : ℕ) → i + n ≤ length old → i + n ≤ length new → IsRunOf cell old i n → painted (mixed old new i) cell i n ≡ mixed old new (i + n)
-painted-mixed old new cell i zero in_old in_new run = ap (mixed old new) (omega arith)
-painted-mixed old new cell i (suc n) in_old in_new run =
-    let so_far = painted-mixed old new cell i n (omega (arith, in_old)) (omega (arith, in_new)) (λ k h. run k (omega (arith, h))) in
+painted-spliced : (old new : List Cell) (cell : Cell) (i n : ℕ) → i + n ≤ length old → i + n ≤ length new → IsRunOf cell old i n → painted (spliced old new i) cell i n ≡ spliced old new (i + n)
+painted-spliced old new cell i zero in_old in_new run = ap (spliced old new) (omega arith)
+painted-spliced old new cell i (suc n) in_old in_new run =
+    let so_far = painted-spliced old new cell i n (omega (arith, in_old)) (omega (arith, in_new)) (λ k h. run k (omega (arith, h))) in
     ap (λ xs. set xs (i + n) cell) so_far
-    ∙ ap (λ x. set (mixed old new (i + n)) (i + n) x) (sym (run n (omega arith)))
-    ∙ mixed-set old new (i + n) (omega (arith, in_old)) (omega (arith, in_new))
-    ∙ ap (mixed old new) (omega arith)
+    ∙ ap (λ x. set (spliced old new (i + n)) (i + n) x) (sym (run n (omega arith)))
+    ∙ spliced-set old new (i + n) (omega (arith, in_old)) (omega (arith, in_new))
+    ∙ ap (spliced old new) (omega arith)
 
 module _ (side start : ℕ) (old new : List Cell) where
   -- a change added, of the next points up to j
@@ -91,9 +91,9 @@ module _ (side start : ℕ) (old new : List Cell) where
   leads-more i j n changes c count to in_old in_new on at run leads =
       let g : Grid = record { side = side; cells = new } in
       let parts : drop start (changes ++ c ∷ []) ≡ drop start changes ++ c ∷ [] = drop-append-le start changes (c ∷ []) leads.starts in
-      let so_far : after_changes g (drop start changes) ≡ record { side = side; cells = mixed old new i } = leads.back in
-      let one : with_run (record { side = side; cells = mixed old new i }) c ≡ record { side = side; cells = painted (mixed old new i) c.cell i n } = ap (λ x. record { side = side; cells = painted (mixed old new i) c.cell x (suc c.more) }) at ∙ ap (λ k. record { side = side; cells = painted (mixed old new i) c.cell i k }) (sym count) in
-      let all : painted (mixed old new i) c.cell i n ≡ mixed old new j = painted-mixed old new c.cell i n (omega (arith, to, in_old)) (omega (arith, to, in_new)) run ∙ ap (mixed old new) (sym to) in
+      let so_far : after_changes g (drop start changes) ≡ record { side = side; cells = spliced old new i } = leads.back in
+      let one : with_run (record { side = side; cells = spliced old new i }) c ≡ record { side = side; cells = painted (spliced old new i) c.cell i n } = ap (λ x. record { side = side; cells = painted (spliced old new i) c.cell x (suc c.more) }) at ∙ ap (λ k. record { side = side; cells = painted (spliced old new i) c.cell i k }) (sym count) in
+      let all : painted (spliced old new i) c.cell i n ≡ spliced old new j = painted-spliced old new c.cell i n (omega (arith, to, in_old)) (omega (arith, to, in_new)) run ∙ ap (spliced old new) (sym to) in
       record {
         starts = omega (arith, leads.starts, length-append changes (c ∷ []));
         back = ap (after_changes g) parts ∙ after-push g (drop start changes) c ∙ ap (λ (x : Grid). with_run x c) so_far ∙ one ∙ ap (λ (xs : List Cell). record { side = side; cells = xs }) all;
@@ -102,7 +102,7 @@ module _ (side start : ℕ) (old new : List Cell) where
       }
 
   -- no change, where the next cells are the same
-  leads-on : (i j : ℕ) (changes : List Change) → i ≤ j → mixed old new i ≡ mixed old new j → LeadsBack side old new start i changes → LeadsBack side old new start j changes
+  leads-on : (i j : ℕ) (changes : List Change) → i ≤ j → spliced old new i ≡ spliced old new j → LeadsBack side old new start i changes → LeadsBack side old new start j changes
   leads-on i j changes h same leads = record {
     starts = leads.starts;
     back = leads.back ∙ ap (λ (xs : List Cell). record { side = side; cells = xs }) same;
@@ -112,7 +112,7 @@ module _ (side start : ℕ) (old new : List Cell) where
 
   pub leads-same : (i : ℕ) (changes : List Change) → i < length old → i < length new → get_or old i Black ≡ get_or new i Black → LeadsBack side old new start i changes → LeadsBack side old new start (i + 1) changes
   leads-same i changes in_old in_new same leads =
-      leads-on i (i + 1) changes (omega arith) (mixed-same old new i in_old in_new same) leads
+      leads-on i (i + 1) changes (omega arith) (spliced-same old new i in_old in_new same) leads
 
   pub leads-range : (a b : ℕ) (changes : List Change) → a ≤ b → slice_range old a b ≡ slice_range new a b → LeadsBack side old new start a changes → LeadsBack side old new start b changes
-  leads-range a b changes h same leads = leads-on a b changes h (mixed-range old new a b h same) leads
+  leads-range a b changes h same leads = leads-on a b changes h (spliced-range old new a b h same) leads

@@ -7,7 +7,7 @@ use Rattle.go_board.specs.declared.stones.Cell.TheVariants.{Black as BlackStone,
 use Rattle.go_board.specs.declared.stones.Colour.{Colour}
 use Rattle.go_board.specs.declared.stones.Colour.TheVariants.{Black, White}
 use Rattle.go_board.specs.declared.points.Point.{Point}
-use Rattle.go_board.specs.declared.board.glance.Row.{Row}
+use Rattle.go_board.specs.declared.board.glance.RowStones.{RowStones}
 use Rattle.go_board.specs.Colour.{opponent, stone_of, same_cell}
 use Rattle.go_board.specs.Point.{IsOn, DifferByOne, AreAdjacent}
 use Rattle.go_board.specs.Grid.{Grid, cell_at, with_cell}
@@ -101,7 +101,7 @@ row_inside own others middle i r free at below within off = record {
   has_others = λ p there is. ap (λ n. has_bit (get_or others n 0) p.col) (omega (arith, there, at)) ∙ is;
 }
 
-pub row_besides : (own others : List ℕ) (middle i free : ℕ) (row : Row) → ((col : ℕ) → has_bit free col ≡ true → has_bit row.free col ≡ true)
+pub row_besides : (own others : List ℕ) (middle i free : ℕ) (row : RowStones) → ((col : ℕ) → has_bit free col ≡ true → has_bit row.free col ≡ true)
     → IsRowAt own others middle i row → IsRowAt own others middle i (record { own = row.own; others = row.others; free = free })
 row_besides own others middle i free row part is = record {
   are_free = λ col there. is.are_free col (part col there);
@@ -146,12 +146,12 @@ abbrev pub AreBeside : Point → ℕ → ℕ → Type 0
 AreBeside p i columns = (q : Point) → q.row + 2 ≡ p.row + i → has_bit columns q.col ≡ true → AreAdjacent p q
 
 -- what a look at some columns of a row tells
-abbrev pub TellsAlive : ℕ → ℕ → Row → ℕ → ℕ → Type 0
+abbrev pub TellsAlive : ℕ → ℕ → RowStones → ℕ → ℕ → Type 0
 TellsAlive columns above row below alive =
     (col : ℕ) → has_bit alive col ≡ true
     → (has_bit columns col ≡ true) × ((has_bit row.free col ≡ true) ⊎ ((has_bit row.own col ≡ true) × IsInOrBeside above row.free below col))
 
-abbrev pub TellsShut : ℕ → ℕ → Row → ℕ → ℕ → Type 0
+abbrev pub TellsShut : ℕ → ℕ → RowStones → ℕ → ℕ → Type 0
 TellsShut columns above row below shut =
     (col : ℕ) → has_bit shut col ≡ false → has_bit columns col ≡ true → has_bit row.others col ≡ true → IsInOrBeside above row.free below col
 
@@ -165,7 +165,7 @@ module _ (g : Grid) (k : Colour) (p : Point) (own others : List ℕ) (side : g.s
   abbrev pub AreFree : ℕ → ℕ → Type 0
   AreFree i word = (col : ℕ) → has_bit word col ≡ true → (z : Point) × IsIn p.row i col z × IsOn g.side z × (cell_at (with_cell g p (stone_of k)) z ≡ Empty)
 
-  free_point : (i : ℕ) (row : Row) → IsRowAt own others p.row i row → ((z : Point) → IsIn p.row i z.col z → has_bit row.free z.col ≡ true → z ≢ p) → AreFree i row.free
+  free_point : (i : ℕ) (row : RowStones) → IsRowAt own others p.row i row → ((z : Point) → IsIn p.row i z.col z → has_bit row.free z.col ≡ true → z ≢ p) → AreFree i row.free
   free_point i row is other =
       λ col set.
       let found = is.are_free col set in
@@ -179,17 +179,17 @@ module _ (g : Grid) (k : Colour) (p : Point) (own others : List ℕ) (side : g.s
             ∙ neither k (cell_at g z) (sym (is_own.on z on_z) ∙ found.3) (sym (is_others.on z on_z) ∙ found.4),
       )
 
-  pub free_elsewhere : (i : ℕ) (row : Row) → IsRowAt own others p.row i row → i ≢ 2 → AreFree i row.free
+  pub free_elsewhere : (i : ℕ) (row : RowStones) → IsRowAt own others p.row i row → i ≢ 2 → AreFree i row.free
   free_elsewhere i row is other = free_point i row is (λ z at _ same. other (let row = ap (λ (x : Point). x.row) same in omega (arith, row, at.1)))
 
-  pub free_besides : (row : Row) → IsRowAt own others p.row 2 row → has_bit row.free p.col ≡ false → AreFree 2 row.free
+  pub free_besides : (row : RowStones) → IsRowAt own others p.row 2 row → has_bit row.free p.col ≡ false → AreFree 2 row.free
   free_besides row is none =
       free_point 2 row is (λ z at set same. false≢true (sym none ∙ ap (λ (x : Point). has_bit row.free x.col) (sym same) ∙ set))
 
   to_free : (q z : Point) → IsOn g.side q → AreAdjacent q z → IsOn g.side z → cell_at after z ≡ Empty → Reaches after Empty q
   to_free q z on_q next on_z empty = path_by_step after Empty q z on_q next on_z (inr empty) ([], (on_z, empty))
 
-  module _ (i columns above : ℕ) (row : Row) (below : ℕ) (is_row : IsRowAt own others p.row (i + 1) row)
+  module _ (i columns above : ℕ) (row : RowStones) (below : ℕ) (is_row : IsRowAt own others p.row (i + 1) row)
       (free_above : AreFree i above) (free_here : AreFree (i + 1) row.free) (free_below : AreFree (i + 2) below) where
     open_reaches : (q : Point) → q.row + 2 ≡ p.row + (i + 1) → IsOn g.side q → IsInOrBeside above row.free below q.col → Reaches after Empty q
     open_reaches q at on_q is_open =

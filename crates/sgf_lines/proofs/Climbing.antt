@@ -2,10 +2,10 @@
 use Rattle.std.proofs.Common.{◌≡◌, ℕ, suc, ◌+◌, List, [], ◌∷◌, ◌++◌, length, slice_get, Option, Some, option_map, false, refl, sym, ap, ◌∙◌, arith, add-zero, append-nil, append_assoc}
 use Rattle.std.specs.List.{range_with_len}
 use Rattle.sgf_tree.specs.Tree.{Node, Games, game}
-use Rattle.sgf_tree.specs.FileOrder.{Row, further_rows, rows_of}
+use Rattle.sgf_tree.specs.FileOrder.{OrderedNode, further_nodes, ordered_nodes}
 use Rattle.sgf_lines.specs.Lines.{last_number}
 use Rattle.sgf_lines.specs.inner.Ways.{IsWayTo, top, step}
-use Rattle.sgf_lines.proofs.Standing.{StandsAt, Stands, stands_get, stands_right, stands_own, first_row}
+use Rattle.sgf_lines.proofs.Standing.{StandsAt, Stands, stands_get, stands_right, stands_own, first_ordered}
 
 pub last_number-push : (ns : List ℕ) (n : ℕ) → last_number (ns ++ n ∷ []) ≡ n
 last_number-push [] n = refl
@@ -29,14 +29,14 @@ one_way {c = c} (step {i = i} {parent = p} {above = a} e u is) (step {parent = q
     is ∙ ap (λ l. l ++ i ∷ []) above ∙ sym same
 
 -- the nodes after a game's first one, down to its last
-up_further : (c : Games) (at : ℕ) (ns : List Node) (above : List ℕ) → StandsAt (rows_of c) (at + 1) (further_rows at ns) → IsWayTo c (Some at) above
+up_further : (c : Games) (at : ℕ) (ns : List Node) (above : List ℕ) → StandsAt (ordered_nodes c) (at + 1) (further_nodes at ns) → IsWayTo c (Some at) above
     → IsWayTo c (Some (at + length ns)) (above ++ range_with_len (at + 1) (length ns))
 up_further c at [] above h u = rw (append-nil, add-zero) u
 up_further c at (n ∷ ns) above h u =
-    let row : Row = record { node = n; parent = Some at; opens = false } in
-    let here : slice_get (rows_of c) (at + 1) ≡ Some row = stands_get (further_rows at (n ∷ ns)) 0 (at + 1) row h (omega arith) refl in
+    let ordered : OrderedNode = record { node = n; parent = Some at; opens = false } in
+    let here : slice_get (ordered_nodes c) (at + 1) ≡ Some ordered = stands_get (further_nodes at (n ∷ ns)) 0 (at + 1) ordered h (omega arith) refl in
     let next : IsWayTo c (Some (at + 1)) (above ++ (at + 1) ∷ []) = step (ap (λ o. option_map (λ r. r.parent) o) here) u refl in
-    let rest : StandsAt (rows_of c) (at + 1 + 1) (further_rows (at + 1) ns) = stands_right (at + 1 + 1) (row ∷ []) (further_rows (at + 1) ns) h refl in
+    let rest : StandsAt (ordered_nodes c) (at + 1 + 1) (further_nodes (at + 1) ns) = stands_right (at + 1 + 1) (ordered ∷ []) (further_nodes (at + 1) ns) h refl in
     let sums : at + 1 + length ns ≡ at + suc (length ns) = omega arith in
     rw (sums, append_assoc above ((at + 1) ∷ []) (range_with_len (at + 1 + 1) (length ns))) at (up_further c (at + 1) ns (above ++ (at + 1) ∷ []) rest next)
 
@@ -45,8 +45,8 @@ pub up_own : (c : Games) (at : ℕ) (parent : Option ℕ) (first : Node) (more :
     → (above : List ℕ) → IsWayTo c parent above → IsWayTo c (Some (at + length more)) (above ++ at ∷ range_with_len (at + 1) (length more))
 up_own c at parent first more below after h above u =
     let own = stands_own c at parent first more below after h in
-    let here : slice_get (rows_of c) at ≡ Some (first_row parent first) =
-    stands_get (first_row parent first ∷ further_rows at more) 0 at (first_row parent first) own (omega arith) refl in
+    let here : slice_get (ordered_nodes c) at ≡ Some (first_ordered parent first) =
+    stands_get (first_ordered parent first ∷ further_nodes at more) 0 at (first_ordered parent first) own (omega arith) refl in
     let root : IsWayTo c (Some at) (above ++ at ∷ []) = step (ap (λ o. option_map (λ r. r.parent) o) here) u refl in
-    let rest : StandsAt (rows_of c) (at + 1) (further_rows at more) = stands_right (at + 1) (first_row parent first ∷ []) (further_rows at more) own refl in
+    let rest : StandsAt (ordered_nodes c) (at + 1) (further_nodes at more) = stands_right (at + 1) (first_ordered parent first ∷ []) (further_nodes at more) own refl in
     rw (append_assoc above (at ∷ []) (range_with_len (at + 1) (length more))) at (up_further c at more (above ++ at ∷ []) rest root)

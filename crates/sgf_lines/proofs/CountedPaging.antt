@@ -13,7 +13,7 @@ use Rattle.sgf_lines.specs.Page.{limited}
 use Rattle.sgf_lines.specs.Ends.{SinkState}
 use Rattle.sgf_lines.specs.Cursor.{Position}
 use Rattle.sgf_lines.specs.Verdict.{judged_nodes}
-use Rattle.sgf_lines.specs.Plays.{different, judged}
+use Rattle.sgf_lines.specs.Plays.{different, all_judged, judged_places}
 use Rattle.sgf_lines.specs.CountedRun.{plays_in, plays_of}
 use Rattle.sgf_lines.specs.declared.options.Form.{Form}
 use Rattle.sgf_lines.specs.declared.options.Form.TheVariants.{List as list_form, Sgf as sgf_form, Gtp as gtp_form}
@@ -25,7 +25,7 @@ use Rattle.sgf_lines.specs.inner.CountedLines.{CountsLines}
 use Rattle.sgf_lines.proofs.Pages.{get_dropped, get_taken, get_some, limited_is}
 use Rattle.sgf_lines.proofs.LineCounts.{lines_within}
 use Rattle.sgf_lines.proofs.Different.{is_new, different-append}
-use Rattle.sgf_lines.proofs.PlayCounts.{judged_places, first_plays, next_plays}
+use Rattle.sgf_lines.proofs.PlayCounts.{first_plays, next_plays}
 use Rattle.sgf_lines.proofs.Paging.{page_from, IsSoFar}
 
 -- in a form that judges what is added is added, and in the other nothing is
@@ -44,9 +44,9 @@ plays_grow : (form : Form) (ls : List Line) (k : ℕ) → plays_of form (take k 
 plays_grow form ls k =
     let front = flat_map judged_places (take k ls) in
     let one = flat_map judged_places (take 1 (drop k ls)) in
-    let all : judged (take (k + 1) ls) ≡ different front ++ filter (is_new front) (different one) =
-    ap judged (take-add k 1 ls) ∙ ap different (flat_map-append judged_places (take k ls) (take 1 (drop k ls))) ∙ different-append front one in
-    fewer_in form (length (judged (take k ls))) (length (judged (take (k + 1) ls)))
+    let all : all_judged (take (k + 1) ls) ≡ different front ++ filter (is_new front) (different one) =
+    ap all_judged (take-add k 1 ls) ∙ ap different (flat_map-append judged_places (take k ls) (take 1 (drop k ls))) ∙ different-append front one in
+    fewer_in form (length (all_judged (take k ls))) (length (all_judged (take (k + 1) ls)))
     (omega (arith, ap length all, length-append (different front) (filter (is_new front) (different one))))
 
 -- all lines
@@ -69,11 +69,11 @@ module _ (c : Games) (rise : PlacesRise c) (first limit : ℕ) where
   adds form zero shared line e h =
       let page = page_from c first limit in
       let one : zero + 1 ≡ 1 = refl in
-      let sum : length (judged (take 1 page)) ≡ 0 + (length (judged_nodes line) - shared) = omega (arith, first_plays c rise first page stands line e, h) in
-      added_in form (length (judged (take 1 page))) 0 (length (judged_nodes line) - shared) sum
+      let sum : length (all_judged (take 1 page)) ≡ 0 + (length (judged_nodes line) - shared) = omega (arith, first_plays c rise first page stands line e, h) in
+      added_in form (length (all_judged (take 1 page))) 0 (length (judged_nodes line) - shared) sum
   adds form (suc k) shared line e h =
       let page = page_from c first limit in
-      rw add-one (added_in form (length (judged (take (suc (suc k)) page))) (length (judged (take (suc k) page))) (length (judged_nodes line) - shared)
+      rw add-one (added_in form (length (all_judged (take (suc (suc k)) page))) (length (all_judged (take (suc k) page))) (length (judged_nodes line) - shared)
       (next_plays c rise first page stands k shared line e h))
 
 -- what a line shares with the one before it, by where the cursor stands

@@ -21,7 +21,7 @@ use Rattle.sgf_lines.specs.declared.contents.Kind.TheVariants.{Move as move_kind
 use Rattle.sgf_lines.specs.NodeContents.{Move, Stones, moves_in, stones_in, players_in, is_named, first_value}
 use Rattle.sgf_lines.specs.Values.{player_value, operation, operations, last_player}
 use Rattle.sgf_lines.specs.inner.Contents.{Lists, empty_lists, combined, kind_of, lists_by, lists_in, AreMoves, AreTold, IsContents, IsGathered}
-use Rattle.sgf_lines.specs.inner.Plain.{first_of}
+use Rattle.sgf_lines.specs.inner.Plain.{first_comment}
 
 -- one operation before others, and after them
 abbrev before_all : Option SetupOp → Option (List SetupOp) → Option (List SetupOp)
@@ -231,6 +231,6 @@ pub no_comment : (o : Option (List ℕ)) → o ≡ option_or o None
 no_comment None = refl
 no_comment (Some c) = refl
 
-pub first_is : (o : Option (List ℕ)) (first : List ℕ) → first_of o first ≡ option_or o (Some first)
+pub first_is : (o : Option (List ℕ)) (first : List ℕ) → first_comment o first ≡ option_or o (Some first)
 first_is None first = refl
 first_is (Some c) first = refl

@@ -4,11 +4,11 @@ use Rattle.std.specs.List.{range_with_len}
 use Rattle.std.proofs.lemmas.Bool.{cases_lt, cases_eq}
 use Rattle.std.proofs.lemmas.List.{map-append}
 use Rattle.sgf_tree.specs.Tree.{Node, Games, no_games, game, node_count}
-use Rattle.sgf_tree.specs.FileOrder.{Row, further_rows, IsLeaf}
+use Rattle.sgf_tree.specs.FileOrder.{OrderedNode, further_nodes, IsLeaf}
 use Rattle.sgf_lines.specs.Lines.{through, last_number}
 use Rattle.sgf_lines.specs.Paths.{number_lines, paths_of_game, paths_from, leaf_of}
 use Rattle.sgf_lines.proofs.Lists.{Each, each_append, each_through, get_left, get_right}
-use Rattle.sgf_lines.proofs.Standing.{StandsAt, Stands, stands_get, stands_own, stands_below, stands_after, first_row}
+use Rattle.sgf_lines.proofs.Standing.{StandsAt, Stands, stands_get, stands_own, stands_below, stands_after, first_ordered}
 use Rattle.sgf_lines.proofs.Climbing.{last_number-append}
 use Rattle.sgf_lines.proofs.Ways.{last_number-range}
 
@@ -106,7 +106,7 @@ leaves_of_paths number at (game first more below after) =
     ∙ ap (λ ns. leaves_or last (leaves (last + 1) below) ++ ns) (leaves_of_paths (number + 1) next after)
 
 -- each own node but the last is the parent of the next
-further_follows : (last : ℕ) (ns : List Node) (k : ℕ) → k < length ns → (r : Row) × (slice_get (further_rows last ns) k ≡ Some r) × (r.parent ≡ Some (last + k))
+further_follows : (last : ℕ) (ns : List Node) (k : ℕ) → k < length ns → (r : OrderedNode) × (slice_get (further_nodes last ns) k ≡ Some r) × (r.parent ≡ Some (last + k))
 further_follows last [] k lt = absurd (omega arith)
 further_follows last (n ∷ ns) zero lt = (record { node = n; parent = Some last; opens = false }, refl, ap Some (sym (add-zero last)))
 further_follows last (n ∷ ns) (suc k) lt =
@@ -115,7 +115,7 @@ further_follows last (n ∷ ns) (suc k) lt =
     (h.0, h.1, h.2 ∙ ap Some sums)
 
 -- the element after another stands in the list that follows it
-follows_in : {all : List Row} {at : ℕ} (x : Row) (xs : List Row) (k j : ℕ) (r : Row) → StandsAt all at (x ∷ xs) → j ≡ at + 1 + k → slice_get xs k ≡ Some r
+follows_in : {all : List OrderedNode} {at : ℕ} (x : OrderedNode) (xs : List OrderedNode) (k j : ℕ) (r : OrderedNode) → StandsAt all at (x ∷ xs) → j ≡ at + 1 + k → slice_get xs k ≡ Some r
     → slice_get all j ≡ Some r
 follows_in {at = at} x xs k j r h e got = stands_get (x ∷ xs) (suc k) j r h (omega arith) got
 
@@ -128,7 +128,7 @@ last_covered : (c : Games) (last : ℕ) (below : Games) → Stands c (last + 1) 
 last_covered c last no_games h leaf = (0, refl)
 last_covered c last (game first more below after) h leaf =
     let own = stands_own c (last + 1) (Some last) first more below after h in
-    let here = stands_get (first_row (Some last) first ∷ further_rows (last + 1) more) 0 (last + 1) (first_row (Some last) first) own (omega arith) refl in
+    let here = stands_get (first_ordered (Some last) first ∷ further_nodes (last + 1) more) 0 (last + 1) (first_ordered (Some last) first) own (omega arith) refl in
     absurd (leaf (last + 1) (ap (λ o. option_map (λ r. r.parent) o) here))
 
 -- each leaf among games is one of their leaves
@@ -145,10 +145,10 @@ covered c (game first more below after) at parent h i le lt leaf =
     let in_front : (k : ℕ) × (slice_get front k ≡ Some i) → (k : ℕ) × (slice_get (front ++ back) k ≡ Some i) = λ f. (f.0, get_left front back f.0 i f.1) in
     elim (cases_lt i last) [
       | inl before ↦
-          let row = further_follows at more (i - at) (omega arith) in
-          let here = follows_in (first_row parent first) (further_rows at more) (i - at) (i + 1) row.0 own (omega arith) row.1 in
+          let ordered = further_follows at more (i - at) (omega arith) in
+          let here = follows_in (first_ordered parent first) (further_nodes at more) (i - at) (i + 1) ordered.0 own (omega arith) ordered.1 in
           let same : at + (i - at) ≡ i = omega arith in
-          absurd (leaf (i + 1) (ap (λ o. option_map (λ r. r.parent) o) here ∙ ap Some (row.2 ∙ ap Some same)))
+          absurd (leaf (i + 1) (ap (λ o. option_map (λ r. r.parent) o) here ∙ ap Some (ordered.2 ∙ ap Some same)))
       | inr not_before ↦ elim (cases_eq i last) [
         | inl same ↦ in_front (rw same (last_covered c last below under (rw same at leaf)))
         | inr beyond ↦ elim (cases_lt i next) [

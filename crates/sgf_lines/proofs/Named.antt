@@ -4,10 +4,10 @@ use Rattle.std.specs.List.{range_with_len, AllZip}
 use Rattle.std.proofs.lemmas.List.{map-append, length-map}
 use Rattle.std.proofs.lemmas.Option.{slice_get-map}
 use Rattle.sgf_tree.specs.Tree.{Node, Games, no_games, game, node_count}
-use Rattle.sgf_tree.specs.FileOrder.{Row, further_rows, rows_of, node_at, place_at}
+use Rattle.sgf_tree.specs.FileOrder.{OrderedNode, further_nodes, ordered_nodes, node_at, place_at}
 use Rattle.sgf_lines.specs.Lines.{Line, through, node_lines, lines_of_game, lines_from, lines, last_number, place_of}
 use Rattle.sgf_lines.specs.Paths.{Path, number_lines, paths_of_game, paths_from, paths, leaf_of, IsPathOf}
-use Rattle.sgf_lines.proofs.Standing.{StandsAt, Stands, stands_whole, stands_get, stands_right, stands_own, stands_below, stands_after, first_row}
+use Rattle.sgf_lines.proofs.Standing.{StandsAt, Stands, stands_whole, stands_get, stands_right, stands_own, stands_below, stands_after, first_ordered}
 
 -- what goes through images of the nodes is the image of what goes through them
 map_after : {A B : Type 0} (f : A → B) (own : List A) (ls : List (List A)) → map (map f) (map (λ rest. own ++ rest) ls) ≡ map (λ rest. map f own ++ rest) (map (map f) ls)
@@ -18,23 +18,23 @@ pub map-through : {A B : Type 0} (f : A → B) (own : List A) (ls : List (List A
 map-through f own [] = refl
 map-through f own (l ∷ ls) = map_after f own (l ∷ ls)
 
-named_further : (c : Games) (at : ℕ) (ns : List Node) → StandsAt (rows_of c) (at + 1) (further_rows at ns) → map (node_at c) (range_with_len (at + 1) (length ns)) ≡ map Some ns
+named_further : (c : Games) (at : ℕ) (ns : List Node) → StandsAt (ordered_nodes c) (at + 1) (further_nodes at ns) → map (node_at c) (range_with_len (at + 1) (length ns)) ≡ map Some ns
 named_further c at [] h = refl
 named_further c at (n ∷ ns) h =
-    let row : Row = record { node = n; parent = Some at; opens = false } in
-    let here : slice_get (rows_of c) (at + 1) ≡ Some row = stands_get (further_rows at (n ∷ ns)) 0 (at + 1) row h (omega arith) refl in
+    let ordered : OrderedNode = record { node = n; parent = Some at; opens = false } in
+    let here : slice_get (ordered_nodes c) (at + 1) ≡ Some ordered = stands_get (further_nodes at (n ∷ ns)) 0 (at + 1) ordered h (omega arith) refl in
     let first : node_at c (at + 1) ≡ Some n = ap (λ o. option_map (λ r. r.node) o) here in
-    let rest = named_further c (at + 1) ns (stands_right (at + 1 + 1) (row ∷ []) (further_rows (at + 1) ns) h refl) in
+    let rest = named_further c (at + 1) ns (stands_right (at + 1 + 1) (ordered ∷ []) (further_nodes (at + 1) ns) h refl) in
     cc
 
 named_own : (c : Games) (at : ℕ) (parent : Option ℕ) (first : Node) (more : List Node) (below after : Games) → Stands c at parent (game first more below after)
     → map (node_at c) (at ∷ range_with_len (at + 1) (length more)) ≡ map Some (first ∷ more)
 named_own c at parent first more below after h =
     let own = stands_own c at parent first more below after h in
-    let here : slice_get (rows_of c) at ≡ Some (first_row parent first) =
-    stands_get (first_row parent first ∷ further_rows at more) 0 at (first_row parent first) own (omega arith) refl in
+    let here : slice_get (ordered_nodes c) at ≡ Some (first_ordered parent first) =
+    stands_get (first_ordered parent first ∷ further_nodes at more) 0 at (first_ordered parent first) own (omega arith) refl in
     let root : node_at c at ≡ Some first = ap (λ o. option_map (λ r. r.node) o) here in
-    let rest = named_further c at more (stands_right (at + 1) (first_row parent first ∷ []) (further_rows at more) own refl) in
+    let rest = named_further c at more (stands_right (at + 1) (first_ordered parent first ∷ []) (further_nodes at more) own refl) in
     cc
 
 named_game : (c : Games) (at : ℕ) (parent : Option ℕ) (first : Node) (more : List Node) (below after : Games) → Stands c at parent (game first more below after)
@@ -136,11 +136,11 @@ length-paths c = sym (length-map (paths c) (shown_path c)) ∙ ap length (named_
 
 -- the place of a line is that of the last node on its path
 pub place_of_node : (c : Games) (i : ℕ) (n : Node) → Some n ≡ node_at c i → place_at c i ≡ Some n.place
-place_of_node c i n e = of_row (slice_get (rows_of c) i) e
+place_of_node c i n e = of_ordered (slice_get (ordered_nodes c) i) e
   where
-    of_row : (o : Option Row) → Some n ≡ option_map (λ r. r.node) o → option_map (λ r. r.node.place) o ≡ Some n.place
-    of_row None e = absurd cc
-    of_row (Some r) e = let same : n ≡ r.node = cc in ap (λ (n : Node). Some n.place) (sym same)
+    of_ordered : (o : Option OrderedNode) → Some n ≡ option_map (λ r. r.node) o → option_map (λ r. r.node.place) o ≡ Some n.place
+    of_ordered None e = absurd cc
+    of_ordered (Some r) e = let same : n ≡ r.node = cc in ap (λ (n : Node). Some n.place) (sym same)
 
 place_of_last : (c : Games) (ns : List Node) (is : List ℕ) → is ≢ [] → map Some ns ≡ map (node_at c) is → place_at c (last_number is) ≡ Some (last_number (map (λ n. n.place) ns))
 place_of_last c ns [] filled e = absurd (filled refl)

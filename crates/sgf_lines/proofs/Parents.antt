@@ -3,29 +3,29 @@ use Rattle.std.proofs.Common.{◌≡◌, ℕ, zero, suc, ◌+◌, ◌<◌, ◌�
 use Rattle.std.proofs.lemmas.Bool.{cases_lt}
 use Rattle.std.proofs.lemmas.Option.{slice_get_within}
 use Rattle.sgf_tree.specs.Tree.{Node, Games, no_games, game, node_count}
-use Rattle.sgf_tree.specs.FileOrder.{Row, further_rows, rows, rows_of, parent_at, IsLeaf}
+use Rattle.sgf_tree.specs.FileOrder.{OrderedNode, further_nodes, nodes_from, ordered_nodes, parent_at, IsLeaf}
 use Rattle.sgf_lines.proofs.Lists.{split_get, get_right}
-use Rattle.sgf_lines.proofs.Standing.{Stands, stands_whole, stands_below, stands_after, first_row, length-further_rows, length-rows}
+use Rattle.sgf_lines.proofs.Standing.{Stands, stands_whole, stands_below, stands_after, first_ordered, length-further_nodes, length-nodes_from}
 
 -- the parent of a node at the index k among games that begin at the index `at` and follow `parent`
 abbrev pub IsParentIn : ℕ → Option ℕ → ℕ → Option ℕ → Type 0
 IsParentIn at parent k p = (p ≡ parent) ⊎ ((i : ℕ) × (p ≡ Some i) × (at ≤ i) × (i < k))
 
-pub parent-further_rows : (last : ℕ) (ns : List Node) (k : ℕ) (r : Row) → slice_get (further_rows last ns) k ≡ Some r → r.parent ≡ Some (last + k)
-parent-further_rows last [] k r e = absurd cc
-parent-further_rows last (n ∷ ns) zero r e =
-    let same : ◌≡◌ {A = Row} (record { node = n; parent = Some last; opens = false }) r = cc in
+pub parent-further_nodes : (last : ℕ) (ns : List Node) (k : ℕ) (r : OrderedNode) → slice_get (further_nodes last ns) k ≡ Some r → r.parent ≡ Some (last + k)
+parent-further_nodes last [] k r e = absurd cc
+parent-further_nodes last (n ∷ ns) zero r e =
+    let same : ◌≡◌ {A = OrderedNode} (record { node = n; parent = Some last; opens = false }) r = cc in
     ap (λ r. r.parent) (sym same) ∙ ap Some (sym (add-zero last))
-parent-further_rows last (n ∷ ns) (suc k) r e =
+parent-further_nodes last (n ∷ ns) (suc k) r e =
     let sums : last + 1 + k ≡ last + suc k = omega arith in
-    parent-further_rows (last + 1) ns k r e ∙ ap Some sums
+    parent-further_nodes (last + 1) ns k r e ∙ ap Some sums
 
-parent_of_own : (at : ℕ) (parent : Option ℕ) (first : Node) (more : List Node) (k : ℕ) (r : Row)
-    → slice_get (first_row parent first ∷ further_rows at more) k ≡ Some r → IsParentIn at parent (at + k) r.parent
+parent_of_own : (at : ℕ) (parent : Option ℕ) (first : Node) (more : List Node) (k : ℕ) (r : OrderedNode)
+    → slice_get (first_ordered parent first ∷ further_nodes at more) k ≡ Some r → IsParentIn at parent (at + k) r.parent
 parent_of_own at parent first more zero r e =
-    let same : first_row parent first ≡ r = cc in
+    let same : first_ordered parent first ≡ r = cc in
     inl (ap (λ r. r.parent) (sym same))
-parent_of_own at parent first more (suc k) r e = inr (at + k, parent-further_rows at more k r e, omega arith, omega arith)
+parent_of_own at parent first more (suc k) r e = inr (at + k, parent-further_nodes at more k r e, omega arith, omega arith)
 
 -- what holds among later games of the same parent, or below an own node, holds among all
 later : (at start : ℕ) (parent : Option ℕ) (k : ℕ) (p : Option ℕ) → at ≤ start → IsParentIn start parent k p → IsParentIn at parent k p
@@ -36,60 +36,60 @@ lower : (at last : ℕ) (parent : Option ℕ) (k : ℕ) (p : Option ℕ) → at 
 lower at last parent k p le lt (inl e) = inr (last, e, le, lt)
 lower at last parent k p le lt (inr h) = inr (h.0, h.1, omega (arith, h.2), h.3)
 
-pub parent-rows : (g : Games) (at : ℕ) (parent : Option ℕ) (k : ℕ) (r : Row) → slice_get (rows at parent g) k ≡ Some r → IsParentIn at parent (at + k) r.parent
-parent-rows no_games at parent k r e = absurd cc
-parent-rows (game first more below after) at parent k r e =
+pub parent-nodes_from : (g : Games) (at : ℕ) (parent : Option ℕ) (k : ℕ) (r : OrderedNode) → slice_get (nodes_from at parent g) k ≡ Some r → IsParentIn at parent (at + k) r.parent
+parent-nodes_from no_games at parent k r e = absurd cc
+parent-nodes_from (game first more below after) at parent k r e =
     let last = at + length more in
-    let own = first_row parent first ∷ further_rows at more in
-    let under = rows (last + 1) (Some last) below in
-    let own_count : length own ≡ suc (length more) = omega (arith, length-further_rows at more) in
+    let own = first_ordered parent first ∷ further_nodes at more in
+    let under = nodes_from (last + 1) (Some last) below in
+    let own_count : length own ≡ suc (length more) = omega (arith, length-further_nodes at more) in
     let count : length (own ++ under) ≡ suc (length more) + node_count below =
-    length-append own under ∙ omega (arith, own_count, length-rows (last + 1) (Some last) below) in
+    length-append own under ∙ omega (arith, own_count, length-nodes_from (last + 1) (Some last) below) in
     let in_front : slice_get (own ++ under) k ≡ Some r → IsParentIn at parent (at + k) r.parent = λ f.
     elim (split_get own under k r f) [
       | inl h ↦ parent_of_own at parent first more k r h
       | inr h ↦
           let sums : last + 1 + h.0 ≡ at + k = omega (arith, h.1) in
-          let inside : IsParentIn (last + 1) (Some last) (last + 1 + h.0) r.parent = parent-rows below (last + 1) (Some last) h.0 r h.2 in
+          let inside : IsParentIn (last + 1) (Some last) (last + 1 + h.0) r.parent = parent-nodes_from below (last + 1) (Some last) h.0 r h.2 in
           lower at last parent (at + k) r.parent (omega arith) (omega (arith, h.1)) (rw sums at inside)
     ] in
-    elim (split_get (own ++ under) (rows (last + 1 + node_count below) parent after) k r e) [
+    elim (split_get (own ++ under) (nodes_from (last + 1 + node_count below) parent after) k r e) [
       | inl h ↦ in_front h
       | inr h ↦
           let sums : last + 1 + node_count below + h.0 ≡ at + k = omega (arith, h.1) in
           let inside : IsParentIn (last + 1 + node_count below) parent (last + 1 + node_count below + h.0) r.parent =
-          parent-rows after (last + 1 + node_count below) parent h.0 r h.2 in
+          parent-nodes_from after (last + 1 + node_count below) parent h.0 r h.2 in
           later at (last + 1 + node_count below) parent (at + k) r.parent (omega arith) (rw sums at inside)
     ]
 
--- the row of a node whose parent is known
-pub row_of : (c : Games) (j : ℕ) (p : Option ℕ) → parent_at c j ≡ Some p → (r : Row) × (slice_get (rows_of c) j ≡ Some r) × (r.parent ≡ p)
-row_of c j p e = some_row (slice_get (rows_of c) j) p e
+-- the ordered node of a node whose parent is known
+pub ordered_of : (c : Games) (j : ℕ) (p : Option ℕ) → parent_at c j ≡ Some p → (r : OrderedNode) × (slice_get (ordered_nodes c) j ≡ Some r) × (r.parent ≡ p)
+ordered_of c j p e = some_ordered (slice_get (ordered_nodes c) j) p e
   where
-    some_row : (o : Option Row) (p : Option ℕ) → option_map (λ r. r.parent) o ≡ Some p → (r : Row) × (o ≡ Some r) × (r.parent ≡ p)
-    some_row None p e = absurd cc
-    some_row (Some r) p e = (r, refl, cc)
+    some_ordered : (o : Option OrderedNode) (p : Option ℕ) → option_map (λ r. r.parent) o ≡ Some p → (r : OrderedNode) × (o ≡ Some r) × (r.parent ≡ p)
+    some_ordered None p e = absurd cc
+    some_ordered (Some r) p e = (r, refl, cc)
 
 pub parent_in : (c : Games) (at : ℕ) (parent : Option ℕ) (g : Games) → Stands c at parent g → (j : ℕ) (p : Option ℕ) → at ≤ j → j < at + node_count g
     → parent_at c j ≡ Some p → IsParentIn at parent j p
 parent_in c at parent g h j p le lt e =
-    let found = row_of c j p e in
-    let xs = rows at parent g in
+    let found = ordered_of c j p e in
+    let xs = nodes_from at parent g in
     let k = j - at in
     let sums : at + k ≡ j = omega arith in
     let here : slice_get (xs ++ h.after) k ≡ Some found.0 =
     sym (get_right h.before (xs ++ h.after) j k (omega (arith, h.length_is))) ∙ ap (λ zs. slice_get zs j) (sym h.is) ∙ found.1 in
     elim (split_get xs h.after k found.0 here) [
       | inl inside ↦
-          let of_row : IsParentIn at parent (at + k) found.0.parent = parent-rows g at parent k found.0 inside in
-          rw (sums, found.2) at of_row
-      | inr past ↦ absurd (omega (arith, past.1, length-rows at parent g))
+          let of_ordered : IsParentIn at parent (at + k) found.0.parent = parent-nodes_from g at parent k found.0 inside in
+          rw (sums, found.2) at of_ordered
+      | inr past ↦ absurd (omega (arith, past.1, length-nodes_from at parent g))
     ]
 
 pub node_within : (c : Games) (j : ℕ) (p : Option ℕ) → parent_at c j ≡ Some p → j < node_count c
 node_within c j p e =
-    let found = row_of c j p e in
-    omega (arith, slice_get_within (rows_of c) j found.0 found.1, length-rows 0 None c)
+    let found = ordered_of c j p e in
+    omega (arith, slice_get_within (ordered_nodes c) j found.0 found.1, length-nodes_from 0 None c)
 
 -- a node's parent comes before it
 pub parent_before : (c : Games) (j i : ℕ) → parent_at c j ≡ Some (Some i) → i < j

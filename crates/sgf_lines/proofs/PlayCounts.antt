@@ -10,7 +10,7 @@ use Rattle.sgf_lines.specs.Lines.{Line, lines}
 use Rattle.sgf_lines.specs.Paths.{paths}
 use Rattle.sgf_lines.specs.GameSize.{opening, root_properties}
 use Rattle.sgf_lines.specs.Verdict.{judged_nodes}
-use Rattle.sgf_lines.specs.Plays.{different, judged, places_of}
+use Rattle.sgf_lines.specs.Plays.{different, all_judged, judged_places, places_of}
 use Rattle.sgf_lines.specs.inner.Following.{first_after, Continues, numbers_of, numbers_before}
 use Rattle.sgf_lines.proofs.Lists.{Each, each_append, each_weaker, element}
 use Rattle.sgf_lines.proofs.Named.{line_at, length-paths}
@@ -36,10 +36,6 @@ same_nodes (suc k) (m ∷ ms) (n ∷ ns) e =
     let others : take k (map Some ms) ≡ take k (map Some ns) = cc in
     let rest = same_nodes k ms ns others in
     cc
-
--- the places of the judged nodes of a line
-abbrev pub judged_places : Line → List ℕ
-judged_places line = places_of (judged_nodes line)
 
 module _ (c : Games) (rise : PlacesRise c) where
   -- the numbers of a line's nodes
@@ -82,9 +78,9 @@ module _ (c : Games) (rise : PlacesRise c) where
       take-map (node_at c) shared old ∙ ap (map (node_at c)) (sym front) ∙ sym (take-map (node_at c) shared new) in
       let alike : take shared last.nodes ≡ take shared line.nodes =
       same_nodes shared last.nodes line.nodes (ap (take shared) old_named ∙ named ∙ ap (take shared) (sym new_named)) in
-      let judged : take shared (judged_nodes line) ≡ take shared (judged_nodes last) =
+      let same_judged : take shared (judged_nodes line) ≡ take shared (judged_nodes last) =
       judged_alike last.nodes line.nodes shared (omega (arith, as_many (node_at c) last.nodes old old_named, go.kept_within)) alike in
-      take-map (λ n. n.place) shared (judged_nodes line) ∙ ap places_of judged ∙ sym (take-map (λ n. n.place) shared (judged_nodes last))
+      take-map (λ n. n.place) shared (judged_nodes line) ∙ ap places_of same_judged ∙ sym (take-map (λ n. n.place) shared (judged_nodes last))
 
   -- and the places of its other judged nodes rise, from that of the first node after the other line
   fresh_places : (line : Line) (old new : List ℕ) (shared : ℕ) → map Some line.nodes ≡ map (node_at c) new → (go : Continues old shared new) → first_after old + (go.more + 1) ≤ node_count c
@@ -136,7 +132,7 @@ module _ (c : Games) (rise : PlacesRise c) where
         rw (next, ← more_texts judged_places page k l.0 l.1) (each_append (IsPlaceBefore end) (so_far k) (judged_places l.0) old own_end)
 
     -- the first line adds all its judged nodes
-    pub first_plays : (line : Line) → slice_get page 0 ≡ Some line → length (judged (take 1 page)) ≡ length (judged_nodes line)
+    pub first_plays : (line : Line) → slice_get page 0 ≡ Some line → length (all_judged (take 1 page)) ≡ length (judged_nodes line)
     first_plays line e =
         let here = stands 0 line e in
         let n = has_numbers (first + 0) line here in
@@ -149,7 +145,7 @@ module _ (c : Games) (rise : PlacesRise c) where
 
     -- a later one adds those that it doesn't share with the one before it
     pub next_plays : (k shared : ℕ) (line : Line) → slice_get page (suc k) ≡ Some line → Continues (numbers_before c (first + suc k)) shared (numbers_before c (suc (first + suc k)))
-        → length (judged (take (suc (suc k)) page)) ≡ length (judged (take (suc k) page)) + (length (judged_nodes line) - shared)
+        → length (all_judged (take (suc (suc k)) page)) ≡ length (all_judged (take (suc k) page)) + (length (judged_nodes line) - shared)
     next_plays k shared line e h =
         let last = element page k (omega (arith, slice_get_within page (suc k) line e)) in
         let next : first + suc k ≡ suc (first + k) = omega arith in
@@ -181,7 +177,7 @@ module _ (c : Games) (rise : PlacesRise c) where
         ∙ ap (λ n. length (different xs) + n) (length-drop shared (judged_places line) ∙ ap (λ n. n - shared) (length-map (judged_nodes line) (λ n. n.place)))
 
     -- no more than the nodes before the one after the last of these lines
-    pub plays_before : (k : ℕ) → k ≤ length page → length (judged (take k page)) ≤ first_after (numbers_before c (first + k))
+    pub plays_before : (k : ℕ) → k ≤ length page → length (all_judged (take k page)) ≤ first_after (numbers_before c (first + k))
     plays_before zero le = omega arith
     plays_before (suc zero) le =
         let l = element page 0 (omega arith) in
@@ -211,7 +207,7 @@ module _ (c : Games) (rise : PlacesRise c) where
           length_range (first_after before) (h.1.more + 1),
         ))
 
-    pub plays_within : (k : ℕ) → k ≤ length page → length (judged (take k page)) ≤ node_count c
+    pub plays_within : (k : ℕ) → k ≤ length page → length (all_judged (take k page)) ≤ node_count c
     plays_within zero le = omega arith
     plays_within (suc k) le =
         let l = element page k (omega arith) in

@@ -3,10 +3,10 @@ use Rattle.std.proofs.Common.{◌≡◌, ◌≢◌, ℕ, ◌+◌, ◌<◌, ◌�
 use Rattle.std.proofs.lemmas.Bool.{cases_lt}
 use Rattle.std.proofs.lemmas.Option.{slice_get_within}
 use Rattle.sgf_tree.specs.Tree.{Games, node_count}
-use Rattle.sgf_tree.specs.FileOrder.{Row, rows_of, place_at, IsLeaf, IsUnder, itself, below, IsLastBelow, PlacesRise}
+use Rattle.sgf_tree.specs.FileOrder.{OrderedNode, ordered_nodes, place_at, IsLeaf, IsUnder, itself, below, IsLastBelow, PlacesRise}
 use Rattle.sgf_lines.specs.inner.Seeking.{AllBefore, GoesOnFrom}
 use Rattle.sgf_lines.proofs.Parents.{node_within}
-use Rattle.sgf_lines.proofs.Standing.{length-rows}
+use Rattle.sgf_lines.proofs.Standing.{length-nodes_from}
 
 pub last_within : (c : Games) (node last : ℕ) → node < node_count c → IsLastBelow c node last → last < node_count c
 last_within c node last lt h = under h.under
@@ -16,11 +16,11 @@ last_within c node last lt h = under h.under
     under (below {j = j} {k = k} e u) = node_within c k (Some j) e
 
 pub place_within : (c : Games) (i here : ℕ) → place_at c i ≡ Some here → i < node_count c
-place_within c i here e = omega (arith, row (slice_get (rows_of c) i) i refl e, length-rows 0 None c)
+place_within c i here e = omega (arith, ordered (slice_get (ordered_nodes c) i) i refl e, length-nodes_from 0 None c)
   where
-    row : (o : Option Row) (i : ℕ) → slice_get (rows_of c) i ≡ o → option_map (λ r. r.node.place) o ≡ Some here → i < length (rows_of c)
-    row None i is e = absurd cc
-    row (Some r) i is e = slice_get_within (rows_of c) i r is
+    ordered : (o : Option OrderedNode) (i : ℕ) → slice_get (ordered_nodes c) i ≡ o → option_map (λ r. r.node.place) o ≡ Some here → i < length (ordered_nodes c)
+    ordered None i is e = absurd cc
+    ordered (Some r) i is e = slice_get_within (ordered_nodes c) i r is
 
 -- nothing before a node that stands before the place reaches the place
 pub before_last : (c : Games) (place last p : ℕ) → PlacesRise c → place_at c last ≡ Some p → p < place → AllBefore c place (last + 1)

@@ -18,7 +18,7 @@ use Rattle.sgf_lines.specs.declared.contents.Moves.{Moves}
 use Rattle.sgf_lines.specs.inner.Contents.{Lists, AreTold}
 use Rattle.sgf_lines.specs.declared.step.StepFault.{StepFault}
 use Rattle.sgf_lines.specs.declared.step.StepFault.TheVariants.{Illegal, Memory}
-use Rattle.sgf_lines.specs.inner.Stepping.{IsSetupMet, IsStepped, GrowsByOne, fault_of}
+use Rattle.sgf_lines.specs.inner.Stepping.{IsSetupMet, IsStepped, GrowsByOne, step_fault}
 
 -- stones are as many as their operations
 operations-cons : (side : ℕ) (o : Option SetupOp) (os : Option (List SetupOp)) (ops : List SetupOp) → option_and_then (λ op. option_map (λ ops. op ∷ ops) os) o ≡ Some ops → 0 < length ops
@@ -178,12 +178,12 @@ takes_turn old new k play u h e =
     let state : new.present ≡ turned old.present k play = ap (λ (s : States). s.present) e in
     (ap (taken old.present k play) none ∙ ap Ok (sym state), inr (e ∙ ap (followed_by old) (sym state)))
 
-pub refuses_turn : (old new : States) (k : Colour) (play : Play) (fault : TurnFault) (refused : StepFault) → refused ≡ fault_of fault
+pub refuses_turn : (old new : States) (k : Colour) (play : Play) (fault : TurnFault) (refused : StepFault) → refused ≡ step_fault fault
     → ((r : Reason) → IsErrOf {T = Unit {0}} (Err fault) (TurnIllegal r) ↔ (reason_of old.present k play ≡ Some r)) → new ≡ old
     → IsStepped {A = Unit {0}} (taken old.present k play (reason_of old.present k play)) old new (Err refused)
 refuses_turn old new k play fault refused is h e = subst (λ f. IsStepped {A = Unit {0}} (taken old.present k play (reason_of old.present k play)) old new (Err f)) (sym is) (by fault h)
   where
-    by : (f : TurnFault) → ((r : Reason) → IsErrOf {T = Unit {0}} (Err f) (TurnIllegal r) ↔ (reason_of old.present k play ≡ Some r)) → IsStepped {A = Unit {0}} (taken old.present k play (reason_of old.present k play)) old new (Err (fault_of f))
+    by : (f : TurnFault) → ((r : Reason) → IsErrOf {T = Unit {0}} (Err f) (TurnIllegal r) ↔ (reason_of old.present k play ≡ Some r)) → IsStepped {A = Unit {0}} (taken old.present k play (reason_of old.present k play)) old new (Err (step_fault f))
     by (TurnIllegal r) h = (ap (taken old.present k play) ((h r).0 refl), e)
     by TurnMemory h = e
 

@@ -4,12 +4,12 @@ use Rattle.std.specs.List.{flat_map, range_with_len, AllZip}
 use Rattle.std.proofs.lemmas.Bool.{cases_lt, cases_eq}
 use Rattle.std.proofs.lemmas.List.{map-append}
 use Rattle.sgf_tree.specs.Tree.{Node, Games, node_count}
-use Rattle.sgf_tree.specs.FileOrder.{Row, rows_of, node_at, place_at, PlacesRise}
+use Rattle.sgf_tree.specs.FileOrder.{OrderedNode, ordered_nodes, node_at, place_at, PlacesRise}
 use Rattle.sgf_lines.specs.Lines.{Line, lines}
 use Rattle.sgf_lines.specs.Paths.{Path, paths, IsPathOf}
-use Rattle.sgf_lines.specs.Plays.{different, places_of, node_places, touched}
+use Rattle.sgf_lines.specs.Plays.{different, places_of, node_places, all_touched}
 use Rattle.sgf_lines.proofs.Lists.{Each, each_append, each_weaker, element, get_right}
-use Rattle.sgf_lines.proofs.Standing.{length-rows}
+use Rattle.sgf_lines.proofs.Standing.{length-nodes_from}
 use Rattle.sgf_lines.proofs.Named.{place_of_node, each_named}
 use Rattle.sgf_lines.proofs.Following.{Follow, stay, go, paths_follow, range_append}
 use Rattle.sgf_lines.proofs.Different.{has, RisesFrom, more_different, has_left, has_right, each_has}
@@ -21,8 +21,8 @@ place_number c i = unwrap_or (place_at c i) 0
 module _ (c : Games) where
   pub place_is : (i : ℕ) → i < node_count c → place_at c i ≡ Some (place_number c i)
   place_is i lt =
-      let r = element (rows_of c) i (omega (arith, length-rows 0 None c)) in
-      let here : place_at c i ≡ Some r.0.node.place = ap (λ o. option_map (λ (r : Row). r.node.place) o) r.1 in
+      let r = element (ordered_nodes c) i (omega (arith, length-nodes_from 0 None c)) in
+      let here : place_at c i ≡ Some r.0.node.place = ap (λ o. option_map (λ (r : OrderedNode). r.node.place) o) r.1 in
       here ∙ sym (ap (λ o. Some (unwrap_or o 0)) here)
 
   pub places_named : (ns : List Node) (is : List ℕ) → map Some ns ≡ map (node_at c) is → places_of ns ≡ map (place_number c) is
@@ -45,18 +45,18 @@ module _ (c : Games) where
       ap (λ ns. ns ++ flat_map (λ line. places_of line.nodes) ls) (places_named l.nodes p.numbers (sym h.0.nodes))
       ∙ ap (λ ns. map (place_number c) p.numbers ++ ns) (places_of_lines ls ps h.1)
 
-  places_range : (before rest : List Row) → rows_of c ≡ before ++ rest → map (place_number c) (range_with_len (length before) (length rest)) ≡ map (λ r. r.node.place) rest
+  places_range : (before rest : List OrderedNode) → ordered_nodes c ≡ before ++ rest → map (place_number c) (range_with_len (length before) (length rest)) ≡ map (λ r. r.node.place) rest
   places_range before [] e = refl
   places_range before (r ∷ rest) e =
-      let here : slice_get (rows_of c) (length before) ≡ Some r = ap (λ rs. slice_get rs (length before)) e ∙ get_right before (r ∷ rest) (length before) 0 (omega arith) in
-      let place : place_number c (length before) ≡ r.node.place = ap (λ o. unwrap_or (option_map (λ (r : Row). r.node.place) o) 0) here in
+      let here : slice_get (ordered_nodes c) (length before) ≡ Some r = ap (λ rs. slice_get rs (length before)) e ∙ get_right before (r ∷ rest) (length before) 0 (omega arith) in
+      let place : place_number c (length before) ≡ r.node.place = ap (λ o. unwrap_or (option_map (λ (r : OrderedNode). r.node.place) o) 0) here in
       let next : length (before ++ r ∷ []) ≡ length before + 1 = length-append before (r ∷ []) in
       let others : map (place_number c) (range_with_len (length before + 1) (length rest)) ≡ map (λ r. r.node.place) rest =
       rw next at (places_range (before ++ r ∷ []) rest (e ∙ sym (append_assoc before (r ∷ []) rest))) in
       cc
 
   pub all_places : map (place_number c) (range_with_len 0 (node_count c)) ≡ node_places c
-  all_places = let count = length-rows 0 None c in rw (← count) (places_range [] (rows_of c) refl)
+  all_places = let count = length-nodes_from 0 None c in rw (← count) (places_range [] (ordered_nodes c) refl)
 
   module _ (rise : PlacesRise c) where
     pub places_rise : (i j : ℕ) → i < j → j < node_count c → place_number c i < place_number c j
@@ -156,7 +156,7 @@ module _ (c : Games) where
         rw is (each_append (λ i. i < to) front range (each_weaker (λ i. i < next) (λ i. i < to) (λ i lt. omega arith) front front_below) (range_below next (more + 1) to (omega arith))) in
         rw (← append_assoc xs (map (place_number c) new) (flat_map (λ numbers. map (place_number c) numbers) news)) (covers_all (xs ++ map (place_number c) new) f within new_below grown)
 
-    pub touched_all : touched (lines c) ≡ node_places c
+    pub touched_all : all_touched (lines c) ≡ node_places c
     touched_all =
         let f = paths_follow c in
         let none : Covers 0 [] = record { once = refl; all = λ i lt. absurd (omega arith); only = tt } in

@@ -4,7 +4,7 @@ use Rattle.std.specs.Prelude.{fold, IfOk, option_map}
 use Rattle.std.proofs.lemmas.List.Sums.{fold-append}
 use Rattle.std.proofs.lemmas.List.{take_all}
 use Rattle.sgf_tree.specs.Tree.{Node, Games}
-use Rattle.sgf_tree.specs.FileOrder.{Row, rows_of, node_at, place_at}
+use Rattle.sgf_tree.specs.FileOrder.{OrderedNode, ordered_nodes, node_at, place_at}
 use Rattle.sgf_tree.specs.declared.fault.MemoryFault.{MemoryFault}
 use Rattle.go_board.specs.declared.reason.Reason.{Reason}
 use Rattle.go_board.specs.State.{State, States}
@@ -99,8 +99,8 @@ ends_line side nodes i old new n fault turns place r h e is turns_are place_is r
 
 -- the place of a node is that which it has
 pub place_of_node : (c : Games) (i : ℕ) (n : Node) (place : ℕ) → node_at c i ≡ Some n → place_at c i ≡ Some place → place ≡ n.place
-place_of_node c i n place e f = of_row (slice_get (rows_of c) i) e f
+place_of_node c i n place e f = of_ordered (slice_get (ordered_nodes c) i) e f
   where
-    of_row : (o : Option Row) → option_map (λ r. r.node) o ≡ Some n → option_map (λ r. r.node.place) o ≡ Some place → place ≡ n.place
-    of_row None e f = absurd cc
-    of_row (Some r) e f = let same : r.node ≡ n = cc in let here : r.node.place ≡ place = cc in sym here ∙ ap (λ (m : Node). m.place) same
+    of_ordered : (o : Option OrderedNode) → option_map (λ r. r.node) o ≡ Some n → option_map (λ r. r.node.place) o ≡ Some place → place ≡ n.place
+    of_ordered None e f = absurd cc
+    of_ordered (Some r) e f = let same : r.node ≡ n = cc in let here : r.node.place ≡ place = cc in sym here ∙ ap (λ (m : Node). m.place) same

@@ -1,5 +1,6 @@
 -- The answer of a run: what its source gave, what its sink took, and what the result says of both.
 use Rattle.std.specs.Prelude.{◌≡◌, ℕ, ◌+◌, ◌<◌, ◌≤◌, ◌⊎◌, List, [], ◌++◌, length, take, Option, Some, None, Result, Ok, Err}
+use Rattle.std.specs.Result.{result_err}
 use Rattle.std.specs.Io.KnownBytes.{Appends, Consumes, IsAtEnd}
 use Rattle.sgf_tree.specs.Tree.{Games}
 use Rattle.sgf_tree.specs.Spelling.{Spells}
@@ -65,12 +66,18 @@ pub record IsRun (o : Options) (source new_source : SourceState) (sink new_sink 
   pub takes : Appends sink.taken new_sink.taken taken
   pub answers : Answers o given new_source.to_come taken result
 
--- how many failures of the source a result tells of
-abbrev pub read_failures : {A : Type 0} → Result A RunFault → ℕ
-read_failures (Err Read) = 1
-read_failures _ = 0
+-- how many failures of the source a fault tells of, and how many of the sink
+abbrev pub reads_failed : Option RunFault → ℕ
+reads_failed (Some Read) = 1
+reads_failed _ = 0
 
--- how many failures of the sink a result tells of
+abbrev pub writes_failed : Option RunFault → ℕ
+writes_failed (Some (Write lines)) = 1
+writes_failed _ = 0
+
+-- the same of a result
+abbrev pub read_failures : {A : Type 0} → Result A RunFault → ℕ
+read_failures result = reads_failed (result_err result)
+
 abbrev pub write_failures : {A : Type 0} → Result A RunFault → ℕ
-write_failures (Err (Write k)) = 1
-write_failures _ = 0
+write_failures result = writes_failed (result_err result)

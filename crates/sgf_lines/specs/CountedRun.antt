@@ -1,7 +1,7 @@
 -- A run that counts the nodes that it plays: what the result says of the count, beside what it says of the bytes.
 use Rattle.std.specs.Prelude.{◌≡◌, ℕ, ◌+◌, ◌≤◌, ◌⊎◌, List, length, take, Option, Result, Ok, Err}
 use Rattle.sgf_lines.specs.Lines.{Line}
-use Rattle.sgf_lines.specs.Plays.{judged}
+use Rattle.sgf_lines.specs.Plays.{all_judged}
 use Rattle.sgf_lines.specs.Ends.{SourceState, SinkState}
 use Rattle.sgf_lines.specs.Answer.{IsWhole, HasPage, IsRun}
 use Rattle.sgf_lines.specs.declared.options.Form.{Form}
@@ -18,7 +18,7 @@ plays_in gtp_form judged_nodes = judged_nodes
 
 -- how many nodes are played for these lines: each node that is judged on some of them, once
 abbrev pub plays_of : Form → List Line → ℕ
-plays_of form ls = plays_in form (length (judged ls))
+plays_of form ls = plays_in form (length (all_judged ls))
 
 -- at least as many as for the first k lines, and at most as many as for these and the next one
 pub record ArePlaysFor (form : Form) (ls : List Line) (k plays : ℕ) : Type 0 where

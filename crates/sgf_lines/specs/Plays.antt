@@ -2,7 +2,7 @@
 use Rattle.std.specs.Prelude.{ℕ, Bool, true, false, ◌==◌, if◌then◌else◌, List, [], ◌∷◌, map, filter}
 use Rattle.std.specs.List.{flat_map}
 use Rattle.sgf_tree.specs.Tree.{Node, Games}
-use Rattle.sgf_tree.specs.FileOrder.{rows_of}
+use Rattle.sgf_tree.specs.FileOrder.{ordered_nodes}
 use Rattle.sgf_lines.specs.Lines.{Line}
 use Rattle.sgf_lines.specs.Verdict.{judged_nodes}
 
@@ -20,13 +20,17 @@ places_of nodes = map (λ n. n.place) nodes
 
 -- the places of all nodes of a collection, in file order
 abbrev pub node_places : Games → List ℕ
-node_places c = map (λ r. r.node.place) (rows_of c)
+node_places c = map (λ r. r.node.place) (ordered_nodes c)
 
 -- the places of the nodes that stand on some of these lines
-abbrev pub touched : List Line → List ℕ
-touched ls = different (flat_map (λ line. places_of line.nodes) ls)
+abbrev pub all_touched : List Line → List ℕ
+all_touched ls = different (flat_map (λ line. places_of line.nodes) ls)
 
--- The places of the nodes that are judged on some of these lines: up to the first that isn't allowed, that one among them. Nodes of one text
--- have different places, so there are as many places as nodes.
-abbrev pub judged : List Line → List ℕ
-judged ls = different (flat_map (λ line. places_of (judged_nodes line)) ls)
+-- the places of the nodes of a line that are judged: up to the first that isn't allowed, that one among them
+abbrev pub judged_places : Line → List ℕ
+judged_places line = places_of (judged_nodes line)
+
+-- The places of the nodes that are judged on some of these lines. Nodes of one text have different places, so there are as
+-- many places as nodes.
+abbrev pub all_judged : List Line → List ℕ
+all_judged ls = different (flat_map judged_places ls)

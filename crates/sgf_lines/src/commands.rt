@@ -42,7 +42,7 @@ impl Commands {
 
     /// Begins anew, before the root of a game on a board of that size.
     /// After a refusal of memory nothing is said of them.
-    pub(crate) fn restart(&mut self, size: Size) -> Result<(), MemoryFault>
+    pub(crate) fn reset(&mut self, size: Size) -> Result<(), MemoryFault>
         ensures { OnOk result (AreCommands size [] self.new) }
     {
         self.kept.clear();
@@ -71,7 +71,7 @@ impl Commands {
             None => Ok(()),
             Some(taken) => {
                 let unreaching = leaves_unreaching(taken.effect, board);
-                self.unreaching = first_of(self.unreaching, index, unreaching);
+                self.unreaching = first_unreaching(self.unreaching, index, unreaching);
                 push_lettered(alloc, taken, board, &mut self.kept.text)
             }
         }
@@ -98,7 +98,7 @@ impl Commands {
 }
 
 /// The first index: the one that was found, else this one where it counts.
-fn first_of(found: Option<usize>, index: usize, counts: bool) -> Option<usize>
+fn first_unreaching(found: Option<usize>, index: usize, counts: bool) -> Option<usize>
     ensures { result ≡ first_unreaching found index counts }
 {
     match (found, counts) {

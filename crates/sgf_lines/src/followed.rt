@@ -132,7 +132,7 @@ impl Followed {
         ensures { OnOk result (IsHeld scripted (board size) [] self.new) }
     {
         match self {
-            Followed::Judged(game) => game.restart(alloc, size, scripted),
+            Followed::Judged(game) => game.reset(alloc, size, scripted),
             Followed::OtherGame | Followed::NoBoard => self.make_game(alloc, size, scripted),
         }
     }

@@ -61,7 +61,7 @@ impl Game {
 
     /// Begins another game in place: it is as a new one, before its root.
     /// After a refusal of memory the game must not be used again.
-    pub(crate) fn restart(
+    pub(crate) fn reset(
         &mut self,
         alloc: Global,
         size: Size,
@@ -228,7 +228,7 @@ fn restart_commands(
     ensures { OnOk result (HasCommands scripted size [] commands.new) }
 {
     match commands {
-        Some(commands) => commands.restart(size),
+        Some(commands) => commands.reset(size),
         None => {
             *commands = commands_before(alloc, size, scripted)?;
             Ok(())

@@ -10,7 +10,7 @@ ghost use Rattle.sgf_lines.specs.Lines.{Line, lines, place_of};
 ghost use Rattle.sgf_lines.specs.Paths.{paths, IsPathOf};
 ghost use Rattle.sgf_lines.specs.Page.{page};
 ghost use Rattle.sgf_lines.specs.declared.options.Options.{Options};
-ghost use Rattle.sgf_lines.specs.Plays.{touched as touched_places, judged as judged_places, node_places};
+ghost use Rattle.sgf_lines.specs.Plays.{all_touched, all_judged, node_places};
 ghost use Rattle.sgf_lines.specs.declared.options.Form.TheVariants.{List as list_form};
 ghost use Rattle.sgf_lines.specs.Appending.{raised_row};
 ghost use Rattle.sgf_lines.specs.Output.{sgf_output};
@@ -63,9 +63,9 @@ pub fn append()
 /// The places that the lines of a collection touch are the places of all its nodes, in file order.
 /// On no page are more nodes judged than there are, so no run plays more.
 pub fn touched()
-    ensures places { (c : Games) (t : List ℕ) → Spells c t → touched_places (lines c) ≡ node_places c }
+    ensures places { (c : Games) (t : List ℕ) → Spells c t → all_touched (lines c) ≡ node_places c }
     ensures plays { (c : Games) (t : List ℕ) → Spells c t → (o : Options) (ls : List Line) → page o c ≡ Some ls
-        → length (judged_places ls) ≤ node_count c }
+        → length (all_judged ls) ≤ node_count c }
 {
     sgf_tree::laws::places_rise();
 }

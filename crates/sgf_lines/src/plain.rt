@@ -4,7 +4,7 @@ ghost use Rattle.std.specs.Prelude.{◌≡◌, ◌++◌, ◌∷◌, [], List, Is
 ghost use Rattle.sgf_tree.specs.Tree.{Property, lone_property};
 ghost use Rattle.sgf_lines.specs.NodeContents.{Move, moves_by};
 ghost use Rattle.sgf_lines.specs.inner.Contents.{AreMoves};
-ghost use Rattle.sgf_lines.specs.inner.Plain.{IsPlain, first_of};
+ghost use Rattle.sgf_lines.specs.inner.Plain.{IsPlain, first_comment};
 
 use crate::contents::{Kind, Moves, kind_of};
 use go_board::Colour;
@@ -123,7 +123,7 @@ pub(crate) fn first_comment<'a>(
     comment: Option<&'a [u8]>,
     property: &PropRef<'a>,
 ) -> Option<&'a [u8]>
-    ensures { option_copied result ≡ first_of (option_copied comment.entry) property.now.first }
+    ensures { option_copied result ≡ first_comment (option_copied comment.entry) property.now.first }
 {
     match comment {
         Some(met) => Some(met),

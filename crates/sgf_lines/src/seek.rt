@@ -47,14 +47,14 @@ pub(crate) fn leaf_at(collection: &Collection<'_>, place: u64) -> Option<usize>
             }
             return None;
         }
-        node = first_after(collection, node, place);
+        node = go_on_from(collection, node, place);
     }
     None
 }
 
 /// The node to look at after a node that stands before the place: the first one below it, or the first one after all that
 /// is below it where that ends before the place.
-fn first_after(collection: &Collection<'_>, node: usize, place: u64) -> usize
+fn go_on_from(collection: &Collection<'_>, node: usize, place: u64) -> usize
     requires within { node < node_count collection.now }
     requires small { node_count collection.now ≤ usize.MAX }
     requires rise { PlacesRise collection.now }

@@ -7,7 +7,7 @@ ghost use Rattle.sgf_lines.specs.Step.{step, step_by, move_step};
 ghost use Rattle.sgf_lines.specs.inner.Contents.{Lists, IsContents};
 ghost use Rattle.sgf_tree.specs.Tree.{Node};
 ghost use Rattle.sgf_lines.specs.inner.Plain.{IsPlain, HasMovesAlone};
-ghost use Rattle.sgf_lines.specs.inner.Stepping.{IsStepped, IsStepOf, IsEffect, IsEffectBy, IsMoveOf, IsSetupMet, fault_of};
+ghost use Rattle.sgf_lines.specs.inner.Stepping.{IsStepped, IsStepOf, IsEffect, IsEffectBy, IsMoveOf, IsSetupMet, step_fault};
 
 use crate::contents::{Contents, Moves};
 use crate::plain::Plain;
@@ -46,7 +46,7 @@ impl From<go_board::MemoryFault> for StepFault {
 }
 
 impl From<TurnFault> for StepFault {
-    ghost from_gives = { λ refused fault. fault ≡ fault_of refused };
+    ghost from_gives = { λ refused fault. fault ≡ step_fault refused };
 
     fn from(refused: TurnFault) -> Self {
         match refused {

@@ -12,7 +12,7 @@ use Rattle.sgf_tree.specs.declared.layout.NodeEntry.{NodeEntry}
 use Rattle.sgf_tree.proofs.Completion.{add_games}
 use Rattle.sgf_tree.proofs.Marking.{mark_of, get_or-map}
 use Rattle.sgf_tree.proofs.NodesRead.{nodes-held}
-use Rattle.sgf_tree.proofs.Stacks.{node_count-followed, length-open_lasts, open_rows-closed, open_lasts-closed}
+use Rattle.sgf_tree.proofs.Stacks.{node_count-followed, length-open_lasts, open_nodes-closed, open_lasts-closed}
 
 -- marks change no outline
 outlines-unmarked : (i : ℕ) (ns : List NodeEntry) → outlines_by i (map unmarked ns) ≡ outlines_by i ns
@@ -78,8 +78,8 @@ module _ (t : List ℕ) (closed : Games) (g : OpenGame) (gs : List OpenGame) whe
       → HoldStack t (add_games closed gs (whole_game g)) ns'
   game-closed ns ns' parent held closes =
       record {
-        same_rows =
-            ap (map outline) (open_rows-closed closed g gs) ∙ held.same_rows ∙ sym (outlines-unmarked 0 ns) ∙ ap (outlines_by 0) (sym closes.same) ∙ outlines-unmarked 0 ns';
+        same_order =
+            ap (map outline) (open_nodes-closed closed g gs) ∙ held.same_order ∙ sym (outlines-unmarked 0 ns) ∙ ap (outlines_by 0) (sym closes.same) ∙ outlines-unmarked 0 ns';
         same_lasts =
             lasts-marked closed g gs (map mark_of ns) (length ns) (sym held.same_lasts) (nodes-held t (record { closed = closed; unclosed = g ∷ gs }) ns held) ∙ sym closes.marked;
         places_within = λ k d lt.

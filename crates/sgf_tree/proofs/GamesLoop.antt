@@ -151,7 +151,7 @@ module _ (t : List ℕ) where
     pub close-own : IsOwnRun ns (open_count so_far.stack.closed inmost.outer) last
     close-own =
         subst (IsOwnRun ns (open_count so_far.stack.closed inmost.outer)) inmost.last_is
-        (own-run so_far.stack.closed inmost.inner inmost.outer ns held-inner.same_rows)
+        (own-run so_far.stack.closed inmost.inner inmost.outer ns held-inner.same_order)
 
     pub close-within : last < length ns
     close-within = omega (arith, inmost.last_is, nodes-held t at_inner ns held-inner)
@@ -175,7 +175,7 @@ module _ (t : List ℕ) where
     games-close next games' ns' parent lt e h white if_none if_some =
         let done = closes ns' parent h in
         let up : tip so_far.stack.closed inmost.outer ≡ parent =
-        some-same (sym (own-parent so_far.stack.closed inmost.inner inmost.outer ns held-inner.same_rows) ∙ done.parent_is) in
+        some-same (sym (own-parent so_far.stack.closed inmost.inner inmost.outer ns held-inner.same_order) ∙ done.parent_is) in
         let step_is : next_state at so_far.stands.state (get_or t at 0) ≡ Some (after_game closed_stack) =
         so_far.stands.next lt ∙ ap (between_games so_far.stack) e ∙ ap (close_in so_far.stack.closed) inmost.is ∙ closed-in so_far.stack.closed inmost.inner inmost.outer in
         record {

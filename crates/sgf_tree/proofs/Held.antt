@@ -6,17 +6,17 @@ use Rattle.sgf_tree.specs.declared.fault.TheConstants.{MAX_LENGTH}
 use Rattle.sgf_tree.specs.Tree.{Node, Games, node_count}
 use Rattle.sgf_tree.specs.Spelling.{Spells, AreProperties}
 use Rattle.sgf_tree.specs.inner.NodeText.{properties_in, ArePropertiesIn, IsNodeIn}
-use Rattle.sgf_tree.specs.FileOrder.{Row, rows_of, node_at, place_at, parent_at, game_of, IsLastBelow, PlacesRise}
+use Rattle.sgf_tree.specs.FileOrder.{OrderedNode, ordered_nodes, node_at, place_at, parent_at, game_of, IsLastBelow, PlacesRise}
 use Rattle.sgf_tree.specs.inner.Layout.{games_in, Outline, outline, outline_by, outlines_by, parent_by, IsLaidOut}
 use Rattle.sgf_tree.specs.declared.collection.Collection.TheInside.{Inside}
 use Rattle.sgf_tree.specs.declared.layout.Link.{Link}
 use Rattle.sgf_tree.specs.declared.layout.Link.TheVariants.{Root, Next}
 use Rattle.sgf_tree.specs.declared.layout.NodeEntry.{NodeEntry}
 use Rattle.sgf_tree.proofs.Flat.{length-outlines_by, outlines_by-at}
-use Rattle.sgf_tree.proofs.NodesSpelled.{IsNodeSpelled, rows-spelled}
+use Rattle.sgf_tree.proofs.NodesSpelled.{IsNodeSpelled, ordered-spelled}
 use Rattle.sgf_tree.proofs.NodeTexts.{properties-in}
 use Rattle.sgf_tree.proofs.PlacesRise.{places-rise}
-use Rattle.sgf_tree.proofs.Rows.{length-rows_of, parent_at-lt, game_of-parent}
+use Rattle.sgf_tree.proofs.OrderedNodes.{length-ordered_nodes, parent_at-lt, game_of-parent}
 
 -- the fields lay the collection out
 abbrev Holds : Inside → Type 0
@@ -27,39 +27,39 @@ option_map-within f [] i y h = absurd (cc)
 option_map-within f (x ∷ xs) zero y h = omega arith
 option_map-within f (x ∷ xs) (suc i) y h = omega (arith, option_map-within f xs i y h)
 
--- the outline of a row
-from-outline : {A : Type 0} (f : Row → A) (h : Outline → A) → ((r : Row) → h (outline r) ≡ f r) → (o : Option Row) → option_map h (option_map outline o) ≡ option_map f o
+-- the outline of an ordered node
+from-outline : {A : Type 0} (f : OrderedNode → A) (h : Outline → A) → ((r : OrderedNode) → h (outline r) ≡ f r) → (o : Option OrderedNode) → option_map h (option_map outline o) ≡ option_map f o
 from-outline f h same None = refl
 from-outline f h same (Some r) = ap Some (same r)
 
 module _ (s : Inside) (held : Holds s) (g : Games) (is : games_in s.text.now ≡ g) where
-  rows-held : map outline (rows_of g) ≡ outlines_by 0 s.nodes.items
-  rows-held = ap (λ c. map outline (rows_of c)) (sym is) ∙ held.same_rows
+  ordered-held : map outline (ordered_nodes g) ≡ outlines_by 0 s.nodes.items
+  ordered-held = ap (λ c. map outline (ordered_nodes c)) (sym is) ∙ held.same_order
 
   pub count-held : vec_len s.nodes ≡ node_count g
   count-held =
-      omega (arith, s.nodes.ok.0, length-outlines_by 0 s.nodes.items, ap length rows-held, length-map (rows_of g) outline, length-rows_of g)
+      omega (arith, s.nodes.ok.0, length-outlines_by 0 s.nodes.items, ap length ordered-held, length-map (ordered_nodes g) outline, length-ordered_nodes g)
 
   -- the node of the entry x
-  row-held : (i : ℕ) (x : NodeEntry) → i < node_count g → x ≡ get_or s.nodes.items i x → option_map outline (slice_get (rows_of g) i) ≡ Some (outline_by i x)
-  row-held i x h e =
+  ordered_at-held : (i : ℕ) (x : NodeEntry) → i < node_count g → x ≡ get_or s.nodes.items i x → option_map outline (slice_get (ordered_nodes g) i) ≡ Some (outline_by i x)
+  ordered_at-held i x h e =
       let start : 0 + i ≡ i = omega arith in
-      sym (slice_get-map outline (rows_of g) i)
-      ∙ ap (λ rs. slice_get rs i) rows-held
+      sym (slice_get-map outline (ordered_nodes g) i)
+      ∙ ap (λ rs. slice_get rs i) ordered-held
       ∙ outlines_by-at 0 s.nodes.items i x (omega (arith, s.nodes.ok.0, count-held))
       ∙ ap (λ n. Some (outline_by n (get_or s.nodes.items i x))) start
       ∙ ap (λ y. Some (outline_by i y)) (sym e)
 
   pub place-held : (i : ℕ) (x : NodeEntry) → i < node_count g → x ≡ get_or s.nodes.items i x → place_at g i ≡ Some x.place
   place-held i x h e =
-      sym (from-outline (λ (r : Row). r.node.place) (λ (o : Outline). o.place) (λ r. refl) (slice_get (rows_of g) i))
-      ∙ ap (option_map (λ (o : Outline). o.place)) (row-held i x h e)
+      sym (from-outline (λ (r : OrderedNode). r.node.place) (λ (o : Outline). o.place) (λ r. refl) (slice_get (ordered_nodes g) i))
+      ∙ ap (option_map (λ (o : Outline). o.place)) (ordered_at-held i x h e)
 
   -- its parent, by its link
   pub parent-held : (i : ℕ) (x : NodeEntry) (l : Link) → i < node_count g → x ≡ get_or s.nodes.items i x → x.link ≡ l → parent_at g i ≡ Some (parent_by l i)
   parent-held i x l h e f =
-      sym (from-outline (λ (r : Row). r.parent) (λ (o : Outline). o.parent) (λ r. refl) (slice_get (rows_of g) i))
-      ∙ ap (option_map (λ (o : Outline). o.parent)) (row-held i x h e) ∙ ap (λ k. Some (parent_by k i)) f
+      sym (from-outline (λ (r : OrderedNode). r.parent) (λ (o : Outline). o.parent) (λ r. refl) (slice_get (ordered_nodes g) i))
+      ∙ ap (option_map (λ (o : Outline). o.parent)) (ordered_at-held i x h e) ∙ ap (λ k. Some (parent_by k i)) f
 
   -- a node that follows the node before it is not the first one
   pub next-held : (i : ℕ) (x : NodeEntry) → i < node_count g → x ≡ get_or s.nodes.items i x → x.link ≡ Next → 1 ≤ i
@@ -83,7 +83,7 @@ module _ (s : Inside) (held : Holds s) (g : Games) (is : games_in s.text.now ≡
 
   pub places-held : (i p : ℕ) → place_at g i ≡ Some p → p < MAX_LENGTH
   places-held i p h =
-      let within : i < node_count g = omega (arith, option_map-within (λ (r : Row). r.node.place) (rows_of g) i p h, length-rows_of g) in
+      let within : i < node_count g = omega (arith, option_map-within (λ (r : OrderedNode). r.node.place) (ordered_nodes g) i p h, length-ordered_nodes g) in
       let none : NodeEntry = record { place = 0; link = Next; last_below = 0 } in
       let inside : i < length s.nodes.items = omega (arith, s.nodes.ok.0, count-held) in
       let x : NodeEntry = get_or s.nodes.items i none in
@@ -99,18 +99,18 @@ module _ (s : Inside) (held : Holds s) (g : Games) (is : games_in s.text.now ≡
       subst (λ (y : NodeEntry). y.place < length s.text.now) (sym e) (held.places_within i x (omega (arith, s.nodes.ok.0, count-held)))
 
   -- its properties are spelled after its `;`
-  spelled-at : (i : ℕ) (x : NodeEntry) (o : Option Row) → slice_get (rows_of g) i ≡ o → i < node_count g → x ≡ get_or s.nodes.items i x
+  spelled-at : (i : ℕ) (x : NodeEntry) (o : Option OrderedNode) → slice_get (ordered_nodes g) i ≡ o → i < node_count g → x ≡ get_or s.nodes.items i x
       → (n : Node) × (node_at g i ≡ Some n) × (n.place ≡ x.place) × IsNodeSpelled s.text.now n
   spelled-at i x None e h f = let none : Option ℕ = None in
-      let never : none ≡ Some x.place = ap (option_map (λ (r : Row). r.node.place)) (sym e) ∙ place-held i x h f in absurd (cc)
+      let never : none ≡ Some x.place = ap (option_map (λ (r : OrderedNode). r.node.place)) (sym e) ∙ place-held i x h f in absurd (cc)
   spelled-at i x (Some r) e h f =
-      let rows : List Row = rows_of g in
-      let all : All (λ (q : Row). IsNodeSpelled s.text.now q.node) rows = rows-spelled s.text.now g (subst (λ c. Spells c s.text.now) is held.spelled) in
-      let lt : i < length rows = omega (arith, length-rows_of g) in
-      let here : Some r ≡ Some (get_or rows i r) = sym e ∙ slice_get-get_or rows i r lt in
-      let same : r ≡ get_or rows i r = cc in
-      let place : Some r.node.place ≡ Some x.place = ap (option_map (λ (q : Row). q.node.place)) (sym e) ∙ place-held i x h f in
-      (r.node, ap (option_map (λ (q : Row). q.node)) e, cc, subst (λ (q : Row). IsNodeSpelled s.text.now q.node) (sym same) (all i r lt))
+      let all_nodes : List OrderedNode = ordered_nodes g in
+      let all : All (λ (q : OrderedNode). IsNodeSpelled s.text.now q.node) all_nodes = ordered-spelled s.text.now g (subst (λ c. Spells c s.text.now) is held.spelled) in
+      let lt : i < length all_nodes = omega (arith, length-ordered_nodes g) in
+      let here : Some r ≡ Some (get_or all_nodes i r) = sym e ∙ slice_get-get_or all_nodes i r lt in
+      let same : r ≡ get_or all_nodes i r = cc in
+      let place : Some r.node.place ≡ Some x.place = ap (option_map (λ (q : OrderedNode). q.node.place)) (sym e) ∙ place-held i x h f in
+      (r.node, ap (option_map (λ (q : OrderedNode). q.node)) e, cc, subst (λ (q : OrderedNode). IsNodeSpelled s.text.now q.node) (sym same) (all i r lt))
 
   -- what a reference to it holds
   pub node-held : (i : ℕ) (x : NodeEntry) → i < node_count g → x ≡ get_or s.nodes.items i x
@@ -118,7 +118,7 @@ module _ (s : Inside) (held : Holds s) (g : Games) (is : games_in s.text.now ≡
       × IsNodeIn (drop x.place s.text.now)
   node-held i x h e =
       let after : drop 1 (drop x.place s.text.now) ≡ drop (x.place + 1) s.text.now = drop-drop 1 x.place s.text.now in
-      let at = spelled-at i x (slice_get (rows_of g) i) refl h e in
+      let at = spelled-at i x (slice_get (ordered_nodes g) i) refl h e in
       let n : Node = at.0 in
       let spelled : AreProperties n.properties (drop (x.place + 1) s.text.now) at.3.rest =
       subst (λ p. AreProperties n.properties (drop (p + 1) s.text.now) at.3.rest) at.2 at.3.spelled in

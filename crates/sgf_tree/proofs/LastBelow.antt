@@ -3,9 +3,9 @@ use Rattle.std.proofs.Common.{◌≡◌, ℕ, zero, suc, ◌+◌, ◌-◌, ◌<�
 use Rattle.std.proofs.lemmas.Bool.{cases_lt}
 use Rattle.std.proofs.lemmas.List.{length-replicate}
 use Rattle.sgf_tree.specs.Tree.{Node, Games, no_games, game, node_count}
-use Rattle.sgf_tree.specs.FileOrder.{Row, further_rows, rows, rows_of, IsUnder, itself, below, IsLastBelow}
+use Rattle.sgf_tree.specs.FileOrder.{OrderedNode, further_nodes, nodes_from, ordered_nodes, IsUnder, itself, below, IsLastBelow}
 use Rattle.sgf_tree.specs.inner.GamesRead.{lasts}
-use Rattle.sgf_tree.proofs.Rows.{slice_get-left, slice_get-right, parent_in, parent_in-left, parent_in-right, parent_in-further, length-further_rows, length-rows, length-rows_of, parent-within, parent_at-lt, parent_at-within}
+use Rattle.sgf_tree.proofs.OrderedNodes.{slice_get-left, slice_get-right, parent_in, parent_in-left, parent_in-right, parent_in-further, length-further_nodes, length-nodes_from, length-ordered_nodes, parent-within, parent_at-lt, parent_at-within}
 use Rattle.sgf_tree.proofs.Stacks.{length-lasts}
 
 slice_get-replicate : {A : Type 0} (n : ℕ) (x : A) (i : ℕ) → i < n → slice_get (replicate n x) i ≡ Some x
@@ -14,23 +14,23 @@ slice_get-replicate (suc n) x zero h = refl
 slice_get-replicate (suc n) x (suc i) h = slice_get-replicate n x i (omega arith)
 
 -- the nodes from n to last, with n the parent of those after it or over their parents, and no later node below them
-pub record IsSpanBelow (flat : List Row) (n last : ℕ) : Type 0 where
+pub record IsSpanBelow (flat : List OrderedNode) (n last : ℕ) : Type 0 where
   pub rises : n ≤ last
   pub inside : (j : ℕ) → n < j → j ≤ last → (q : ℕ) × (parent_in flat j ≡ Some (Some q)) × (n ≤ q) × (q < j)
   pub outside : (j q : ℕ) → last < j → parent_in flat j ≡ Some (Some q) → (q < n) ⊎ (last < q)
 
 -- each node of games below p has a parent, from p on
-has-parent : (at p : ℕ) (g : Games) (k : ℕ) → p < at → k < node_count g → (q : ℕ) × (parent_in (rows at (Some p) g) k ≡ Some (Some q)) × (p ≤ q) × (q < at + k)
+has-parent : (at p : ℕ) (g : Games) (k : ℕ) → p < at → k < node_count g → (q : ℕ) × (parent_in (nodes_from at (Some p) g) k ≡ Some (Some q)) × (p ≤ q) × (q < at + k)
 has-parent at p no_games k lt h = absurd (omega arith)
 has-parent at p (game first more low high) zero lt h = (p, refl, omega arith, omega arith)
 has-parent at p (game first more low high) (suc k) lt h =
     let last : ℕ = at + length more in
-    let own : List Row = record { node = first; parent = Some p; opens = true } ∷ further_rows at more in
-    let under : List Row = rows (last + 1) (Some last) low in
+    let own : List OrderedNode = record { node = first; parent = Some p; opens = true } ∷ further_nodes at more in
+    let under : List OrderedNode = nodes_from (last + 1) (Some last) low in
     let start : ℕ = last + 1 + node_count low in
-    let next : List Row = rows start (Some p) high in
-    let owns : length own ≡ suc (length more) = ap suc (length-further_rows at more) in
-    let unders : length under ≡ node_count low = length-rows (last + 1) (Some last) low in
+    let next : List OrderedNode = nodes_from start (Some p) high in
+    let owns : length own ≡ suc (length more) = ap suc (length-further_nodes at more) in
+    let unders : length under ≡ node_count low = length-nodes_from (last + 1) (Some last) low in
     let both : length (own ++ under) ≡ suc (length more) + node_count low = omega (arith, length-append own under) in
     elim (cases_lt (suc k) (suc (length more))) [
       | inl in_own ↦ (
@@ -60,16 +60,16 @@ has-parent at p (game first more low high) (suc k) lt h =
           ]
     ]
 
-module _ (flat : List Row) where
-  -- the rows of g stand in the list from `at` on
+module _ (flat : List OrderedNode) where
+  -- the ordered nodes of g stand in the list from `at` on
   Stands : ℕ → Option ℕ → Games → Type 0
-  Stands at p g = (before : List Row) × (after : List Row) × (flat ≡ before ++ (rows at p g ++ after)) × (at ≡ length before)
+  Stands at p g = (before : List OrderedNode) × (after : List OrderedNode) × (flat ≡ before ++ (nodes_from at p g ++ after)) × (at ≡ length before)
 
-  segment : (at : ℕ) (p : Option ℕ) (g : Games) (j : ℕ) → Stands at p g → at ≤ j → j < at + node_count g → parent_in flat j ≡ parent_in (rows at p g) (j - at)
+  segment : (at : ℕ) (p : Option ℕ) (g : Games) (j : ℕ) → Stands at p g → at ≤ j → j < at + node_count g → parent_in flat j ≡ parent_in (nodes_from at p g) (j - at)
   unfolding Stands
   segment at p g j (before, after, is, count) low high =
-      ap (λ rs. parent_in rs j) is ∙ parent_in-right before (rows at p g ++ after) j (j - at) (omega arith)
-      ∙ parent_in-left (rows at p g) after (j - at) (omega (arith, length-rows at p g))
+      ap (λ rs. parent_in rs j) is ∙ parent_in-right before (nodes_from at p g ++ after) j (j - at) (omega arith)
+      ∙ parent_in-left (nodes_from at p g) after (j - at) (omega (arith, length-nodes_from at p g))
 
   -- the parent of one of them is p or another one of them
   segment-parent : (at : ℕ) (p : Option ℕ) (g : Games) (j q : ℕ) → Stands at p g → at ≤ j → j < at + node_count g → parent_in flat j ≡ Some (Some q) → (p ≡ Some q) ⊎ ((at ≤ q) × (q < j))
@@ -88,26 +88,26 @@ module _ (flat : List Row) where
     stands-below : Stands (at + length more + 1) (Some (at + length more)) low
     unfolding Stands
     stands-below =
-        let own : List Row = record { node = first; parent = p; opens = true } ∷ further_rows at more in
-        let under : List Row = rows (at + length more + 1) (Some (at + length more)) low in
-        let next : List Row = rows (at + length more + 1 + node_count low) p high in (
+        let own : List OrderedNode = record { node = first; parent = p; opens = true } ∷ further_nodes at more in
+        let under : List OrderedNode = nodes_from (at + length more + 1) (Some (at + length more)) low in
+        let next : List OrderedNode = nodes_from (at + length more + 1 + node_count low) p high in (
           stands.0 ++ own,
           next ++ stands.1,
           stands.2 ∙ ap (λ rs. stands.0 ++ rs) (append_assoc (own ++ under) next stands.1 ∙ append_assoc own under (next ++ stands.1)) ∙ sym (append_assoc stands.0 own (under ++ (next ++ stands.1))),
-          omega (arith, stands.3, length-append stands.0 own, length-further_rows at more),
+          omega (arith, stands.3, length-append stands.0 own, length-further_nodes at more),
         )
 
     -- and the games after it after those
     stands-after : Stands (at + length more + 1 + node_count low) p high
     unfolding Stands
     stands-after =
-        let own : List Row = record { node = first; parent = p; opens = true } ∷ further_rows at more in
-        let under : List Row = rows (at + length more + 1) (Some (at + length more)) low in
-        let next : List Row = rows (at + length more + 1 + node_count low) p high in (
+        let own : List OrderedNode = record { node = first; parent = p; opens = true } ∷ further_nodes at more in
+        let under : List OrderedNode = nodes_from (at + length more + 1) (Some (at + length more)) low in
+        let next : List OrderedNode = nodes_from (at + length more + 1 + node_count low) p high in (
           stands.0 ++ (own ++ under),
           stands.1,
           stands.2 ∙ ap (λ rs. stands.0 ++ rs) (append_assoc (own ++ under) next stands.1) ∙ sym (append_assoc stands.0 (own ++ under) (next ++ stands.1)),
-          omega (arith, stands.3, length-append stands.0 (own ++ under), length-append own under, length-further_rows at more, length-rows (at + length more + 1) (Some (at + length more)) low),
+          omega (arith, stands.3, length-append stands.0 (own ++ under), length-append own under, length-further_nodes at more, length-nodes_from (at + length more + 1) (Some (at + length more)) low),
         )
 
     module _ (before : (q : ℕ) → p ≡ Some q → q < at) (apart : Apart at (at + node_count (game first more low high))) where
@@ -127,9 +127,9 @@ module _ (flat : List Row) where
       own-span : (n : ℕ) → at ≤ n → n ≤ at + length more → IsSpanBelow flat n (at + length more + node_count low)
       own-span n from to =
           let last : ℕ = at + length more in
-          let own : List Row = record { node = first; parent = p; opens = true } ∷ further_rows at more in
-          let under : List Row = rows (last + 1) (Some last) low in
-          let next : List Row = rows (last + 1 + node_count low) p high in
+          let own : List OrderedNode = record { node = first; parent = p; opens = true } ∷ further_nodes at more in
+          let under : List OrderedNode = nodes_from (last + 1) (Some last) low in
+          let next : List OrderedNode = nodes_from (last + 1 + node_count low) p high in
           record {
             rises = omega arith;
             inside = λ j lo hi.
@@ -139,8 +139,8 @@ module _ (flat : List Row) where
                       let f : at + (j - at - 1) ≡ j - 1 = omega arith in (
                         j - 1,
                         segment at p (game first more low high) j stands (omega arith) (omega arith)
-                            ∙ parent_in-left (own ++ under) next (j - at) (omega (arith, length-append own under, length-further_rows at more))
-                            ∙ parent_in-left own under (j - at) (omega (arith, length-further_rows at more))
+                            ∙ parent_in-left (own ++ under) next (j - at) (omega (arith, length-append own under, length-further_nodes at more))
+                            ∙ parent_in-left own under (j - at) (omega (arith, length-further_nodes at more))
                             ∙ ap (parent_in own) e
                             ∙ parent_in-further at more (j - at - 1) (omega arith)
                             ∙ ap (λ k. Some (Some k)) f,
@@ -201,7 +201,7 @@ module _ (flat : List Row) where
       ]
 
 -- the nodes of a span are under the first one
-span-under : (c : Games) (n last : ℕ) → IsSpanBelow (rows_of c) n last → (steps j : ℕ) → j ≤ n + steps → n ≤ j → j ≤ last → IsUnder c n j
+span-under : (c : Games) (n last : ℕ) → IsSpanBelow (ordered_nodes c) n last → (steps j : ℕ) → j ≤ n + steps → n ≤ j → j ≤ last → IsUnder c n j
 span-under c n last span zero j few lo hi = let same : n ≡ j = omega arith in subst (IsUnder c n) same itself
 span-under c n last span (suc steps) j few lo hi =
     elim (cases_lt n j) [
@@ -212,7 +212,7 @@ span-under c n last span (suc steps) j few lo hi =
     ]
 
 -- and no others are
-span-greatest : (c : Games) (n last j : ℕ) → IsSpanBelow (rows_of c) n last → IsUnder c n j → (n ≤ j) × (j ≤ last)
+span-greatest : (c : Games) (n last j : ℕ) → IsSpanBelow (ordered_nodes c) n last → IsUnder c n j → (n ≤ j) × (j ≤ last)
 span-greatest c n last j span itself = (omega arith, span.rises)
 span-greatest c n last j span (below {j = q} h under) =
     let up = span-greatest c n last q span under in
@@ -222,14 +222,14 @@ span-greatest c n last j span (below {j = q} h under) =
       | inr le ↦ (omega (arith, up.0), le)
     ]
 
-stands-whole : (c : Games) → Stands (rows_of c) 0 None c
+stands-whole : (c : Games) → Stands (ordered_nodes c) 0 None c
 unfolding Stands
-stands-whole c = ([], [], sym (append-nil (rows_of c)), refl)
+stands-whole c = ([], [], sym (append-nil (ordered_nodes c)), refl)
 
 pub lasts-below : (c : Games) (i l : ℕ) → slice_get (lasts 0 c) i ≡ Some l → IsLastBelow c i l
 lasts-below c i l h =
-    let apart : (j q : ℕ) → 0 + node_count c ≤ j → parent_in (rows_of c) j ≡ Some (Some q) → (q < 0) ⊎ (0 + node_count c ≤ q) = λ j q le e. absurd (omega (arith, parent_at-within c j (Some q) e, length-rows_of c)) in
-    let span : IsSpanBelow (rows_of c) i l = lasts-span (rows_of c) 0 None c (stands-whole c) (λ q same. absurd (cc)) apart i l i (omega arith) h in
+    let apart : (j q : ℕ) → 0 + node_count c ≤ j → parent_in (ordered_nodes c) j ≡ Some (Some q) → (q < 0) ⊎ (0 + node_count c ≤ q) = λ j q le e. absurd (omega (arith, parent_at-within c j (Some q) e, length-ordered_nodes c)) in
+    let span : IsSpanBelow (ordered_nodes c) i l = lasts-span (ordered_nodes c) 0 None c (stands-whole c) (λ q same. absurd (cc)) apart i l i (omega arith) h in
     record {
       under = span-under c i l span (l - i) l (omega (arith, span.rises)) span.rises (omega arith);
       greatest = λ j under. (span-greatest c i l j span under).1;

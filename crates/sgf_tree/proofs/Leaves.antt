@@ -2,7 +2,7 @@
 use Rattle.std.proofs.Common.{◌≡◌, ℕ, Some, refl, subst, arith}
 use Rattle.sgf_tree.specs.Tree.{Games}
 use Rattle.sgf_tree.specs.FileOrder.{parent_at, IsLeaf, IsUnder, itself, below, IsLastBelow}
-use Rattle.sgf_tree.proofs.Rows.{parent_at-lt}
+use Rattle.sgf_tree.proofs.OrderedNodes.{parent_at-lt}
 
 -- nothing is below a leaf
 under-leaf : (g : Games) (i k : ℕ) → IsLeaf g i → IsUnder g i k → k ≡ i

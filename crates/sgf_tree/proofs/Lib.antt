@@ -1,7 +1,7 @@
 pub mod Shrinks
 pub mod PlacesRise
 pub mod Flat
-pub mod Rows
+pub mod OrderedNodes
 pub mod Names
 pub mod ValueEnds
 pub mod ValueSpelled

@@ -3,15 +3,15 @@ use Rattle.std.proofs.Common.{◌≡◌, ℕ, zero, suc, ◌+◌, ◌-◌, ◌<�
 use Rattle.std.proofs.lemmas.List.{map-append, length-map}
 use Rattle.std.proofs.lemmas.List.Elements.{All-append}
 use Rattle.sgf_tree.specs.Tree.{Property, Node, Games, no_games, node_count}
-use Rattle.sgf_tree.specs.FileOrder.{Row}
+use Rattle.sgf_tree.specs.FileOrder.{OrderedNode}
 use Rattle.sgf_tree.specs.inner.Machine.{OpenGame, Stack, ended, new_game}
 use Rattle.sgf_tree.specs.inner.Layout.{outline, outline_by, outlines_by, parent_by, opens_by}
-use Rattle.sgf_tree.specs.inner.GamesRead.{open_count, tip, open_rows, open_lasts, IsRootOf, HoldStack, IsOpening, IsNodeRead}
+use Rattle.sgf_tree.specs.inner.GamesRead.{open_count, tip, open_nodes, open_lasts, IsRootOf, HoldStack, IsOpening, IsNodeRead}
 use Rattle.sgf_tree.specs.declared.layout.Link.{Link}
 use Rattle.sgf_tree.specs.declared.layout.Link.TheVariants.{Root, Branch, Next}
 use Rattle.sgf_tree.specs.declared.layout.NodeEntry.{NodeEntry}
 use Rattle.sgf_tree.proofs.Flat.{length-outlines_by, outlines_by-push}
-use Rattle.sgf_tree.proofs.Stacks.{length-open_rows, open_lasts-new_game, open_rows-more, open_lasts-more}
+use Rattle.sgf_tree.proofs.Stacks.{length-open_nodes, open_lasts-new_game, open_nodes-more, open_lasts-more}
 
 -- an element of a list with one more is one of the list, or the last one
 slice_get-pushed : {A : Type 0} (xs : List A) (y x : A) (i : ℕ) → slice_get (xs ++ y ∷ []) i ≡ Some x → (slice_get xs i ≡ Some x) ⊎ ((i ≡ length xs) × (y ≡ x))
@@ -42,25 +42,25 @@ module _ (t : List ℕ) where
   -- the vector has as many nodes as the stack
   pub nodes-held : (k : Stack) (ns : List NodeEntry) → HoldStack t k ns → length ns ≡ open_count k.closed k.unclosed
   nodes-held k ns held =
-      sym (length-outlines_by 0 ns) ∙ ap length (sym held.same_rows) ∙ length-map (open_rows k.closed k.unclosed) outline ∙ length-open_rows k.closed k.unclosed
+      sym (length-outlines_by 0 ns) ∙ ap length (sym held.same_order) ∙ length-map (open_nodes k.closed k.unclosed) outline ∙ length-open_nodes k.closed k.unclosed
 
   -- the vector with one more node holds the stack with one more node
   node-held : (k k' : Stack) (place end : ℕ) (ps : List Property) (link : Link) (ns ns' : List NodeEntry)
       → HoldStack t k ns → IsNodeRead t place end link ns ns' → place < length t
-      → open_rows k'.closed k'.unclosed ≡ open_rows k.closed k.unclosed ++ record { node = record { place = place; properties = ps }; parent = parent_by link (length ns); opens = opens_by link } ∷ []
+      → open_nodes k'.closed k'.unclosed ≡ open_nodes k.closed k.unclosed ++ record { node = record { place = place; properties = ps }; parent = parent_by link (length ns); opens = opens_by link } ∷ []
       → open_lasts k'.closed k'.unclosed ≡ open_lasts k.closed k.unclosed ++ 0 ∷ []
       → k'.closed ≡ k.closed
       → ((g : ℕ) → link ≡ Root g → IsRootOf k.closed (length ns) g)
       → HoldStack t k' ns'
-  node-held k k' place end ps link ns ns' held read lt rows lasts closed root =
+  node-held k k' place end ps link ns ns' held read lt nodes_from lasts closed root =
       let n : NodeEntry = record { place = place; link = link; last_below = 0 } in
-      let row : Row = record { node = record { place = place; properties = ps }; parent = parent_by link (length ns); opens = opens_by link } in
+      let ordered : OrderedNode = record { node = record { place = place; properties = ps }; parent = parent_by link (length ns); opens = opens_by link } in
       let Place : NodeEntry → Type 0 = λ m. m.place < length t in
       let first : 0 + length ns ≡ length ns = omega arith in
       record {
-        same_rows =
-            ap (map outline) rows ∙ map-append outline (open_rows k.closed k.unclosed) (row ∷ [])
-            ∙ ap (λ rs. rs ++ outline_by (length ns) n ∷ []) held.same_rows
+        same_order =
+            ap (map outline) nodes_from ∙ map-append outline (open_nodes k.closed k.unclosed) (ordered ∷ [])
+            ∙ ap (λ rs. rs ++ outline_by (length ns) n ∷ []) held.same_order
             ∙ ap (λ i. outlines_by 0 ns ++ outline_by i n ∷ []) (sym first)
             ∙ sym (outlines_by-push 0 ns n)
             ∙ ap (outlines_by 0) (sym read.pushed);
@@ -86,8 +86,8 @@ module _ (t : List ℕ) where
       let count : length ns ≡ open_count k.closed k.unclosed = nodes-held k ns held in
       let is = opening-link k link (length ns) count opening in
       node-held k (record { closed = k.closed; unclosed = new_game node ∷ k.unclosed }) place end ps link ns ns' held read lt
-      (ap (λ p. open_rows k.closed k.unclosed ++ record { node = node; parent = p; opens = true } ∷ []) is.0
-      ∙ ap (λ b. open_rows k.closed k.unclosed ++ record { node = node; parent = parent_by link (length ns); opens = b } ∷ []) is.1)
+      (ap (λ p. open_nodes k.closed k.unclosed ++ record { node = node; parent = p; opens = true } ∷ []) is.0
+      ∙ ap (λ b. open_nodes k.closed k.unclosed ++ record { node = node; parent = parent_by link (length ns); opens = b } ∷ []) is.1)
       (open_lasts-new_game k.closed k.unclosed node)
       refl
       is.2
@@ -102,7 +102,7 @@ module _ (t : List ℕ) where
       let count : length ns ≡ open_count closed (g ∷ gs) = nodes-held k ns held in
       let parent : open_count closed gs + length g.more ≡ length ns - 1 = omega (arith, ap node_count none) in
       node-held k (record { closed = closed; unclosed = record { first = g.first; more = g.more ++ node ∷ []; below = g.below } ∷ gs }) place end ps Next ns ns' held read lt
-      (open_rows-more closed g gs node none ∙ ap (λ i. open_rows closed (g ∷ gs) ++ record { node = node; parent = Some i; opens = false } ∷ []) parent)
+      (open_nodes-more closed g gs node none ∙ ap (λ i. open_nodes closed (g ∷ gs) ++ record { node = node; parent = Some i; opens = false } ∷ []) parent)
       (open_lasts-more closed g gs node none)
       refl
       (λ r e. absurd (cc))

@@ -3,7 +3,7 @@ use Rattle.std.proofs.Common.{◌≡◌, ◌≢◌, ℕ, zero, suc, ◌+◌, ◌
 use Rattle.std.proofs.lemmas.List.Elements.{All-append}
 use Rattle.std.proofs.lemmas.Bool.{false≢true}
 use Rattle.sgf_tree.specs.Tree.{Property, Node, Games, node_count}
-use Rattle.sgf_tree.specs.FileOrder.{Row, further_rows, rows, rows_of}
+use Rattle.sgf_tree.specs.FileOrder.{OrderedNode, further_nodes, nodes_from, ordered_nodes}
 use Rattle.sgf_tree.specs.RawValue.{IsValue, no_unit, plain, escaped}
 use Rattle.sgf_tree.specs.Spelling.{is_white, is_upper, White, no_white, white, Letters, no_letter, upper, lower, IsPropValue, prop_value, ArePropValues, no_value, value, IsProperty, property, AreProperties, no_property, properties, IsNode, node, AreNodes, no_node, nodes, AreGames, no_game, games, Mark, no_mark, mark, Spells, spells}
 use Rattle.sgf_tree.specs.inner.NodeText.{EndsNode}
@@ -117,21 +117,21 @@ module _ (t : List ℕ) where
         ends = ends;
       }
 
-  abbrev Spelled : Row → Type 0
+  abbrev Spelled : OrderedNode → Type 0
   Spelled r = IsNodeSpelled r.node
 
-  one-spelled : (r : Row) → Spelled r → All Spelled (r ∷ [])
+  one-spelled : (r : OrderedNode) → Spelled r → All Spelled (r ∷ [])
   one-spelled r h zero d lt = h
   one-spelled r h (suc k) d lt = absurd (omega arith)
 
-  further-spelled : {ns : List Node} {below : Games} {s r v x : List ℕ} (last : ℕ) → AreNodes (length t) ns s r → AreGames (length t) below r v → White v (41 ∷ x) → IsEnd t s → All Spelled (further_rows last ns)
+  further-spelled : {ns : List Node} {below : Games} {s r v x : List ℕ} (last : ℕ) → AreNodes (length t) ns s r → AreGames (length t) below r v → White v (41 ∷ x) → IsEnd t s → All Spelled (further_nodes last ns)
   further-spelled last no_node below w end = λ k d lt. absurd (omega arith)
   further-spelled last (nodes {n} {ns} n_is ns_are) below w end =
-      All-append Spelled (record { node = n; parent = Some last; opens = false } ∷ []) (further_rows (last + 1) ns)
+      All-append Spelled (record { node = n; parent = Some last; opens = false } ∷ []) (further_nodes (last + 1) ns)
       (one-spelled (record { node = n; parent = Some last; opens = false }) (node-spelled n_is end (ends-nodes ns_are below w)))
       (further-spelled (last + 1) ns_are below w (end-IsNode n_is end))
 
-  games-spelled : {g : Games} {s r : List ℕ} (at : ℕ) (parent : Option ℕ) → AreGames (length t) g s r → IsEnd t s → All Spelled (rows at parent g)
+  games-spelled : {g : Games} {s r : List ℕ} (at : ℕ) (parent : Option ℕ) → AreGames (length t) g s r → IsEnd t s → All Spelled (nodes_from at parent g)
   games-spelled at parent no_game end = λ k d lt. absurd (omega arith)
   games-spelled at parent (games {first} {more} {below} {after} w n ns low v next) end =
       let last : ℕ = at + length more in
@@ -139,12 +139,12 @@ module _ (t : List ℕ) where
       let more_end = end-IsNode n first_end in
       let low_end = end-AreNodes ns more_end in
       let next_end = tail (end-White v (end-AreGames low low_end)) in
-      let head : Row = record { node = first; parent = parent; opens = true } in
-      All-append Spelled (head ∷ further_rows at more ++ rows (last + 1) (Some last) below) (rows (last + 1 + node_count below) parent after)
-      (All-append Spelled (head ∷ further_rows at more) (rows (last + 1) (Some last) below)
-      (All-append Spelled (head ∷ []) (further_rows at more) (one-spelled head (node-spelled n first_end (ends-nodes ns low v))) (further-spelled at ns low v more_end))
+      let head : OrderedNode = record { node = first; parent = parent; opens = true } in
+      All-append Spelled (head ∷ further_nodes at more ++ nodes_from (last + 1) (Some last) below) (nodes_from (last + 1 + node_count below) parent after)
+      (All-append Spelled (head ∷ further_nodes at more) (nodes_from (last + 1) (Some last) below)
+      (All-append Spelled (head ∷ []) (further_nodes at more) (one-spelled head (node-spelled n first_end (ends-nodes ns low v))) (further-spelled at ns low v more_end))
       (games-spelled (last + 1) (Some last) low low_end))
       (games-spelled (last + 1 + node_count below) parent next next_end)
 
-  pub rows-spelled : (c : Games) → Spells c t → All Spelled (rows_of c)
-  rows-spelled c (spells m are end) = games-spelled 0 None are (end-Mark m all)
+  pub ordered-spelled : (c : Games) → Spells c t → All Spelled (ordered_nodes c)
+  ordered-spelled c (spells m are end) = games-spelled 0 None are (end-Mark m all)

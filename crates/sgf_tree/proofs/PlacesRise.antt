@@ -4,7 +4,7 @@ use Rattle.std.proofs.lemmas.List.{map-append}
 use Rattle.std.proofs.lemmas.Option.{slice_get-map}
 use Rattle.sgf_tree.specs.Tree.{Node, Games, no_games, game, node_count}
 use Rattle.sgf_tree.specs.Spelling.{IsNode, node, AreNodes, no_node, nodes, AreGames, no_game, games, Spells, spells}
-use Rattle.sgf_tree.specs.FileOrder.{Row, further_rows, rows, rows_of, place_at, PlacesRise}
+use Rattle.sgf_tree.specs.FileOrder.{OrderedNode, further_nodes, nodes_from, ordered_nodes, place_at, PlacesRise}
 use Rattle.sgf_tree.proofs.Shrinks.{shrinks-White, shrinks-AreProperties, shrinks-Mark}
 
 -- the numbers rise strictly, from low on and below high
@@ -48,25 +48,25 @@ abbrev places : Games → List ℕ
 places no_games = []
 places (game first more below after) = (first.place ∷ map node_place more ++ places below) ++ places after
 
-abbrev place_in : Row → ℕ
+abbrev place_in : OrderedNode → ℕ
 place_in r = r.node.place
 
-further-places : (last : ℕ) (ns : List Node) → map place_in (further_rows last ns) ≡ map node_place ns
+further-places : (last : ℕ) (ns : List Node) → map place_in (further_nodes last ns) ≡ map node_place ns
 further-places last [] = refl
 further-places last (n ∷ ns) = ap (λ ps. n.place ∷ ps) (further-places (last + 1) ns)
 
-rows-places : (at : ℕ) (parent : Option ℕ) (g : Games) → map place_in (rows at parent g) ≡ places g
-rows-places at parent no_games = refl
-rows-places at parent (game first more below after) =
+ordered-places : (at : ℕ) (parent : Option ℕ) (g : Games) → map place_in (nodes_from at parent g) ≡ places g
+ordered-places at parent no_games = refl
+ordered-places at parent (game first more below after) =
     let last = at + length more in
-    let b = rows (last + 1) (Some last) below in
-    let k = rows (last + 1 + node_count below) parent after in
-    let head : Row = record { node = first; parent = parent; opens = true } in
-    let joined = map-append place_in (head ∷ further_rows at more ++ b) k in
-    let own = map-append place_in (head ∷ further_rows at more) b in
+    let b = nodes_from (last + 1) (Some last) below in
+    let k = nodes_from (last + 1 + node_count below) parent after in
+    let head : OrderedNode = record { node = first; parent = parent; opens = true } in
+    let joined = map-append place_in (head ∷ further_nodes at more ++ b) k in
+    let own = map-append place_in (head ∷ further_nodes at more) b in
     let e = further-places at more in
-    let f = rows-places (last + 1) (Some last) below in
-    let h = rows-places (last + 1 + node_count below) parent after in
+    let f = ordered-places (last + 1) (Some last) below in
+    let h = ordered-places (last + 1 + node_count below) parent after in
     cc
 
 rises-node : {whole : ℕ} {n : Node} {s r : List ℕ} (a b : ℕ) → IsNode whole n s r → a + length s ≤ whole → whole ≤ b + length r
@@ -134,7 +134,7 @@ rises-spelled c t (spells m g w) =
 
 place_at-places : (c : Games) (i : ℕ) → place_at c i ≡ slice_get (places c) i
 place_at-places c i =
-    sym (slice_get-map place_in (rows_of c) i) ∙ ap (λ ps. slice_get ps i) (rows-places 0 None c)
+    sym (slice_get-map place_in (ordered_nodes c) i) ∙ ap (λ ps. slice_get ps i) (ordered-places 0 None c)
 
 pub places-rise : (c : Games) (t : List ℕ) → Spells c t → PlacesRise c
 places-rise c t s i j p q h e f =

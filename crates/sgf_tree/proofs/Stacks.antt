@@ -1,12 +1,12 @@
--- The rows of whole and open games: games side by side, one more node, and a game that ends.
+-- The ordered nodes of whole and open games: games side by side, one more node, and a game that ends.
 use Rattle.std.proofs.Common.{◌≡◌, ℕ, ◌+◌, true, false, List, [], ◌∷◌, ◌++◌, length, replicate, Option, Some, None, refl, sym, ap, ◌∙◌, arith, append_assoc, append-nil, length-append}
 use Rattle.std.proofs.lemmas.List.{length-replicate, replicate_more}
 use Rattle.sgf_tree.specs.Tree.{Node, Games, no_games, game, joined, game_count, node_count}
-use Rattle.sgf_tree.specs.FileOrder.{Row, further_rows, rows}
+use Rattle.sgf_tree.specs.FileOrder.{OrderedNode, further_nodes, nodes_from}
 use Rattle.sgf_tree.specs.inner.Machine.{OpenGame, new_game, whole_game}
-use Rattle.sgf_tree.specs.inner.GamesRead.{open_count, tip, own_rows, open_rows, lasts, open_lasts}
+use Rattle.sgf_tree.specs.inner.GamesRead.{open_count, tip, own_nodes, open_nodes, lasts, open_lasts}
 use Rattle.sgf_tree.proofs.Completion.{add_games}
-use Rattle.sgf_tree.proofs.Rows.{length-further_rows, length-rows}
+use Rattle.sgf_tree.proofs.OrderedNodes.{length-further_nodes, length-nodes_from}
 
 pub node_count-followed : (a b : Games) → node_count (joined a b) ≡ node_count a + node_count b
 node_count-followed no_games b = omega arith
@@ -16,17 +16,17 @@ pub game_count-followed : (a b : Games) → game_count (joined a b) ≡ game_cou
 game_count-followed no_games b = omega arith
 game_count-followed (game first more below after) b = omega (arith, game_count-followed after b)
 
--- games after others have their rows after theirs
-pub rows-followed : (at : ℕ) (parent : Option ℕ) (a b : Games) → rows at parent (joined a b) ≡ rows at parent a ++ rows (at + node_count a) parent b
-rows-followed at parent no_games b = let e : at + 0 ≡ at = omega arith in rw e
-rows-followed at parent (game first more below after) b =
+-- games after others have their nodes after theirs
+pub ordered-followed : (at : ℕ) (parent : Option ℕ) (a b : Games) → nodes_from at parent (joined a b) ≡ nodes_from at parent a ++ nodes_from (at + node_count a) parent b
+ordered-followed at parent no_games b = let e : at + 0 ≡ at = omega arith in rw e
+ordered-followed at parent (game first more below after) b =
     let last : ℕ = at + length more in
-    let own : List Row = record { node = first; parent = parent; opens = true } ∷ further_rows at more ++ rows (last + 1) (Some last) below in
+    let own : List OrderedNode = record { node = first; parent = parent; opens = true } ∷ further_nodes at more ++ nodes_from (last + 1) (Some last) below in
     let next : ℕ = last + 1 + node_count below in
     let e : next + node_count after ≡ at + node_count (game first more below after) = omega arith in
-    ap (λ rs. own ++ rs) (rows-followed next parent after b)
-    ∙ sym (append_assoc own (rows next parent after) (rows (next + node_count after) parent b))
-    ∙ ap (λ k. own ++ rows next parent after ++ rows k parent b) e
+    ap (λ rs. own ++ rs) (ordered-followed next parent after b)
+    ∙ sym (append_assoc own (nodes_from next parent after) (nodes_from (next + node_count after) parent b))
+    ∙ ap (λ k. own ++ nodes_from next parent after ++ nodes_from k parent b) e
 
 pub length-lasts : (at : ℕ) (g : Games) → length (lasts at g) ≡ node_count g
 length-lasts at no_games = refl
@@ -45,15 +45,15 @@ lasts-followed at (game first more below after) b =
     ∙ sym (append_assoc own (lasts (next + node_count below) after) (lasts (next + node_count below + node_count after) b))
     ∙ ap (λ k. own ++ lasts (next + node_count below) after ++ lasts k b) e
 
-length-own_rows : (at : ℕ) (parent : Option ℕ) (g : OpenGame) → length (own_rows at parent g) ≡ 1 + length g.more + node_count g.below
-length-own_rows at parent g =
+length-own_nodes : (at : ℕ) (parent : Option ℕ) (g : OpenGame) → length (own_nodes at parent g) ≡ 1 + length g.more + node_count g.below
+length-own_nodes at parent g =
     let last : ℕ = at + length g.more in
-    omega (arith, length-append (record { node = g.first; parent = parent; opens = true } ∷ further_rows at g.more) (rows (last + 1) (Some last) g.below), length-further_rows at g.more, length-rows (last + 1) (Some last) g.below)
+    omega (arith, length-append (record { node = g.first; parent = parent; opens = true } ∷ further_nodes at g.more) (nodes_from (last + 1) (Some last) g.below), length-further_nodes at g.more, length-nodes_from (last + 1) (Some last) g.below)
 
-pub length-open_rows : (closed : Games) (gs : List OpenGame) → length (open_rows closed gs) ≡ open_count closed gs
-length-open_rows closed [] = length-rows 0 None closed
-length-open_rows closed (g ∷ gs) =
-    omega (arith, length-append (open_rows closed gs) (own_rows (open_count closed gs) (tip closed gs) g), length-open_rows closed gs, length-own_rows (open_count closed gs) (tip closed gs) g)
+pub length-open_nodes : (closed : Games) (gs : List OpenGame) → length (open_nodes closed gs) ≡ open_count closed gs
+length-open_nodes closed [] = length-nodes_from 0 None closed
+length-open_nodes closed (g ∷ gs) =
+    omega (arith, length-append (open_nodes closed gs) (own_nodes (open_count closed gs) (tip closed gs) g), length-open_nodes closed gs, length-own_nodes (open_count closed gs) (tip closed gs) g)
 
 pub length-open_lasts : (closed : Games) (gs : List OpenGame) → length (open_lasts closed gs) ≡ open_count closed gs
 length-open_lasts closed [] = length-lasts 0 closed
@@ -62,28 +62,28 @@ length-open_lasts closed (g ∷ gs) =
     let next : ℕ = open_count closed gs + 1 + length g.more in
     omega (arith, length-append (open_lasts closed gs ++ own) (lasts next g.below), length-append (open_lasts closed gs) own, length-replicate {A = ℕ} (1 + length g.more) 0, length-open_lasts closed gs, length-lasts next g.below)
 
--- an open game has the rows that it has as a whole one
-own_rows-whole : (at : ℕ) (parent : Option ℕ) (g : OpenGame) → rows at parent (whole_game g) ≡ own_rows at parent g
-own_rows-whole at parent g = append-nil (own_rows at parent g)
+-- an open game has the nodes that it has as a whole one
+own_nodes-whole : (at : ℕ) (parent : Option ℕ) (g : OpenGame) → nodes_from at parent (whole_game g) ≡ own_nodes at parent g
+own_nodes-whole at parent g = append-nil (own_nodes at parent g)
 
--- the end of a game leaves the rows as they are
-pub open_rows-closed : (closed : Games) (g : OpenGame) (gs : List OpenGame) → open_rows (add_games closed gs (whole_game g)).closed (add_games closed gs (whole_game g)).unclosed ≡ open_rows closed (g ∷ gs)
-open_rows-closed closed g [] =
+-- the end of a game leaves the ordered nodes as they are
+pub open_nodes-closed : (closed : Games) (g : OpenGame) (gs : List OpenGame) → open_nodes (add_games closed gs (whole_game g)).closed (add_games closed gs (whole_game g)).unclosed ≡ open_nodes closed (g ∷ gs)
+open_nodes-closed closed g [] =
     let e : 0 + node_count closed ≡ node_count closed = omega arith in
-    rows-followed 0 None closed (whole_game g)
-    ∙ ap (λ k. rows 0 None closed ++ rows k None (whole_game g)) e
-    ∙ ap (λ rs. rows 0 None closed ++ rs) (own_rows-whole (node_count closed) None g)
-open_rows-closed closed g (h ∷ hs) =
+    ordered-followed 0 None closed (whole_game g)
+    ∙ ap (λ k. nodes_from 0 None closed ++ nodes_from k None (whole_game g)) e
+    ∙ ap (λ rs. nodes_from 0 None closed ++ rs) (own_nodes-whole (node_count closed) None g)
+open_nodes-closed closed g (h ∷ hs) =
     let at : ℕ = open_count closed hs in
     let last : ℕ = at + length h.more in
-    let before : List Row = open_rows closed hs in
-    let own : List Row = record { node = h.first; parent = tip closed hs; opens = true } ∷ further_rows at h.more in
+    let before : List OrderedNode = open_nodes closed hs in
+    let own : List OrderedNode = record { node = h.first; parent = tip closed hs; opens = true } ∷ further_nodes at h.more in
     let e : last + 1 + node_count h.below ≡ at + 1 + length h.more + node_count h.below = omega arith in
-    ap (λ rs. before ++ (own ++ rs)) (rows-followed (last + 1) (Some last) h.below (whole_game g)
-    ∙ ap (λ k. rows (last + 1) (Some last) h.below ++ rows k (Some last) (whole_game g)) e
-    ∙ ap (λ rs. rows (last + 1) (Some last) h.below ++ rs) (own_rows-whole (at + 1 + length h.more + node_count h.below) (Some last) g))
-    ∙ ap (λ rs. before ++ rs) (sym (append_assoc own (rows (last + 1) (Some last) h.below) (own_rows (at + 1 + length h.more + node_count h.below) (Some last) g)))
-    ∙ sym (append_assoc before (own ++ rows (last + 1) (Some last) h.below) (own_rows (at + 1 + length h.more + node_count h.below) (Some last) g))
+    ap (λ rs. before ++ (own ++ rs)) (ordered-followed (last + 1) (Some last) h.below (whole_game g)
+    ∙ ap (λ k. nodes_from (last + 1) (Some last) h.below ++ nodes_from k (Some last) (whole_game g)) e
+    ∙ ap (λ rs. nodes_from (last + 1) (Some last) h.below ++ rs) (own_nodes-whole (at + 1 + length h.more + node_count h.below) (Some last) g))
+    ∙ ap (λ rs. before ++ rs) (sym (append_assoc own (nodes_from (last + 1) (Some last) h.below) (own_nodes (at + 1 + length h.more + node_count h.below) (Some last) g)))
+    ∙ sym (append_assoc before (own ++ nodes_from (last + 1) (Some last) h.below) (own_nodes (at + 1 + length h.more + node_count h.below) (Some last) g))
 
 lasts-whole : (at : ℕ) (g : OpenGame) → lasts at (whole_game g) ≡ replicate (1 + length g.more) (at + length g.more + node_count g.below) ++ lasts (at + 1 + length g.more) g.below
 lasts-whole at g =
@@ -110,27 +110,27 @@ open_lasts-closed closed g (h ∷ hs) =
     ∙ sym (append_assoc (before ++ lasts next h.below) (replicate (1 + m) (n + m + node_count g.below)) (lasts (n + 1 + m) g.below))
 
 -- one more node of a game
-further_rows-more : (last : ℕ) (ns : List Node) (n : Node) → further_rows last (ns ++ n ∷ []) ≡ further_rows last ns ++ record { node = n; parent = Some (last + length ns); opens = false } ∷ []
-further_rows-more last [] n = let e : last + 0 ≡ last = omega arith in rw e
-further_rows-more last (m ∷ ns) n =
+further_nodes-more : (last : ℕ) (ns : List Node) (n : Node) → further_nodes last (ns ++ n ∷ []) ≡ further_nodes last ns ++ record { node = n; parent = Some (last + length ns); opens = false } ∷ []
+further_nodes-more last [] n = let e : last + 0 ≡ last = omega arith in rw e
+further_nodes-more last (m ∷ ns) n =
     let e : last + 1 + length ns ≡ last + length (m ∷ ns) = omega arith in
-    ap (λ rs. record { node = m; parent = Some last; opens = false } ∷ rs) (further_rows-more (last + 1) ns n ∙ ap (λ k. further_rows (last + 1) ns ++ record { node = n; parent = Some k; opens = false } ∷ []) e)
+    ap (λ rs. record { node = m; parent = Some last; opens = false } ∷ rs) (further_nodes-more (last + 1) ns n ∙ ap (λ k. further_nodes (last + 1) ns ++ record { node = n; parent = Some k; opens = false } ∷ []) e)
 
 pub open_lasts-new_game : (closed : Games) (gs : List OpenGame) (n : Node) → open_lasts closed (new_game n ∷ gs) ≡ open_lasts closed gs ++ 0 ∷ []
 open_lasts-new_game closed gs n = append-nil (open_lasts closed gs ++ 0 ∷ [])
 
-pub open_rows-more : (closed : Games) (g : OpenGame) (gs : List OpenGame) (n : Node) → g.below ≡ no_games
-    → open_rows closed (record { first = g.first; more = g.more ++ n ∷ []; below = g.below } ∷ gs)
-    ≡ open_rows closed (g ∷ gs) ++ record { node = n; parent = Some (open_count closed gs + length g.more); opens = false } ∷ []
-open_rows-more closed g gs n none =
+pub open_nodes-more : (closed : Games) (g : OpenGame) (gs : List OpenGame) (n : Node) → g.below ≡ no_games
+    → open_nodes closed (record { first = g.first; more = g.more ++ n ∷ []; below = g.below } ∷ gs)
+    ≡ open_nodes closed (g ∷ gs) ++ record { node = n; parent = Some (open_count closed gs + length g.more); opens = false } ∷ []
+open_nodes-more closed g gs n none =
     let at : ℕ = open_count closed gs in
-    let r : Row = record { node = g.first; parent = tip closed gs; opens = true } in
-    let new : Row = record { node = n; parent = Some (at + length g.more); opens = false } in
+    let r : OrderedNode = record { node = g.first; parent = tip closed gs; opens = true } in
+    let new : OrderedNode = record { node = n; parent = Some (at + length g.more); opens = false } in
     rw none
-    (ap (λ rs. open_rows closed gs ++ ((r ∷ rs) ++ [])) (further_rows-more at g.more n)
-    ∙ ap (λ rs. open_rows closed gs ++ rs) (append-nil (r ∷ (further_rows at g.more ++ new ∷ [])))
-    ∙ sym (append_assoc (open_rows closed gs) (r ∷ further_rows at g.more) (new ∷ []))
-    ∙ ap (λ rs. open_rows closed gs ++ rs ++ new ∷ []) (sym (append-nil (r ∷ further_rows at g.more))))
+    (ap (λ rs. open_nodes closed gs ++ ((r ∷ rs) ++ [])) (further_nodes-more at g.more n)
+    ∙ ap (λ rs. open_nodes closed gs ++ rs) (append-nil (r ∷ (further_nodes at g.more ++ new ∷ [])))
+    ∙ sym (append_assoc (open_nodes closed gs) (r ∷ further_nodes at g.more) (new ∷ []))
+    ∙ ap (λ rs. open_nodes closed gs ++ rs ++ new ∷ []) (sym (append-nil (r ∷ further_nodes at g.more))))
 
 pub open_lasts-more : (closed : Games) (g : OpenGame) (gs : List OpenGame) (n : Node) → g.below ≡ no_games
     → open_lasts closed (record { first = g.first; more = g.more ++ n ∷ []; below = g.below } ∷ gs) ≡ open_lasts closed (g ∷ gs) ++ 0 ∷ []

@@ -4,7 +4,7 @@ use Rattle.std.proofs.lemmas.Option.{slice_get-map, slice_get_within}
 use Rattle.sgf_tree.specs.declared.fault.TheConstants.{MAX_LENGTH}
 use Rattle.sgf_tree.specs.Tree.{Games, no_games, game_count, node_count}
 use Rattle.sgf_tree.specs.Spelling.{Spells}
-use Rattle.sgf_tree.specs.FileOrder.{game_of, rows_of, IsLastBelow}
+use Rattle.sgf_tree.specs.FileOrder.{game_of, ordered_nodes, IsLastBelow}
 use Rattle.sgf_tree.specs.inner.Machine.{collection_of}
 use Rattle.sgf_tree.specs.inner.Layout.{games_in, outline, IsLaidOut}
 use Rattle.sgf_tree.specs.inner.GamesRead.{IsRootOf, IsRead}
@@ -37,7 +37,7 @@ module _ (t : List ℕ) (c : Games) (ns : List NodeEntry) (read : IsRead t c ns)
         short = short;
         spelled = subst (λ g. Spells g t) (sym whole-games) whole-spelled;
         games_counted = e ∙ ap game_count (sym whole-games);
-        same_rows = ap (λ g. map outline (rows_of g)) whole-games ∙ read.held.same_rows;
+        same_order = ap (λ g. map outline (ordered_nodes g)) whole-games ∙ read.held.same_order;
         games_numbered = λ i n k here is.
             ap (λ g. game_of g i) whole-games
             ∙ whole-root i k (omega (arith, slice_get_within ns i n here)) (read.held.roots i n k here is);

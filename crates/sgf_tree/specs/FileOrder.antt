@@ -4,39 +4,39 @@ use Rattle.sgf_tree.specs.Tree.{Node, Games, no_games, game, node_count}
 
 -- a node, the number of the node before it on its line (none for the root of a game of the collection), and whether it
 -- is the first after a `(`
-pub record Row : Type 0 where
+pub record OrderedNode : Type 0 where
   pub node : Node
   pub parent : Option ℕ
   pub opens : Bool
 
 -- the further nodes of a game, where `last` is the number of the node before them
-abbrev pub further_rows : ℕ → List Node → List Row
-further_rows last [] = []
-further_rows last (n ∷ ns) = record { node = n; parent = Some last; opens = false } ∷ further_rows (last + 1) ns
+abbrev pub further_nodes : ℕ → List Node → List OrderedNode
+further_nodes last [] = []
+further_nodes last (n ∷ ns) = record { node = n; parent = Some last; opens = false } ∷ further_nodes (last + 1) ns
 
 -- the nodes of games whose first node has the number `at` and follows `parent`: a game's own nodes, those of the
 -- games below its last own node, and those of the games after it
-abbrev pub rows : ℕ → Option ℕ → Games → List Row
-rows at parent no_games = []
-rows at parent (game first more below after) =
+abbrev pub nodes_from : ℕ → Option ℕ → Games → List OrderedNode
+nodes_from at parent no_games = []
+nodes_from at parent (game first more below after) =
     let last = at + length more in
-    record { node = first; parent = parent; opens = true } ∷ further_rows at more
-    ++ rows (last + 1) (Some last) below
-    ++ rows (last + 1 + node_count below) parent after
+    record { node = first; parent = parent; opens = true } ∷ further_nodes at more
+    ++ nodes_from (last + 1) (Some last) below
+    ++ nodes_from (last + 1 + node_count below) parent after
 
 -- the nodes of a collection in file order
-abbrev pub rows_of : Games → List Row
-rows_of c = rows 0 None c
+abbrev pub ordered_nodes : Games → List OrderedNode
+ordered_nodes c = nodes_from 0 None c
 
 -- the node of a number, and the number of the node before it on its line
 abbrev pub node_at : Games → ℕ → Option Node
-node_at c i = option_map (λ r. r.node) (slice_get (rows_of c) i)
+node_at c i = option_map (λ r. r.node) (slice_get (ordered_nodes c) i)
 
 abbrev pub place_at : Games → ℕ → Option ℕ
-place_at c i = option_map (λ r. r.node.place) (slice_get (rows_of c) i)
+place_at c i = option_map (λ r. r.node.place) (slice_get (ordered_nodes c) i)
 
 abbrev pub parent_at : Games → ℕ → Option (Option ℕ)
-parent_at c i = option_map (λ r. r.parent) (slice_get (rows_of c) i)
+parent_at c i = option_map (λ r. r.parent) (slice_get (ordered_nodes c) i)
 
 -- no node follows node i on a line
 abbrev pub IsLeaf : Games → ℕ → Type 0

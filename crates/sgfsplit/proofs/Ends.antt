@@ -3,10 +3,10 @@ use Rattle.std.proofs.Common.{◌≡◌, ◌∙◌, ℕ, ◌-◌, ◌≤◌, Lis
 use Rattle.std.proofs.Math.Seq.{take-length}
 use Rattle.std.proofs.lemmas.List.{take-append-drop}
 use Rattle.std.specs.Result.{result_err}
+use Rattle.sgf_lines.specs.Answer.{reads_failed, writes_failed}
 use Rattle.sgf_lines.specs.Counts.{AnswersCount, AnswersRow}
 use Rattle.sgf_lines.specs.declared.fault.RunFault.{RunFault}
 use Rattle.sgf_lines.specs.declared.fault.RunFault.TheVariants.{Read, TooLong, NotSgf, NoSuchLine, Write, Memory}
-use Rattle.sgfsplit.specs.Act.{reads_failed, writes_failed}
 
 -- one more part was put
 pub part_put : (line front rest : List ℕ) (n : ℕ) → line ≡ front ++ rest → n ≤ length rest

@@ -4,7 +4,7 @@ use Rattle.std.specs.declared.alloc.Global.{Global}
 use Rattle.std.specs.Result.{result_err}
 use Rattle.std.specs.Io.KnownBytes.{Appends}
 use Rattle.sgf_lines.specs.Ends.{SinkState, SourceState, Takes, TakesNothing}
-use Rattle.sgf_lines.specs.Answer.{IsRun}
+use Rattle.sgf_lines.specs.Answer.{IsRun, reads_failed, writes_failed}
 use Rattle.sgf_lines.specs.Counts.{IsCount, IsRow, counts_row}
 use Rattle.sgf_lines.specs.declared.counting.Counts.{Counts}
 use Rattle.sgf_lines.specs.declared.fault.RunFault.{RunFault}
@@ -28,15 +28,6 @@ DoesJob (Split options file) source new_source output new_output fault =
     (result : Result ℕ RunFault) × IsRun options source new_source output new_output result × (fault ≡ result_err result)
 DoesJob (Count file) source new_source output new_output fault =
     (counted : Result Counts RunFault) × IsCount source new_source counted × WritesCounts counted output new_output fault
-
--- how often the source failed, and the sink, before this fault
-abbrev pub reads_failed : Option RunFault → ℕ
-reads_failed (Some Read) = 1
-reads_failed _ = 0
-
-abbrev pub writes_failed : Option RunFault → ℕ
-writes_failed (Some (Write lines)) = 1
-writes_failed _ = 0
 
 -- a sink was flushed, whatever that answered
 abbrev pub FlushesAnyway : SinkState → SinkState → Type 0

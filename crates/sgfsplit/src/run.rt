@@ -2,8 +2,9 @@
 
 ghost use Rattle.std.specs.Prelude.{◌≡◌, ◌<◌, ◌+◌, Some};
 ghost use Rattle.std.specs.Result.{result_err};
+ghost use Rattle.sgf_lines.specs.Answer.{reads_failed, writes_failed};
 ghost use Rattle.sgfsplit.specs.Fault.{line_of, status_of};
-ghost use Rattle.sgfsplit.specs.Act.{DoesJob, FlushesAnyway, IsAct, TakesLine, Tells, reads_failed, writes_failed};
+ghost use Rattle.sgfsplit.specs.Act.{DoesJob, FlushesAnyway, IsAct, TakesLine, Tells};
 
 use crate::fault::Fault;
 use crate::request::Job;

@@ -2,7 +2,7 @@
 -- it: 0 and 1 are above it, 2 is its own, 3 and 4 are below it.
 use Rattle.std.specs.Prelude.{◌≡◌, ℕ, ◌+◌, false, IsTrue, List, length}
 use Rattle.go_board.specs.declared.points.Point.{Point}
-use Rattle.go_board.specs.declared.board.glance.Row.{Row}
+use Rattle.go_board.specs.declared.board.glance.RowStones.{RowStones}
 use Rattle.go_board.specs.Point.{IsOn}
 use Rattle.go_board.specs.inner.Rows.{has_bit, is_set}
 
@@ -11,7 +11,7 @@ abbrev pub IsIn : ℕ → ℕ → ℕ → Point → Type 0
 IsIn middle i col p = (p.col ≡ col) × (p.row + 2 ≡ middle + i)
 
 -- what is known of the columns of a row around a row of the board
-pub record IsRowAt (own others : List ℕ) (middle i : ℕ) (row : Row) : Type 0 where
+pub record IsRowAt (own others : List ℕ) (middle i : ℕ) (row : RowStones) : Type 0 where
   pub are_free : (col : ℕ) → IsTrue (has_bit row.free col)
       → (p : Point) × IsIn middle i col p × IsOn (length own) p × (is_set own p ≡ false) × (is_set others p ≡ false)
   pub are_own : (col : ℕ) → IsTrue (has_bit row.own col) → (p : Point) × IsIn middle i col p × IsTrue (is_set own p)

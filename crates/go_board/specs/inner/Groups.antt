@@ -33,8 +33,8 @@ is_free g None = false
 is_free g (Some q) = same_cell (cell_at g q) Empty
 
 -- whether one of the four neighbours of a point is empty
-unfoldable pub has_liberty : Grid → Point → Bool
-has_liberty g p =
+unfoldable pub has_free_neighbour : Grid → Point → Bool
+has_free_neighbour g p =
     (is_free g (left_of p) || is_free g (right_of g.side p)) || (is_free g (above p) || is_free g (below g.side p))
 
 -- a stone of the colour on p reaches empty

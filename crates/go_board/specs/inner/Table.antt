@@ -8,12 +8,12 @@ folded n = bit_xor n (n / 2 ^ 32)
 
 -- A print is linear in the cells, so that moves can be chosen whose prints have the same low bits. Its key hangs on all bits of it, and
 -- isn't linear.
-abbrev pub mixed : ℕ → ℕ
-mixed print = folded (folded print * 15485907386658061715 % 2 ^ 64)
+abbrev pub scattered : ℕ → ℕ
+scattered print = folded (folded print * 15485907386658061715 % 2 ^ 64)
 
 -- a print's key in a table of that many heads
 abbrev pub key_of : ℕ → ℕ → ℕ
-key_of size print = bit_and (mixed print) (size - 1)
+key_of size print = bit_and (scattered print) (size - 1)
 
 -- the number of the newest of the first n prints that has the key
 pub record IsNewest (size : ℕ) (prints : List ℕ) (n key number : ℕ) : Type 0 where

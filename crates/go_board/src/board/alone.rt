@@ -12,7 +12,7 @@ ghost use Rattle.go_board.specs.Point.{IsOn};
 ghost use Rattle.go_board.specs.Grid.{cell_at, with_cell};
 ghost use Rattle.go_board.specs.Reaching.{Reaches};
 ghost use Rattle.go_board.specs.Clearing.{play};
-ghost use Rattle.go_board.specs.inner.Groups.{is_free, has_liberty, ReachesIfStone, LivesAt, AllLive};
+ghost use Rattle.go_board.specs.inner.Groups.{is_free, has_free_neighbour, ReachesIfStone, LivesAt, AllLive};
 
 use crate::board::Board;
 use crate::board::glance::leaves_all_alive;
@@ -195,11 +195,11 @@ impl Board {
     }
 
     /// Whether a point has an empty neighbour besides one.
-    #[tactic(auto, unfolding(crate::specs::inner::Groups::has_liberty))]
+    #[tactic(auto, unfolding(crate::specs::inner::Groups::has_free_neighbour))]
     fn has_other_liberty(&self, point: Point, besides: Point) -> bool
         requires on_board { IsOn self.now.side point }
         requires besides { IsOn self.now.side besides }
-        ensures { (k : Colour) → result ≡ has_liberty (with_cell self.now besides (stone_of k)) point }
+        ensures { (k : Colour) → result ≡ has_free_neighbour (with_cell self.now besides (stone_of k)) point }
     {
         let size = self.size();
         self.one_is_other_free(point.left(), point.right(size), besides)

@@ -8,7 +8,7 @@ ghost use Rattle.go_board.specs.Colour.{same_cell, stone_of};
 ghost use Rattle.go_board.specs.Point.{IsOn};
 ghost use Rattle.go_board.specs.Grid.{Grid, cell_at};
 ghost use Rattle.go_board.specs.Reaching.{Reaches};
-ghost use Rattle.go_board.specs.inner.Groups.{IsDead, is_free, has_liberty, ReachesIfStone, ReachBeside, LosesDead};
+ghost use Rattle.go_board.specs.inner.Groups.{IsDead, is_free, has_free_neighbour, ReachesIfStone, ReachBeside, LosesDead};
 ghost use Rattle.go_board.specs.inner.Linked.{IsSameBut};
 ghost use Rattle.go_board.specs.inner.Regions.{AreRowsOf};
 ghost use Rattle.go_board.specs.inner.Rows.{is_set};
@@ -56,7 +56,7 @@ impl Board {
         ensures settled { ReachesIfStone self.new colour from }
     {
         // most stones have a liberty of their own: no set is made ready for these
-        if self.has_liberty(from) {
+        if self.has_free_neighbour(from) {
             return;
         }
         if self.is_usual() {
@@ -90,7 +90,7 @@ impl Board {
         if self.at(point) != colour.stone() {
             return true;
         }
-        if self.has_liberty(point) {
+        if self.has_free_neighbour(point) {
             return true;
         }
         if self.is_usual() {
@@ -178,10 +178,10 @@ impl Board {
     }
 
     /// Whether a point has an empty neighbour.
-    #[tactic(auto, unfolding(crate::specs::inner::Groups::has_liberty))]
-    pub(crate) fn has_liberty(&self, point: Point) -> bool
+    #[tactic(auto, unfolding(crate::specs::inner::Groups::has_free_neighbour))]
+    pub(crate) fn has_free_neighbour(&self, point: Point) -> bool
         requires { IsOn self.now.side point }
-        ensures { result ≡ has_liberty self.now point }
+        ensures { result ≡ has_free_neighbour self.now point }
     {
         let size = self.size();
         self.one_is_free(point.left(), point.right(size))

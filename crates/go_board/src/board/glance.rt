@@ -18,7 +18,7 @@ use crate::points::Point;
 /// The columns of a row with a stone of the player, with one of the opponent, and with none. A row outside of the board has
 /// none of either.
 #[derive(Clone, Copy)]
-struct Row {
+struct RowStones {
     own: u64,
     others: u64,
     free: u64,
@@ -58,7 +58,7 @@ pub(crate) fn leaves_all_alive(own: &[u64], others: &[u64], point: Point) -> boo
 }
 
 /// What stands on a row around one of a board, counted from the second row above it.
-fn row_at(own: &[u64], others: &[u64], middle: usize, i: usize) -> Row
+fn row_at(own: &[u64], others: &[u64], middle: usize, i: usize) -> RowStones
     requires same { length others.now ≡ length own.now }
     requires few { length own.now < 64 }
     requires middle { middle < length own.now }
@@ -67,13 +67,13 @@ fn row_at(own: &[u64], others: &[u64], middle: usize, i: usize) -> Row
 {
     if 2 <= middle + i && middle + i - 2 < own.len() {
         let row = middle + i - 2;
-        return Row {
+        return RowStones {
             own: own[row],
             others: others[row],
             free: other_columns(own[row] | others[row], own.len()),
         };
     }
-    Row {
+    RowStones {
         own: 0,
         others: 0,
         free: 0,
@@ -81,13 +81,13 @@ fn row_at(own: &[u64], others: &[u64], middle: usize, i: usize) -> Row
 }
 
 /// The row with one column that isn't free.
-fn besides(row: Row, col: usize) -> Row
+fn besides(row: RowStones, col: usize) -> RowStones
     requires { col < 64 }
     ensures there { has_bit result.free col ≡ false }
     ensures still { (own others : List ℕ) (middle i : ℕ) → IsRowAt own others middle i row
         → IsRowAt own others middle i result }
 {
-    Row {
+    RowStones {
         own: row.own,
         others: row.others,
         free: without_column(row.free, col),
@@ -95,7 +95,7 @@ fn besides(row: Row, col: usize) -> Row
 }
 
 /// Looks at the stones in some columns of a row, by the free columns of the rows above and below it.
-fn look_at_row(columns: u64, above: u64, row: Row, below: u64) -> Look
+fn look_at_row(columns: u64, above: u64, row: RowStones, below: u64) -> Look
     ensures alive { (col : ℕ) → IsTrue (has_bit result.alive col) → IsTrue (has_bit columns col)
         × (IsTrue (has_bit row.free col) ⊎ (IsTrue (has_bit row.own col) × IsInOrBeside above row.free below col)) }
     ensures shut { (col : ℕ) → has_bit result.shut col ≡ false → IsTrue (has_bit columns col)

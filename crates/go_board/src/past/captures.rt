@@ -198,7 +198,7 @@ fn take_stone(board: &mut Board, colour: Colour, from: Point, changes: &mut Vec<
     if board.at(from) != colour.stone() {
         return true;
     }
-    if board.has_liberty(from) {
+    if board.has_free_neighbour(from) {
         return true;
     }
     if board.is_usual() {

@@ -1,7 +1,7 @@
 //! A list of prints in which one print is found without a look at most of the others.
 
 ghost use Rattle.std.specs.Prelude.{◌≡◌, ◌+◌, ◌-◌, ◌<◌, ◌≤◌, ◌^◌, [], ◌∷◌, ◌++◌, IfOk, OnOk, OnErr, length, replicate, slice_index};
-ghost use Rattle.go_board.specs.inner.Table.{key_of, mixed, folded, AreLinked, IsLastOf};
+ghost use Rattle.go_board.specs.inner.Table.{key_of, scattered, folded, AreLinked, IsLastOf};
 
 use crate::fault::MemoryFault;
 use std::alloc::Global;
@@ -208,13 +208,13 @@ fn key_of(heads: usize, print: u64) -> usize
     ensures value { result ≡ key_of heads print }
     ensures within { result < heads }
 {
-    mixed(print) as usize & (heads - 1)
+    scattered(print) as usize & (heads - 1)
 }
 
 /// A number that hangs on all bits of a print, and isn't linear in them: prints are linear in the cells, so moves can be
 /// chosen whose prints have the same low bits, and each look at the table would then go over all of them.
-fn mixed(print: u64) -> u64
-    ensures { result ≡ mixed print }
+fn scattered(print: u64) -> u64
+    ensures { result ≡ scattered print }
 {
     folded(folded(print).wrapping_mul(MIXER))
 }

@@ -8,9 +8,9 @@ use Rattle.sgf_lines.specs.NodeContents.{moves, stones, players, moves_in, stone
 use Rattle.sgf_lines.specs.inner.Contents.{AreMoves}
 
 -- the comment that was met, or this one
-abbrev pub first_of : Option (List ℕ) → List ℕ → Option (List ℕ)
-first_of (Some met) first = Some met
-first_of None first = Some first
+abbrev pub first_comment : Option (List ℕ) → List ℕ → Option (List ℕ)
+first_comment (Some met) first = Some met
+first_comment None first = Some first
 
 -- properties set nothing up, and hold these moves and that comment
 pub record IsPlain (ps : List Property) (plain : Plain) : Type 0 where

@@ -18,9 +18,9 @@ use Rattle.sgf_lines.specs.NodeContents.{Move, Stones, moves, stones, first_valu
 use Rattle.sgf_lines.specs.inner.Contents.{Lists}
 
 -- why a turn wasn't taken, as the fault of a step
-abbrev pub fault_of : TurnFault → StepFault
-fault_of (TurnIllegal reason) = Illegal reason
-fault_of TurnMemory = Memory
+abbrev pub step_fault : TurnFault → StepFault
+step_fault (TurnIllegal reason) = Illegal reason
+step_fault TurnMemory = Memory
 
 -- the same states, or those and one more
 abbrev pub GrowsByOne : States → States → Type 0

@@ -2,7 +2,7 @@
 use Rattle.std.specs.Prelude.{◌≡◌, ℕ, ◌+◌, ◌-◌, ◌<◌, ◌≤◌, ◌⊎◌, Bool, true, false, List, [], ◌∷◌, ◌++◌, length, map, take, drop, replicate, All, slice_get, slice_index, Option, Some, None, option_map}
 use Rattle.sgf_tree.specs.Tree.{Games, no_games, game, game_count, node_count}
 use Rattle.sgf_tree.specs.Spelling.{is_white}
-use Rattle.sgf_tree.specs.FileOrder.{Row, further_rows, rows, game_of}
+use Rattle.sgf_tree.specs.FileOrder.{OrderedNode, further_nodes, nodes_from, game_of}
 use Rattle.sgf_tree.specs.inner.Machine.{OpenGame, Stack, MachineState, opened, after_game, between_games, next_state, accepted}
 use Rattle.sgf_tree.specs.inner.Layout.{parent_by, opens_by, outline, outlines_by}
 use Rattle.sgf_tree.specs.inner.Progress.{ComesTo, IsTrueFault}
@@ -22,16 +22,16 @@ abbrev pub tip : Games → List OpenGame → Option ℕ
 tip closed [] = None
 tip closed (g ∷ gs) = Some (open_count closed gs + length g.more)
 
--- the rows of an open game
-abbrev pub own_rows : ℕ → Option ℕ → OpenGame → List Row
-own_rows at parent g =
+-- the ordered nodes of an open game
+abbrev pub own_nodes : ℕ → Option ℕ → OpenGame → List OrderedNode
+own_nodes at parent g =
     let last = at + length g.more in
-    record { node = g.first; parent = parent; opens = true } ∷ further_rows at g.more ++ rows (last + 1) (Some last) g.below
+    record { node = g.first; parent = parent; opens = true } ∷ further_nodes at g.more ++ nodes_from (last + 1) (Some last) g.below
 
--- the rows of whole and open games
-abbrev pub open_rows : Games → List OpenGame → List Row
-open_rows closed [] = rows 0 None closed
-open_rows closed (g ∷ gs) = open_rows closed gs ++ own_rows (open_count closed gs) (tip closed gs) g
+-- the ordered nodes of whole and open games
+abbrev pub open_nodes : Games → List OpenGame → List OrderedNode
+open_nodes closed [] = nodes_from 0 None closed
+open_nodes closed (g ∷ gs) = open_nodes closed gs ++ own_nodes (open_count closed gs) (tip closed gs) g
 
 -- of each node in file order the last one below it, where the first one has the number `at`
 abbrev pub lasts : ℕ → Games → List ℕ
@@ -53,7 +53,7 @@ IsRootOf closed i g =
 
 -- the entries hold the games of the stack k
 pub record HoldStack (t : List ℕ) (k : Stack) (nodes : List NodeEntry) : Type 0 where
-  pub same_rows : map outline (open_rows k.closed k.unclosed) ≡ outlines_by 0 nodes
+  pub same_order : map outline (open_nodes k.closed k.unclosed) ≡ outlines_by 0 nodes
   pub same_lasts : open_lasts k.closed k.unclosed ≡ map (λ (n : NodeEntry). n.last_below) nodes
   pub places_within : All (λ (n : NodeEntry). n.place < length t) nodes
   pub roots : (i : ℕ) (n : NodeEntry) (g : ℕ) → slice_get nodes i ≡ Some n → n.link ≡ Root g → IsRootOf k.closed i g

@@ -1,7 +1,7 @@
 -- How a flat vector holds the collection that a text spells. A node's properties are read from the text again.
 use Rattle.std.specs.Prelude.{◌≡◌, ℕ, ◌+◌, ◌-◌, ◌<◌, ◌≤◌, Bool, true, false, List, [], ◌∷◌, length, map, All, slice_get, Option, Some, None, unwrap_or}
 use Rattle.sgf_tree.specs.Tree.{Games, no_games, game_count}
-use Rattle.sgf_tree.specs.FileOrder.{Row, rows_of, game_of, IsLastBelow}
+use Rattle.sgf_tree.specs.FileOrder.{OrderedNode, ordered_nodes, game_of, IsLastBelow}
 use Rattle.sgf_tree.specs.Spelling.{Spells}
 use Rattle.sgf_tree.specs.inner.Machine.{collection_of}
 use Rattle.sgf_tree.specs.declared.fault.TheConstants.{MAX_LENGTH}
@@ -25,13 +25,13 @@ opens_by (Root game) = true
 opens_by (Branch parent) = true
 opens_by Next = false
 
--- a row without its node's properties
+-- an ordered node without its properties
 pub record Outline : Type 0 where
   pub place : ℕ
   pub parent : Option ℕ
   pub opens : Bool
 
-abbrev pub outline : Row → Outline
+abbrev pub outline : OrderedNode → Outline
 outline r = record { place = r.node.place; parent = r.parent; opens = r.opens }
 
 -- what entry n says of node i
@@ -48,7 +48,7 @@ pub record IsLaidOut (text : List ℕ) (games : ℕ) (nodes : List NodeEntry) : 
   pub short : length text ≤ MAX_LENGTH
   pub spelled : Spells (games_in text) text
   pub games_counted : games ≡ game_count (games_in text)
-  pub same_rows : map outline (rows_of (games_in text)) ≡ outlines_by 0 nodes
+  pub same_order : map outline (ordered_nodes (games_in text)) ≡ outlines_by 0 nodes
   pub games_numbered : (i : ℕ) (n : NodeEntry) (k : ℕ) → slice_get nodes i ≡ Some n → n.link ≡ Root k → game_of (games_in text) i ≡ k
   pub last_known : (i : ℕ) (n : NodeEntry) → slice_get nodes i ≡ Some n → IsLastBelow (games_in text) i n.last_below
   pub places_within : All (λ (n : NodeEntry). n.place < length text) nodes

@@ -4,7 +4,7 @@ use super::*;
 use std::test::Fail;
 
 /// The first fault of a text, if that is why it is refused.
-fn fault_of(alloc: Global, text: &[u8]) -> Option<usize> {
+fn faulty_byte(alloc: Global, text: &[u8]) -> Option<usize> {
     match read(alloc, text) {
         Err(ReadFault::NotSgf { at }) => Some(at),
         _ => None,
@@ -33,7 +33,7 @@ fn refuses_at_the_first_fault(rt: HostRuntime) {
         (" ", 1),
     ] {
         assert_eq!(rt;
-            fault_of(rt.alloc(), text.as_bytes()),
+            faulty_byte(rt.alloc(), text.as_bytes()),
             Some(at),
             "of {text:?}"
         );
@@ -45,7 +45,7 @@ fn refuses_at_the_first_fault(rt: HostRuntime) {
         (b"\xEF\xBB\xBF\xEF\xBB\xBF(;)".as_slice(), 3),
         (b" \xEF\xBB\xBF(;)".as_slice(), 1),
     ] {
-        assert_eq!(rt; fault_of(rt.alloc(), text), Some(at), "of {text:?}");
+        assert_eq!(rt; faulty_byte(rt.alloc(), text), Some(at), "of {text:?}");
     }
 }
 

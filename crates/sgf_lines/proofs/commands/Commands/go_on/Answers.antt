@@ -22,7 +22,7 @@ returns-in-Some c = λ side nodes n h on changed told.
     let kept : KeptText = record { text = c.push_lettered.new.output; marks = c.begin_node.new.self.marks } in
     on_ok_weaker c.push_lettered.result
     (λ text.
-    rw c.first_of-self.ensures
+    rw c.first_unreaching-self.ensures
     (commands_played side nodes old h n kept c.in_ok-begin_node.ensures.marks after.0 board after.1 on after.2 c.nodes-index.result c.leaves_unreaching-unreaching.result c.nodes-index.ensures
     (c.leaves_unreaching-unreaching.ensures n is.effect_is)
     (text ∙ ap (λ t. t ++ lettered_script board.side after.0 n) c.in_ok-begin_node.ensures.text)))

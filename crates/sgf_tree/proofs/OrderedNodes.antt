@@ -1,8 +1,8 @@
--- Laws on the rows of a collection: where parents stand, and in which game.
+-- Laws on the ordered nodes of a collection: where parents stand, and in which game.
 use Rattle.std.proofs.Common.{◌≡◌, ℕ, zero, suc, ◌+◌, ◌-◌, ◌<◌, ◌≤◌, ◌⊎◌, inl, inr, true, if◌then◌else◌, nat_lt, List, [], ◌∷◌, ◌++◌, length, slice_get, Option, Some, None, option_map, refl, sym, ap, ◌∙◌, arith, length-append}
 use Rattle.std.proofs.lemmas.Bool.{cases_lt, lt-ltb, le-ltb}
 use Rattle.sgf_tree.specs.Tree.{Node, Games, no_games, game, node_count}
-use Rattle.sgf_tree.specs.FileOrder.{Row, further_rows, rows, rows_of, parent_at, game_of}
+use Rattle.sgf_tree.specs.FileOrder.{OrderedNode, further_nodes, nodes_from, ordered_nodes, parent_at, game_of}
 
 -- an element of the first of two lists
 pub slice_get-left : {A : Type 0} (xs ys : List A) (i : ℕ) → i < length xs → slice_get (xs ++ ys) i ≡ slice_get xs i
@@ -16,52 +16,52 @@ slice_get-right [] ys i k h = let e : i ≡ k = omega arith in rw e
 slice_get-right (x ∷ xs) ys zero k h = absurd (omega arith)
 slice_get-right (x ∷ xs) ys (suc i) k h = slice_get-right xs ys i k (omega arith)
 
--- the parent of the row of a place
-abbrev pub parent_in : List Row → ℕ → Option (Option ℕ)
-parent_in rs j = option_map (λ (r : Row). r.parent) (slice_get rs j)
+-- the parent of the node of a number
+abbrev pub parent_in : List OrderedNode → ℕ → Option (Option ℕ)
+parent_in rs j = option_map (λ (r : OrderedNode). r.parent) (slice_get rs j)
 
-pub parent_in-left : (xs ys : List Row) (i : ℕ) → i < length xs → parent_in (xs ++ ys) i ≡ parent_in xs i
-parent_in-left xs ys i h = ap (option_map (λ (r : Row). r.parent)) (slice_get-left xs ys i h)
+pub parent_in-left : (xs ys : List OrderedNode) (i : ℕ) → i < length xs → parent_in (xs ++ ys) i ≡ parent_in xs i
+parent_in-left xs ys i h = ap (option_map (λ (r : OrderedNode). r.parent)) (slice_get-left xs ys i h)
 
-pub parent_in-right : (xs ys : List Row) (i k : ℕ) → i ≡ length xs + k → parent_in (xs ++ ys) i ≡ parent_in ys k
-parent_in-right xs ys i k h = ap (option_map (λ (r : Row). r.parent)) (slice_get-right xs ys i k h)
+pub parent_in-right : (xs ys : List OrderedNode) (i k : ℕ) → i ≡ length xs + k → parent_in (xs ++ ys) i ≡ parent_in ys k
+parent_in-right xs ys i k h = ap (option_map (λ (r : OrderedNode). r.parent)) (slice_get-right xs ys i k h)
 
-parent_in-within : (rs : List Row) (j : ℕ) (p : Option ℕ) → parent_in rs j ≡ Some p → j < length rs
+parent_in-within : (rs : List OrderedNode) (j : ℕ) (p : Option ℕ) → parent_in rs j ≡ Some p → j < length rs
 parent_in-within [] j p h = absurd (cc)
 parent_in-within (r ∷ rs) zero p h = omega arith
 parent_in-within (r ∷ rs) (suc j) p h = omega (arith, parent_in-within rs j p h)
 
-pub length-further_rows : (last : ℕ) (ns : List Node) → length (further_rows last ns) ≡ length ns
-length-further_rows last [] = refl
-length-further_rows last (n ∷ ns) = ap suc (length-further_rows (last + 1) ns)
+pub length-further_nodes : (last : ℕ) (ns : List Node) → length (further_nodes last ns) ≡ length ns
+length-further_nodes last [] = refl
+length-further_nodes last (n ∷ ns) = ap suc (length-further_nodes (last + 1) ns)
 
-pub length-rows : (at : ℕ) (parent : Option ℕ) (g : Games) → length (rows at parent g) ≡ node_count g
-length-rows at parent no_games = refl
-length-rows at parent (game first more below after) =
+pub length-nodes_from : (at : ℕ) (parent : Option ℕ) (g : Games) → length (nodes_from at parent g) ≡ node_count g
+length-nodes_from at parent no_games = refl
+length-nodes_from at parent (game first more below after) =
     let last : ℕ = at + length more in
-    let own : List Row = record { node = first; parent = parent; opens = true } ∷ further_rows at more in
-    let under : List Row = rows (last + 1) (Some last) below in
-    let next : List Row = rows (last + 1 + node_count below) parent after in
-    omega (arith, length-append (own ++ under) next, length-append own under, length-further_rows at more, length-rows (last + 1) (Some last) below, length-rows (last + 1 + node_count below) parent after)
+    let own : List OrderedNode = record { node = first; parent = parent; opens = true } ∷ further_nodes at more in
+    let under : List OrderedNode = nodes_from (last + 1) (Some last) below in
+    let next : List OrderedNode = nodes_from (last + 1 + node_count below) parent after in
+    omega (arith, length-append (own ++ under) next, length-append own under, length-further_nodes at more, length-nodes_from (last + 1) (Some last) below, length-nodes_from (last + 1 + node_count below) parent after)
 
-pub parent_in-further : (last : ℕ) (ns : List Node) (j : ℕ) → j < length ns → parent_in (further_rows last ns) j ≡ Some (Some (last + j))
+pub parent_in-further : (last : ℕ) (ns : List Node) (j : ℕ) → j < length ns → parent_in (further_nodes last ns) j ≡ Some (Some (last + j))
 parent_in-further last [] j h = absurd (omega arith)
 parent_in-further last (n ∷ ns) zero h = let e : last + 0 ≡ last = omega arith in rw e
 parent_in-further last (n ∷ ns) (suc j) h =
     let e : (last + 1) + j ≡ last + suc j = omega arith in rw (← e) (parent_in-further (last + 1) ns j (omega arith))
 
 -- the first of some games has the parent of them all
-parent_in-first : (at : ℕ) (parent : Option ℕ) (g : Games) → 0 < length (rows at parent g) → parent_in (rows at parent g) 0 ≡ Some parent
+parent_in-first : (at : ℕ) (parent : Option ℕ) (g : Games) → 0 < length (nodes_from at parent g) → parent_in (nodes_from at parent g) 0 ≡ Some parent
 parent_in-first at parent no_games h = absurd (omega arith)
 parent_in-first at parent (game first more below after) h = refl
 
--- node i is one of these rows, stands before place j, and the node after it has it as its parent
-pub record IsParentWithin (at : ℕ) (rs : List Row) (j i : ℕ) : Type 0 where
+-- node i is one of these ordered nodes, stands before place j, and the node after it has it as its parent
+pub record IsParentWithin (at : ℕ) (rs : List OrderedNode) (j i : ℕ) : Type 0 where
   pub from : at ≤ i
   pub before : i < at + j
   pub next : parent_in rs (suc i - at) ≡ Some (Some i)
 
-within-left : (at : ℕ) (xs ys : List Row) (j i : ℕ) → IsParentWithin at xs j i → IsParentWithin at (xs ++ ys) j i
+within-left : (at : ℕ) (xs ys : List OrderedNode) (j i : ℕ) → IsParentWithin at xs j i → IsParentWithin at (xs ++ ys) j i
 within-left at xs ys j i w =
     record {
       from = w.from;
@@ -69,7 +69,7 @@ within-left at xs ys j i w =
       next = parent_in-left xs ys (suc i - at) (parent_in-within xs (suc i - at) (Some i) w.next) ∙ w.next;
     }
 
-within-right : (at start : ℕ) (xs ys : List Row) (j k i : ℕ) → start ≡ at + length xs → j ≡ length xs + k → IsParentWithin start ys k i → IsParentWithin at (xs ++ ys) j i
+within-right : (at start : ℕ) (xs ys : List OrderedNode) (j k i : ℕ) → start ≡ at + length xs → j ≡ length xs + k → IsParentWithin start ys k i → IsParentWithin at (xs ++ ys) j i
 within-right at start xs ys j k i e f w =
     let from : start ≤ i = w.from in
     let before : i < start + k = w.before in
@@ -80,7 +80,7 @@ within-right at start xs ys j k i e f w =
     }
 
 -- the first of the nodes ys has the parent i, which is the last of the nodes xs
-within-last : (at last : ℕ) (xs ys : List Row) (j k i : ℕ) → last + 1 ≡ at + length xs → 0 < length xs → j ≡ length xs + k → last ≡ i → parent_in ys 0 ≡ Some (Some last) → IsParentWithin at (xs ++ ys) j i
+within-last : (at last : ℕ) (xs ys : List OrderedNode) (j k i : ℕ) → last + 1 ≡ at + length xs → 0 < length xs → j ≡ length xs + k → last ≡ i → parent_in ys 0 ≡ Some (Some last) → IsParentWithin at (xs ++ ys) j i
 within-last at last xs ys j k i e some f same first =
     record {
       from = omega arith;
@@ -89,17 +89,17 @@ within-last at last xs ys j k i e some f same first =
     }
 
 -- the game's own nodes: the first has the parent of the game, each further one the node before it
-own-within : (at : ℕ) (parent : Option ℕ) (first : Row) (more : List Node) (j i : ℕ) → first.parent ≡ parent → j < suc (length more) → parent_in (first ∷ further_rows at more) j ≡ Some (Some i)
-    → (parent ≡ Some i) ⊎ IsParentWithin at (first ∷ further_rows at more) j i
+own-within : (at : ℕ) (parent : Option ℕ) (first : OrderedNode) (more : List Node) (j i : ℕ) → first.parent ≡ parent → j < suc (length more) → parent_in (first ∷ further_nodes at more) j ≡ Some (Some i)
+    → (parent ≡ Some i) ⊎ IsParentWithin at (first ∷ further_nodes at more) j i
 own-within at parent first more zero i e lt h = inl (cc)
 own-within at parent first more (suc j) i e lt h =
-    let here : parent_in (further_rows at more) j ≡ Some (Some (at + j)) = parent_in-further at more j (omega arith) in
+    let here : parent_in (further_nodes at more) j ≡ Some (Some (at + j)) = parent_in-further at more j (omega arith) in
     let same : i ≡ at + j = cc in
     let place : suc i - at ≡ suc j = omega arith in
     inr (record { from = omega arith; before = omega arith; next = rw place h })
 
--- what holds within each of two lists of rows holds within both
-joined-within : (at start : ℕ) (xs ys : List Row) (j i : ℕ) (P : Type 0) → start ≡ at + length xs → parent_in (xs ++ ys) j ≡ Some (Some i)
+-- what holds within each of two lists of ordered nodes holds within both
+joined-within : (at start : ℕ) (xs ys : List OrderedNode) (j i : ℕ) (P : Type 0) → start ≡ at + length xs → parent_in (xs ++ ys) j ≡ Some (Some i)
     → (j < length xs → parent_in xs j ≡ Some (Some i) → P ⊎ IsParentWithin at xs j i)
     → ((k : ℕ) → j ≡ length xs + k → parent_in ys k ≡ Some (Some i) → P ⊎ IsParentWithin at (xs ++ ys) j i)
     → P ⊎ IsParentWithin at (xs ++ ys) j i
@@ -113,16 +113,16 @@ joined-within at start xs ys j i P e h left right =
     ]
 
 -- a node that has the parent i has the parent of all these games, or i is one of their nodes
-pub parent-within : (at : ℕ) (parent : Option ℕ) (g : Games) (j i : ℕ) → parent_in (rows at parent g) j ≡ Some (Some i) → (parent ≡ Some i) ⊎ IsParentWithin at (rows at parent g) j i
+pub parent-within : (at : ℕ) (parent : Option ℕ) (g : Games) (j i : ℕ) → parent_in (nodes_from at parent g) j ≡ Some (Some i) → (parent ≡ Some i) ⊎ IsParentWithin at (nodes_from at parent g) j i
 parent-within at parent no_games j i h = absurd (cc)
 parent-within at parent (game first more below after) j i h =
     let last : ℕ = at + length more in
-    let own : List Row = record { node = first; parent = parent; opens = true } ∷ further_rows at more in
-    let under : List Row = rows (last + 1) (Some last) below in
+    let own : List OrderedNode = record { node = first; parent = parent; opens = true } ∷ further_nodes at more in
+    let under : List OrderedNode = nodes_from (last + 1) (Some last) below in
     let start : ℕ = last + 1 + node_count below in
-    let next : List Row = rows start parent after in
-    let owns : length own ≡ suc (length more) = ap suc (length-further_rows at more) in
-    let unders : length under ≡ node_count below = length-rows (last + 1) (Some last) below in
+    let next : List OrderedNode = nodes_from start parent after in
+    let owns : length own ≡ suc (length more) = ap suc (length-further_nodes at more) in
+    let unders : length under ≡ node_count below = length-nodes_from (last + 1) (Some last) below in
     let both : length (own ++ under) ≡ suc (length more) + node_count below = omega (arith, length-append own under) in
     joined-within at start (own ++ under) next j i (parent ≡ Some i) (omega arith) h
     (λ lt here.
@@ -140,17 +140,17 @@ parent-within at parent (game first more below after) j i h =
       | inr w ↦ inr (within-right at start (own ++ under) next j k i (omega arith) e w)
     ])
 
-pub parent_at-within : (c : Games) (i : ℕ) (p : Option ℕ) → parent_at c i ≡ Some p → i < length (rows_of c)
-parent_at-within c i p h = parent_in-within (rows_of c) i p h
+pub parent_at-within : (c : Games) (i : ℕ) (p : Option ℕ) → parent_at c i ≡ Some p → i < length (ordered_nodes c)
+parent_at-within c i p h = parent_in-within (ordered_nodes c) i p h
 
 -- a parent stands before its node
 pub parent_at-lt : (c : Games) (j i : ℕ) → parent_at c j ≡ Some (Some i) → i < j
 parent_at-lt c j i h =
     elim (parent-within 0 None c j i h) [ inl p ↦ absurd (cc) | inr w ↦ let lt : i < 0 + j = w.before in omega arith ]
 
--- there is a row for each node
-pub length-rows_of : (c : Games) → length (rows_of c) ≡ node_count c
-length-rows_of c = length-rows 0 None c
+-- there is an ordered node for each node
+pub length-ordered_nodes : (c : Games) → length (ordered_nodes c) ≡ node_count c
+length-ordered_nodes c = length-nodes_from 0 None c
 
 -- the two are in the first game, or both are in the games after it
 game_of-first : (size : ℕ) (after : Games) (a b : ℕ) → a < size → b < size → (if nat_lt a size then 1 else 1 + game_of after (a - size)) ≡ (if nat_lt b size then 1 else 1 + game_of after (b - size))
@@ -159,14 +159,14 @@ game_of-first size after a b p q = rw (lt-ltb a size p, lt-ltb b size q)
 game_of-after : (size : ℕ) (after : Games) (a b : ℕ) → size ≤ a → size ≤ b → game_of after (a - size) ≡ game_of after (b - size) → (if nat_lt a size then 1 else 1 + game_of after (a - size)) ≡ (if nat_lt b size then 1 else 1 + game_of after (b - size))
 game_of-after size after a b p q e = rw (le-ltb a size p, le-ltb b size q, e)
 
-game_of-from : (at : ℕ) (g : Games) (j i : ℕ) → parent_in (rows at None g) j ≡ Some (Some i) → game_of g (i - at) ≡ game_of g j
+game_of-from : (at : ℕ) (g : Games) (j i : ℕ) → parent_in (nodes_from at None g) j ≡ Some (Some i) → game_of g (i - at) ≡ game_of g j
 game_of-from at no_games j i h = refl
 game_of-from at (game first more below after) j i h =
     let last : ℕ = at + length more in
-    let front : List Row = record { node = first; parent = None; opens = true } ∷ further_rows at more ++ rows (last + 1) (Some last) below in
+    let front : List OrderedNode = record { node = first; parent = None; opens = true } ∷ further_nodes at more ++ nodes_from (last + 1) (Some last) below in
     let start : ℕ = last + 1 + node_count below in
     let size : ℕ = 1 + length more + node_count below in
-    let fronts : length front ≡ size = omega (arith, length-append (record { node = first; parent = None; opens = true } ∷ further_rows at more) (rows (last + 1) (Some last) below), length-further_rows at more, length-rows (last + 1) (Some last) below) in
+    let fronts : length front ≡ size = omega (arith, length-append (record { node = first; parent = None; opens = true } ∷ further_nodes at more) (nodes_from (last + 1) (Some last) below), length-further_nodes at more, length-nodes_from (last + 1) (Some last) below) in
     elim (cases_lt j size) [
       | inl lt ↦
           elim (parent-within at None (game first more below after) j i h) [
@@ -178,7 +178,7 @@ game_of-from at (game first more below after) j i h =
           ]
       | inr le ↦
           let k : ℕ = j - size in
-          let in_after : parent_in (rows start None after) k ≡ Some (Some i) = sym (parent_in-right front (rows start None after) j k (omega arith)) ∙ h in
+          let in_after : parent_in (nodes_from start None after) k ≡ Some (Some i) = sym (parent_in-right front (nodes_from start None after) j k (omega arith)) ∙ h in
           elim (parent-within start None after k i in_after) [
             | inl p ↦ absurd (cc)
             | inr w ↦

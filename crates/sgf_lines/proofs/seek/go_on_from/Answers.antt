@@ -1,7 +1,7 @@
 -- The last node below stands in the collection, and what stands before it stands before the place.
 use Rattle.std.proofs.Common.{rules}
 use Rattle.sgf_lines.proofs.Seeking.{last_within, jumps}
-use Rattle.sgf_lines.proofs.seek.first_after.Goals as goal
+use Rattle.sgf_lines.proofs.seek.go_on_from.Goals as goal
 
 pub place-requires : goal.place-requires
 place-requires c = last_within c.args.collection.now c.args.node c.last_below-last.result c.requires.within c.last_below-last.ensures
