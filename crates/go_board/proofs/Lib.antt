@@ -13,6 +13,7 @@ pub mod FrontLemmas
 pub mod SearchLemmas
 pub mod RowLemmas
 pub mod WordLemmas
+pub mod CarryLemmas
 pub mod GrowLemmas
 pub mod LinkedLemmas
 pub mod StoneGroupLemmas

@@ -81,7 +81,7 @@ bit_at-mod n k i low =
     ∙ min_one (bit_at n i) (bit_at-lt n i)
 
 -- bits shifted by one column
-has_bit-low : (n c : ℕ) → c < 64 → has_bit (n % 2 ^ 64) c ≡ has_bit n c
+pub has_bit-low : (n c : ℕ) → c < 64 → has_bit (n % 2 ^ 64) c ≡ has_bit n c
 has_bit-low n c low = ap (λ x. x == 1) (bit_at-mod n 64 c low)
 
 pub has_bit-left : (a c : ℕ) → c + 1 < 64 → has_bit (a * 2 ^ 1 % 2 ^ 64) (c + 1) ≡ has_bit a c

@@ -3,7 +3,27 @@
 ghost use Rattle.std.specs.Prelude.{◌≡◌, ◌≢◌, ℕ, ◌+◌, ◌<◌, Bool, IsTrue, IsFalse, length, slice_index, bit_or};
 ghost use Rattle.go_board.specs.inner.Rows.{has_bit, is_set, row_above, IsPart, HasBeside, AreWide, IsTaken, TakeAbove, TakeBelow, IsAmong, IsClosed, IsRowClosed, Grows, lacking};
 
-/// Widens a set of columns by those beside it that there is room for, until none is left.
+/// A set of columns with those that there is room for after one of them, up to the next gap: as far as a sum carries.
+fn carried(seed: u64, room: u64) -> u64
+    requires { IsPart (has_bit seed) (has_bit room) }
+    ensures within { IsPart (has_bit result) (has_bit room) }
+    ensures kept { IsPart (has_bit seed) (has_bit result) }
+    ensures least { (set : ℕ → Bool) → HasBeside (has_bit room) set → IsPart (has_bit seed) set
+        → IsPart (has_bit result) set }
+{
+    room & !room.wrapping_add(seed) | seed
+}
+
+/// Whether a set has the last column of each run of columns that there is room for.
+fn has_all_ends(word: u64, room: u64) -> bool
+    ensures { IsTrue result → (set : ℕ → Bool) → HasBeside (has_bit room) set → IsPart (has_bit word) set
+        → IsPart (has_bit room) set }
+{
+    room & !(room >> 1) & !word == 0
+}
+
+/// Widens a set of columns by those beside it that there is room for, until none is left. Mostly each run of columns that
+/// there is room for has one of the set: then there is nothing to be repeated.
 fn widened(seed: u64, room: u64) -> u64
     requires { IsPart (has_bit seed) (has_bit room) }
     ensures within { IsPart (has_bit result) (has_bit room) }
@@ -12,7 +32,10 @@ fn widened(seed: u64, room: u64) -> u64
     ensures least { (set : ℕ → Bool) → HasBeside (has_bit room) set → IsPart (has_bit seed) set
         → IsPart (has_bit result) set }
 {
-    let mut word = seed;
+    let mut word = carried(seed, room);
+    if has_all_ends(word, room) {
+        return room;
+    }
     'widen: while word != room {
         let wider = (word | word << 1 | word >> 1) & room;
         if wider == word {

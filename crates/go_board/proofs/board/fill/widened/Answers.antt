@@ -3,6 +3,10 @@ use Rattle.go_board.specs.inner.Rows.{has_bit}
 use Rattle.go_board.proofs.WordLemmas.{wider-within, wider-kept, wider-least, wider-closed, wider-more}
 use Rattle.go_board.proofs.board.fill.widened.Goals as goal
 
+pub returns-then-has_all_ends-clause-least : goal.returns-then-has_all_ends-clause-least
+returns-then-has_all_ends-clause-least c = λ set beside part.
+    c.has_all_ends.ensures c.if-has_all_ends.true set beside (c.carried-word.ensures.least set beside part)
+
 pub returns-then-wider-word-clause-closed : goal.returns-then-wider-word-clause-closed
 returns-then-wider-word-clause-closed c =
     wider-closed c.widen.word c.args.room (omega (arith, c.ranges.room.fits)) c.if-wider-word.true

@@ -1,0 +1,157 @@
+-- What a sum of words carries: from a column on as far as there is room.
+use Rattle.std.proofs.Common.{◌≡◌, inl, inr, ℕ, zero, suc, ◌+◌, ◌-◌, ◌*◌, ◌/◌, ◌%◌, ◌^◌, ◌<◌, ◌≤◌, ◌==◌, ◌||◌, ◌&&◌, Bool, true, false, not, bit_and, bit_or, w64, refl, sym, ap, ◌∙◌, arith}
+use Rattle.std.specs.Int.{bit_at, bit_not}
+use Rattle.std.proofs.Math.Nat.{add-mod, mod-eq_of_lt, two-pow-succ}
+use Rattle.std.proofs.lemmas.Bool.{or_cases, and_parts, false≢true, cases_lt, cases_Bool}
+use Rattle.std.proofs.lemmas.Nat.{mod-pow-add, mod_below, pow_pos}
+use Rattle.std.proofs.lemmas.Nat.Bits.{bit_at-lt}
+use Rattle.go_board.specs.inner.Rows.{has_bit, IsPart, HasBeside}
+use Rattle.go_board.proofs.WordLemmas.{has_bit-or, has_bit-and, has_bit-without, has_bit-low, has_bit-zero, has_bit-right, column_below}
+
+bit_is_one : (b : ℕ) → b < 2 → (b == 1) ≡ true → b ≡ 1
+bit_is_one zero low is = absurd (false≢true is)
+bit_is_one (suc zero) low is = refl
+bit_is_one (suc (suc b)) low is = absurd (omega arith)
+
+bit_is_zero : (b : ℕ) → b < 2 → (b == 1) ≡ false → b ≡ 0
+bit_is_zero zero low none = refl
+bit_is_zero (suc zero) low none = absurd (false≢true (sym none))
+bit_is_zero (suc (suc b)) low none = absurd (omega arith)
+
+-- a word with one column more of it
+low-set : (n c : ℕ) → has_bit n c ≡ true → n % 2 ^ suc c ≡ 2 ^ c + n % 2 ^ c
+low-set n c is =
+    let width : suc c ≡ 1 + c = omega arith in
+    ap (λ k. n % 2 ^ k) width
+    ∙ mod-pow-add n 1 c
+    ∙ ap (λ b. b * 2 ^ c + n % 2 ^ c) (bit_is_one (bit_at n c) (bit_at-lt n c) is)
+    ∙ omega arith
+
+low-unset : (n c : ℕ) → has_bit n c ≡ false → n % 2 ^ suc c ≡ n % 2 ^ c
+low-unset n c none =
+    let width : suc c ≡ 1 + c = omega arith in
+    ap (λ k. n % 2 ^ k) width
+    ∙ mod-pow-add n 1 c
+    ∙ ap (λ b. b * 2 ^ c + n % 2 ^ c) (bit_is_zero (bit_at n c) (bit_at-lt n c) none)
+    ∙ omega arith
+
+low-below : (n c : ℕ) → n % 2 ^ c < 2 ^ c
+low-below n c = mod_below n (2 ^ c) (pow_pos c)
+
+-- where nothing is carried into a column of the one word alone, the sum has it
+sum_has : (room seed c : ℕ) → has_bit room c ≡ true → has_bit seed c ≡ false → room % 2 ^ c + seed % 2 ^ c < 2 ^ c → has_bit (room + seed) c ≡ true
+sum_has room seed c is none low =
+    elim (cases_Bool (has_bit (room + seed) c)) [
+      | inl there ↦ there
+      | inr lacks ↦
+          let double = two-pow-succ c in
+          let first = low-set room c is in
+          let second = low-unset seed c none in
+          let fits : room % 2 ^ suc c + seed % 2 ^ suc c < 2 ^ suc c = omega (arith, double, first, second, low) in
+          let whole : (room + seed) % 2 ^ suc c ≡ room % 2 ^ suc c + seed % 2 ^ suc c = add-mod room seed (2 ^ suc c) ∙ mod-eq_of_lt fits in
+          let less = low-unset (room + seed) c lacks in
+          let below = low-below (room + seed) c in
+          absurd (omega (arith, first, second, whole, less, below))
+    ]
+
+module _ (room seed : ℕ) (low : room < 2 ^ 64) (part : IsPart (has_bit seed) (has_bit room)) where
+  -- what a sum carries to: the columns of the seed, and those of the room that the sum lacks
+  abbrev pub carried : ℕ
+  carried = bit_or (bit_and room (bit_not w64 ((room + seed) % 2 ^ 64))) seed
+
+  pub carried-within : IsPart (has_bit carried) (has_bit room)
+  carried-within c is =
+      elim (or_cases _ _ (sym (has_bit-or _ seed c) ∙ is)) [
+        | inl far ↦ (and_parts _ _ (sym (has_bit-and room _ c) ∙ far)).0
+        | inr own ↦ part c own
+      ]
+
+  pub carried-kept : IsPart (has_bit seed) (has_bit carried)
+  carried-kept c is = has_bit-or _ seed c ∙ or_right _ _ is
+    where
+      or_right : (x y : Bool) → y ≡ true → (x || y) ≡ true
+      or_right true y h = refl
+      or_right false y h = h
+
+  module _ (set : ℕ → Bool) (beside : HasBeside (has_bit room) set) (there : IsPart (has_bit seed) set) where
+    -- where something is carried into a column, the set has the one before it
+    carry_from : (c : ℕ) → 2 ^ c ≤ room % 2 ^ c + seed % 2 ^ c → (d : ℕ) × (d + 1 ≡ c) × (set d ≡ true)
+    carry_from zero carries =
+        let first = low-below room 0 in
+        let second = low-below seed 0 in
+        let unit : 2 ^ 0 ≡ 1 = omega arith in
+        absurd (omega (arith, first, second, unit, carries))
+    carry_from (suc c) carries =
+        let double = two-pow-succ c in
+        let room_low = low-below room c in
+        let seed_low = low-below seed c in (
+          c,
+          omega arith,
+          elim (cases_Bool (has_bit seed c)) [
+            | inl own ↦ there c own
+            | inr none ↦
+                let second = low-unset seed c none in
+                elim (cases_Bool (has_bit room c)) [
+                  | inl is ↦
+                      let first = low-set room c is in
+                      let before = carry_from c (omega (arith, double, first, second, carries)) in
+                      beside c before.0 (inr before.1) is before.2
+                  | inr lacks ↦
+                      let first = low-unset room c lacks in
+                      absurd (omega (arith, double, first, second, carries, room_low, seed_low))
+                ]
+          ],
+        )
+
+    pub carried-least : IsPart (has_bit carried) set
+    carried-least c is =
+        elim (cases_Bool (has_bit seed c)) [
+          | inl own ↦ there c own
+          | inr none ↦
+              elim (or_cases _ _ (sym (has_bit-or _ seed c) ∙ is)) [
+                | inl far ↦
+                    (let in_room = (and_parts _ _ (sym (has_bit-and room _ c) ∙ far)).0 in
+                    let column = column_below 64 room c low in_room in
+                    elim (cases_lt (room % 2 ^ c + seed % 2 ^ c) (2 ^ c)) [
+                      | inl quiet ↦
+                          let sum_there : has_bit ((room + seed) % 2 ^ 64) c ≡ true = has_bit-low (room + seed) c column ∙ sum_has room seed c in_room none quiet in
+                          let off = has_bit-without room ((room + seed) % 2 ^ 64) c (mod_below (room + seed) (2 ^ 64) (pow_pos 64)) column in
+                          absurd (false≢true (sym (ap (λ b. not b) sum_there) ∙ (and_parts _ _ (sym off ∙ far)).1))
+                      | inr carries ↦
+                          let before = carry_from c carries in
+                          beside c before.0 (inr before.1) in_room before.2
+                    ])
+                | inr own ↦ absurd (false≢true (sym none ∙ own))
+              ]
+        ]
+
+module _ (room : ℕ) (low : room < 2 ^ 64) (set : ℕ → Bool) (beside : HasBeside (has_bit room) set) where
+  -- a set with the last column of each run has all that there is room for
+  pub room-least : (word : ℕ) → word < 2 ^ 64 → IsPart (has_bit word) set → bit_and (bit_and room (bit_not w64 (room / 2 ^ 1))) (bit_not w64 word) ≡ 0 → IsPart (has_bit room) set
+  room-least word fits in_set ended c is =
+      let column = column_below 64 room c low is in
+      downwards (64 - c) c (omega (arith, column)) is
+    where
+      half : room / 2 ^ 1 < 2 ^ 64
+      half = omega (arith, low)
+
+      downwards : (n c : ℕ) → c + n ≡ 64 → has_bit room c ≡ true → set c ≡ true
+      downwards zero c at is = absurd (let column = column_below 64 room c low is in omega (arith, at, column))
+      downwards (suc n) c at is =
+          elim (cases_Bool (has_bit room (suc c))) [
+            | inl next ↦ beside c (suc c) (inl (omega arith)) is (downwards n (suc c) (omega (arith, at)) next)
+            | inr last ↦
+                let column : c < 64 = omega (arith, at) in
+                let both : ((has_bit room c && not (has_bit (room / 2 ^ 1) c)) && not (has_bit word c)) ≡ false =
+                ap (λ b. b && not (has_bit word c)) (sym (has_bit-without room (room / 2 ^ 1) c half column))
+                ∙ sym (has_bit-without (bit_and room (bit_not w64 (room / 2 ^ 1))) word c fits column)
+                ∙ ap (λ w. has_bit w c) ended
+                ∙ has_bit-zero c in
+                in_set c (last_there _ _ _ both is (has_bit-right room c ∙ last))
+          ]
+        where
+          last_there : (x y z : Bool) → ((x && not y) && not z) ≡ false → x ≡ true → y ≡ false → z ≡ true
+          last_there true false true h p q = refl
+          last_there true false false h p q = absurd (false≢true (sym h))
+          last_there true true z h p q = absurd (false≢true (sym q))
+          last_there false y z h p q = absurd (false≢true p)
