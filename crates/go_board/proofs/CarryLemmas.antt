@@ -1,11 +1,11 @@
--- What a sum of words carries: from a column on as far as there is room.
-use Rattle.std.proofs.Common.{◌≡◌, inl, inr, ℕ, zero, suc, ◌+◌, ◌-◌, ◌*◌, ◌/◌, ◌%◌, ◌^◌, ◌<◌, ◌≤◌, ◌==◌, ◌||◌, ◌&&◌, Bool, true, false, not, bit_and, bit_or, w64, refl, sym, ap, ◌∙◌, arith}
+-- Widening a set of columns: a sum carries from a column on as far as there is room, and steps go back from there.
+use Rattle.std.proofs.Common.{◌≡◌, ◌⊎◌, inl, inr, ℕ, zero, suc, ◌+◌, ◌-◌, ◌*◌, ◌/◌, ◌%◌, ◌^◌, ◌<◌, ◌≤◌, ◌==◌, ◌||◌, ◌&&◌, Bool, true, false, not, bit_and, bit_or, w64, refl, sym, ap, ◌∙◌, arith}
 use Rattle.std.specs.Int.{bit_at, bit_not}
-use Rattle.std.proofs.Math.Nat.{add-mod, mod-eq_of_lt, two-pow-succ}
-use Rattle.std.proofs.lemmas.Bool.{or_cases, and_parts, false≢true, cases_lt, cases_Bool}
+use Rattle.std.proofs.Math.Nat.{add-mod, add-mod_left, mod-eq_of_lt, two-pow-succ}
+use Rattle.std.proofs.lemmas.Bool.{or_cases, and_parts, and_from, false≢true, cases_lt, cases_Bool}
 use Rattle.std.proofs.lemmas.Nat.{mod-pow-add, mod_below, pow_pos}
 use Rattle.std.proofs.lemmas.Nat.Bits.{bit_at-lt}
-use Rattle.go_board.specs.inner.Rows.{has_bit, IsPart, HasBeside}
+use Rattle.go_board.specs.inner.Rows.{has_bit, IsPart, HasBeside, HasNext, IsWidened}
 use Rattle.go_board.proofs.WordLemmas.{has_bit-or, has_bit-and, has_bit-without, has_bit-low, has_bit-zero, has_bit-right, column_below}
 
 bit_is_one : (b : ℕ) → b < 2 → (b == 1) ≡ true → b ≡ 1
@@ -17,6 +17,13 @@ bit_is_zero : (b : ℕ) → b < 2 → (b == 1) ≡ false → b ≡ 0
 bit_is_zero zero low none = refl
 bit_is_zero (suc zero) low none = absurd (false≢true (sym none))
 bit_is_zero (suc (suc b)) low none = absurd (omega arith)
+
+or_left : (x y : Bool) → x ≡ true → (x || y) ≡ true
+or_left x y h = rw h refl
+
+or_right : (x y : Bool) → y ≡ true → (x || y) ≡ true
+or_right true y h = refl
+or_right false y h = h
 
 -- a word with one column more of it
 low-set : (n c : ℕ) → has_bit n c ≡ true → n % 2 ^ suc c ≡ 2 ^ c + n % 2 ^ c
@@ -54,24 +61,62 @@ sum_has room seed c is none low =
           absurd (omega (arith, first, second, whole, less, below))
     ]
 
+-- where something is carried into a column of the one word alone, the sum lacks it
+sum_lacks : (room seed c : ℕ) → has_bit room c ≡ true → has_bit seed c ≡ false → 2 ^ c ≤ room % 2 ^ c + seed % 2 ^ c → has_bit (room + seed) c ≡ false
+sum_lacks room seed c is none carries =
+    elim (cases_Bool (has_bit (room + seed) c)) [
+      | inl there ↦
+          let double = two-pow-succ c in
+          let first = low-set room c is in
+          let second = low-unset seed c none in
+          let room_low = low-below room c in
+          let seed_low = low-below seed c in
+          let rest = room % 2 ^ c + seed % 2 ^ c - 2 ^ c in
+          let all : room % 2 ^ suc c + seed % 2 ^ suc c ≡ 2 ^ suc c + rest = omega (arith, double, first, second, carries) in
+          let fits : rest < 2 ^ suc c = omega (arith, double, room_low, seed_low, carries) in
+          let whole : (room + seed) % 2 ^ suc c ≡ rest = add-mod room seed (2 ^ suc c) ∙ ap (λ n. n % 2 ^ suc c) all ∙ add-mod_left (2 ^ suc c) rest ∙ mod-eq_of_lt fits in
+          let more = low-set (room + seed) c there in
+          absurd (omega (arith, whole, more, room_low, seed_low, carries))
+      | inr lacks ↦ lacks
+    ]
+
 module _ (room seed : ℕ) (low : room < 2 ^ 64) (part : IsPart (has_bit seed) (has_bit room)) where
   -- what a sum carries to: the columns of the seed, and those of the room that the sum lacks
   abbrev pub carried : ℕ
   carried = bit_or (bit_and room (bit_not w64 ((room + seed) % 2 ^ 64))) seed
 
-  pub carried-within : IsPart (has_bit carried) (has_bit room)
+  carried-within : IsPart (has_bit carried) (has_bit room)
   carried-within c is =
       elim (or_cases _ _ (sym (has_bit-or _ seed c) ∙ is)) [
         | inl far ↦ (and_parts _ _ (sym (has_bit-and room _ c) ∙ far)).0
         | inr own ↦ part c own
       ]
 
-  pub carried-kept : IsPart (has_bit seed) (has_bit carried)
+  carried-kept : IsPart (has_bit seed) (has_bit carried)
   carried-kept c is = has_bit-or _ seed c ∙ or_right _ _ is
-    where
-      or_right : (x y : Bool) → y ≡ true → (x || y) ≡ true
-      or_right true y h = refl
-      or_right false y h = h
+
+  sum_fits : (room + seed) % 2 ^ 64 < 2 ^ 64
+  sum_fits = mod_below (room + seed) (2 ^ 64) (pow_pos 64)
+
+  -- a column that isn't one of the seed has something carried into it
+  far_or_own : (c : ℕ) → has_bit carried c ≡ true → ((has_bit room c ≡ true) × (has_bit seed c ≡ false) × (2 ^ c ≤ room % 2 ^ c + seed % 2 ^ c)) ⊎ (has_bit seed c ≡ true)
+  far_or_own c is =
+      elim (cases_Bool (has_bit seed c)) [
+        | inl own ↦ inr own
+        | inr none ↦
+            elim (or_cases _ _ (sym (has_bit-or _ seed c) ∙ is)) [
+              | inl far ↦
+                  (let in_room = (and_parts _ _ (sym (has_bit-and room _ c) ∙ far)).0 in
+                  let column = column_below 64 room c low in_room in
+                  elim (cases_lt (room % 2 ^ c + seed % 2 ^ c) (2 ^ c)) [
+                    | inl quiet ↦
+                        let sum_there : has_bit ((room + seed) % 2 ^ 64) c ≡ true = has_bit-low (room + seed) c column ∙ sum_has room seed c in_room none quiet in
+                        absurd (false≢true (sym (ap (λ b. not b) sum_there) ∙ (and_parts _ _ (sym (has_bit-without room ((room + seed) % 2 ^ 64) c sum_fits column) ∙ far)).1))
+                    | inr carries ↦ inl (in_room, none, carries)
+                  ])
+              | inr own ↦ inr own
+            ]
+      ]
 
   module _ (set : ℕ → Bool) (beside : HasBeside (has_bit room) set) (there : IsPart (has_bit seed) set) where
     -- where something is carried into a column, the set has the one before it
@@ -103,27 +148,90 @@ module _ (room seed : ℕ) (low : room < 2 ^ 64) (part : IsPart (has_bit seed) (
           ],
         )
 
-    pub carried-least : IsPart (has_bit carried) set
+    carried-least : IsPart (has_bit carried) set
     carried-least c is =
-        elim (cases_Bool (has_bit seed c)) [
-          | inl own ↦ there c own
-          | inr none ↦
-              elim (or_cases _ _ (sym (has_bit-or _ seed c) ∙ is)) [
-                | inl far ↦
-                    (let in_room = (and_parts _ _ (sym (has_bit-and room _ c) ∙ far)).0 in
-                    let column = column_below 64 room c low in_room in
-                    elim (cases_lt (room % 2 ^ c + seed % 2 ^ c) (2 ^ c)) [
-                      | inl quiet ↦
-                          let sum_there : has_bit ((room + seed) % 2 ^ 64) c ≡ true = has_bit-low (room + seed) c column ∙ sum_has room seed c in_room none quiet in
-                          let off = has_bit-without room ((room + seed) % 2 ^ 64) c (mod_below (room + seed) (2 ^ 64) (pow_pos 64)) column in
-                          absurd (false≢true (sym (ap (λ b. not b) sum_there) ∙ (and_parts _ _ (sym off ∙ far)).1))
-                      | inr carries ↦
-                          let before = carry_from c carries in
-                          beside c before.0 (inr before.1) in_room before.2
-                    ])
-                | inr own ↦ absurd (false≢true (sym none ∙ own))
-              ]
+        elim (far_or_own c is) [
+          | inl (in_room, none, carries) ↦
+              (let before = carry_from c carries in
+              beside c before.0 (inr before.1) in_room before.2)
+          | inr own ↦ there c own
         ]
+
+  -- from each column something is carried into the next
+  carries-next : (c : ℕ) → has_bit carried c ≡ true → 2 ^ suc c ≤ room % 2 ^ suc c + seed % 2 ^ suc c
+  carries-next c is =
+      let double = two-pow-succ c in
+      elim (far_or_own c is) [
+        | inl (in_room, none, carries) ↦
+            (let first = low-set room c in_room in
+            let second = low-unset seed c none in
+            omega (arith, double, first, second, carries))
+        | inr own ↦
+            (let first = low-set room c (part c own) in
+            let second = low-set seed c own in
+            omega (arith, double, first, second))
+      ]
+
+  carried-next : HasNext (has_bit room) (has_bit carried)
+  carried-next c is in_room =
+      let column = column_below 64 room (suc c) low in_room in
+      elim (cases_Bool (has_bit seed (suc c))) [
+        | inl own ↦ carried-kept (suc c) own
+        | inr none ↦
+            let lacks : has_bit ((room + seed) % 2 ^ 64) (suc c) ≡ false = has_bit-low (room + seed) (suc c) column ∙ sum_lacks room seed (suc c) in_room none (carries-next c is) in
+            has_bit-or _ seed (suc c)
+            ∙ or_left _ _
+            (has_bit-without room ((room + seed) % 2 ^ 64) (suc c) sum_fits column
+            ∙ and_from _ _ in_room (ap (λ b. not b) lacks))
+      ]
+
+  pub IsWidened-carried : IsWidened room seed carried
+  IsWidened-carried = record {
+    within = carried-within;
+    kept = carried-kept;
+    next = carried-next;
+    least = carried-least;
+  }
+
+-- a set with the columns before its own that there is room for
+abbrev pub with_before : ℕ → ℕ → ℕ
+with_before word room = bit_or word (bit_and room (word / 2 ^ 1))
+
+module _ (room seed word : ℕ) (widened : IsWidened room seed word) where
+  before_or_own : (c : ℕ) → has_bit (with_before word room) c ≡ true → (has_bit word c ≡ true) ⊎ ((has_bit room c ≡ true) × (has_bit word (suc c) ≡ true))
+  before_or_own c is =
+      elim (or_cases _ _ (sym (has_bit-or word _ c) ∙ is)) [
+        | inl own ↦ inl own
+        | inr far ↦
+            (let both = and_parts _ _ (sym (has_bit-and room _ c) ∙ far) in
+            inr (both.0, sym (has_bit-right word c) ∙ both.1))
+      ]
+
+  keeps : IsPart (has_bit word) (has_bit (with_before word room))
+  keeps c is = has_bit-or word _ c ∙ or_left _ _ is
+
+  pub IsWidened-before : IsWidened room seed (with_before word room)
+  IsWidened-before = record {
+    within = λ c is. elim (before_or_own c is) [ | inl own ↦ widened.within c own | inr far ↦ far.0 ];
+    kept = λ c is. keeps c (widened.kept c is);
+    next = λ c is in_room.
+        keeps (suc c)
+        (elim (before_or_own c is) [ | inl own ↦ widened.next c own in_room | inr far ↦ far.1 ]);
+    least = λ set beside part c is.
+        elim (before_or_own c is) [
+          | inl own ↦ widened.least set beside part c own
+          | inr far ↦ beside c (suc c) (inl (omega arith)) far.0 (widened.least set beside part (suc c) far.1)
+        ];
+  }
+
+  pub HasBeside-before : with_before word room ≡ word → HasBeside (has_bit room) (has_bit word)
+  HasBeside-before same c d (inl right) in_room is =
+      ap (λ w. has_bit w c) (sym same)
+      ∙ has_bit-or word _ c
+      ∙ or_right _ _ (has_bit-and room _ c ∙ and_from _ _ in_room (has_bit-right word c ∙ ap (has_bit word) (omega (arith, right)) ∙ is))
+  HasBeside-before same c d (inr left) in_room is =
+      let at : c ≡ suc d = omega (arith, left) in
+      ap (has_bit word) at ∙ widened.next d is (ap (has_bit room) (sym at) ∙ in_room)
 
 module _ (room : ℕ) (low : room < 2 ^ 64) (set : ℕ → Bool) (beside : HasBeside (has_bit room) set) where
   -- a set with the last column of each run has all that there is room for

@@ -28,6 +28,18 @@ abbrev pub HasBeside : (ℕ → Bool) → (ℕ → Bool) → Type 0
 HasBeside room set =
     (col beside : ℕ) → DifferByOne col beside → IsTrue (room col) → IsTrue (set beside) → IsTrue (set col)
 
+-- with a column the set has the next one, if there is room for it
+abbrev pub HasNext : (ℕ → Bool) → (ℕ → Bool) → Type 0
+HasNext room set = (col : ℕ) → IsTrue (set col) → IsTrue (room (suc col)) → IsTrue (set (suc col))
+
+-- a word is the seed and columns that each closed set with the seed has, too, all of them within the room, and as wide as it
+-- can be towards the next columns
+pub record IsWidened (room seed word : ℕ) : Type 0 where
+  pub within : IsPart (has_bit word) (has_bit room)
+  pub kept : IsPart (has_bit seed) (has_bit word)
+  pub next : HasNext (has_bit room) (has_bit word)
+  pub least : (set : ℕ → Bool) → HasBeside (has_bit room) set → IsPart (has_bit seed) set → IsPart (has_bit word) set
+
 -- a row has those columns of a word that there is room for
 abbrev pub IsTaken : List ℕ → List ℕ → ℕ → ℕ → Type 0
 IsTaken room rows row word =

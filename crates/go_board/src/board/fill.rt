@@ -1,17 +1,23 @@
 //! Filling sets of points: a word for each row, with a bit for each column.
 
-ghost use Rattle.std.specs.Prelude.{◌≡◌, ◌≢◌, ℕ, ◌+◌, ◌<◌, Bool, IsTrue, IsFalse, length, slice_index, bit_or};
-ghost use Rattle.go_board.specs.inner.Rows.{has_bit, is_set, row_above, IsPart, HasBeside, AreWide, IsTaken, TakeAbove, TakeBelow, IsAmong, IsClosed, IsRowClosed, Grows, lacking};
+ghost use Rattle.std.specs.Prelude.{◌≡◌, ◌≢◌, ℕ, ◌+◌, ◌<◌, ◌≤◌, Bool, IsTrue, IsFalse, length, slice_index, bit_or};
+ghost use Rattle.go_board.specs.inner.Rows.{has_bit, is_set, row_above, IsPart, HasBeside, IsWidened, AreWide, IsTaken, TakeAbove, TakeBelow, IsAmong, IsClosed, IsRowClosed, Grows, lacking};
 
 /// A set of columns with those that there is room for after one of them, up to the next gap: as far as a sum carries.
 fn carried(seed: u64, room: u64) -> u64
     requires { IsPart (has_bit seed) (has_bit room) }
-    ensures within { IsPart (has_bit result) (has_bit room) }
-    ensures kept { IsPart (has_bit seed) (has_bit result) }
-    ensures least { (set : ℕ → Bool) → HasBeside (has_bit room) set → IsPart (has_bit seed) set
-        → IsPart (has_bit result) set }
+    ensures { IsWidened room seed result }
 {
     room & !room.wrapping_add(seed) | seed
+}
+
+/// A set of columns with those that there is room for just before one of them.
+fn with_before(word: u64, room: u64) -> u64
+    ensures widened { (seed : ℕ) → IsWidened room seed word → IsWidened room seed result }
+    ensures closed { (seed : ℕ) → IsWidened room seed word → result ≡ word → HasBeside (has_bit room) (has_bit word) }
+    ensures at_least { word ≤ result }
+{
+    word | room & word >> 1
 }
 
 /// Whether a set has the last column of each run of columns that there is room for.
@@ -22,8 +28,8 @@ fn has_all_ends(word: u64, room: u64) -> bool
     room & !(room >> 1) & !word == 0
 }
 
-/// Widens a set of columns by those beside it that there is room for, until none is left. Mostly each run of columns that
-/// there is room for has one of the set: then there is nothing to be repeated.
+/// Widens a set of columns by those beside it that there is room for, until none is left. Mostly a few steps are enough, or
+/// each run of columns that there is room for has one of the set.
 fn widened(seed: u64, room: u64) -> u64
     requires { IsPart (has_bit seed) (has_bit room) }
     ensures within { IsPart (has_bit result) (has_bit room) }
@@ -32,18 +38,21 @@ fn widened(seed: u64, room: u64) -> u64
     ensures least { (set : ℕ → Bool) → HasBeside (has_bit room) set → IsPart (has_bit seed) set
         → IsPart (has_bit result) set }
 {
-    let mut word = carried(seed, room);
+    let near = with_before(with_before(carried(seed, room), room), room);
+    let mut word = with_before(near, room);
+    if word == near {
+        return near;
+    }
     if has_all_ends(word, room) {
         return room;
     }
-    'widen: while word != room {
-        let wider = (word | word << 1 | word >> 1) & room;
+    'widen: loop {
+        let wider = with_before(word, room);
         if wider == word {
             return word;
         }
         word = wider;
     }
-    room
 }
 
 /// The row above one, empty above the first.

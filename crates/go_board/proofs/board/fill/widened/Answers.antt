@@ -1,30 +1,35 @@
-use Rattle.std.proofs.Common.{ap, ◌∙◌, arith}
-use Rattle.go_board.specs.inner.Rows.{has_bit}
-use Rattle.go_board.proofs.WordLemmas.{wider-within, wider-kept, wider-least, wider-closed, wider-more}
 use Rattle.go_board.proofs.board.fill.widened.Goals as goal
+
+pub returns-then-word-near-clause-within : goal.returns-then-word-near-clause-within
+returns-then-word-near-clause-within c =
+    (c.with_before-near.ensures.widened c.args.seed (c.with_before.ensures.widened c.args.seed c.carried.ensures)).within
+
+pub returns-then-word-near-clause-kept : goal.returns-then-word-near-clause-kept
+returns-then-word-near-clause-kept c =
+    (c.with_before-near.ensures.widened c.args.seed (c.with_before.ensures.widened c.args.seed c.carried.ensures)).kept
+
+pub returns-then-word-near-clause-closed : goal.returns-then-word-near-clause-closed
+returns-then-word-near-clause-closed c =
+    let near = c.with_before-near.ensures.widened c.args.seed (c.with_before.ensures.widened c.args.seed c.carried.ensures) in
+    c.with_before-word.ensures.closed c.args.seed near c.if-word-near.true
+
+pub returns-then-word-near-clause-least : goal.returns-then-word-near-clause-least
+returns-then-word-near-clause-least c =
+    (c.with_before-near.ensures.widened c.args.seed (c.with_before.ensures.widened c.args.seed c.carried.ensures)).least
+
+pub widen-init : goal.widen-init
+widen-init c =
+    let near = c.with_before-near.ensures.widened c.args.seed (c.with_before.ensures.widened c.args.seed c.carried.ensures) in
+    c.with_before-word.ensures.widened c.args.seed near
 
 pub returns-then-has_all_ends-clause-least : goal.returns-then-has_all_ends-clause-least
 returns-then-has_all_ends-clause-least c = λ set beside part.
-    c.has_all_ends.ensures c.if-has_all_ends.true set beside (c.carried-word.ensures.least set beside part)
+    let near = c.with_before-near.ensures.widened c.args.seed (c.with_before.ensures.widened c.args.seed c.carried.ensures) in
+    c.has_all_ends.ensures c.if-has_all_ends.true set beside ((c.with_before-word.ensures.widened c.args.seed near).least set beside part)
 
 pub returns-then-wider-word-clause-closed : goal.returns-then-wider-word-clause-closed
 returns-then-wider-word-clause-closed c =
-    wider-closed c.widen.word c.args.room (omega (arith, c.ranges.room.fits)) c.if-wider-word.true
-
-pub widen-smaller : goal.widen-smaller
-widen-smaller c =
-    wider-more c.widen.word c.args.room (omega (arith, c.ranges.room.fits)) c.widen.invariant.within c.if-wider-word.false
+    c.with_before-wider.ensures.closed c.args.seed c.widen.invariant c.if-wider-word.true
 
 pub widen-preserved : goal.widen-preserved
-widen-preserved c =
-    let w = c.widen.word in
-    let room = c.args.room in
-    record {
-      within = wider-within w room;
-      kept = λ col is. wider-kept w room c.widen.invariant.within col (c.widen.invariant.kept col is);
-      least = λ set beside part. wider-least w room set beside (c.widen.invariant.least set beside part);
-    }
-
-pub returns-clause-least : goal.returns-clause-least
-returns-clause-least c = λ set beside part col there.
-    c.widen.invariant.least set beside part col (ap (λ w. has_bit w col) c.widen-test.false ∙ there)
+widen-preserved c = c.with_before-wider.ensures.widened c.args.seed c.widen.invariant
