@@ -55,12 +55,12 @@ past-pop g since older older' o changes parts past =
     }
 
 -- one colouring more, from which the newest changes lead back
-pub past-more : (g h : Grid) (since next : ℕ) (older : List Older) (o : Older) (old new : List Change) → next ≡ since + 1 → o.since ≡ since → o.changes ≤ length new → before h o new ≡ g → changes_before o new ≡ old → IsPast g since older old → (IsTrue o.settled → has_unreaching g ≡ false) → AreOn h.side new → IsPast h next (older ++ o ∷ []) new
+pub past-more : (g h : Grid) (since next : ℕ) (older : List Older) (o : Older) (old new : List Change) → (0 < next → next ≡ since + 1) → o.since ≡ since → o.changes ≤ length new → before h o new ≡ g → changes_before o new ≡ old → IsPast g since older old → (IsTrue o.settled → has_unreaching g ≡ false) → AreOn h.side new → IsPast h next (older ++ o ∷ []) new
 past-more g h since next older o old new follows same few before_is rest_is past settled on =
     let turned : reverse (older ++ o ∷ []) ≡ o ∷ reverse older = reverse-append older (o ∷ []) in
     record {
       kept = rw turned (few, λ is. ap has_unreaching before_is ∙ settled is, rw (before_is, rest_is) past.kept);
-      counted = rw turned ((λ _. omega (arith, follows, same)), rw same past.counted);
+      counted = rw turned ((λ more. omega (arith, follows more, same)), rw same past.counted);
       on_grid = on;
     }
 

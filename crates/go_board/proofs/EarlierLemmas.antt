@@ -1,5 +1,5 @@
 -- A referee has as many earlier states as it keeps something of.
-use Rattle.std.proofs.Common.{◌≡◌, ℕ, suc, ◌+◌, true, false, Option, List, [], ◌∷◌, length, reverse, refl, sym, ap, subst, ◌∙◌, arith, IsTrue}
+use Rattle.std.proofs.Common.{◌≡◌, ℕ, suc, ◌+◌, ◌≤◌, Bool, true, false, Option, List, [], ◌∷◌, length, reverse, refl, sym, ap, subst, ◌∙◌, arith, IsTrue}
 use Rattle.std.proofs.lemmas.Bool.{false≢true}
 use Rattle.std.proofs.lemmas.List.{length-reverse}
 use Rattle.go_board.specs.declared.referee.earlier.Earlier.{Earlier}
@@ -16,9 +16,9 @@ length-states_before held (e ∷ es) = ap suc (length-states_before (held_before
 pub length-earlier : (held : List Held) (es : List Earlier) → length (states_before held (reverse es)) ≡ length es
 length-earlier held es = length-states_before held (reverse es) ∙ length-reverse es
 
--- what a referee keeps once a stone made its past grow
-pub IsKept-stone : (held now : List Held) (made spare : Grid) (InStep : Type 0) (player next : Option Colour) (passes turns : ℕ) (left : Earlier) (es : List Earlier) → now ≡ record { colouring = made; begins = false } ∷ held → made.side ≡ (newest_grid held).side → IsKept held spare InStep player passes turns es → left ≡ record { turns = turns; player = player; passes = passes; grew = true } → IsKept now spare (IsTrue false) next 0 (turns + 1) (left ∷ es)
-IsKept-stone held now made spare InStep player next passes turns left es is side kept left_is =
+-- what a referee keeps once its past grew by a colouring that was made in place
+pub IsKept-grown : (held now : List Held) (made spare : Grid) (begins : Bool) (InStep : Type 0) (player next : Option Colour) (passes turns turns' : ℕ) (left : Earlier) (es : List Earlier) → now ≡ record { colouring = made; begins = begins } ∷ held → made.side ≡ (newest_grid held).side → IsKept held spare InStep player passes turns es → left ≡ record { turns = turns; player = player; passes = passes; grew = true } → turns' ≤ turns + 1 → IsKept now spare (IsTrue false) next 0 turns' (left ∷ es)
+IsKept-grown held now made spare begins InStep player next passes turns turns' left es is side kept left_is few =
     rw (is, left_is)
     (record {
       one_side = (refl, subst (λ n. HaveSide n held) (sym side) kept.one_side);
@@ -26,7 +26,7 @@ IsKept-stone held now made spare InStep player next passes turns left es is side
       spare_side = kept.spare_side ∙ sym side;
       in_step = λ never. absurd (false≢true never);
       few_passes = omega arith;
-      few_turns = omega (arith, kept.few_turns);
+      few_turns = omega (arith, kept.few_turns, few);
       bounded = (kept.few_passes, kept.few_turns, kept.bounded);
       from_start = kept.from_start ∙ ap starting (sym side);
     })

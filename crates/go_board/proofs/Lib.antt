@@ -36,6 +36,7 @@ pub mod RangeLemmas
 pub mod ChangesLemmas
 pub mod ColouringsLemmas
 pub mod TakenLemmas
+pub mod SetupLemmas
 pub mod TableLemmas
 pub mod StoneRowsLemmas
 pub mod AloneLemmas

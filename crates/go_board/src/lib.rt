@@ -31,15 +31,15 @@
 //! | `board/areas`, `board/reset` | colouring areas; emptying the board in place |
 //! | `past` | the colourings that a game has been through; `past/list_past` and `past/print_past` keep them |
 //! | `past/colourings`, `past/changes`, `past/differences` | past colourings as changes that lead back |
-//! | `past/captures` | a stone placed on the newest colouring itself, with what it captures |
+//! | `past/captures`, `past/setups` | a stone with what it captures, and a setup's points, on the newest colouring itself |
 //! | `past/print`, `past/table` | the print of a colouring, and `past/print/powers` for it; prints looked up by a table |
 //! | `reason`, `fault` | why a turn, or a node of a game record, isn't allowed; the errors |
 //! | `referee` | the referee and undo; `referee/plays`, `referee/setup`, `referee/turn`, `referee/reset` and `referee/earlier` below it |
 //! | `laws` | what the words of the contracts mean |
 //!
 //! A point *reaches* a colour where a path of adjacent points of the point's own colour leads from it to a point of that
-//! colour; a stone that reaches empty has a liberty. Only a past's `new`, `push`, `restart` and `try_stone` and a referee's
-//! `new`, `setup` and `turn` take memory, and their `reset` where the past can't be begun anew in place.
+//! colour; a stone that reaches empty has a liberty. Only a past's `new`, `push`, `restart`, `try_stone` and `try_setup` and a
+//! referee's `new`, `setup` and `turn` take memory, and their `reset` where the past can't be begun anew in place.
 #![tactic(auto)]
 
 mod board;

@@ -7,20 +7,23 @@ mod differences;
 mod list_past;
 pub(crate) mod print;
 mod print_past;
+mod setups;
 mod table;
 #[cfg(test)]
 mod tests;
 
-ghost use Rattle.std.specs.Prelude.{◌≡◌, ◌≤◌, ◌↔◌, [], ◌∷◌, true, false, List, Some, length, drop, IsTrue, IfOk, OnOk, OnErr, Contains, if◌then◌else◌};
+ghost use Rattle.std.specs.Prelude.{◌≡◌, ◌≤◌, ◌↔◌, [], ◌∷◌, true, false, List, Some, All, fold, length, drop, IsTrue, IfOk, OnOk, OnErr, Contains, if◌then◌else◌};
 ghost use Rattle.go_board.specs.declared.stones.Cell.TheVariants.{Empty};
-ghost use Rattle.go_board.specs.Point.{IsOn};
+ghost use Rattle.go_board.specs.Point.{IsOn, IsRectOn};
 ghost use Rattle.go_board.specs.Grid.{cell_at, empty_grid};
 ghost use Rattle.go_board.specs.Clearing.{play};
+ghost use Rattle.go_board.specs.State.{with_area};
 ghost use Rattle.go_board.specs.Past.{Held, newest, newest_grid, present_stretch, HaveSide};
 
 use crate::board::Board;
 use crate::fault::MemoryFault;
 use crate::points::Point;
+use crate::referee::SetupOp;
 use crate::size::Size;
 use crate::stones::Colour;
 pub use list_past::ListPast;
@@ -78,6 +81,19 @@ pub trait Past: Drop {
         ensures err { OnErr result (held self.new ≡ held self.old) }
     {
         let _ = (colour, point);
+        Ok(false)
+    }
+
+    /// Tries to colour areas of the newest colouring, in order, whatever stood there: where that can be done in place, a
+    /// stretch begins with the colouring that they make. Tells whether it was done. If not, nothing is changed.
+    fn try_setup(&mut self, ops: &[SetupOp]) -> Result<bool, MemoryFault>
+        requires { All (λ op. IsRectOn (newest_grid (held self.old)).side op.area) ops.now }
+        ensures ok { IfOk result (λ done. held self.new ≡ (if done then
+            record { colouring = fold with_area (newest_grid (held self.old)) ops.now; begins = true } ∷ held self.old
+            else held self.old)) }
+        ensures err { OnErr result (held self.new ≡ held self.old) }
+    {
+        let _ = ops;
         Ok(false)
     }
 

@@ -75,3 +75,10 @@ pub record LeadsBack (side : ℕ) (old new : List Cell) (start n : ℕ) (changes
   pub back : after_changes (record { side = side; cells = new }) (drop start changes) ≡ record { side = side; cells = take n old ++ drop n new }
   pub few : length changes ≤ start + n
   pub on_grid : AreOn side changes
+
+-- the changes from a start on, the newest first, lead from g back to h; the others are those in front
+pub record LeadBackwards (start : ℕ) (h : Grid) (front : List Change) (g : Grid) (changes : List Change) : Type 0 where
+  pub starts : start ≤ length changes
+  pub front_is : take start changes ≡ front
+  pub back : after_changes g (reverse (drop start changes)) ≡ h
+  pub on_grid : AreOn h.side changes

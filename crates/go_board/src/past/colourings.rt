@@ -1,11 +1,12 @@
 //! Past colourings, of which the newest is kept whole, and of each older one the changes that lead back to it.
 
-ghost use Rattle.std.specs.Prelude.{◌≡◌, ◌+◌, ◌-◌, ◌<◌, ◌≤◌, ◌↔◌, [], ◌∷◌, Some, true, false, IsTrue, IsFalse, IfOk, OnOk, OnErr, if◌then◌else◌, length, map, take, drop};
+ghost use Rattle.std.specs.Prelude.{◌≡◌, ◌+◌, ◌-◌, ◌<◌, ◌≤◌, ◌↔◌, [], ◌∷◌, Some, true, false, All, fold, IsTrue, IsFalse, IfOk, OnOk, OnErr, if◌then◌else◌, length, map, take, drop};
 ghost use Rattle.go_board.specs.declared.stones.Cell.TheVariants.{Empty};
 ghost use Rattle.go_board.specs.Colour.{stone_of};
-ghost use Rattle.go_board.specs.Point.{IsOn};
+ghost use Rattle.go_board.specs.Point.{IsOn, IsRectOn};
 ghost use Rattle.go_board.specs.Grid.{Grid, cell_at, with_cell, empty_grid};
 ghost use Rattle.go_board.specs.Clearing.{play};
+ghost use Rattle.go_board.specs.State.{with_area};
 ghost use Rattle.go_board.specs.Past.{Held, newest, newest_grid, present_stretch, HaveSide};
 ghost use Rattle.go_board.specs.inner.Print.{print_of};
 
@@ -13,7 +14,9 @@ use crate::board::Board;
 use crate::fault::MemoryFault;
 use crate::past::captures::place_on;
 use crate::past::changes::{Change, Older, follow, take_back};
+use crate::past::setups::{are_few_points, set_points};
 use crate::points::Point;
+use crate::referee::SetupOp;
 use crate::size::Size;
 use crate::stones::{Cell, Colour};
 use std::alloc::Global;
@@ -192,6 +195,33 @@ impl Colourings {
         self.older.push(kept).unwrap();
         self.since = since;
         true
+    }
+
+    /// Begins a stretch with the colouring that areas make which are coloured in order on the newest colouring. Tells whether it
+    /// was done: only where each area is a point, and they are few enough for their changes to be counted. If not, nothing is
+    /// changed.
+    pub(crate) fn set_up(&mut self, ops: &[SetupOp]) -> Result<bool, MemoryFault>
+        requires { All (λ op. IsRectOn (newest_grid self.old).side op.area) ops.now }
+        ensures ok { IfOk result (λ done. self.new ≡ (if done then
+            record { colouring = fold with_area (newest_grid self.old) ops.now; begins = true } ∷ self.old
+            else self.old)) }
+        ensures err { OnErr result (self.new ≡ self.old) }
+    {
+        if !are_few_points(ops) {
+            return Ok(false);
+        }
+        self.older.reserve(1)?;
+        self.changes.reserve(ops.len())?;
+        let settled = self.newest.is_settled();
+        let kept = Older {
+            since: self.since,
+            changes: set_points(&mut self.newest, ops, &mut self.changes),
+            settled,
+        };
+        self.newest.prepare();
+        self.older.push(kept).unwrap();
+        self.since = 0;
+        Ok(true)
     }
 
     /// Takes the newest colouring back. The print is that of the colouring before it.

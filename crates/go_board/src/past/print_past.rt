@@ -9,6 +9,7 @@ use crate::past::Past;
 use crate::past::colourings::Colourings;
 use crate::past::table::Table;
 use crate::points::Point;
+use crate::referee::SetupOp;
 use crate::size::Size;
 use crate::stones::Colour;
 use std::alloc::Global;
@@ -82,6 +83,18 @@ impl Past for PrintPast {
             return self.try_alone(colour, point);
         }
         self.try_captures(colour, point)
+    }
+
+    fn try_setup(&mut self, ops: &[SetupOp]) -> Result<bool, MemoryFault> {
+        let before = self.colourings.newest().print();
+        if !self.colourings.set_up(ops)? {
+            return Ok(false);
+        }
+        if self.prints.push(self.colourings.newest().print()).is_err() {
+            self.colourings.pop(before);
+            return Err(MemoryFault);
+        }
+        Ok(true)
     }
 
     fn pop(&mut self) {

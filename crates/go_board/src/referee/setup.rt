@@ -41,8 +41,30 @@ impl<P: Past> Referee<P> {
         Ok(())
     }
 
-    /// Colours areas on the spare board, and begins the past anew with it.
+    /// Colours areas, and begins the past anew with what that makes.
     fn begin_anew(&mut self, ops: &[SetupOp], player: Option<Colour>) -> Result<(), MemoryFault>
+        requires { All (λ op. IsRectOn self.old.present.colouring.side op.area) ops.now }
+        ensures ok { OnOk result (self.new ≡ followed_by self.old
+            (with_setup self.old.present (fold with_area self.old.present.colouring ops.now) player)) }
+        ensures err { OnErr result (self.new ≡ self.old) }
+    {
+        let left = self.present_kept(true);
+        if !self.past.try_setup(ops)? {
+            return self.begin_by_spare(ops, player);
+        }
+        if self.earlier.push(left).is_err() {
+            self.past.pop();
+            return Err(MemoryFault);
+        }
+        self.in_step = false;
+        self.player = player;
+        self.passes = 0;
+        Ok(())
+    }
+
+    /// The same by the spare board, on which the areas are coloured.
+    #[inline(never)]
+    fn begin_by_spare(&mut self, ops: &[SetupOp], player: Option<Colour>) -> Result<(), MemoryFault>
         requires { All (λ op. IsRectOn self.old.present.colouring.side op.area) ops.now }
         ensures ok { OnOk result (self.new ≡ followed_by self.old
             (with_setup self.old.present (fold with_area self.old.present.colouring ops.now) player)) }

@@ -1,9 +1,9 @@
-use Rattle.std.proofs.Common.{◌≡◌, ◌++◌, [], ◌∷◌, true, false, Some, IsTrue, reverse, ap, sym, ◌∙◌, rules}
+use Rattle.std.proofs.Common.{◌≡◌, ◌+◌, ◌++◌, [], ◌∷◌, true, false, Some, IsTrue, reverse, ap, sym, ◌∙◌, arith, rules}
 use Rattle.std.proofs.lemmas.List.{reverse-append}
 use Rattle.go_board.specs.Clearing.{play}
 use Rattle.go_board.specs.Past.{newest_grid}
 use Rattle.go_board.specs.State.{States}
-use Rattle.go_board.proofs.EarlierLemmas.{IsKept-stone}
+use Rattle.go_board.proofs.EarlierLemmas.{IsKept-grown}
 use Rattle.go_board.proofs.SettledLemmas.{side_play}
 use Rattle.go_board.proofs.TurnLemmas.{reason_of-new, on_err}
 use Rattle.go_board.proofs.referee.Referee.take_stone.Goals as goal
@@ -43,4 +43,4 @@ invariant_of-self-2 g c =
     ∙ ap (λ b. record { turns = was.turns; player = was.player; passes = was.passes; grew = b }) left.ensures.grew in
     let items : c.push.new.self.items ≡ was.earlier.items ++ left.result ∷ [] = search rules in
     let earlier : reverse c.push.new.self.items ≡ left.result ∷ reverse was.earlier.items = ap reverse items ∙ reverse-append was.earlier.items (left.result ∷ []) in
-    rw earlier (IsKept-stone held (g.P.Past.held c.try_stone.new.self) made was.spare (IsTrue was.in_step) was.player (Some c.opponent.result) was.passes was.turns left.result (reverse was.earlier.items) now (side_play (newest_grid held) c.args.colour c.args.point) c.self.invariant is)
+    rw earlier (IsKept-grown held (g.P.Past.held c.try_stone.new.self) made was.spare false (IsTrue was.in_step) was.player (Some c.opponent.result) was.passes was.turns (was.turns + 1) left.result (reverse was.earlier.items) now (side_play (newest_grid held) c.args.colour c.args.point) c.self.invariant is (omega arith))

@@ -17,5 +17,5 @@ invariant_of-self-2 c =
     let next : c.in-Ok.since ≡ was.since + 1 = c.in-Ok.ensures in
     let side : h.side ≡ was.newest.side = ap (λ (g : Grid). g.side) done.there ∙ side_play was.newest c.args.colour c.args.point in
     subst (λ os. IsPast h c.in-Ok.since os new) (sym older)
-    (past-more was.newest h was.since c.in-Ok.since was.older.items kept was.changes.items new next refl done.count done.back done.front c.self.invariant c.is_settled-settled.ensures
+    (past-more was.newest h was.since c.in-Ok.since was.older.items kept was.changes.items new (λ _. next) refl done.count done.back done.front c.self.invariant c.is_settled-settled.ensures
     (subst (λ n. AreOn n new) (sym side) done.on_grid))
