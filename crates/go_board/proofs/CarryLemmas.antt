@@ -212,11 +212,11 @@ module _ (room seed word : ℕ) (widened : IsWidened room seed word) where
 
   pub IsWidened-before : IsWidened room seed (with_before word room)
   IsWidened-before = record {
-    within = λ c is. elim (before_or_own c is) [ | inl own ↦ widened.within c own | inr far ↦ far.0 ];
+    within = λ c is. elim (before_or_own c is) [ inl own ↦ widened.within c own | inr far ↦ far.0 ];
     kept = λ c is. keeps c (widened.kept c is);
     next = λ c is in_room.
         keeps (suc c)
-        (elim (before_or_own c is) [ | inl own ↦ widened.next c own in_room | inr far ↦ far.1 ]);
+        (elim (before_or_own c is) [ inl own ↦ widened.next c own in_room | inr far ↦ far.1 ]);
     least = λ set beside part c is.
         elim (before_or_own c is) [
           | inl own ↦ widened.least set beside part c own

@@ -1,6 +1,7 @@
 -- Words of private contracts alone.
 pub mod Neighbour
 pub mod Rows
+pub mod Edge
 pub mod Linked
 pub mod Regions
 pub mod StoneRows

@@ -1,6 +1,7 @@
 //! Filling sets of points: a word for each row, with a bit for each column.
 
 ghost use Rattle.std.specs.Prelude.{◌≡◌, ◌≢◌, ℕ, ◌+◌, ◌<◌, ◌≤◌, Bool, IsTrue, IsFalse, length, slice_index, bit_or};
+ghost use Rattle.go_board.specs.inner.Edge.{IsGrownTo, AreGrown};
 ghost use Rattle.go_board.specs.inner.Rows.{has_bit, is_set, row_above, IsPart, HasBeside, IsWidened, AreWide, IsTaken, TakeAbove, TakeBelow, IsAmong, IsClosed, IsRowClosed, Grows, lacking};
 
 /// A set of columns with those that there is room for after one of them, up to the next gap: as far as a sum carries.
@@ -56,7 +57,7 @@ fn widened(seed: u64, room: u64) -> u64
 }
 
 /// The row above one, empty above the first.
-pub(crate) fn above(rows: &[u64], row: usize) -> u64
+pub(crate) fn row_above(rows: &[u64], row: usize) -> u64
     requires { row < length rows.now }
     ensures { result ≡ row_above rows.now row }
 {
@@ -64,7 +65,7 @@ pub(crate) fn above(rows: &[u64], row: usize) -> u64
 }
 
 /// The row below one, empty below the last.
-pub(crate) fn below(rows: &[u64], row: usize) -> u64
+pub(crate) fn row_below(rows: &[u64], row: usize) -> u64
     requires { row < length rows.now }
     ensures { result ≡ slice_index rows.now (row + 1) }
 {
@@ -86,21 +87,87 @@ pub(crate) fn grow_row(rows: &mut [u64], room: &[u64], row: usize)
     ensures unchanged { slice_index rows.new row ≡ slice_index rows.old row → rows.new ≡ rows.old }
     ensures fuller { slice_index rows.new row ≢ slice_index rows.old row → lacking rows.new < lacking rows.old }
 {
-    let beside = above(rows, row) | below(rows, row);
+    let beside = row_above(rows, row) | row_below(rows, row);
     rows[row] = widened((rows[row] | beside) & room[row], room[row]);
 }
 
-/// Grows each row once, from the first to the last: then each is as wide as it can be, and takes what stands above it.
-fn grow_each(rows: &mut [u64], room: &[u64])
+/// What is known at the last row that was grown, where rows are grown from the first to the last: its columns, those that it
+/// lacks of its room, and those that some row lacked of its room beside a column of the row below it.
+#[derive(Clone, Copy)]
+struct Edge {
+    above: u64,
+    lacks: u64,
+    missed: u64,
+}
+
+impl Edge {
+    /// Before the first row.
+    fn none() -> Edge
+        ensures above { result.above ≡ 0 }
+        ensures missed { result.missed ≡ 0 }
+    {
+        Edge {
+            above: 0,
+            lacks: 0,
+            missed: 0,
+        }
+    }
+}
+
+/// Grows the row after those that were grown.
+fn grow_next(rows: &mut [u64], room: &[u64], row: usize, edge: Edge) -> Edge
+    requires same { length rows.old ≡ length room.now }
+    requires row { row < length rows.old }
+    requires grown { IsGrownTo room.now rows.old row edge }
+    ensures grows { Grows (is_set room.now) (is_set rows.old) (is_set rows.new) }
+    ensures grown { IsGrownTo room.now rows.new (row + 1) result }
+{
+    let beside = edge.above | row_below(rows, row);
+    let room_here = room[row];
+    let word = widened((rows[row] | beside) & room_here, room_here);
+    rows[row] = word;
+    Edge {
+        above: word,
+        lacks: room_here & !word,
+        missed: edge.missed | word & edge.lacks,
+    }
+}
+
+/// Grows each row once, from the first to the last. Tells whether that was enough.
+fn grow_each(rows: &mut [u64], room: &[u64]) -> bool
     requires same { length rows.old ≡ length room.now }
     requires within { IsAmong (is_set rows.old) (is_set room.now) }
-    ensures grows { Grows (is_set room.now) (is_set rows.old) (is_set rows.new) }
-    ensures wide { AreWide room.now rows.new }
-    ensures taken { TakeAbove room.now rows.new (length rows.new) }
+    ensures { AreGrown room.now rows.old rows.new result }
 {
+    let mut edge = Edge::none();
     'rows: for row in 0..rows.len() {
-        grow_row(rows, room, row);
+        edge = grow_next(rows, room, row, edge);
     }
+    edge.missed == 0
+}
+
+/// The same for two sets at once: one needn't wait for the other.
+fn grow_both(
+    black: &mut [u64],
+    black_room: &[u64],
+    white: &mut [u64],
+    white_room: &[u64],
+) -> (bool, bool)
+    requires same { length white.old ≡ length black.old }
+    requires black_rows { length black.old ≡ length black_room.now }
+    requires white_rows { length white.old ≡ length white_room.now }
+    requires black { IsAmong (is_set black.old) (is_set black_room.now) }
+    requires white { IsAmong (is_set white.old) (is_set white_room.now) }
+    ensures black { AreGrown black_room.now black.old black.new result.0 }
+    ensures white { AreGrown white_room.now white.old white.new result.1 }
+{
+    let mut black_edge = Edge::none();
+    let mut white_edge = Edge::none();
+    'rows: for row in 0..black.len() {
+        black_edge = grow_next(black, black_room, row, black_edge);
+        white_edge = grow_next(white, white_room, row, white_edge);
+    }
+    (black_edge.missed == 0, white_edge.missed == 0)
 }
 
 /// Adds to a row, which is as wide as it can be, what there is room for beside the columns of a row above or below it.
@@ -174,7 +241,57 @@ pub(crate) fn fill(rows: &mut [u64], room: &[u64])
     ensures grows { Grows (is_set room.now) (is_set rows.old) (is_set rows.new) }
     ensures closed { IsClosed (is_set room.now) (is_set rows.new) }
 {
-    grow_each(rows, room);
+    let enough = grow_each(rows, room);
+    finish(rows, room, enough);
+}
+
+/// The same for two sets at once.
+pub(crate) fn fill_both(
+    black: &mut [u64],
+    black_room: &[u64],
+    white: &mut [u64],
+    white_room: &[u64],
+)
+    requires same { length white.old ≡ length black.old }
+    requires black_rows { length black.old ≡ length black_room.now }
+    requires white_rows { length white.old ≡ length white_room.now }
+    requires black { IsAmong (is_set black.old) (is_set black_room.now) }
+    requires white { IsAmong (is_set white.old) (is_set white_room.now) }
+    ensures black_grows { Grows (is_set black_room.now) (is_set black.old) (is_set black.new) }
+    ensures black_closed { IsClosed (is_set black_room.now) (is_set black.new) }
+    ensures white_grows { Grows (is_set white_room.now) (is_set white.old) (is_set white.new) }
+    ensures white_closed { IsClosed (is_set white_room.now) (is_set white.new) }
+{
+    let (black_enough, white_enough) = grow_both(black, black_room, white, white_room);
+    finish(black, black_room, black_enough);
+    finish(white, white_room, white_enough);
+}
+
+/// Goes on where each row was grown once, and that wasn't enough.
+fn finish(rows: &mut [u64], room: &[u64], enough: bool)
+    requires same { length rows.old ≡ length room.now }
+    requires within { IsAmong (is_set rows.old) (is_set room.now) }
+    requires wide { AreWide room.now rows.old }
+    requires taken { TakeAbove room.now rows.old (length rows.old) }
+    requires enough { IsTrue enough → IsClosed (is_set room.now) (is_set rows.old) }
+    ensures grows { Grows (is_set room.now) (is_set rows.old) (is_set rows.new) }
+    ensures closed { IsClosed (is_set room.now) (is_set rows.new) }
+{
+    if !enough {
+        fill_on(rows, room);
+    }
+}
+
+/// Lets the rows take what stands below them and what stands above them by turns, until none grows.
+#[inline(never)]
+fn fill_on(rows: &mut [u64], room: &[u64])
+    requires same { length rows.old ≡ length room.now }
+    requires within { IsAmong (is_set rows.old) (is_set room.now) }
+    requires wide { AreWide room.now rows.old }
+    requires taken { TakeAbove room.now rows.old (length rows.old) }
+    ensures grows { Grows (is_set room.now) (is_set rows.old) (is_set rows.new) }
+    ensures closed { IsClosed (is_set room.now) (is_set rows.new) }
+{
     'passes: loop {
         if !take_up(rows, room) {
             return;

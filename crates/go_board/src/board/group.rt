@@ -6,7 +6,7 @@ ghost use Rattle.go_board.specs.Point.{IsOn, AreAdjacent, DifferByOne};
 ghost use Rattle.go_board.specs.inner.Rows.{has_bit, is_set, row_above, IsPart, IsInOrBeside};
 ghost use Rattle.go_board.specs.inner.Linked.{IsFilled, IsLiberty, IsAt, IsBegun, IsShutIn};
 
-use crate::board::fill::{above, below, grow_row};
+use crate::board::fill::{grow_row, row_above, row_below};
 use crate::board::regions::{other_columns, with_column};
 use crate::board::stone_rows::without_column;
 use crate::points::Point;
@@ -78,7 +78,7 @@ fn row_has_liberty(own: &[u64], others: &[u64], group: &[u64], besides: Point, r
     ensures none { IsFalse result → (p q : Point) → p.row ≡ row → IsOn (length group.now) p → AreAdjacent p q
         → IsTrue (is_set group.now q) → IsFilled own.now others.now besides p }
 {
-    let beside = columns_beside(above(group, row), group[row], below(group, row));
+    let beside = columns_beside(row_above(group, row), group[row], row_below(group, row));
     let free = free_columns(own[row], others[row], own.len());
     meet(beside, without_point(free, row, besides))
 }

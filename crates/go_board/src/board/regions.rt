@@ -11,7 +11,7 @@ ghost use Rattle.go_board.specs.inner.Rows.{has_bit, is_set};
 ghost use Rattle.go_board.specs.inner.Regions.{is_there, AreRowsOf, IsLeft, reaches_through_own, count_apart};
 
 use crate::board::Board;
-use crate::board::fill::fill;
+use crate::board::fill::{fill, fill_both};
 use crate::size::{MAX_ROWS, Size};
 use crate::stones::{Cell, Colour};
 
@@ -145,8 +145,7 @@ impl Board {
         self.stones(black, white);
         other_points(white, black_room);
         other_points(black, white_room);
-        fill(black, black_room);
-        fill(white, white_room);
+        fill_both(black, black_room, white, white_room);
     }
 
     /// The black points and the white ones.

@@ -9,10 +9,10 @@ returns-clause-black n c =
     let others = c.stones.new.white in
     let room = c.other_points.new.others in
     let is = c.stones.ensures in
-    AreRowsOf-filled g Empty Black room rows c.fill.new.rows
+    AreRowsOf-filled g Empty Black room rows c.fill_both.new.black
     (room_is g Black White not_white rows others room is.black is.white is.white_rows c.other_points.ensures)
     (seed_is g Black White not_white rows others room is.black is.white is.white_rows c.other_points.ensures)
-    c.fill.ensures.grows c.fill.ensures.closed
+    c.fill_both.ensures.black_grows c.fill_both.ensures.black_closed
 
 pub returns-clause-white : goal.returns-clause-white
 returns-clause-white n c =
@@ -21,7 +21,7 @@ returns-clause-white n c =
     let others = c.stones.new.black in
     let room = c.other_points-2.new.others in
     let is = c.stones.ensures in
-    AreRowsOf-filled g Empty White room rows c.fill-2.new.rows
+    AreRowsOf-filled g Empty White room rows c.fill_both.new.white
     (room_is g White Black not_black rows others room is.white is.black is.black_rows c.other_points-2.ensures)
     (seed_is g White Black not_black rows others room is.white is.black is.black_rows c.other_points-2.ensures)
-    c.fill-2.ensures.grows c.fill-2.ensures.closed
+    c.fill_both.ensures.white_grows c.fill_both.ensures.white_closed

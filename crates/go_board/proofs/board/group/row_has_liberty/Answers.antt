@@ -13,7 +13,7 @@ returns-clause-some c = λ some.
     let left = c.without_point.ensures.left col both.2 in
     let free = c.free_columns-free.ensures.free col left.0 in
     let near = c.columns_beside-beside.ensures.from col both.1 in
-    let at = subst (λ a. IsInOrBeside a (slice_index group row) (slice_index group (row + 1)) col) c.above.ensures (subst (λ b. IsInOrBeside c.above.result (slice_index group row) b col) c.below.ensures near) in
+    let at = subst (λ a. IsInOrBeside a (slice_index group row) (slice_index group (row + 1)) col) c.row_above.ensures (subst (λ b. IsInOrBeside c.row_above.result (slice_index group row) b col) c.row_below.ensures near) in
     let found = adjacent-from group row col at in
     let p : Point = record { col = col; row = row } in (
       p,

@@ -1,6 +1,6 @@
 use Rattle.std.proofs.Common.{length}
 use Rattle.go_board.specs.inner.Rows.{is_set, AreWide, TakeAbove, Grows, lacking}
-use Rattle.go_board.proofs.board.fill.fill.Given as goal
+use Rattle.go_board.proofs.board.fill.fill_on.Given as goal
 
 abbrev pub invariant-passes : goal.invariant-passes
 invariant-passes l = record {
