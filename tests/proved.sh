@@ -49,7 +49,8 @@ for path in glob.glob(f"{top}/docs/*.md"):
         for word in re.findall(r"`(\w+)`", row[1]) if row else []:
             files = glob.glob(f"{top}/crates/*/specs/**/{row[2]}", recursive=True)
             defined += 1
-            if not any(re.search(rf"\b{word}\b", open(file, encoding="utf-8").read()) for file in files):
+            stands = re.compile(rf"^(?:\w+ )*pub (?:data |record )?{word}\b", re.MULTILINE)
+            if not any(stands.search(open(file, encoding="utf-8").read()) for file in files):
                 faults.append(f"{path}: {word} isn't in {row[2]}")
 print("\n".join(faults) or f"{len(named)} calls, {defined} definitions")
 sys.exit(bool(faults))

@@ -89,6 +89,6 @@ oldest_of state (earlier ∷ others) = oldest_of earlier others
 abbrev pub HaveBegun : States → Type 0
 HaveBegun states = oldest_of states.present states.earlier ≡ starting states.present.colouring.side
 
--- the states, and then a new present one
+-- the states, and then a new present one; undo is the way back from these to `states`
 abbrev pub followed_by : States → State → States
 followed_by states state = record { present = state; earlier = states.present ∷ states.earlier }

@@ -1,4 +1,4 @@
--- Words of private contracts alone.
+-- Words of private contracts, and of views.
 pub mod Neighbour
 pub mod Rows
 pub mod Edge

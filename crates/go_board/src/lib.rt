@@ -35,7 +35,7 @@
 //! | `past/print`, `past/table` | the print of a colouring, and `past/print/powers` for it; prints looked up by a table |
 //! | `reason`, `fault` | why a turn, or a node of a game record, isn't allowed; the errors |
 //! | `referee` | the referee and undo; `referee/plays`, `referee/setup`, `referee/turn`, `referee/reset` and `referee/earlier` below it |
-//! | `laws` | what the words of the contracts mean |
+//! | `laws` | what follows from the definitions |
 //!
 //! A point *reaches* a colour where a path of adjacent points of the point's own colour leads from it to a point of that
 //! colour; a stone that reaches empty has a liberty. Only a past's `new`, `push`, `restart`, `try_stone` and `try_setup` and a

@@ -107,10 +107,10 @@ line_again {whole} at n ns ls u w h opens e others =
     let texts = flat_map node_text ns in
     let split : sgf_record (n ∷ ns) ++ u ≡ 40 ∷ (node_text n ++ (texts ++ tail)) =
     ap (λ t. 40 ∷ t) (append_assoc (node_text n ++ texts) (41 ∷ 10 ∷ []) u ∙ append_assoc (node_text n) texts tail) in
-    let opening : White w (40 ∷ (node_text n ++ (texts ++ tail))) = rw split at opens in
+    let game_kind : White w (40 ∷ (node_text n ++ (texts ++ tail))) = rw split at opens in
     let sizes : at + length (40 ∷ (node_text n ++ (texts ++ tail))) ≡ whole = ap (λ t. at + length t) (sym split) ∙ e in
     let sums = length-append (node_text n) (texts ++ tail) in
-    games opening (node_again (at + 1) n (texts ++ tail) h.0 (omega arith))
+    games game_kind (node_again (at + 1) n (texts ++ tail) h.0 (omega arith))
     (nodes_again (at + 1 + length (node_text n)) ns tail h.1 (omega arith)) no_game no_white others
 
 -- after a line feed, or at the beginning, records of lines spell their games

@@ -9,9 +9,9 @@ use Rattle.go_board.specs.State.{State}
 use Rattle.sgf_lines.specs.declared.options.Form.TheVariants.{List as list_form}
 use Rattle.sgf_lines.specs.declared.verdict.Verdict.{Verdict}
 use Rattle.sgf_lines.specs.Lines.{Line, through, node_lines, lines_of_game, lines_from, lines, last_number, place_of}
-use Rattle.sgf_lines.specs.GameSize.{Opening, other_game, no_board, board, opening, root_properties}
+use Rattle.sgf_lines.specs.JudgedGames.{GameKind, other_game, no_board, board, game_kind, root_properties}
 use Rattle.sgf_lines.specs.Step.{step}
-use Rattle.sgf_lines.specs.Walk.{Played, IllegalNode, Walk, before_root, stepped, next_by, next, walk}
+use Rattle.sgf_lines.specs.Walk.{TakenNode, IllegalNode, Walk, before_root, stepped, next_by, next, walk}
 use Rattle.sgf_lines.specs.Verdict.{verdict_with, verdict_by, verdict_of}
 use Rattle.sgf_lines.specs.ListRow.{verdict_text}
 use Rattle.sgf_lines.specs.Record.{record_of}
@@ -98,19 +98,19 @@ root-raised : (by : ℕ) (nodes : List Node) → root_properties (map (raised_no
 root-raised by [] = refl
 root-raised by (n ∷ ns) = refl
 
-abbrev raised_played : ℕ → Played → Played
-raised_played by p = record { node = raised_node by p.node; after = p.after }
+abbrev raised_taken : ℕ → TakenNode → TakenNode
+raised_taken by p = record { node = raised_node by p.node; after = p.after }
 
 abbrev raised_fault : ℕ → IllegalNode → IllegalNode
 raised_fault by fault = record { node = raised_node by fault.node; reason = fault.reason }
 
 abbrev raised_walk : ℕ → Walk → Walk
-raised_walk by w = record { played = map (raised_played by) w.played; state = w.state; fault = option_map (raised_fault by) w.fault }
+raised_walk by w = record { taken = map (raised_taken by) w.taken; state = w.state; fault = option_map (raised_fault by) w.fault }
 
 stepped-raised : (by : ℕ) (w : Walk) (n : Node) (result : Result State Reason)
     → stepped (raised_walk by w) (raised_node by n) result ≡ raised_walk by (stepped w n result)
 stepped-raised by w n (Ok s) =
-    ap (λ ps. record { played = ps; state = s; fault = None }) (sym (map-append (raised_played by) w.played (record { node = n; after = s } ∷ [])))
+    ap (λ ps. record { taken = ps; state = s; fault = None }) (sym (map-append (raised_taken by) w.taken (record { node = n; after = s } ∷ [])))
 stepped-raised by w n (Err reason) = refl
 
 next-raised : (by : ℕ) (w : Walk) (fault : Option IllegalNode) (n : Node)
@@ -127,7 +127,7 @@ verdict_with-raised : (by : ℕ) (s : State) (fault : Option IllegalNode) → ve
 verdict_with-raised by s None = refl
 verdict_with-raised by s (Some fault) = refl
 
-verdict_by-raised : (by : ℕ) (o : Opening) (nodes : List Node) → verdict_by o (map (raised_node by) nodes) ≡ raised_verdict by (verdict_by o nodes)
+verdict_by-raised : (by : ℕ) (o : GameKind) (nodes : List Node) → verdict_by o (map (raised_node by) nodes) ≡ raised_verdict by (verdict_by o nodes)
 verdict_by-raised by other_game nodes = refl
 verdict_by-raised by no_board nodes = refl
 verdict_by-raised by (board side) nodes =
@@ -136,7 +136,7 @@ verdict_by-raised by (board side) nodes =
 
 verdict-raised : (by : ℕ) (nodes : List Node) → verdict_of (map (raised_node by) nodes) ≡ raised_verdict by (verdict_of nodes)
 verdict-raised by nodes =
-    ap (λ ps. verdict_by (opening ps) (map (raised_node by) nodes)) (root-raised by nodes) ∙ verdict_by-raised by (opening (root_properties nodes)) nodes
+    ap (λ ps. verdict_by (game_kind ps) (map (raised_node by) nodes)) (root-raised by nodes) ∙ verdict_by-raised by (game_kind (root_properties nodes)) nodes
 
 row-raised : (by games : ℕ) (line : Line) → IsFilled line → record_of list_form (raised_line by games line) ≡ raised_row by games line
 row-raised by games line filled =

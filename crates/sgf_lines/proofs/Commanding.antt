@@ -14,7 +14,7 @@ use Rattle.go_board.specs.Reason.{reason_of}
 use Rattle.sgf_lines.specs.NodeContents.{Move, Stones, moves, stones, players}
 use Rattle.sgf_lines.specs.Values.{move_value, operations, last_player}
 use Rattle.sgf_lines.specs.Step.{side_in, taken, move_step, setup_step, step_by, step}
-use Rattle.sgf_lines.specs.Walk.{Played, IllegalNode, Walk, stepped, next_by, next}
+use Rattle.sgf_lines.specs.Walk.{TakenNode, IllegalNode, Walk, stepped, next_by, next}
 
 -- a step leaves the side of the board
 side-areas : (g : Grid) (ops : List SetupOp) → (fold with_area g ops).side ≡ g.side
@@ -60,23 +60,23 @@ pub side-step : (s t : State) (n : Node) → step s n ≡ Ok t → side_in t ≡
 side-step s t n e = side-by s t (moves n) (stones n) (players n) e
 
 -- a walk that goes on keeps what was played
-next_extends : (w : Walk) (n : Node) → (more : List Played) × ((next w n).played ≡ w.played ++ more)
+next_extends : (w : Walk) (n : Node) → (more : List TakenNode) × ((next w n).taken ≡ w.taken ++ more)
 next_extends w n = by_fault w.fault
   where
-    by_step : (r : Result State Reason) → (more : List Played) × ((stepped w n r).played ≡ w.played ++ more)
+    by_step : (r : Result State Reason) → (more : List TakenNode) × ((stepped w n r).taken ≡ w.taken ++ more)
     by_step (Ok s) = (record { node = n; after = s } ∷ [], refl)
-    by_step (Err reason) = ([], sym (append-nil w.played))
+    by_step (Err reason) = ([], sym (append-nil w.taken))
 
-    by_fault : (f : Option IllegalNode) → (more : List Played) × ((next_by w f n).played ≡ w.played ++ more)
-    by_fault (Some f) = ([], sym (append-nil w.played))
+    by_fault : (f : Option IllegalNode) → (more : List TakenNode) × ((next_by w f n).taken ≡ w.taken ++ more)
+    by_fault (Some f) = ([], sym (append-nil w.taken))
     by_fault None = by_step (step w.state n)
 
-pub extends : (w : Walk) (ns : List Node) → (more : List Played) × ((fold next w ns).played ≡ w.played ++ more)
-extends w [] = ([], sym (append-nil w.played))
+pub extends : (w : Walk) (ns : List Node) → (more : List TakenNode) × ((fold next w ns).taken ≡ w.taken ++ more)
+extends w [] = ([], sym (append-nil w.taken))
 extends w (n ∷ ns) =
     let one = next_extends w n in
     let rest = extends (next w n) ns in
-    (one.0 ++ rest.0, rest.1 ∙ ap (λ ps. ps ++ rest.0) one.1 ∙ append_assoc w.played one.0 rest.0)
+    (one.0 ++ rest.0, rest.1 ∙ ap (λ ps. ps ++ rest.0) one.1 ∙ append_assoc w.taken one.0 rest.0)
 
 pub or_true : (a b : Bool) → a ≡ true → (a || b) ≡ true
 or_true a b e = ap (λ x. x || b) e

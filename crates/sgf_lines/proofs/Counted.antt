@@ -9,32 +9,32 @@ use Rattle.sgf_tree.specs.Tree.{Node}
 use Rattle.go_board.specs.declared.reason.Reason.{Reason}
 use Rattle.go_board.specs.State.{State}
 use Rattle.sgf_lines.specs.Step.{step}
-use Rattle.sgf_lines.specs.Walk.{Played, IllegalNode, Walk, before_root, stepped, next_by, next, walk, judged_by}
-use Rattle.sgf_lines.specs.GameSize.{Opening, other_game, no_board, board, opening, root_properties}
+use Rattle.sgf_lines.specs.Walk.{TakenNode, IllegalNode, Walk, before_root, stepped, next_by, next, walk, judged_by}
+use Rattle.sgf_lines.specs.JudgedGames.{GameKind, other_game, no_board, board, game_kind, root_properties}
 use Rattle.sgf_lines.specs.Verdict.{judged_on}
 use Rattle.sgf_lines.specs.declared.game.Game.{Game}
-use Rattle.sgf_lines.specs.inner.Played.{IsPlayed, judged_count, Counts}
+use Rattle.sgf_lines.specs.inner.Played.{IsPlayed, judged_count, RaisesPlays}
 use Rattle.sgf_lines.specs.inner.Followed.{CountsOn, CountsFresh, fresh_plays}
 use Rattle.sgf_lines.proofs.Walking.{after_fault}
 use Rattle.sgf_lines.proofs.Along.{front_more}
 use Rattle.sgf_lines.proofs.Played.{met_none, met_some}
 
 -- how many nodes of a walk are judged
-judged_length : (w : Walk) → length (judged_by w) ≡ length w.played + length (option_to_list w.fault)
+judged_length : (w : Walk) → length (judged_by w) ≡ length w.taken + length (option_to_list w.fault)
 judged_length w =
-    length-append (map (λ (p : Played). p.node) w.played) (map (λ (f : IllegalNode). f.node) (option_to_list w.fault))
-    ∙ ap (λ k. k + length (map (λ (f : IllegalNode). f.node) (option_to_list w.fault))) (length-map w.played (λ (p : Played). p.node))
-    ∙ ap (λ k. length w.played + k) (length-map (option_to_list w.fault) (λ (f : IllegalNode). f.node))
+    length-append (map (λ (p : TakenNode). p.node) w.taken) (map (λ (f : IllegalNode). f.node) (option_to_list w.fault))
+    ∙ ap (λ k. k + length (map (λ (f : IllegalNode). f.node) (option_to_list w.fault))) (length-map w.taken (λ (p : TakenNode). p.node))
+    ∙ ap (λ k. length w.taken + k) (length-map (option_to_list w.fault) (λ (f : IllegalNode). f.node))
 
 -- one more where there was no fault
 one_judged : (w : Walk) (n : Node) → w.fault ≡ None → length (judged_by (next w n)) ≡ length (judged_by w) + 1
 one_judged w n none = ap (λ f. length (judged_by (next_by w f n))) none ∙ by_step (step w.state n)
   where
-    before : length (judged_by w) ≡ length w.played + 0
-    before = judged_length w ∙ ap (λ f. length w.played + length (option_to_list f)) none
+    before : length (judged_by w) ≡ length w.taken + 0
+    before = judged_length w ∙ ap (λ f. length w.taken + length (option_to_list f)) none
 
     by_step : (r : Result State Reason) → length (judged_by (stepped w n r)) ≡ length (judged_by w) + 1
-    by_step (Ok s) = omega (arith, before, judged_length (stepped w n (Ok s)), length-append w.played (record { node = n; after = s } ∷ []))
+    by_step (Ok s) = omega (arith, before, judged_length (stepped w n (Ok s)), length-append w.taken (record { node = n; after = s } ∷ []))
     by_step (Err reason) = omega (arith, before, judged_length (stepped w n (Err reason)))
 
 -- as many where there was one
@@ -103,19 +103,19 @@ module _ (side : ℕ) (nodes : List Node) (n : Node) where
   more = ap (λ w. length (judged_by w)) (fold-append next (before_root side) nodes (n ∷ []))
 
   -- a node that wasn't played for want of memory
-  pub counts_none : {A E : Type 0} (old : ℕ) (e : E) → Counts {A = A} old old side nodes (nodes ++ n ∷ []) (Err e)
+  pub counts_none : {A E : Type 0} (old : ℕ) (e : E) → RaisesPlays {A = A} old old side nodes (nodes ++ n ∷ []) (Err e)
   counts_none old e = record { not_fewer = omega arith; not_more = omega (arith, more, not_fewer (walk side nodes) (n ∷ [])); each = tt }
 
   module _ (game : Game) (h : IsPlayed side nodes game) where
     -- a node after a fault
-    pub counts_passed : {A E : Type 0} (old : ℕ) (r : Result A E) → (game.fault ≡ None → ⊥) → Counts old old side nodes (nodes ++ n ∷ []) r
+    pub counts_passed : {A E : Type 0} (old : ℕ) (r : Result A E) → (game.fault ≡ None → ⊥) → RaisesPlays old old side nodes (nodes ++ n ∷ []) r
     counts_passed old r some =
         let f = met_some side nodes game h some in
         let same : judged_count side (nodes ++ n ∷ []) ≡ judged_count side nodes = more ∙ ap (λ w. length (judged_by w)) (none_judged (walk side nodes) n f.0 f.1) in
         record { not_fewer = omega arith; not_more = omega (arith, same); each = on_any r (omega (arith, same)) }
 
     -- a node before the first fault, or that fault
-    pub counts_one : {A E : Type 0} (old new : ℕ) (r : Result A E) → game.fault ≡ None → new ≡ old + 1 → Counts old new side nodes (nodes ++ n ∷ []) r
+    pub counts_one : {A E : Type 0} (old new : ℕ) (r : Result A E) → game.fault ≡ None → new ≡ old + 1 → RaisesPlays old new side nodes (nodes ++ n ∷ []) r
     counts_one old new r none is =
         let one : judged_count side (nodes ++ n ∷ []) ≡ judged_count side nodes + 1 = more ∙ one_judged (walk side nodes) n (met_none side nodes game h none) in
         record { not_fewer = omega arith; not_more = omega (arith, one); each = on_any r (omega (arith, one)) }
@@ -132,10 +132,10 @@ module _ (old mid new side : ℕ) (nodes : List Node) (start i : ℕ) (so_far : 
   front : judged_count side (take (i + 1) nodes) ≡ judged_count side (take i nodes ++ n ∷ [])
   front = ap (judged_count side) (front_more nodes i n at)
 
-  pub counts_on : {A E : Type 0} (x : A) → Counts {E = E} mid new side (take i nodes) (take i nodes ++ n ∷ []) (Ok x) → CountsSoFar old new side nodes start (i + 1)
+  pub counts_on : {A E : Type 0} (x : A) → RaisesPlays {E = E} mid new side (take i nodes) (take i nodes ++ n ∷ []) (Ok x) → CountsSoFar old new side nodes start (i + 1)
   counts_on x h = record { not_fewer = omega (arith, so_far.not_fewer, h.not_fewer); each = omega (arith, so_far.each, h.each, front) }
 
-  pub counts_stopped : {A B E F : Type 0} (e : E) (r : Result B F) → IsErr r → Counts {A = A} mid new side (take i nodes) (take i nodes ++ n ∷ []) (Err e) → Counts old new side (take start nodes) nodes r
+  pub counts_stopped : {A B E F : Type 0} (e : E) (r : Result B F) → IsErr r → RaisesPlays {A = A} mid new side (take i nodes) (take i nodes ++ n ∷ []) (Err e) → RaisesPlays old new side (take start nodes) nodes r
   counts_stopped e (Ok x) bad h = absurd cc
   counts_stopped e (Err f) is h = record {
     not_fewer = omega (arith, so_far.not_fewer, h.not_fewer);
@@ -143,7 +143,7 @@ module _ (old mid new side : ℕ) (nodes : List Node) (start i : ℕ) (so_far : 
     each = tt;
   }
 
-pub counts_all : {A E : Type 0} (old new side : ℕ) (nodes : List Node) (start i : ℕ) (r : Result A E) → CountsSoFar old new side nodes start i → length nodes ≤ i → Counts old new side (take start nodes) nodes r
+pub counts_all : {A E : Type 0} (old new side : ℕ) (nodes : List Node) (start i : ℕ) (r : Result A E) → CountsSoFar old new side nodes start i → length nodes ≤ i → RaisesPlays old new side (take start nodes) nodes r
 counts_all old new side nodes start i r h le =
     let all : judged_count side (take i nodes) ≡ judged_count side nodes = ap (judged_count side) (take_all i nodes le) in
     record { not_fewer = h.not_fewer; not_more = omega (arith, h.each, all); each = on_any r (omega (arith, h.each, all)) }
@@ -155,15 +155,15 @@ fresh_none n nodes shared (Err e) is = record { not_fewer = omega arith; not_mor
 
 -- what is played after the shared nodes is what is judged but not shared
 pub fresh_counts : {A E : Type 0} (old new : ℕ) (nodes : List Node) (shared : ℕ) (r : Result A E) → shared ≤ length nodes
-    → CountsOn old new (opening (root_properties nodes)) (take shared nodes) nodes r → CountsFresh old new nodes shared r
-fresh_counts old new nodes shared r le h = by (opening (root_properties nodes)) refl h
+    → CountsOn old new (game_kind (root_properties nodes)) (take shared nodes) nodes r → CountsFresh old new nodes shared r
+fresh_counts old new nodes shared r le h = by (game_kind (root_properties nodes)) refl h
   where
-    none : (e : judged_on (opening (root_properties nodes)) nodes ≡ []) → new ≡ old → CountsFresh old new nodes shared r
+    none : (e : judged_on (game_kind (root_properties nodes)) nodes ≡ []) → new ≡ old → CountsFresh old new nodes shared r
     none e is =
         let zero : fresh_plays nodes shared ≡ 0 = omega (arith, ap length e) in
         record { not_fewer = omega arith; not_more = omega arith; each = on_any r (omega arith) }
 
-    by : (o : Opening) → opening (root_properties nodes) ≡ o → CountsOn old new o (take shared nodes) nodes r → CountsFresh old new nodes shared r
+    by : (o : GameKind) → game_kind (root_properties nodes) ≡ o → CountsOn old new o (take shared nodes) nodes r → CountsFresh old new nodes shared r
     by other_game e is = none (ap (λ o. judged_on o nodes) e) is
     by no_board e is = none (ap (λ o. judged_on o nodes) e) is
     by (board side) e g =
@@ -181,9 +181,9 @@ pub front_within : (k : ℕ) (old nodes : List Node) → k ≤ length old → ta
 front_within k old nodes le same = omega (arith, length-take-le k old le, ap length same, length-take k nodes)
 
 -- as much was counted, whatever came of the rest
-pub counts_ok : {A B E F : Type 0} {old new side : ℕ} {nodes more : List Node} (x : A) (r : Result B F) → Counts {E = E} old new side nodes more (Ok x) → Counts old new side nodes more r
+pub counts_ok : {A B E F : Type 0} {old new side : ℕ} {nodes more : List Node} (x : A) (r : Result B F) → RaisesPlays {E = E} old new side nodes more (Ok x) → RaisesPlays old new side nodes more r
 counts_ok x r h = record { not_fewer = h.not_fewer; not_more = h.not_more; each = on_any r h.each }
 
-pub counts_err : {B E F : Type 0} (A : Type 0) {old new side : ℕ} {nodes more : List Node} (e : E) (r : Result B F) → IsErr r → Counts {A = A} old new side nodes more (Err e) → Counts old new side nodes more r
+pub counts_err : {B E F : Type 0} (A : Type 0) {old new side : ℕ} {nodes more : List Node} (e : E) (r : Result B F) → IsErr r → RaisesPlays {A = A} old new side nodes more (Err e) → RaisesPlays old new side nodes more r
 counts_err A e (Ok x) bad h = absurd cc
 counts_err A e (Err f) is h = record { not_fewer = h.not_fewer; not_more = h.not_more; each = tt }

@@ -6,8 +6,8 @@ use Rattle.sgf_tree.specs.Tree.{Node}
 use Rattle.go_board.specs.declared.reason.Reason.{Reason}
 use Rattle.go_board.specs.State.{State}
 use Rattle.sgf_lines.specs.Step.{step}
-use Rattle.sgf_lines.specs.GameSize.{Opening, other_game, no_board, board, opening, root_properties}
-use Rattle.sgf_lines.specs.Walk.{Played, IllegalNode, Walk, before_root, stepped, next, judged_by}
+use Rattle.sgf_lines.specs.JudgedGames.{GameKind, other_game, no_board, board, game_kind, root_properties}
+use Rattle.sgf_lines.specs.Walk.{TakenNode, IllegalNode, Walk, before_root, stepped, next, judged_by}
 use Rattle.sgf_lines.specs.Verdict.{judged_on}
 use Rattle.sgf_lines.proofs.Walking.{after_fault}
 use Rattle.sgf_lines.proofs.Along.{same_root}
@@ -25,11 +25,11 @@ more_judged w (n ∷ ns) = one_if w.fault (more_judged (next w n) ns)
 one_judged : (w : Walk) (n : Node) → w.fault ≡ None → judged_by (next w n) ≡ judged_by w ++ n ∷ []
 one_judged w n none = rw none (by (step w.state n))
   where
-    by : (r : Result State Reason) → judged_by (stepped w n r) ≡ (map (λ (p : Played). p.node) w.played ++ []) ++ n ∷ []
-    by (Ok s) = append-nil (map (λ (p : Played). p.node) (w.played ++ record { node = n; after = s } ∷ []))
-        ∙ map-append (λ (p : Played). p.node) w.played (record { node = n; after = s } ∷ [])
-        ∙ ap (λ ns. ns ++ n ∷ []) (sym (append-nil (map (λ (p : Played). p.node) w.played)))
-    by (Err reason) = ap (λ ns. ns ++ n ∷ []) (sym (append-nil (map (λ (p : Played). p.node) w.played)))
+    by : (r : Result State Reason) → judged_by (stepped w n r) ≡ (map (λ (p : TakenNode). p.node) w.taken ++ []) ++ n ∷ []
+    by (Ok s) = append-nil (map (λ (p : TakenNode). p.node) (w.taken ++ record { node = n; after = s } ∷ []))
+        ∙ map-append (λ (p : TakenNode). p.node) w.taken (record { node = n; after = s } ∷ [])
+        ∙ ap (λ ns. ns ++ n ∷ []) (sym (append-nil (map (λ (p : TakenNode). p.node) w.taken)))
+    by (Err reason) = ap (λ ns. ns ++ n ∷ []) (sym (append-nil (map (λ (p : TakenNode). p.node) w.taken)))
 
 judged_fold : (w : Walk) (ns : List Node) → judged_by (fold next w ns) ≡ judged_by w ++ take (more_judged w ns) ns
 judged_fold w [] = sym (append-nil (judged_by w))
@@ -56,13 +56,13 @@ judged_take w (suc k) (n ∷ ns) = by w.fault (judged_take (next w n) k ns)
     by None rest = ap (λ l. n ∷ l) rest
 
 -- the judged nodes are the first ones
-pub judged_front : (said : Opening) (nodes : List Node) → (m : ℕ) × (judged_on said nodes ≡ take m nodes)
+pub judged_front : (said : GameKind) (nodes : List Node) → (m : ℕ) × (judged_on said nodes ≡ take m nodes)
 judged_front other_game nodes = (0, refl)
 judged_front no_board nodes = (0, refl)
 judged_front (board side) nodes = (more_judged (before_root side) nodes, judged_fold (before_root side) nodes)
 
 -- and which of a front they are is seen in it
-judged_of_front : (said : Opening) (nodes : List Node) (k : ℕ) → take k (judged_on said nodes) ≡ judged_on said (take k nodes)
+judged_of_front : (said : GameKind) (nodes : List Node) (k : ℕ) → take k (judged_on said nodes) ≡ judged_on said (take k nodes)
 judged_of_front other_game nodes zero = refl
 judged_of_front other_game nodes (suc k) = refl
 judged_of_front no_board nodes zero = refl
@@ -72,10 +72,10 @@ judged_of_front (board side) nodes k =
 
 -- what lines share is judged alike
 pub judged_alike : (old nodes : List Node) (k : ℕ) → k ≤ length old → take k old ≡ take k nodes
-    → take k (judged_on (opening (root_properties nodes)) nodes) ≡ take k (judged_on (opening (root_properties old)) old)
+    → take k (judged_on (game_kind (root_properties nodes)) nodes) ≡ take k (judged_on (game_kind (root_properties old)) old)
 judged_alike old nodes zero le same = refl
 judged_alike old nodes (suc k) le same =
     let root : root_properties nodes ≡ root_properties old = sym (same_root (suc k) old nodes (omega arith) le same) in
-    let said = opening (root_properties old) in
-    ap (λ ps. take (suc k) (judged_on (opening ps) nodes)) root ∙ judged_of_front said nodes (suc k) ∙ ap (judged_on said) (sym same)
+    let said = game_kind (root_properties old) in
+    ap (λ ps. take (suc k) (judged_on (game_kind ps) nodes)) root ∙ judged_of_front said nodes (suc k) ∙ ap (judged_on said) (sym same)
     ∙ sym (judged_of_front said old (suc k))

@@ -12,7 +12,7 @@ use Rattle.sgf_tree.specs.declared.fault.MemoryFault.{MemoryFault}
 use Rattle.sgf_lines.specs.Lines.{Line, lines, last_number}
 use Rattle.sgf_lines.specs.Paths.{paths}
 use Rattle.sgf_lines.specs.Cursor.{Position, advanced, shown, IsLine}
-use Rattle.sgf_lines.specs.GameSize.{Opening, other_game, no_board, board, opening, root_properties}
+use Rattle.sgf_lines.specs.JudgedGames.{GameKind, other_game, no_board, board, game_kind, root_properties}
 use Rattle.sgf_lines.specs.Walk.{before_root}
 use Rattle.sgf_lines.specs.Verdict.{judged_on}
 use Rattle.sgf_lines.specs.declared.line.LineRef.{LineRef}
@@ -37,9 +37,9 @@ use Rattle.sgf_lines.proofs.Counted.{within}
 
 -- as many nodes are played as are judged, and these are among those of the line
 fresh_within : (nodes : List Node) (shared : ℕ) → fresh_plays nodes shared ≤ length nodes - shared
-fresh_within nodes shared = by (opening (root_properties nodes))
+fresh_within nodes shared = by (game_kind (root_properties nodes))
   where
-    by : (o : Opening) → length (judged_on o nodes) - shared ≤ length nodes - shared
+    by : (o : GameKind) → length (judged_on o nodes) - shared ≤ length nodes - shared
     by other_game = omega arith
     by no_board = omega arith
     by (board side) = omega (arith, within (before_root side) nodes)

@@ -13,8 +13,8 @@ use Rattle.go_board.specs.declared.vertices.TheConstants.{MAX_VERTEX_SIDE}
 use Rattle.go_board.specs.Grid.{Grid}
 use Rattle.go_board.specs.State.{State}
 use Rattle.sgf_lines.specs.NodeContents.{stones}
-use Rattle.sgf_lines.specs.Walk.{Played, Walk, before_root, next, walk}
-use Rattle.sgf_lines.specs.Script.{played_script, leaves_unreaching, leaves_unreaching_by, board_commands, commands_of}
+use Rattle.sgf_lines.specs.Walk.{TakenNode, Walk, before_root, next, walk}
+use Rattle.sgf_lines.specs.Script.{taken_script, leaves_unreaching, leaves_unreaching_by, board_commands, commands_of}
 use Rattle.sgf_lines.specs.declared.kept.KeptText.{KeptText}
 use Rattle.sgf_lines.specs.declared.commands.Commands.{Commands}
 use Rattle.sgf_lines.specs.inner.Kept.{IsKeptText}
@@ -30,11 +30,11 @@ or_false false b e = refl
 whole_is : (side k : ℕ) (nodes : List Node) → walk side nodes ≡ fold next (walk side (take k nodes)) (drop k nodes)
 whole_is side k nodes = ap (fold next (before_root side)) (sym (take-append-drop k nodes)) ∙ fold-append next (before_root side) (take k nodes) (drop k nodes)
 
-any_is : (side k : ℕ) (nodes : List Node) → (more : List Played) × (some_unreaching side nodes ≡ (some_unreaching side (take k nodes) || list_any leaves_unreaching more))
+any_is : (side k : ℕ) (nodes : List Node) → (more : List TakenNode) × (some_unreaching side nodes ≡ (some_unreaching side (take k nodes) || list_any leaves_unreaching more))
 any_is side k nodes =
     let front = walk side (take k nodes) in
     let more = extends front (drop k nodes) in
-    (more.0, ap (λ (w : Walk). list_any leaves_unreaching w.played) (whole_is side k nodes) ∙ ap (list_any leaves_unreaching) more.1 ∙ list_any-append leaves_unreaching front.played more.0)
+    (more.0, ap (λ (w : Walk). list_any leaves_unreaching w.taken) (whole_is side k nodes) ∙ ap (list_any leaves_unreaching) more.1 ∙ list_any-append leaves_unreaching front.taken more.0)
 
 front_reaching : (side k : ℕ) (nodes : List Node) → some_unreaching side nodes ≡ false → some_unreaching side (take k nodes) ≡ false
 front_reaching side k nodes e = let any = any_is side k nodes in or_false (some_unreaching side (take k nodes)) (list_any leaves_unreaching any.0) (sym any.1 ∙ e)
@@ -84,11 +84,11 @@ if_lettered_append side a b = by (nat_lt MAX_VERTEX_SIDE side)
 
 module _ (side : ℕ) (nodes : List Node) (old : Commands) (h : AreCommands side nodes old) (n : Node) (kept : KeptText) (marks : kept.marks.items ≡ old.kept.marks.items ++ length old.kept.text.items ∷ []) where
   -- a node that wasn't played
-  pub commands_passed : kept.text.items ≡ old.kept.text.items → (walk side (nodes ++ n ∷ [])).played ≡ (walk side nodes).played
+  pub commands_passed : kept.text.items ≡ old.kept.text.items → (walk side (nodes ++ n ∷ [])).taken ≡ (walk side nodes).taken
       → AreCommands side (nodes ++ n ∷ []) (record { kept = kept; unreaching = old.unreaching })
   commands_passed text same =
       let is : commands_text side (nodes ++ n ∷ []) ≡ commands_text side nodes ++ [] =
-      ap (λ ps. if_lettered side (board_commands side ++ flat_map played_script ps)) same ∙ sym (append-nil (commands_text side nodes)) in
+      ap (λ ps. if_lettered side (board_commands side ++ flat_map taken_script ps)) same ∙ sym (append-nil (commands_text side nodes)) in
       record {
         kept = kept_on (commands_text side) nodes old.kept kept h.kept n [] marks (text ∙ sym (append-nil old.kept.text.items)) is;
         unreaching = by old.unreaching h.unreaching;
@@ -100,20 +100,20 @@ module _ (side : ℕ) (nodes : List Node) (old : Commands) (h : AreCommands side
 
   -- a node that was
   module _ (after : State) (board : Grid) (left : after.colouring ≡ board) (on : board.side ≡ side)
-      (played : (walk side (nodes ++ n ∷ [])).played ≡ (walk side nodes).played ++ record { node = n; after = after } ∷ []) where
+      (played : (walk side (nodes ++ n ∷ [])).taken ≡ (walk side nodes).taken ++ record { node = n; after = after } ∷ []) where
     text_more : commands_text side (nodes ++ n ∷ []) ≡ commands_text side nodes ++ lettered_script side after n
     text_more =
-        let ps = (walk side nodes).played in
-        let p : Played = record { node = n; after = after } in
-        ap (λ ps. if_lettered side (board_commands side ++ flat_map played_script ps)) played
-        ∙ ap (λ t. if_lettered side (board_commands side ++ t)) (flat_map-append played_script ps (p ∷ []) ∙ ap (λ t. flat_map played_script ps ++ t) (append-nil (played_script p)))
-        ∙ ap (if_lettered side) (sym (append_assoc (board_commands side) (flat_map played_script ps) (played_script p)))
-        ∙ if_lettered_append side (board_commands side ++ flat_map played_script ps) (played_script p)
+        let ps = (walk side nodes).taken in
+        let p : TakenNode = record { node = n; after = after } in
+        ap (λ ps. if_lettered side (board_commands side ++ flat_map taken_script ps)) played
+        ∙ ap (λ t. if_lettered side (board_commands side ++ t)) (flat_map-append taken_script ps (p ∷ []) ∙ ap (λ t. flat_map taken_script ps ++ t) (append-nil (taken_script p)))
+        ∙ ap (if_lettered side) (sym (append_assoc (board_commands side) (flat_map taken_script ps) (taken_script p)))
+        ∙ if_lettered_append side (board_commands side ++ flat_map taken_script ps) (taken_script p)
 
     any_more : some_unreaching side (nodes ++ n ∷ []) ≡ (some_unreaching side nodes || (leaves_unreaching_by board (stones n) || false))
     any_more =
-        let p : Played = record { node = n; after = after } in
-        ap (list_any leaves_unreaching) played ∙ list_any-append leaves_unreaching (walk side nodes).played (p ∷ [])
+        let p : TakenNode = record { node = n; after = after } in
+        ap (list_any leaves_unreaching) played ∙ list_any-append leaves_unreaching (walk side nodes).taken (p ∷ [])
         ∙ ap (λ g. some_unreaching side nodes || (leaves_unreaching_by g (stones n) || false)) left
 
     first_more : (o : Option ℕ) (index : ℕ) (counts : Bool) → index ≡ length nodes → counts ≡ leaves_unreaching_by board (stones n) → IsFirstUnreaching side nodes o
@@ -143,7 +143,7 @@ pub commands_are : (side : ℕ) (nodes : List Node) (commands : Commands) → Ar
 commands_are side nodes commands h = by commands.unreaching refl h.unreaching
   where
     all : List ℕ
-    all = board_commands side ++ flat_map played_script (walk side nodes).played
+    all = board_commands side ++ flat_map taken_script (walk side nodes).taken
 
     none : (a : Bool) → [] ≡ cond (a || true) [] all
     none true = refl

@@ -8,7 +8,7 @@ use Rattle.sgf_tree.specs.Tree.{Node, Games, node_count}
 use Rattle.sgf_tree.specs.FileOrder.{PlacesRise, node_at}
 use Rattle.sgf_lines.specs.Lines.{Line, lines}
 use Rattle.sgf_lines.specs.Paths.{paths}
-use Rattle.sgf_lines.specs.GameSize.{opening, root_properties}
+use Rattle.sgf_lines.specs.JudgedGames.{game_kind, root_properties}
 use Rattle.sgf_lines.specs.Verdict.{judged_nodes}
 use Rattle.sgf_lines.specs.Plays.{different, all_judged, judged_places, places_of}
 use Rattle.sgf_lines.specs.inner.Following.{first_after, Continues, numbers_of, numbers_before}
@@ -59,12 +59,12 @@ module _ (c : Games) (rise : PlacesRise c) where
 
   places_are : (line : Line) (numbers : List ℕ) → map Some line.nodes ≡ map (node_at c) numbers → (m : ℕ) × (judged_places line ≡ take m (map (place_number c) numbers))
   places_are line numbers named =
-      let f = judged_front (opening (root_properties line.nodes)) line.nodes in
+      let f = judged_front (game_kind (root_properties line.nodes)) line.nodes in
       (f.0, ap places_of f.1 ∙ sym (take-map (λ n. n.place) f.0 line.nodes) ∙ ap (take f.0) (places_named c line.nodes numbers named))
 
   judged_short : (line : Line) (numbers : List ℕ) → map Some line.nodes ≡ map (node_at c) numbers → length (judged_nodes line) ≤ length numbers
   judged_short line numbers named =
-      let f = judged_front (opening (root_properties line.nodes)) line.nodes in
+      let f = judged_front (game_kind (root_properties line.nodes)) line.nodes in
       omega (arith, ap length f.1, length-take f.0 line.nodes, as_many (node_at c) line.nodes numbers named)
 
   -- what a line shares with another is judged alike

@@ -25,11 +25,11 @@ use Rattle.go_board.specs.Reason.{must_move, is_occupied, is_repeat, reason_of}
 use Rattle.sgf_lines.specs.Lines.{Line}
 use Rattle.sgf_lines.specs.NodeContents.{Move, Stones, moves, stones, players}
 use Rattle.sgf_lines.specs.Values.{is_pass, move_value, operations, last_player}
-use Rattle.sgf_lines.specs.GameSize.{board, opening, root_properties}
+use Rattle.sgf_lines.specs.JudgedGames.{board, game_kind, root_properties}
 use Rattle.sgf_lines.specs.Step.{side_in, taken, move_step, setup_step, step_by, step}
-use Rattle.sgf_lines.specs.Walk.{Played, IllegalNode, Walk, before_root, stepped, next_by, next, walk}
+use Rattle.sgf_lines.specs.Walk.{TakenNode, IllegalNode, Walk, before_root, stepped, next_by, next, walk}
 use Rattle.sgf_lines.specs.ListRow.{list_row}
-use Rattle.sgf_lines.specs.Script.{comment_line, comment_text, comment_lines, play_line, board_lines, setup_lines, move_lines_by, move_lines, node_script, played_script, leaves_unreaching_by, leaves_unreaching, has_no_commands, board_commands, commands_by, script}
+use Rattle.sgf_lines.specs.Script.{comment_line, comment_text, comment_lines, play_line, board_lines, setup_lines, move_lines_by, move_lines, node_script, taken_script, leaves_unreaching_by, leaves_unreaching, has_no_commands, board_commands, commands_by, script}
 use Rattle.sgf_lines.specs.NodeContents.{first_value}
 use Rattle.sgf_lines.specs.Replay.{is_word, leaves, command_of, after_command, after_line, after_text, replayed}
 use Rattle.sgf_lines.proofs.Lists.{Each}
@@ -237,20 +237,20 @@ module _ (laws : BoardLaws) (side : ℕ) (small : side ≤ 25) where
 
   -- what the walk so far says in commands leads to its board
   abbrev IsSaid : Walk → Type 0
-  IsSaid w = list_any leaves_unreaching w.played ≡ false
-      → CarriesBoard side (Some (empty_grid side)) (flat_map played_script w.played) (Some w.state.colouring) × IsFull side w.state.colouring
+  IsSaid w = list_any leaves_unreaching w.taken ≡ false
+      → CarriesBoard side (Some (empty_grid side)) (flat_map taken_script w.taken) (Some w.state.colouring) × IsFull side w.state.colouring
 
   stepped_said : (w : Walk) (n : Node) (result : Result State Reason) → step w.state n ≡ result → IsSaid w → IsSaid (stepped w n result)
   stepped_said w n (Err reason) e said = said
   stepped_said w n (Ok t) e said = λ settled.
-      let p : Played = record { node = n; after = t } in
-      let parts = any_append leaves_unreaching w.played (p ∷ []) settled in
+      let p : TakenNode = record { node = n; after = t } in
+      let parts = any_append leaves_unreaching w.taken (p ∷ []) settled in
       let before = said parts.0 in
       let one = node_leads w.state t n before.1 (or_false (leaves_unreaching p) false parts.1).0 e in
       let empty = Some (empty_grid side) in
-      let both = takes_both side empty (Some w.state.colouring) (Some t.colouring) (flat_map played_script w.played) (node_script t n) before.0 one.0 in
-      let texts : flat_map played_script (w.played ++ p ∷ []) ≡ flat_map played_script w.played ++ node_script t n =
-      flat_map-append played_script w.played (p ∷ []) ∙ ap (λ x. flat_map played_script w.played ++ x) (append-nil (node_script t n)) in
+      let both = takes_both side empty (Some w.state.colouring) (Some t.colouring) (flat_map taken_script w.taken) (node_script t n) before.0 one.0 in
+      let texts : flat_map taken_script (w.taken ++ p ∷ []) ≡ flat_map taken_script w.taken ++ node_script t n =
+      flat_map-append taken_script w.taken (p ∷ []) ∙ ap (λ x. flat_map taken_script w.taken ++ x) (append-nil (node_script t n)) in
       (subst (λ x. CarriesBoard side empty x (Some t.colouring)) (sym texts) both, one.1)
 
   next_said : (w : Walk) (fault : Option IllegalNode) (n : Node) → IsSaid w → IsSaid (next_by w fault n)
@@ -283,18 +283,18 @@ module _ (laws : BoardLaws) (side : ℕ) (small : side ≤ 25) where
       subst (λ x. CarriesBoard side (Some now) x (Some (empty_grid side))) (append_assoc line (10 ∷ []) (codes "clear_board\n"))
       (takes_both side (Some now) (Some now) (Some (empty_grid side)) (line ++ (10 ∷ [])) (codes "clear_board\n") sized cleared)
 
-pub script_replayed : BoardLaws → (line : Line) (side : ℕ) → opening (root_properties line.nodes) ≡ board side
+pub script_replayed : BoardLaws → (line : Line) (side : ℕ) → game_kind (root_properties line.nodes) ≡ board side
     → has_no_commands side (walk side line.nodes) ≡ false → replayed side (script line) ≡ Some (walk side line.nodes).state.colouring
 script_replayed laws line side opens says =
     let w = walk side line.nodes in
-    let parts = or_false (nat_lt MAX_VERTEX_SIDE side) (list_any leaves_unreaching w.played) says in
+    let parts = or_false (nat_lt MAX_VERTEX_SIDE side) (list_any leaves_unreaching w.taken) says in
     let small : side ≤ 25 = grind (arith, nat_tests, parts.0) in
     let empty = Some (empty_grid side) in
     let said = walk_said laws side small (before_root side) line.nodes (begun_said laws side small) parts.1 in
-    let played = flat_map played_script w.played in
+    let played = flat_map taken_script w.taken in
     let all : CarriesBoard side empty (board_commands side ++ played) (Some w.state.colouring) =
     takes_both side empty empty (Some w.state.colouring) (board_commands side) played (takes_commands laws side small (empty_grid side)) said.0 in
-    let commands : commands_by (opening (root_properties line.nodes)) line.nodes ≡ board_commands side ++ played =
+    let commands : commands_by (game_kind (root_properties line.nodes)) line.nodes ≡ board_commands side ++ played =
     ap (λ o. commands_by o line.nodes) opens ∙ ap (λ b. cond b [] (board_commands side ++ played)) says in
     let row : CarriesBoard side empty (comment_line (list_row line)) empty = takes_comment side empty (list_row line) (row_within line) in
     let both : CarriesBoard side empty (comment_line (list_row line) ++ (board_commands side ++ played)) (Some w.state.colouring) =

@@ -3,7 +3,7 @@ use Rattle.std.proofs.Common.{◌≡◌, ℕ, true, List, ◌++◌, length, Opti
 use Rattle.std.specs.Prelude.{codes}
 use Rattle.sgf_tree.specs.Tree.{Node, Games}
 use Rattle.sgf_lines.specs.Lines.{Line}
-use Rattle.sgf_lines.specs.GameSize.{Opening, opening, root_properties}
+use Rattle.sgf_lines.specs.JudgedGames.{GameKind, game_kind, root_properties}
 use Rattle.sgf_lines.specs.Walk.{walk}
 use Rattle.sgf_lines.specs.ListRow.{list_row, row_text}
 use Rattle.sgf_lines.specs.Verdict.{verdict_of}
@@ -23,7 +23,7 @@ asked_commands : (side : ℕ) (nodes : List Node) (commands : Option Commands) �
 asked_commands side nodes None h = absurd h
 asked_commands side nodes (Some commands) h = commands_are side nodes commands h
 
-commands_held : (said : Opening) (nodes : List Node) (followed : Followed) → IsHeld true said nodes followed → followed_commands followed ≡ commands_by said nodes
+commands_held : (said : GameKind) (nodes : List Node) (followed : Followed) → IsHeld true said nodes followed → followed_commands followed ≡ commands_by said nodes
 commands_held said nodes OtherGame h = ap (λ o. commands_by o nodes) (sym h)
 commands_held said nodes NoBoard h = ap (λ o. commands_by o nodes) (sym h)
 commands_held said nodes (Judged game) h = asked_commands h.0 nodes game.commands h.2.commands ∙ ap (λ o. commands_by o nodes) (sym h.1)
@@ -33,8 +33,8 @@ pub script_followed : (c : Games) (l : Line) (line : LineRef) (v : Verdict) (fol
     → head ≡ comment_line (row_text line.place line.game (length line.path.now) v) → head ++ (followed_commands followed ++ codes "\n") ≡ script l
 script_followed c l line v followed head h e is first =
     let row : head ≡ comment_line (list_row l) = first ∙ ap comment_line (row-is c l line v h e) in
-    let commands = commands_by (opening (root_properties l.nodes)) l.nodes in
-    ap (λ t. t ++ (followed_commands followed ++ codes "\n")) row ∙ ap (λ t. comment_line (list_row l) ++ (t ++ codes "\n")) (commands_held (opening (root_properties l.nodes)) l.nodes followed is)
+    let commands = commands_by (game_kind (root_properties l.nodes)) l.nodes in
+    ap (λ t. t ++ (followed_commands followed ++ codes "\n")) row ∙ ap (λ t. comment_line (list_row l) ++ (t ++ codes "\n")) (commands_held (game_kind (root_properties l.nodes)) l.nodes followed is)
     ∙ sym (append_assoc (comment_line (list_row l)) commands (codes "\n"))
 
 -- its row and a line feed

@@ -3,7 +3,7 @@ use Rattle.std.specs.Prelude.{ℕ, ◌+◌, List, ◌++◌, length, codes, decim
 use Rattle.sgf_lines.specs.declared.verdict.Verdict.{Verdict}
 use Rattle.sgf_lines.specs.declared.verdict.Verdict.TheVariants.{Score, Illegal, NotGo, BadSize}
 use Rattle.sgf_lines.specs.Lines.{Line, place_of}
-use Rattle.sgf_lines.specs.ListRow.{verdict_text}
+use Rattle.sgf_lines.specs.ListRow.{row_text}
 use Rattle.sgf_lines.specs.Verdict.{verdict}
 
 -- a verdict on a line that stands `by` bytes further on: the place of a faulty node is raised by so many
@@ -17,5 +17,4 @@ raised_verdict by BadSize = BadSize
 -- faulty node are raised by the bytes, and the number of its game by the games
 abbrev pub raised_row : ℕ → ℕ → Line → List ℕ
 raised_row by games line =
-    (decimal (by + place_of line) ++ codes " " ++ decimal (games + line.game_number) ++ codes " " ++ decimal (length line.nodes)
-    ++ codes " " ++ verdict_text (raised_verdict by (verdict line))) ++ codes "\n"
+    row_text (by + place_of line) (games + line.game_number) (length line.nodes) (raised_verdict by (verdict line)) ++ codes "\n"

@@ -2,6 +2,7 @@
 -- the top, on a board of a given side, where a stone is played by the Tromp-Taylor rules.
 use Rattle.std.specs.Prelude.{ℕ, Bool, true, false, ◌-◌, ◌==◌, ◌||◌, ◌&&◌, nat_le, nat_lt, if◌then◌else◌, Option, Some, None, option_and_then, List, [], ◌∷◌, filter, map, fold, codes, bytes_eq}
 use Rattle.std.specs.List.{slice_split, position}
+use Rattle.sgf_tree.specs.Bytes.{space, line_feed, capital_a, small_a, small_z}
 use Rattle.sgf_tree.specs.Number.{magnitude_of}
 use Rattle.go_board.specs.declared.stones.Cell.TheVariants.{Empty}
 use Rattle.go_board.specs.declared.stones.Colour.{Colour}
@@ -12,10 +13,14 @@ use Rattle.go_board.specs.Grid.{Grid, cell_at, empty_grid}
 use Rattle.go_board.specs.Clearing.{play}
 use Rattle.go_board.specs.Vertex.{column_letters}
 
+-- `#`
+abbrev pub number_sign : ℕ
+number_sign = 35
+
 -- what stands before a comment, which a `#` begins
 abbrev pub before_comment : List ℕ → List ℕ
 before_comment [] = []
-before_comment (b ∷ bs) = if b == 35 then [] else b ∷ before_comment bs
+before_comment (b ∷ bs) = if b == number_sign then [] else b ∷ before_comment bs
 
 abbrev pub is_word : List ℕ → Bool
 is_word [] = false
@@ -23,11 +28,11 @@ is_word (b ∷ bs) = true
 
 -- the words of a line, between spaces
 abbrev pub words : List ℕ → List (List ℕ)
-words line = filter is_word (slice_split (λ b. b == 32) (before_comment line))
+words line = filter is_word (slice_split (λ b. b == space) (before_comment line))
 
 -- a letter as a capital, any other byte as it is: colours and vertices may be written in either case
 abbrev pub capital : ℕ → ℕ
-capital b = if nat_le 97 b && nat_le b 122 then b - 32 else b
+capital b = if nat_le small_a b && nat_le b small_z then b - (small_a - capital_a) else b
 
 -- the player that a word names
 abbrev pub colour_named : List ℕ → Option Colour
@@ -81,7 +86,7 @@ after_line side board line = option_and_then (λ (g : Grid). after_command side 
 
 -- the lines of a text taken from the top
 abbrev pub after_text : ℕ → Option Grid → List ℕ → Option Grid
-after_text side board text = fold (after_line side) board (slice_split (λ b. b == 10) text)
+after_text side board text = fold (after_line side) board (slice_split (λ b. b == line_feed) text)
 
 -- the board after a whole script, which begins with an empty one; none where a stone is played on a point that isn't empty
 abbrev pub replayed : ℕ → List ℕ → Option Grid

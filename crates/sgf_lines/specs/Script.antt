@@ -2,6 +2,7 @@
 use Rattle.std.specs.Prelude.{ℕ, Bool, false, ◌==◌, ◌||◌, nat_lt, if◌then◌else◌, Option, Some, None, List, [], ◌∷◌, ◌++◌, filter, codes, decimal}
 use Rattle.std.specs.List.{flat_map, list_any, slice_split}
 use Rattle.sgf_tree.specs.Tree.{Node}
+use Rattle.sgf_tree.specs.Bytes.{line_feed}
 use Rattle.sgf_tree.specs.Text.{text_of}
 use Rattle.go_board.specs.declared.stones.Colour.{Colour}
 use Rattle.go_board.specs.declared.stones.Colour.TheVariants.{Black, White}
@@ -19,8 +20,8 @@ use Rattle.go_board.specs.State.{State}
 use Rattle.sgf_lines.specs.Lines.{Line}
 use Rattle.sgf_lines.specs.NodeContents.{Move, Stones, moves, stones, first_value}
 use Rattle.sgf_lines.specs.Values.{move_value}
-use Rattle.sgf_lines.specs.GameSize.{Opening, other_game, no_board, board, opening, root_properties}
-use Rattle.sgf_lines.specs.Walk.{Played, Walk, walk}
+use Rattle.sgf_lines.specs.JudgedGames.{GameKind, other_game, no_board, board, game_kind, root_properties}
+use Rattle.sgf_lines.specs.Walk.{TakenNode, Walk, walk}
 use Rattle.sgf_lines.specs.ListRow.{list_row}
 
 -- a comment line
@@ -30,7 +31,7 @@ comment_line piece = codes "# " ++ piece ++ codes "\n"
 -- a text cut at each line feed, a comment line for each piece; no line for an empty text
 abbrev pub text_lines : List ℕ → List ℕ
 text_lines [] = []
-text_lines (b ∷ bs) = flat_map comment_line (slice_split (λ c. c == 10) (b ∷ bs))
+text_lines (b ∷ bs) = flat_map comment_line (slice_split (λ c. c == line_feed) (b ∷ bs))
 
 -- the decoded text of a comment, which a node may have
 abbrev pub comment_text : Option (List ℕ) → List ℕ
@@ -87,20 +88,20 @@ node_script after n =
     let g : Grid = after.colouring in
     comment_lines n ++ setup_lines g (stones n) ++ move_lines g.side (moves n)
 
-abbrev pub played_script : Played → List ℕ
-played_script p = node_script p.after p.node
+abbrev pub taken_script : TakenNode → List ℕ
+taken_script p = node_script p.after p.node
 
 -- whether a node sets up stones of which one doesn't reach empty, which no play on a board can lead to
 abbrev pub leaves_unreaching_by : Grid → List Stones → Bool
 leaves_unreaching_by g [] = false
 leaves_unreaching_by g (t ∷ ts) = has_unreaching g
 
-abbrev pub leaves_unreaching : Played → Bool
+abbrev pub leaves_unreaching : TakenNode → Bool
 leaves_unreaching p = leaves_unreaching_by p.after.colouring (stones p.node)
 
 -- whether a walk can't be said in commands: the side is past the letters, or some setup can't be put on a board
 abbrev pub has_no_commands : ℕ → Walk → Bool
-has_no_commands side w = nat_lt MAX_VERTEX_SIDE side || list_any leaves_unreaching w.played
+has_no_commands side w = nat_lt MAX_VERTEX_SIDE side || list_any leaves_unreaching w.taken
 
 -- the commands before the first node's
 abbrev pub board_commands : ℕ → List ℕ
@@ -109,10 +110,10 @@ board_commands side = codes "boardsize " ++ decimal side ++ codes "\nclear_board
 -- the commands of a walk: those of all nodes before the faulty one
 abbrev pub commands_of : ℕ → Walk → List ℕ
 commands_of side w =
-    if has_no_commands side w then [] else board_commands side ++ flat_map played_script w.played
+    if has_no_commands side w then [] else board_commands side ++ flat_map taken_script w.taken
 
 -- a line that isn't judged has none
-abbrev pub commands_by : Opening → List Node → List ℕ
+abbrev pub commands_by : GameKind → List Node → List ℕ
 commands_by other_game nodes = []
 commands_by no_board nodes = []
 commands_by (board side) nodes = commands_of side (walk side nodes)
@@ -120,4 +121,4 @@ commands_by (board side) nodes = commands_of side (walk side nodes)
 -- the line's row as a comment, its commands, and an empty line
 abbrev pub script : Line → List ℕ
 script line =
-    comment_line (list_row line) ++ commands_by (opening (root_properties line.nodes)) line.nodes ++ codes "\n"
+    comment_line (list_row line) ++ commands_by (game_kind (root_properties line.nodes)) line.nodes ++ codes "\n"

@@ -9,7 +9,7 @@ use Rattle.sgf_lines.specs.declared.verdict.Verdict.{Verdict}
 use Rattle.sgf_lines.specs.declared.verdict.Verdict.TheVariants.{Score, Illegal, NotGo, BadSize}
 use Rattle.sgf_lines.specs.Lines.{Line, lines}
 use Rattle.sgf_lines.specs.Paths.{paths, leaf_of}
-use Rattle.sgf_lines.specs.GameSize.{Opening, other_game, no_board, board, opening, root_properties}
+use Rattle.sgf_lines.specs.JudgedGames.{GameKind, other_game, no_board, board, game_kind, root_properties}
 use Rattle.sgf_lines.specs.Walk.{IllegalNode, Walk, walk, judged_by}
 
 -- the scores of a state, and whether two passes in a row ended the game
@@ -25,26 +25,26 @@ verdict_with s (Some fault) = Illegal (s.turns + 1) fault.node.place fault.reaso
 abbrev pub verdict_at : Walk → Verdict
 verdict_at w = verdict_with w.state w.fault
 
-abbrev pub verdict_by : Opening → List Node → Verdict
+abbrev pub verdict_by : GameKind → List Node → Verdict
 verdict_by other_game nodes = NotGo
 verdict_by no_board nodes = BadSize
 verdict_by (board side) nodes = verdict_at (walk side nodes)
 
 -- the verdict of the nodes of a line, the root first
 abbrev pub verdict_of : List Node → Verdict
-verdict_of nodes = verdict_by (opening (root_properties nodes)) nodes
+verdict_of nodes = verdict_by (game_kind (root_properties nodes)) nodes
 
 abbrev pub verdict : Line → Verdict
 verdict line = verdict_of line.nodes
 
 -- the nodes of a line that are judged: all, or those up to the first that isn't allowed, or none
-abbrev pub judged_on : Opening → List Node → List Node
+abbrev pub judged_on : GameKind → List Node → List Node
 judged_on other_game nodes = []
 judged_on no_board nodes = []
 judged_on (board side) nodes = judged_by (walk side nodes)
 
 abbrev pub judged_nodes : Line → List Node
-judged_nodes line = judged_on (opening (root_properties line.nodes)) line.nodes
+judged_nodes line = judged_on (game_kind (root_properties line.nodes)) line.nodes
 
 -- the verdict is that of the line of a collection that ends in the node of this number
 pub record IsVerdictAt (c : Games) (leaf : ℕ) (v : Verdict) : Type 0 where

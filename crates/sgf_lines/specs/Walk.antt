@@ -6,7 +6,7 @@ use Rattle.go_board.specs.State.{State, starting}
 use Rattle.sgf_lines.specs.Step.{step}
 
 -- a node whose step was taken, and the state after it
-pub record Played : Type 0 where
+pub record TakenNode : Type 0 where
   pub node : Node
   pub after : State
 
@@ -17,17 +17,17 @@ pub record IllegalNode : Type 0 where
 
 -- the nodes whose steps were taken; the state after them; and the fault, if one was met
 pub record Walk : Type 0 where
-  pub played : List Played
+  pub taken : List TakenNode
   pub state : State
   pub fault : Option IllegalNode
 
 -- before the first node, on a board of that side
 abbrev pub before_root : ℕ → Walk
-before_root side = record { played = []; state = starting side; fault = None }
+before_root side = record { taken = []; state = starting side; fault = None }
 
 -- a step that was taken goes on, and one that was refused is the fault
 abbrev pub stepped : Walk → Node → Result State Reason → Walk
-stepped w n (Ok s) = record { played = w.played ++ record { node = n; after = s } ∷ []; state = s; fault = None }
+stepped w n (Ok s) = record { taken = w.taken ++ record { node = n; after = s } ∷ []; state = s; fault = None }
 stepped w n (Err reason) = record w { fault = Some (record { node = n; reason = reason }) }
 
 -- one node later; nothing comes after a fault
@@ -44,7 +44,7 @@ walk side nodes = fold next (before_root side) nodes
 
 -- the nodes that were judged: those whose steps were taken, and the faulty one
 abbrev pub judged_by : Walk → List Node
-judged_by w = map (λ (p : Played). p.node) w.played ++ map (λ (f : IllegalNode). f.node) (option_to_list w.fault)
+judged_by w = map (λ (p : TakenNode). p.node) w.taken ++ map (λ (f : IllegalNode). f.node) (option_to_list w.fault)
 
 -- the state after nodes whose steps are taken one after another, from a state on
 pub data IsAfter : State → List Node → State → Type 0 where

@@ -77,7 +77,7 @@ impl Commands {
         }
     }
 
-    /// Goes back to the first `kept` nodes, of which there is one.
+    /// Goes back to the first `kept` nodes, of which there is at least one.
     pub(crate) fn cut_back(&mut self, kept: usize)
         ensures { (side : ℕ) (nodes : List Node) → AreCommands side nodes self.old → 0 < kept → kept ≤ length nodes
             → AreCommands side (take kept nodes) self.new }

@@ -2,7 +2,7 @@
 
 ghost use Rattle.std.specs.Prelude.{◌≡◌, ◌∷◌, ◌++◌, [], ℕ, List, OnOk, IfOk};
 ghost use Rattle.sgf_tree.specs.Tree.{Property, values};
-ghost use Rattle.sgf_lines.specs.inner.Contents.{Lists, combined, kind_named as kind_named_lem, kind_of as kind_of_lem, lists_of_kind, IsContents, IsGathered};
+ghost use Rattle.sgf_lines.specs.inner.Contents.{Lists, combined, kind_named as kind_named_rule, kind_of as kind_of_rule, lists_of_kind, IsContents, IsGathered};
 
 use crate::plain::{first_comment, with_moves};
 use crate::values::player_value;
@@ -164,7 +164,7 @@ fn push_operation(operation: SetupOp, output: &mut Vec<SetupOp>) -> Result<(), M
 
 /// What the values of a property are; none where they are nothing for the referee nor for a script.
 pub(crate) fn kind_of(property: &PropRef<'_>) -> Option<Kind>
-    ensures { result ≡ kind_of_lem property.now }
+    ensures { result ≡ kind_of_rule property.now }
 {
     match property.short_name() {
         Some(name) => kind_named(name),
@@ -174,7 +174,7 @@ pub(crate) fn kind_of(property: &PropRef<'_>) -> Option<Kind>
 
 /// The kind of a property of that name.
 fn kind_named(name: &[u8]) -> Option<Kind>
-    ensures { result ≡ kind_named_lem name.now }
+    ensures { result ≡ kind_named_rule name.now }
 {
     match name {
         b"B" => Some(Kind::Move(Colour::Black)),
@@ -191,7 +191,7 @@ fn kind_named(name: &[u8]) -> Option<Kind>
 /// The kind of a property whose identifier isn't its name alone, which few are. It is kept apart, since it compares name by name.
 #[inline(never)]
 fn kind_compared(property: &PropRef<'_>) -> Option<Kind>
-    ensures { result ≡ kind_of_lem property.now }
+    ensures { result ≡ kind_of_rule property.now }
 {
     if property.is(b"B") {
         Some(Kind::Move(Colour::Black))

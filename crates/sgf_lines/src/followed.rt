@@ -3,14 +3,14 @@
 ghost use Rattle.std.specs.Prelude.{◌≡◌, ◌≤◌, ◌<◌, ◌+◌, ◌-◌, ℕ, Bool, List, [], Some, map, take, length, All, IfOk, OnOk};
 ghost use Rattle.sgf_tree.specs.Tree.{Node, node_count};
 ghost use Rattle.sgf_tree.specs.FileOrder.{node_at};
-ghost use Rattle.sgf_lines.specs.GameSize.{Opening as OpeningSaid, board, opening, root_properties};
+ghost use Rattle.sgf_lines.specs.JudgedGames.{GameKind as GameKindSaid, board, game_kind, root_properties};
 ghost use Rattle.sgf_lines.specs.Verdict.{verdict_of};
 ghost use Rattle.sgf_lines.specs.declared.followed.Followed.TheVariants.{OtherGame, NoBoard};
-ghost use Rattle.sgf_lines.specs.inner.Played.{IsPlayedAs, Counts};
+ghost use Rattle.sgf_lines.specs.inner.Played.{IsPlayedAs, RaisesPlays};
 ghost use Rattle.sgf_lines.specs.inner.Followed.{IsHeld, IsFollowed, followed_commands, CountsOn, CountsFresh};
 
 use crate::game::Game;
-use crate::opening::{Opening, opening_of};
+use crate::game_kind::{GameKind, game_kind_of};
 use crate::plays::Plays;
 use crate::verdict::Verdict;
 use go_board::Size;
@@ -71,7 +71,7 @@ impl Followed {
         ensures { (old nodes : List Node) (node : Node) → (0 < shared → IsFollowed scripted old self.old) → shared ≤ length old
             → take shared old ≡ take shared nodes → node_at collection.now root ≡ Some node
             → root_properties nodes ≡ node.properties
-            → OnOk result (IsHeld scripted (opening (root_properties nodes)) (take shared nodes) self.new) }
+            → OnOk result (IsHeld scripted (game_kind (root_properties nodes)) (take shared nodes) self.new) }
     {
         if shared == 0 {
             return self.begin_game(alloc, collection, root, scripted);
@@ -96,15 +96,15 @@ impl Followed {
     ) -> Result<(), MemoryFault>
         requires { root < node_count collection.now }
         ensures { (node : Node) → node_at collection.now root ≡ Some node
-            → OnOk result (IsHeld scripted (opening node.properties) [] self.new) }
+            → OnOk result (IsHeld scripted (game_kind node.properties) [] self.new) }
     {
-        match opening_of(&collection.node(root)) {
-            Opening::Board(size) => self.begin_on(alloc, size, scripted),
-            Opening::OtherGame => {
+        match game_kind_of(&collection.node(root)) {
+            GameKind::Board(size) => self.begin_on(alloc, size, scripted),
+            GameKind::OtherGame => {
                 self.hold_other_game();
                 Ok(())
             }
-            Opening::NoBoard => {
+            GameKind::NoBoard => {
                 self.hold_no_board();
                 Ok(())
             }
@@ -158,9 +158,9 @@ impl Followed {
     ) -> Result<(), MemoryFault>
         requires within { All (λ i. i < node_count collection.now) path.now }
         requires countable { plays.old + (length path.now - shared) ≤ u64.MAX }
-        ensures held { (scripted : Bool) (said : OpeningSaid) (nodes : List Node) → map Some nodes ≡ map (node_at collection.now) path.now
+        ensures held { (scripted : Bool) (said : GameKindSaid) (nodes : List Node) → map Some nodes ≡ map (node_at collection.now) path.now
             → IsHeld scripted said (take shared nodes) self.old → OnOk result (IsHeld scripted said nodes self.new) }
-        ensures counted { (scripted : Bool) (said : OpeningSaid) (nodes : List Node) → map Some nodes ≡ map (node_at collection.now) path.now
+        ensures counted { (scripted : Bool) (said : GameKindSaid) (nodes : List Node) → map Some nodes ≡ map (node_at collection.now) path.now
             → IsHeld scripted said (take shared nodes) self.old
             → CountsOn plays.old plays.new said (take shared nodes) nodes result }
     {
@@ -208,7 +208,7 @@ fn play_from(
     ensures played { (scripted : Bool) (side : ℕ) (nodes : List Node) → map Some nodes ≡ map (node_at collection.now) path.now
         → IsPlayedAs scripted side (take from nodes) game.old → OnOk result (IsPlayedAs scripted side nodes game.new) }
     ensures counted { (scripted : Bool) (side : ℕ) (nodes : List Node) → map Some nodes ≡ map (node_at collection.now) path.now
-        → IsPlayedAs scripted side (take from nodes) game.old → Counts plays.old plays.new side (take from nodes) nodes result }
+        → IsPlayedAs scripted side (take from nodes) game.old → RaisesPlays plays.old plays.new side (take from nodes) nodes result }
 {
     for i in from..path.len() {
         game.play(alloc, collection, path[i], plays)?;

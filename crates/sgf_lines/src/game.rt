@@ -7,7 +7,7 @@ ghost use Rattle.sgf_lines.specs.Walk.{walk};
 ghost use Rattle.sgf_lines.specs.Verdict.{verdict_at};
 ghost use Rattle.sgf_lines.specs.inner.Stepping.{IsStepOf};
 ghost use Rattle.sgf_lines.specs.inner.KeptCommands.{HasChanged};
-ghost use Rattle.sgf_lines.specs.inner.Played.{back_to, met_before, IsPlayed, IsPlayedAs, HasCommands, game_commands, Counts};
+ghost use Rattle.sgf_lines.specs.inner.Played.{back_to, met_before, IsPlayed, IsPlayedAs, HasCommands, game_commands, RaisesPlays};
 
 use crate::commands::Commands;
 use crate::judging::score;
@@ -74,7 +74,7 @@ impl Game {
         };
         self.fault = None;
         self.marks.clear();
-        restart_commands(&mut self.commands, alloc, size, scripted)
+        reset_commands(&mut self.commands, alloc, size, scripted)
     }
 
     /// Plays one node more; where it isn't allowed, or one before it wasn't, it is passed over.
@@ -93,7 +93,7 @@ impl Game {
             → IsPlayedAs scripted side nodes self.old → node_at collection.now number ≡ Some node
             → OnOk result (IsPlayedAs scripted side (nodes ++ node ∷ []) self.new) }
         ensures counted { (side : ℕ) (nodes : List Node) (node : Node) → IsPlayed side nodes self.old
-            → Counts plays.old plays.new side nodes (nodes ++ node ∷ []) result }
+            → RaisesPlays plays.old plays.new side nodes (nodes ++ node ∷ []) result }
         ensures one_at_most { plays.new ≤ plays.old + 1 }
     {
         let step = self.take_step(alloc, collection, number, plays)?;
@@ -122,7 +122,7 @@ impl Game {
         ensures told { IfOk result (λ step. IfSome step (λ taken. (node : Node) × (node_at collection.now number ≡ Some node)
             × IsStepOf node taken)) }
         ensures counted { (side : ℕ) (nodes : List Node) (node : Node) → IsPlayed side nodes self.old
-            → Counts plays.old plays.new side nodes (nodes ++ node ∷ []) result }
+            → RaisesPlays plays.old plays.new side nodes (nodes ++ node ∷ []) result }
         ensures one_at_most { plays.new ≤ plays.old + 1 }
         ensures commands { self.new.commands ≡ self.old.commands }
     {
@@ -151,7 +151,7 @@ impl Game {
         }
     }
 
-    /// Goes back to the first `kept` nodes, of which there is one.
+    /// Goes back to the first `kept` nodes, of which there is at least one.
     pub(crate) fn cut_back(&mut self, kept: usize)
         ensures { (scripted : Bool) (side : ℕ) (nodes : List Node) → IsPlayedAs scripted side nodes self.old
             → 0 < kept → kept ≤ length nodes → IsPlayedAs scripted side (take kept nodes) self.new }
@@ -219,7 +219,7 @@ fn commands_before(
 }
 
 /// Begins commands anew, where they are asked for, before the root of a game on a board of that size.
-fn restart_commands(
+fn reset_commands(
     commands: &mut Option<Commands>,
     alloc: Global,
     size: Size,

@@ -3,11 +3,11 @@
 ghost use Rattle.std.specs.Prelude.{◌≡◌, ◌<◌, List, Some, map, length, All, IfOk};
 ghost use Rattle.sgf_tree.specs.Tree.{Node, node_count};
 ghost use Rattle.sgf_tree.specs.FileOrder.{node_at, IsLeaf};
-ghost use Rattle.sgf_lines.specs.GameSize.{board};
+ghost use Rattle.sgf_lines.specs.JudgedGames.{board};
 ghost use Rattle.sgf_lines.specs.Verdict.{score_in, verdict_of, verdict_by, IsVerdictAt};
 ghost use Rattle.sgf_lines.specs.inner.Stepping.{ended_with};
 
-use crate::opening::{Opening, opening_of};
+use crate::game_kind::{GameKind, game_kind_of};
 use crate::seek::write_way;
 use crate::step::{StepFault, play_node};
 use crate::verdict::Verdict;
@@ -46,10 +46,10 @@ pub(crate) fn judge_path(
     ensures { (nodes : List Node) → map Some nodes ≡ map (node_at collection.now) path.now
         → IfOk result (λ verdict. verdict ≡ verdict_of nodes) }
 {
-    match opening_of(&collection.node(path[0])) {
-        Opening::OtherGame => Ok(Verdict::NotGo),
-        Opening::NoBoard => Ok(Verdict::BadSize),
-        Opening::Board(size) => judge_on(alloc, collection, path, size),
+    match game_kind_of(&collection.node(path[0])) {
+        GameKind::OtherGame => Ok(Verdict::NotGo),
+        GameKind::NoBoard => Ok(Verdict::BadSize),
+        GameKind::Board(size) => judge_on(alloc, collection, path, size),
     }
 }
 

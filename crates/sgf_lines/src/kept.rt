@@ -7,7 +7,7 @@ ghost use Rattle.sgf_lines.specs.inner.Kept.{IsKeptText};
 use sgf_tree::MemoryFault;
 use std::alloc::Global;
 
-/// A text of nodes, one after the other, that can be cut back to the first of them.
+/// A text of nodes, one after the other, that can be cut back to any number of the first of them.
 #[derive(Drop)]
 pub(crate) struct KeptText {
     /// The text of all of them.

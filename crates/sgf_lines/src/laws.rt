@@ -15,7 +15,7 @@ ghost use Rattle.sgf_lines.specs.declared.options.Form.TheVariants.{List as list
 ghost use Rattle.sgf_lines.specs.Appending.{raised_row};
 ghost use Rattle.sgf_lines.specs.Output.{sgf_output};
 ghost use Rattle.sgf_lines.specs.Record.{record_of};
-ghost use Rattle.sgf_lines.specs.GameSize.{opening, root_properties, board};
+ghost use Rattle.sgf_lines.specs.JudgedGames.{game_kind, root_properties, board};
 ghost use Rattle.sgf_tree.specs.Tree.{Node};
 ghost use Rattle.go_board.specs.declared.reason.Reason.{Reason};
 ghost use Rattle.go_board.specs.State.{State, starting};
@@ -87,7 +87,7 @@ pub fn pages()
 /// first faulty one, or after all of them.
 /// So an engine that plays stones by the same rules, and refuses none of these, shows the position that was judged.
 pub fn replay()
-    ensures { (line : Line) (side : ℕ) → opening (root_properties line.nodes) ≡ board side
+    ensures { (line : Line) (side : ℕ) → game_kind (root_properties line.nodes) ≡ board side
         → has_no_commands side (walk side line.nodes) ≡ false
         → replayed side (script line) ≡ Some (walk side line.nodes).state.colouring }
 {

@@ -13,7 +13,7 @@
 //! - `seek` looks for the line with a place.
 //! - `options` has what a run is asked for.
 //! - `verdict` has what a referee says of a line.
-//! - `judging` judges a line: `opening` reads its root, `plain`, `contents` and `values` a node, and `step` plays it.
+//! - `judging` judges a line: `game_kind` reads its root, `plain`, `contents` and `values` a node, and `step` plays it.
 //! - `record` writes the text of a line's nodes, `lines` its `row`, and `script` the `commands` of a node, out of pieces of `text`;
 //!   what lines share of them is `kept`.
 //! - `laws` has laws of the definitions.
@@ -37,8 +37,8 @@ mod judging;
 mod kept;
 pub mod laws;
 mod line;
-mod lines;
-mod opening;
+mod list_row;
+mod game_kind;
 mod options;
 mod plain;
 mod plays;

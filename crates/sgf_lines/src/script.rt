@@ -2,11 +2,11 @@
 
 ghost use Rattle.std.specs.Prelude.{◌≡◌, [], ◌∷◌, ◌++◌, ◌≤◌, ◌<◌, ◌*◌, OnOk, option_copied};
 ghost use Rattle.sgf_tree.specs.Tree.{Node};
-ghost use Rattle.go_board.specs.Point.{IsOn, point_at as point_at_lem};
+ghost use Rattle.go_board.specs.Point.{IsOn, point_at as point_at_rule};
 ghost use Rattle.go_board.specs.Grid.{Grid, cell_at};
 ghost use Rattle.go_board.specs.State.{State, IsPlayOn};
 ghost use Rattle.sgf_lines.specs.Script.{text_lines, comment_line, comment_text, colour_letter, move_lines_by, play_line, stone_lines, board_lines, node_script, board_commands};
-ghost use Rattle.sgf_lines.specs.Values.{move_value as move_value_lem};
+ghost use Rattle.sgf_lines.specs.Values.{move_value as move_value_rule};
 ghost use Rattle.sgf_lines.specs.inner.Stepping.{IsStepOf};
 ghost use Rattle.sgf_lines.specs.inner.Cutting.{lines_at, pass_line, stone_line};
 
@@ -117,8 +117,8 @@ fn push_cell(
 ) -> Result<(), MemoryFault>
     requires letters { size ≤ MAX_VERTEX_SIDE }
     requires on_board { index < size * size }
-    ensures { (grid : Grid) → grid.side ≡ size → cell_at grid (point_at_lem size index) ≡ cell
-        → OnOk result (output.new.items ≡ output.old.items ++ lines_at grid colour (point_at_lem size index)) }
+    ensures { (grid : Grid) → grid.side ≡ size → cell_at grid (point_at_rule size index) ≡ cell
+        → OnOk result (output.new.items ≡ output.old.items ++ lines_at grid colour (point_at_rule size index)) }
 {
     if cell == colour.stone() {
         push_play(size, colour, Play::Stone(point_at(index, size)), output)
@@ -130,7 +130,7 @@ fn push_cell(
 /// The point of that index in a list that goes row by row from the top, from left to right.
 fn point_at(index: usize, size: Size) -> Point
     requires { index < size * size }
-    ensures value { result ≡ point_at_lem size index }
+    ensures value { result ≡ point_at_rule size index }
     ensures on_board { IsOn size result }
 {
     let side = usize::from(size.side());
@@ -148,7 +148,7 @@ fn push_move(
     output: &mut Vec<u8>,
 ) -> Result<(), MemoryFault>
     requires { size ≤ MAX_VERTEX_SIDE }
-    ensures { OnOk result (output.new.items ≡ output.old.items ++ move_lines_by size colour (move_value_lem size raw.now)) }
+    ensures { OnOk result (output.new.items ≡ output.old.items ++ move_lines_by size colour (move_value_rule size raw.now)) }
 {
     match move_value(raw, size) {
         Some(play) => push_play(size, colour, play, output),

@@ -2,7 +2,7 @@
 
 ghost use Rattle.std.specs.Prelude.{◌≡◌, [], ℕ, false, length, All, IfOk};
 ghost use Rattle.go_board.specs.Point.{IsRectOn};
-ghost use Rattle.sgf_lines.specs.Values.{move_value as move_value_lem};
+ghost use Rattle.sgf_lines.specs.Values.{move_value as move_value_rule};
 ghost use Rattle.sgf_lines.specs.Step.{step, step_by, move_step};
 ghost use Rattle.sgf_lines.specs.inner.Contents.{Lists, IsContents};
 ghost use Rattle.sgf_tree.specs.Tree.{Node};
@@ -244,7 +244,7 @@ fn take_move<'a, P: Past>(
     size: Size,
 ) -> Result<Effect<'a>, StepFault>
     requires { size ≡ referee.old.present.colouring.side }
-    ensures stepped { IsStepped (move_step referee.old.present colour (move_value_lem size raw.now))
+    ensures stepped { IsStepped (move_step referee.old.present colour (move_value_rule size raw.now))
         referee.old referee.new result }
     ensures effect { IfOk result (IsMoveOf colour raw.now) }
 {
@@ -263,7 +263,7 @@ fn take_turn<P: Past>(
     size: Size,
 ) -> Result<(), StepFault>
     requires { size ≡ referee.old.present.colouring.side }
-    ensures { IsStepped (move_step referee.old.present colour (move_value_lem size raw.now)) referee.old referee.new result }
+    ensures { IsStepped (move_step referee.old.present colour (move_value_rule size raw.now)) referee.old referee.new result }
 {
     let Some(play) = move_value(raw, size) else {
         return Err(StepFault::Illegal(Reason::BadPoint));

@@ -2,7 +2,7 @@
 
 ghost use Rattle.std.specs.Prelude.{◌≡◌, IfSome};
 ghost use Rattle.go_board.specs.State.{IsPlayOn};
-ghost use Rattle.sgf_lines.specs.Values.{is_pass as is_pass_lem, move_value as move_value_lem, player_value as player_value_lem};
+ghost use Rattle.sgf_lines.specs.Values.{is_pass as is_pass_rule, move_value as move_value_rule, player_value as player_value_rule};
 
 use go_board::{Colour, Play, Size, point};
 
@@ -11,7 +11,7 @@ const MAX_LETTER_PASS_SIDE: u8 = 19;
 
 /// The play of a move: a pass, or a stone on a point of the board. None for every other raw value.
 pub(crate) fn move_value(raw: &[u8], size: Size) -> Option<Play>
-    ensures value { result ≡ move_value_lem size raw.now }
+    ensures value { result ≡ move_value_rule size raw.now }
     ensures on_board { IfSome result (IsPlayOn size) }
 {
     if is_pass(raw, size) {
@@ -25,14 +25,14 @@ pub(crate) fn move_value(raw: &[u8], size: Size) -> Option<Play>
 
 /// Whether a raw value is a pass: it is empty, or `tt` where the side is 19 at most.
 fn is_pass(raw: &[u8], size: Size) -> bool
-    ensures { result ≡ is_pass_lem size raw.now }
+    ensures { result ≡ is_pass_rule size raw.now }
 {
     raw.is_empty() || (raw == b"tt".as_slice() && size.side() <= MAX_LETTER_PASS_SIDE)
 }
 
 /// The player that a colour names: `B` or `W`, and nothing else.
 pub(crate) fn player_value(raw: &[u8]) -> Option<Colour>
-    ensures { result ≡ player_value_lem raw.now }
+    ensures { result ≡ player_value_rule raw.now }
 {
     match raw {
         b"B" => Some(Colour::Black),

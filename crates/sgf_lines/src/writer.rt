@@ -13,7 +13,7 @@ use crate::cursor::Cursor;
 use crate::followed::Followed;
 use crate::kept::KeptText;
 use crate::line::LineRef;
-use crate::lines::{push_comment_row, push_list};
+use crate::list_row::{push_comment_row, push_list};
 use crate::options::Form;
 use crate::plays::Plays;
 use crate::record::follow_nodes;

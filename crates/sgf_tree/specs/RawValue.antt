@@ -1,5 +1,6 @@
--- What stands between the brackets of a value (SGF FF[4], ValueType and Escaping): it ends at the first `]` that no `\`
--- escapes. s is what is left of the text before it, and r what is left after it.
+-- What stands between the brackets of a value (SGF FF[4], ValueType and Escaping): units, as many as one likes. None is a
+-- bare `]`, so they end at the first `]` that no `\` escapes, for which IsPropValue (Spelling) asks next. s is what is left of
+-- the text before them, and r what is left after them.
 use Rattle.std.specs.Prelude.{◌≢◌, ℕ, List, [], ◌∷◌}
 use Rattle.sgf_tree.specs.Bytes.{backslash, close_bracket}
 

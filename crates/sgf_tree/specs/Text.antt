@@ -11,31 +11,31 @@ abbrev pub is_pair : ℕ → ℕ → Bool
 is_pair a b = a == carriage_return && b == line_feed || a == line_feed && b == carriage_return
 
 -- tab, vertical tab and form feed give a space, every other byte itself
-abbrev pub plain : ℕ → ℕ
-plain b = if b == tab || b == vertical_tab || b == form_feed then space else b
+abbrev pub spaced : ℕ → ℕ
+spaced b = if b == tab || b == vertical_tab || b == form_feed then space else b
 
--- what a byte gives that no `\` stands before: an LF for a line break, else the byte, plain
+-- what a byte gives that no `\` stands before: an LF for a line break, else the byte, spaced
 abbrev pub unescaped : ℕ → ℕ
-unescaped b = if is_break b then line_feed else plain b
+unescaped b = if is_break b then line_feed else spaced b
 
--- what a byte after a `\` gives: nothing for a line break, else the byte, plain
-abbrev pub escaped : ℕ → List ℕ
-escaped b = if is_break b then [] else plain b ∷ []
+-- what a byte after a `\` gives: nothing for a line break, else the byte, spaced
+abbrev pub after_backslash : ℕ → List ℕ
+after_backslash b = if is_break b then [] else spaced b ∷ []
 
 -- The text, by the first of these cases that fits the front of the raw value:
 --   nothing, or a `\` as the last byte: nothing;
 --   a `\` and a line break: the text of the rest;
---   a `\` and a byte: that byte, plain, and the text of the rest;
+--   a `\` and a byte: that byte, spaced, and the text of the rest;
 --   a line break: an LF and the text of the rest;
---   a byte: that byte, plain, and the text of the rest.
+--   a byte: that byte, spaced, and the text of the rest.
 abbrev pub text_of : List ℕ → List ℕ
 text_of [] = []
 text_of (a ∷ []) = if a == backslash then [] else unescaped a ∷ []
 text_of (a ∷ b ∷ []) =
-    if a == backslash then escaped b
+    if a == backslash then after_backslash b
     else (if is_pair a b then line_feed ∷ []
     else unescaped a ∷ text_of (b ∷ []))
 text_of (a ∷ b ∷ c ∷ rest) =
-    if a == backslash then (if is_pair b c then text_of rest else escaped b ++ text_of (c ∷ rest))
+    if a == backslash then (if is_pair b c then text_of rest else after_backslash b ++ text_of (c ∷ rest))
     else (if is_pair a b then line_feed ∷ text_of (c ∷ rest)
     else unescaped a ∷ text_of (b ∷ c ∷ rest))

@@ -24,7 +24,7 @@ pub enum ReadFault {
     Memory,
 }
 
-/// More memory was wanted and refused.
+/// More memory was wanted and refused. What the call was made on, or was to append to, is unchanged.
 #[derive(Debug, Drop, Error)]
 #[error("out of memory")]
 pub struct MemoryFault;

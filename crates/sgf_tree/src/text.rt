@@ -1,7 +1,7 @@
 //! The decoded text of a raw value.
 
 ghost use Rattle.std.specs.Prelude.{◌≡◌, ◌<◌, ◌≤◌, ◌+◌, ◌++◌, OnOk, OnErr, length, take, drop, option_to_list};
-ghost use Rattle.sgf_tree.specs.Text.{text_of, plain as plain_lem};
+ghost use Rattle.sgf_tree.specs.Text.{text_of, spaced as spaced_rule};
 
 use crate::fault::MemoryFault;
 
@@ -54,16 +54,16 @@ fn decode_front(raw: &[u8]) -> (Option<u8>, &[u8])
         [] | [b'\\'] => (None, &[]),
         [b'\\', b'\r', b'\n', rest @ ..] | [b'\\', b'\n', b'\r', rest @ ..] => (None, rest),
         [b'\\', b'\r' | b'\n', rest @ ..] => (None, rest),
-        [b'\\', byte, rest @ ..] => (Some(plain(*byte)), rest),
+        [b'\\', byte, rest @ ..] => (Some(spaced(*byte)), rest),
         [b'\r', b'\n', rest @ ..] | [b'\n', b'\r', rest @ ..] => (Some(b'\n'), rest),
         [b'\r' | b'\n', rest @ ..] => (Some(b'\n'), rest),
-        [byte, rest @ ..] => (Some(plain(*byte)), rest),
+        [byte, rest @ ..] => (Some(spaced(*byte)), rest),
     }
 }
 
 /// A space for a tab, a vertical tab or a form feed, and every other byte itself.
-fn plain(byte: u8) -> u8
-    ensures { result ≡ plain_lem byte }
+fn spaced(byte: u8) -> u8
+    ensures { result ≡ spaced_rule byte }
 {
     match byte {
         b'\t' | 11 | 12 => b' ',

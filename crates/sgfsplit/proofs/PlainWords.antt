@@ -23,7 +23,7 @@ use Rattle.clap.proofs.ValueTestLemmas.{Accepts-accepts}
 use Rattle.sgf_lines.specs.declared.options.Form.{Form}
 use Rattle.sgf_lines.specs.declared.options.Form.TheVariants as form
 use Rattle.sgfsplit.specs.CommandLine.{FormNames, forms, names_of, program_line}
-use Rattle.sgfsplit.specs.PlainWords.{ArePlain, IsFileWord, IsNameWord, IsNumberWord, SplitWords, Word, count_words, file_words, split_words, form_word}
+use Rattle.sgfsplit.specs.PlainWords.{ArePlainWords, IsFileWord, IsNameWord, IsNumberWord, SplitWords, Word, count_words, file_words, split_words, form_word}
 use Rattle.sgfsplit.specs.inner.Found.{HoldSplitWords, form_named, rows_found}
 use Rattle.sgfsplit.proofs.CommandLine.{AreAccepted, IsNoOption, accepts_form, accepts_number, after_row, count_entered, count_level, count_row, count_rules, count_taken, file_row, form_row, limit_row, split_entered, split_level, split_rows_are, split_rules, split_taken, words_after}
 
@@ -110,7 +110,7 @@ module _ (names : FormNames) (are : names_of names ≡ forms) where
   abbrev after_split : SplitWords → List Word
   after_split given = words_after (option_map form_word given.form) given.after given.limit given.file
 
-  accepted : (given : SplitWords) → ArePlain given → AreAccepted names (option_map form_word given.form) given.after given.limit given.file
+  accepted : (given : SplitWords) → ArePlainWords given → AreAccepted names (option_map form_word given.form) given.after given.limit given.file
   accepted given plain = record {
     list = form_accepted names are form.List;
     form_accepted = some_mapped given.form (λ v. accepts_form names v ≡ true) (form_accepted names are);
@@ -122,12 +122,12 @@ module _ (names : FormNames) (are : names_of names ≡ forms) where
     file_plain = each_some given.file IsFileWord IsNoOption file_plain plain.file;
   }
 
-  pub split_words_taken : (name : Word) (given : SplitWords) → ArePlain given → takes (program_line names) (split_words name given) ≡ true
+  pub split_words_taken : (name : Word) (given : SplitWords) → ArePlainWords given → takes (program_line names) (split_words name given) ≡ true
   split_words_taken name given plain =
       split_taken names name (after_split given)
       (split_level names (option_map form_word given.form) given.after given.limit given.file (accepted given plain))
 
-  pub split_words_entered : (name : Word) (given : SplitWords) → ArePlain given
+  pub split_words_entered : (name : Word) (given : SplitWords) → ArePlainWords given
       → (rows : List Row) × (subcommand_of (program_line names) (split_words name given) ≡ Some (codes "split", rows)) × HoldSplitWords given rows
   split_words_entered name given plain =
       let f = option_map form_word given.form in

@@ -43,7 +43,7 @@ pub record SplitWords : Type 0 where
   pub limit : Option Word
   pub file : Option Word
 
-pub record ArePlain (words : SplitWords) : Type 0 where
+pub record ArePlainWords (words : SplitWords) : Type 0 where
   pub after : IfSome words.after IsNumberWord
   pub limit : IfSome words.limit IsNumberWord
   pub file : IfSome words.file IsFileWord

@@ -7,7 +7,7 @@ ghost use Rattle.clap.specs.Simple.{subcommand_rows_of};
 ghost use Rattle.clap.specs.Walk.{Row, first_of, one_of};
 ghost use Rattle.sgf_lines.specs.declared.options.Form.{Form};
 ghost use Rattle.sgfsplit.specs.CommandLine.{AreFaultless};
-ghost use Rattle.sgfsplit.specs.PlainWords.{Word, SplitWords, ArePlain, IsNumberWord, IsFileWord, SplitsBy, CountsFile, form_word, file_of, options_of, split_words, count_words};
+ghost use Rattle.sgfsplit.specs.PlainWords.{Word, SplitWords, ArePlainWords, IsNumberWord, IsFileWord, SplitsBy, CountsFile, form_word, file_of, options_of, split_words, count_words};
 ghost use Rattle.sgfsplit.specs.inner.Found.{rows_found, form_named, HoldSplitWords};
 
 use crate::command::command;
@@ -72,7 +72,7 @@ fn file_given(alloc: Global, found: &ArgMatches) -> Result<Option<String>, Alloc
 
 /// The job of the words after `split`.
 fn split_job(alloc: Global, found: &ArgMatches) -> Result<Job, AllocError>
-    ensures { IfOk result (λ job. (words : SplitWords) → ArePlain words → HoldSplitWords words (rows_found found.now)
+    ensures { IfOk result (λ job. (words : SplitWords) → ArePlainWords words → HoldSplitWords words (rows_found found.now)
         → SplitsBy (options_of words) (file_of words.file) job) }
 {
     let options = Options {
@@ -94,7 +94,7 @@ fn count_job(alloc: Global, found: &ArgMatches) -> Result<Job, AllocError>
 
 /// The job of a command and the words after it.
 fn command_job(alloc: Global, name: &str, found: &ArgMatches) -> Result<Job, AllocError>
-    ensures split { IfOk result (λ job. name.now ≡ codes "split" → (words : SplitWords) → ArePlain words
+    ensures split { IfOk result (λ job. name.now ≡ codes "split" → (words : SplitWords) → ArePlainWords words
         → HoldSplitWords words (rows_found found.now) → SplitsBy (options_of words) (file_of words.file) job) }
     ensures count { IfOk result (λ job. name.now ≡ codes "count"
         → CountsFile (file_of (first_of (codes "file") (rows_found found.now))) job) }
@@ -108,7 +108,7 @@ fn command_job(alloc: Global, name: &str, found: &ArgMatches) -> Result<Job, All
 /// The job of the words that clap took.
 fn found_job(alloc: Global, found: &ArgMatches) -> Result<Job, AllocError>
     requires { has_subcommand found.now ≡ true }
-    ensures split { IfOk result (λ job. (words : SplitWords) (rows : List Row) → ArePlain words
+    ensures split { IfOk result (λ job. (words : SplitWords) (rows : List Row) → ArePlainWords words
         → subcommand_rows_of found.now ≡ Some (codes "split", rows) → HoldSplitWords words rows
         → SplitsBy (options_of words) (file_of words.file) job) }
     ensures count { IfOk result (λ job. (rows : List Row)
@@ -127,7 +127,7 @@ fn found_job(alloc: Global, found: &ArgMatches) -> Result<Job, AllocError>
 /// `JobFault::Words`, with clap's text and status; so are the words that ask for help.
 pub fn job<'a>(alloc: Global, words: &'a [String]) -> Result<Job, JobFault>
     // Each option there or not, in the order of the help, and FILE or none.
-    ensures split { (name : Word) (given : SplitWords) → ArePlain given
+    ensures split { (name : Word) (given : SplitWords) → ArePlainWords given
         → map string_bytes words.now ≡ split_words name given
         → MatchResult result (SplitsBy (options_of given) (file_of given.file)) (λ fault. fault ≡ JobFault.Memory) }
     ensures count { (name : Word) (file : Option Word) → IfSome file IsFileWord

@@ -63,7 +63,7 @@ AreCounted since (o ∷ os) = (0 < since → since ≡ suc o.since) × AreCounte
 abbrev pub AreOn : ℕ → List Change → Type 0
 AreOn side changes = All (IsRunOn side) changes
 
--- what a past of changes keeps, the older colourings oldest first
+-- what is kept of a past, the older colourings oldest first
 pub record IsPast (newest : Grid) (since : ℕ) (older : List Older) (changes : List Change) : Type 0 where
   pub kept : AreKept newest (reverse older) changes
   pub counted : AreCounted since (reverse older)

@@ -160,6 +160,7 @@ impl PrintPast {
 
     /// Tries a stone that may capture: the colouring that it makes is made in place, and taken back where the present stretch
     /// has its print. Tells whether it was added. No memory is asked for before the print is known to be new.
+    #[inline(never)]
     fn try_captures(&mut self, colour: Colour, point: Point) -> Result<bool, MemoryFault>
         requires on_board { IsOn (newest_grid self.old).side point }
         requires empty { cell_at (newest_grid self.old) point ≡ Empty }

@@ -1,21 +1,21 @@
 -- What is held of the line that a run followed last.
 use Rattle.std.specs.Prelude.{◌≡◌, ◌≤◌, ◌+◌, ◌-◌, ℕ, Bool, List, [], length, Result, OnOk}
 use Rattle.sgf_tree.specs.Tree.{Node}
-use Rattle.sgf_lines.specs.GameSize.{Opening, other_game, no_board, board, opening, root_properties}
+use Rattle.sgf_lines.specs.JudgedGames.{GameKind, other_game, no_board, board, game_kind, root_properties}
 use Rattle.sgf_lines.specs.declared.followed.Followed.{Followed}
 use Rattle.sgf_lines.specs.declared.followed.Followed.TheVariants.{OtherGame, NoBoard, Judged}
 use Rattle.sgf_lines.specs.Verdict.{judged_on}
-use Rattle.sgf_lines.specs.inner.Played.{IsPlayedAs, game_commands, Counts}
+use Rattle.sgf_lines.specs.inner.Played.{IsPlayedAs, game_commands, RaisesPlays}
 
 -- what the root says of the game, and the game played along the nodes, where it is judged
-abbrev pub IsHeld : Bool → Opening → List Node → Followed → Type 0
+abbrev pub IsHeld : Bool → GameKind → List Node → Followed → Type 0
 IsHeld scripted said nodes OtherGame = said ≡ other_game
 IsHeld scripted said nodes NoBoard = said ≡ no_board
 IsHeld scripted said nodes (Judged game) = (side : ℕ) × (said ≡ board side) × IsPlayedAs scripted side nodes game
 
 -- it is held of all nodes of the line
 abbrev pub IsFollowed : Bool → List Node → Followed → Type 0
-IsFollowed scripted nodes followed = IsHeld scripted (opening (root_properties nodes)) nodes followed
+IsFollowed scripted nodes followed = IsHeld scripted (game_kind (root_properties nodes)) nodes followed
 
 -- the commands of that line
 abbrev pub followed_commands : Followed → List ℕ
@@ -24,14 +24,14 @@ followed_commands NoBoard = []
 followed_commands (Judged game) = game_commands game.commands
 
 -- plays went from `old` to `new` where nodes of a game whose root says this became more of them
-abbrev pub CountsOn : {A E : Type 0} → ℕ → ℕ → Opening → List Node → List Node → Result A E → Type 0
+abbrev pub CountsOn : {A E : Type 0} → ℕ → ℕ → GameKind → List Node → List Node → Result A E → Type 0
 CountsOn old new other_game nodes more result = new ≡ old
 CountsOn old new no_board nodes more result = new ≡ old
-CountsOn old new (board side) nodes more result = Counts old new side nodes more result
+CountsOn old new (board side) nodes more result = RaisesPlays old new side nodes more result
 
 -- how many nodes are played for the line of these nodes, of which the first `shared` are played already
 abbrev pub fresh_plays : List Node → ℕ → ℕ
-fresh_plays nodes shared = length (judged_on (opening (root_properties nodes)) nodes) - shared
+fresh_plays nodes shared = length (judged_on (game_kind (root_properties nodes)) nodes) - shared
 
 -- plays went from `old` to `new` for that line: each of its fresh nodes counts, and not more than each where memory was refused
 pub record CountsFresh {A E : Type 0} (old new : ℕ) (nodes : List Node) (shared : ℕ) (result : Result A E) : Type 0 where

@@ -6,7 +6,7 @@ use Rattle.go_board.specs.declared.vertices.TheConstants.{MAX_VERTEX_SIDE}
 use Rattle.go_board.specs.Grid.{Grid}
 use Rattle.go_board.specs.State.{State}
 use Rattle.sgf_lines.specs.Walk.{walk}
-use Rattle.sgf_lines.specs.Script.{node_script, played_script, leaves_unreaching, board_commands}
+use Rattle.sgf_lines.specs.Script.{node_script, taken_script, leaves_unreaching, board_commands}
 use Rattle.sgf_lines.specs.declared.commands.Commands.{Commands}
 use Rattle.sgf_lines.specs.inner.Kept.{IsKeptText}
 
@@ -19,11 +19,11 @@ lettered_script side after n = if_lettered side (node_script after n)
 
 -- the commands of nodes, whether or not each stone of a setup reaches empty
 abbrev pub commands_text : ℕ → List Node → List ℕ
-commands_text side nodes = if_lettered side (board_commands side ++ flat_map played_script (walk side nodes).played)
+commands_text side nodes = if_lettered side (board_commands side ++ flat_map taken_script (walk side nodes).taken)
 
 -- whether one of the nodes sets up stones of which one doesn't reach empty
 abbrev pub some_unreaching : ℕ → List Node → Bool
-some_unreaching side nodes = list_any leaves_unreaching (walk side nodes).played
+some_unreaching side nodes = list_any leaves_unreaching (walk side nodes).taken
 
 -- the index of the first such node
 abbrev pub IsFirstUnreaching : ℕ → List Node → Option ℕ → Type 0
@@ -38,8 +38,8 @@ pub record AreCommands (side : ℕ) (nodes : List Node) (commands : Commands) : 
 -- what playing a node more did: its step was taken, and led to this board; or it wasn't
 abbrev pub HasChanged : {A : Type 0} → ℕ → List Node → Node → Grid → Option A → Type 0
 HasChanged side nodes n board (Some _) =
-    (after : State) × (after.colouring ≡ board) × ((walk side (nodes ++ n ∷ [])).played ≡ (walk side nodes).played ++ record { node = n; after = after } ∷ [])
-HasChanged side nodes n board None = (walk side (nodes ++ n ∷ [])).played ≡ (walk side nodes).played
+    (after : State) × (after.colouring ≡ board) × ((walk side (nodes ++ n ∷ [])).taken ≡ (walk side nodes).taken ++ record { node = n; after = after } ∷ [])
+HasChanged side nodes n board None = (walk side (nodes ++ n ∷ [])).taken ≡ (walk side nodes).taken
 
 -- the first index, once one more is looked at
 abbrev pub first_unreaching : Option ℕ → ℕ → Bool → Option ℕ

@@ -63,7 +63,7 @@ judged_count side nodes = length (judged_by (walk side nodes))
 
 -- Plays went from `old` to `new` where nodes that were played became more of them: each judged one of those counts, and not more
 -- than each where memory was refused.
-pub record Counts {A E : Type 0} (old new side : ℕ) (nodes more : List Node) (result : Result A E) : Type 0 where
+pub record RaisesPlays {A E : Type 0} (old new side : ℕ) (nodes more : List Node) (result : Result A E) : Type 0 where
   pub not_fewer : old ≤ new
   pub not_more : new + judged_count side nodes ≤ old + judged_count side more
   pub each : OnOk result (new + judged_count side nodes ≡ old + judged_count side more)

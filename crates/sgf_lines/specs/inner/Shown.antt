@@ -2,16 +2,16 @@
 use Rattle.std.specs.Prelude.{◌≡◌, Some, map}
 use Rattle.sgf_tree.specs.Tree.{Games}
 use Rattle.sgf_tree.specs.FileOrder.{node_at}
-use Rattle.sgf_lines.specs.declared.opening.Opening.{Opening as Held}
-use Rattle.sgf_lines.specs.declared.opening.Opening.TheVariants.{OtherGame, NoBoard, Board}
+use Rattle.sgf_lines.specs.declared.game_kind.GameKind.{GameKind as Held}
+use Rattle.sgf_lines.specs.declared.game_kind.GameKind.TheVariants.{OtherGame, NoBoard, Board}
 use Rattle.sgf_lines.specs.declared.line.LineRef.{LineRef}
 use Rattle.sgf_lines.specs.Lines.{Line, place_of}
-use Rattle.sgf_lines.specs.GameSize.{Opening, other_game, no_board, board}
+use Rattle.sgf_lines.specs.JudgedGames.{GameKind, other_game, no_board, board}
 
-abbrev pub shown_opening : Held → Opening
-shown_opening OtherGame = other_game
-shown_opening NoBoard = no_board
-shown_opening (Board side) = board side
+abbrev pub shown_game_kind : Held → GameKind
+shown_game_kind OtherGame = other_game
+shown_game_kind NoBoard = no_board
+shown_game_kind (Board side) = board side
 
 -- a line's game, its place, and the numbers of its nodes
 pub record IsShownAs (c : Games) (l : Line) (line : LineRef) : Type 0 where

@@ -1,7 +1,7 @@
 -- What is kept of the old line is kept of the new one, which goes on from there.
 use Rattle.std.proofs.Common.{◌≤◌, length}
 use Rattle.sgf_tree.specs.FileOrder.{node_at}
-use Rattle.sgf_lines.specs.GameSize.{opening, root_properties}
+use Rattle.sgf_lines.specs.JudgedGames.{game_kind, root_properties}
 use Rattle.sgf_lines.proofs.Along.{root_named}
 use Rattle.sgf_lines.proofs.Counted.{fresh_none, fresh_counts, front_within}
 use Rattle.sgf_lines.proofs.followed.Followed.follow.Goals as goal
@@ -12,11 +12,11 @@ returns-in_err-keep-clause-counted c = λ old nodes held le named same. fresh_no
 pub returns-clause-followed : goal.returns-clause-followed
 returns-clause-followed c = λ old nodes held le named same.
     let r = root_named (node_at c.args.collection.now) nodes c.args.path.now 0 named c.requires.some_node in
-    c.go_on.ensures.held c.args.scripted (opening (root_properties nodes)) nodes named (c.in_ok-keep.ensures old nodes r.0 held le same r.2 r.1)
+    c.go_on.ensures.held c.args.scripted (game_kind (root_properties nodes)) nodes named (c.in_ok-keep.ensures old nodes r.0 held le same r.2 r.1)
 
 pub returns-clause-counted : goal.returns-clause-counted
 returns-clause-counted c = λ old nodes held le named same.
     let r = root_named (node_at c.args.collection.now) nodes c.args.path.now 0 named c.requires.some_node in
     let within : c.args.shared ≤ length nodes = front_within c.args.shared old nodes le same in
     fresh_counts c.args.plays.now c.go_on.new.plays nodes c.args.shared c.go_on.result within
-    (c.go_on.ensures.counted c.args.scripted (opening (root_properties nodes)) nodes named (c.in_ok-keep.ensures old nodes r.0 held le same r.2 r.1))
+    (c.go_on.ensures.counted c.args.scripted (game_kind (root_properties nodes)) nodes named (c.in_ok-keep.ensures old nodes r.0 held le same r.2 r.1))

@@ -49,4 +49,4 @@ pub returns-in-Ok-clause-told : goal.returns-in-Ok-clause-told
 returns-in-Ok-clause-told c = (c.node.result, c.node.ensures, c.in-Ok.ensures.told)
 
 pub returns-in_default-clause-changed : goal.returns-in_default-clause-changed
-returns-in_default-clause-changed c = λ side nodes node h e. ap (λ (w : Walk). w.played) (passed_same side nodes c.args.self.now node h c.in_default.not-None)
+returns-in_default-clause-changed c = λ side nodes node h e. ap (λ (w : Walk). w.taken) (passed_same side nodes c.args.self.now node h c.in_default.not-None)

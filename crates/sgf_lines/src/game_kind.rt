@@ -1,9 +1,9 @@
 //! Which games are judged: those of Go, on a square board of a size that there is (SGF FF[4], GM and SZ).
 
 ghost use Rattle.std.specs.Prelude.{◌≡◌, option_copied};
-ghost use Rattle.sgf_lines.specs.NodeContents.{first_value as first_value_lem};
-ghost use Rattle.sgf_lines.specs.GameSize.{is_go as is_go_lem, side_of, opening as opening_lem};
-ghost use Rattle.sgf_lines.specs.inner.Shown.{shown_opening};
+ghost use Rattle.sgf_lines.specs.NodeContents.{first_value as first_value_rule};
+ghost use Rattle.sgf_lines.specs.JudgedGames.{is_go as is_go_rule, side_of, game_kind as game_kind_rule};
+ghost use Rattle.sgf_lines.specs.inner.Shown.{shown_game_kind};
 
 use go_board::{MAX_SIDE, Size};
 use sgf_tree::{NodeRef, number};
@@ -13,7 +13,7 @@ const USUAL_SIDE: i64 = 19;
 
 /// What the root says of its game.
 #[derive(Clone, Copy)]
-pub(crate) enum Opening {
+pub(crate) enum GameKind {
     /// The game isn't Go.
     OtherGame,
     /// There is no board of the size.
@@ -22,21 +22,21 @@ pub(crate) enum Opening {
 }
 
 /// What a root says of its game. Another game comes before a faulty size.
-pub(crate) fn opening_of(root: &NodeRef<'_>) -> Opening
-    ensures { shown_opening result ≡ opening_lem root.now.properties }
+pub(crate) fn game_kind_of(root: &NodeRef<'_>) -> GameKind
+    ensures { shown_game_kind result ≡ game_kind_rule root.now.properties }
 {
     if !is_go(first_value(root, b"GM")) {
-        return Opening::OtherGame;
+        return GameKind::OtherGame;
     }
     match size(first_value(root, b"SZ")) {
-        Some(size) => Opening::Board(size),
-        None => Opening::NoBoard,
+        Some(size) => GameKind::Board(size),
+        None => GameKind::NoBoard,
     }
 }
 
 /// The first value of a node's first property of that name.
 fn first_value<'a>(node: &NodeRef<'a>, name: &[u8]) -> Option<&'a [u8]>
-    ensures { option_copied result ≡ first_value_lem name.now node.now.properties }
+    ensures { option_copied result ≡ first_value_rule name.now node.now.properties }
 {
     let property = node.first(name)?;
     Some(property.value(0))
@@ -44,7 +44,7 @@ fn first_value<'a>(node: &NodeRef<'a>, name: &[u8]) -> Option<&'a [u8]>
 
 /// Whether a value of GM, or none, is that of Go: the number 1.
 fn is_go(game: Option<&[u8]>) -> bool
-    ensures { result ≡ is_go_lem (option_copied game.entry) }
+    ensures { result ≡ is_go_rule (option_copied game.entry) }
 {
     match game {
         None => true,

@@ -33,16 +33,16 @@ side_of None = Some 19
 side_of (Some raw) = side_from (number_of raw)
 
 -- what the root says: another game, a size that there isn't, or a board of that side
-pub data Opening : Type 0 where
-  other_game : Opening
-  no_board : Opening
-  board : (side : ℕ) → Opening
+pub data GameKind : Type 0 where
+  other_game : GameKind
+  no_board : GameKind
+  board : (side : ℕ) → GameKind
 
-abbrev pub opening_on : Option ℕ → Opening
-opening_on None = no_board
-opening_on (Some side) = board side
+abbrev pub game_kind_on : Option ℕ → GameKind
+game_kind_on None = no_board
+game_kind_on (Some side) = board side
 
 -- a game that isn't Go is found before a faulty size; GM and SZ of other nodes have no effect (this project's choices)
-abbrev pub opening : List Property → Opening
-opening ps =
-    if is_go (first_value (codes "GM") ps) then opening_on (side_of (first_value (codes "SZ") ps)) else other_game
+abbrev pub game_kind : List Property → GameKind
+game_kind ps =
+    if is_go (first_value (codes "GM") ps) then game_kind_on (side_of (first_value (codes "SZ") ps)) else other_game
