@@ -1,35 +1,15 @@
 -- Growing the rows of a set from the first to the last: what is known of those that were grown.
-use Rattle.std.proofs.Common.{◌≡◌, ◌≢◌, inl, inr, ℕ, ◌+◌, ◌^◌, ◌<◌, ◌==◌, ◌||◌, ◌&&◌, Bool, true, false, not, List, length, get_or, set, bit_and, bit_or, w64, refl, sym, ap, ◌∙◌, arith, slice_index}
+use Rattle.std.proofs.Common.{◌≡◌, ◌≢◌, inl, inr, ℕ, ◌+◌, ◌^◌, ◌<◌, ◌==◌, true, false, List, length, get_or, set, bit_and, bit_or, w64, sym, ap, ◌∙◌, arith, slice_index}
 use Rattle.std.specs.Int.{bit_not}
 use Rattle.std.proofs.lemmas.Bool.{false≢true, cases_lt, cases_eq, eqb-true}
-use Rattle.std.proofs.lemmas.Nat.{le_or_l}
 use Rattle.std.proofs.lemmas.List.{get_or-set_same, get_or-set_other}
 use Rattle.std.proofs.Math.ListN.{get_or-eq_default}
 use Rattle.go_board.specs.declared.board.fill.Edge.{Edge}
 use Rattle.go_board.specs.inner.Rows.{has_bit, is_set, TakeBelow, IsAmong, IsClosed, IsRowClosed, Grows}
 use Rattle.go_board.specs.inner.Edge.{IsGrownTo, AreGrown}
-use Rattle.go_board.proofs.WordLemmas.{has_bit-or, has_bit-and, has_bit-without, has_bit-zero, column_below}
+use Rattle.go_board.proofs.WordLemmas.{has_bit-zero}
+use Rattle.go_board.proofs.MissedLemmas.{none_before, not_lacked, has_unless_lacks}
 use Rattle.go_board.proofs.GrowLemmas.{wide_more, above_more, taken_closed, row_above-next, IsClosed-taken}
-
-last_there : (x y : Bool) → (x && not y) ≡ false → x ≡ true → y ≡ true
-last_there true true h is = refl
-last_there true false h is = absurd (false≢true (sym h))
-last_there false y h is = absurd (false≢true is)
-
-none_first : (x y : Bool) → (x || y) ≡ false → x ≡ false
-none_first true y h = absurd (false≢true (sym h))
-none_first false y h = refl
-
-none_second : (x y : Bool) → (x || y) ≡ false → y ≡ false
-none_second true y h = absurd (false≢true (sym h))
-none_second false y h = h
-
-not_both : (x y : Bool) → (x && y) ≡ false → x ≡ true → y ≡ false
-not_both true y h is = h
-not_both false y h is = absurd (false≢true is)
-
-or_zero_first : (a b : ℕ) → bit_or a b ≡ 0 → a ≡ 0
-or_zero_first a b none = let more = le_or_l a b in omega (arith, none, more)
 
 pub IsGrownTo-none : (room rows : List ℕ) (edge : Edge) → edge.above ≡ 0 → IsAmong (is_set rows) (is_set room) → IsGrownTo room rows 0 edge
 IsGrownTo-none room rows edge none within = record {
@@ -58,17 +38,15 @@ module _ (room rows : List ℕ) (row word : ℕ) (edge : Edge) (inside : row < l
   row_taken : (k : ℕ) → k + 1 ≡ row → edge_next.missed ≡ 0 → (col : ℕ) → has_bit (slice_index room k) col ≡ true → has_bit (slice_index next (k + 1)) col ≡ true → has_bit (slice_index next k) col ≡ true
   row_taken k at all col room_there is =
       let apart : k ≢ row = λ e. omega (arith, at, e) in
-      let none : has_bit (bit_or edge.missed (bit_and word edge.lacks)) col ≡ false = ap (λ w. has_bit w col) all ∙ has_bit-zero col in
-      let both = none_second _ _ (sym (has_bit-or edge.missed (bit_and word edge.lacks) col) ∙ none) in
       let here : has_bit word col ≡ true = ap (λ w. has_bit w col) (sym there) ∙ ap (λ r. has_bit (slice_index next r) col) (sym at) ∙ is in
-      let full : has_bit edge.lacks col ≡ false = not_both _ _ (sym (has_bit-and word edge.lacks col) ∙ both) here in
+      let full : has_bit edge.lacks col ≡ false = not_lacked edge.missed word edge.lacks all col here in
       ap (λ w. has_bit w col) (others k apart)
       ∙ grown.lacks k at col room_there full
 
-  none_before : edge_next.missed ≡ 0 → (k : ℕ) → k + 1 < row → (col : ℕ) → has_bit (slice_index room k) col ≡ true → has_bit (slice_index next (k + 1)) col ≡ true → has_bit (slice_index next k) col ≡ true
-  none_before all k below col room_there is =
+  rows_before : edge_next.missed ≡ 0 → (k : ℕ) → k + 1 < row → (col : ℕ) → has_bit (slice_index room k) col ≡ true → has_bit (slice_index next (k + 1)) col ≡ true → has_bit (slice_index next k) col ≡ true
+  rows_before all k below col room_there is =
       ap (λ w. has_bit w col) (others k (λ e. omega (arith, below, e)))
-      ∙ grown.taken_below (or_zero_first edge.missed _ all) k below col room_there
+      ∙ grown.taken_below (none_before edge.missed word edge.lacks all) k below col room_there
       (ap (λ w. has_bit w col) (sym (others (k + 1) (λ e. omega (arith, below, e)))) ∙ is)
 
   pub IsGrownTo-next : IsAmong (is_set next) (is_set room) → IsRowClosed (is_set room) (is_set next) row → IsGrownTo room next (row + 1) edge_next
@@ -80,14 +58,13 @@ module _ (room rows : List ℕ) (row word : ℕ) (edge : Edge) (inside : row < l
     lacks = λ k last col room_there full.
         let at : k ≡ row = omega (arith, last) in
         let here : has_bit (get_or room row 0) col ≡ true = ap (λ r. has_bit (get_or room r 0) col) (sym at) ∙ room_there in
-        let column = column_below 64 (get_or room row 0) col low here in
         ap (λ r. has_bit (get_or next r 0) col) at
         ∙ ap (λ w. has_bit w col) there
-        ∙ last_there _ _ (sym (has_bit-without (get_or room row 0) word col word_low column) ∙ full) here;
+        ∙ has_unless_lacks (get_or room row 0) word col low word_low here full;
     taken_below = λ all k below.
         elim (cases_eq (k + 1) row) [
           | inl at ↦ row_taken k at all
-          | inr other ↦ none_before all k (omega (arith, below, other))
+          | inr other ↦ rows_before all k (omega (arith, below, other))
         ];
   }
 

@@ -1,6 +1,6 @@
 -- Sets of points as rows of words: one row grown, and the rows grown in turn.
-use Rattle.std.proofs.Common.{◌≡◌, ◌≢◌, inl, inr, ℕ, zero, suc, ◌+◌, ◌-◌, ◌^◌, ◌<◌, ◌≤◌, ◌||◌, Bool, true, false, IsTrue, IsFalse, List, length, get_or, set, bit_and, bit_or, refl, sym, ap, ◌∙◌, arith, subst, slice_index}
-use Rattle.std.proofs.lemmas.Bool.{or_cases, and_parts, and_from, false≢true, true≢false, cases_lt, cases_eq}
+use Rattle.std.proofs.Common.{◌≡◌, ◌≢◌, inl, inr, ℕ, zero, suc, ◌+◌, ◌-◌, ◌^◌, ◌<◌, ◌≤◌, ◌||◌, Bool, true, false, List, length, get_or, set, bit_and, bit_or, refl, sym, ap, ◌∙◌, arith, subst, slice_index}
+use Rattle.std.proofs.lemmas.Bool.{or_cases, and_parts, and_from, false≢true, cases_lt, cases_eq}
 use Rattle.std.proofs.lemmas.List.{length-set, get_or-set_same, get_or-set_other}
 use Rattle.std.proofs.Math.ListN.{get_or-eq_default}
 use Rattle.std.proofs.Math.Numerals.{add-one}
@@ -239,16 +239,3 @@ module _ (rows room : List ℕ) (row beside grown : ℕ) (within_row : row < len
       let more : seed_of rows room row beside ≤ grown = le_from_part _ _ from_seed in
       let sums = sum_by-set (λ word. 2 ^ 64 - word) rows row grown 0 within_row in
       omega (arith, other)
-
--- what two rounds did
-pub same_more : (initial now next : List ℕ) (grew result : Bool) → (IsFalse grew → now ≡ initial) → (IsFalse result → next ≡ now) → IsFalse (grew || result) → next ≡ initial
-same_more initial now next true result same unchanged quiet = absurd (true≢false quiet)
-same_more initial now next false true same unchanged quiet = absurd (true≢false quiet)
-same_more initial now next false false same unchanged quiet = unchanged refl ∙ same refl
-
-pub fuller_more : (initial now next : List ℕ) (grew result : Bool) → (IsFalse grew → now ≡ initial) → (IsTrue grew → lacking now < lacking initial) → (IsFalse result → next ≡ now) → (IsTrue result → lacking next < lacking now) → IsTrue (grew || result) → lacking next < lacking initial
-fuller_more initial now next true true same fuller unchanged more grown =
-    let first = fuller refl in let second = more refl in omega arith
-fuller_more initial now next true false same fuller unchanged more grown = rw (unchanged refl) (fuller refl)
-fuller_more initial now next false true same fuller unchanged more grown = rw (← same refl) (more refl)
-fuller_more initial now next false false same fuller unchanged more grown = absurd (false≢true grown)

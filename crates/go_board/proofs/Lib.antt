@@ -15,6 +15,7 @@ pub mod RowLemmas
 pub mod WordLemmas
 pub mod CarryLemmas
 pub mod GrowLemmas
+pub mod MissedLemmas
 pub mod EdgeLemmas
 pub mod LinkedLemmas
 pub mod StoneGroupLemmas

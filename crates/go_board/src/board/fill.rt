@@ -1,6 +1,6 @@
 //! Filling sets of points: a word for each row, with a bit for each column.
 
-ghost use Rattle.std.specs.Prelude.{◌≡◌, ◌≢◌, ℕ, ◌+◌, ◌<◌, ◌≤◌, Bool, IsTrue, IsFalse, length, slice_index, bit_or};
+ghost use Rattle.std.specs.Prelude.{◌≡◌, ◌≢◌, ◌⊎◌, ℕ, ◌+◌, ◌<◌, ◌≤◌, Bool, IsTrue, IsFalse, length, slice_index, bit_or};
 ghost use Rattle.go_board.specs.inner.Edge.{IsGrownTo, AreGrown};
 ghost use Rattle.go_board.specs.inner.Rows.{has_bit, is_set, row_above, IsPart, HasBeside, IsWidened, AreWide, IsTaken, TakeAbove, TakeBelow, IsAmong, IsClosed, IsRowClosed, Grows, lacking};
 
@@ -171,8 +171,8 @@ fn grow_both(
 }
 
 /// Adds to a row, which is as wide as it can be, what there is room for beside the columns of a row above or below it.
-/// Tells whether there was anything.
-fn take(rows: &mut [u64], room: &[u64], row: usize, beside: u64) -> bool
+/// Tells what was added.
+fn take(rows: &mut [u64], room: &[u64], row: usize, beside: u64) -> u64
     requires same { length rows.old ≡ length room.now }
     requires row { row < length rows.old }
     requires within { IsAmong (is_set rows.old) (is_set room.now) }
@@ -182,56 +182,69 @@ fn take(rows: &mut [u64], room: &[u64], row: usize, beside: u64) -> bool
     ensures wide { AreWide room.now rows.new }
     ensures taken { IsTaken room.now rows.new row beside }
     ensures others { (other : ℕ) → other ≢ row → slice_index rows.new other ≡ slice_index rows.old other }
-    ensures unchanged { IsFalse result → rows.new ≡ rows.old }
-    ensures fuller { IsTrue result → lacking rows.new < lacking rows.old }
+    ensures added { (col : ℕ) → IsTrue (has_bit (slice_index rows.new row) col)
+        → IsTrue (has_bit (slice_index rows.old row) col) ⊎ IsTrue (has_bit result col) }
+    ensures at_most { lacking rows.new ≤ lacking rows.old }
+    ensures fuller { result ≢ 0 → lacking rows.new < lacking rows.old }
 {
     let old = rows[row];
     let seed = (old | beside) & room[row];
     if seed == old {
-        return false;
+        return 0;
     }
-    rows[row] = widened(seed, room[row]);
-    true
+    let word = widened(seed, room[row]);
+    rows[row] = word;
+    word & !old
 }
 
-/// Lets each row take what stands above it, from the first to the last. Tells whether any grew.
+/// Lets each row take what stands above it, from the first to the last. Tells whether that was enough: no row above lacks
+/// what was added to the row below it.
 fn take_down(rows: &mut [u64], room: &[u64]) -> bool
     requires same { length rows.old ≡ length room.now }
     requires within { IsAmong (is_set rows.old) (is_set room.now) }
     requires wide { AreWide room.now rows.old }
+    requires taken { TakeBelow room.now rows.old 0 }
     ensures grows { Grows (is_set room.now) (is_set rows.old) (is_set rows.new) }
     ensures wide { AreWide room.now rows.new }
     ensures taken { TakeAbove room.now rows.new (length rows.new) }
-    ensures unchanged { IsFalse result → rows.new ≡ rows.old }
-    ensures fuller { IsTrue result → lacking rows.new < lacking rows.old }
+    ensures closed { IsTrue result → IsClosed (is_set room.now) (is_set rows.new) }
+    ensures fuller { IsFalse result → lacking rows.new < lacking rows.old }
 {
-    let mut grew = false;
+    let mut missed = 0;
     let mut above = 0;
+    let mut lacks = 0;
     'rows: for row in 0..rows.len() {
-        grew |= take(rows, room, row, above);
+        let added = take(rows, room, row, above);
+        missed |= added & lacks;
         above = rows[row];
+        lacks = room[row] & !above;
     }
-    grew
+    missed == 0
 }
 
-/// Lets each row take what stands below it, from the last to the first. Tells whether any grew.
+/// Lets each row take what stands below it, from the last to the first. Tells whether that was enough: no row below lacks
+/// what was added to the row above it.
 fn take_up(rows: &mut [u64], room: &[u64]) -> bool
     requires same { length rows.old ≡ length room.now }
     requires within { IsAmong (is_set rows.old) (is_set room.now) }
     requires wide { AreWide room.now rows.old }
+    requires taken { TakeAbove room.now rows.old (length rows.old) }
     ensures grows { Grows (is_set room.now) (is_set rows.old) (is_set rows.new) }
     ensures wide { AreWide room.now rows.new }
     ensures taken { TakeBelow room.now rows.new 0 }
-    ensures unchanged { IsFalse result → rows.new ≡ rows.old }
-    ensures fuller { IsTrue result → lacking rows.new < lacking rows.old }
+    ensures closed { IsTrue result → IsClosed (is_set room.now) (is_set rows.new) }
+    ensures fuller { IsFalse result → lacking rows.new < lacking rows.old }
 {
-    let mut grew = false;
+    let mut missed = 0;
     let mut below = 0;
+    let mut lacks = 0;
     'rows: for row in (0..rows.len()).rev() {
-        grew |= take(rows, room, row, below);
+        let added = take(rows, room, row, below);
+        missed |= added & lacks;
         below = rows[row];
+        lacks = room[row] & !below;
     }
-    grew
+    missed == 0
 }
 
 /// Adds to a set of points all that a path of points that there is room for leads to.
@@ -293,10 +306,10 @@ fn fill_on(rows: &mut [u64], room: &[u64])
     ensures closed { IsClosed (is_set room.now) (is_set rows.new) }
 {
     'passes: loop {
-        if !take_up(rows, room) {
+        if take_up(rows, room) {
             return;
         }
-        if !take_down(rows, room) {
+        if take_down(rows, room) {
             return;
         }
     }

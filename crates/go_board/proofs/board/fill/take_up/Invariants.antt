@@ -1,5 +1,5 @@
-use Rattle.std.proofs.Common.{◌≡◌, ◌<◌, slice_index, IsTrue, IsFalse}
-use Rattle.go_board.specs.inner.Rows.{is_set, AreWide, TakeBelow, Grows, lacking}
+use Rattle.std.proofs.Common.{◌≡◌, ◌≢◌, ℕ, ◌<◌, ◌≤◌, false, length, slice_index, IsTrue}
+use Rattle.go_board.specs.inner.Rows.{has_bit, is_set, AreWide, TakeAbove, TakeBelow, Grows, lacking}
 use Rattle.go_board.proofs.board.fill.take_up.Given as goal
 
 abbrev pub invariant-rows : goal.invariant-rows
@@ -8,6 +8,8 @@ invariant-rows l = record {
   wide : AreWide l.room l.rows;
   taken : TakeBelow l.room l.rows l.row;
   below : l.below ≡ slice_index l.rows l.row;
-  same : IsFalse l.grew → l.rows ≡ l.initial.rows;
-  fuller : IsTrue l.grew → lacking l.rows < lacking l.initial.rows;
+  lacks : (col : ℕ) → IsTrue (has_bit (slice_index l.room l.row) col) → has_bit l.lacks col ≡ false → IsTrue (has_bit (slice_index l.rows l.row) col);
+  still : l.missed ≡ 0 → TakeAbove l.room l.rows (length l.rows);
+  at_most : lacking l.rows ≤ lacking l.initial.rows;
+  fuller : l.missed ≢ 0 → lacking l.rows < lacking l.initial.rows;
 }
