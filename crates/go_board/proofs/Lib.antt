@@ -37,8 +37,7 @@ pub mod PrintPastLemmas
 pub mod RangeLemmas
 pub mod ChangesLemmas
 pub mod ColouringsLemmas
-pub mod TakenLemmas
-pub mod SetupLemmas
+pub mod BackwardsLemmas
 pub mod TableLemmas
 pub mod StoneRowsLemmas
 pub mod AloneLemmas

@@ -14,5 +14,4 @@ pub mod Entries
 pub mod Earlier
 pub mod Print
 pub mod Changes
-pub mod Taken
 pub mod Table

@@ -82,37 +82,6 @@ impl Board {
         }
     }
 
-    /// Whether there is no stone of a colour on a point, or its group has a liberty.
-    pub(crate) fn lives_if_stone(&self, colour: Colour, point: Point) -> bool
-        requires { IsOn self.now.side point }
-        ensures { IsTrue result → ReachesIfStone self.now colour point }
-    {
-        if self.at(point) != colour.stone() {
-            return true;
-        }
-        if self.has_free_neighbour(point) {
-            return true;
-        }
-        if self.is_usual() {
-            self.search_finds_liberty::<USUAL_ROWS>(colour, point)
-        } else {
-            self.search_finds_liberty::<MAX_ROWS>(colour, point)
-        }
-    }
-
-    /// Whether a search of the group of a stone finds a liberty. `N` rows are enough for the board.
-    fn search_finds_liberty<const N: usize>(&self, colour: Colour, from: Point) -> bool
-        requires enough { self.now.side ≤ N }
-        requires at_most { N ≤ MAX_ROWS }
-        requires on_board { IsOn self.now.side from }
-        requires stone { cell_at self.now from ≡ stone_of colour }
-        ensures { IsTrue result → Reaches self.now Empty from }
-    {
-        let mut words = no_rows::<N>();
-        let group = &mut words[..usize::from(self.size.side())];
-        self.group_has_liberty(colour, from, from, group)
-    }
-
     /// Whether the group of a stone has a liberty, besides a certain point. If not, the whole group is found.
     pub(crate) fn group_has_liberty(
         &self,

@@ -1,6 +1,6 @@
-//! A stone placed on the newest colouring itself: what it captures is kept as changes that lead back.
+//! A stone placed on the newest colouring itself: it and what it captures are kept as changes that lead back.
 
-ghost use Rattle.std.specs.Prelude.{◌≡◌, ◌+◌, ◌-◌, ◌*◌, ◌<◌, ◌≤◌, ℕ, false, IsTrue, IsFalse, IfSome, IfNone, length, take, drop, List, ◌++◌, ◌∷◌, []};
+ghost use Rattle.std.specs.Prelude.{◌≡◌, ◌+◌, ◌-◌, ◌*◌, ◌<◌, ◌≤◌, ◌^◌, ℕ, false, IsTrue, IsFalse, IfSome, IfNone, length, take, drop, List, ◌++◌, ◌∷◌, []};
 ghost use Rattle.std.specs.Option.{ForSome};
 ghost use Rattle.go_board.specs.declared.past.changes.Change.{Change};
 ghost use Rattle.go_board.specs.declared.points.Point.{Point};
@@ -9,23 +9,22 @@ ghost use Rattle.go_board.specs.Colour.{opponent, stone_of};
 ghost use Rattle.go_board.specs.Point.{IsOn};
 ghost use Rattle.go_board.specs.Grid.{Grid, cell_at, with_cell};
 ghost use Rattle.go_board.specs.Clearing.{play, has_unreaching};
-ghost use Rattle.go_board.specs.inner.Changes.{after_changes, AreOn};
+ghost use Rattle.go_board.specs.inner.Changes.{after_changes, AreOn, LeadBackwards};
 ghost use Rattle.go_board.specs.inner.Groups.{LosesDead, ReachBeside, ReachesIfStone};
 ghost use Rattle.go_board.specs.inner.Rows.{has_bit, is_set};
 ghost use Rattle.go_board.specs.inner.Sweep.{IsWithout};
-ghost use Rattle.go_board.specs.inner.Taken.{AreTaken, IsTried};
 
 use crate::board::Board;
 use crate::board::regions::no_rows;
 use crate::board::stone_rows::without_column;
-use crate::past::changes::{Change, take_back};
+use crate::past::changes::{Change, take_back, turn_round};
 use crate::points::Point;
 use crate::size::{MAX_ROWS, USUAL_ROWS};
 use crate::stones::{Cell, Colour};
 
-/// Places a stone on an empty point, takes off what it captures, and adds changes that lead back; tells how many. It does
-/// so only where every stone is known to reach empty, the stone isn't captured itself, and there is room for the
-/// changes. If not, nothing is changed.
+/// Places a stone on an empty point, takes off what it captures, or what is captured with it, and adds changes that lead back;
+/// tells how many. It does so only where every stone is known to reach empty, and there is room for the changes. If not,
+/// nothing is changed.
 pub(crate) fn place_on(
     board: &mut Board,
     colour: Colour,
@@ -50,108 +49,73 @@ pub(crate) fn place_on(
     }
     let print = board.print();
     let start = changes.len();
-    let Some(count) = place_and_keep(board, colour, point, start, changes) else {
-        put_back(board, point, start, changes);
+    if !place_and_keep(board, colour, point, changes) {
+        put_back(board, start, changes);
         board.restore(true, print);
         return None;
-    };
+    }
     let made = board.print();
     board.restore(true, made);
-    Some(count)
+    turn_round(changes, start);
+    Some((changes.len() - start) as u16)
 }
 
-/// The same on a board where every stone reaches empty, but that a try which failed is left as it stands: the stone on its
-/// point, and changes that put back what was taken off. It fails where the stone is captured itself, or there is no room.
+/// The same on a board where every stone reaches empty, but that the changes stand as they were made, and that a try which
+/// failed for want of room is left as it stands.
 fn place_and_keep(
     board: &mut Board,
     colour: Colour,
     point: Point,
-    start: usize,
     changes: &mut Vec<Change>,
-) -> Option<u16>
+) -> bool
     requires on_board { IsOn board.old.side point }
     requires empty { cell_at board.old point ≡ Empty }
     requires settled { has_unreaching board.old ≡ false }
     requires on_grid { AreOn board.old.side changes.old.items }
-    requires start { start ≡ length changes.old.items }
-    ensures there { IfSome result (λ _. board.new ≡ play board.old colour point) }
-    ensures count { IfSome result (λ count. count ≤ length changes.new.items) }
-    ensures back { IfSome result (λ count.
-        after_changes board.new (drop (length changes.new.items - count) changes.new.items) ≡ board.old) }
-    ensures front { IfSome result (λ count.
-        take (length changes.new.items - count) changes.new.items ≡ changes.old.items) }
-    ensures on_grid { IfSome result (λ _. AreOn board.old.side changes.new.items) }
-    ensures tried { IfNone result (IsTried point start board.old changes.old.items board.new changes.new.items) }
+    ensures kept { LeadBackwards (length changes.old.items) board.old changes.old.items board.new changes.new.items }
+    ensures played { IsTrue result → board.new ≡ play board.old colour point }
+    ensures few { IsTrue result → length changes.new.items - length changes.old.items < 2 ^ 16 }
 {
     let _ = board.cells();
-    board.set(point, colour.stone());
-    if !capture(board, colour, point, changes) {
-        return None;
-    }
-    keep_stone(point, start, changes)
-}
-
-/// Takes off what a stone that was just placed captures, and adds changes that lead back. Tells whether there was room
-/// for the changes, and the stone isn't captured itself.
-fn capture(board: &mut Board, colour: Colour, point: Point, changes: &mut Vec<Change>) -> bool
-    requires on_board { IsOn board.old.side point }
-    requires on_grid { AreOn board.old.side changes.old.items }
-    ensures taken { AreTaken (opponent colour) (length changes.old.items) board.old changes.old.items
-        board.new changes.new.items }
-    ensures played { (g : Grid) → IsTrue result → IsOn g.side point → length g.cells ≡ g.side * g.side
-        → has_unreaching g ≡ false → board.old ≡ with_cell g point (stone_of colour)
-        → board.new ≡ play g colour point }
-{
-    if !take_around(board, colour.opponent(), point, changes) {
-        return false;
-    }
-    board.lives_if_stone(colour, point)
-}
-
-/// Adds the change that takes a stone off again, if there is room for it. Tells how many changes there are then from a
-/// start on.
-fn keep_stone(point: Point, start: usize, changes: &mut Vec<Change>) -> Option<u16>
-    requires { start ≤ length changes.old.items }
-    ensures kept { IfSome result (λ _. changes.new.items
-        ≡ changes.old.items ++ record { point = point; cell = Empty; more = 0 } ∷ []) }
-    ensures count { IfSome result (λ count. count ≡ length changes.old.items + 1 - start) }
-    ensures full { IfNone result (changes.new.items ≡ changes.old.items) }
-{
-    let Ok(count) = u16::try_from(changes.len() - start + 1) else {
-        return None;
-    };
+    let start = changes.len();
     let stone = Change {
         point,
         cell: Cell::Empty,
         more: 0,
     };
     if !push_in_room(changes, stone) {
-        return None;
+        return false;
     }
-    Some(count)
+    board.set(point, colour.stone());
+    if !take_around(board, colour.opponent(), point, changes) {
+        return false;
+    }
+    if !take_stone(board, colour, point, changes) {
+        return false;
+    }
+    changes.len() - start <= usize::from(u16::MAX)
 }
 
-/// Takes the changes from a start on back, and then a stone off.
-fn put_back(board: &mut Board, point: Point, start: usize, changes: &mut Vec<Change>)
+/// Takes the changes from a start on back, which stand as they were made.
+fn put_back(board: &mut Board, start: usize, changes: &mut Vec<Change>)
     requires start { start ≤ length changes.old.items }
     requires on_grid { AreOn board.old.side changes.old.items }
-    requires on_board { IsOn board.old.side point }
-    ensures board { (g : Grid) (front : List Change) → IsTried point start g front board.old changes.old.items
+    ensures board { (g : Grid) (front : List Change) → LeadBackwards start g front board.old changes.old.items
         → board.new ≡ g }
-    ensures changes { (g : Grid) (front : List Change) → IsTried point start g front board.old changes.old.items
+    ensures changes { (g : Grid) (front : List Change) → LeadBackwards start g front board.old changes.old.items
         → changes.new.items ≡ front }
 {
+    turn_round(changes, start);
     take_back(board, &changes[start..]);
     changes.truncate(start);
-    board.set(point, Cell::Empty);
 }
 
 /// Takes off the groups of a colour beside a point that have no liberty, and adds changes that lead back. Tells whether
 /// there was room for the changes.
 fn take_around(board: &mut Board, colour: Colour, point: Point, changes: &mut Vec<Change>) -> bool
     requires { IsOn board.old.side point }
-    ensures logged { (start : ℕ) (h : Grid) (front : List Change) → AreTaken colour start h front board.old changes.old.items
-        → AreTaken colour start h front board.new changes.new.items }
+    ensures logged { (start : ℕ) (h : Grid) (front : List Change) → LeadBackwards start h front board.old changes.old.items
+        → LeadBackwards start h front board.new changes.new.items }
     ensures taken { IsTrue result → LosesDead board.old board.new colour }
     ensures beside { IsTrue result → ReachBeside board.new colour point }
 {
@@ -176,8 +140,8 @@ fn take_group(
     changes: &mut Vec<Change>,
 ) -> bool
     requires { ForSome at (IsOn board.old.side) }
-    ensures logged { (start : ℕ) (h : Grid) (front : List Change) → AreTaken colour start h front board.old changes.old.items
-        → AreTaken colour start h front board.new changes.new.items }
+    ensures logged { (start : ℕ) (h : Grid) (front : List Change) → LeadBackwards start h front board.old changes.old.items
+        → LeadBackwards start h front board.new changes.new.items }
     ensures taken { IsTrue result → LosesDead board.old board.new colour }
     ensures settled { IsTrue result → ForSome at (ReachesIfStone board.new colour) }
 {
@@ -190,8 +154,8 @@ fn take_group(
 /// The same for the group of the stone on a point, if it has that colour.
 fn take_stone(board: &mut Board, colour: Colour, from: Point, changes: &mut Vec<Change>) -> bool
     requires { IsOn board.old.side from }
-    ensures logged { (start : ℕ) (h : Grid) (front : List Change) → AreTaken colour start h front board.old changes.old.items
-        → AreTaken colour start h front board.new changes.new.items }
+    ensures logged { (start : ℕ) (h : Grid) (front : List Change) → LeadBackwards start h front board.old changes.old.items
+        → LeadBackwards start h front board.new changes.new.items }
     ensures taken { IsTrue result → LosesDead board.old board.new colour }
     ensures settled { IsTrue result → ReachesIfStone board.new colour from }
 {
@@ -219,8 +183,8 @@ fn take_searched<const N: usize>(
     requires at_most { N ≤ MAX_ROWS }
     requires on_board { IsOn board.old.side from }
     requires stone { cell_at board.old from ≡ stone_of colour }
-    ensures logged { (start : ℕ) (h : Grid) (front : List Change) → AreTaken colour start h front board.old changes.old.items
-        → AreTaken colour start h front board.new changes.new.items }
+    ensures logged { (start : ℕ) (h : Grid) (front : List Change) → LeadBackwards start h front board.old changes.old.items
+        → LeadBackwards start h front board.new changes.new.items }
     ensures taken { IsTrue result → LosesDead board.old board.new colour }
     ensures settled { IsTrue result → ReachesIfStone board.new colour from }
 {
@@ -238,8 +202,8 @@ fn take_rows(board: &mut Board, rows: &[u64], colour: Colour, changes: &mut Vec<
     requires all { length rows.now ≡ board.old.side }
     requires on_board { (p : Point) → IsTrue (is_set rows.now p) → IsOn board.old.side p }
     requires stones { (p : Point) → IsTrue (is_set rows.now p) → cell_at board.old p ≡ stone_of colour }
-    ensures logged { (start : ℕ) (h : Grid) (front : List Change) → AreTaken colour start h front board.old changes.old.items
-        → AreTaken colour start h front board.new changes.new.items }
+    ensures logged { (start : ℕ) (h : Grid) (front : List Change) → LeadBackwards start h front board.old changes.old.items
+        → LeadBackwards start h front board.new changes.new.items }
     ensures gone { IsTrue result → IsWithout board.old board.new (λ p. IsTrue (is_set rows.now p)) }
 {
     'rows: for row in 0..board.size().side() {
@@ -261,8 +225,8 @@ fn take_columns(
     requires row { row < board.old.side }
     requires columns { (col : ℕ) → IsTrue (has_bit columns col) → col < board.old.side }
     requires stones { (p : Point) → p.row ≡ row → IsTrue (has_bit columns p.col) → cell_at board.old p ≡ stone_of colour }
-    ensures logged { (start : ℕ) (h : Grid) (front : List Change) → AreTaken colour start h front board.old changes.old.items
-        → AreTaken colour start h front board.new changes.new.items }
+    ensures logged { (start : ℕ) (h : Grid) (front : List Change) → LeadBackwards start h front board.old changes.old.items
+        → LeadBackwards start h front board.new changes.new.items }
     ensures gone { IsTrue result → IsWithout board.old board.new (λ p. (p.row ≡ row) × IsTrue (has_bit columns p.col)) }
 {
     let mut left = columns;

@@ -1,6 +1,6 @@
 //! Past colourings: the newest whole, and of each older one the changes that lead back to it.
 
-ghost use Rattle.std.specs.Prelude.{◌≡◌, ◌+◌, ◌-◌, ◌*◌, ◌<◌, ◌≤◌, IsTrue, IsFalse, length, take, drop, slice_index_or, IfOk, OnOk, OnErr};
+ghost use Rattle.std.specs.Prelude.{◌≡◌, ◌+◌, ◌-◌, ◌*◌, ◌<◌, ◌≤◌, ◌++◌, IsTrue, IsFalse, length, take, drop, reverse, slice_index_or, IfOk, OnOk, OnErr};
 ghost use Rattle.go_board.specs.declared.stones.Cell.TheVariants.{Black};
 ghost use Rattle.go_board.specs.Point.{IsOn, index_of};
 ghost use Rattle.go_board.specs.Grid.{cell_at, with_cell};
@@ -56,6 +56,15 @@ fn colour(board: &mut Board, change: &Change)
         point = point.following(size);
         board.set_unprinted(point, change.cell);
     }
+}
+
+/// Turns the changes from a start on round: those that were made one after another on a board lead back from the last to the
+/// first. A point that was coloured twice gets back last what stood there first.
+pub(crate) fn turn_round(changes: &mut Vec<Change>, start: usize)
+    requires { start ≤ length changes.old.items }
+    ensures { changes.new.items ≡ take start changes.old.items ++ reverse (drop start changes.old.items) }
+{
+    changes[start..].reverse();
 }
 
 /// Gives a board the colouring of another one, and adds changes that lead back; tells how many.

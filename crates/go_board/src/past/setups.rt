@@ -1,6 +1,6 @@
 //! Points set up on the newest colouring itself: each that changes is kept as a change that leads back.
 
-ghost use Rattle.std.specs.Prelude.{◌≡◌, ◌+◌, ◌-◌, ◌<◌, ◌≤◌, ◌^◌, ◌++◌, ℕ, List, All, IsTrue, fold, length, take, drop, reverse, vec_len, vec_capacity};
+ghost use Rattle.std.specs.Prelude.{◌≡◌, ◌+◌, ◌-◌, ◌<◌, ◌≤◌, ◌^◌, ℕ, List, All, IsTrue, fold, length, take, drop, vec_len, vec_capacity};
 ghost use Rattle.go_board.specs.declared.past.changes.Change.{Change};
 ghost use Rattle.go_board.specs.Point.{IsOn, IsRectOn};
 ghost use Rattle.go_board.specs.Grid.{Grid, with_cell};
@@ -8,7 +8,7 @@ ghost use Rattle.go_board.specs.State.{with_area};
 ghost use Rattle.go_board.specs.inner.Changes.{after_changes, AreOn, LeadBackwards};
 
 use crate::board::Board;
-use crate::past::changes::Change;
+use crate::past::changes::{Change, turn_round};
 use crate::points::Point;
 use crate::referee::SetupOp;
 use crate::stones::Cell;
@@ -49,14 +49,6 @@ pub(crate) fn set_points(board: &mut Board, ops: &[SetupOp], changes: &mut Vec<C
     }
     turn_round(changes, start);
     (changes.len() - start) as u16
-}
-
-/// Turns the changes from a start on round, so that a point that was set twice is given back last what stood there first.
-fn turn_round(changes: &mut Vec<Change>, start: usize)
-    requires { start ≤ length changes.old.items }
-    ensures { changes.new.items ≡ take start changes.old.items ++ reverse (drop start changes.old.items) }
-{
-    changes[start..].reverse();
 }
 
 /// Colours a point, and adds a change that leads back, unless it has that colour already. There is room for it.

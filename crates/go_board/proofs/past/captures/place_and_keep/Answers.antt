@@ -1,42 +1,53 @@
-use Rattle.std.proofs.Common.{◌+◌, ◌-◌, length, sym, ap, ◌∙◌, subst}
-use Rattle.go_board.specs.Colour.{opponent}
-use Rattle.go_board.specs.Grid.{Grid, with_cell}
-use Rattle.go_board.specs.inner.Changes.{AreOn}
-use Rattle.go_board.specs.inner.Taken.{AreTaken, IsTried}
-use Rattle.go_board.proofs.TakenLemmas.{tried, some_gives, none_gives, back-stone, on_grid-stone}
+use Rattle.std.proofs.Common.{◌≡◌, length, rules, sym, ap, ◌∙◌, subst, arith}
+use Rattle.go_board.specs.Colour.{opponent, stone_of}
+use Rattle.go_board.specs.Grid.{with_cell}
+use Rattle.go_board.specs.inner.Groups.{LosesDead, ReachBeside}
+use Rattle.go_board.proofs.MoveLemmas.{captured_is_play}
+use Rattle.go_board.proofs.BackwardsLemmas.{backwards-stone}
 use Rattle.go_board.proofs.past.captures.place_and_keep.Goals as goal
 
-pub capture-requires-clause-on_grid : goal.capture-requires-clause-on_grid
-capture-requires-clause-on_grid c =
-    subst (λ n. AreOn n c.args.changes.now.items) (sym (ap (λ (x : Grid). x.side) c.set.ensures)) c.requires.on_grid
+pub returns-then-not-take_around-clause-kept : goal.returns-then-not-take_around-clause-kept
+returns-then-not-take_around-clause-kept c =
+    let g = c.args.board.now in
+    let items = c.args.changes.now.items in
+    let stone = backwards-stone g c.set.new.self c.args.point c.stone.result items c.push_in_room.new.changes.items c.requires.on_board c.requires.empty c.requires.on_grid (c.push_in_room.ensures.pushed c.if-not-push_in_room.false) c.set.ensures in
+    c.take_around.ensures.logged (length items) g items stone
 
-pub returns-then-not-capture-clause-tried : goal.returns-then-not-capture-clause-tried
-returns-then-not-capture-clause-tried c =
-    tried (opponent c.args.colour) c.args.colour c.args.start c.args.board.now c.set.new.self c.capture.new.board c.args.point c.args.changes.now.items c.capture.new.changes.items
-    (subst (λ n. AreTaken (opponent c.args.colour) n c.set.new.self c.args.changes.now.items c.capture.new.board c.capture.new.changes.items) (sym c.requires.start) c.capture.ensures.taken)
-    (c.set.ensures ∙ ap (with_cell c.args.board.now c.args.point) c.stone.ensures) c.requires.empty c.requires.on_board
+pub returns-then-not-take_stone-clause-kept : goal.returns-then-not-take_stone-clause-kept
+returns-then-not-take_stone-clause-kept c =
+    let g = c.args.board.now in
+    let items = c.args.changes.now.items in
+    let stone = backwards-stone g c.set.new.self c.args.point c.stone.result items c.push_in_room.new.changes.items c.requires.on_board c.requires.empty c.requires.on_grid (c.push_in_room.ensures.pushed c.if-not-push_in_room.false) c.set.ensures in
+    c.take_stone.ensures.logged (length items) g items (c.take_around.ensures.logged (length items) g items stone)
 
-pub returns-clause-tried : goal.returns-clause-tried
-returns-clause-tried c =
-    let at : IsTried c.args.point c.args.start c.args.board.now c.args.changes.now.items c.capture.new.board c.capture.new.changes.items =
-    tried (opponent c.args.colour) c.args.colour c.args.start c.args.board.now c.set.new.self c.capture.new.board c.args.point c.args.changes.now.items c.capture.new.changes.items
-    (subst (λ n. AreTaken (opponent c.args.colour) n c.set.new.self c.args.changes.now.items c.capture.new.board c.capture.new.changes.items) (sym c.requires.start) c.capture.ensures.taken)
-    (c.set.ensures ∙ ap (with_cell c.args.board.now c.args.point) c.stone.ensures) c.requires.empty c.requires.on_board in
-    none_gives c.keep_stone.result c.keep_stone.ensures.full
-    (λ same. subst (IsTried c.args.point c.args.start c.args.board.now c.args.changes.now.items c.capture.new.board) (sym same) at)
+pub returns-clause-kept : goal.returns-clause-kept
+returns-clause-kept c =
+    let g = c.args.board.now in
+    let items = c.args.changes.now.items in
+    let stone = backwards-stone g c.set.new.self c.args.point c.stone.result items c.push_in_room.new.changes.items c.requires.on_board c.requires.empty c.requires.on_grid (c.push_in_room.ensures.pushed c.if-not-push_in_room.false) c.set.ensures in
+    c.take_stone.ensures.logged (length items) g items (c.take_around.ensures.logged (length items) g items stone)
 
-pub returns-clause-back : goal.returns-clause-back
-returns-clause-back c =
-    some_gives c.keep_stone.result c.keep_stone.ensures.kept c.keep_stone.ensures.count
-    (λ count kept count_is.
-    back-stone (opponent c.args.colour) c.args.colour (length c.args.changes.now.items) count c.args.board.now c.set.new.self c.capture.new.board c.args.point c.capture.new.changes.items c.args.changes.now.items c.keep_stone.new.changes.items c.capture.ensures.taken kept
-    (count_is ∙ ap (λ n. length c.capture.new.changes.items + 1 - n) c.requires.start)
-    (c.set.ensures ∙ ap (with_cell c.args.board.now c.args.point) c.stone.ensures) c.requires.empty c.requires.on_board)
+pub overflow_sub-result : goal.overflow_sub-result
+overflow_sub-result c =
+    let g = c.args.board.now in
+    let items = c.args.changes.now.items in
+    let stone = backwards-stone g c.set.new.self c.args.point c.stone.result items c.push_in_room.new.changes.items c.requires.on_board c.requires.empty c.requires.on_grid (c.push_in_room.ensures.pushed c.if-not-push_in_room.false) c.set.ensures in
+    let kept = c.take_stone.ensures.logged (length items) g items (c.take_around.ensures.logged (length items) g items stone) in
+    let first : c.len-start.result ≡ length items = search rules in
+    let last : c.len.result ≡ length c.take_stone.new.changes.items = search rules in
+    omega (arith, first, last, kept.starts)
 
-pub returns-clause-on_grid : goal.returns-clause-on_grid
-returns-clause-on_grid c =
-    some_gives c.keep_stone.result c.keep_stone.ensures.kept c.keep_stone.ensures.count
-    (λ count kept count_is.
-    on_grid-stone (opponent c.args.colour) c.args.colour (length c.args.changes.now.items) count c.args.board.now c.set.new.self c.capture.new.board c.args.point c.capture.new.changes.items c.args.changes.now.items c.keep_stone.new.changes.items c.capture.ensures.taken kept
-    (count_is ∙ ap (λ n. length c.capture.new.changes.items + 1 - n) c.requires.start)
-    (c.set.ensures ∙ ap (with_cell c.args.board.now c.args.point) c.stone.ensures) c.requires.empty c.requires.on_board)
+pub returns-clause-played : goal.returns-clause-played
+returns-clause-played c = λ done.
+    let k = c.args.colour in
+    let g = c.args.board.now in
+    let h = c.take_around.new.board in
+    let taken = c.if-not-take_around.false in
+    let own = c.if-not-take_stone.false in
+    let is : c.set.new.self ≡ with_cell g c.args.point (stone_of k) = c.set.ensures ∙ ap (with_cell g c.args.point) c.stone.ensures in
+    let all = ap length (sym c.cells.ensures.cells) ∙ c.cells.ensures.all in
+    captured_is_play g h c.take_stone.new.board c.args.point k c.requires.on_board all c.requires.settled
+    (subst (λ x. LosesDead x h (opponent k)) is (subst (λ o. LosesDead c.set.new.self h o) c.opponent.ensures (c.take_around.ensures.taken taken)))
+    (subst (λ o. ReachBeside h o c.args.point) c.opponent.ensures (c.take_around.ensures.beside taken))
+    (c.take_stone.ensures.taken own)
+    (c.take_stone.ensures.settled own)

@@ -1,19 +1,20 @@
 use Rattle.std.proofs.Common.{◌≡◌, ◌++◌, ◌∷◌, [], w64, refl, sym, ap, ◌∙◌, subst, arith}
 use Rattle.std.proofs.lemmas.Bool.{true≢false}
 use Rattle.std.specs.Int.{trailing_zeros}
+use Rattle.go_board.specs.declared.stones.Cell.TheVariants.{Empty}
 use Rattle.go_board.specs.declared.points.Point.{Point}
 use Rattle.go_board.specs.Colour.{stone_of}
 use Rattle.go_board.specs.Point.{IsOn}
 use Rattle.go_board.specs.Grid.{cell_at}
 use Rattle.go_board.specs.inner.Sweep.{IsWithout}
-use Rattle.go_board.specs.inner.Taken.{AreTaken}
+use Rattle.go_board.specs.inner.Changes.{LeadBackwards}
 use Rattle.go_board.proofs.SweepLemmas.{InTaken, lowest_left, next_part, next_smaller, taken_more}
-use Rattle.go_board.proofs.TakenLemmas.{AreTaken-more}
+use Rattle.go_board.proofs.BackwardsLemmas.{backwards-put}
 use Rattle.go_board.proofs.past.captures.take_columns.Goals as goal
 
 pub returns-then-not-push_in_room-clause-logged : goal.returns-then-not-push_in_room-clause-logged
 returns-then-not-push_in_room-clause-logged c = λ start h front was.
-    subst (λ cs. AreTaken c.args.colour start h front c.columns.board cs) (sym (c.push_in_room.ensures.full c.if-not-push_in_room.true))
+    subst (λ cs. LeadBackwards start h front c.columns.board cs) (sym (c.push_in_room.ensures.full c.if-not-push_in_room.true))
     (c.columns.invariant.logged start h front was)
 
 pub set-requires : goal.set-requires
@@ -53,7 +54,7 @@ columns-preserved c =
       taken = subst (λ h. IsWithout g h (InTaken c.args.row c.args.columns next.result)) (sym c.set.ensures)
           (taken_more c.args.row c.args.columns l.left next.result p refl lowest.0 l.invariant.part next.ensures.there next.ensures.elsewhere g l.board (below, c.requires.row) l.invariant.taken);
       logged = λ start h front was.
-          subst (λ cs. AreTaken k start h front c.set.new.self cs) (sym pushed)
-          (subst (λ b. AreTaken k start h front b (l.changes.items ++ record { point = p; cell = stone_of k; more = 0 } ∷ [])) (sym c.set.ensures)
-          (AreTaken-more k start h front l.board l.changes.items p on stone (l.invariant.logged start h front was)));
+          subst (λ cs. LeadBackwards start h front c.set.new.self cs) (sym pushed)
+          (subst (λ b. LeadBackwards start h front b (l.changes.items ++ record { point = p; cell = stone_of k; more = 0 } ∷ [])) (sym c.set.ensures)
+          (backwards-put start h front l.board l.changes.items p (stone_of k) Empty on stone (l.invariant.logged start h front was)));
     }

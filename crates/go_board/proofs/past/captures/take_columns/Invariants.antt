@@ -3,7 +3,7 @@ use Rattle.go_board.specs.declared.past.changes.Change.{Change}
 use Rattle.go_board.specs.Grid.{Grid}
 use Rattle.go_board.specs.inner.Rows.{has_bit, IsPart}
 use Rattle.go_board.specs.inner.Sweep.{IsWithout}
-use Rattle.go_board.specs.inner.Taken.{AreTaken}
+use Rattle.go_board.specs.inner.Changes.{LeadBackwards}
 use Rattle.go_board.proofs.SweepLemmas.{InTaken}
 use Rattle.go_board.proofs.past.captures.take_columns.Given as goal
 
@@ -11,7 +11,7 @@ abbrev pub invariant-columns : goal.invariant-columns
 invariant-columns l = record {
   part : IsPart (has_bit l.left) (has_bit l.columns);
   taken : IsWithout l.initial.board l.board (InTaken l.row l.columns l.left);
-  logged : (start : ℕ) (h : Grid) (front : List Change) → AreTaken l.fn.colour start h front l.fn.board l.fn.changes.items → AreTaken l.fn.colour start h front l.board l.changes.items;
+  logged : (start : ℕ) (h : Grid) (front : List Change) → LeadBackwards start h front l.fn.board l.fn.changes.items → LeadBackwards start h front l.board l.changes.items;
 }
 
 abbrev pub decreases-columns : goal.decreases-columns

@@ -1,7 +1,7 @@
 use Rattle.std.proofs.Common.{◌≡◌, ◌++◌, [], ◌∷◌, rules, sym, subst}
 use Rattle.go_board.specs.Grid.{cell_at, with_cell}
 use Rattle.go_board.specs.inner.Changes.{LeadBackwards}
-use Rattle.go_board.proofs.SetupLemmas.{backwards-more}
+use Rattle.go_board.proofs.BackwardsLemmas.{backwards-more}
 use Rattle.go_board.proofs.past.setups.set_point.Goals as goal
 
 pub returns-clause-kept : goal.returns-clause-kept

@@ -5,7 +5,7 @@ use Rattle.go_board.specs.declared.referee.plays.SetupOp.{SetupOp}
 use Rattle.go_board.specs.Point.{IsRectOn, index_of}
 use Rattle.go_board.specs.Grid.{Grid}
 use Rattle.go_board.proofs.AreaLemmas.{area_of_point, areas_more}
-use Rattle.go_board.proofs.SetupLemmas.{backwards-none}
+use Rattle.go_board.proofs.BackwardsLemmas.{backwards-none}
 use Rattle.go_board.proofs.past.setups.set_points.Goals as goal
 
 pub loop-op-init : goal.loop-op-init
