@@ -20,6 +20,7 @@ pub mod EdgeLemmas
 pub mod LinkedLemmas
 pub mod StoneGroupLemmas
 pub mod RegionLemmas
+pub mod BesideLemmas
 pub mod LibertyLemmas
 pub mod CountLemmas
 pub mod NeighbourLemmas

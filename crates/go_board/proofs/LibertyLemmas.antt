@@ -1,6 +1,6 @@
 -- Whether all stones of a colour reach empty, by filling rows of words from the empty points.
-use Rattle.std.proofs.Common.{◌≡◌, Decides, inl, inr, ℕ, ◌≤◌, ◌&&◌, ◌||◌, Bool, true, false, not, List, length, refl, sym, ap, ◌∙◌, arith, subst}
-use Rattle.std.proofs.lemmas.Bool.{and_parts, false≢true, cases_Bool}
+use Rattle.std.proofs.Common.{◌≡◌, Decides, inl, inr, ℕ, ◌≤◌, ◌&&◌, ◌||◌, Bool, true, false, not, List, [], ◌∷◌, length, refl, sym, ap, ◌∙◌, arith, subst}
+use Rattle.std.proofs.lemmas.Bool.{and_parts, and_from, false≢true, cases_Bool}
 use Rattle.go_board.specs.declared.stones.Cell.{Cell}
 use Rattle.go_board.specs.declared.stones.Cell.TheVariants.{Black as BlackStone, White as WhiteStone, Empty}
 use Rattle.go_board.specs.declared.stones.Colour.{Colour}
@@ -10,24 +10,18 @@ use Rattle.go_board.specs.Colour.{opponent, stone_of, same_cell}
 use Rattle.go_board.specs.Point.{IsOn}
 use Rattle.go_board.specs.Grid.{Grid, cell_at}
 use Rattle.go_board.specs.inner.Groups.{AllReach, is_shut}
-use Rattle.go_board.specs.inner.Rows.{is_set, IsClosed, Grows}
-use Rattle.go_board.specs.inner.Regions.{is_either, AreRowsOf, IsLeft, reaches_through_own}
-use Rattle.go_board.specs.Reaching.{reaches}
+use Rattle.go_board.specs.inner.Rows.{is_set, IsAmong, IsClosed, Grows}
+use Rattle.go_board.specs.inner.Regions.{is_either, AreRowsOf, IsLeft, AreBeside}
+use Rattle.go_board.specs.Reaching.{Leads, reaches}
 use Rattle.go_board.specs.Clearing.{has_unreaching}
 use Rattle.go_board.proofs.GridLemmas.{Decides-same_cell}
 use Rattle.go_board.proofs.SettledLemmas.{both_reach, AllReach-settled}
-use Rattle.go_board.proofs.ReachingLemmas.{Decides-reaches}
-use Rattle.go_board.proofs.RegionLemmas.{AreRowsOf-same, AreRowsOf-filled}
+use Rattle.go_board.proofs.ReachingLemmas.{Decides-reaches, path_by_step}
+use Rattle.go_board.proofs.GroupLemmas.{stone_of≢Empty}
+use Rattle.go_board.proofs.GrowLemmas.{Grows-none}
+use Rattle.go_board.proofs.RegionLemmas.{AreRowsOf-same, same_bools, either_first}
 
--- the cells that haven't the other player's stone, and of these the empty ones
-own_or_empty : (k : Colour) (c : Cell) → not (same_cell c (stone_of (opponent k))) ≡ is_either c (stone_of k) Empty
-own_or_empty Black BlackStone = refl
-own_or_empty Black WhiteStone = refl
-own_or_empty Black Empty = refl
-own_or_empty White BlackStone = refl
-own_or_empty White WhiteStone = refl
-own_or_empty White Empty = refl
-
+-- the cells with neither player's stone
 neither : (k : Colour) (c : Cell) → (not (same_cell c (stone_of (opponent k))) && not (same_cell c (stone_of k))) ≡ is_either c Empty Empty
 neither Black BlackStone = refl
 neither Black WhiteStone = refl
@@ -36,50 +30,119 @@ neither White BlackStone = refl
 neither White WhiteStone = refl
 neither White Empty = refl
 
-of_own : (own free way : Bool) → (own && not ((own || free) && way)) ≡ (own && not way)
-of_own true free way = refl
-of_own false free way = refl
+of_own : (own way : Bool) → (own && not (own && way)) ≡ (own && not way)
+of_own true way = refl
+of_own false way = refl
 
 in_the_other : (x y : Bool) → x ≡ true → (x && not y) ≡ false → y ≡ true
 in_the_other true true is none = refl
 in_the_other true false is none = sym none
 in_the_other false y is none = absurd (false≢true is)
 
-module _ (g : Grid) (k : Colour) (rows others room seed reached left : List ℕ) (small : g.side ≤ 52) (all : length rows ≡ g.side) (other_all : length others ≡ g.side) (room_all : length room ≡ g.side) (is_own : AreRowsOf g.side (λ p. same_cell (cell_at g p) (stone_of k)) rows) (is_other : AreRowsOf g.side (λ p. same_cell (cell_at g p) (stone_of (opponent k))) others) (is_room : AreRowsOf (length others) (λ p. not (is_set others p)) room) (is_seed : IsLeft room rows seed) where
+in_or_left : (own in_set : Bool) → own ≡ true → (own && not in_set) ≡ false → in_set ≡ true
+in_or_left true true is none = refl
+in_or_left true false is none = sym none
+in_or_left false in_set is none = absurd (false≢true is)
+
+module _ (g : Grid) (k : Colour) (rows others room empty first : List ℕ) (small : g.side ≤ 52) (all : length rows ≡ g.side) (other_all : length others ≡ g.side) (room_all : length room ≡ g.side) (is_own : AreRowsOf g.side (λ p. same_cell (cell_at g p) (stone_of k)) rows) (is_other : AreRowsOf g.side (λ p. same_cell (cell_at g p) (stone_of (opponent k))) others) (is_room : AreRowsOf (length others) (λ p. not (is_set others p)) room) (is_empty : IsLeft room rows empty) (are_first : AreBeside rows empty first) where
   not_other : AreRowsOf g.side (λ p. not (same_cell (cell_at g p) (stone_of (opponent k)))) room
   not_other =
       AreRowsOf-same g.side _ _ room (λ p on. ap not (is_other.on p on))
       (subst (λ n. AreRowsOf n (λ p. not (is_set others p)) room) other_all is_room)
 
-  room_rows : AreRowsOf g.side (λ p. is_either (cell_at g p) (stone_of k) Empty) room
-  room_rows = AreRowsOf-same g.side _ _ room (λ p on. own_or_empty k (cell_at g p)) not_other
-
-  seed_rows : AreRowsOf g.side (λ p. is_either (cell_at g p) Empty Empty) seed
-  seed_rows = record {
+  empty_rows : AreRowsOf g.side (λ p. is_either (cell_at g p) Empty Empty) empty
+  empty_rows = record {
     on = λ p on.
-        is_seed.on p (omega (arith, on.1, room_all)) (omega (arith, on.0, small))
+        is_empty.on p (omega (arith, on.1, room_all)) (omega (arith, on.0, small))
         ∙ ap (λ b. b && not (is_set rows p)) (not_other.on p on)
         ∙ ap (λ b. not (same_cell (cell_at g p) (stone_of (opponent k))) && not b) (is_own.on p on)
         ∙ neither k (cell_at g p);
-    off = λ p is. not_other.off p (is_seed.off p is);
+    off = λ p is. not_other.off p (is_empty.off p is);
   }
 
-  module _ (is_left : IsLeft rows reached left) (grows : Grows (is_set room) (is_set seed) (is_set reached)) (closed : IsClosed (is_set room) (is_set reached)) where
-    filled : AreRowsOf g.side (reaches_through_own g (stone_of k) Empty) reached
-    filled = AreRowsOf-filled g (stone_of k) Empty room seed reached room_rows seed_rows grows closed
+  own_stone : (p : Point) → is_set rows p ≡ true → cell_at g p ≡ stone_of k
+  own_stone p is = (Decides-same_cell _ _).0 (sym (is_own.on p (is_own.off p is)) ∙ is)
 
-    left_is : (p : Point) → IsOn g.side p → is_set left p ≡ (is_set rows p && not (is_set reached p))
-    left_is p on = is_left.on p (omega (arith, on.1, all)) (omega (arith, on.0, small))
+  empty_cell : (p : Point) → is_set empty p ≡ true → cell_at g p ≡ Empty
+  empty_cell p is = (Decides-same_cell _ _).0 (twice _ (sym (empty_rows.on p (empty_rows.off p is)) ∙ is))
+    where
+      twice : (b : Bool) → (b || b) ≡ true → b ≡ true
+      twice true h = refl
+      twice false h = h
 
-    pub shut_left : AreRowsOf g.side (is_shut g k) left
-    shut_left = record {
-      on = λ p on.
-          left_is p on
-          ∙ ap (λ b. b && not (is_set reached p)) (is_own.on p on)
-          ∙ ap (λ b. same_cell (cell_at g p) (stone_of k) && not b) (filled.on p on)
-          ∙ of_own (same_cell (cell_at g p) (stone_of k)) (same_cell (cell_at g p) Empty) (reaches g Empty p);
-      off = λ p is. is_own.off p (is_left.off p is);
-    }
+  empty_set : (p : Point) → IsOn g.side p → cell_at g p ≡ Empty → is_set empty p ≡ true
+  empty_set p on is = empty_rows.on p on ∙ either_first (cell_at g p) Empty Empty is
+
+  first_among : IsAmong (is_set first) (is_set rows)
+  first_among p is = (are_first.from p is).0
+
+  pub Grows-first : Grows (is_set rows) (is_set first) (is_set first)
+  Grows-first = Grows-none rows first first_among
+
+  module _ (reached left : List ℕ) (is_left : IsLeft rows reached left) (grows : Grows (is_set rows) (is_set first) (is_set reached)) where
+    -- those of the stones that reach empty
+    reaching : Point → Bool
+    reaching p = is_set rows p && reaches g Empty p
+
+    reaching_closed : IsClosed (is_set rows) reaching
+    unfolding reaching
+    reaching_closed p q adjacent there is =
+        let both = and_parts _ _ is in
+        let on = is_own.off p there in
+        let at = is_own.off q both.0 in
+        and_from _ _ there
+        ((Decides-reaches g Empty p on).1
+        (path_by_step g Empty p q on adjacent at (inl (own_stone q both.0 ∙ sym (own_stone p there))) ((Decides-reaches g Empty q at).0 both.1)))
+
+    first_reaches : IsAmong (is_set first) reaching
+    unfolding reaching
+    first_reaches p is =
+        let found = are_first.from p is in
+        let q = found.1.0 in
+        let on = is_own.off p found.0 in
+        let at = empty_rows.off q found.1.2 in
+        let goal = empty_cell q found.1.2 in
+        and_from _ _ found.0
+        ((Decides-reaches g Empty p on).1 (path_by_step g Empty p q on found.1.1 at (inr goal) ([], (at, goal))))
+
+    module _ (closed : IsClosed (is_set rows) (is_set reached)) where
+      along : (p : Point) (path : List Point) → is_set rows p ≡ true → Leads g (stone_of k) Empty p path → is_set reached p ≡ true
+      along p [] own way = absurd (stone_of≢Empty k (sym (own_stone p own) ∙ way.1))
+      along p (q ∷ []) own way =
+          let on = is_own.off p own in
+          grows.kept p (are_first.to p q (omega (arith, on.1, all)) (omega (arith, on.0, small)) own way.2 (empty_set q way.3.0 way.3.1))
+      along p (q ∷ r ∷ path) own way =
+          let next : is_set rows q ≡ true = is_own.on q way.3.0 ∙ (Decides-same_cell _ _).1 way.3.1 in
+          closed p q way.2 own (along q (r ∷ path) next way.3)
+
+      reached_is : (p : Point) → IsOn g.side p → is_set reached p ≡ (same_cell (cell_at g p) (stone_of k) && reaches g Empty p)
+      unfolding reaching
+      reached_is p on =
+          same_bools _ _
+          (λ is.
+          let both = and_parts _ _ (grows.least reaching reaching_closed first_reaches p is) in
+          and_from _ _ (sym (is_own.on p on) ∙ both.0) both.1)
+          (λ is.
+          let both = and_parts _ _ is in
+          let own : is_set rows p ≡ true = is_own.on p on ∙ both.0 in
+          let way = (Decides-reaches g Empty p on).0 both.1 in
+          along p way.0 own (subst (λ c. Leads g c Empty p way.0) (own_stone p own) way.1))
+
+      pub shut_left : AreRowsOf g.side (is_shut g k) left
+      shut_left = record {
+        on = λ p on.
+            is_left.on p (omega (arith, on.1, all)) (omega (arith, on.0, small))
+            ∙ ap (λ b. b && not (is_set reached p)) (is_own.on p on)
+            ∙ ap (λ b. same_cell (cell_at g p) (stone_of k) && not b) (reached_is p on)
+            ∙ of_own (same_cell (cell_at g p) (stone_of k)) (reaches g Empty p);
+        off = λ p is. is_own.off p (is_left.off p is);
+      }
+
+    -- where all stones are there, the set is closed
+    pub IsClosed-full : ((p : Point) → is_set left p ≡ false) → IsClosed (is_set rows) (is_set reached)
+    IsClosed-full none p q adjacent there is =
+        let on = is_own.off p there in
+        in_or_left _ _ there (sym (is_left.on p (omega (arith, on.1, all)) (omega (arith, on.0, small))) ∙ none p)
 
 -- where no stone is shut in, all reach empty
 pub reach_where_none_shut : (g : Grid) (k : Colour) (shut : List ℕ) → AreRowsOf g.side (is_shut g k) shut → ((p : Point) → is_set shut p ≡ false) → AllReach g k

@@ -218,7 +218,7 @@ one_twice : (b : Bool) → b ≡ (b || b)
 one_twice true = refl
 one_twice false = refl
 
-same_bools : (a b : Bool) → (a ≡ true → b ≡ true) → (b ≡ true → a ≡ true) → a ≡ b
+pub same_bools : (a b : Bool) → (a ≡ true → b ≡ true) → (b ≡ true → a ≡ true) → a ≡ b
 same_bools true b there back = sym (there refl)
 same_bools false true there back = back refl
 same_bools false false there back = refl

@@ -3,7 +3,7 @@ use Rattle.std.specs.Prelude.{◌≡◌, ◌<◌, ℕ, length, Bool, false, not,
 use Rattle.go_board.specs.declared.stones.Cell.{Cell}
 use Rattle.go_board.specs.declared.points.Point.{Point}
 use Rattle.go_board.specs.Colour.{same_cell}
-use Rattle.go_board.specs.Point.{IsOn, points}
+use Rattle.go_board.specs.Point.{IsOn, AreAdjacent, points}
 use Rattle.go_board.specs.Grid.{Grid, cell_at}
 use Rattle.go_board.specs.Reaching.{reaches}
 use Rattle.go_board.specs.inner.Rows.{is_set}
@@ -34,3 +34,10 @@ count_apart side rows others = count_by (λ p. is_set rows p && not (is_set othe
 pub record IsLeft (rows others left : List ℕ) : Type 0 where
   pub on : (p : Point) → p.row < length rows → p.col < 64 → is_set left p ≡ (is_set rows p && not (is_set others p))
   pub off : (p : Point) → IsTrue (is_set left p) → IsTrue (is_set rows p)
+
+-- the points of the one set beside a point of the other
+pub record AreBeside (rows others beside : List ℕ) : Type 0 where
+  pub from : (p : Point) → IsTrue (is_set beside p)
+      → IsTrue (is_set rows p) × ((q : Point) × AreAdjacent p q × IsTrue (is_set others q))
+  pub to : (p q : Point) → p.row < length rows → p.col < 64 → IsTrue (is_set rows p) → AreAdjacent p q
+      → IsTrue (is_set others q) → IsTrue (is_set beside p)

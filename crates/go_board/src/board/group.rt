@@ -84,7 +84,7 @@ fn row_has_liberty(own: &[u64], others: &[u64], group: &[u64], besides: Point, r
 }
 
 /// The columns of a row beside those of the row itself, or of the rows above and below it.
-fn columns_beside(above: u64, here: u64, below: u64) -> u64
+pub(crate) fn columns_beside(above: u64, here: u64, below: u64) -> u64
     ensures from { (col : ℕ) → IsTrue (has_bit result col) → IsInOrBeside above here below col }
     ensures to { (col : ℕ) → col < 64 → IsInOrBeside above here below col → IsTrue (has_bit result col) }
 {

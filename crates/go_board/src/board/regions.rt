@@ -8,10 +8,11 @@ ghost use Rattle.go_board.specs.Colour.{opponent, same_cell, stone_of};
 ghost use Rattle.go_board.specs.Grid.{cell_at};
 ghost use Rattle.go_board.specs.inner.Groups.{AllReach, is_shut};
 ghost use Rattle.go_board.specs.inner.Rows.{has_bit, is_set};
-ghost use Rattle.go_board.specs.inner.Regions.{is_there, AreRowsOf, IsLeft, reaches_through_own, count_apart};
+ghost use Rattle.go_board.specs.inner.Regions.{is_there, AreRowsOf, IsLeft, AreBeside, reaches_through_own, count_apart};
 
 use crate::board::Board;
-use crate::board::fill::{fill, fill_both};
+use crate::board::fill::{fill, fill_both, row_above, row_below};
+use crate::board::group::columns_beside;
 use crate::size::{MAX_ROWS, Size};
 use crate::stones::{Cell, Colour};
 
@@ -109,6 +110,18 @@ fn difference(rows: &[u64], others: &[u64], left: &mut [u64])
 {
     for row in 0..rows.len() {
         left[row] = rows[row] & !others[row];
+    }
+}
+
+/// The points of a set that are beside one of another set.
+fn points_beside(rows: &[u64], others: &[u64], beside: &mut [u64])
+    requires others { length others.now ≡ length rows.now }
+    requires beside { length beside.old ≡ length rows.now }
+    ensures { AreBeside rows.now others.now beside.new }
+{
+    for row in 0..rows.len() {
+        let around = columns_beside(row_above(others, row), others[row], row_below(others, row));
+        beside[row] = rows[row] & around;
     }
 }
 
@@ -226,13 +239,21 @@ impl Board {
         ensures rows { length shut.new ≡ self.now.side }
     {
         let _ = colour;
-        let (mut room_words, mut reached_words) = (no_rows::<N>(), no_rows::<N>());
+        let (mut room_words, mut empty_words) = (no_rows::<N>(), no_rows::<N>());
+        let mut reached_words = no_rows::<N>();
         let side = usize::from(self.size().side());
         let room = &mut room_words[..side];
+        let empty = &mut empty_words[..side];
         let reached = &mut reached_words[..side];
         other_points(others, room);
-        difference(room, rows, reached);
-        fill(reached, room);
+        difference(room, rows, empty);
+        points_beside(rows, empty, reached);
+        // mostly each stone has an empty point beside it: then nothing is filled
+        difference(rows, reached, shut);
+        if is_none(shut) {
+            return;
+        }
+        fill(reached, rows);
         difference(rows, reached, shut);
     }
 }
