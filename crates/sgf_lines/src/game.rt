@@ -107,7 +107,7 @@ impl Game {
     fn take_step<'a>(
         &mut self,
         alloc: Global,
-        collection: &Collection<'a>,
+        collection: &'a Collection<'_>,
         number: usize,
         plays: &mut Plays,
     ) -> Result<Option<TakenStep<'a>>, MemoryFault>

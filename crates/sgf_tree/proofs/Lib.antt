@@ -7,6 +7,7 @@ pub mod ValueEnds
 pub mod ValueSpelled
 pub mod ValueUnits
 pub mod NearBrackets
+pub mod KeptEnds
 pub mod ValuesRead
 pub mod NameEnds
 pub mod NodeEnds

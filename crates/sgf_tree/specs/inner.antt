@@ -3,5 +3,6 @@ pub mod Machine
 pub mod Layout
 pub mod NodeText
 pub mod Progress
+pub mod KeptEnds
 pub mod PropertiesRead
 pub mod GamesRead

@@ -5,7 +5,7 @@ ghost use Rattle.sgf_tree.specs.declared.fault.TheConstants.{MAX_LENGTH};
 ghost use Rattle.sgf_tree.specs.Tree.{game_count, node_count};
 ghost use Rattle.sgf_tree.specs.FileOrder.{node_at, place_at, parent_at, IsLeaf, game_of, IsLastBelow, PlacesRise};
 
-use crate::layout::{Link, NodeEntry};
+use crate::layout::{Link, LongValue, NodeEntry};
 use crate::node::NodeRef;
 use crate::reader::scan::rest_from;
 use std::marker::Model;
@@ -18,6 +18,8 @@ pub struct Collection<'a> {
     text: &'a [u8],
     games: u32,
     nodes: Vec<NodeEntry>,
+    /// In file order, so that a node's walk finds its own by halves.
+    long: Vec<LongValue>,
 }
 
 impl<'a> Model for Collection<'a> {
@@ -29,21 +31,34 @@ impl<'a> Model for Collection<'a> {
     ghost coded = { games_code };
 
     ghost use Rattle.sgf_tree.specs.inner.Layout.{games_in, IsLaidOut};
+    ghost use Rattle.sgf_tree.specs.inner.KeptEnds.{AreKeptEnds};
 
     ghost view = { λ c. games_in c.text.now };
 
-    ghost invariant = { λ c. IsLaidOut c.text.now c.games c.nodes.items };
+    ghost invariant = { λ c. IsLaidOut c.text.now c.games c.nodes.items × AreKeptEnds c.text.now c.long.items };
 }
 
 impl<'a> Collection<'a> {
     ghost use Rattle.sgf_tree.specs.inner.Layout.{games_in, IsLaidOut};
+    ghost use Rattle.sgf_tree.specs.inner.KeptEnds.{AreKeptEnds};
 
     /// The collection of the text, which the entries hold.
-    pub(crate) fn new(text: &'a [u8], games: u32, nodes: Vec<NodeEntry>) -> Collection<'a>
-        requires { IsLaidOut text.now games nodes.items }
+    pub(crate) fn new(
+        text: &'a [u8],
+        games: u32,
+        nodes: Vec<NodeEntry>,
+        long: Vec<LongValue>,
+    ) -> Collection<'a>
+        requires laid_out { IsLaidOut text.now games nodes.items }
+        requires kept { AreKeptEnds text.now long.items }
         ensures { result ≡ games_in text.now }
     {
-        Collection { text, games, nodes }
+        Collection {
+            text,
+            games,
+            nodes,
+            long,
+        }
     }
 
     /// The number of games.
@@ -64,7 +79,7 @@ impl<'a> Collection<'a> {
     }
 
     /// Node `i`, counted from 0 in file order.
-    pub fn node(&self, i: usize) -> NodeRef<'a>
+    pub fn node(&self, i: usize) -> NodeRef<'_>
         requires { i < node_count self.now }
         ensures { node_at self.now i ≡ Some result }
     {
@@ -72,6 +87,7 @@ impl<'a> Collection<'a> {
         NodeRef {
             place: entry.place,
             text: rest_from(self.text, entry.place as usize),
+            long: &self.long,
         }
     }
 
@@ -131,6 +147,7 @@ impl<'a> Collection<'a> {
 #[cfg(test)]
 mod tests {
     use super::*;
+    use crate::reader::long::LONG;
     use crate::reader::read;
     use std::test::Fail;
 
@@ -168,6 +185,44 @@ mod tests {
             games.push(c.game_of(i))?;
         }
         assert_eq!(rt; games.as_slice(), [1, 2, 2, 2, 2, 3].as_slice());
+        Ok(())
+    }
+
+    /// Values of one byte less than a long one has, and longer ones full of escaped brackets.
+    #[test]
+    fn keeps_where_long_values_end(rt: HostRuntime) -> Result<(), Fail> {
+        let mut short = Vec::new(rt.alloc());
+        short.resize(LONG - 1, b'a')?;
+        let long = b"\\]".repeat(rt.alloc(), LONG / 2)?;
+        let (short, long) = (short.as_slice(), long.as_slice());
+        let mut text = b"(;C[".to_vec(rt.alloc())?;
+        for (value, after) in [
+            (short, "]N["),
+            (long, "] ["),
+            (long, "]W[aa];C["),
+            (long, "]B[bb])"),
+        ] {
+            text.extend_from_slice(value)?;
+            text.extend_from_slice(after.as_bytes())?;
+        }
+        let c = read(rt.alloc(), &text)?;
+        assert_eq!(rt; c.long.len(), 3);
+        let mut seen = Vec::new(rt.alloc());
+        for i in 0..c.nodes() {
+            let mut properties = c.node(i).walk();
+            for _ in 0..3 {
+                let Some(property) = properties.next() else {
+                    continue;
+                };
+                property.push_name(&mut seen)?;
+                seen.push(match property.value(0) {
+                    value if value == short => b's',
+                    value if value == long => b'l',
+                    _ => b'.',
+                })?;
+            }
+        }
+        assert_eq!(rt; seen.as_slice(), b"CsNlW.ClB.".as_slice());
         Ok(())
     }
 

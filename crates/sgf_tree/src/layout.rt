@@ -1,4 +1,4 @@
-//! The entries of the flat vector that holds a collection: 16 bytes a node.
+//! The entries of the flat vectors that hold a collection: 16 bytes a node, and 8 bytes a long value.
 
 /// How a node follows the nodes before it.
 #[derive(Clone, Copy)]
@@ -19,4 +19,12 @@ pub(crate) struct NodeEntry {
     pub link: Link,
     /// The greatest number among the node and those below it.
     pub last_below: u32,
+}
+
+/// A long raw value, of which is kept how many bytes it has, so that a walk over its node doesn't search for its end again.
+#[derive(Clone, Copy)]
+pub(crate) struct LongValue {
+    /// How many bytes are left of the text where it begins, which is the same for each part that goes up to the text's end.
+    pub left: u32,
+    pub bytes: u32,
 }

@@ -18,10 +18,10 @@
 //! ```
 //!
 //! - `fault` has the ways in which a call may fail.
-//! - `layout` has the entries of the flat vector that holds a collection.
+//! - `layout` has the entries of the flat vectors that hold a collection.
 //! - `collection`, `node` and `property` look into a collection that was read.
 //! - `walk` steps forward over the properties of a node and the values of a property.
-//! - `reader` reads a text.
+//! - `reader` reads a text, and keeps where its long values end.
 //! - `text` decodes the text of a value, and `numbers` has the value of a number.
 //! - `laws` has what holds of all texts.
 #![tactic(auto)]

@@ -5,6 +5,7 @@ ghost use Rattle.std.specs.Str.{bytes_eq};
 ghost use Rattle.sgf_tree.specs.Tree.{lone_property};
 ghost use Rattle.sgf_tree.specs.Written.{node_text, IsWrittenNode};
 
+use crate::layout::LongValue;
 use crate::property::PropRef;
 use crate::reader::scan::{is_front_of_more, is_lone_node, part, rest_from};
 use crate::walk::{Properties, written_properties_end};
@@ -18,6 +19,8 @@ pub struct NodeRef<'a> {
     pub(crate) place: u32,
     /// The text from its `;` on.
     pub(crate) text: &'a [u8],
+    /// What was kept of the text's long values: a reference to the vector, as it is smaller than a slice is.
+    pub(crate) long: &'a Vec<LongValue>,
 }
 
 impl<'a> Model for NodeRef<'a> {
@@ -30,10 +33,11 @@ impl<'a> Model for NodeRef<'a> {
 
     ghost use Rattle.std.specs.Prelude.{drop};
     ghost use Rattle.sgf_tree.specs.inner.NodeText.{properties_in, IsNodeIn};
+    ghost use Rattle.sgf_tree.specs.inner.KeptEnds.{AreKeptEnds};
 
     ghost view = { λ n. record { place = n.place; properties = properties_in (drop 1 n.text.now) } };
 
-    ghost invariant = { λ n. IsNodeIn n.text.now };
+    ghost invariant = { λ n. IsNodeIn n.text.now × AreKeptEnds n.text.now n.long.now.items };
 }
 
 impl<'a> NodeRef<'a> {
@@ -42,7 +46,8 @@ impl<'a> NodeRef<'a> {
         ensures { result ≡ self.now.properties }
     {
         let text = rest_from(self.text, 1);
-        Properties { rest: text }
+        let long = self.long;
+        Properties { rest: text, long }
     }
 
     /// Its text from its `;` on, as far as it stands as the sgf form writes it, with no white space and no small letter
@@ -55,10 +60,12 @@ impl<'a> NodeRef<'a> {
         if is_lone_node(text) {
             return (part(text, 0, 6), None);
         }
-        let end = written_properties_end(text, 1);
+        let long = self.long;
+        let end = written_properties_end(text, 1, long);
         let text = part(self.text, 0, end);
         let left = Properties {
             rest: rest_from(self.text, end),
+            long,
         };
         if left.is_empty() {
             (text, None)
@@ -91,6 +98,7 @@ impl<'a> NodeRef<'a> {
         if is_front_of_more(text) {
             let left = Properties {
                 rest: rest_from(text, 6),
+                long: self.long,
             };
             Some((text[1], part(text, 3, 5), left))
         } else {
@@ -104,7 +112,8 @@ impl<'a> NodeRef<'a> {
         ensures { result ≡ length self.now.properties }
     {
         let rest = rest_from(self.text, 1);
-        let mut left = Properties { rest };
+        let long = self.long;
+        let mut left = Properties { rest, long };
         let mut count = 0;
         while let Some(_property) = left.next() {
             count += 1;

@@ -1,23 +1,25 @@
 //! Reading a text.
 //!
-//! The text is gone over once. Each node that ends is pushed to a vector, and a fault is
-//! reported at the first byte that no text of the grammar goes on with.
+//! The text is gone over once. Each node that ends is pushed to a vector, the length of each long value to another, and a
+//! fault is reported at the first byte that no text of the grammar goes on with.
 
-ghost use Rattle.std.specs.Prelude.{◌≡◌, ◌<◌, ◌≤◌, ◌↔◌, [], length, Err, IfOk, IfErr};
+ghost use Rattle.std.specs.Prelude.{◌≡◌, ◌<◌, ◌≤◌, ◌↔◌, [], length, Err, IfOk, IfErr, OnOk};
 ghost use Rattle.sgf_tree.specs.Spelling.{Spells};
 ghost use Rattle.sgf_tree.specs.Refusal.{IsFaultyWhereNotSgf};
 ghost use Rattle.sgf_tree.specs.inner.Progress.{IsTrueFault};
+ghost use Rattle.sgf_tree.specs.inner.KeptEnds.{AreKeptEnds};
 ghost use Rattle.sgf_tree.specs.inner.GamesRead.{ReadsWhole};
 
 mod fault;
 mod games;
+pub(crate) mod long;
 mod mark;
 mod properties;
 pub(crate) mod scan;
 
 use crate::collection::Collection;
 use crate::fault::{MAX_LENGTH, ReadFault};
-use crate::layout::NodeEntry;
+use crate::layout::{LongValue, NodeEntry};
 use crate::reader::fault::PartFault;
 use crate::reader::games::read_games;
 use crate::reader::mark::mark_end;
@@ -39,22 +41,29 @@ pub fn read<'a>(alloc: Global, text: &'a [u8]) -> Result<Collection<'a>, ReadFau
         return Err(ReadFault::TooLong);
     }
     let mut nodes = Vec::new(alloc);
-    match read_whole(text, &mut nodes) {
-        Ok(games) => Ok(Collection::new(text, games, nodes)),
+    let mut long = Vec::new(alloc);
+    match read_whole(text, &mut nodes, &mut long) {
+        Ok(games) => Ok(Collection::new(text, games, nodes, long)),
         Err(PartFault::NotSgf(at)) => Err(ReadFault::NotSgf { at }),
         Err(PartFault::Memory) => Err(ReadFault::Memory),
     }
 }
 
 /// Reads a whole text. The result is the number of its games.
-fn read_whole(text: &[u8], nodes: &mut Vec<NodeEntry>) -> Result<u32, PartFault>
+fn read_whole(
+    text: &[u8],
+    nodes: &mut Vec<NodeEntry>,
+    long: &mut Vec<LongValue>,
+) -> Result<u32, PartFault>
     requires short { length text.now ≤ MAX_LENGTH }
     requires nothing_read { nodes.old.items ≡ [] }
+    requires nothing_kept { long.old.items ≡ [] }
     ensures read { IfOk result (ReadsWhole text.now nodes.new.items) }
     ensures fault { IfErr result (IsTrueFault text.now) }
+    ensures kept { OnOk result (AreKeptEnds text.now long.new.items) }
 {
     let mark = mark_end(text)?;
-    read_games(text, skip_white(text, mark), nodes)
+    read_games(text, skip_white(text, mark), nodes, long)
 }
 
 #[cfg(test)]

@@ -1,12 +1,19 @@
 //! Steps forward over the properties of a node, and over the values of a property.
 //! All steps over a node together cost what its text costs, however many properties and values it has.
 
-ghost use Rattle.std.specs.Prelude.{◌≡◌, ◌↔◌, ◌≤◌, false, [], ◌∷◌, length, drop, IsTrue, IfSome, MatchOption};
+ghost use Rattle.std.specs.Prelude.{◌≡◌, ◌↔◌, ◌≤◌, ◌<◌, false, [], ◌∷◌, length, drop, slice_index, IsTrue, IfSome, MatchOption};
 ghost use Rattle.sgf_tree.specs.Written.{IsWrittenFront};
-ghost use Rattle.sgf_tree.specs.inner.NodeText.{ArePropertiesIn, AreValuesWritten, IsPropertyWritten, ArePropertiesWritten, IsValueAt, IsValuesEnd, IsNoPropValue};
+ghost use Rattle.sgf_tree.specs.Spelling.{is_white, is_upper};
+ghost use Rattle.sgf_tree.specs.inner.Progress.{IsSpan};
+ghost use Rattle.sgf_tree.specs.inner.NodeText.{properties_in, ArePropertiesIn, AreValuesWritten, IsPropertyWritten, ArePropertiesWritten, IsValueAt, IsValuesEnd, IsNoPropValue};
+ghost use Rattle.sgf_tree.specs.inner.KeptEnds.{AreKeptEnds};
 
+use crate::layout::LongValue;
 use crate::property::PropRef;
-use crate::reader::scan::{capitals_end, identifier_end, part, rest_from, skip_white, value_end};
+use crate::reader::long::value_end;
+use crate::reader::scan::{
+    capitals_end, identifier_end, part, rest_from, skip_to_bracket, skip_white,
+};
 use std::marker::Model;
 
 /// The properties of a node that are left, in file order.
@@ -14,6 +21,7 @@ use std::marker::Model;
 #[derive(Drop)]
 pub struct Properties<'a> {
     pub(crate) rest: &'a [u8],
+    pub(crate) long: &'a Vec<LongValue>,
 }
 
 impl<'a> Model for Properties<'a> {
@@ -26,10 +34,11 @@ impl<'a> Model for Properties<'a> {
     ghost coded = { properties_code };
 
     ghost use Rattle.sgf_tree.specs.inner.NodeText.{properties_in, ArePropertiesIn};
+    ghost use Rattle.sgf_tree.specs.inner.KeptEnds.{AreKeptEnds};
 
     ghost view = { λ n. properties_in n.rest.now };
 
-    ghost invariant = { λ n. ArePropertiesIn n.rest.now };
+    ghost invariant = { λ n. ArePropertiesIn n.rest.now × AreKeptEnds n.rest.now n.long.now.items };
 }
 
 impl<'a> Properties<'a> {
@@ -44,6 +53,7 @@ impl<'a> Properties<'a> {
 
     /// Takes off the next property.
     /// None after the last one, again and again.
+    #[inline(always)]
     pub fn next(&mut self) -> Option<PropRef<'a>>
         ensures { MatchOption result ((self.old ≡ []) × (self.new ≡ [])) (λ p. self.old ≡ p ∷ self.new) }
     {
@@ -52,16 +62,9 @@ impl<'a> Properties<'a> {
         if start == text.len() || !text[start].is_ascii_uppercase() {
             return None;
         }
-        let end = identifier_end(text, start);
-        let (from, close) = value_at(text, end).unwrap();
-        let more = close + 1;
-        let next = values_end(text, more);
+        let (property, next) = property_at(text, start, self.long);
         self.rest = rest_from(text, next);
-        Some(PropRef {
-            identifier: part(text, start, end),
-            first: part(text, from, close),
-            more: rest_from(text, more),
-        })
+        Some(property)
     }
 
     /// Takes off the properties in front that stand as the sgf form writes them, with no white space and no small letter
@@ -72,10 +75,35 @@ impl<'a> Properties<'a> {
     {
         let text = self.rest;
         let start = skip_white(text, 0);
-        let end = written_properties_end(text, start);
+        let end = written_properties_end(text, start, self.long);
         self.rest = rest_from(text, end);
         part(text, start, end)
     }
+}
+
+/// The first property of a text, whose identifier begins at `start`, after white space, and where its values end.
+/// It is kept apart from the test whether there is one, so that finding none costs little.
+#[inline(never)]
+fn property_at<'a>(text: &'a [u8], start: usize, long: &Vec<LongValue>) -> (PropRef<'a>, usize)
+    requires held { ArePropertiesIn text.now }
+    requires kept { AreKeptEnds text.now long.now.items }
+    requires white { IsSpan is_white text.now 0 start }
+    requires within { start < length text.now }
+    requires capital { IsTrue (is_upper (slice_index text.now start)) }
+    ensures within { result.1 ≤ length text.now }
+    ensures left { ArePropertiesIn (drop result.1 text.now) }
+    ensures first { properties_in text.now ≡ result.0 ∷ properties_in (drop result.1 text.now) }
+{
+    let end = identifier_end(text, start);
+    let (from, close) = value_at(text, end, Some(long)).unwrap();
+    let more = close + 1;
+    let next = values_end(text, more, long);
+    let property = PropRef {
+        identifier: part(text, start, end),
+        first: part(text, from, close),
+        more: rest_from(text, more),
+    };
+    (property, next)
 }
 
 /// Where the raw value at `at` begins, after white space and a `[`, and where its `]` stands.
@@ -83,15 +111,16 @@ impl<'a> Properties<'a> {
 ///
 /// It is compiled into its callers, as a call would hand its offsets over in memory.
 #[inline(always)]
-fn value_at(text: &[u8], at: usize) -> Option<(usize, usize)>
-    requires { at ≤ length text.now }
+fn value_at(text: &[u8], at: usize, long: Option<&Vec<LongValue>>) -> Option<(usize, usize)>
+    requires within { at ≤ length text.now }
+    requires kept { IfSome long (λ kept. AreKeptEnds text.now kept.now.items) }
     ensures { MatchOption result (IsNoPropValue (drop at text.now)) (λ value. IsValueAt text.now at value.0 value.1) }
 {
-    let bracket = skip_white(text, at);
+    let bracket = skip_to_bracket(text, at);
     if bracket == text.len() || text[bracket] != b'[' {
         return None;
     }
-    let Some(close) = value_end(text, bracket + 1) else {
+    let Some(close) = value_end(text, bracket + 1, long) else {
         return None;
     };
     Some((bracket + 1, close))
@@ -108,50 +137,54 @@ fn begins_value(text: &[u8], at: usize) -> bool
 
 /// The end of the values at `at`, of which there are some.
 #[inline(never)]
-fn far_values_end(text: &[u8], at: usize) -> usize
-    requires { at ≤ length text.now }
+fn far_values_end(text: &[u8], at: usize, long: &Vec<LongValue>) -> usize
+    requires within { at ≤ length text.now }
+    requires kept { AreKeptEnds text.now long.now.items }
     ensures { IsValuesEnd text.now at result }
 {
     let mut end = at;
-    'values: while let Some((_start, close)) = value_at(text, end) {
+    'values: while let Some((_start, close)) = value_at(text, end, Some(long)) {
         end = close + 1;
     }
     end
 }
 
 /// The end of the values at `at`. After the first value of a property there are mostly none.
-fn values_end(text: &[u8], at: usize) -> usize
-    requires { at ≤ length text.now }
+fn values_end(text: &[u8], at: usize, long: &Vec<LongValue>) -> usize
+    requires within { at ≤ length text.now }
+    requires kept { AreKeptEnds text.now long.now.items }
     ensures { IsValuesEnd text.now at result }
 {
     if begins_value(text, at) {
-        far_values_end(text, at)
+        far_values_end(text, at, long)
     } else {
         at
     }
 }
 
 /// The end of the properties at `at`, as far as they stand as the sgf form writes them.
-pub(crate) fn written_properties_end(text: &[u8], at: usize) -> usize
+pub(crate) fn written_properties_end(text: &[u8], at: usize, long: &Vec<LongValue>) -> usize
     requires within { at ≤ length text.now }
     requires held { ArePropertiesIn (drop at text.now) }
+    requires kept { AreKeptEnds text.now long.now.items }
     ensures { ArePropertiesWritten text.now at result }
 {
     let mut end = at;
-    'properties: while let Some(next) = written_end(text, end) {
+    'properties: while let Some(next) = written_end(text, end, long) {
         end = next;
     }
     end
 }
 
 /// The end of the values at `at`, as far as they stand as the sgf form writes them, with nothing between them.
-fn written_values_end(text: &[u8], at: usize) -> Option<usize>
-    requires { at ≤ length text.now }
+fn written_values_end(text: &[u8], at: usize, long: &Vec<LongValue>) -> Option<usize>
+    requires within { at ≤ length text.now }
+    requires kept { AreKeptEnds text.now long.now.items }
     ensures { IfSome result (AreValuesWritten text.now at) }
 {
     let mut end = at;
     'values: while end < text.len() && text[end] == b'[' {
-        let Some(close) = value_end(text, end + 1) else {
+        let Some(close) = value_end(text, end + 1, Some(long)) else {
             return None;
         };
         end = close + 1;
@@ -161,12 +194,13 @@ fn written_values_end(text: &[u8], at: usize) -> Option<usize>
 
 /// The end of the property at `at`.
 /// None where none is there, or one that doesn't stand as the sgf form writes it.
-fn written_end(text: &[u8], at: usize) -> Option<usize>
-    requires { at ≤ length text.now }
+fn written_end(text: &[u8], at: usize, long: &Vec<LongValue>) -> Option<usize>
+    requires within { at ≤ length text.now }
+    requires kept { AreKeptEnds text.now long.now.items }
     ensures { IfSome result (IsPropertyWritten text.now at) }
 {
     let name_end = capitals_end(text, at);
-    let Some(end) = written_values_end(text, name_end) else {
+    let Some(end) = written_values_end(text, name_end, long) else {
         return None;
     };
     if name_end == at || end == name_end {
@@ -214,7 +248,7 @@ impl<'a> Values<'a> {
             return Some(first);
         }
         let text = self.rest;
-        let Some((start, close)) = value_at(text, 0) else {
+        let Some((start, close)) = value_at(text, 0, None) else {
             return None;
         };
         self.rest = rest_from(text, close + 1);

@@ -46,7 +46,12 @@ pub record ArePropertiesRead (t : List ℕ) (at end : ℕ) : Type 0 where
   pub reached : (n : Started) → n.properties ≡ [] → ComesTo t at (in_node n)
       → (ps : List Property) × StandsAfterNode t end (with_properties n ps)
 
--- a fault is the first one of the text, if the machine stood after the `[` at `bracket`
+-- a fault is the first one of the text, if the machine stood at `at`, after a `[`
+abbrev pub IsFaultInValue : List ℕ → ℕ → PartFault → Type 0
+IsFaultInValue t at fault =
+    (n : Started) (name : List ℕ) (before : List (List ℕ)) → ComesTo t at (in_value n name before []) → IsTrueFault t fault
+
+-- or after the `[` at `bracket`, which is that of a property's first value
 abbrev pub IsFaultInValues : List ℕ → ℕ → PartFault → Type 0
 IsFaultInValues t bracket fault =
     (n : Started) (name : List ℕ) → ComesTo t (bracket + 1) (in_value n name [] []) → IsTrueFault t fault

@@ -1,15 +1,16 @@
 //! Reading nodes and games.
 
-ghost use Rattle.std.specs.Prelude.{◌≡◌, ◌<◌, ◌≤◌, ◌+◌, ℕ, [], length, IfOk, IfErr};
+ghost use Rattle.std.specs.Prelude.{◌≡◌, ◌<◌, ◌≤◌, ◌+◌, ℕ, [], length, IfOk, IfErr, OnOk};
 ghost use Rattle.sgf_tree.specs.Tree.{no_games, game_count};
 ghost use Rattle.sgf_tree.specs.inner.Machine.{Stack};
 ghost use Rattle.sgf_tree.specs.inner.Progress.{IsTrueFault};
+ghost use Rattle.sgf_tree.specs.inner.KeptEnds.{AreKeptEnds};
 ghost use Rattle.sgf_tree.specs.inner.PropertiesRead.{IsFaultInNode};
 ghost use Rattle.sgf_tree.specs.inner.GamesRead.{tip, IsOpening, IsOwnRun, ClosesRun};
 ghost use Rattle.sgf_tree.specs.inner.GamesRead.{StandsBetween, IsNodeRead, ReadsSequence, ReadsWhole, IsFaultInSequence};
 
 use crate::fault::MAX_LENGTH;
-use crate::layout::{Link, NodeEntry};
+use crate::layout::{Link, LongValue, NodeEntry};
 use crate::reader::fault::PartFault;
 use crate::reader::properties::read_properties;
 use crate::reader::scan::skip_white;
@@ -22,14 +23,17 @@ fn read_node(
     place: usize,
     link: Link,
     nodes: &mut Vec<NodeEntry>,
+    long: &mut Vec<LongValue>,
 ) -> Result<usize, PartFault>
     requires short { length text.now ≤ MAX_LENGTH }
     requires within { place < length text.now }
     requires room { length nodes.old.items ≤ place }
+    requires kept { AreKeptEnds text.now long.old.items }
     ensures read { IfOk result (λ end. IsNodeRead text.now place end link nodes.old.items nodes.new.items) }
     ensures fault { IfErr result (IsFaultInNode text.now (place + 1)) }
+    ensures kept { OnOk result (AreKeptEnds text.now long.new.items) }
 {
-    let end = read_properties(text, place + 1)?;
+    let end = read_properties(text, place + 1, long)?;
     nodes.push(NodeEntry {
         place: place as u32,
         link,
@@ -45,23 +49,26 @@ fn read_sequence(
     at: usize,
     link: Link,
     nodes: &mut Vec<NodeEntry>,
+    long: &mut Vec<LongValue>,
 ) -> Result<usize, PartFault>
     requires short { length text.now ≤ MAX_LENGTH }
     requires within { at ≤ length text.now }
     requires room { length nodes.old.items ≤ at }
+    requires kept { AreKeptEnds text.now long.old.items }
     ensures read { IfOk result (λ end. ReadsSequence text.now at end link nodes.old.items nodes.new.items) }
     ensures room { IfOk result (λ end. length nodes.new.items ≤ end) }
     ensures rises { IfOk result (λ end. at ≤ end) }
     ensures within { IfOk result (λ end. end ≤ length text.now) }
     ensures fault { IfErr result (IsFaultInSequence text.now at link nodes.old.items) }
+    ensures kept { OnOk result (AreKeptEnds text.now long.new.items) }
 {
     let place = skip_white(text, at);
     if place == text.len() || text[place] != b';' {
         return Err(PartFault::NotSgf(place));
     }
-    let mut end = read_node(text, place, link, nodes)?;
+    let mut end = read_node(text, place, link, nodes, long)?;
     'nodes: while end < text.len() && text[end] == b';' {
-        end = read_node(text, end, Link::Next, nodes)?;
+        end = read_node(text, end, Link::Next, nodes, long)?;
     }
     Ok(end)
 }
@@ -106,13 +113,16 @@ pub(crate) fn read_games(
     text: &[u8],
     at: usize,
     nodes: &mut Vec<NodeEntry>,
+    long: &mut Vec<LongValue>,
 ) -> Result<u32, PartFault>
     requires short { length text.now ≤ MAX_LENGTH }
     requires within { at ≤ length text.now }
     requires begins { StandsBetween text.now at (record { closed = no_games; unclosed = [] }) }
     requires nothing_read { nodes.old.items ≡ [] }
+    requires kept { AreKeptEnds text.now long.old.items }
     ensures read { IfOk result (ReadsWhole text.now nodes.new.items) }
     ensures fault { IfErr result (IsTrueFault text.now) }
+    ensures kept { OnOk result (AreKeptEnds text.now long.new.items) }
 {
     let mut at = at;
     let mut games = 0;
@@ -120,7 +130,7 @@ pub(crate) fn read_games(
     'games: while at < text.len() {
         match text[at] {
             b'(' => {
-                at = read_sequence(text, at + 1, opening_link(games, tip), nodes)?;
+                at = read_sequence(text, at + 1, opening_link(games, tip), nodes, long)?;
                 tip = Some((nodes.len() - 1) as u32);
             }
             b')' => {

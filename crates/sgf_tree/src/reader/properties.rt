@@ -1,28 +1,30 @@
 //! Reading the properties of a node.
 
-ghost use Rattle.std.specs.Prelude.{◌≡◌, ◌<◌, ◌≤◌, length, slice_index, IsTrue, IfOk, IfErr};
+ghost use Rattle.std.specs.Prelude.{◌≡◌, ◌<◌, ◌≤◌, length, slice_index, IsTrue, IfOk, IfErr, OnOk};
 ghost use Rattle.sgf_tree.specs.Spelling.{is_upper};
 ghost use Rattle.sgf_tree.specs.inner.PropertiesRead.{AreValuesRead, IsPropertyRead, ArePropertiesRead};
+ghost use Rattle.sgf_tree.specs.inner.KeptEnds.{AreKeptEnds};
 ghost use Rattle.sgf_tree.specs.inner.PropertiesRead.{IsFaultInValues, IsFaultInProperty, IsFaultInNode};
 
 use crate::fault::MAX_LENGTH;
+use crate::layout::LongValue;
 use crate::reader::fault::PartFault;
-use crate::reader::scan::{identifier_end, skip_white, value_end};
+use crate::reader::long::read_value;
+use crate::reader::scan::{identifier_end, skip_to_bracket, skip_white};
 
 /// Reads the values of a property, of which the first `[` stands at `bracket`.
 /// The result is the offset of the byte after them and the white space there.
-fn read_values(text: &[u8], bracket: usize) -> Result<usize, PartFault>
+fn read_values(text: &[u8], bracket: usize, long: &mut Vec<LongValue>) -> Result<usize, PartFault>
     requires short { length text.now ≤ MAX_LENGTH }
     requires within { bracket < length text.now }
+    requires kept { AreKeptEnds text.now long.old.items }
     ensures read { IfOk result (AreValuesRead text.now bracket) }
     ensures fault { IfErr result (IsFaultInValues text.now bracket) }
+    ensures kept { OnOk result (AreKeptEnds text.now long.new.items) }
 {
     let mut at = bracket;
     'values: loop {
-        let start = at + 1;
-        let Some(end) = value_end(text, start) else {
-            return Err(PartFault::NotSgf(text.len()));
-        };
+        let end = read_value(text, at + 1, long)?;
         at = skip_white(text, end + 1);
         if at == text.len() || text[at] != b'[' {
             return Ok(at);
@@ -32,31 +34,39 @@ fn read_values(text: &[u8], bracket: usize) -> Result<usize, PartFault>
 
 /// Reads the property whose identifier begins at `start`.
 /// The result is the offset of the byte after it and the white space there.
-fn read_property(text: &[u8], start: usize) -> Result<usize, PartFault>
+fn read_property(text: &[u8], start: usize, long: &mut Vec<LongValue>) -> Result<usize, PartFault>
     requires short { length text.now ≤ MAX_LENGTH }
     requires within { start < length text.now }
     requires capital { IsTrue (is_upper (slice_index text.now start)) }
+    requires kept { AreKeptEnds text.now long.old.items }
     ensures read { IfOk result (IsPropertyRead text.now start) }
     ensures fault { IfErr result (IsFaultInProperty text.now start) }
+    ensures kept { OnOk result (AreKeptEnds text.now long.new.items) }
 {
-    let bracket = skip_white(text, identifier_end(text, start));
+    let bracket = skip_to_bracket(text, identifier_end(text, start));
     if bracket == text.len() || text[bracket] != b'[' {
         return Err(PartFault::NotSgf(bracket));
     }
-    read_values(text, bracket)
+    read_values(text, bracket, long)
 }
 
 /// Reads the properties of a node, which begin at `at` or after white space there.
 /// The result is the offset of the byte after them and the white space there.
-pub(crate) fn read_properties(text: &[u8], at: usize) -> Result<usize, PartFault>
+pub(crate) fn read_properties(
+    text: &[u8],
+    at: usize,
+    long: &mut Vec<LongValue>,
+) -> Result<usize, PartFault>
     requires short { length text.now ≤ MAX_LENGTH }
     requires within { at ≤ length text.now }
+    requires kept { AreKeptEnds text.now long.old.items }
     ensures read { IfOk result (ArePropertiesRead text.now at) }
     ensures fault { IfErr result (IsFaultInNode text.now at) }
+    ensures kept { OnOk result (AreKeptEnds text.now long.new.items) }
 {
     let mut end = skip_white(text, at);
     'properties: while end < text.len() && text[end].is_ascii_uppercase() {
-        end = read_property(text, end)?;
+        end = read_property(text, end, long)?;
     }
     Ok(end)
 }

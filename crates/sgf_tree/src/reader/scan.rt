@@ -47,6 +47,18 @@ pub(crate) fn skip_white(text: &[u8], at: usize) -> usize
     end
 }
 
+/// The same, where a value may begin: mostly there is no white space, but a `[` at once.
+#[inline(always)]
+pub(crate) fn skip_to_bracket(text: &[u8], at: usize) -> usize
+    requires { at ≤ length text.now }
+    ensures { IsSpan is_white text.now at result }
+{
+    if at < text.len() && text[at] == b'[' {
+        return at;
+    }
+    skip_white(text, at)
+}
+
 /// The end of the letters that stand at `at`.
 fn letters_end(text: &[u8], at: usize) -> usize
     requires { at ≤ length text.now }
@@ -224,7 +236,7 @@ fn near_value_end(text: &[u8], at: usize) -> Option<usize>
 /// A `]` is escaped where an odd number of `\` stand directly before it. They are counted from the value's start on, or from the
 /// end of an escape on, since the bytes before belong to other units.
 #[inline(never)]
-fn far_value_end(text: &[u8], at: usize) -> Option<usize>
+pub(crate) fn far_value_end(text: &[u8], at: usize) -> Option<usize>
     requires { at ≤ length text.now }
     ensures read { MatchOption result (IsUnended text.now at) (λ end. IsValueEnd text.now at end) }
     ensures spelled { MatchOption result (SpellsNoValue text.now at) (λ end. SpellsValue text.now at end) }
@@ -240,77 +252,17 @@ fn far_value_end(text: &[u8], at: usize) -> Option<usize>
     None
 }
 
-/// The `]` that ends the raw value at `at`.
-/// None where the text ends before it.
-pub(crate) fn value_end(text: &[u8], at: usize) -> Option<usize>
+/// The `]` that ends the raw value at `at`, where it is short and plain, as most are.
+/// Where it answers None, nothing is known.
+#[inline(always)]
+pub(crate) fn short_value_end(text: &[u8], at: usize) -> Option<usize>
     requires { at ≤ length text.now }
-    ensures read { MatchOption result (IsUnended text.now at) (λ end. IsValueEnd text.now at end) }
-    ensures spelled { MatchOption result (SpellsNoValue text.now at) (λ end. SpellsValue text.now at end) }
+    ensures read { IfSome result (IsValueEnd text.now at) }
+    ensures spelled { IfSome result (SpellsValue text.now at) }
 {
     if is_two_plain(text, at) {
         return Some(at + 2);
     }
-    if let Some(near) = near_value_end(text, at) {
-        return Some(near);
-    }
-    far_value_end(text, at)
-}
-
-#[cfg(test)]
-mod tests {
-    use super::*;
-    use std::test::Fail;
-
-    /// Values of so many plain bytes and then the text of a row, with more text after it or none: what is looked at one by
-    /// one, what is compared at once and what is searched for gives the same.
-    #[test]
-    fn finds_the_end_of_a_value(rt: HostRuntime) -> Result<(), Fail> {
-        for plain in [0, 1, 2, 3, 13, 15, 16, 17, 100, 127, 128, 129, 200] {
-            for (rest, want) in [
-                ("]", Some(0)),
-                ("]]", Some(0)),
-                ("\\]]", Some(2)),
-                ("\\\\]", Some(2)),
-                ("\\\\\\]]", Some(4)),
-                ("\\\\\\\\]]", Some(4)),
-                ("\\]\\]]", Some(4)),
-                ("\\]\\\\]]", Some(4)),
-                ("\\]\\\\\\]]", Some(6)),
-                ("\\]a\\]b]", Some(6)),
-                ("\\:\\\\:]", Some(5)),
-                ("\\]01234567890123456789\\]]", Some(24)),
-            ] {
-                for after in ["", "W[aa];B[bb]\\];W[cc]"] {
-                    let mut text = Vec::new(rt.alloc());
-                    text.resize(plain, b'a')?;
-                    text.extend_from_slice(rest.as_bytes())?;
-                    text.extend_from_slice(after.as_bytes())?;
-                    let want = want.map(|end: usize| end.wrapping_add(plain));
-                    assert_eq!(rt; value_end(&text, 0), want, "of {plain} and {rest:?}");
-                }
-            }
-            for rest in ["", "\\", "\\]", "\\\\", "\\]\\", "\\]a\\\\", "\\\\\\]"] {
-                let mut text = Vec::new(rt.alloc());
-                text.resize(plain, b'a')?;
-                text.extend_from_slice(rest.as_bytes())?;
-                assert_eq!(rt; value_end(&text, 0), None, "of {plain} and {rest:?}");
-            }
-        }
-        Ok(())
-    }
-
-    /// A `\` before the value is none of its own.
-    #[test]
-    fn looks_at_the_value_alone(rt: HostRuntime) {
-        for (text, want) in [
-            ("\\]", Some(1)),
-            ("\\]0123456789abcdef", Some(1)),
-            ("\\\\]]", Some(3)),
-            ("\\\\]]0123456789abcdef", Some(3)),
-            ("\\\\", None),
-        ] {
-            assert!(rt; !text.is_empty());
-            assert_eq!(rt; value_end(text.as_bytes(), 1), want, "of {text:?}");
-        }
-    }
+    let near = near_value_end(text, at)?;
+    Some(near)
 }

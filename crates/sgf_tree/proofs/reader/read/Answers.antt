@@ -4,8 +4,8 @@ use Rattle.sgf_tree.specs.Tree.{Games}
 use Rattle.sgf_tree.proofs.WholeRead.{whole-games, whole-spelled, whole-laid_out}
 use Rattle.sgf_tree.proofs.reader.read.Goals as goal
 
-pub new-requires : goal.new-requires
-new-requires c =
+pub new-requires-clause-laid_out : goal.new-requires-clause-laid_out
+new-requires-clause-laid_out c =
     let read = c.in-Ok.ensures.read in
     whole-laid_out c.args.text.now read.0 _ read.2 c.in-Ok.games c.if-text-gt-MAX_LENGTH.false read.1
 

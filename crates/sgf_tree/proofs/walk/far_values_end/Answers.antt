@@ -4,7 +4,7 @@ use Rattle.sgf_tree.proofs.Walks.{values-more}
 use Rattle.sgf_tree.proofs.walk.far_values_end.Goals as goal
 
 pub values-init : goal.values-init
-values-init c = record { rises = omega arith; within = c.requires; values = []; spelled = no_value }
+values-init c = record { rises = omega arith; within = c.requires.within; values = []; spelled = no_value }
 
 pub values-preserved : goal.values-preserved
 values-preserved c =

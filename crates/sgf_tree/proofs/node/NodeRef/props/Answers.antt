@@ -1,8 +1,12 @@
 use Rattle.std.proofs.Common.{ap, length, length-drop, arith}
 use Rattle.sgf_tree.specs.Tree.{Node}
+use Rattle.sgf_tree.proofs.KeptEnds.{kept-properties}
 use Rattle.sgf_tree.proofs.Walks.{count-properties-held}
 use Rattle.sgf_tree.proofs.node.NodeRef.props.Goals as goal
 
+pub invariant_of-left : goal.invariant_of-left
+invariant_of-left c = rw c.rest_from-rest.ensures (kept-properties c.self.inside.text.now _ c.self.invariant)
+
 pub overflow_add-count : goal.overflow_add-count
 overflow_add-count c =
-    omega (arith, c.self.told, c.loop-property.invariant, ap length c.in-Some.ensures, count-properties-held c.self.invariant.properties, length-drop 1 c.self.inside.text.now, ap (λ (n : Node). length n.properties) c.self.view_is)
+    omega (arith, c.self.told, c.loop-property.invariant, ap length c.in-Some.ensures, count-properties-held c.self.invariant.0.properties, length-drop 1 c.self.inside.text.now, ap (λ (n : Node). length n.properties) c.self.view_is)

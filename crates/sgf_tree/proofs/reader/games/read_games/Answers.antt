@@ -37,6 +37,7 @@ games-preserved-in-40 c =
       so_far =
           subst (λ n. GamesSoFar c.args.text.now c.in_ok-at-in-40.at c.games.games (Some (n - 1)) c.read_sequence.new.nodes.items) count
           (games-sequence c.args.text.now c.in_ok-at-in-40.at c.games.games so_far.stack _ (sequence (goal.at.games-preserved-in-40 c).In_ok-at-in-40) so_far.games_are);
+      kept = c.in_ok-at-in-40.ensures.kept;
     }
 
 pub returns-in_default-tip-clause-fault : goal.returns-in_default-tip-clause-fault
@@ -70,6 +71,7 @@ games-preserved c =
       few = omega (arith, at_most, c.games.invariant.few, c.skip_white-at.ensures.rises);
       room = omega (arith, c.games.invariant.room, c.skip_white-at.ensures.rises, same);
       so_far = games-close c.args.text.now c.games.at c.games.games c.in-Some.last _ so_far next c.if-is_none.games _ _ c.games-test.true c.in-41.is c.close_game-tip.ensures c.skip_white-at.ensures if_none if_some;
+      kept = c.games.invariant.kept;
     }
 
 pub returns-in_default-clause-fault : goal.returns-in_default-clause-fault

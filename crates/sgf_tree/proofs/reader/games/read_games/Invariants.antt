@@ -1,4 +1,5 @@
 use Rattle.std.proofs.Common.{◌-◌, ◌≤◌, length}
+use Rattle.sgf_tree.specs.inner.KeptEnds.{AreKeptEnds}
 use Rattle.sgf_tree.proofs.GamesLoop.{GamesSoFar}
 use Rattle.sgf_tree.proofs.reader.games.read_games.Given as goal
 
@@ -8,6 +9,7 @@ invariant-games l = record {
   few : l.games ≤ l.at;
   room : length l.nodes.items ≤ l.at;
   so_far : GamesSoFar l.text l.at l.games l.tip l.nodes.items;
+  kept : AreKeptEnds l.text l.long.items;
 }
 
 abbrev pub decreases-games : goal.decreases-games

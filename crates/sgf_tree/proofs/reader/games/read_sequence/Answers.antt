@@ -36,6 +36,7 @@ nodes-init c =
       room = node-room t place c.in_ok-end.end c.args.link _ _ (omega (arith, c.requires.room, c.skip_white-place.ensures.rises)) read;
       so_far = λ k after held opening.
           sequence-first t c.args.at place c.in_ok-end.end k c.args.link _ _ c.skip_white-place.ensures after held opening lt c.if-text-place-ne59.false read;
+      kept = c.in_ok-end.ensures.kept;
     }
 
 pub returns-in_err-end-2-clause-fault : goal.returns-in_err-end-2-clause-fault
@@ -56,6 +57,7 @@ nodes-preserved c =
       room = node-room t c.nodes.end c.in_ok-end-2.end _ _ _ c.nodes.invariant.room read;
       so_far = λ k after held opening.
           sequence-next t c.nodes.end c.in_ok-end-2.end k _ _ (c.nodes.invariant.so_far k after held opening) c.nodes-test.true c.if-text-end-eq59.true read;
+      kept = c.in_ok-end-2.ensures.kept;
     }
 
 pub returns-else-text-end-eq59-clause-read : goal.returns-else-text-end-eq59-clause-read

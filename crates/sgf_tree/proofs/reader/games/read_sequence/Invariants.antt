@@ -2,6 +2,7 @@ use Rattle.std.proofs.Common.{◌-◌, ◌≤◌, length}
 use Rattle.sgf_tree.specs.inner.Machine.{Stack, opened}
 use Rattle.sgf_tree.specs.inner.Progress.{ComesTo}
 use Rattle.sgf_tree.specs.inner.GamesRead.{HoldStack, IsOpening}
+use Rattle.sgf_tree.specs.inner.KeptEnds.{AreKeptEnds}
 use Rattle.sgf_tree.proofs.SequencesRead.{SequenceSoFar}
 use Rattle.sgf_tree.proofs.reader.games.read_sequence.Given as goal
 
@@ -12,6 +13,7 @@ invariant-nodes l = record {
   room : length l.nodes.items ≤ l.end;
   so_far : (k : Stack) → ComesTo l.text l.at (opened k) → HoldStack l.text k l.fn.nodes.items → IsOpening k l.fn.link
       → SequenceSoFar l.text l.end k l.nodes.items;
+  kept : AreKeptEnds l.text l.long.items;
 }
 
 abbrev pub decreases-nodes : goal.decreases-nodes

@@ -6,7 +6,7 @@ use Rattle.sgf_tree.proofs.reader.properties.read_values.Goals.{After-skip_white
 -- the value was read
 read : (c : After-skip_white-at) → ValuesBefore c.args.text.now c.args.bracket c.skip_white-at.result
 read c =
-    values-step c.args.text.now c.args.bracket c.values.at c.in-Some.end c.skip_white-at.result c.values.invariant.so_far c.in-Some.ensures.read c.skip_white-at.ensures
+    values-step c.args.text.now c.args.bracket c.values.at c.in_ok-end.end c.skip_white-at.result c.values.invariant.so_far c.in_ok-end.ensures.read c.skip_white-at.ensures
 
 pub returns-then-at-text-clause-read : goal.returns-then-at-text-clause-read
 returns-then-at-text-clause-read c =
@@ -26,4 +26,5 @@ values-preserved c =
     record {
       within = lt;
       so_far = values-more t c.args.bracket at (read (goal.at.values-preserved c).After-skip_white-at) lt c.if-text-at-ne91.false;
+      kept = c.in_ok-end.ensures.kept;
     }

@@ -1,0 +1,175 @@
+//! Where raw values end. A long one is searched for its end once, when it is read: its length is kept for those who step
+//! over it later.
+
+ghost use Rattle.std.specs.Prelude.{◌≡◌, ◌≤◌, length, IfSome, IfOk, IfErr, OnOk, MatchOption};
+ghost use Rattle.sgf_tree.specs.inner.Progress.{IsValueEnd, SpellsNoValue};
+ghost use Rattle.sgf_tree.specs.inner.PropertiesRead.{IsFaultInValue};
+ghost use Rattle.sgf_tree.specs.inner.KeptEnds.{EndsValue, AreKeptEnds};
+
+use crate::fault::MAX_LENGTH;
+use crate::layout::LongValue;
+use crate::reader::fault::PartFault;
+use crate::reader::scan::{far_value_end, short_value_end};
+
+/// How many bytes a value has at least whose length is kept: more than nearly all comments have, so that few are, and enough
+/// that a search costs more than a look-up.
+pub(crate) const LONG: usize = 4096;
+
+/// The `]` that ends the raw value at `at`, where its length was kept.
+/// Where it answers None, nothing is known.
+fn kept_end(text: &[u8], at: usize, long: &[LongValue]) -> Option<usize>
+    requires within { at ≤ length text.now }
+    requires kept { AreKeptEnds text.now long.now }
+    ensures { IfSome result (EndsValue text.now at) }
+{
+    let left = text.len() - at;
+    let mut low = 0;
+    let mut high = long.len();
+    'halves: while low < high {
+        let middle = low + (high - low) / 2;
+        if long[middle].left as usize > left {
+            low = middle + 1;
+        } else {
+            high = middle;
+        }
+    }
+    if low < long.len() && long[low].left as usize == left {
+        Some(at + long[low].bytes as usize)
+    } else {
+        None
+    }
+}
+
+/// The `]` that ends the raw value at `at`, by what was kept, or by searches.
+/// None where the text ends before it.
+#[inline(never)]
+fn far_end(text: &[u8], at: usize, long: Option<&Vec<LongValue>>) -> Option<usize>
+    requires within { at ≤ length text.now }
+    requires kept { IfSome long (λ kept. AreKeptEnds text.now kept.now.items) }
+    ensures { MatchOption result (SpellsNoValue text.now at) (EndsValue text.now at) }
+{
+    if let Some(long) = long {
+        if let Some(end) = kept_end(text, at, long) {
+            return Some(end);
+        }
+    }
+    far_value_end(text, at)
+}
+
+/// The `]` that ends the raw value at `at`.
+/// None where the text ends before it.
+///
+/// What was kept is handed over as a vector, as it goes through many hands and is looked at by few: so it is one word.
+pub(crate) fn value_end(text: &[u8], at: usize, long: Option<&Vec<LongValue>>) -> Option<usize>
+    requires within { at ≤ length text.now }
+    requires kept { IfSome long (λ kept. AreKeptEnds text.now kept.now.items) }
+    ensures { MatchOption result (SpellsNoValue text.now at) (EndsValue text.now at) }
+{
+    match short_value_end(text, at) {
+        Some(end) => Some(end),
+        None => far_end(text, at, long),
+    }
+}
+
+/// Reads the raw value at `at`, by searches, and keeps its length where it is long.
+/// The result is where its `]` stands.
+#[inline(never)]
+fn read_far_value(text: &[u8], at: usize, long: &mut Vec<LongValue>) -> Result<usize, PartFault>
+    requires short { length text.now ≤ MAX_LENGTH }
+    requires within { at ≤ length text.now }
+    requires kept { AreKeptEnds text.now long.old.items }
+    ensures read { IfOk result (IsValueEnd text.now at) }
+    ensures fault { IfErr result (IsFaultInValue text.now at) }
+    ensures kept { OnOk result (AreKeptEnds text.now long.new.items) }
+{
+    let Some(end) = far_value_end(text, at) else {
+        return Err(PartFault::NotSgf(text.len()));
+    };
+    let bytes = end - at;
+    if bytes >= LONG {
+        long.push(LongValue {
+            left: (text.len() - at) as u32,
+            bytes: bytes as u32,
+        })?;
+    }
+    Ok(end)
+}
+
+/// Reads the raw value at `at`.
+/// The result is where its `]` stands.
+pub(crate) fn read_value(
+    text: &[u8],
+    at: usize,
+    long: &mut Vec<LongValue>,
+) -> Result<usize, PartFault>
+    requires short { length text.now ≤ MAX_LENGTH }
+    requires within { at ≤ length text.now }
+    requires kept { AreKeptEnds text.now long.old.items }
+    ensures read { IfOk result (IsValueEnd text.now at) }
+    ensures fault { IfErr result (IsFaultInValue text.now at) }
+    ensures kept { OnOk result (AreKeptEnds text.now long.new.items) }
+{
+    match short_value_end(text, at) {
+        Some(end) => Ok(end),
+        None => read_far_value(text, at, long),
+    }
+}
+
+#[cfg(test)]
+mod tests {
+    use super::*;
+    use std::test::Fail;
+
+    /// Values of so many plain bytes and then the text of a row, with more text after it or none: what is looked at one by
+    /// one, what is compared at once and what is searched for gives the same.
+    #[test]
+    fn finds_the_end_of_a_value(rt: HostRuntime) -> Result<(), Fail> {
+        for plain in [0, 1, 2, 3, 13, 15, 16, 17, 100, 127, 128, 129, 200] {
+            for (rest, want) in [
+                ("]", Some(0)),
+                ("]]", Some(0)),
+                ("\\]]", Some(2)),
+                ("\\\\]", Some(2)),
+                ("\\\\\\]]", Some(4)),
+                ("\\\\\\\\]]", Some(4)),
+                ("\\]\\]]", Some(4)),
+                ("\\]\\\\]]", Some(4)),
+                ("\\]\\\\\\]]", Some(6)),
+                ("\\]a\\]b]", Some(6)),
+                ("\\:\\\\:]", Some(5)),
+                ("\\]01234567890123456789\\]]", Some(24)),
+            ] {
+                for after in ["", "W[aa];B[bb]\\];W[cc]"] {
+                    let mut text = Vec::new(rt.alloc());
+                    text.resize(plain, b'a')?;
+                    text.extend_from_slice(rest.as_bytes())?;
+                    text.extend_from_slice(after.as_bytes())?;
+                    let want = want.map(|end: usize| end.wrapping_add(plain));
+                    assert_eq!(rt; value_end(&text, 0, None), want, "of {plain} and {rest:?}");
+                }
+            }
+            for rest in ["", "\\", "\\]", "\\\\", "\\]\\", "\\]a\\\\", "\\\\\\]"] {
+                let mut text = Vec::new(rt.alloc());
+                text.resize(plain, b'a')?;
+                text.extend_from_slice(rest.as_bytes())?;
+                assert_eq!(rt; value_end(&text, 0, None), None, "of {plain} and {rest:?}");
+            }
+        }
+        Ok(())
+    }
+
+    /// A `\` before the value is none of its own.
+    #[test]
+    fn looks_at_the_value_alone(rt: HostRuntime) {
+        for (text, want) in [
+            ("\\]", Some(1)),
+            ("\\]0123456789abcdef", Some(1)),
+            ("\\\\]]", Some(3)),
+            ("\\\\]]0123456789abcdef", Some(3)),
+            ("\\\\", None),
+        ] {
+            assert!(rt; !text.is_empty());
+            assert_eq!(rt; value_end(text.as_bytes(), 1, None), want, "of {text:?}");
+        }
+    }
+}
