@@ -1,11 +1,11 @@
 -- Rows of words that have the points of a grid with certain cells, and those that reach a colour through them.
-use Rattle.std.proofs.Common.{◌≡◌, ◌≢◌, ◌⊎◌, inl, inr, ℕ, zero, suc, ◌+◌, ◌-◌, ◌*◌, ◌^◌, ◌%◌, ◌<◌, ◌≤◌, ◌==◌, ◌||◌, ◌&&◌, Bool, true, false, not, Some, None, List, [], ◌∷◌, length, get_or, set, slice_get, slice_range, slice_index, bit_and, bit_or, w64, refl, sym, ap, ◌∙◌, arith, subst, rules}
+use Rattle.std.proofs.Common.{◌≡◌, ◌≢◌, ◌⊎◌, inl, inr, ℕ, zero, suc, ◌+◌, ◌-◌, ◌*◌, ◌^◌, ◌%◌, ◌<◌, ◌≤◌, ◌==◌, ◌||◌, ◌&&◌, Bool, true, false, not, Some, None, List, [], ◌∷◌, length, get_or, set, slice_get, slice_range, slice_index, take, bit_and, bit_or, w64, refl, sym, ap, ◌∙◌, arith, subst, rules}
 use Rattle.std.proofs.lemmas.Bool.{or_cases, and_parts, and_from, false≢true, cases_lt, cases_eq}
 use Rattle.std.specs.Int.{bit_at, bit_not}
 use Rattle.std.proofs.Math.ListN.{get_or-eq_default}
 use Rattle.std.proofs.Math.Nat.{mod-eq_of_lt}
 use Rattle.std.proofs.lemmas.Nat.{row_fits, pow_below}
-use Rattle.std.proofs.lemmas.List.{places, get_or-set_same, get_or-set_other}
+use Rattle.std.proofs.lemmas.List.{places, get_or-set_same, get_or-set_other, get_or-take, length-take-le}
 use Rattle.std.proofs.lemmas.Option.{slice_get-get_or, slice_get_past}
 use Rattle.std.proofs.lemmas.Nat.Bits.{bit_at-lt, bit_at-zero, same_from_bits, bit_at_set_same, bit_at_set_other, bit_at_mask_inside, bit_at_mask_above}
 use Rattle.go_board.specs.declared.stones.Cell.{Cell}
@@ -93,6 +93,12 @@ AreRowsOf-cells side cells wanted rows all long each = record {
             absurd (false≢true (sym (each p.row p.col row ∙ ap (λ c. is_there c wanted) (past_row side p.row p.col cells all row past)) ∙ is))
       ];
 }
+
+-- the same of rows of which no more than these are used
+pub rows_kept : (side : ℕ) (cells : List Cell) (wanted : Cell) (rows : List ℕ) → length cells ≡ side * side → side ≤ length rows → RowsBelow side cells wanted side rows → AreRowsOf side (λ p. same_cell (cell_at (record { side = side; cells = cells }) p) wanted) (take side rows)
+rows_kept side cells wanted rows all long each =
+    AreRowsOf-cells side cells wanted (take side rows) all (length-take-le side rows long)
+    (λ r col below. ap (λ w. has_bit w col) (get_or-take side rows r 0 below) ∙ each r col below)
 
 -- the columns of a row that aren't in a set
 mask_is : (side : ℕ) → side < 64 → 1 * 2 ^ side % 2 ^ 64 - 1 ≡ 2 ^ side - 2 ^ 0

@@ -263,7 +263,7 @@ impl Board {
         ensures { self.new ≡ self.old }
     {
         if !self.rows.known {
-            self.rows = StoneRows::of(self.cells(), self.size);
+            self.rows.work_out(&self.cells[..self.size.points()], self.size);
         }
     }
 

@@ -7,6 +7,6 @@ use Rattle.sgf_lines.specs.Cursor.{Position}
 use Rattle.sgf_lines.specs.declared.cursor.Cursor.{Cursor}
 use Rattle.sgf_lines.specs.contracts.cursor.Cursor.{the_row}
 
--- P holds of the cursor's position once nothing is borrowed from the cursor any more
+-- P holds of the cursor's position once nothing is borrowed from the cursor any more (0 and 1 are the two lifetimes of a Cursor)
 abbrev pub OnceReturned : MutBor Cursor → (Position → Type 0) → Fml
 OnceReturned cursor P = Rests (the_row (record { mir = named 0; lft = [] }) (record { mir = named 1; lft = [] })) cursor P

@@ -191,7 +191,7 @@ impl Board {
     {
         let mut words = no_rows::<N>();
         let group = &mut words[..usize::from(self.size.side())];
-        self.group_has_liberty(colour, from, besides, group)
+        self.group_has_liberty::<N>(colour, from, besides, group)
     }
 
     /// Whether a point has an empty neighbour besides one.

@@ -77,19 +77,22 @@ impl Board {
     {
         let mut words = no_rows::<N>();
         let group = &mut words[..usize::from(self.size.side())];
-        if !self.group_has_liberty(colour, from, from, group) {
+        if !self.group_has_liberty::<N>(colour, from, from, group) {
             self.empty_set(group);
         }
     }
 
-    /// Whether the group of a stone has a liberty, besides a certain point. If not, the whole group is found.
-    pub(crate) fn group_has_liberty(
+    /// Whether the group of a stone has a liberty, besides a certain point. If not, the whole group is found. `N` rows are enough
+    /// for the board.
+    pub(crate) fn group_has_liberty<const N: usize>(
         &self,
         colour: Colour,
         from: Point,
         besides: Point,
         group: &mut [u64],
     ) -> bool
+        requires enough { self.now.side ≤ N }
+        requires at_most { N ≤ MAX_ROWS }
         requires on_board { IsOn self.now.side from }
         requires stone { cell_at self.now from ≡ stone_of colour }
         requires besides { IsOn self.now.side besides }
@@ -107,7 +110,7 @@ impl Board {
             let white = &self.rows.white[..side];
             return self.rows_have_liberty(colour, black, white, from, besides, group);
         }
-        let (mut black_words, mut white_words) = (no_rows::<MAX_ROWS>(), no_rows::<MAX_ROWS>());
+        let (mut black_words, mut white_words) = (no_rows::<N>(), no_rows::<N>());
         let black = &mut black_words[..side];
         let white = &mut white_words[..side];
         self.stones(black, white);

@@ -26,7 +26,7 @@ pub(crate) fn with_column(word: u64, col: usize, set: bool) -> u64
 }
 
 /// The columns of a row with a black stone, and those with a white one.
-fn row_of(cells: &[Cell]) -> (u64, u64)
+pub(crate) fn row_of(cells: &[Cell]) -> (u64, u64)
     requires { length cells.now ≤ 64 }
     ensures black { (col : ℕ) → has_bit result.0 col ≡ is_there (slice_get cells.now col) Black }
     ensures white { (col : ℕ) → has_bit result.1 col ≡ is_there (slice_get cells.now col) White }

@@ -9,7 +9,7 @@ ghost use Rattle.go_board.specs.Grid.{Grid, with_cell, empty_grid};
 ghost use Rattle.go_board.specs.inner.Rows.{has_bit};
 ghost use Rattle.go_board.specs.inner.StoneRows.{AreRowsKept};
 
-use crate::board::regions::{no_rows, rows_of, with_column};
+use crate::board::regions::{no_rows, row_of, with_column};
 use crate::points::Point;
 use crate::size::{MAX_ROWS, Size};
 use crate::stones::Cell;
@@ -54,19 +54,20 @@ impl StoneRows {
         self.known = other.known;
     }
 
-    /// Those of a colouring.
-    pub(crate) fn of(cells: &[Cell], size: Size) -> StoneRows
+    /// Those of a colouring of a board of that size, in place of what they were.
+    pub(crate) fn work_out(&mut self, cells: &[Cell], size: Size)
         requires { length cells.now ≡ size * size }
-        ensures { AreRowsKept (record { side = size; cells = cells.now }) result }
+        ensures { (g : Grid) → AreRowsKept g self.old
+            → AreRowsKept (record { side = size; cells = cells.now }) self.new }
     {
         let side = usize::from(size.side());
-        let (mut black, mut white) = (no_rows(), no_rows());
-        rows_of(cells, size, &mut black[..side], &mut white[..side]);
-        StoneRows {
-            known: true,
-            black,
-            white,
+        for row in 0..side {
+            let start = row * side;
+            let (black, white) = row_of(&cells[start..start + side]);
+            self.black[row] = black;
+            self.white[row] = white;
         }
+        self.known = true;
     }
 
     /// Writes them, which are known.

@@ -190,7 +190,7 @@ fn take_searched<const N: usize>(
 {
     let mut words = no_rows::<N>();
     let group = &mut words[..usize::from(board.size().side())];
-    if board.group_has_liberty(colour, from, from, group) {
+    if board.group_has_liberty::<N>(colour, from, from, group) {
         return true;
     }
     take_rows(board, group, colour, changes)
