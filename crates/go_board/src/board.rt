@@ -263,7 +263,8 @@ impl Board {
         ensures { self.new ≡ self.old }
     {
         if !self.rows.known {
-            self.rows.work_out(&self.cells[..self.size.points()], self.size);
+            self.rows
+                .work_out(&self.cells[..self.size.points()], self.size);
         }
     }
 

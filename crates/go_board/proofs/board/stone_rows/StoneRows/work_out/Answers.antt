@@ -1,4 +1,4 @@
-use Rattle.std.proofs.Common.{◌≡◌, ◌∙◌, arith, subst}
+use Rattle.std.proofs.Common.{◌∙◌, arith, subst}
 use Rattle.std.proofs.lemmas.List.{length-set}
 use Rattle.go_board.specs.declared.stones.Cell.TheVariants.{Black, White}
 use Rattle.go_board.proofs.RegionLemmas.{RowsBelow, rows_more, rows_kept}
