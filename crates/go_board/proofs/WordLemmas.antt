@@ -1,11 +1,10 @@
 -- Words as sets of columns: what the operations on words make of their bits.
-use Rattle.std.proofs.Common.{◌≡◌, ◌≢◌, ◌⊎◌, inl, inr, ℕ, zero, suc, ◌+◌, ◌-◌, ◌*◌, ◌/◌, ◌%◌, ◌^◌, ◌<◌, ◌≤◌, ◌==◌, ◌||◌, ◌&&◌, min, max, Bool, true, false, not, bit_and, bit_or, w64, refl, sym, ap, ◌∙◌, arith, subst}
+use Rattle.std.proofs.Common.{◌≡◌, inl, inr, ℕ, zero, suc, ◌+◌, ◌-◌, ◌*◌, ◌/◌, ◌%◌, ◌^◌, ◌<◌, ◌≤◌, ◌==◌, ◌||◌, ◌&&◌, min, max, true, false, not, bit_and, bit_or, w64, refl, sym, ap, ◌∙◌, arith, subst}
 use Rattle.std.specs.Int.{bit_at, bit_not}
-use Rattle.std.proofs.lemmas.Bool.{or_cases, and_parts, and_from, false≢true, cases_lt}
-use Rattle.std.proofs.lemmas.Nat.{le_or_l, and_le_r, and_mask, mod_below, pow_pos}
+use Rattle.std.proofs.lemmas.Bool.{false≢true, cases_lt}
+use Rattle.std.proofs.lemmas.Nat.{le_or_l, and_mask, mod_below, pow_pos}
 use Rattle.std.proofs.lemmas.Nat.Bits.{bit_at_and, bit_at_or, bit_at_not, bit_at-lt, bit_at-suc, bit_at-zero, bit_at_above, bit_at_ones, bit_at_cat_high, bit_at_cat_low, same_from_bits}
-use Rattle.go_board.specs.Point.{DifferByOne}
-use Rattle.go_board.specs.inner.Rows.{has_bit, IsPart, HasBeside}
+use Rattle.go_board.specs.inner.Rows.{has_bit, IsPart}
 
 test_max : (x y : ℕ) → x < 2 → y < 2 → (max x y == 1) ≡ ((x == 1) || (y == 1))
 test_max zero zero hx hy = refl
@@ -110,68 +109,3 @@ le_from_part a b part =
     (same_from_bits (bit_or a b) b
     (λ i. bit_at_or a b i ∙ max_part (bit_at a i) (bit_at b i) (bit_at-lt a i) (bit_at-lt b i) (part i)))
     (le_or_l a b)
-
-or_left : (x y : Bool) → x ≡ true → (x || y) ≡ true
-or_left x y h = rw h refl
-
-or_right : (x y : Bool) → y ≡ true → (x || y) ≡ true
-or_right true y h = refl
-or_right false y h = h
-
--- a set of columns with those beside it that there is room for
-abbrev pub wider : ℕ → ℕ → ℕ
-wider word room = bit_and (bit_or (bit_or word (word * 2 ^ 1 % 2 ^ 64)) (word / 2 ^ 1)) room
-
-beside_from : (word c : ℕ) → has_bit (bit_or (bit_or word (word * 2 ^ 1 % 2 ^ 64)) (word / 2 ^ 1)) c ≡ true → (has_bit word c ≡ true) ⊎ ((d : ℕ) × DifferByOne c d × (has_bit word d ≡ true))
-beside_from word c is =
-    elim (or_cases _ _ (sym (has_bit-or (bit_or word (word * 2 ^ 1 % 2 ^ 64)) (word / 2 ^ 1) c) ∙ is)) [
-      | inl low ↦
-          elim (or_cases _ _ (sym (has_bit-or word (word * 2 ^ 1 % 2 ^ 64) c) ∙ low)) [
-            | inl same ↦ inl same
-            | inr left ↦ (let from = from_left word c left in inr (from.0, inr from.1, from.2))
-          ]
-      | inr right ↦ inr (suc c, inl (omega arith), sym (has_bit-right word c) ∙ right)
-    ]
-
-pub wider-within : (word room : ℕ) → IsPart (has_bit (wider word room)) (has_bit room)
-wider-within word room = λ c is. (and_parts _ _ (sym (has_bit-and _ room c) ∙ is)).1
-
-pub wider-kept : (word room : ℕ) → IsPart (has_bit word) (has_bit room) → IsPart (has_bit word) (has_bit (wider word room))
-wider-kept word room part =
-    λ c is.
-    has_bit-and _ room c
-    ∙ and_from _ _ (has_bit-or _ (word / 2 ^ 1) c ∙ or_left _ _ (has_bit-or word _ c ∙ or_left _ _ is)) (part c is)
-
-pub wider-least : (word room : ℕ) (set : ℕ → Bool) → HasBeside (has_bit room) set → IsPart (has_bit word) set → IsPart (has_bit (wider word room)) set
-wider-least word room set beside part =
-    λ c is.
-    let both = and_parts _ _ (sym (has_bit-and _ room c) ∙ is) in
-    elim (beside_from word c both.0) [
-      | inl same ↦ part c same
-      | inr w ↦ beside c w.0 w.1 both.1 (part w.0 w.2)
-    ]
-
--- a set that doesn't grow any more has each column beside it
-pub wider-closed : (word room : ℕ) → room < 2 ^ 64 → wider word room ≡ word → HasBeside (has_bit room) (has_bit word)
-wider-closed word room low same =
-    λ c d differ in_room is.
-    let below = column_below 64 room c low in_room in
-    ap (λ w. has_bit w c) (sym same)
-    ∙ has_bit-and _ room c
-    ∙ and_from _ _
-    (has_bit-or _ (word / 2 ^ 1) c
-    ∙ (elim differ [
-      | inl right ↦
-          or_right _ _ (has_bit-right word c ∙ ap (has_bit word) (omega arith) ∙ is)
-      | inr left ↦
-          or_left _ _
-          (has_bit-or word _ c
-          ∙ or_right _ _ (ap (has_bit (word * 2 ^ 1 % 2 ^ 64)) (sym left) ∙ has_bit-left word d (omega arith) ∙ is))
-    ]))
-    in_room
-
-pub wider-more : (word room : ℕ) → room < 2 ^ 64 → IsPart (has_bit word) (has_bit room) → wider word room ≢ word → 2 ^ 64 - wider word room < 2 ^ 64 - word
-wider-more word room low part other =
-    let at_least : word ≤ wider word room = le_from_part word (wider word room) (wider-kept word room part) in
-    let at_most : wider word room ≤ room = and_le_r _ room in
-    omega (arith, other)

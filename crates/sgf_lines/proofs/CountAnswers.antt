@@ -12,19 +12,10 @@ use Rattle.sgf_tree.specs.Refusal.{IsFaultyAt}
 use Rattle.sgf_lines.specs.Ends.{SourceState, SinkState, Takes, TakesNothing}
 use Rattle.sgf_lines.specs.Answer.{IsWhole}
 use Rattle.sgf_lines.specs.Counts.{counts_of, AnswersCount, IsCount, IsRow}
-use Rattle.sgf_lines.specs.inner.Running.{AnswersReading, IsReading, PutsAll}
+use Rattle.sgf_lines.specs.inner.Running.{IsReading, PutsAll}
 use Rattle.sgf_lines.specs.declared.counting.Counts.{Counts}
 use Rattle.sgf_lines.specs.declared.fault.RunFault.{RunFault}
-use Rattle.sgf_lines.specs.declared.fault.RunFault.TheVariants.{Read, TooLong, NotSgf, NoSuchLine, Write, Memory}
-
-answers_fault : (A : Type 0) (given : List ℕ) (to_come : Option (List ℕ)) (text : List ℕ) (fault : RunFault) → AnswersReading {A = A} given to_come text (Err fault)
-    → AnswersCount given to_come (Err fault)
-answers_fault A given to_come text Read h = h
-answers_fault A given to_come text TooLong h = h
-answers_fault A given to_come text (NotSgf at len) h = absurd h
-answers_fault A given to_come text (NoSuchLine place) h = absurd h
-answers_fault A given to_come text (Write k) h = absurd h
-answers_fault A given to_come text (Memory k) h = h
+use Rattle.sgf_lines.specs.declared.fault.RunFault.TheVariants.{NotSgf, Write, Memory}
 
 module _ {A : Type 0} (source new_source : SourceState) (text : List ℕ) (u : A) (h : IsReading {A = A} source new_source text (Ok u)) where
   same : h.given ≡ text

@@ -24,27 +24,6 @@ use Rattle.sgf_lines.proofs.Pages.{get_some}
 pub appends_nothing : (a : Option (List ℕ)) → Appends a a []
 appends_nothing a = Appends-nil a
 
--- a fault of the reading is the run's
-pub answers_fault : (A : Type 0) (o : Options) (given : List ℕ) (to_come : Option (List ℕ)) (text : List ℕ) (fault : RunFault)
-    → AnswersReading {A = A} given to_come text (Err fault) → Answers o given to_come [] (Err fault)
-answers_fault A o given to_come text Read h = (h, refl)
-answers_fault A o given to_come text TooLong h = (h, refl)
-answers_fault A o given to_come text (NotSgf at len) h = absurd h
-answers_fault A o given to_come text (NoSuchLine place) h = absurd h
-answers_fault A o given to_come text (Write k) h = absurd h
-answers_fault A o given to_come text (Memory k) h = inr (h, refl)
-
-abbrev pub run_of_fault : {A : Type 0} (o : Options) (source new_source : SourceState) (sink : SinkState) (text : List ℕ) (fault : RunFault)
-    → IsReading {A = A} source new_source text (Err fault) → IsRun o source new_source sink sink (Err fault)
-run_of_fault {A = A} o source new_source sink text fault h = record {
-  given = h.given;
-  taken = [];
-  gives = h.gives;
-  consumes = h.consumes;
-  takes = appends_nothing sink.taken;
-  answers = answers_fault A o h.given new_source.to_come text fault h.answers;
-}
-
 reading_no_write : (A : Type 0) (given : List ℕ) (to_come : Option (List ℕ)) (text : List ℕ) (fault : RunFault) → AnswersReading {A = A} given to_come text (Err fault)
     → write_failures {A = A} (Err fault) ≡ 0
 reading_no_write A given to_come text Read h = refl

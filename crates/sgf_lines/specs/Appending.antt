@@ -1,5 +1,5 @@
 -- The rows of a text that follows another one, for the law of one text after another.
-use Rattle.std.specs.Prelude.{ℕ, ◌+◌, List, ◌++◌, length, codes, decimal}
+use Rattle.std.specs.Prelude.{ℕ, ◌+◌, List, ◌++◌, length, codes}
 use Rattle.sgf_lines.specs.declared.verdict.Verdict.{Verdict}
 use Rattle.sgf_lines.specs.declared.verdict.Verdict.TheVariants.{Score, Illegal, NotGo, BadSize}
 use Rattle.sgf_lines.specs.Lines.{Line, place_of}
