@@ -14,7 +14,7 @@
 //! - `options` has what a run is asked for.
 //! - `verdict` has what a referee says of a line.
 //! - `judging` judges a line: `game_kind` reads its root, `plain`, `contents` and `values` a node, and `step` plays it.
-//! - `record` writes the text of a line's nodes, `lines` its `row`, and `script` the `commands` of a node, out of pieces of `text`;
+//! - `record` writes the text of a line's nodes, `list_row` its `row`, and `script` the `commands` of a node, out of pieces of `text`;
 //!   what lines share of them is `kept`.
 //! - `laws` has laws of the definitions.
 //! - `source` and `sink` are the ends of a run.

@@ -14,20 +14,20 @@ is_pair a b = a == carriage_return && b == line_feed || a == line_feed && b == c
 abbrev pub spaced : ℕ → ℕ
 spaced b = if b == tab || b == vertical_tab || b == form_feed then space else b
 
--- what a byte gives that no `\` stands before: an LF for a line break, else the byte, spaced
+-- what a byte gives that no `\` stands before: an LF for a line break, else `spaced` of the byte
 abbrev pub unescaped : ℕ → ℕ
 unescaped b = if is_break b then line_feed else spaced b
 
--- what a byte after a `\` gives: nothing for a line break, else the byte, spaced
+-- what a byte after a `\` gives: nothing for a line break, else `spaced` of the byte
 abbrev pub after_backslash : ℕ → List ℕ
 after_backslash b = if is_break b then [] else spaced b ∷ []
 
 -- The text, by the first of these cases that fits the front of the raw value:
 --   nothing, or a `\` as the last byte: nothing;
 --   a `\` and a line break: the text of the rest;
---   a `\` and a byte: that byte, spaced, and the text of the rest;
+--   a `\` and a byte: `spaced` of that byte, and the text of the rest;
 --   a line break: an LF and the text of the rest;
---   a byte: that byte, spaced, and the text of the rest.
+--   a byte: `spaced` of that byte, and the text of the rest.
 abbrev pub text_of : List ℕ → List ℕ
 text_of [] = []
 text_of (a ∷ []) = if a == backslash then [] else unescaped a ∷ []
