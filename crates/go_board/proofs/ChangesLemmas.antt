@@ -1,6 +1,6 @@
 -- Changes that lead back from one grid to another.
 use Rattle.std.proofs.Common.{◌≡◌, ℕ, zero, suc, ◌+◌, ◌-◌, ◌<◌, ◌≤◌, List, [], ◌∷◌, ◌++◌, length, get_or, set, take, drop, slice_range, refl, sym, ap, ◌∙◌, arith, append_assoc, length-append, length-take}
-use Rattle.std.proofs.lemmas.List.{set-set, set-get_or, take_more, drop_more, set_at, drop-append-le, take_at, drop_at}
+use Rattle.std.proofs.lemmas.List.{length-set, set-set, set-get_or, take_more, drop_more, set_at, drop-append-le, take_at, drop_at}
 use Rattle.std.proofs.lemmas.List.Elements.{All-push}
 use Rattle.go_board.specs.declared.stones.Cell.{Cell}
 use Rattle.go_board.specs.declared.stones.Cell.TheVariants.{Black, Empty}
@@ -51,6 +51,15 @@ last-front cs c = take_at cs (c ∷ []) (length (cs ++ c ∷ []) - 1) (sym (last
 pub after-side : (g : Grid) (cs : List Change) → (after_changes g cs).side ≡ g.side
 after-side g [] = refl
 after-side g (x ∷ xs) = after-side (with_run g x) xs
+
+-- and so does the number of cells
+length-painted : (cells : List Cell) (cell : Cell) (i n : ℕ) → length (painted cells cell i n) ≡ length cells
+length-painted cells cell i zero = refl
+length-painted cells cell i (suc n) = length-set (painted cells cell i n) (i + n) cell ∙ length-painted cells cell i n
+
+pub after-length : (g : Grid) (cs : List Change) → length (after_changes g cs).cells ≡ length g.cells
+after-length g [] = refl
+after-length g (x ∷ xs) = after-length (with_run g x) xs ∙ length-painted g.cells x.cell (index_of g.side x.point) (suc x.more)
 
 -- the first n old cells, and then the new ones
 abbrev pub spliced : List Cell → List Cell → ℕ → List Cell

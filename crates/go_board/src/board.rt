@@ -63,11 +63,11 @@ impl Model for Board {
         × AreRowsKept (record { side = b.size; cells = take (b.size * b.size) b.cells }) b.rows };
 }
 
-// The cells of the greatest board, on which nothing stands.
-fn nothing() -> [Cell; MAX_POINTS]
-    ensures { result ≡ replicate MAX_POINTS Empty }
+/// So many cells on which nothing stands.
+pub(crate) fn nothing<const N: usize>() -> [Cell; N]
+    ensures { result ≡ replicate N Empty }
 {
-    [Cell::Empty; MAX_POINTS]
+    [Cell::Empty; N]
 }
 
 impl Board {
@@ -163,7 +163,14 @@ impl Board {
     pub fn same(&self, other: &Board) -> bool
         ensures { IsTrue result ↔ (self.now ≡ other.now) }
     {
-        self.cells() == other.cells() && self.size == other.size
+        self.is_of(other.size, other.cells())
+    }
+
+    /// Whether it has that side and those cells.
+    pub(crate) fn is_of(&self, size: Size, cells: &[Cell]) -> bool
+        ensures { IsTrue result ↔ (self.now ≡ record { side = size; cells = cells.now }) }
+    {
+        self.cells() == cells && self.size == size
     }
 
     /// A board with the same side and the same colouring.

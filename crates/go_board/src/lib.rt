@@ -30,7 +30,7 @@
 //! | `board/stone_rows` | the stones of a board as rows of bits, kept while points are set |
 //! | `board/areas`, `board/reset` | colouring areas; emptying the board in place |
 //! | `past` | the colourings that a game has been through; `past/list_past` and `past/print_past` keep them |
-//! | `past/colourings`, `past/changes`, `past/differences` | past colourings as changes that lead back |
+//! | `past/colourings`, `past/changes`, `past/differences`, `past/cells` | past colourings as changes that lead back |
 //! | `past/captures`, `past/setups` | a stone with what it captures, and a setup's points, on the newest colouring itself |
 //! | `past/print`, `past/table` | the print of a colouring, and `past/print/powers` for it; prints looked up by a table |
 //! | `reason`, `fault` | why a turn, or a node of a game record, isn't allowed; the errors |

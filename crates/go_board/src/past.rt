@@ -1,6 +1,7 @@
 //! The colourings that a game has been through.
 
 mod captures;
+mod cells;
 mod changes;
 mod colourings;
 mod differences;

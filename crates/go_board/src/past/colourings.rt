@@ -1,6 +1,6 @@
 //! Past colourings, of which the newest is kept whole, and of each older one the changes that lead back to it.
 
-ghost use Rattle.std.specs.Prelude.{◌≡◌, ◌+◌, ◌-◌, ◌<◌, ◌≤◌, ◌↔◌, [], ◌∷◌, Some, true, false, All, fold, IsTrue, IsFalse, IfOk, OnOk, OnErr, if◌then◌else◌, length, map, take, drop};
+ghost use Rattle.std.specs.Prelude.{◌≡◌, ◌+◌, ◌-◌, ◌*◌, ◌<◌, ◌≤◌, ◌↔◌, [], ◌∷◌, Some, true, false, All, fold, IsTrue, IsFalse, IfOk, OnOk, OnErr, if◌then◌else◌, length, map, take, drop};
 ghost use Rattle.go_board.specs.declared.stones.Cell.TheVariants.{Empty};
 ghost use Rattle.go_board.specs.Colour.{stone_of};
 ghost use Rattle.go_board.specs.Point.{IsOn, IsRectOn};
@@ -10,14 +10,15 @@ ghost use Rattle.go_board.specs.State.{with_area};
 ghost use Rattle.go_board.specs.Past.{Held, newest, newest_grid, present_stretch, HaveSide};
 ghost use Rattle.go_board.specs.inner.Print.{print_of};
 
-use crate::board::Board;
+use crate::board::{Board, nothing};
 use crate::fault::MemoryFault;
 use crate::past::captures::place_on;
+use crate::past::cells::take_cells_back;
 use crate::past::changes::{Change, Older, follow, take_back};
 use crate::past::setups::{are_few_points, set_points};
 use crate::points::Point;
 use crate::referee::SetupOp;
-use crate::size::Size;
+use crate::size::{MAX_POINTS, Size, USUAL_POINTS};
 use crate::stones::{Cell, Colour};
 use std::alloc::Global;
 use std::marker::Model;
@@ -80,27 +81,48 @@ impl Colourings {
         self.older.len() - self.since as usize
     }
 
-    /// The colouring of that number.
-    fn colouring(&self, number: usize) -> Board
-        requires { number < length self.now }
-        ensures { newest (drop (length self.now - 1 - number) self.now) ≡ Some result }
-    {
-        let mut board = self.newest.copy();
-        let mut end = self.changes.len();
-        for i in (number..self.older.len()).rev() {
-            let start = end - usize::from(self.older[i].changes);
-            take_back(&mut board, &self.changes[start..end]);
-            end = start;
-        }
-        board
-    }
-
     /// Whether that is the colouring of that number.
     pub(crate) fn is_at(&self, number: usize, board: &Board) -> bool
         requires { number < length self.now }
         ensures { IsTrue result ↔ (newest (drop (length self.now - 1 - number) self.now) ≡ Some board.now) }
     {
-        self.colouring(number).same(board)
+        if self.newest.size().points() <= USUAL_POINTS {
+            self.is_at_by::<USUAL_POINTS>(number, board)
+        } else {
+            self.is_at_by::<MAX_POINTS>(number, board)
+        }
+    }
+
+    /// The same. There is room for the colouring in `N` cells.
+    fn is_at_by<const N: usize>(&self, number: usize, board: &Board) -> bool
+        requires number { number < length self.now }
+        requires room { (newest_grid self.now).side * (newest_grid self.now).side ≤ N }
+        requires at_most { N ≤ MAX_POINTS }
+        ensures { IsTrue result ↔ (newest (drop (length self.now - 1 - number) self.now) ≡ Some board.now) }
+    {
+        let size = self.newest.size();
+        let mut room = nothing::<N>();
+        let cells = &mut room[..size.points()];
+        cells.copy_from_slice(self.newest.cells());
+        self.go_back(number, cells);
+        board.is_of(size, cells)
+    }
+
+    /// Takes the cells of the newest colouring back to those of the colouring of that number.
+    fn go_back(&self, number: usize, cells: &mut [Cell])
+        requires number { number < length self.now }
+        requires newest { cells.old ≡ (newest_grid self.now).cells }
+        requires all { length cells.old ≡ (newest_grid self.now).side * (newest_grid self.now).side }
+        ensures { newest (drop (length self.now - 1 - number) self.now)
+            ≡ Some (record { side = (newest_grid self.now).side; cells = cells.new }) }
+    {
+        let size = self.newest.size();
+        let mut end = self.changes.len();
+        for i in (number..self.older.len()).rev() {
+            let start = end - usize::from(self.older[i].changes);
+            take_cells_back(cells, size, &self.changes[start..end]);
+            end = start;
+        }
     }
 
     /// Adds a colouring, which begins a stretch or goes on in the present one. After a refusal nothing is changed. It
