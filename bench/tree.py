@@ -27,7 +27,7 @@ NODES = {
     "escapes": (b"(;C[", b"\\]", b"])", 10_000_000),
     "white space": (b"(;", b"\n", b")", 20_000_000),
 }
-TASKS = {"read": [], "walk": ["walk"], "written": ["written"]}
+TASKS = {"read": [], "iter": ["iter"], "written": ["written"]}
 
 
 def seconds(command, path, repetitions):
@@ -67,7 +67,7 @@ def reading(program, paths, repetitions):
 
 
 def nodes(program, folder, repetitions, counts):
-    print(f"{'a node of':22} {'bytes':>10}  {'instructions' if counts else 'nanoseconds'} a byte: read, and more than that to walk, to write")
+    print(f"{'a node of':22} {'bytes':>10}  {'instructions' if counts else 'nanoseconds'} a byte: read, and more than that to step over, to write")
     path = os.path.join(folder, "node.sgf")
     for name, (before, part, after, count) in NODES.items():
         for share in (256, 64, 16) if counts else (16, 4, 1):
@@ -75,8 +75,8 @@ def nodes(program, folder, repetitions, counts):
                 file.write(before + part * (count // share) + after)
             size = os.path.getsize(path)
             commands = [[program] + words for words in TASKS.values()]
-            read, walk, written = (instructions(c, path) if counts else seconds(c, path, repetitions) for c in commands)
-            print(f"{name:22} {size:10}  {read / size * 1e9:6.2f} {(walk - read) / size * 1e9:6.2f} {(written - read) / size * 1e9:6.2f}", flush=True)
+            read, stepped, written = (instructions(c, path) if counts else seconds(c, path, repetitions) for c in commands)
+            print(f"{name:22} {size:10}  {read / size * 1e9:6.2f} {(stepped - read) / size * 1e9:6.2f} {(written - read) / size * 1e9:6.2f}", flush=True)
 
 
 def main():

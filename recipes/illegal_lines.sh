@@ -1,5 +1,5 @@
 #!/usr/bin/env bash
-# The lines of play in which the referee finds a fault, with its reason: FILE: line N, turn T, byte PLACE: REASON
+# The lines of play in which the referee finds an illegal node, with the reason: FILE: line N, turn T, byte PLACE: REASON
 #
 #   recipes/illegal_lines.sh *.sgf
 #   recipes/illegal_lines.sh *.sgf | sed 's/.*: //' | sort | uniq -c      (how often each reason comes)

@@ -3,7 +3,7 @@
 #
 #   recipes/openings.sh 4 *.sgf | head
 #
-# A row is COUNT SIDE MOVE .. with moves as in GTP (`B-Q16`). Lines in which the referee finds a fault count up to it, those of
+# A row is COUNT SIDE MOVE .. with moves as in GTP (`B-Q16`). Lines in which the referee finds an illegal node count up to it, those of
 # other games or of sides past 25 don't count; stones set up at the beginning stand as moves too. A file that is refused is named
 # on standard error, and the others go on.
 set -euo pipefail

@@ -9,7 +9,7 @@ some.sgf: line 3, turn 1, byte 37: turn
 WANT
 "$top/recipes/illegal_lines.sh" broken.sgf some.sgf > got 2> faults
 same want got
-"$top/recipes/illegal_lines.sh" "$top/examples/faults.sgf" | sed 's/.*: //' > got
+"$top/recipes/illegal_lines.sh" "$top/examples/illegal.sgf" | sed 's/.*: //' > got
 printf '%s\n' mixed two-moves bad-setup bad-point over turn occupied repeat > want
-same want got "the reasons of faults.sgf"
+same want got "the reasons of illegal.sgf"
 grep -q '^refused: broken.sgf$' faults || failed "the refused file isn't named"

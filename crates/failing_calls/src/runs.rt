@@ -54,7 +54,7 @@ pub fn calls(alloc: Global, seen: &mut Seen) -> Result<(), Wrong> {
             plays,
         };
         splits(alloc, run, seen)?;
-        splits_counted(alloc, run, seen)?;
+        splits_with_plays(alloc, run, seen)?;
     }
     let run = Run {
         text: COMMENT,
@@ -66,7 +66,7 @@ pub fn calls(alloc: Global, seen: &mut Seen) -> Result<(), Wrong> {
         plays: &[0, 3],
     };
     splits(alloc, run, seen)?;
-    splits_counted(alloc, run, seen)
+    splits_with_plays(alloc, run, seen)
 }
 
 /// Splits a text, and once more where memory was refused: exactly the whole records of the first lines stand then, and no
@@ -85,8 +85,8 @@ fn splits(alloc: Global, run: Run<'_>, seen: &mut Seen) -> Result<(), Wrong> {
     is_whole(answer, &page, run)
 }
 
-/// The same, with the plays counted: where memory was refused, those of the lines that stand, and of the next at most.
-fn splits_counted(alloc: Global, run: Run<'_>, seen: &mut Seen) -> Result<(), Wrong> {
+/// The same, asked for its plays: where memory was refused, those of the lines that stand, and of the next at most.
+fn splits_with_plays(alloc: Global, run: Run<'_>, seen: &mut Seen) -> Result<(), Wrong> {
     seen.call();
     let mut source = SliceSource::new(run.text);
     let mut page = Page::new();
@@ -101,13 +101,13 @@ fn splits_counted(alloc: Global, run: Run<'_>, seen: &mut Seen) -> Result<(), Wr
                 "plays of the next line",
             )?;
         }
-        answer => return is_counted(answer, &page, &plays, run),
+        answer => return is_whole_with_plays(answer, &page, &plays, run),
     }
     let mut source = SliceSource::new(run.text);
     let mut page = Page::new();
     let mut plays = Plays::new();
     let answer = split_counted(alloc, &mut source, &mut page, &run.options, &mut plays);
-    is_counted(answer, &page, &plays, run)
+    is_whole_with_plays(answer, &page, &plays, run)
 }
 
 /// How many nodes are played for the first records, so many.
@@ -128,8 +128,8 @@ fn is_cut(lines: u64, page: &Page, run: Run<'_>, seen: &mut Seen) -> Result<(), 
     )
 }
 
-/// The run wrote all records, flushed once, and counted their plays.
-fn is_counted(
+/// The run wrote all records, flushed once, and told their plays.
+fn is_whole_with_plays(
     answer: Result<u64, RunFault>,
     page: &Page,
     plays: &Plays,

@@ -101,38 +101,38 @@ root-raised by (n ∷ ns) = refl
 abbrev raised_taken : ℕ → TakenNode → TakenNode
 raised_taken by p = record { node = raised_node by p.node; after = p.after }
 
-abbrev raised_fault : ℕ → IllegalNode → IllegalNode
-raised_fault by fault = record { node = raised_node by fault.node; reason = fault.reason }
+abbrev raised_illegal : ℕ → IllegalNode → IllegalNode
+raised_illegal by met = record { node = raised_node by met.node; reason = met.reason }
 
 abbrev raised_walk : ℕ → Walk → Walk
-raised_walk by w = record { taken = map (raised_taken by) w.taken; state = w.state; fault = option_map (raised_fault by) w.fault }
+raised_walk by w = record { taken = map (raised_taken by) w.taken; state = w.state; illegal = option_map (raised_illegal by) w.illegal }
 
 stepped-raised : (by : ℕ) (w : Walk) (n : Node) (result : Result State Reason)
     → stepped (raised_walk by w) (raised_node by n) result ≡ raised_walk by (stepped w n result)
 stepped-raised by w n (Ok s) =
-    ap (λ ps. record { taken = ps; state = s; fault = None }) (sym (map-append (raised_taken by) w.taken (record { node = n; after = s } ∷ [])))
+    ap (λ ps. record { taken = ps; state = s; illegal = None }) (sym (map-append (raised_taken by) w.taken (record { node = n; after = s } ∷ [])))
 stepped-raised by w n (Err reason) = refl
 
-next-raised : (by : ℕ) (w : Walk) (fault : Option IllegalNode) (n : Node)
-    → next_by (raised_walk by w) (option_map (raised_fault by) fault) (raised_node by n) ≡ raised_walk by (next_by w fault n)
-next-raised by w (Some fault) n = refl
+next-raised : (by : ℕ) (w : Walk) (met : Option IllegalNode) (n : Node)
+    → next_by (raised_walk by w) (option_map (raised_illegal by) met) (raised_node by n) ≡ raised_walk by (next_by w met n)
+next-raised by w (Some met) n = refl
 next-raised by w None n = stepped-raised by w n (step w.state n)
 
 walk-raised : (by : ℕ) (w : Walk) (nodes : List Node) → fold next (raised_walk by w) (map (raised_node by) nodes) ≡ raised_walk by (fold next w nodes)
 walk-raised by w [] = refl
 walk-raised by w (n ∷ ns) =
-    ap (λ v. fold next v (map (raised_node by) ns)) (next-raised by w w.fault n) ∙ walk-raised by (next w n) ns
+    ap (λ v. fold next v (map (raised_node by) ns)) (next-raised by w w.illegal n) ∙ walk-raised by (next w n) ns
 
-verdict_with-raised : (by : ℕ) (s : State) (fault : Option IllegalNode) → verdict_with s (option_map (raised_fault by) fault) ≡ raised_verdict by (verdict_with s fault)
+verdict_with-raised : (by : ℕ) (s : State) (met : Option IllegalNode) → verdict_with s (option_map (raised_illegal by) met) ≡ raised_verdict by (verdict_with s met)
 verdict_with-raised by s None = refl
-verdict_with-raised by s (Some fault) = refl
+verdict_with-raised by s (Some met) = refl
 
 verdict_by-raised : (by : ℕ) (o : GameKind) (nodes : List Node) → verdict_by o (map (raised_node by) nodes) ≡ raised_verdict by (verdict_by o nodes)
 verdict_by-raised by other_game nodes = refl
 verdict_by-raised by no_board nodes = refl
 verdict_by-raised by (board side) nodes =
-    ap (λ w. verdict_with w.state w.fault) (walk-raised by (before_root side) nodes)
-    ∙ verdict_with-raised by (walk side nodes).state (walk side nodes).fault
+    ap (λ w. verdict_with w.state w.illegal) (walk-raised by (before_root side) nodes)
+    ∙ verdict_with-raised by (walk side nodes).state (walk side nodes).illegal
 
 verdict-raised : (by : ℕ) (nodes : List Node) → verdict_of (map (raised_node by) nodes) ≡ raised_verdict by (verdict_of nodes)
 verdict-raised by nodes =

@@ -12,7 +12,7 @@ use Rattle.go_board.specs.Clearing.{play, clear}
 use Rattle.go_board.specs.State.{State, with_area, set_up, turned}
 use Rattle.go_board.specs.Reason.{reason_of}
 use Rattle.sgf_lines.specs.NodeContents.{Move, Stones, moves, stones, players}
-use Rattle.sgf_lines.specs.Values.{move_value, operations, last_player}
+use Rattle.sgf_lines.specs.NodeValues.{move_value, operations, last_player}
 use Rattle.sgf_lines.specs.Step.{side_in, taken, move_step, setup_step, step_by, step}
 use Rattle.sgf_lines.specs.Walk.{TakenNode, IllegalNode, Walk, stepped, next_by, next}
 
@@ -52,8 +52,8 @@ side-by s t [] [] [] e = side-same s t s refl e
 side-by s t (m ∷ ms) (x ∷ xs) ps e = absurd cc
 side-by s t (m ∷ ms) [] (p ∷ ps) e = absurd cc
 side-by s t (m ∷ l ∷ ms) [] [] e = absurd cc
-side-by s t (m ∷ []) [] [] e = side-move s t m.player (move_value (side_in s) m.raw) e
-side-by s t [] (x ∷ xs) ps e = side-setup s t (operations (side_in s) (x ∷ xs)) (last_player None ps) e
+side-by s t (m ∷ []) [] [] e = side-move s t m.player (move_value m.raw (side_in s)) e
+side-by s t [] (x ∷ xs) ps e = side-setup s t (operations (x ∷ xs) (side_in s)) (last_player None ps) e
 side-by s t [] [] (p ∷ ps) e = side-setup s t (Some []) (last_player None (p ∷ ps)) e
 
 pub side-step : (s t : State) (n : Node) → step s n ≡ Ok t → side_in t ≡ side_in s
@@ -61,15 +61,15 @@ side-step s t n e = side-by s t (moves n) (stones n) (players n) e
 
 -- a walk that goes on keeps what was played
 next_extends : (w : Walk) (n : Node) → (more : List TakenNode) × ((next w n).taken ≡ w.taken ++ more)
-next_extends w n = by_fault w.fault
+next_extends w n = by_illegal w.illegal
   where
     by_step : (r : Result State Reason) → (more : List TakenNode) × ((stepped w n r).taken ≡ w.taken ++ more)
     by_step (Ok s) = (record { node = n; after = s } ∷ [], refl)
     by_step (Err reason) = ([], sym (append-nil w.taken))
 
-    by_fault : (f : Option IllegalNode) → (more : List TakenNode) × ((next_by w f n).taken ≡ w.taken ++ more)
-    by_fault (Some f) = ([], sym (append-nil w.taken))
-    by_fault None = by_step (step w.state n)
+    by_illegal : (f : Option IllegalNode) → (more : List TakenNode) × ((next_by w f n).taken ≡ w.taken ++ more)
+    by_illegal (Some f) = ([], sym (append-nil w.taken))
+    by_illegal None = by_step (step w.state n)
 
 pub extends : (w : Walk) (ns : List Node) → (more : List TakenNode) × ((fold next w ns).taken ≡ w.taken ++ more)
 extends w [] = ([], sym (append-nil w.taken))

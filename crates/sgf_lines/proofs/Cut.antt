@@ -15,23 +15,23 @@ use Rattle.go_board.specs.Grid.{Grid, cell_at}
 use Rattle.sgf_tree.specs.Tree.{Node}
 use Rattle.go_board.specs.State.{State}
 use Rattle.sgf_lines.specs.NodeContents.{Stones, moves, stones}
-use Rattle.sgf_lines.specs.Script.{comment_lines, play_line, stone_lines, board_lines, setup_lines, move_lines, node_script}
-use Rattle.sgf_lines.specs.inner.Cutting.{lines_at}
+use Rattle.sgf_lines.specs.Script.{comment_rows, play_command, stone_commands, colouring_commands, setup_commands, move_commands, node_script}
+use Rattle.sgf_lines.specs.inner.Cutting.{commands_at}
 
 -- the stones of a colour, point by point
 lines_of_points : (g : Grid) (k : Colour) (ps : List Point)
-    → flat_map (λ p. play_line g.side k (Stone p)) (filter (λ p. same_cell (cell_at g p) (stone_of k)) ps) ≡ flat_map (lines_at g k) ps
+    → flat_map (λ p. play_command g.side k (Stone p)) (filter (λ p. same_cell (cell_at g p) (stone_of k)) ps) ≡ flat_map (commands_at g k) ps
 lines_of_points g k [] = refl
 lines_of_points g k (p ∷ ps) =
-    let line : Point → List ℕ = λ q. play_line g.side k (Stone q) in
+    let line : Point → List ℕ = λ q. play_command g.side k (Stone q) in
     let rest = filter (λ q. same_cell (cell_at g q) (stone_of k)) ps in
     let h = lines_of_points g k ps in
     elim (cases_Bool (same_cell (cell_at g p) (stone_of k))) [
-      | inl e ↦ subst (λ t. flat_map line (cond t (p ∷ rest) rest) ≡ cond t (line p) [] ++ flat_map (lines_at g k) ps) (sym e) (ap (λ bs. line p ++ bs) h)
-      | inr e ↦ subst (λ t. flat_map line (cond t (p ∷ rest) rest) ≡ cond t (line p) [] ++ flat_map (lines_at g k) ps) (sym e) h
+      | inl e ↦ subst (λ t. flat_map line (cond t (p ∷ rest) rest) ≡ cond t (line p) [] ++ flat_map (commands_at g k) ps) (sym e) (ap (λ bs. line p ++ bs) h)
+      | inr e ↦ subst (λ t. flat_map line (cond t (p ∷ rest) rest) ≡ cond t (line p) [] ++ flat_map (commands_at g k) ps) (sym e) h
     ]
 
-pub stones-by_point : (g : Grid) (k : Colour) → flat_map (lines_at g k) (points g.side) ≡ stone_lines g k
+pub stones-by_point : (g : Grid) (k : Colour) → flat_map (commands_at g k) (points g.side) ≡ stone_commands g k
 stones-by_point g k = sym (lines_of_points g k (points g.side))
 
 range-get : (a n i : ℕ) → i < n → slice_get (range_with_len a n) i ≡ Some (a + i)
@@ -61,11 +61,11 @@ pub joins_three : {E : Type 0} (r : Result (Unit {0}) E) (old first second new a
 joins_three r old first second new a b d e f g = joins_two r old second new (a ++ b) d (f ∙ ap (λ t. t ++ b) e ∙ append_assoc old a b) g
 
 -- what a node with stones adds
-pub script-stones : (after : State) (g : Grid) (n : Node) → after.colouring ≡ g → moves n ≡ [] → 0 < length (stones n) → node_script after n ≡ comment_lines n ++ board_lines g
+pub script-stones : (after : State) (g : Grid) (n : Node) → after.colouring ≡ g → moves n ≡ [] → 0 < length (stones n) → node_script after n ≡ comment_rows n ++ colouring_commands g
 script-stones after g n e none some =
-    let front = comment_lines n ++ setup_lines after.colouring (stones n) in
-    ap (λ ms. front ++ move_lines after.colouring.side ms) none ∙ append-nil front ∙ ap (λ t. comment_lines n ++ t) (of_stones (stones n) some) ∙ ap (λ b. comment_lines n ++ board_lines b) e
+    let front = comment_rows n ++ setup_commands after.colouring (stones n) in
+    ap (λ ms. front ++ move_commands after.colouring.side ms) none ∙ append-nil front ∙ ap (λ t. comment_rows n ++ t) (of_stones (stones n) some) ∙ ap (λ b. comment_rows n ++ colouring_commands b) e
   where
-    of_stones : (ts : List Stones) → 0 < length ts → setup_lines after.colouring ts ≡ board_lines after.colouring
+    of_stones : (ts : List Stones) → 0 < length ts → setup_commands after.colouring ts ≡ colouring_commands after.colouring
     of_stones [] lt = absurd (omega arith)
     of_stones (t ∷ ts) lt = refl

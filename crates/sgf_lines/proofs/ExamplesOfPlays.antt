@@ -11,7 +11,7 @@ use Rattle.go_board.specs.Values.{point_value, rect_value}
 use Rattle.sgf_lines.specs.Lines.{lines}
 use Rattle.sgf_lines.specs.Page.{page}
 use Rattle.sgf_lines.specs.Plays.{all_touched, all_judged}
-use Rattle.sgf_lines.specs.CountedRun.{plays_of}
+use Rattle.sgf_lines.specs.RunPlays.{plays_of}
 use Rattle.sgf_lines.specs.declared.options.Form.{Form}
 use Rattle.sgf_lines.specs.declared.options.Form.TheVariants.{List as list_form, Sgf as sgf_form, Gtp as gtp_form}
 
@@ -62,13 +62,13 @@ suicide =
     no_games
 
 -- nothing is judged after the first node that isn't allowed
-up_to_the_fault : all_judged (lines suicide) ≡ 1 ∷ 7 ∷ []
+up_to_the_illegal_node : all_judged (lines suicide) ≡ 1 ∷ 7 ∷ []
 unfolding reaching_within spread points reaches clear cleared_cell play score_of counts_for with_area point_value rect_value
-up_to_the_fault = refl
+up_to_the_illegal_node = refl
 
-no_play_after_the_fault : plays list_form None suicide ≡ Some 2
+no_play_after_the_illegal_node : plays list_form None suicide ≡ Some 2
 unfolding reaching_within spread points reaches clear cleared_cell play score_of counts_for with_area point_value rect_value
-no_play_after_the_fault = refl
+no_play_after_the_illegal_node = refl
 
 -- (;SZ[3];B[](;W[])(;W[bb])(;AE[aa];W[]))
 abbrev passes : Games

@@ -189,9 +189,9 @@ unfolding reaching_within spread points reaches clear cleared_cell play score_of
 row_of_a_score = refl
 
 -- (;SZ[3]AB[ca:aa])
-row_of_a_fault : record_of list_form (in_game (at 1 (prop (codes "SZ") (codes "3") ∷ prop (codes "AB") (codes "ca:aa") ∷ []) ∷ [])) ≡ codes "1 1 1 illegal 1 1 bad-setup\n"
+row_of_an_illegal_line : record_of list_form (in_game (at 1 (prop (codes "SZ") (codes "3") ∷ prop (codes "AB") (codes "ca:aa") ∷ []) ∷ [])) ≡ codes "1 1 1 illegal 1 1 bad-setup\n"
 unfolding reaching_within spread points reaches clear cleared_cell play score_of counts_for with_area point_value rect_value has_unreaching vertex_of digits
-row_of_a_fault = refl
+row_of_an_illegal_line = refl
 
 -- (;SZ[3];B[bb])
 script_of_a_stone : record_of gtp_form (in_game (size 1 (codes "3") ∷ black 7 (codes "bb") ∷ [])) ≡ codes "# 7 1 2 score 9 0 open\nboardsize 3\nclear_board\nplay B B2\n\n"
@@ -199,9 +199,9 @@ unfolding reaching_within spread points reaches clear cleared_cell play score_of
 script_of_a_stone = refl
 
 -- (;SZ[3]C[x];B[aa]C[y];W[aa]C[z])
-script_up_to_the_fault : record_of gtp_form (in_game (at 1 (prop (codes "SZ") (codes "3") ∷ prop (codes "C") (codes "x") ∷ []) ∷ at 11 (prop (codes "B") (codes "aa") ∷ prop (codes "C") (codes "y") ∷ []) ∷ at 21 (prop (codes "W") (codes "aa") ∷ prop (codes "C") (codes "z") ∷ []) ∷ [])) ≡ codes "# 21 1 3 illegal 2 21 occupied\nboardsize 3\nclear_board\n# x\n# y\nplay B A3\n\n"
+script_up_to_the_illegal_node : record_of gtp_form (in_game (at 1 (prop (codes "SZ") (codes "3") ∷ prop (codes "C") (codes "x") ∷ []) ∷ at 11 (prop (codes "B") (codes "aa") ∷ prop (codes "C") (codes "y") ∷ []) ∷ at 21 (prop (codes "W") (codes "aa") ∷ prop (codes "C") (codes "z") ∷ []) ∷ [])) ≡ codes "# 21 1 3 illegal 2 21 occupied\nboardsize 3\nclear_board\n# x\n# y\nplay B A3\n\n"
 unfolding reaching_within spread points reaches clear cleared_cell play score_of counts_for with_area point_value rect_value has_unreaching vertex_of digits
-script_up_to_the_fault = refl
+script_up_to_the_illegal_node = refl
 
 -- (;SZ[1]C[a<LF><LF>b])
 comment_with_an_empty_line : record_of gtp_form (in_game (at 1 (prop (codes "SZ") (codes "1") ∷ prop (codes "C") (codes "a\n\nb") ∷ []) ∷ [])) ≡ codes "# 1 1 1 score 0 0 open\nboardsize 1\nclear_board\n# a\n# \n# b\n\n"
@@ -234,9 +234,9 @@ unfolding reaching_within spread points reaches clear cleared_cell play score_of
 judged_whole = refl
 
 -- (;SZ[1];B[aa];W[])
-judged_to_the_fault : map (λ (n : Node). n.place) (judged_nodes (in_game (size 1 (codes "1") ∷ black 7 (codes "aa") ∷ white 13 [] ∷ []))) ≡ 1 ∷ 7 ∷ []
+judged_to_the_illegal_node : map (λ (n : Node). n.place) (judged_nodes (in_game (size 1 (codes "1") ∷ black 7 (codes "aa") ∷ white 13 [] ∷ []))) ≡ 1 ∷ 7 ∷ []
 unfolding reaching_within spread points reaches clear cleared_cell play score_of counts_for with_area point_value rect_value
-judged_to_the_fault = refl
+judged_to_the_illegal_node = refl
 
 -- (;GM[2];B[aa])
 not_judged : map (λ (n : Node). n.place) (judged_nodes (in_game (at 1 (prop (codes "GM") (codes "2") ∷ []) ∷ black 7 (codes "aa") ∷ []))) ≡ []

@@ -19,9 +19,9 @@ use Rattle.sgf_lines.specs.declared.contents.Contents.{Contents}
 use Rattle.sgf_lines.specs.declared.contents.Kind.{Kind}
 use Rattle.sgf_lines.specs.declared.contents.Kind.TheVariants.{Move as move_kind, Stones as stones_kind, Player as player_kind, Comment as comment_kind}
 use Rattle.sgf_lines.specs.NodeContents.{Move, Stones, moves_in, stones_in, players_in, is_named, first_value}
-use Rattle.sgf_lines.specs.Values.{player_value, operation, operations, last_player}
+use Rattle.sgf_lines.specs.NodeValues.{player_value, operation, operations, last_player}
 use Rattle.sgf_lines.specs.inner.Contents.{Lists, empty_lists, combined, kind_of, lists_by, lists_in, AreMoves, AreTold, IsContents, IsGathered}
-use Rattle.sgf_lines.specs.inner.Plain.{first_comment}
+use Rattle.sgf_lines.specs.inner.WithoutSetup.{first_comment}
 
 -- one operation before others, and after them
 abbrev before_all : Option SetupOp → Option (List SetupOp) → Option (List SetupOp)
@@ -41,10 +41,10 @@ both_ends (Some a) None o = refl
 both_ends (Some a) (Some ops) None = refl
 both_ends (Some a) (Some ops) (Some op) = refl
 
-operations-push : (side : ℕ) (ss : List Stones) (s : Stones) → operations side (ss ++ s ∷ []) ≡ after_all (operations side ss) (operation side s)
-operations-push side [] s = only_one (operation side s)
+operations-push : (side : ℕ) (ss : List Stones) (s : Stones) → operations (ss ++ s ∷ []) side ≡ after_all (operations ss side) (operation s side)
+operations-push side [] s = only_one (operation s side)
 operations-push side (t ∷ ts) s =
-    ap (λ os. before_all (operation side t) os) (operations-push side ts s) ∙ both_ends (operation side t) (operations side ts) (operation side s)
+    ap (λ os. before_all (operation t side) os) (operations-push side ts s) ∙ both_ends (operation t side) (operations ts side) (operation s side)
 
 abbrev player_after : Option (Option Colour) → Option Colour → Option (Option Colour)
 player_after last o = option_and_then (λ before. option_map Some o) last
@@ -66,21 +66,21 @@ module _ (side : ℕ) (moves : Moves) (ops : List SetupOp) (player : Option Colo
   same_moves : AreMoves moves (held.moves ++ [])
   same_moves = subst (AreMoves moves) (sym (append-nil held.moves)) h.moves_are
 
-  same_stones : operations side (held.stones ++ []) ≡ operations side held.stones
-  same_stones = ap (operations side) (append-nil held.stones)
+  same_stones : operations (held.stones ++ []) side ≡ operations held.stones side
+  same_stones = ap (λ ss. operations ss side) (append-nil held.stones)
 
   same_players : last_player None (held.players ++ []) ≡ last_player None held.players
   same_players = ap (last_player None) (append-nil held.players)
 
-  fault_stays_in_stones : (s : Stones) → (operations side held.stones ≡ None) ⊎ (last_player None held.players ≡ None)
-      → (operations side (held.stones ++ s ∷ []) ≡ None) ⊎ (last_player None (held.players ++ []) ≡ None)
+  fault_stays_in_stones : (s : Stones) → (operations held.stones side ≡ None) ⊎ (last_player None held.players ≡ None)
+      → (operations (held.stones ++ s ∷ []) side ≡ None) ⊎ (last_player None (held.players ++ []) ≡ None)
   fault_stays_in_stones s e = elim e [
-    | inl bad ↦ inl (operations-push side held.stones s ∙ ap (λ os. after_all os (operation side s)) bad)
+    | inl bad ↦ inl (operations-push side held.stones s ∙ ap (λ os. after_all os (operation s side)) bad)
     | inr bad ↦ inr (same_players ∙ bad)
   ]
 
-  fault_stays_in_players : (raw : List ℕ) → (operations side held.stones ≡ None) ⊎ (last_player None held.players ≡ None)
-      → (operations side (held.stones ++ []) ≡ None) ⊎ (last_player None (held.players ++ raw ∷ []) ≡ None)
+  fault_stays_in_players : (raw : List ℕ) → (operations held.stones side ≡ None) ⊎ (last_player None held.players ≡ None)
+      → (operations (held.stones ++ []) side ≡ None) ⊎ (last_player None (held.players ++ raw ∷ []) ≡ None)
   fault_stays_in_players raw e = elim e [
     | inl bad ↦ inl (same_stones ∙ bad)
     | inr bad ↦ inr (last_player-push None held.players raw ∙ ap (λ last. player_after last (player_value raw)) bad)
@@ -92,10 +92,10 @@ module _ (side : ℕ) (moves : Moves) (ops : List SetupOp) (player : Option Colo
       → AreTold side moves longer player faulty (combined held (record { moves = []; stones = s ∷ []; players = [] }))
   tells_stones s area longer e on more =
       let op : SetupOp = record { cell = s.cell; area = area } in
-      let is : operation side s ≡ Some op = ap (λ o. option_map (λ a. record { cell = s.cell; area = a }) o) e in
+      let is : operation s side ≡ Some op = ap (λ o. option_map (λ a. record { cell = s.cell; area = a }) o) e in
       record {
         moves_are = same_moves;
-        stones = λ good. operations-push side held.stones s ∙ ap (λ os. after_all os (operation side s)) (h.stones good) ∙ ap (λ o. after_all (Some ops) o) is ∙ ap Some (sym more);
+        stones = λ good. operations-push side held.stones s ∙ ap (λ os. after_all os (operation s side)) (h.stones good) ∙ ap (λ o. after_all (Some ops) o) is ∙ ap Some (sym more);
         players = λ good. same_players ∙ h.players good;
         faults = λ bad. fault_stays_in_stones s (h.faults bad);
         on_board = subst (All (λ o. IsRectOn side o.area)) (sym more) (All-append (λ (o : SetupOp). IsRectOn side o.area) ops (op ∷ []) h.on_board (All-from_recursion (λ (o : SetupOp). IsRectOn side o.area) (op ∷ []) (on, tt)));
@@ -104,12 +104,12 @@ module _ (side : ℕ) (moves : Moves) (ops : List SetupOp) (player : Option Colo
   -- stones that are none
   pub tells_no_stones : (s : Stones) → rect_value s.raw side ≡ None → AreTold side moves ops player true (combined held (record { moves = []; stones = s ∷ []; players = [] }))
   tells_no_stones s e =
-      let is : operation side s ≡ None = ap (λ o. option_map (λ a. record { cell = s.cell; area = a }) o) e in
+      let is : operation s side ≡ None = ap (λ o. option_map (λ a. record { cell = s.cell; area = a }) o) e in
       record {
         moves_are = same_moves;
         stones = λ good. absurd cc;
         players = λ good. absurd cc;
-        faults = λ bad. inl (operations-push side held.stones s ∙ ap (λ o. after_all (operations side held.stones) o) is ∙ none_after (operations side held.stones));
+        faults = λ bad. inl (operations-push side held.stones s ∙ ap (λ o. after_all (operations held.stones side) o) is ∙ none_after (operations held.stones side));
         on_board = h.on_board;
       }
     where

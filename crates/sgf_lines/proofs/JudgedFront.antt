@@ -9,10 +9,10 @@ use Rattle.sgf_lines.specs.Step.{step}
 use Rattle.sgf_lines.specs.JudgedGames.{GameKind, other_game, no_board, board, game_kind, root_properties}
 use Rattle.sgf_lines.specs.Walk.{TakenNode, IllegalNode, Walk, before_root, stepped, next, judged_by}
 use Rattle.sgf_lines.specs.Verdict.{judged_on}
-use Rattle.sgf_lines.proofs.Walking.{after_fault}
+use Rattle.sgf_lines.proofs.Walking.{after_illegal}
 use Rattle.sgf_lines.proofs.Along.{same_root}
 
--- one node, where there is no fault before it
+-- one node, where there is no illegal one before it
 abbrev one_if : Option IllegalNode → ℕ → ℕ
 one_if (Some f) n = 0
 one_if None n = suc n
@@ -20,9 +20,9 @@ one_if None n = suc n
 -- how many nodes are judged on the way from a walk on
 abbrev more_judged : Walk → List Node → ℕ
 more_judged w [] = 0
-more_judged w (n ∷ ns) = one_if w.fault (more_judged (next w n) ns)
+more_judged w (n ∷ ns) = one_if w.illegal (more_judged (next w n) ns)
 
-one_judged : (w : Walk) (n : Node) → w.fault ≡ None → judged_by (next w n) ≡ judged_by w ++ n ∷ []
+one_judged : (w : Walk) (n : Node) → w.illegal ≡ None → judged_by (next w n) ≡ judged_by w ++ n ∷ []
 one_judged w n none = rw none (by (step w.state n))
   where
     by : (r : Result State Reason) → judged_by (stepped w n r) ≡ (map (λ (p : TakenNode). p.node) w.taken ++ []) ++ n ∷ []
@@ -33,11 +33,11 @@ one_judged w n none = rw none (by (step w.state n))
 
 judged_fold : (w : Walk) (ns : List Node) → judged_by (fold next w ns) ≡ judged_by w ++ take (more_judged w ns) ns
 judged_fold w [] = sym (append-nil (judged_by w))
-judged_fold w (n ∷ ns) = by w.fault refl (judged_fold (next w n) ns)
+judged_fold w (n ∷ ns) = by w.illegal refl (judged_fold (next w n) ns)
   where
-    by : (o : Option IllegalNode) → w.fault ≡ o → judged_by (fold next (next w n) ns) ≡ judged_by (next w n) ++ take (more_judged (next w n) ns) ns
+    by : (o : Option IllegalNode) → w.illegal ≡ o → judged_by (fold next (next w n) ns) ≡ judged_by (next w n) ++ take (more_judged (next w n) ns) ns
         → judged_by (fold next w (n ∷ ns)) ≡ judged_by w ++ take (more_judged w (n ∷ ns)) (n ∷ ns)
-    by (Some f) e rest = ap judged_by (after_fault w f (n ∷ ns) e) ∙ sym (append-nil (judged_by w))
+    by (Some f) e rest = ap judged_by (after_illegal w f (n ∷ ns) e) ∙ sym (append-nil (judged_by w))
         ∙ ap (λ o. judged_by w ++ take (one_if o (more_judged (next w n) ns)) (n ∷ ns)) (sym e)
     by None e rest =
         rest ∙ ap (λ l. l ++ take (more_judged (next w n) ns) ns) (one_judged w n e)
@@ -48,7 +48,7 @@ judged_fold w (n ∷ ns) = by w.fault refl (judged_fold (next w n) ns)
 judged_take : (w : Walk) (k : ℕ) (ns : List Node) → take (more_judged w (take k ns)) (take k ns) ≡ take k (take (more_judged w ns) ns)
 judged_take w zero ns = refl
 judged_take w (suc k) [] = refl
-judged_take w (suc k) (n ∷ ns) = by w.fault (judged_take (next w n) k ns)
+judged_take w (suc k) (n ∷ ns) = by w.illegal (judged_take (next w n) k ns)
   where
     by : (o : Option IllegalNode) → take (more_judged (next w n) (take k ns)) (take k ns) ≡ take k (take (more_judged (next w n) ns) ns)
         → take (one_if o (more_judged (next w n) (take k ns))) (n ∷ take k ns) ≡ take (suc k) (take (one_if o (more_judged (next w n) ns)) (n ∷ ns))

@@ -7,39 +7,39 @@ use Rattle.go_board.specs.declared.reason.Reason.{Reason}
 use Rattle.go_board.specs.State.{State, starting}
 use Rattle.sgf_lines.specs.declared.verdict.Verdict.TheVariants.{Illegal}
 use Rattle.sgf_lines.specs.Step.{step}
-use Rattle.sgf_lines.specs.Walk.{Walk, before_root, next, walk, IsAfter, no_node, one_node, HasFault}
+use Rattle.sgf_lines.specs.Walk.{Walk, before_root, next, walk, IsAfter, no_node, one_node, HasIllegal}
 use Rattle.sgf_lines.specs.Verdict.{verdict_at, score_in}
-use Rattle.sgf_lines.proofs.Walking.{StandsAfter, goes_on, next_is, ends_at, after_fault}
+use Rattle.sgf_lines.proofs.Walking.{StandsAfter, goes_on, next_is, ends_at, after_illegal}
 
 goes_along : {s u : State} {ns : List Node} → IsAfter s ns u → (w : Walk) → StandsAfter w s → StandsAfter (fold next w ns) u
 goes_along no_node w h = h
 goes_along (one_node {s = s} {t = t} {n = n} e rest) w h = goes_along rest (next w n) (goes_on w s h n t e)
 
 at_beginning : (side : ℕ) → StandsAfter (before_root side) (starting side)
-at_beginning side = record { no_fault = refl; state = refl }
+at_beginning side = record { no_illegal = refl; state = refl }
 
 pub scores : (side : ℕ) (nodes : List Node) (s : State) → IsAfter (starting side) nodes s → verdict_at (walk side nodes) ≡ score_in s
 scores side nodes s h = by (walk side nodes) (goes_along h (before_root side) (at_beginning side))
   where
     by : (w : Walk) → StandsAfter w s → verdict_at w ≡ score_in s
-    by w g = rw (g.no_fault, g.state)
+    by w g = rw (g.no_illegal, g.state)
 
-pub faults : (side : ℕ) (before after : List Node) (n : Node) (s : State) (reason : Reason) → IsAfter (starting side) before s → step s n ≡ Err reason
+pub refuses : (side : ℕ) (before after : List Node) (n : Node) (s : State) (reason : Reason) → IsAfter (starting side) before s → step s n ≡ Err reason
     → verdict_at (walk side (before ++ n ∷ after)) ≡ Illegal (s.turns + 1) n.place reason
-faults side before after n s reason h e =
+refuses side before after n s reason h e =
     let w = walk side before in
     let g : StandsAfter w s = goes_along h (before_root side) (at_beginning side) in
-    let fault : (next w n).fault ≡ Some (record { node = n; reason = reason }) = ap (λ (v : Walk). v.fault) (next_is w s g n (Err reason) e) in
-    let whole : walk side (before ++ n ∷ after) ≡ next w n = fold-append next (before_root side) before (n ∷ after) ∙ after_fault (next w n) (record { node = n; reason = reason }) after fault in
+    let illegal : (next w n).illegal ≡ Some (record { node = n; reason = reason }) = ap (λ (v : Walk). v.illegal) (next_is w s g n (Err reason) e) in
+    let whole : walk side (before ++ n ∷ after) ≡ next w n = fold-append next (before_root side) before (n ∷ after) ∙ after_illegal (next w n) (record { node = n; reason = reason }) after illegal in
     ap verdict_at whole ∙ ends_at w s g n reason e
 
 -- each list of nodes is of one kind or the other
-later : (s t : State) (n : Node) (ns : List Node) → step s n ≡ Ok t → ((u : State) × IsAfter t ns u) ⊎ HasFault t ns → ((u : State) × IsAfter s (n ∷ ns) u) ⊎ HasFault s (n ∷ ns)
+later : (s t : State) (n : Node) (ns : List Node) → step s n ≡ Ok t → ((u : State) × IsAfter t ns u) ⊎ HasIllegal t ns → ((u : State) × IsAfter s (n ∷ ns) u) ⊎ HasIllegal s (n ∷ ns)
 later s t n ns e h = elim h [
   | inl whole ↦ inl (whole.0, one_node e whole.1)
   | inr f ↦ inr (record {
     before = n ∷ f.before;
-    faulty = f.faulty;
+    illegal = f.illegal;
     after = f.after;
     are = ap (λ ms. n ∷ ms) f.are;
     state = f.state;
@@ -49,10 +49,10 @@ later s t n ns e h = elim h [
   })
 ]
 
-pub ends : (s : State) (nodes : List Node) → ((u : State) × IsAfter s nodes u) ⊎ HasFault s nodes
+pub ends : (s : State) (nodes : List Node) → ((u : State) × IsAfter s nodes u) ⊎ HasIllegal s nodes
 ends s [] = inl (s, no_node)
 ends s (n ∷ ns) = by (step s n) refl (λ t. ends t ns)
   where
-    by : (r : Result State Reason) → step s n ≡ r → ((t : State) → ((u : State) × IsAfter t ns u) ⊎ HasFault t ns) → ((u : State) × IsAfter s (n ∷ ns) u) ⊎ HasFault s (n ∷ ns)
+    by : (r : Result State Reason) → step s n ≡ r → ((t : State) → ((u : State) × IsAfter t ns u) ⊎ HasIllegal t ns) → ((u : State) × IsAfter s (n ∷ ns) u) ⊎ HasIllegal s (n ∷ ns)
     by (Ok t) e rest = later s t n ns e (rest t)
-    by (Err reason) e rest = inr (record { before = []; faulty = n; after = ns; are = refl; state = s; leads = no_node; reason = reason; refused = e })
+    by (Err reason) e rest = inr (record { before = []; illegal = n; after = ns; are = refl; state = s; leads = no_node; reason = reason; refused = e })

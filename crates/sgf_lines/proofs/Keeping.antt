@@ -23,8 +23,8 @@ use Rattle.sgf_lines.specs.inner.Ways.{IsWayTo, top}
 use Rattle.sgf_lines.specs.inner.Shown.{IsShownAs}
 use Rattle.sgf_lines.specs.inner.Followed.{fresh_plays}
 use Rattle.sgf_lines.specs.inner.Following.{Continues, first_after, numbers_of, path_before}
-use Rattle.sgf_lines.specs.CountedRun.{plays_in}
-use Rattle.sgf_lines.specs.inner.Keeping.{KeepsBy, Keeps, KeepsAt, KeepsOnce, KeepsBefore, CountsIn, CountsLine, IsShared, HasPlays, left}
+use Rattle.sgf_lines.specs.RunPlays.{plays_in}
+use Rattle.sgf_lines.specs.inner.Keeping.{KeepsBy, Keeps, KeepsAt, KeepsOnce, KeepsBefore, PlaysIn, PlaysLine, IsShared, HasPlays, left}
 use Rattle.sgf_lines.proofs.Lists.{Each, each_get}
 use Rattle.sgf_lines.proofs.Joins.{as_many}
 use Rattle.sgf_lines.proofs.Ways.{IsDescent, each_path}
@@ -33,7 +33,7 @@ use Rattle.sgf_lines.proofs.Standings.{within_way}
 use Rattle.sgf_lines.proofs.Following.{after_new}
 use Rattle.sgf_lines.proofs.Recorded.{path_filled, line_shown_in}
 use Rattle.sgf_lines.proofs.Records.{path_within}
-use Rattle.sgf_lines.proofs.Counted.{within}
+use Rattle.sgf_lines.proofs.RaisedPlays.{within}
 
 -- as many nodes are played as are judged, and these are among those of the line
 fresh_within : (nodes : List Node) (shared : ℕ) → fresh_plays nodes shared ≤ length nodes - shared
@@ -45,15 +45,15 @@ fresh_within nodes shared = by (game_kind (root_properties nodes))
     by (board side) = omega (arith, within (before_root side) nodes)
 
 -- the line that the cursor shows once it went on
-line_on : (at new : Position) (line : LineRef) → new ≡ advanced at → IsLine new.games (new.given - 1) line → IsLine at.games at.given line
+line_on : (at new : Position) (line : LineRef) → new ≡ advanced at → IsLine new.games (new.index - 1) line → IsLine at.games at.index line
 line_on at new line is h =
-    let there : IsLine at.games (at.given + 1 - 1) line = rw is at h in
-    let less : at.given + 1 - 1 ≡ at.given = omega arith in
+    let there : IsLine at.games (at.index + 1 - 1) line = rw is at h in
+    let less : at.index + 1 - 1 ≡ at.index = omega arith in
     rw less at there
 
 -- its path is the one before the new position
-path_on : (at : Position) (line : LineRef) → IsLine at.games at.given line → path_before (advanced at) ≡ line.path.now
-path_on at line h = let one : at.given + 1 ≡ suc at.given = add-one at.given in rw one (ap numbers_of h.path)
+path_on : (at : Position) (line : LineRef) → IsLine at.games at.index line → path_before (advanced at) ≡ line.path.now
+path_on at line h = let one : at.index + 1 ≡ suc at.index = add-one at.index in rw one (ap numbers_of h.path)
 
 some_inj : (xs ys : List Node) → map Some xs ≡ map Some ys → xs ≡ ys
 some_inj [] [] e = refl
@@ -84,7 +84,7 @@ keeps_on w sgf_form nodes h = h
 keeps_on w gtp_form nodes h = h
 
 shares_with : (b : Bool) (at : Position) (w : Writer) (shared : ℕ) (line : LineRef) (l : Line) → KeepsOnce b at w → IsShared b at shared
-    → IsLine at.games at.given line → IsShownAs at.games l line → Shares w shared l.nodes
+    → IsLine at.games at.index line → IsShownAs at.games l line → Shares w shared l.nodes
 shares_with true at w shared line l keeps is shows named =
     let new : map Some l.nodes ≡ map (node_at at.games) (path_before (advanced at)) = named.nodes ∙ ap (map (node_at at.games)) (sym (path_on at line shows)) in
     record {
@@ -121,10 +121,10 @@ last_within c k line h =
         let way : IsWayTo c (Some (last_number (n ∷ ns))) (n ∷ ns) = d.up [] top in
         (omega (arith, each_last (λ n. n < node_count c) n ns (within_way way)), way_length way (last_number (n ∷ ns)) refl)
 
-room_left : (b : Bool) (at : Position) (shared : ℕ) (line : LineRef) → IsShared b at shared → IsLine at.games at.given line
+room_left : (b : Bool) (at : Position) (shared : ℕ) (line : LineRef) → IsShared b at shared → IsLine at.games at.index line
     → (length line.path.now - shared) + left true (advanced at) ≤ left b at
 room_left true at shared line is shows =
-    let last = last_within at.games at.given line shows in
+    let last = last_within at.games at.index line shows in
     let path = path_on at line shows in
     let old = path_before at in
     let range = range_with_len (first_after old) (is.more + 1) in
@@ -133,7 +133,7 @@ room_left true at shared line is shows =
     let first : first_after (path_before (advanced at)) ≡ first_after old + (is.more + 1) = ap first_after is.new_is ∙ after_new old shared (first_after old) is.more in
     omega (arith, last.0, count, first, ap first_after path)
 room_left false at shared line is shows =
-    let last = last_within at.games at.given line shows in
+    let last = last_within at.games at.index line shows in
     omega (arith, last.0, last.1, is, ap first_after (path_on at line shows))
 
 -- how many nodes are known of a line that shares so many
@@ -143,21 +143,21 @@ known_are true at new shared known on is e =
 known_are false at new shared known on is e = e
 
 -- the cursor went on by a line
-module _ (c : Games) (at new : Position) (line : LineRef) (same : at.games ≡ c) (on : new ≡ advanced at) (shows : IsLine new.games (new.given - 1) line) where
-  here : IsLine at.games at.given line
+module _ (c : Games) (at new : Position) (line : LineRef) (same : at.games ≡ c) (on : new ≡ advanced at) (shows : IsLine new.games (new.index - 1) line) where
+  here : IsLine at.games at.index line
   here = line_on at new line on shows
 
-  here_in : IsLine c at.given line
+  here_in : IsLine c at.index line
   here_in = rw same at here
 
-  pub line_next : (l : Line) × (slice_get (lines at.games) at.given ≡ Some l) × IsShownAs c l line
-  line_next = line_shown_in c at.games at.given line same here
+  pub line_next : (l : Line) × (slice_get (lines at.games) at.index ≡ Some l) × IsShownAs c l line
+  line_next = line_shown_in c at.games at.index line same here
 
   pub next_filled : 0 < length line.path.now
-  next_filled = path_filled c at.given line here_in
+  next_filled = path_filled c at.index line here_in
 
   pub next_within : All (λ n. n < node_count c) line.path.now
-  next_within = path_within c at.given line here_in
+  next_within = path_within c at.index line here_in
 
   module _ (b : Bool) (form : Form) (w : Writer) (shared : ℕ) (is : IsShared b at shared) where
     pub next_room : (length line.path.now - shared) + left true new ≤ left b at
@@ -175,25 +175,25 @@ module _ (c : Games) (at new : Position) (line : LineRef) (same : at.games ≡ c
         let games : new.games ≡ c = ap (λ (p : Position). p.games) on ∙ same in
         record { nodes = l.nodes; named = rw (path, games) named.nodes; keeps = keeps }
 
-    pub next_plays : (l : Line) → slice_get (lines at.games) at.given ≡ Some l → HasPlays form b at (plays_in form (fresh_plays l.nodes shared))
+    pub next_plays : (l : Line) → slice_get (lines at.games) at.index ≡ Some l → HasPlays form b at (plays_in form (fresh_plays l.nodes shared))
     next_plays l found = record { line = l; found = found; shared = shared; shares = is; count_is = refl }
 
 -- what was counted for it
-pub counts_line : {A : Type 0} (form : Form) (b : Bool) (at : Position) (old new : ℕ) (nodes : List Node) (shared : ℕ) (u : A) → HasPlays form b at (plays_in form (fresh_plays nodes shared))
-    → CountsIn {E = MemoryFault} form old new nodes shared (Ok u) → (n : ℕ) × HasPlays form b at n × (new ≡ old + n)
-counts_line list_form b at old new nodes shared u h counts = (fresh_plays nodes shared, h, counts.each)
-counts_line sgf_form b at old new nodes shared u h counts = (0, h, omega (arith, counts))
-counts_line gtp_form b at old new nodes shared u h counts = (fresh_plays nodes shared, h, counts.each)
+pub plays_line : {A : Type 0} (form : Form) (b : Bool) (at : Position) (old new : ℕ) (nodes : List Node) (shared : ℕ) (u : A) → HasPlays form b at (plays_in form (fresh_plays nodes shared))
+    → PlaysIn {E = MemoryFault} form old new nodes shared (Ok u) → (n : ℕ) × HasPlays form b at n × (new ≡ old + n)
+plays_line list_form b at old new nodes shared u h counts = (fresh_plays nodes shared, h, counts.each)
+plays_line sgf_form b at old new nodes shared u h counts = (0, h, omega (arith, counts))
+plays_line gtp_form b at old new nodes shared u h counts = (fresh_plays nodes shared, h, counts.each)
 
-pub counts_refused : {E F : Type 0} (A : Type 0) (form : Form) (b : Bool) (at : Position) (old new : ℕ) (nodes : List Node) (shared : ℕ) (e : E) (r : Result Bool F) → IsErr r → HasPlays form b at (plays_in form (fresh_plays nodes shared))
-    → CountsIn {A = A} form old new nodes shared (Err e) → CountsLine form b at old new r
-counts_refused A form b at old new nodes shared e (Ok x) bad h counts = absurd cc
-counts_refused A list_form b at old new nodes shared e (Err f) is h counts = inr (fresh_plays nodes shared, h, counts.not_fewer, counts.not_more)
-counts_refused A sgf_form b at old new nodes shared e (Err f) is h counts = inl counts
-counts_refused A gtp_form b at old new nodes shared e (Err f) is h counts = inr (fresh_plays nodes shared, h, counts.not_fewer, counts.not_more)
+pub plays_refused : {E F : Type 0} (A : Type 0) (form : Form) (b : Bool) (at : Position) (old new : ℕ) (nodes : List Node) (shared : ℕ) (e : E) (r : Result Bool F) → IsErr r → HasPlays form b at (plays_in form (fresh_plays nodes shared))
+    → PlaysIn {A = A} form old new nodes shared (Err e) → PlaysLine form b at old new r
+plays_refused A form b at old new nodes shared e (Ok x) bad h counts = absurd cc
+plays_refused A list_form b at old new nodes shared e (Err f) is h counts = inr (fresh_plays nodes shared, h, counts.not_fewer, counts.not_more)
+plays_refused A sgf_form b at old new nodes shared e (Err f) is h counts = inl counts
+plays_refused A gtp_form b at old new nodes shared e (Err f) is h counts = inr (fresh_plays nodes shared, h, counts.not_fewer, counts.not_more)
 
 -- and not more than its nodes
-pub counts_within : {A E : Type 0} (form : Form) (old new : ℕ) (nodes : List Node) (shared : ℕ) (r : Result A E) → CountsIn form old new nodes shared r → new ≤ old + (length nodes - shared)
-counts_within list_form old new nodes shared r counts = omega (arith, counts.not_more, fresh_within nodes shared)
-counts_within sgf_form old new nodes shared r counts = omega (arith, counts)
-counts_within gtp_form old new nodes shared r counts = omega (arith, counts.not_more, fresh_within nodes shared)
+pub raises_within : {A E : Type 0} (form : Form) (old new : ℕ) (nodes : List Node) (shared : ℕ) (r : Result A E) → PlaysIn form old new nodes shared r → new ≤ old + (length nodes - shared)
+raises_within list_form old new nodes shared r counts = omega (arith, counts.not_more, fresh_within nodes shared)
+raises_within sgf_form old new nodes shared r counts = omega (arith, counts)
+raises_within gtp_form old new nodes shared r counts = omega (arith, counts.not_more, fresh_within nodes shared)

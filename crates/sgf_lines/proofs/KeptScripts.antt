@@ -82,7 +82,7 @@ if_lettered_append side a b = by (nat_lt MAX_VERTEX_SIDE side)
     by true = refl
     by false = refl
 
-module _ (side : ℕ) (nodes : List Node) (old : Commands) (h : AreCommands side nodes old) (n : Node) (kept : KeptText) (marks : kept.marks.items ≡ old.kept.marks.items ++ length old.kept.text.items ∷ []) where
+module _ (side : ℕ) (nodes : List Node) (old : Commands) (h : AreCommands side nodes old) (n : Node) (kept : KeptText) (starts : kept.starts.items ≡ old.kept.starts.items ++ length old.kept.text.items ∷ []) where
   -- a node that wasn't played
   pub commands_passed : kept.text.items ≡ old.kept.text.items → (walk side (nodes ++ n ∷ [])).taken ≡ (walk side nodes).taken
       → AreCommands side (nodes ++ n ∷ []) (record { kept = kept; unreaching = old.unreaching })
@@ -90,7 +90,7 @@ module _ (side : ℕ) (nodes : List Node) (old : Commands) (h : AreCommands side
       let is : commands_text side (nodes ++ n ∷ []) ≡ commands_text side nodes ++ [] =
       ap (λ ps. if_lettered side (board_commands side ++ flat_map taken_script ps)) same ∙ sym (append-nil (commands_text side nodes)) in
       record {
-        kept = kept_on (commands_text side) nodes old.kept kept h.kept n [] marks (text ∙ sym (append-nil old.kept.text.items)) is;
+        kept = kept_on (commands_text side) nodes old.kept kept h.kept n [] starts (text ∙ sym (append-nil old.kept.text.items)) is;
         unreaching = by old.unreaching h.unreaching;
       }
     where
@@ -128,13 +128,13 @@ module _ (side : ℕ) (nodes : List Node) (old : Commands) (h : AreCommands side
         )
     first_more None index false at is e = any_more ∙ ap (λ b. b || (leaves_unreaching_by board (stones n) || false)) e ∙ ap (λ b. b || false) (sym is)
 
-    pub commands_played : (index : ℕ) (counts : Bool) → index ≡ length old.kept.marks.items → counts ≡ leaves_unreaching_by board (stones n)
+    pub commands_played : (index : ℕ) (counts : Bool) → index ≡ length old.kept.starts.items → counts ≡ leaves_unreaching_by board (stones n)
         → kept.text.items ≡ old.kept.text.items ++ lettered_script board.side after n
         → AreCommands side (nodes ++ n ∷ []) (record { kept = kept; unreaching = first_unreaching old.unreaching index counts })
     commands_played index counts at is text =
         let here : kept.text.items ≡ old.kept.text.items ++ lettered_script side after n = text ∙ ap (λ s. old.kept.text.items ++ lettered_script s after n) on in
         record {
-          kept = kept_on (commands_text side) nodes old.kept kept h.kept n (lettered_script side after n) marks here text_more;
+          kept = kept_on (commands_text side) nodes old.kept kept h.kept n (lettered_script side after n) starts here text_more;
           unreaching = first_more old.unreaching index counts (at ∙ h.kept.count) is h.unreaching;
         }
 

@@ -95,18 +95,18 @@ after_none ls place none = none_found ls place (λ j lt e.
     other (ap place_of read ∙ same))
 
 -- a cursor after the line with a place stands before the page
-pub started : (c : Games) (after : Option ℕ) (place : ℕ) (at new : Position) → after ≡ Some place → at ≡ record { games = c; given = 0 } → IsStrictlyIncreasing (map place_of (lines c))
-    → IsAfterPlace place at new → lines_from_place (lines c) after ≡ Some (drop new.given (lines c))
+pub started : (c : Games) (after : Option ℕ) (place : ℕ) (at new : Position) → after ≡ Some place → at ≡ record { games = c; index = 0 } → IsStrictlyIncreasing (map place_of (lines c))
+    → IsAfterPlace place at new → lines_from_place (lines c) after ≡ Some (drop new.index (lines c))
 started c after place at new is at_is rise s =
     let line : option_map place_of (slice_get (lines c) s.index) ≡ Some place = rw at_is at s.line in
-    let given : new.given ≡ s.index + 1 = ap (λ p. p.given) s.new_is in
-    rw (is, given) (after_index (lines c) s.index place rise line)
+    let index : new.index ≡ s.index + 1 = ap (λ p. p.index) s.new_is in
+    rw (is, index) (after_index (lines c) s.index place rise line)
 
-pub started_same : (c : Games) (place : ℕ) (at new : Position) → at ≡ record { games = c; given = 0 } → IsAfterPlace place at new → new.games ≡ c
+pub started_same : (c : Games) (place : ℕ) (at new : Position) → at ≡ record { games = c; index = 0 } → IsAfterPlace place at new → new.games ≡ c
 started_same c place at new at_is s = ap (λ p. p.games) s.new_is ∙ ap (λ p. p.games) at_is
 
 -- there is no such line
-pub not_started : (c : Games) (after : Option ℕ) (place asked : ℕ) (at : Position) → after ≡ Some place → at ≡ record { games = c; given = 0 } → (asked ≡ place) × HasNoLineAt at.games place
+pub not_started : (c : Games) (after : Option ℕ) (place asked : ℕ) (at : Position) → after ≡ Some place → at ≡ record { games = c; index = 0 } → (asked ≡ place) × HasNoLineAt at.games place
     → (after ≡ Some asked) × (lines_after (lines c) asked ≡ None)
 not_started c after place asked at is at_is h =
     let none : All (λ line. place_of line ≢ place) (lines c) = rw at_is at h.1 in

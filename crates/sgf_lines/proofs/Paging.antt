@@ -26,15 +26,15 @@ page_from c first limit = take limit (drop first (lines c))
 -- k lines of the page were written, and the cursor stands after them
 pub record IsSoFar (form : Form) (c : Games) (first limit : ℕ) (old : SinkState) (k : ℕ) (at : Position) (now : SinkState) : Type 0 where
   pub same : at.games ≡ c
-  pub given : at.given ≡ first + k
+  pub index : at.index ≡ first + k
   pub within : k ≤ length (page_from c first limit)
   pub takes : Appends old.taken now.taken (output form (take k (page_from c first limit)))
   pub failures : now.failures ≡ old.failures
 
 module _ (form : Form) (c : Games) (first limit : ℕ) (old : SinkState) (k : ℕ) (at : Position) (now : SinkState) (h : IsSoFar form c first limit old k at now) where
-  next_of_page : (line : Line) → k < limit → slice_get (lines at.games) at.given ≡ Some line → slice_get (page_from c first limit) k ≡ Some line
+  next_of_page : (line : Line) → k < limit → slice_get (lines at.games) at.index ≡ Some line → slice_get (page_from c first limit) k ≡ Some line
   next_of_page line lt found =
-      let there : slice_get (lines c) (first + k) ≡ Some line = rw (h.same, h.given) at found in
+      let there : slice_get (lines c) (first + k) ≡ Some line = rw (h.same, h.index) at found in
       get_taken (drop first (lines c)) limit k lt ∙ get_dropped (lines c) first k ∙ there
 
   -- the next record is written too
@@ -46,7 +46,7 @@ module _ (form : Form) (c : Games) (first limit : ℕ) (old : SinkState) (k : �
       one_more form (page_from c first limit) k r.line there ∙ ap (λ bs. output form (take k (page_from c first limit)) ++ bs) (sym r.bytes_are) in
       record {
         same = ap (λ p. p.games) r.goes_on ∙ h.same;
-        given = ap (λ p. p.given) r.goes_on ∙ omega (arith, h.given);
+        index = ap (λ p. p.index) r.goes_on ∙ omega (arith, h.index);
         within = omega (arith, get_some (page_from c first limit) k r.line there);
         takes = rw text (Appends-trans old.taken now.taken sink.taken (output form (take k (page_from c first limit))) bytes h.takes more);
         failures = failures ∙ h.failures;
@@ -84,9 +84,9 @@ module _ (form : Form) (c : Games) (first limit : ℕ) (old : SinkState) (k : �
       }
 
   -- no line is left
-  pub none_left : slice_get (lines at.games) at.given ≡ None → WritesLines form (page_from c first limit) old now (Ok k)
+  pub none_left : slice_get (lines at.games) at.index ≡ None → WritesLines form (page_from c first limit) old now (Ok k)
   none_left none =
-      let past : slice_get (drop first (lines c)) k ≡ None = get_dropped (lines c) first k ∙ (rw (h.same, h.given) at none) in
+      let past : slice_get (drop first (lines c)) k ≡ None = get_dropped (lines c) first k ∙ (rw (h.same, h.index) at none) in
       all_of (omega (arith, get_none (drop first (lines c)) k past, length-take limit (drop first (lines c))))
 
   -- as many lines were written as were asked for

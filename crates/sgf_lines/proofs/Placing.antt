@@ -17,10 +17,10 @@ use Rattle.go_board.specs.Grid.{Grid, cell_at, with_cell, empty_grid}
 use Rattle.go_board.specs.Reaching.{Leads, Reaches, reaches}
 use Rattle.go_board.specs.Clearing.{clear, play, HasUnreaching, has_unreaching}
 use Rattle.go_board.specs.Vertex.{vertex_of}
-use Rattle.sgf_lines.specs.Script.{colour_letter, vertex_text, play_line, stone_lines, board_lines}
-use Rattle.sgf_lines.specs.Replay.{after_command, after_line, after_text}
+use Rattle.sgf_lines.specs.Script.{colour_letter, vertex_text, play_command, stone_commands, colouring_commands}
+use Rattle.sgf_lines.specs.Replay.{after_command, after_row, after_text}
 use Rattle.sgf_lines.proofs.Lists.{Each}
-use Rattle.sgf_lines.proofs.ScriptLines.{IsWithin, CarriesBoard, takes_line, takes_nothing, takes_both, solid_within, within_both}
+use Rattle.sgf_lines.proofs.ScriptRows.{IsWithin, CarriesBoard, takes_row, takes_nothing, takes_both, solid_within, within_both}
 use Rattle.sgf_lines.proofs.ScriptWords.{vertex_solid, play_reads}
 
 -- what the board's laws say
@@ -68,12 +68,12 @@ play_within side BlackPlayer p small on = within_both (codes "play B ") (vertex_
 play_within side WhitePlayer p small on = within_both (codes "play W ") (vertex_text (vertex_of p side)) (search) (solid_within (vertex_text (vertex_of p side)) (vertex_solid side p small on))
 
 pub takes_play : (side : ℕ) (board : Grid) (k : Colour) (p : Point) → side ≤ 25 → IsOn side p → cell_at board p ≡ Empty
-    → CarriesBoard side (Some board) (play_line side k (Stone p)) (Some (play board k p))
+    → CarriesBoard side (Some board) (play_command side k (Stone p)) (Some (play board k p))
 takes_play side board k p small on empty rest =
     let line = codes "play " ++ colour_letter k ++ codes " " ++ vertex_text (vertex_of p side) in
-    let played : after_line side (Some board) line ≡ Some (play board k p) =
+    let played : after_row side (Some board) line ≡ Some (play board k p) =
     ap (λ c. after_command side board c) (play_reads side k p small on) ∙ ap (λ c. cond (same_cell c Empty) (Some (play board k p)) None) empty in
-    takes_line side (Some board) line (play_within side k p small on) rest ∙ ap (λ b. after_text side b rest) played
+    takes_row side (Some board) line (play_within side k p small on) rest ∙ ap (λ b. after_text side b rest) played
 
 module _ (laws : BoardLaws) where
   same_point : (side : ℕ) (p q : Point) → IsOn side p → IsOn side q → index_of side p ≡ index_of side q → p ≡ q
@@ -297,11 +297,11 @@ module _ (laws : BoardLaws) where
     point_listed i lt = let same : 0 + i ≡ i = omega arith in point_in (g.side * g.side) 0 i lt ∙ ap (λ n. Some (point_at g.side n)) same
 
     line_of : Colour → Point → List ℕ
-    line_of k p = play_line g.side k (Stone p)
+    line_of k p = play_command g.side k (Stone p)
 
     lines_of : Colour → List Point → List ℕ
     unfolding line_of
-    lines_of k ps = flat_map (λ p. play_line g.side k (Stone p)) (filter (λ p. same_cell (cell_at g p) (stone_of k)) ps)
+    lines_of k ps = flat_map (λ p. play_command g.side k (Stone p)) (filter (λ p. same_cell (cell_at g p) (stone_of k)) ps)
 
     -- what the lines of the points from one on do to a board on which the earlier stones are placed
     record IsTaken (k : Colour) (h : Grid) (text : List ℕ) : Type 0 where
@@ -313,7 +313,7 @@ module _ (laws : BoardLaws) where
       take_stone : (k : Colour) (i : ℕ) (q : Point) (h : Grid) (ps : List Point) (is_stone : Bool) → i < g.side * g.side → IsOn g.side q → index_of g.side q ≡ i
           → same_cell (cell_at g q) (stone_of k) ≡ is_stone → IsPlaced h (turn_of k i)
           → ((next : Grid) → IsPlaced next (turn_of k (i + 1)) → IsTaken k next (lines_of k ps))
-          → IsTaken k h (flat_map (λ p. play_line g.side k (Stone p)) (cond is_stone (q ∷ filter (λ p. same_cell (cell_at g p) (stone_of k)) ps) (filter (λ p. same_cell (cell_at g p) (stone_of k)) ps)))
+          → IsTaken k h (flat_map (λ p. play_command g.side k (Stone p)) (cond is_stone (q ∷ filter (λ p. same_cell (cell_at g p) (stone_of k)) ps) (filter (λ p. same_cell (cell_at g p) (stone_of k)) ps)))
       unfolding lines_of rank_of rank
       take_stone k i q h ps true low on here stone placed goes_on =
           let is : cell_at g q ≡ stone_of k = is_same (cell_at g q) (stone_of k) stone in
@@ -323,12 +323,12 @@ module _ (laws : BoardLaws) where
           let e = rank_same k (cell_at g q) (index_of g.side q) is in let f = ap (λ j. turn_of k j) here in omega arith in
           let free : cell_at h q ≡ Empty = placed.left q on at_turn in
           let rest = goes_on next (placed_more h k i q low on here is placed) in
-          let one : CarriesBoard g.side (Some h) (play_line g.side k (Stone q)) (Some next) =
-          subst (λ b. CarriesBoard g.side (Some h) (play_line g.side k (Stone q)) (Some b)) made (takes_play g.side h k q small on free) in
+          let one : CarriesBoard g.side (Some h) (play_command g.side k (Stone q)) (Some next) =
+          subst (λ b. CarriesBoard g.side (Some h) (play_command g.side k (Stone q)) (Some b)) made (takes_play g.side h k q small on free) in
           record {
             board = rest.board;
             placed = rest.placed;
-            takes = takes_both g.side (Some h) (Some next) (Some rest.board) (play_line g.side k (Stone q)) (lines_of k ps) one rest.takes;
+            takes = takes_both g.side (Some h) (Some next) (Some rest.board) (play_command g.side k (Stone q)) (lines_of k ps) one rest.takes;
           }
       take_stone k i q h ps false low on here none placed goes_on =
           goes_on h (placed_same h k i q low on here (λ e. let same = same_itself (stone_of k) in let alike = ap (λ c. same_cell c (stone_of k)) e in cc) placed)
@@ -346,7 +346,7 @@ module _ (laws : BoardLaws) where
           take_stone k i q h (map (point_at g.side) (range_with_len (i + 1) m)) (same_cell (cell_at g q) (stone_of k)) (omega arith) is.0 (sym is.1) refl placed
           (λ next now. take_stones k m (i + 1) next (omega arith) now)
 
-      pub takes_board : (before : Grid) → CarriesBoard g.side (Some before) (board_lines g) (Some g)
+      pub takes_board : (before : Grid) → CarriesBoard g.side (Some before) (colouring_commands g) (Some g)
       unfolding lines_of points turn_of
       takes_board before =
           let count = g.side * g.side in
@@ -354,9 +354,9 @@ module _ (laws : BoardLaws) where
           let black = take_stones BlackPlayer count 0 empty (omega arith) none_placed in
           let same : count ≡ count + 0 = omega arith in
           let white = take_stones WhitePlayer count 0 black.board (omega arith) (subst (λ n. IsPlaced black.board n) same black.placed) in
-          let cleared : CarriesBoard g.side (Some before) (codes "clear_board\n") (Some empty) = takes_line g.side (Some before) (codes "clear_board") (search) in
-          let half : CarriesBoard g.side (Some before) (codes "clear_board\n" ++ stone_lines g BlackPlayer) (Some black.board) =
-          takes_both g.side (Some before) (Some empty) (Some black.board) (codes "clear_board\n") (stone_lines g BlackPlayer) cleared black.takes in
-          let done : CarriesBoard g.side (Some before) (board_lines g) (Some white.board) =
-          takes_both g.side (Some before) (Some black.board) (Some white.board) (codes "clear_board\n" ++ stone_lines g BlackPlayer) (stone_lines g WhitePlayer) half white.takes in
-          subst (λ b. CarriesBoard g.side (Some before) (board_lines g) (Some b)) (all_placed white.board white.placed) done
+          let cleared : CarriesBoard g.side (Some before) (codes "clear_board\n") (Some empty) = takes_row g.side (Some before) (codes "clear_board") (search) in
+          let half : CarriesBoard g.side (Some before) (codes "clear_board\n" ++ stone_commands g BlackPlayer) (Some black.board) =
+          takes_both g.side (Some before) (Some empty) (Some black.board) (codes "clear_board\n") (stone_commands g BlackPlayer) cleared black.takes in
+          let done : CarriesBoard g.side (Some before) (colouring_commands g) (Some white.board) =
+          takes_both g.side (Some before) (Some black.board) (Some white.board) (codes "clear_board\n" ++ stone_commands g BlackPlayer) (stone_commands g WhitePlayer) half white.takes in
+          subst (λ b. CarriesBoard g.side (Some before) (colouring_commands g) (Some b)) (all_placed white.board white.placed) done

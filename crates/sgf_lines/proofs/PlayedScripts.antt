@@ -16,7 +16,7 @@ use Rattle.sgf_lines.proofs.Commanding.{side-step}
 
 -- a walk leaves the side of the board
 side_next : (w : Walk) (n : Node) → side_in (next w n).state ≡ side_in w.state
-side_next w n = by w.fault
+side_next w n = by w.illegal
   where
     by_step : (r : Result State Reason) → step w.state n ≡ r → side_in (stepped w n r).state ≡ side_in w.state
     by_step (Ok s) e = side-step w.state s n e
@@ -35,7 +35,7 @@ side_played side nodes game h = ap side_in h.state ∙ side_fold (before_root si
 
 -- the commands are no part of what was played
 pub with_commands : (side : ℕ) (nodes : List Node) (game : Game) (commands : Option Commands) → IsPlayed side nodes game → IsPlayed side nodes (record game { commands = commands })
-with_commands side nodes game commands h = record { state = h.state; fault = h.fault; count = h.count; marks = h.marks; order = h.order }
+with_commands side nodes game commands h = record { state = h.state; illegal = h.illegal; count = h.count; depths = h.depths; order = h.order }
 
 pub none_asked : (scripted : Bool) (side : ℕ) (nodes more : List Node) (old new : Option Commands) → new ≡ None → new ≡ old → HasCommands scripted side nodes old → HasCommands scripted side more new
 none_asked false side nodes more old new none same h = tt

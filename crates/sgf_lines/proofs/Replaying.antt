@@ -24,17 +24,17 @@ use Rattle.go_board.specs.State.{State, with_area, set_up, turned, is_over}
 use Rattle.go_board.specs.Reason.{must_move, is_occupied, is_repeat, reason_of}
 use Rattle.sgf_lines.specs.Lines.{Line}
 use Rattle.sgf_lines.specs.NodeContents.{Move, Stones, moves, stones, players}
-use Rattle.sgf_lines.specs.Values.{is_pass, move_value, operations, last_player}
+use Rattle.sgf_lines.specs.NodeValues.{is_pass, move_value, operations, last_player}
 use Rattle.sgf_lines.specs.JudgedGames.{board, game_kind, root_properties}
 use Rattle.sgf_lines.specs.Step.{side_in, taken, move_step, setup_step, step_by, step}
 use Rattle.sgf_lines.specs.Walk.{TakenNode, IllegalNode, Walk, before_root, stepped, next_by, next, walk}
 use Rattle.sgf_lines.specs.ListRow.{list_row}
-use Rattle.sgf_lines.specs.Script.{comment_line, comment_text, comment_lines, play_line, board_lines, setup_lines, move_lines_by, move_lines, node_script, taken_script, leaves_unreaching_by, leaves_unreaching, has_no_commands, board_commands, commands_by, script}
+use Rattle.sgf_lines.specs.Script.{comment_row, comment_text, comment_rows, play_command, colouring_commands, setup_commands, move_commands_by, move_commands, node_script, taken_script, leaves_unreaching_by, leaves_unreaching, has_no_commands, board_commands, commands_by, script}
 use Rattle.sgf_lines.specs.NodeContents.{first_value}
-use Rattle.sgf_lines.specs.Replay.{is_word, leaves, command_of, after_command, after_line, after_text, replayed}
+use Rattle.sgf_lines.specs.Replay.{is_word, leaves, command_of, after_command, after_row, after_text, replayed}
 use Rattle.sgf_lines.proofs.Lists.{Each}
 use Rattle.sgf_lines.proofs.Again.{flat_map-append}
-use Rattle.sgf_lines.proofs.ScriptLines.{IsWithin, CarriesBoard, takes_line, takes_nothing, takes_both, takes_comment, takes_text_lines, row_within, decimal_within, decimal_solid, within_both}
+use Rattle.sgf_lines.proofs.ScriptRows.{IsWithin, CarriesBoard, takes_row, takes_nothing, takes_both, takes_comment, takes_text_rows, row_within, decimal_within, decimal_solid, within_both}
 use Rattle.sgf_lines.proofs.ScriptWords.{one_word}
 use Rattle.sgf_lines.proofs.Placing.{BoardLaws, is_same, takes_play, takes_board}
 
@@ -101,19 +101,19 @@ point_on side (c ∷ r ∷ d ∷ more) p e = absurd cc
 abbrev IsFull : ℕ → Grid → Type 0
 IsFull side g = (g.side ≡ side) × (length g.cells ≡ side * side)
 
-pass_leaves : (side : ℕ) (now : Option Grid) (k : Colour) → CarriesBoard side now (play_line side k Pass) now
-pass_leaves side None Black = takes_line side None (codes "play B pass") (search)
-pass_leaves side None White = takes_line side None (codes "play W pass") (search)
-pass_leaves side (Some g) Black = takes_line side (Some g) (codes "play B pass") (search)
-pass_leaves side (Some g) White = takes_line side (Some g) (codes "play W pass") (search)
+pass_leaves : (side : ℕ) (now : Option Grid) (k : Colour) → CarriesBoard side now (play_command side k Pass) now
+pass_leaves side None Black = takes_row side None (codes "play B pass") (search)
+pass_leaves side None White = takes_row side None (codes "play W pass") (search)
+pass_leaves side (Some g) Black = takes_row side (Some g) (codes "play B pass") (search)
+pass_leaves side (Some g) White = takes_row side (Some g) (codes "play W pass") (search)
 
 module _ (laws : BoardLaws) (side : ℕ) (small : side ≤ 25) where
-  -- a step leads to a grid with a cell for each point, and its node's lines lead there
+  -- a step leads to a grid with a cell for each point, and its node's commands lead there
   record StepReplayed (s t : State) (ts : List Stones) (ms : List Move) : Type 0 where
     full : IsFull side t.colouring
     middle : Option Grid
-    set : CarriesBoard side (Some s.colouring) (setup_lines t.colouring ts) middle
-    moved : CarriesBoard side middle (move_lines t.colouring.side ms) (Some t.colouring)
+    set : CarriesBoard side (Some s.colouring) (setup_commands t.colouring ts) middle
+    moved : CarriesBoard side middle (move_commands t.colouring.side ms) (Some t.colouring)
 
   stays : (s t : State) → IsFull side s.colouring → t.colouring ≡ s.colouring → StepReplayed s t [] []
   stays s t full e = record {
@@ -156,33 +156,33 @@ module _ (laws : BoardLaws) (side : ℕ) (small : side ≤ 25) where
     stone_from n raw p None h e = absurd cc
     stone_from n raw p (Some q) h e = let same : q ≡ p = cc in point_on n raw p (h ∙ ap Some same)
 
-  stone_on : (n : ℕ) (raw : List ℕ) (p : Point) → move_value n raw ≡ Some (Stone p) → IsOn n p
-  stone_on n raw p e = stone_by n raw p (is_pass n raw) e
+  stone_on : (n : ℕ) (raw : List ℕ) (p : Point) → move_value raw n ≡ Some (Stone p) → IsOn n p
+  stone_on n raw p e = stone_by n raw p (is_pass raw n) e
 
-  -- the lines of a play that is allowed
-  plays_on : (s t : State) (k : Colour) (raw : List ℕ) (x : Play) → IsFull side s.colouring → move_value (side_in s) raw ≡ Some x → reason_of s k x ≡ None
-      → t ≡ turned s k x → CarriesBoard side (Some s.colouring) (play_line side k x) (Some t.colouring) × IsFull side t.colouring
+  -- the command of a play that is allowed
+  plays_on : (s t : State) (k : Colour) (raw : List ℕ) (x : Play) → IsFull side s.colouring → move_value raw (side_in s) ≡ Some x → reason_of s k x ≡ None
+      → t ≡ turned s k x → CarriesBoard side (Some s.colouring) (play_command side k x) (Some t.colouring) × IsFull side t.colouring
   plays_on s t k raw Pass full value none is =
       let same : t.colouring ≡ s.colouring = ap (λ u. u.colouring) is in
-      (subst (λ g. CarriesBoard side (Some s.colouring) (play_line side k Pass) (Some g)) (sym same) (pass_leaves side (Some s.colouring) k), subst (λ g. IsFull side g) (sym same) full)
+      (subst (λ g. CarriesBoard side (Some s.colouring) (play_command side k Pass) (Some g)) (sym same) (pass_leaves side (Some s.colouring) k), subst (λ g. IsFull side g) (sym same) full)
   plays_on s t k raw (Stone p) full value none is =
       let same : t.colouring ≡ play s.colouring k p = ap (λ u. u.colouring) is in
       let on : IsOn side p = subst (λ n. IsOn n p) full.0 (stone_on (side_in s) raw p value) in (
-        subst (λ g. CarriesBoard side (Some s.colouring) (play_line side k (Stone p)) (Some g)) (sym same) (takes_play side s.colouring k p small on (free_point s k p none)),
+        subst (λ g. CarriesBoard side (Some s.colouring) (play_command side k (Stone p)) (Some g)) (sym same) (takes_play side s.colouring k p small on (free_point s k p none)),
         subst (λ g. IsFull side g) (sym same) (play_full s.colouring k p full),
       )
 
-  turn_leads : (s t : State) (m : Move) (x : Play) (reason : Option Reason) → IsFull side s.colouring → move_value (side_in s) m.raw ≡ Some x
+  turn_leads : (s t : State) (m : Move) (x : Play) (reason : Option Reason) → IsFull side s.colouring → move_value m.raw (side_in s) ≡ Some x
       → reason_of s m.player x ≡ reason → taken s m.player x reason ≡ Ok t → StepReplayed s t [] (m ∷ [])
   turn_leads s t m x (Some reason) full e r is = absurd cc
   turn_leads s t m x None full e r is =
       let after : t ≡ turned s m.player x = cc in
       let does = plays_on s t m.player m.raw x full e r after in
-      let line : move_lines t.colouring.side (m ∷ []) ≡ play_line side m.player x =
-      append-nil (move_lines_by t.colouring.side m.player (move_value t.colouring.side m.raw))
-      ∙ ap (λ n. move_lines_by n m.player (move_value n m.raw)) (does.1.0 ∙ sym full.0)
-      ∙ ap (λ o. move_lines_by (side_in s) m.player o) e
-      ∙ ap (λ n. play_line n m.player x) full.0 in
+      let line : move_commands t.colouring.side (m ∷ []) ≡ play_command side m.player x =
+      append-nil (move_commands_by t.colouring.side m.player (move_value m.raw t.colouring.side))
+      ∙ ap (λ n. move_commands_by n m.player (move_value m.raw n)) (does.1.0 ∙ sym full.0)
+      ∙ ap (λ o. move_commands_by (side_in s) m.player o) e
+      ∙ ap (λ n. play_command n m.player x) full.0 in
       record {
         full = does.1;
         middle = Some s.colouring;
@@ -190,7 +190,7 @@ module _ (laws : BoardLaws) (side : ℕ) (small : side ≤ 25) where
         moved = subst (λ text. CarriesBoard side (Some s.colouring) text (Some t.colouring)) (sym line) does.0;
       }
 
-  move_leads : (s t : State) (m : Move) (value : Option Play) → IsFull side s.colouring → move_value (side_in s) m.raw ≡ value
+  move_leads : (s t : State) (m : Move) (value : Option Play) → IsFull side s.colouring → move_value m.raw (side_in s) ≡ value
       → move_step s m.player value ≡ Ok t → StepReplayed s t [] (m ∷ [])
   move_leads s t m None full e is = absurd cc
   move_leads s t m (Some x) full e is = turn_leads s t m x (reason_of s m.player x) full e refl is
@@ -207,7 +207,7 @@ module _ (laws : BoardLaws) (side : ℕ) (small : side ≤ 25) where
       record {
         full = now;
         middle = Some t.colouring;
-        set = subst (λ n. CarriesBoard n (Some s.colouring) (board_lines t.colouring) (Some t.colouring)) now.0 (takes_board laws t.colouring cells settled low s.colouring);
+        set = subst (λ n. CarriesBoard n (Some s.colouring) (colouring_commands t.colouring) (Some t.colouring)) now.0 (takes_board laws t.colouring cells settled low s.colouring);
         moved = takes_nothing side (Some t.colouring);
       }
 
@@ -217,21 +217,21 @@ module _ (laws : BoardLaws) (side : ℕ) (small : side ≤ 25) where
   step_leads s t (m ∷ ms) (first ∷ others) ps full settled is = absurd cc
   step_leads s t (m ∷ ms) [] (p ∷ ps) full settled is = absurd cc
   step_leads s t (m ∷ l ∷ ms) [] [] full settled is = absurd cc
-  step_leads s t (m ∷ []) [] [] full settled is = move_leads s t m (move_value (side_in s) m.raw) full refl is
+  step_leads s t (m ∷ []) [] [] full settled is = move_leads s t m (move_value m.raw (side_in s)) full refl is
   step_leads s t [] (first ∷ others) ps full settled is =
-      setup_leads s t first others (operations (side_in s) (first ∷ others)) (last_player None ps) full settled is
+      setup_leads s t first others (operations (first ∷ others) (side_in s)) (last_player None ps) full settled is
   step_leads s t [] [] (p ∷ ps) full settled is = player_leads s t (last_player None (p ∷ ps)) full is
 
   node_leads : (s t : State) (n : Node) → IsFull side s.colouring → leaves_unreaching (record { node = n; after = t }) ≡ false → step s n ≡ Ok t
       → CarriesBoard side (Some s.colouring) (node_script t n) (Some t.colouring) × IsFull side t.colouring
   node_leads s t n full settled is =
       let leads = step_leads s t (moves n) (stones n) (players n) full settled is in
-      let comments = takes_text_lines side (Some s.colouring) (comment_text (first_value (codes "C") n.properties)) in
-      let start = comment_lines n in
-      let middle = start ++ setup_lines t.colouring (stones n) in
+      let comments = takes_text_rows side (Some s.colouring) (comment_text (first_value (codes "C") n.properties)) in
+      let start = comment_rows n in
+      let middle = start ++ setup_commands t.colouring (stones n) in
       let half : CarriesBoard side (Some s.colouring) middle leads.middle =
-      takes_both side (Some s.colouring) (Some s.colouring) leads.middle start (setup_lines t.colouring (stones n)) comments leads.set in
-      (takes_both side (Some s.colouring) leads.middle (Some t.colouring) middle (move_lines t.colouring.side (moves n)) half leads.moved, leads.full)
+      takes_both side (Some s.colouring) (Some s.colouring) leads.middle start (setup_commands t.colouring (stones n)) comments leads.set in
+      (takes_both side (Some s.colouring) leads.middle (Some t.colouring) middle (move_commands t.colouring.side (moves n)) half leads.moved, leads.full)
 
   -- ---- A walk.
 
@@ -253,13 +253,13 @@ module _ (laws : BoardLaws) (side : ℕ) (small : side ≤ 25) where
       flat_map-append taken_script w.taken (p ∷ []) ∙ ap (λ x. flat_map taken_script w.taken ++ x) (append-nil (node_script t n)) in
       (subst (λ x. CarriesBoard side empty x (Some t.colouring)) (sym texts) both, one.1)
 
-  next_said : (w : Walk) (fault : Option IllegalNode) (n : Node) → IsSaid w → IsSaid (next_by w fault n)
-  next_said w (Some fault) n said = said
+  next_said : (w : Walk) (met : Option IllegalNode) (n : Node) → IsSaid w → IsSaid (next_by w met n)
+  next_said w (Some met) n said = said
   next_said w None n said = stepped_said w n (step w.state n) refl said
 
   walk_said : (w : Walk) (nodes : List Node) → IsSaid w → IsSaid (fold next w nodes)
   walk_said w [] said = said
-  walk_said w (n ∷ ns) said = walk_said (next w n) ns (next_said w w.fault n said)
+  walk_said w (n ∷ ns) said = walk_said (next w n) ns (next_said w w.illegal n said)
 
   begun_said : IsSaid (before_root side)
   begun_said = λ settled. (takes_nothing side (Some (empty_grid side)), (refl, length-replicate (side * side) Empty))
@@ -274,12 +274,12 @@ module _ (laws : BoardLaws) (side : ℕ) (small : side ≤ 25) where
   takes_commands now =
       let line = codes "boardsize " ++ decimal side in
       let within : Each IsWithin line = within_both (codes "boardsize ") (decimal side) (search) (decimal_within side) in
-      let read : after_line side (Some now) line ≡ Some now =
+      let read : after_row side (Some now) line ≡ Some now =
       ap (λ ls. after_command side now (command_of side (codes "boardsize" ∷ filter is_word ls))) (one_word (decimal side) (decimal_solid side))
       ∙ ap (λ c. after_command side now c) (two_words (decimal side)) in
       let sized : CarriesBoard side (Some now) (line ++ (10 ∷ [])) (Some now) =
-      subst (λ b. CarriesBoard side (Some now) (line ++ (10 ∷ [])) b) read (takes_line side (Some now) line within) in
-      let cleared : CarriesBoard side (Some now) (codes "clear_board\n") (Some (empty_grid side)) = takes_line side (Some now) (codes "clear_board") (search) in
+      subst (λ b. CarriesBoard side (Some now) (line ++ (10 ∷ [])) b) read (takes_row side (Some now) line within) in
+      let cleared : CarriesBoard side (Some now) (codes "clear_board\n") (Some (empty_grid side)) = takes_row side (Some now) (codes "clear_board") (search) in
       subst (λ x. CarriesBoard side (Some now) x (Some (empty_grid side))) (append_assoc line (10 ∷ []) (codes "clear_board\n"))
       (takes_both side (Some now) (Some now) (Some (empty_grid side)) (line ++ (10 ∷ [])) (codes "clear_board\n") sized cleared)
 
@@ -296,7 +296,7 @@ script_replayed laws line side opens says =
     takes_both side empty empty (Some w.state.colouring) (board_commands side) played (takes_commands laws side small (empty_grid side)) said.0 in
     let commands : commands_by (game_kind (root_properties line.nodes)) line.nodes ≡ board_commands side ++ played =
     ap (λ o. commands_by o line.nodes) opens ∙ ap (λ b. cond b [] (board_commands side ++ played)) says in
-    let row : CarriesBoard side empty (comment_line (list_row line)) empty = takes_comment side empty (list_row line) (row_within line) in
-    let both : CarriesBoard side empty (comment_line (list_row line) ++ (board_commands side ++ played)) (Some w.state.colouring) =
-    takes_both side empty empty (Some w.state.colouring) (comment_line (list_row line)) (board_commands side ++ played) row all in
-    ap (λ x. after_text side empty (comment_line (list_row line) ++ x ++ codes "\n")) commands ∙ both (codes "\n")
+    let row : CarriesBoard side empty (comment_row (list_row line)) empty = takes_comment side empty (list_row line) (row_within line) in
+    let both : CarriesBoard side empty (comment_row (list_row line) ++ (board_commands side ++ played)) (Some w.state.colouring) =
+    takes_both side empty empty (Some w.state.colouring) (comment_row (list_row line)) (board_commands side ++ played) row all in
+    ap (λ x. after_text side empty (comment_row (list_row line) ++ x ++ codes "\n")) commands ∙ both (codes "\n")

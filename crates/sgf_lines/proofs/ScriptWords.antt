@@ -1,4 +1,4 @@
--- The lines of plays, as they are read.
+-- The commands of plays, as they are read.
 use Rattle.std.proofs.Common.{◌≡◌, ℕ, zero, suc, ◌-◌, ◌<◌, ◌≤◌, List, [], ◌∷◌, ◌++◌, filter, Option, Some, None, Bool, true, false, codes, refl, ap, ◌∙◌, arith, decimal, nat_lt, nat_le, cond, ◌==◌, ◌&&◌, slice_index, option_and_then, inl, inr}
 use Rattle.std.specs.List.{slice_split, position}
 use Rattle.std.proofs.lemmas.List.Splits.{slice_split_none}
@@ -15,7 +15,7 @@ use Rattle.sgf_lines.specs.Replay.{before_comment, is_word, words, capital, poin
 use Rattle.std.proofs.lemmas.Bool.{cases_eq}
 use Rattle.std.proofs.lemmas.Bool.Decides.{nat_tests}
 use Rattle.sgf_lines.proofs.Lists.{Each}
-use Rattle.sgf_lines.proofs.ScriptLines.{IsSolid, decimal_solid}
+use Rattle.sgf_lines.proofs.ScriptRows.{IsSolid, decimal_solid}
 
 -- ---- a fact of each number below a small one, by trying all
 

@@ -7,7 +7,7 @@ use Rattle.sgf_lines.specs.JudgedGames.{GameKind, game_kind, root_properties}
 use Rattle.sgf_lines.specs.Walk.{walk}
 use Rattle.sgf_lines.specs.ListRow.{list_row, row_text}
 use Rattle.sgf_lines.specs.Verdict.{verdict_of}
-use Rattle.sgf_lines.specs.Script.{comment_line, commands_of, commands_by, script}
+use Rattle.sgf_lines.specs.Script.{comment_row, commands_of, commands_by, script}
 use Rattle.sgf_lines.specs.declared.line.LineRef.{LineRef}
 use Rattle.sgf_lines.specs.declared.verdict.Verdict.{Verdict}
 use Rattle.sgf_lines.specs.declared.commands.Commands.{Commands}
@@ -30,12 +30,12 @@ commands_held said nodes (Judged game) h = asked_commands h.0 nodes game.command
 
 -- its row as a comment, its commands, and an empty line
 pub script_followed : (c : Games) (l : Line) (line : LineRef) (v : Verdict) (followed : Followed) (head : List ℕ) → IsShownAs c l line → v ≡ verdict_of l.nodes → IsFollowed true l.nodes followed
-    → head ≡ comment_line (row_text line.place line.game (length line.path.now) v) → head ++ (followed_commands followed ++ codes "\n") ≡ script l
+    → head ≡ comment_row (row_text line.place line.game (length line.path.now) v) → head ++ (followed_commands followed ++ codes "\n") ≡ script l
 script_followed c l line v followed head h e is first =
-    let row : head ≡ comment_line (list_row l) = first ∙ ap comment_line (row-is c l line v h e) in
+    let row : head ≡ comment_row (list_row l) = first ∙ ap comment_row (row-is c l line v h e) in
     let commands = commands_by (game_kind (root_properties l.nodes)) l.nodes in
-    ap (λ t. t ++ (followed_commands followed ++ codes "\n")) row ∙ ap (λ t. comment_line (list_row l) ++ (t ++ codes "\n")) (commands_held (game_kind (root_properties l.nodes)) l.nodes followed is)
-    ∙ sym (append_assoc (comment_line (list_row l)) commands (codes "\n"))
+    ap (λ t. t ++ (followed_commands followed ++ codes "\n")) row ∙ ap (λ t. comment_row (list_row l) ++ (t ++ codes "\n")) (commands_held (game_kind (root_properties l.nodes)) l.nodes followed is)
+    ∙ sym (append_assoc (comment_row (list_row l)) commands (codes "\n"))
 
 -- its row and a line feed
 pub row_followed : (c : Games) (l : Line) (line : LineRef) (v : Verdict) (head : List ℕ) → IsShownAs c l line → v ≡ verdict_of l.nodes

@@ -12,17 +12,17 @@ use Rattle.sgf_lines.proofs.Standings.{IsShown, shows, none_left, one_more}
 
 -- the position of a cursor that goes on from the node `next`
 abbrev pub before : Games → ℕ → Position
-before c next = record { games = c; given = lines_before c next }
+before c next = record { games = c; index = lines_before c next }
 
-pub starts : (c : Games) → before c 0 ≡ record { games = c; given = 0 }
-starts c = ap (λ n. record { games = c; given = n }) (before_none c)
+pub starts : (c : Games) → before c 0 ≡ record { games = c; index = 0 }
+starts c = ap (λ n. record { games = c; index = n }) (before_none c)
 
 module _ (c : Games) (next : ℕ) (at : Position) (is : before c next ≡ at) where
-  pub shows_line : (numbers : List ℕ) → IsAfterLeaf c next numbers → 0 < at.given → IsShown c next numbers
+  pub shows_line : (numbers : List ℕ) → IsAfterLeaf c next numbers → 0 < at.index → IsShown c next numbers
   shows_line numbers h lt = shows c next numbers h (rw (← is) at lt)
 
-  pub line_is : (numbers : List ℕ) (line : LineRef) (root : ℕ) → IsAfterLeaf c next numbers → 0 < at.given → line.path.now ≡ numbers → root ≡ get_or numbers 0 root
-      → line.game ≡ game_of c root → place_at c (next - 1) ≡ Some line.place → IsLine at.games (at.given - 1) line
+  pub line_is : (numbers : List ℕ) (line : LineRef) (root : ℕ) → IsAfterLeaf c next numbers → 0 < at.index → line.path.now ≡ numbers → root ≡ get_or numbers 0 root
+      → line.game ≡ game_of c root → place_at c (next - 1) ≡ Some line.place → IsLine at.games (at.index - 1) line
   line_is numbers line root h lt path_is root_is game_is place_is =
       let shown = shows_line numbers h lt in
       rw (← is) (record {
@@ -30,8 +30,8 @@ module _ (c : Games) (next : ℕ) (at : Position) (is : before c next ≡ at) wh
         place = shown.place_is line.place place_is;
       })
 
-  pub none_is_left : HasNoLeaf c next (node_count c) → slice_get (lines at.games) at.given ≡ None
+  pub none_is_left : HasNoLeaf c next (node_count c) → slice_get (lines at.games) at.index ≡ None
   none_is_left none = rw (← is) (none_left c next none)
 
   pub advances : (i : ℕ) → IsNextLeaf c next i → before c (i + 1) ≡ advanced at
-  advances i h = rw (← is) (ap (λ n. record { games = c; given = n }) (one_more c next i h))
+  advances i h = rw (← is) (ap (λ n. record { games = c; index = n }) (one_more c next i h))

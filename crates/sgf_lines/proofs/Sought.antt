@@ -34,7 +34,7 @@ sought c next leaf place at numbers is lt is_leaf placed way =
     rw (← is) (record {
       index = lines_before c (leaf + 1) - 1;
       line = shown.place_is place (rw less placed);
-      new_is = ap (λ n. record { games = c; given = n }) (sym count);
+      new_is = ap (λ n. record { games = c; index = n }) (sym count);
     })
 
 -- where no leaf has the place, no line has it

@@ -12,7 +12,7 @@ use Rattle.go_board.specs.declared.fault.TurnFault.TheVariants.{Illegal as TurnI
 use Rattle.go_board.specs.State.{State, States, set_up, turned, followed_by}
 use Rattle.go_board.specs.Reason.{reason_of}
 use Rattle.sgf_lines.specs.NodeContents.{Stones}
-use Rattle.sgf_lines.specs.Values.{player_value, operation, operations, last_player}
+use Rattle.sgf_lines.specs.NodeValues.{player_value, operation, operations, last_player}
 use Rattle.sgf_lines.specs.Step.{step_by, setup_step, taken, side_in}
 use Rattle.sgf_lines.specs.declared.contents.Moves.{Moves}
 use Rattle.sgf_lines.specs.inner.Contents.{Lists, AreTold}
@@ -26,15 +26,15 @@ operations-cons side None os ops e = absurd cc
 operations-cons side (Some op) None ops e = absurd cc
 operations-cons side (Some op) (Some more) ops e = let is : op ∷ more ≡ ops = cc in omega (arith, ap length (sym is))
 
-stones_none : (side : ℕ) (ts : List Stones) → operations side ts ≡ Some [] → ts ≡ []
+stones_none : (side : ℕ) (ts : List Stones) → operations ts side ≡ Some [] → ts ≡ []
 stones_none side [] e = refl
-stones_none side (t ∷ ts) e = absurd (omega (arith, operations-cons side (operation side t) (operations side ts) [] e))
+stones_none side (t ∷ ts) e = absurd (omega (arith, operations-cons side (operation t side) (operations ts side) [] e))
 
-some_stones : (side : ℕ) (ts : List Stones) (ops : List SetupOp) → operations side ts ≡ Some ops → 0 < length ops → 0 < length ts
+some_stones : (side : ℕ) (ts : List Stones) (ops : List SetupOp) → operations ts side ≡ Some ops → 0 < length ops → 0 < length ts
 some_stones side [] ops e lt = let is : ops ≡ [] = cc in absurd (omega (arith, ap length is))
 some_stones side (t ∷ ts) ops e lt = omega arith
 
-faulty_stones : (side : ℕ) (ts : List Stones) → operations side ts ≡ None → 0 < length ts
+faulty_stones : (side : ℕ) (ts : List Stones) → operations ts side ≡ None → 0 < length ts
 faulty_stones side [] e = absurd cc
 faulty_stones side (t ∷ ts) e = omega arith
 
@@ -64,7 +64,7 @@ faulty_players [] e = absurd cc
 faulty_players (raw ∷ raws) e = omega arith
 
 -- whether there is a setup
-pub met_by_fault : (side : ℕ) (held : Lists) → (operations side held.stones ≡ None) ⊎ (last_player None held.players ≡ None) → IsSetupMet held true
+pub met_by_fault : (side : ℕ) (held : Lists) → (operations held.stones side ≡ None) ⊎ (last_player None held.players ≡ None) → IsSetupMet held true
 met_by_fault side held e = elim e [
   | inl bad ↦ omega (arith, faulty_stones side held.stones bad)
   | inr bad ↦ omega (arith, faulty_players held.players bad)
@@ -73,10 +73,10 @@ met_by_fault side held e = elim e [
 pub met_by_player : (held : Lists) (k : Colour) → last_player None held.players ≡ Some (Some k) → IsSetupMet held true
 met_by_player held k e = omega (arith, some_players held.players k e)
 
-pub met_by_stones : (side : ℕ) (held : Lists) (ops : List SetupOp) → operations side held.stones ≡ Some ops → 0 < length ops → IsSetupMet held true
+pub met_by_stones : (side : ℕ) (held : Lists) (ops : List SetupOp) → operations held.stones side ≡ Some ops → 0 < length ops → IsSetupMet held true
 met_by_stones side held ops e lt = omega (arith, some_stones side held.stones ops e lt)
 
-pub not_met : (side : ℕ) (held : Lists) → operations side held.stones ≡ Some [] → last_player None held.players ≡ Some None → IsSetupMet held false
+pub not_met : (side : ℕ) (held : Lists) → operations held.stones side ≡ Some [] → last_player None held.players ≡ Some None → IsSetupMet held false
 not_met side held e f = (stones_none side held.stones e, players_none held.players f)
 
 -- a setup alone
@@ -84,21 +84,21 @@ no_last : (s : State) (o : Option (List SetupOp)) → setup_step s o None ≡ Er
 no_last s None = refl
 no_last s (Some ops) = refl
 
-pub faulty_setup : (s : State) (ts : List Stones) (ps : List (List ℕ)) → (operations (side_in s) ts ≡ None) ⊎ (last_player None ps ≡ None) → step_by s [] ts ps ≡ Err BadSetup
+pub faulty_setup : (s : State) (ts : List Stones) (ps : List (List ℕ)) → (operations ts (side_in s) ≡ None) ⊎ (last_player None ps ≡ None) → step_by s [] ts ps ≡ Err BadSetup
 faulty_setup s [] [] e = elim e [ inl bad ↦ absurd cc | inr bad ↦ absurd cc ]
 faulty_setup s [] (p ∷ ps) e = elim e [ inl bad ↦ absurd cc | inr bad ↦ ap (setup_step s (Some [])) bad ]
 faulty_setup s (t ∷ ts) ps e = elim e [
   | inl bad ↦ ap (λ o. setup_step s o (last_player None ps)) bad
-  | inr bad ↦ ap (setup_step s (operations (side_in s) (t ∷ ts))) bad ∙ no_last s (operations (side_in s) (t ∷ ts))
+  | inr bad ↦ ap (setup_step s (operations (t ∷ ts) (side_in s))) bad ∙ no_last s (operations (t ∷ ts) (side_in s))
 ]
 
-pub no_setup : (s : State) (ts : List Stones) (ps : List (List ℕ)) → operations (side_in s) ts ≡ Some [] → last_player None ps ≡ Some None → (ts ≡ []) × (step_by s [] ts ps ≡ Ok s)
+pub no_setup : (s : State) (ts : List Stones) (ps : List (List ℕ)) → operations ts (side_in s) ≡ Some [] → last_player None ps ≡ Some None → (ts ≡ []) × (step_by s [] ts ps ≡ Ok s)
 no_setup s ts ps e f =
     let t = stones_none (side_in s) ts e in
     let p = players_none ps f in
     (t, ap (λ ss. step_by s [] ss ps) t ∙ ap (λ qs. step_by s [] [] qs) p)
 
-pub sets_up : (s : State) (ts : List Stones) (ps : List (List ℕ)) (ops : List SetupOp) (player : Option Colour) → operations (side_in s) ts ≡ Some ops → last_player None ps ≡ Some player
+pub sets_up : (s : State) (ts : List Stones) (ps : List (List ℕ)) (ops : List SetupOp) (player : Option Colour) → operations ts (side_in s) ≡ Some ops → last_player None ps ≡ Some player
     → (0 < length ops) ⊎ IsSome player → step_by s [] ts ps ≡ Ok (set_up s ops player)
 sets_up s [] [] ops player e f some =
     let no_ops : ops ≡ [] = cc in
@@ -129,7 +129,7 @@ module _ (side : ℕ) (moves : Moves) (ops : List SetupOp) (player : Option Colo
       by None f e = absurd cc
       by (Some k) f e = met_by_player held k f
 
-  no_operations : faulty ≡ false → length ops ≡ 0 → operations side held.stones ≡ Some []
+  no_operations : faulty ≡ false → length ops ≡ 0 → operations held.stones side ≡ Some []
   no_operations good e = h.stones good ∙ ap Some (no_elements ops e)
 
   no_one : faulty ≡ false → is_some player ≡ false → last_player None held.players ≡ Some None
@@ -144,19 +144,19 @@ module _ (side : ℕ) (moves : Moves) (ops : List SetupOp) (player : Option Colo
   -- nothing to set up
   pub sets_nothing : (s : State) → side ≡ side_in s → faulty ≡ false → length ops ≡ 0 → is_some player ≡ false → (held.stones ≡ []) × (step_by s [] held.stones held.players ≡ Ok s)
   sets_nothing s is good none e =
-      let ops_are : operations (side_in s) held.stones ≡ Some [] = subst (λ n. operations n held.stones ≡ Some []) is (no_operations good none) in
+      let ops_are : operations held.stones (side_in s) ≡ Some [] = subst (λ n. operations held.stones n ≡ Some []) is (no_operations good none) in
       no_setup s held.stones held.players ops_are (no_one good e)
 
   -- something to set up
   pub sets_something : (s : State) → side ≡ side_in s → faulty ≡ false → (0 < length ops) ⊎ IsSome player → step_by s [] held.stones held.players ≡ Ok (set_up s ops player)
   sets_something s is good some =
-      let ops_are : operations (side_in s) held.stones ≡ Some ops = subst (λ n. operations n held.stones ≡ Some ops) is (h.stones good) in
+      let ops_are : operations held.stones (side_in s) ≡ Some ops = subst (λ n. operations held.stones n ≡ Some ops) is (h.stones good) in
       sets_up s held.stones held.players ops player ops_are (h.players good) some
 
   pub sets_faulty : (s : State) → side ≡ side_in s → faulty ≡ true → step_by s [] held.stones held.players ≡ Err BadSetup
   sets_faulty s is bad =
-      let faults : (operations (side_in s) held.stones ≡ None) ⊎ (last_player None held.players ≡ None) =
-      subst (λ n. (operations n held.stones ≡ None) ⊎ (last_player None held.players ≡ None)) is (h.faults bad) in
+      let faults : (operations held.stones (side_in s) ≡ None) ⊎ (last_player None held.players ≡ None) =
+      subst (λ n. (operations held.stones n ≡ None) ⊎ (last_player None held.players ≡ None)) is (h.faults bad) in
       faulty_setup s held.stones held.players faults
 
   pub has_stones : faulty ≡ false → (length ops ≡ 0 → ⊥) → 0 < length held.stones

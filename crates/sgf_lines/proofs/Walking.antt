@@ -18,9 +18,9 @@ use Rattle.sgf_lines.specs.Verdict.{verdict_at, score_in}
 use Rattle.sgf_lines.specs.declared.step.TakenStep.{TakenStep}
 use Rattle.sgf_lines.specs.inner.Stepping.{IsStepped, ended_with}
 
--- the walk has met no fault, and leads to that state
+-- the walk has met no illegal node, and leads to that state
 pub record StandsAfter (w : Walk) (s : State) : Type 0 where
-  pub no_fault : w.fault ≡ None
+  pub no_illegal : w.illegal ≡ None
   pub state : w.state ≡ s
 
 -- one node later
@@ -37,25 +37,25 @@ walk-more side nodes i n e = ap (fold next (before_root side)) (front nodes i e)
 
 module _ (w : Walk) (s : State) (h : StandsAfter w s) (n : Node) where
   pub next_is : (r : Result State Reason) → step s n ≡ r → next w n ≡ stepped w n r
-  next_is r e = ap (λ f. next_by w f n) h.no_fault ∙ ap (λ t. stepped w n (step t n)) h.state ∙ ap (stepped w n) e
+  next_is r e = ap (λ f. next_by w f n) h.no_illegal ∙ ap (λ t. stepped w n (step t n)) h.state ∙ ap (stepped w n) e
 
   pub goes_on : (t : State) → step s n ≡ Ok t → StandsAfter (next w n) t
-  goes_on t e = let is = next_is (Ok t) e in record { no_fault = ap (λ (v : Walk). v.fault) is; state = ap (λ (v : Walk). v.state) is }
+  goes_on t e = let is = next_is (Ok t) e in record { no_illegal = ap (λ (v : Walk). v.illegal) is; state = ap (λ (v : Walk). v.state) is }
 
   pub ends_at : (r : Reason) → step s n ≡ Err r → verdict_at (next w n) ≡ Illegal (s.turns + 1) n.place r
   ends_at r e =
       let is = next_is (Err r) e in
       ap verdict_at is ∙ ap (λ (t : State). Illegal (t.turns + 1) n.place r) h.state
 
--- after a fault nothing changes
-pub after_fault : (w : Walk) (f : IllegalNode) (ns : List Node) → w.fault ≡ Some f → fold next w ns ≡ w
-after_fault w f [] e = refl
-after_fault w f (n ∷ ns) e = ap (λ v. fold next v ns) (ap (λ o. next_by w o n) e) ∙ after_fault w f ns e
+-- after an illegal node nothing changes
+pub after_illegal : (w : Walk) (f : IllegalNode) (ns : List Node) → w.illegal ≡ Some f → fold next w ns ≡ w
+after_illegal w f [] e = refl
+after_illegal w f (n ∷ ns) e = ap (λ v. fold next v ns) (ap (λ o. next_by w o n) e) ∙ after_illegal w f ns e
 
--- so the walk ends with the first fault
-pub walk-fault : (side : ℕ) (nodes : List Node) (i : ℕ) (f : IllegalNode) → (walk side (take i nodes)).fault ≡ Some f → walk side nodes ≡ walk side (take i nodes)
-walk-fault side nodes i f e =
-    ap (fold next (before_root side)) (sym (parts nodes i)) ∙ fold-append next (before_root side) (take i nodes) (drop i nodes) ∙ after_fault (walk side (take i nodes)) f (drop i nodes) e
+-- so the walk ends with the first illegal node
+pub walk-illegal : (side : ℕ) (nodes : List Node) (i : ℕ) (f : IllegalNode) → (walk side (take i nodes)).illegal ≡ Some f → walk side nodes ≡ walk side (take i nodes)
+walk-illegal side nodes i f e =
+    ap (fold next (before_root side)) (sym (parts nodes i)) ∙ fold-append next (before_root side) (take i nodes) (drop i nodes) ∙ after_illegal (walk side (take i nodes)) f (drop i nodes) e
   where
     parts : (ns : List Node) (i : ℕ) → take i ns ++ drop i ns ≡ ns
     parts [] zero = refl
@@ -71,9 +71,9 @@ module _ (side : ℕ) (nodes : List Node) (i : ℕ) (s : State) (h : StandsAfter
   illegal_at n r e is =
       let w = walk side (take i nodes) in
       let more : walk side (take (i + 1) nodes) ≡ next w n = walk-more side nodes i n e in
-      let fault : (walk side (take (i + 1) nodes)).fault ≡ Some (record { node = n; reason = r }) =
-      ap (λ (v : Walk). v.fault) (more ∙ next_is w s h n (Err r) is) in
-      ap verdict_at (walk-fault side nodes (i + 1) (record { node = n; reason = r }) fault ∙ more) ∙ ends_at w s h n r is
+      let illegal : (walk side (take (i + 1) nodes)).illegal ≡ Some (record { node = n; reason = r }) =
+      ap (λ (v : Walk). v.illegal) (more ∙ next_is w s h n (Err r) is) in
+      ap verdict_at (walk-illegal side nodes (i + 1) (record { node = n; reason = r }) illegal ∙ more) ∙ ends_at w s h n r is
 
   pub scored : length nodes ≤ i → verdict_at (walk side nodes) ≡ score_in s
   scored le =
@@ -82,7 +82,7 @@ module _ (side : ℕ) (nodes : List Node) (i : ℕ) (s : State) (h : StandsAfter
       by (walk side nodes) g
     where
       by : (w : Walk) → StandsAfter w s → verdict_at w ≡ score_in s
-      by w g = rw (g.no_fault, g.state)
+      by w g = rw (g.no_illegal, g.state)
 
 -- a step that was refused ends the line with its verdict
 pub ends_line : (side : ℕ) (nodes : List Node) (i : ℕ) (old new : States) (n : Node) (fault : StepFault) (turns place : ℕ) (r : Result Verdict MemoryFault)

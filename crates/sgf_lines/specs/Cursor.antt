@@ -8,14 +8,14 @@ use Rattle.sgf_lines.specs.declared.line.LineRef.{LineRef}
 use Rattle.sgf_lines.specs.declared.seek.SeekFault.{SeekFault}
 use Rattle.sgf_lines.specs.declared.seek.SeekFault.TheVariants.{NoSuchLine, Memory}
 
--- a collection, and how many of its lines stand before the cursor
+-- a collection, and the index of the cursor's next line, from 0: so many lines stand before it
 pub record Position : Type 0 where
   pub games : Games
-  pub given : ℕ
+  pub index : ℕ
 
 -- one line later
 abbrev pub advanced : Position → Position
-advanced at = record { games = at.games; given = at.given + 1 }
+advanced at = record { games = at.games; index = at.index + 1 }
 
 -- what is shown of a line: its path, and its place (that both are of one line is the law `named`)
 pub record Shown : Type 0 where
@@ -32,8 +32,8 @@ pub record IsLine (games : Games) (index : ℕ) (line : LineRef) : Type 0 where
 
 -- the line at a position, or none after the last one
 abbrev pub GivesLine : Position → Option LineRef → Type 0
-GivesLine at None = slice_get (lines at.games) at.given ≡ None
-GivesLine at (Some line) = IsLine at.games at.given line
+GivesLine at None = slice_get (lines at.games) at.index ≡ None
+GivesLine at (Some line) = IsLine at.games at.index line
 
 -- a line takes the cursor one line on; at the end and after a refusal it is unchanged
 abbrev pub LeavesCursor : Position → Result (Option LineRef) MemoryFault → Position → Type 0
@@ -45,7 +45,7 @@ LeavesCursor old (Err fault) new = new ≡ old
 pub record IsAfterPlace (place : ℕ) (old new : Position) : Type 0 where
   pub index : ℕ
   pub line : option_map place_of (slice_get (lines old.games) index) ≡ Some place
-  pub new_is : new ≡ record { games = old.games; given = index + 1 }
+  pub new_is : new ≡ record { games = old.games; index = index + 1 }
 
 -- no line has this place
 abbrev pub HasNoLineAt : Games → ℕ → Type 0

@@ -6,7 +6,7 @@ use Rattle.sgf_lines.specs.declared.verdict.Verdict.TheVariants.{Score, Illegal,
 use Rattle.sgf_lines.specs.Lines.{Line, place_of}
 use Rattle.sgf_lines.specs.Verdict.{verdict}
 
--- a verdict in words; the scores are Black's and White's, and the numbers of a fault its turn and its place
+-- a verdict in words; the scores are Black's and White's, and the numbers of an illegal line the turn and the place of its illegal node
 abbrev pub verdict_text : Verdict → List ℕ
 verdict_text (Score black white over) =
     codes "score " ++ decimal black ++ codes " " ++ decimal white ++ (if over then codes " over" else codes " open")

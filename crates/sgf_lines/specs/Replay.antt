@@ -1,4 +1,4 @@
--- How a script is taken by an engine of the Go Text Protocol (GTP 2), from the bytes of the script: a command a line, from
+-- How a script is taken by an engine of the Go Text Protocol (GTP 2), from the bytes of the script: a command a row, from
 -- the top, on a board of a given side, where a stone is played by the Tromp-Taylor rules.
 use Rattle.std.specs.Prelude.{ℕ, Bool, true, false, ◌-◌, ◌==◌, ◌||◌, ◌&&◌, nat_le, nat_lt, if◌then◌else◌, Option, Some, None, option_and_then, List, [], ◌∷◌, filter, map, fold, codes, bytes_eq}
 use Rattle.std.specs.List.{slice_split, position}
@@ -26,9 +26,9 @@ abbrev pub is_word : List ℕ → Bool
 is_word [] = false
 is_word (b ∷ bs) = true
 
--- the words of a line, between spaces
+-- the words of a row, between spaces
 abbrev pub words : List ℕ → List (List ℕ)
-words line = filter is_word (slice_split (λ b. b == space) (before_comment line))
+words row = filter is_word (slice_split (λ b. b == space) (before_comment row))
 
 -- a letter as a capital, any other byte as it is: colours and vertices may be written in either case
 abbrev pub capital : ℕ → ℕ
@@ -53,7 +53,7 @@ point_named side (letter ∷ digits) =
     option_and_then (λ col. option_and_then (point_there side col) (magnitude_of digits))
     (position (λ l. l == capital letter) column_letters)
 
--- what a line does to the board: it empties it, plays a stone, or leaves it
+-- what a row does to the board: it empties it, plays a stone, or leaves it
 pub data Command : Type 0 where
   clears : Command
   plays : (colour : Colour) (point : Point) → Command
@@ -80,13 +80,13 @@ after_command side board (plays colour point) =
     if same_cell (cell_at board point) Empty then Some (play board colour point) else None
 after_command side board leaves = Some board
 
--- one line later
-abbrev pub after_line : ℕ → Option Grid → List ℕ → Option Grid
-after_line side board line = option_and_then (λ (g : Grid). after_command side g (command_of side (words line))) board
+-- one row later
+abbrev pub after_row : ℕ → Option Grid → List ℕ → Option Grid
+after_row side board row = option_and_then (λ (g : Grid). after_command side g (command_of side (words row))) board
 
--- the lines of a text taken from the top
+-- the rows of a text taken from the top
 abbrev pub after_text : ℕ → Option Grid → List ℕ → Option Grid
-after_text side board text = fold (after_line side) board (slice_split (λ b. b == line_feed) text)
+after_text side board text = fold (after_row side) board (slice_split (λ b. b == line_feed) text)
 
 -- the board after a whole script, which begins with an empty one; none where a stone is played on a point that isn't empty
 abbrev pub replayed : ℕ → List ℕ → Option Grid

@@ -19,19 +19,19 @@ use Rattle.go_board.specs.Vertex.{vertex_of}
 use Rattle.go_board.specs.State.{State}
 use Rattle.sgf_lines.specs.Lines.{Line}
 use Rattle.sgf_lines.specs.NodeContents.{Move, Stones, moves, stones, first_value}
-use Rattle.sgf_lines.specs.Values.{move_value}
+use Rattle.sgf_lines.specs.NodeValues.{move_value}
 use Rattle.sgf_lines.specs.JudgedGames.{GameKind, other_game, no_board, board, game_kind, root_properties}
 use Rattle.sgf_lines.specs.Walk.{TakenNode, Walk, walk}
 use Rattle.sgf_lines.specs.ListRow.{list_row}
 
--- a comment line
-abbrev pub comment_line : List ℕ → List ℕ
-comment_line piece = codes "# " ++ piece ++ codes "\n"
+-- a row that is a comment
+abbrev pub comment_row : List ℕ → List ℕ
+comment_row piece = codes "# " ++ piece ++ codes "\n"
 
--- a text cut at each line feed, a comment line for each piece; no line for an empty text
-abbrev pub text_lines : List ℕ → List ℕ
-text_lines [] = []
-text_lines (b ∷ bs) = flat_map comment_line (slice_split (λ c. c == line_feed) (b ∷ bs))
+-- a text cut at each line feed, a comment row for each piece; no row for an empty text
+abbrev pub text_rows : List ℕ → List ℕ
+text_rows [] = []
+text_rows (b ∷ bs) = flat_map comment_row (slice_split (λ c. c == line_feed) (b ∷ bs))
 
 -- the decoded text of a comment, which a node may have
 abbrev pub comment_text : Option (List ℕ) → List ℕ
@@ -39,8 +39,8 @@ comment_text None = []
 comment_text (Some raw) = text_of raw
 
 -- the comment of a node, which is the first value of its first C
-abbrev pub comment_lines : Node → List ℕ
-comment_lines n = text_lines (comment_text (first_value (codes "C") n.properties))
+abbrev pub comment_rows : Node → List ℕ
+comment_rows n = text_rows (comment_text (first_value (codes "C") n.properties))
 
 -- B or W
 abbrev pub colour_letter : Colour → List ℕ
@@ -55,38 +55,38 @@ abbrev pub play_text : ℕ → Play → List ℕ
 play_text side Pass = codes "pass"
 play_text side (Stone p) = vertex_text (vertex_of p side)
 
-abbrev pub play_line : ℕ → Colour → Play → List ℕ
-play_line side k play = codes "play " ++ colour_letter k ++ codes " " ++ play_text side play ++ codes "\n"
+abbrev pub play_command : ℕ → Colour → Play → List ℕ
+play_command side k play = codes "play " ++ colour_letter k ++ codes " " ++ play_text side play ++ codes "\n"
 
 -- the points of a colour, row by row from the top, from left to right
 abbrev pub stones_on : Grid → Colour → List Point
 stones_on g k = filter (λ p. same_cell (cell_at g p) (stone_of k)) (points g.side)
 
-abbrev pub stone_lines : Grid → Colour → List ℕ
-stone_lines g k = flat_map (λ p. play_line g.side k (Stone p)) (stones_on g k)
+abbrev pub stone_commands : Grid → Colour → List ℕ
+stone_commands g k = flat_map (λ p. play_command g.side k (Stone p)) (stones_on g k)
 
 -- a whole colouring: all black stones, then all white ones
-abbrev pub board_lines : Grid → List ℕ
-board_lines g = codes "clear_board\n" ++ stone_lines g Black ++ stone_lines g White
+abbrev pub colouring_commands : Grid → List ℕ
+colouring_commands g = codes "clear_board\n" ++ stone_commands g Black ++ stone_commands g White
 
 -- where a node has stones, the colouring after it
-abbrev pub setup_lines : Grid → List Stones → List ℕ
-setup_lines g [] = []
-setup_lines g (t ∷ ts) = board_lines g
+abbrev pub setup_commands : Grid → List Stones → List ℕ
+setup_commands g [] = []
+setup_commands g (t ∷ ts) = colouring_commands g
 
 -- where a node has a move, its play
-abbrev pub move_lines_by : ℕ → Colour → Option Play → List ℕ
-move_lines_by side k None = []
-move_lines_by side k (Some play) = play_line side k play
+abbrev pub move_commands_by : ℕ → Colour → Option Play → List ℕ
+move_commands_by side k None = []
+move_commands_by side k (Some play) = play_command side k play
 
-abbrev pub move_lines : ℕ → List Move → List ℕ
-move_lines side ms = flat_map (λ m. move_lines_by side m.player (move_value side m.raw)) ms
+abbrev pub move_commands : ℕ → List Move → List ℕ
+move_commands side ms = flat_map (λ m. move_commands_by side m.player (move_value m.raw side)) ms
 
 -- what a node adds, where its step leads to this state
 abbrev pub node_script : State → Node → List ℕ
 node_script after n =
     let g : Grid = after.colouring in
-    comment_lines n ++ setup_lines g (stones n) ++ move_lines g.side (moves n)
+    comment_rows n ++ setup_commands g (stones n) ++ move_commands g.side (moves n)
 
 abbrev pub taken_script : TakenNode → List ℕ
 taken_script p = node_script p.after p.node
@@ -107,7 +107,7 @@ has_no_commands side w = nat_lt MAX_VERTEX_SIDE side || list_any leaves_unreachi
 abbrev pub board_commands : ℕ → List ℕ
 board_commands side = codes "boardsize " ++ decimal side ++ codes "\nclear_board\n"
 
--- the commands of a walk: those of all nodes before the faulty one
+-- the commands of a walk: those of all nodes before the illegal one
 abbrev pub commands_of : ℕ → Walk → List ℕ
 commands_of side w =
     if has_no_commands side w then [] else board_commands side ++ flat_map taken_script w.taken
@@ -118,7 +118,7 @@ commands_by other_game nodes = []
 commands_by no_board nodes = []
 commands_by (board side) nodes = commands_of side (walk side nodes)
 
--- the line's row as a comment, its commands, and an empty line
+-- the line's row as a comment, its commands, and an empty row
 abbrev pub script : Line → List ℕ
 script line =
-    comment_line (list_row line) ++ commands_by (game_kind (root_properties line.nodes)) line.nodes ++ codes "\n"
+    comment_row (list_row line) ++ commands_by (game_kind (root_properties line.nodes)) line.nodes ++ codes "\n"

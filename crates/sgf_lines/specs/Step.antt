@@ -10,7 +10,7 @@ use Rattle.go_board.specs.declared.reason.Reason.TheVariants.{Mixed, TwoMoves, B
 use Rattle.go_board.specs.State.{State, set_up, turned}
 use Rattle.go_board.specs.Reason.{reason_of}
 use Rattle.sgf_lines.specs.NodeContents.{Move, Stones, moves, stones, players}
-use Rattle.sgf_lines.specs.Values.{move_value, operations, last_player}
+use Rattle.sgf_lines.specs.NodeValues.{move_value, operations, last_player}
 
 -- the side of the board
 abbrev pub side_in : State → ℕ
@@ -38,8 +38,8 @@ step_by s [] [] [] = Ok s
 step_by s (m ∷ ms) (t ∷ ts) ps = Err Mixed
 step_by s (m ∷ ms) [] (p ∷ ps) = Err Mixed
 step_by s (m ∷ l ∷ ms) [] [] = Err TwoMoves
-step_by s (m ∷ []) [] [] = move_step s m.player (move_value (side_in s) m.raw)
-step_by s [] (t ∷ ts) ps = setup_step s (operations (side_in s) (t ∷ ts)) (last_player None ps)
+step_by s (m ∷ []) [] [] = move_step s m.player (move_value m.raw (side_in s))
+step_by s [] (t ∷ ts) ps = setup_step s (operations (t ∷ ts) (side_in s)) (last_player None ps)
 step_by s [] [] (p ∷ ps) = setup_step s (Some []) (last_player None (p ∷ ps))
 
 abbrev pub step : State → Node → Result State Reason

@@ -16,14 +16,14 @@ use Rattle.sgf_lines.specs.Walk.{IllegalNode, Walk, walk, judged_by}
 abbrev pub score_in : State → Verdict
 score_in s = Score (score_of s.colouring Black) (score_of s.colouring White) (is_over s)
 
--- a fault is named with the number of the turn that would have come, its node's place and its reason
+-- an illegal node is named with the number of the turn that would have come, its node's place and its reason
 abbrev pub verdict_with : State → Option IllegalNode → Verdict
 verdict_with s None = score_in s
-verdict_with s (Some fault) = Illegal (s.turns + 1) fault.node.place fault.reason
+verdict_with s (Some met) = Illegal (s.turns + 1) met.node.place met.reason
 
 -- the verdict of a walk
 abbrev pub verdict_at : Walk → Verdict
-verdict_at w = verdict_with w.state w.fault
+verdict_at w = verdict_with w.state w.illegal
 
 abbrev pub verdict_by : GameKind → List Node → Verdict
 verdict_by other_game nodes = NotGo

@@ -15,36 +15,36 @@ pub record IllegalNode : Type 0 where
   pub node : Node
   pub reason : Reason
 
--- the nodes whose steps were taken; the state after them; and the fault, if one was met
+-- the nodes whose steps were taken; the state after them; and the illegal node, if one was met
 pub record Walk : Type 0 where
   pub taken : List TakenNode
   pub state : State
-  pub fault : Option IllegalNode
+  pub illegal : Option IllegalNode
 
 -- before the first node, on a board of that side
 abbrev pub before_root : ℕ → Walk
-before_root side = record { taken = []; state = starting side; fault = None }
+before_root side = record { taken = []; state = starting side; illegal = None }
 
--- a step that was taken goes on, and one that was refused is the fault
+-- a step that was taken goes on, and where it was refused, the node is the illegal one
 abbrev pub stepped : Walk → Node → Result State Reason → Walk
-stepped w n (Ok s) = record { taken = w.taken ++ record { node = n; after = s } ∷ []; state = s; fault = None }
-stepped w n (Err reason) = record w { fault = Some (record { node = n; reason = reason }) }
+stepped w n (Ok s) = record { taken = w.taken ++ record { node = n; after = s } ∷ []; state = s; illegal = None }
+stepped w n (Err reason) = record w { illegal = Some (record { node = n; reason = reason }) }
 
--- one node later; nothing comes after a fault
+-- one node later; nothing comes after an illegal node
 abbrev pub next_by : Walk → Option IllegalNode → Node → Walk
-next_by w (Some fault) n = w
+next_by w (Some met) n = w
 next_by w None n = stepped w n (step w.state n)
 
 abbrev pub next : Walk → Node → Walk
-next w n = next_by w w.fault n
+next w n = next_by w w.illegal n
 
 -- along nodes, from the state in which a game on a board of that side begins
 abbrev pub walk : ℕ → List Node → Walk
 walk side nodes = fold next (before_root side) nodes
 
--- the nodes that were judged: those whose steps were taken, and the faulty one
+-- the nodes that were judged: those whose steps were taken, and the illegal one
 abbrev pub judged_by : Walk → List Node
-judged_by w = map (λ (p : TakenNode). p.node) w.taken ++ map (λ (f : IllegalNode). f.node) (option_to_list w.fault)
+judged_by w = map (λ (p : TakenNode). p.node) w.taken ++ map (λ (f : IllegalNode). f.node) (option_to_list w.illegal)
 
 -- the state after nodes whose steps are taken one after another, from a state on
 pub data IsAfter : State → List Node → State → Type 0 where
@@ -52,12 +52,12 @@ pub data IsAfter : State → List Node → State → Type 0 where
   one_node : {s t u : State} {n : Node} {ns : List Node} → step s n ≡ Ok t → IsAfter t ns u → IsAfter s (n ∷ ns) u
 
 -- nodes among which one is the first that isn't allowed, in the state after those before it
-pub record HasFault (from : State) (nodes : List Node) : Type 0 where
+pub record HasIllegal (from : State) (nodes : List Node) : Type 0 where
   pub before : List Node
-  pub faulty : Node
+  pub illegal : Node
   pub after : List Node
-  pub are : nodes ≡ before ++ faulty ∷ after
+  pub are : nodes ≡ before ++ illegal ∷ after
   pub state : State
   pub leads : IsAfter from before state
   pub reason : Reason
-  pub refused : step state faulty ≡ Err reason
+  pub refused : step state illegal ≡ Err reason

@@ -3,11 +3,11 @@ pub mod Standing
 pub mod Seeking
 pub mod Following
 pub mod Contents
-pub mod Plain
+pub mod WithoutSetup
 pub mod Stepping
 pub mod Shown
 pub mod Running
-pub mod CountedLines
+pub mod LinePlays
 pub mod Played
 pub mod Followed
 pub mod Kept

@@ -77,13 +77,13 @@ impl Commands {
         }
     }
 
-    /// Goes back to the first `kept` nodes, of which there is at least one.
-    pub(crate) fn cut_back(&mut self, kept: usize)
-        ensures { (side : ℕ) (nodes : List Node) → AreCommands side nodes self.old → 0 < kept → kept ≤ length nodes
-            → AreCommands side (take kept nodes) self.new }
+    /// Goes back to the first `count` nodes, of which there is at least one.
+    pub(crate) fn cut_back(&mut self, count: usize)
+        ensures { (side : ℕ) (nodes : List Node) → AreCommands side nodes self.old → 0 < count → count ≤ length nodes
+            → AreCommands side (take count nodes) self.new }
     {
-        self.kept.cut_back(kept);
-        self.unreaching = first_before(self.unreaching, kept);
+        self.kept.cut_back(count);
+        self.unreaching = first_before(self.unreaching, count);
     }
 
     /// The commands of the line; none where they can't put it on a board.
@@ -97,23 +97,23 @@ impl Commands {
     }
 }
 
-/// The first index: the one that was found, else this one where it counts.
-fn first_unreaching(found: Option<usize>, index: usize, counts: bool) -> Option<usize>
-    ensures { result ≡ first_unreaching found index counts }
+/// The first index: the one that was found, else this one where its node is such.
+fn first_unreaching(found: Option<usize>, index: usize, unreaching: bool) -> Option<usize>
+    ensures { result ≡ first_unreaching found index unreaching }
 {
-    match (found, counts) {
+    match (found, unreaching) {
         (Some(first), _) => Some(first),
         (None, true) => Some(index),
         (None, false) => None,
     }
 }
 
-/// The index that was found, where it is below `kept`.
-fn first_before(found: Option<usize>, kept: usize) -> Option<usize>
-    ensures { result ≡ unreaching_before found kept }
+/// The index that was found, where it is below `count`.
+fn first_before(found: Option<usize>, count: usize) -> Option<usize>
+    ensures { result ≡ unreaching_before found count }
 {
     match found {
-        Some(first) if first < kept => Some(first),
+        Some(first) if first < count => Some(first),
         Some(_) | None => None,
     }
 }

@@ -4,8 +4,8 @@ ghost use Rattle.std.specs.Prelude.{◌≡◌, ◌∷◌, ◌++◌, [], ℕ, Lis
 ghost use Rattle.sgf_tree.specs.Tree.{Property, values};
 ghost use Rattle.sgf_lines.specs.inner.Contents.{Lists, combined, kind_named as kind_named_rule, kind_of as kind_of_rule, lists_of_kind, IsContents, IsGathered};
 
-use crate::plain::{first_comment, with_moves};
-use crate::values::player_value;
+use crate::node_values::player_value;
+use crate::without_setup::{first_comment, with_moves};
 use go_board::{Cell, Colour, SetupOp, Size, rect};
 use sgf_tree::{MemoryFault, NodeRef, PropRef};
 use std::alloc::Global;
@@ -62,7 +62,7 @@ impl<'a> Contents<'a> {
             player: None,
             faulty: false,
         };
-        let mut left = node.walk();
+        let mut left = node.iter();
         while let Some(property) = left.next() {
             contents.take_property(&property, size)?;
         }
@@ -97,7 +97,7 @@ impl<'a> Contents<'a> {
         ensures comment { self.new.comment ≡ self.old.comment }
     {
         make_room(&mut self.operations)?;
-        let mut values = property.walk();
+        let mut values = property.iter();
         while let Some(raw) = values.next() {
             self.take_area(cell, raw, size)?;
         }
@@ -125,7 +125,7 @@ impl<'a> Contents<'a> {
             → IsContents side self.new (combined held (lists_of_kind Kind.Player (values property.now))) }
         ensures comment { self.new.comment ≡ self.old.comment }
     {
-        let mut values = property.walk();
+        let mut values = property.iter();
         while let Some(raw) = values.next() {
             self.take_player(raw);
         }

@@ -14,7 +14,7 @@ use std::alloc::Global;
 use std::marker::Model;
 
 /// Goes over the lines of a collection in file order: those of an earlier game, and of an earlier child tree, come first.
-/// It is seen as the collection and the number of lines that stand before it.
+/// It is seen as the collection and the index of its next line, from 0.
 #[derive(Drop)]
 pub struct Cursor<'c, 'a> {
     collection: &'c Collection<'a>,
@@ -34,7 +34,7 @@ impl<'c, 'a> Model for Cursor<'c, 'a> {
 
     ghost coded = { position_code };
 
-    ghost view = { λ s. record { games = s.collection.now; given = lines_before s.collection.now s.next } };
+    ghost view = { λ s. record { games = s.collection.now; index = lines_before s.collection.now s.next } };
 
     ghost invariant = { λ s. IsAfterLeaf s.collection.now s.next s.path.items };
 }
@@ -47,7 +47,7 @@ impl<'c, 'a> Cursor<'c, 'a> {
     /// A cursor before the first line.
     /// It takes no memory.
     pub fn new(alloc: Global, collection: &'c Collection<'a>) -> Cursor<'c, 'a>
-        ensures { result ≡ record { games = collection.now; given = 0 } }
+        ensures { result ≡ record { games = collection.now; index = 0 } }
     {
         Cursor {
             collection,
@@ -90,7 +90,7 @@ impl<'c, 'a> Cursor<'c, 'a> {
     /// After a refusal of memory the cursor is unchanged.
     pub(crate) fn advance(&mut self) -> Result<Option<usize>, MemoryFault>
         ensures moved { IfOk result (λ shared. MatchOption shared (self.new ≡ self.old) (λ _. self.new ≡ advanced self.old)) }
-        ensures none_left { IfOk result (λ shared. IfNone shared (slice_get (lines self.old.games) self.old.given ≡ None)) }
+        ensures none_left { IfOk result (λ shared. IfNone shared (slice_get (lines self.old.games) self.old.index ≡ None)) }
         ensures shared { IfOk result (λ shared. IfSome shared (λ n. Continues (path_before self.old) n (path_before self.new))) }
         ensures unchanged { OnErr result (self.new ≡ self.old) }
     {
@@ -105,8 +105,8 @@ impl<'c, 'a> Cursor<'c, 'a> {
 
     /// The line before the cursor.
     pub(crate) fn line(&self) -> LineRef<'_>
-        requires { 0 < self.now.given }
-        ensures { IsLine self.now.games (self.now.given - 1) result }
+        requires { 0 < self.now.index }
+        ensures { IsLine self.now.games (self.now.index - 1) result }
     {
         LineRef {
             path: &self.path,

@@ -7,7 +7,7 @@ ghost use Rattle.sgf_lines.specs.JudgedGames.{GameKind as GameKindSaid, board, g
 ghost use Rattle.sgf_lines.specs.Verdict.{verdict_of};
 ghost use Rattle.sgf_lines.specs.declared.followed.Followed.TheVariants.{OtherGame, NoBoard};
 ghost use Rattle.sgf_lines.specs.inner.Played.{IsPlayedAs, RaisesPlays};
-ghost use Rattle.sgf_lines.specs.inner.Followed.{IsHeld, IsFollowed, followed_commands, CountsOn, CountsFresh};
+ghost use Rattle.sgf_lines.specs.inner.Followed.{IsHeld, IsFollowed, followed_commands, PlaysOn, PlaysFresh};
 
 use crate::game::Game;
 use crate::game_kind::{GameKind, game_kind_of};
@@ -50,9 +50,9 @@ impl Followed {
         ensures followed { (old nodes : List Node) → (0 < shared → IsFollowed scripted old self.old) → shared ≤ length old
             → map Some nodes ≡ map (node_at collection.now) path.now → take shared old ≡ take shared nodes
             → OnOk result (IsFollowed scripted nodes self.new) }
-        ensures counted { (old nodes : List Node) → (0 < shared → IsFollowed scripted old self.old) → shared ≤ length old
+        ensures plays { (old nodes : List Node) → (0 < shared → IsFollowed scripted old self.old) → shared ≤ length old
             → map Some nodes ≡ map (node_at collection.now) path.now → take shared old ≡ take shared nodes
-            → CountsFresh plays.old plays.new nodes shared result }
+            → PlaysFresh plays.old plays.new nodes shared result }
     {
         self.keep(alloc, collection, path[0], shared, scripted)?;
         self.go_on(alloc, collection, path, shared, plays)
@@ -160,9 +160,9 @@ impl Followed {
         requires countable { plays.old + (length path.now - shared) ≤ u64.MAX }
         ensures held { (scripted : Bool) (said : GameKindSaid) (nodes : List Node) → map Some nodes ≡ map (node_at collection.now) path.now
             → IsHeld scripted said (take shared nodes) self.old → OnOk result (IsHeld scripted said nodes self.new) }
-        ensures counted { (scripted : Bool) (said : GameKindSaid) (nodes : List Node) → map Some nodes ≡ map (node_at collection.now) path.now
+        ensures plays { (scripted : Bool) (said : GameKindSaid) (nodes : List Node) → map Some nodes ≡ map (node_at collection.now) path.now
             → IsHeld scripted said (take shared nodes) self.old
-            → CountsOn plays.old plays.new said (take shared nodes) nodes result }
+            → PlaysOn plays.old plays.new said (take shared nodes) nodes result }
     {
         match self {
             Followed::Judged(game) => play_from(alloc, collection, game, path, shared, plays),
@@ -207,7 +207,7 @@ fn play_from(
     requires countable { plays.old + (length path.now - from) ≤ u64.MAX }
     ensures played { (scripted : Bool) (side : ℕ) (nodes : List Node) → map Some nodes ≡ map (node_at collection.now) path.now
         → IsPlayedAs scripted side (take from nodes) game.old → OnOk result (IsPlayedAs scripted side nodes game.new) }
-    ensures counted { (scripted : Bool) (side : ℕ) (nodes : List Node) → map Some nodes ≡ map (node_at collection.now) path.now
+    ensures plays { (scripted : Bool) (side : ℕ) (nodes : List Node) → map Some nodes ≡ map (node_at collection.now) path.now
         → IsPlayedAs scripted side (take from nodes) game.old → RaisesPlays plays.old plays.new side (take from nodes) nodes result }
 {
     for i in from..path.len() {

@@ -20,7 +20,7 @@ use std::alloc::Global;
 
 /// The first node that isn't allowed, and why it isn't.
 #[derive(Clone, Copy)]
-pub(crate) struct MetFault {
+pub(crate) struct MetIllegal {
     // how many nodes stand before it
     index: usize,
 
@@ -34,10 +34,10 @@ pub(crate) struct MetFault {
 pub(crate) struct Game {
     referee: Referee<PrintPast>,
 
-    fault: Option<MetFault>,
+    illegal: Option<MetIllegal>,
 
     // for each node how many setups and turns the referee had accepted before it
-    marks: Vec<usize>,
+    depths: Vec<usize>,
 
     // those of the nodes, where they are asked for
     commands: Option<Commands>,
@@ -53,8 +53,8 @@ impl Game {
         };
         Ok(Game {
             referee,
-            fault: None,
-            marks: Vec::new(alloc),
+            illegal: None,
+            depths: Vec::new(alloc),
             commands: commands_before(alloc, size, scripted)?,
         })
     }
@@ -72,8 +72,8 @@ impl Game {
         let Ok(()) = self.referee.reset(size) else {
             return Err(MemoryFault);
         };
-        self.fault = None;
-        self.marks.clear();
+        self.illegal = None;
+        self.depths.clear();
         reset_commands(&mut self.commands, alloc, size, scripted)
     }
 
@@ -92,7 +92,7 @@ impl Game {
         ensures played { (scripted : Bool) (side : ℕ) (nodes : List Node) (node : Node)
             → IsPlayedAs scripted side nodes self.old → node_at collection.now number ≡ Some node
             → OnOk result (IsPlayedAs scripted side (nodes ++ node ∷ []) self.new) }
-        ensures counted { (side : ℕ) (nodes : List Node) (node : Node) → IsPlayed side nodes self.old
+        ensures plays { (side : ℕ) (nodes : List Node) (node : Node) → IsPlayed side nodes self.old
             → RaisesPlays plays.old plays.new side nodes (nodes ++ node ∷ []) result }
         ensures one_at_most { plays.new ≤ plays.old + 1 }
     {
@@ -121,14 +121,14 @@ impl Game {
             → IfOk result (HasChanged side nodes node self.new.referee.present.colouring) }
         ensures told { IfOk result (λ step. IfSome step (λ taken. (node : Node) × (node_at collection.now number ≡ Some node)
             × IsStepOf node taken)) }
-        ensures counted { (side : ℕ) (nodes : List Node) (node : Node) → IsPlayed side nodes self.old
+        ensures plays { (side : ℕ) (nodes : List Node) (node : Node) → IsPlayed side nodes self.old
             → RaisesPlays plays.old plays.new side nodes (nodes ++ node ∷ []) result }
         ensures one_at_most { plays.new ≤ plays.old + 1 }
         ensures commands { self.new.commands ≡ self.old.commands }
     {
-        let index = self.marks.len();
-        self.marks.push(self.referee.depth())?;
-        let None = self.fault else {
+        let index = self.depths.len();
+        self.depths.push(self.referee.depth())?;
+        let None = self.illegal else {
             return Ok(None);
         };
         plays.add_one();
@@ -141,7 +141,7 @@ impl Game {
             Ok(step) => Ok(Some(step)),
             Err(StepFault::Memory) => Err(MemoryFault),
             Err(StepFault::Illegal(reason)) => {
-                self.fault = Some(MetFault {
+                self.illegal = Some(MetIllegal {
                     index,
                     place: collection.place(number),
                     reason,
@@ -151,29 +151,29 @@ impl Game {
         }
     }
 
-    /// Goes back to the first `kept` nodes, of which there is at least one.
-    pub(crate) fn cut_back(&mut self, kept: usize)
+    /// Goes back to the first `count` nodes, of which there is at least one.
+    pub(crate) fn cut_back(&mut self, count: usize)
         ensures { (scripted : Bool) (side : ℕ) (nodes : List Node) → IsPlayedAs scripted side nodes self.old
-            → 0 < kept → kept ≤ length nodes → IsPlayedAs scripted side (take kept nodes) self.new }
+            → 0 < count → count ≤ length nodes → IsPlayedAs scripted side (take count nodes) self.new }
     {
-        self.take_back(kept);
+        self.take_back(count);
         match &mut self.commands {
             None => {}
-            Some(commands) => commands.cut_back(kept),
+            Some(commands) => commands.cut_back(count),
         }
     }
 
-    /// Takes steps back to the first `kept` nodes.
-    fn take_back(&mut self, kept: usize)
+    /// Takes steps back to the first `count` nodes.
+    fn take_back(&mut self, count: usize)
         ensures taken { (side : ℕ) (nodes : List Node) → IsPlayed side nodes self.old
-            → kept ≤ length nodes → IsPlayed side (take kept nodes) self.new }
+            → count ≤ length nodes → IsPlayed side (take count nodes) self.new }
         ensures commands { self.new.commands ≡ self.old.commands }
     {
-        if kept < self.marks.len() {
-            let depth = self.marks[kept];
+        if count < self.depths.len() {
+            let depth = self.depths[count];
             undo_to(&mut self.referee, depth);
-            self.fault = fault_before(self.fault, kept);
-            self.marks.truncate(kept);
+            self.illegal = illegal_before(self.illegal, count);
+            self.depths.truncate(count);
         }
     }
 
@@ -192,11 +192,11 @@ impl Game {
         ensures { (side : ℕ) (nodes : List Node) → IsPlayed side nodes self.now
             → result ≡ verdict_at (walk side nodes) }
     {
-        match self.fault {
-            Some(fault) => Verdict::Illegal {
+        match self.illegal {
+            Some(illegal) => Verdict::Illegal {
                 turn: self.referee.turns() + 1,
-                place: fault.place,
-                reason: fault.reason,
+                place: illegal.place,
+                reason: illegal.reason,
             },
             None => score(&self.referee),
         }
@@ -236,12 +236,12 @@ fn reset_commands(
     }
 }
 
-/// The fault that was met, where its node is among the first `kept`.
-fn fault_before(fault: Option<MetFault>, kept: usize) -> Option<MetFault>
-    ensures { result ≡ met_before fault kept }
+/// The illegal node that was met, where it is among the first `count`.
+fn illegal_before(illegal: Option<MetIllegal>, count: usize) -> Option<MetIllegal>
+    ensures { result ≡ met_before illegal count }
 {
-    match fault {
-        Some(fault) if fault.index < kept => Some(fault),
+    match illegal {
+        Some(illegal) if illegal.index < count => Some(illegal),
         Some(_) | None => None,
     }
 }

@@ -14,65 +14,65 @@ pub(crate) struct KeptText {
     pub(crate) text: Vec<u8>,
 
     // for each node the length of the text before it
-    marks: Vec<usize>,
+    starts: Vec<usize>,
 }
 
 impl KeptText {
     /// The text of no nodes.
     pub(crate) fn new(alloc: Global) -> KeptText
         ensures text { result.text.items ≡ [] }
-        ensures marks { result.marks.items ≡ [] }
+        ensures starts { result.starts.items ≡ [] }
     {
         KeptText {
             text: Vec::new(alloc),
-            marks: Vec::new(alloc),
+            starts: Vec::new(alloc),
         }
     }
 
     /// Takes all nodes and their text out, and keeps the memory.
     pub(crate) fn clear(&mut self)
         ensures text { self.new.text.items ≡ [] }
-        ensures marks { self.new.marks.items ≡ [] }
+        ensures starts { self.new.starts.items ≡ [] }
     {
         self.text.clear();
-        self.marks.clear();
+        self.starts.clear();
     }
 
     /// How many nodes there are.
     pub(crate) fn nodes(&self) -> usize
-        ensures { result ≡ length self.now.marks.items }
+        ensures { result ≡ length self.now.starts.items }
     {
-        self.marks.len()
+        self.starts.len()
     }
 
     /// Begins a node: what is appended to the text from here on is its.
     pub(crate) fn begin_node(&mut self) -> Result<(), MemoryFault>
         ensures text { OnOk result (self.new.text.items ≡ self.old.text.items) }
-        ensures marks { OnOk result (self.new.marks.items ≡ self.old.marks.items ++ length self.old.text.items ∷ []) }
+        ensures starts { OnOk result (self.new.starts.items ≡ self.old.starts.items ++ length self.old.text.items ∷ []) }
     {
-        self.marks.push(self.text.len())?;
+        self.starts.push(self.text.len())?;
         Ok(())
     }
 
-    /// Takes so many bytes off the end of the text. The marks stay.
+    /// Takes so many bytes off the end of the text. The starts stay.
     pub(crate) fn shorten(&mut self, bytes: usize)
         ensures text { self.new.text.items ≡ take (length self.old.text.items - bytes) self.old.text.items }
-        ensures marks { self.new.marks.items ≡ self.old.marks.items }
+        ensures starts { self.new.starts.items ≡ self.old.starts.items }
     {
         let length = self.text.len().saturating_sub(bytes);
         self.text.truncate(length);
     }
 
-    /// Cuts the text back to the first `kept` nodes.
-    pub(crate) fn cut_back(&mut self, kept: usize)
-        ensures { (text_of : List Node → List ℕ) (nodes : List Node) → (0 < kept → IsKeptText text_of nodes self.old)
-            → kept ≤ length nodes → (kept ≡ 0 → text_of [] ≡ []) → IsKeptText text_of (take kept nodes) self.new }
+    /// Cuts the text back to the first `count` nodes.
+    pub(crate) fn cut_back(&mut self, count: usize)
+        ensures { (text_of : List Node → List ℕ) (nodes : List Node) → (0 < count → IsKeptText text_of nodes self.old)
+            → count ≤ length nodes → (count ≡ 0 → text_of [] ≡ []) → IsKeptText text_of (take count nodes) self.new }
     {
-        if kept == 0 {
+        if count == 0 {
             self.clear();
-        } else if kept < self.marks.len() {
-            self.text.truncate(self.marks[kept]);
-            self.marks.truncate(kept);
+        } else if count < self.starts.len() {
+            self.text.truncate(self.starts[count]);
+            self.starts.truncate(count);
         }
     }
 }

@@ -22,7 +22,7 @@ ghost use Rattle.go_board.specs.State.{State, starting};
 ghost use Rattle.sgf_lines.specs.declared.verdict.Verdict.TheVariants.{Illegal};
 ghost use Rattle.sgf_lines.specs.Step.{step};
 ghost use Rattle.sgf_lines.specs.Verdict.{score_in, verdict_by};
-ghost use Rattle.sgf_lines.specs.Walk.{walk, IsAfter, HasFault};
+ghost use Rattle.sgf_lines.specs.Walk.{walk, IsAfter, HasIllegal};
 ghost use Rattle.sgf_lines.specs.Script.{has_no_commands, script};
 ghost use Rattle.sgf_lines.specs.Replay.{replayed};
 
@@ -84,7 +84,7 @@ pub fn pages()
 
 /// A script that has commands, read from its bytes and taken from the top on an empty board of the line's side: no stone is
 /// played on a point that isn't empty, and the last board is the colouring of the judged line after the nodes before its
-/// first faulty one, or after all of them.
+/// first illegal one, or after all of them.
 /// So an engine that plays stones by the same rules, and refuses none of these, shows the position that was judged.
 pub fn replay()
     ensures { (line : Line) (side : ℕ) → game_kind (root_properties line.nodes) ≡ board side
@@ -106,11 +106,11 @@ pub fn replay()
 pub fn judged()
     ensures scored { (side : ℕ) (nodes : List Node) (s : State) → IsAfter (starting side) nodes s
         → verdict_by (board side) nodes ≡ score_in s }
-    ensures faulty { (side : ℕ) (before after : List Node) (n : Node) (s : State) (reason : Reason)
+    ensures illegal { (side : ℕ) (before after : List Node) (n : Node) (s : State) (reason : Reason)
         → IsAfter (starting side) before s → step s n ≡ Err reason
         → verdict_by (board side) (before ++ n ∷ after) ≡ Illegal (s.turns + 1) n.place reason }
     ensures one_of_two { (side : ℕ) (nodes : List Node)
-        → ((s : State) × IsAfter (starting side) nodes s) ⊎ HasFault (starting side) nodes }
+        → ((s : State) × IsAfter (starting side) nodes s) ⊎ HasIllegal (starting side) nodes }
 {}
 
 #[cfg(test)]

@@ -13,7 +13,7 @@
 //! - `seek` looks for the line with a place.
 //! - `options` has what a run is asked for.
 //! - `verdict` has what a referee says of a line.
-//! - `judging` judges a line: `game_kind` reads its root, `plain`, `contents` and `values` a node, and `step` plays it.
+//! - `judging` judges a line: `game_kind` reads its root, `without_setup`, `contents` and `node_values` a node, and `step` plays it.
 //! - `record` writes the text of a line's nodes, `list_row` its `row`, and `script` the `commands` of a node, out of pieces of `text`;
 //!   what lines share of them is `kept`.
 //! - `laws` has laws of the definitions.
@@ -39,8 +39,8 @@ mod kept;
 pub mod laws;
 mod line;
 mod list_row;
+mod node_values;
 mod options;
-mod plain;
 mod plays;
 mod record;
 mod row;
@@ -53,8 +53,8 @@ mod step;
 #[cfg(test)]
 mod tests;
 mod text;
-mod values;
 mod verdict;
+mod without_setup;
 mod writer;
 mod writing;
 

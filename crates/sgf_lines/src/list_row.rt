@@ -2,7 +2,7 @@
 
 ghost use Rattle.std.specs.Prelude.{◌≡◌, ◌++◌, length, OnOk, codes};
 ghost use Rattle.sgf_lines.specs.ListRow.{row_text};
-ghost use Rattle.sgf_lines.specs.Script.{comment_line};
+ghost use Rattle.sgf_lines.specs.Script.{comment_row};
 
 use crate::line::LineRef;
 use crate::row::push_row;
@@ -23,13 +23,13 @@ pub(crate) fn push_list(
 }
 
 /// Appends the row of a line with that verdict as a comment, with a line feed.
-pub(crate) fn push_comment_row(
+pub(crate) fn push_list_comment(
     line: &LineRef<'_>,
     verdict: Verdict,
     output: &mut Vec<u8>,
 ) -> Result<(), MemoryFault>
     ensures { OnOk result (output.new.items ≡ output.old.items
-        ++ comment_line (row_text line.now.place line.now.game (length line.now.path.now) verdict)) }
+        ++ comment_row (row_text line.now.place line.now.game (length line.now.path.now) verdict)) }
 {
     push_bytes(b"# ", output)?;
     push_list(line, verdict, output)

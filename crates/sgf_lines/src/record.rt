@@ -79,7 +79,7 @@ fn push_property(property: &PropRef<'_>, output: &mut Vec<u8>) -> Result<(), Mem
     ensures { OnOk result (output.new.items ≡ output.old.items ++ property_text property.now) }
 {
     property.push_name(output)?;
-    let mut left = property.walk();
+    let mut left = property.iter();
     while let Some(value) = left.next() {
         push_value(value, output)?;
     }

@@ -4,9 +4,9 @@ ghost use Rattle.std.specs.Prelude.{◌≡◌, ◌<◌, ◌≤◌, ◌+◌, ℕ,
 ghost use Rattle.sgf_tree.specs.declared.fault.TheConstants.{MAX_LENGTH};
 ghost use Rattle.sgf_tree.specs.Spelling.{Spells};
 ghost use Rattle.sgf_lines.specs.Answer.{IsRun, read_failures, write_failures};
-ghost use Rattle.sgf_lines.specs.CountedRun.{IsCountedRun};
+ghost use Rattle.sgf_lines.specs.RunPlays.{IsRunWithPlays};
 ghost use Rattle.sgf_lines.specs.inner.Running.{IsReading, IsSplit, IsSplitOf, IsStart};
-ghost use Rattle.sgf_lines.specs.inner.CountedLines.{CountsSplit, CountsSplitOf};
+ghost use Rattle.sgf_lines.specs.inner.LinePlays.{PlaysSplit, PlaysSplitOf};
 
 use crate::cursor::Cursor;
 use crate::fault::RunFault;
@@ -70,7 +70,7 @@ pub fn split_counted<S: Source, T: Sink>(
     requires source_countable { (S.state source.old).failures < u64.MAX }
     requires sink_countable { (T.state sink.old).failures < u64.MAX }
     requires plays_countable { plays.old + MAX_LENGTH ≤ u64.MAX }
-    ensures answer { IsCountedRun options.now (S.state source.old) (S.state source.new)
+    ensures answer { IsRunWithPlays options.now (S.state source.old) (S.state source.new)
         (T.state sink.old) (T.state sink.new) plays.old plays.new result }
     ensures read_failures { (S.state source.new).failures
         ≡ (S.state source.old).failures + read_failures result }
@@ -121,7 +121,7 @@ fn split_text<T: Sink>(
     requires countable { (T.state sink.old).failures < u64.MAX }
     requires plays_countable { plays.old + MAX_LENGTH ≤ u64.MAX }
     ensures answer { IsSplit options.now text.now (T.state sink.old) (T.state sink.new) result }
-    ensures plays { CountsSplit options.now text.now plays.old plays.new result }
+    ensures plays { PlaysSplit options.now text.now plays.old plays.new result }
     ensures read_failures { read_failures result ≡ 0 }
     ensures write_failures { (T.state sink.new).failures
         ≡ (T.state sink.old).failures + write_failures result }
@@ -148,7 +148,7 @@ fn split_collection<T: Sink>(
     requires countable { (T.state sink.old).failures < u64.MAX }
     requires plays_countable { plays.old + MAX_LENGTH ≤ u64.MAX }
     ensures answer { IsSplitOf options.now collection.now (T.state sink.old) (T.state sink.new) result }
-    ensures plays { CountsSplitOf options.now collection.now plays.old plays.new result }
+    ensures plays { PlaysSplitOf options.now collection.now plays.old plays.new result }
     ensures read_failures { read_failures result ≡ 0 }
     ensures write_failures { (T.state sink.new).failures
         ≡ (T.state sink.old).failures + write_failures result }

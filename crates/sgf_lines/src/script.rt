@@ -5,14 +5,14 @@ ghost use Rattle.sgf_tree.specs.Tree.{Node};
 ghost use Rattle.go_board.specs.Point.{IsOn, point_at as point_at_rule};
 ghost use Rattle.go_board.specs.Grid.{Grid, cell_at};
 ghost use Rattle.go_board.specs.State.{State, IsPlayOn};
-ghost use Rattle.sgf_lines.specs.Script.{text_lines, comment_line, comment_text, colour_letter, move_lines_by, play_line, stone_lines, board_lines, node_script, board_commands};
-ghost use Rattle.sgf_lines.specs.Values.{move_value as move_value_rule};
+ghost use Rattle.sgf_lines.specs.Script.{text_rows, comment_row, comment_text, colour_letter, move_commands_by, play_command, stone_commands, colouring_commands, node_script, board_commands};
+ghost use Rattle.sgf_lines.specs.NodeValues.{move_value as move_value_rule};
 ghost use Rattle.sgf_lines.specs.inner.Stepping.{IsStepOf};
-ghost use Rattle.sgf_lines.specs.inner.Cutting.{lines_at, pass_line, stone_line};
+ghost use Rattle.sgf_lines.specs.inner.Cutting.{commands_at, pass_command, stone_command};
 
+use crate::node_values::move_value;
 use crate::step::{Effect, TakenStep};
 use crate::text::{push_bytes, push_number};
-use crate::values::move_value;
 use go_board::{Board, Cell, Colour, MAX_VERTEX_SIDE, Play, Point, Size, Vertex, vertex};
 use sgf_tree::{MemoryFault, push_text};
 use std::alloc::Global;
@@ -46,38 +46,38 @@ pub(crate) fn push_node_script(
     }
 }
 
-/// Appends a comment, a line for each of its own; none where there is none.
+/// Appends a comment, a row for each of its lines; none where there is none.
 fn push_comment(
     alloc: Global,
     comment: Option<&[u8]>,
     output: &mut Vec<u8>,
 ) -> Result<(), MemoryFault>
-    ensures { OnOk result (output.new.items ≡ output.old.items ++ text_lines (comment_text (option_copied comment.entry))) }
+    ensures { OnOk result (output.new.items ≡ output.old.items ++ text_rows (comment_text (option_copied comment.entry))) }
 {
     let Some(raw) = comment else {
         return Ok(());
     };
     let mut text = Vec::new(alloc);
     push_text(raw, &mut text)?;
-    push_text_lines(&text, output)
+    push_text_rows(&text, output)
 }
 
-/// Appends a comment line for each piece of a text that is cut at its line feeds; none for an empty text.
-fn push_text_lines(text: &[u8], output: &mut Vec<u8>) -> Result<(), MemoryFault>
-    ensures { OnOk result (output.new.items ≡ output.old.items ++ text_lines text.now) }
+/// Appends a comment row for each piece of a text that is cut at its line feeds; none for an empty text.
+fn push_text_rows(text: &[u8], output: &mut Vec<u8>) -> Result<(), MemoryFault>
+    ensures { OnOk result (output.new.items ≡ output.old.items ++ text_rows text.now) }
 {
     if text.is_empty() {
         return Ok(());
     }
     for piece in text.split(|byte| *byte == b'\n') {
-        push_comment_line(piece, output)?;
+        push_comment_row(piece, output)?;
     }
     Ok(())
 }
 
-/// Appends a comment line.
-fn push_comment_line(piece: &[u8], output: &mut Vec<u8>) -> Result<(), MemoryFault>
-    ensures { OnOk result (output.new.items ≡ output.old.items ++ comment_line piece.now) }
+/// Appends a row that is a comment.
+fn push_comment_row(piece: &[u8], output: &mut Vec<u8>) -> Result<(), MemoryFault>
+    ensures { OnOk result (output.new.items ≡ output.old.items ++ comment_row piece.now) }
 {
     push_bytes(b"# ", output)?;
     push_bytes(piece, output)?;
@@ -87,7 +87,7 @@ fn push_comment_line(piece: &[u8], output: &mut Vec<u8>) -> Result<(), MemoryFau
 /// Appends a whole board: that it is cleared, then all black stones, then all white ones.
 fn push_board(board: &Board, output: &mut Vec<u8>) -> Result<(), MemoryFault>
     requires { board.now.side ≤ MAX_VERTEX_SIDE }
-    ensures { OnOk result (output.new.items ≡ output.old.items ++ board_lines board.now) }
+    ensures { OnOk result (output.new.items ≡ output.old.items ++ colouring_commands board.now) }
 {
     push_bytes(b"clear_board\n", output)?;
     push_stones(board, Colour::Black, output)?;
@@ -97,7 +97,7 @@ fn push_board(board: &Board, output: &mut Vec<u8>) -> Result<(), MemoryFault>
 /// Appends the stones of a colour, row by row from the top, from left to right.
 fn push_stones(board: &Board, colour: Colour, output: &mut Vec<u8>) -> Result<(), MemoryFault>
     requires { board.now.side ≤ MAX_VERTEX_SIDE }
-    ensures { OnOk result (output.new.items ≡ output.old.items ++ stone_lines board.now colour) }
+    ensures { OnOk result (output.new.items ≡ output.old.items ++ stone_commands board.now colour) }
 {
     let size = board.size();
     let cells = board.cells();
@@ -118,7 +118,7 @@ fn push_cell(
     requires letters { size ≤ MAX_VERTEX_SIDE }
     requires on_board { index < size * size }
     ensures { (grid : Grid) → grid.side ≡ size → cell_at grid (point_at_rule size index) ≡ cell
-        → OnOk result (output.new.items ≡ output.old.items ++ lines_at grid colour (point_at_rule size index)) }
+        → OnOk result (output.new.items ≡ output.old.items ++ commands_at grid colour (point_at_rule size index)) }
 {
     if cell == colour.stone() {
         push_play(size, colour, Play::Stone(point_at(index, size)), output)
@@ -140,7 +140,7 @@ fn point_at(index: usize, size: Size) -> Point
     }
 }
 
-/// Appends the play line of a move; none where its value is no play.
+/// Appends the play command of a move; none where its value is no play.
 fn push_move(
     size: Size,
     colour: Colour,
@@ -148,7 +148,7 @@ fn push_move(
     output: &mut Vec<u8>,
 ) -> Result<(), MemoryFault>
     requires { size ≤ MAX_VERTEX_SIDE }
-    ensures { OnOk result (output.new.items ≡ output.old.items ++ move_lines_by size colour (move_value_rule size raw.now)) }
+    ensures { OnOk result (output.new.items ≡ output.old.items ++ move_commands_by size colour (move_value_rule raw.now size)) }
 {
     match move_value(raw, size) {
         Some(play) => push_play(size, colour, play, output),
@@ -156,7 +156,7 @@ fn push_move(
     }
 }
 
-/// Appends a play line. It is laid out first and appended at once, since most nodes add one.
+/// Appends a play command. It is laid out first and appended at once, since most nodes add one.
 fn push_play(
     size: Size,
     colour: Colour,
@@ -165,7 +165,7 @@ fn push_play(
 ) -> Result<(), MemoryFault>
     requires letters { size ≤ MAX_VERTEX_SIDE }
     requires on_board { IsPlayOn size play }
-    ensures { OnOk result (output.new.items ≡ output.old.items ++ play_line size colour play) }
+    ensures { OnOk result (output.new.items ≡ output.old.items ++ play_command size colour play) }
 {
     match play {
         Play::Pass => push_pass(colour, output),
@@ -173,9 +173,9 @@ fn push_play(
     }
 }
 
-/// Appends the play line of a pass.
+/// Appends the play command of a pass.
 fn push_pass(colour: Colour, output: &mut Vec<u8>) -> Result<(), MemoryFault>
-    ensures { OnOk result (output.new.items ≡ output.old.items ++ pass_line colour) }
+    ensures { OnOk result (output.new.items ≡ output.old.items ++ pass_command colour) }
 {
     let player = letter_of(colour);
     push_bytes(
@@ -186,10 +186,10 @@ fn push_pass(colour: Colour, output: &mut Vec<u8>) -> Result<(), MemoryFault>
     )
 }
 
-/// Appends the play line of a stone.
+/// Appends the play command of a stone.
 fn push_stone(colour: Colour, vertex: Vertex, output: &mut Vec<u8>) -> Result<(), MemoryFault>
     requires { vertex.row < 100 }
-    ensures { OnOk result (output.new.items ≡ output.old.items ++ stone_line colour vertex) }
+    ensures { OnOk result (output.new.items ≡ output.old.items ++ stone_command colour vertex) }
 {
     let player = letter_of(colour);
     let column = vertex.letter;

@@ -2,16 +2,16 @@
 
 ghost use Rattle.std.specs.Prelude.{◌≡◌, [], ℕ, false, length, All, IfOk};
 ghost use Rattle.go_board.specs.Point.{IsRectOn};
-ghost use Rattle.sgf_lines.specs.Values.{move_value as move_value_rule};
+ghost use Rattle.sgf_lines.specs.NodeValues.{move_value as move_value_rule};
 ghost use Rattle.sgf_lines.specs.Step.{step, step_by, move_step};
 ghost use Rattle.sgf_lines.specs.inner.Contents.{Lists, IsContents};
 ghost use Rattle.sgf_tree.specs.Tree.{Node};
-ghost use Rattle.sgf_lines.specs.inner.Plain.{IsPlain, HasMovesAlone};
+ghost use Rattle.sgf_lines.specs.inner.WithoutSetup.{IsWithoutSetup, HasMovesAlone};
 ghost use Rattle.sgf_lines.specs.inner.Stepping.{IsStepped, IsStepOf, IsEffect, IsEffectBy, IsMoveOf, IsSetupMet, step_fault};
 
 use crate::contents::{Contents, Moves};
-use crate::plain::Plain;
-use crate::values::move_value;
+use crate::node_values::move_value;
+use crate::without_setup::WithoutSetup;
 use go_board::{Colour, Past, Reason, Referee, Size, TurnFault};
 use sgf_tree::{MemoryFault, NodeRef};
 use std::alloc::Global;
@@ -91,26 +91,26 @@ pub(crate) fn play_node<'a, P: Past>(
     if first {
         return play_setup(alloc, referee, node);
     }
-    match Plain::of(node) {
-        Some(plain) => play_plain(referee, plain),
+    match WithoutSetup::of(node) {
+        Some(held) => play_without_setup(referee, held),
         None => play_setup(alloc, referee, node),
     }
 }
 
 /// Takes the step of a node that holds this and sets nothing up.
-fn play_plain<'a, P: Past>(
+fn play_without_setup<'a, P: Past>(
     referee: &mut Referee<P>,
-    plain: Plain<'a>,
+    held: WithoutSetup<'a>,
 ) -> Result<TakenStep<'a>, StepFault>
-    ensures stepped { (node : Node) → IsPlain node.properties plain.entry
+    ensures stepped { (node : Node) → IsWithoutSetup node.properties held.entry
         → IsStepped (step referee.old.present node) referee.old referee.new result }
-    ensures told { (node : Node) → IsPlain node.properties plain.entry
+    ensures told { (node : Node) → IsWithoutSetup node.properties held.entry
         → IfOk result (IsStepOf node) }
 {
-    match play_moves(referee, plain.moves) {
+    match play_moves(referee, held.moves) {
         Ok(effect) => Ok(TakenStep {
             effect,
-            comment: plain.comment,
+            comment: held.comment,
         }),
         Err(fault) => Err(fault),
     }
@@ -244,7 +244,7 @@ fn take_move<'a, P: Past>(
     size: Size,
 ) -> Result<Effect<'a>, StepFault>
     requires { size ≡ referee.old.present.colouring.side }
-    ensures stepped { IsStepped (move_step referee.old.present colour (move_value_rule size raw.now))
+    ensures stepped { IsStepped (move_step referee.old.present colour (move_value_rule raw.now size))
         referee.old referee.new result }
     ensures effect { IfOk result (IsMoveOf colour raw.now) }
 {
@@ -263,7 +263,7 @@ fn take_turn<P: Past>(
     size: Size,
 ) -> Result<(), StepFault>
     requires { size ≡ referee.old.present.colouring.side }
-    ensures { IsStepped (move_step referee.old.present colour (move_value_rule size raw.now)) referee.old referee.new result }
+    ensures { IsStepped (move_step referee.old.present colour (move_value_rule raw.now size)) referee.old referee.new result }
 {
     let Some(play) = move_value(raw, size) else {
         return Err(StepFault::Illegal(Reason::BadPoint));

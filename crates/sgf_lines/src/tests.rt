@@ -82,7 +82,7 @@ fn rows(rt: HostRuntime) {
     }
 }
 
-/// A script has its row, the board, the comments, the stones of each setup and the moves, up to the first fault.
+/// A script has its row, the board, the comments, the stones of each setup and the moves, up to the first illegal node.
 #[test]
 fn scripts(rt: HostRuntime) {
     let options = Options {

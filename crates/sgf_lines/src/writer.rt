@@ -7,13 +7,13 @@ ghost use Rattle.sgf_lines.specs.Lines.{Line, lines};
 ghost use Rattle.sgf_lines.specs.Record.{record_of};
 ghost use Rattle.sgf_lines.specs.inner.Shown.{IsShownAs};
 ghost use Rattle.sgf_lines.specs.inner.Running.{HasRecord, PutsAll};
-ghost use Rattle.sgf_lines.specs.inner.Keeping.{record_in, Keeps, KeepsBefore, CountsIn, CountsLine, left};
+ghost use Rattle.sgf_lines.specs.inner.Keeping.{record_in, Keeps, KeepsBefore, PlaysIn, PlaysLine, left};
 
 use crate::cursor::Cursor;
 use crate::followed::Followed;
 use crate::kept::KeptText;
 use crate::line::LineRef;
-use crate::list_row::{push_comment_row, push_list};
+use crate::list_row::{push_list, push_list_comment};
 use crate::options::Form;
 use crate::plays::Plays;
 use crate::record::follow_nodes;
@@ -70,11 +70,11 @@ impl Writer {
         requires countable { plays.old + left self.old.wrote cursor.old ≤ u64.MAX }
         ensures made { IfOk result (λ found. MatchBool found
             (HasRecord self.old.form cursor.old cursor.new (record_in self.new))
-            (slice_get (lines cursor.old.games) cursor.old.given ≡ None)) }
+            (slice_get (lines cursor.old.games) cursor.old.index ≡ None)) }
         ensures keeps { OnOk result (KeepsBefore cursor.new self.new) }
         ensures form { self.new.form ≡ self.old.form }
         ensures wrote { IfOk result (λ found. MatchBool found (self.new.wrote ≡ true) (self.new.wrote ≡ self.old.wrote)) }
-        ensures counted { CountsLine self.old.form self.old.wrote cursor.old plays.old plays.new result }
+        ensures plays { PlaysLine self.old.form self.old.wrote cursor.old plays.old plays.new result }
         ensures countable { IfOk result (λ found. MatchBool found
             (plays.new + left true cursor.new ≤ plays.old + left self.old.wrote cursor.old) (plays.new ≡ plays.old)) }
     {
@@ -112,9 +112,9 @@ impl Writer {
         ensures keeps { (old : List Node) (l : Line) → IsShownAs collection.now l line.now
             → (0 < shared → Keeps old self.old) → shared ≤ length old
             → take shared old ≡ take shared l.nodes → OnOk result (Keeps l.nodes self.new) }
-        ensures counted { (old : List Node) (l : Line) → IsShownAs collection.now l line.now
+        ensures plays { (old : List Node) (l : Line) → IsShownAs collection.now l line.now
             → (0 < shared → Keeps old self.old) → shared ≤ length old
-            → take shared old ≡ take shared l.nodes → CountsIn self.old.form plays.old plays.new l.nodes shared result }
+            → take shared old ≡ take shared l.nodes → PlaysIn self.old.form plays.old plays.new l.nodes shared result }
         ensures form { self.new.form ≡ self.old.form }
         ensures wrote { self.new.wrote ≡ self.old.wrote }
     {
@@ -131,7 +131,7 @@ impl Writer {
                 self.followed
                     .follow(alloc, collection, line.path, shared, true, plays)?;
                 let verdict = self.followed.verdict();
-                push_comment_row(line, verdict, &mut self.head)
+                push_list_comment(line, verdict, &mut self.head)
             }
         }
     }

@@ -6,7 +6,7 @@ ghost use Rattle.sgf_lines.specs.Lines.{lines};
 ghost use Rattle.sgf_lines.specs.Page.{limited};
 ghost use Rattle.sgf_lines.specs.Answer.{write_failures};
 ghost use Rattle.sgf_lines.specs.inner.Running.{WritesLines, PutsAll};
-ghost use Rattle.sgf_lines.specs.inner.CountedLines.{CountsLines};
+ghost use Rattle.sgf_lines.specs.inner.LinePlays.{PlaysLines};
 
 use crate::cursor::Cursor;
 use crate::fault::RunFault;
@@ -31,10 +31,10 @@ pub(crate) fn deliver<T: Sink>(
     requires countable { (T.state sink.old).failures < u64.MAX }
     requires plays_countable { plays.old + node_count collection.now ≤ u64.MAX }
     ensures answer { WritesLines options.now.form
-        (limited options.now.limit (drop cursor.old.given (lines collection.now)))
+        (limited options.now.limit (drop cursor.old.index (lines collection.now)))
         (T.state sink.old) (T.state sink.new) result }
-    ensures plays { CountsLines options.now.form
-        (limited options.now.limit (drop cursor.old.given (lines collection.now)))
+    ensures plays { PlaysLines options.now.form
+        (limited options.now.limit (drop cursor.old.index (lines collection.now)))
         plays.old plays.new result }
     ensures failures { (T.state sink.new).failures
         ≡ (T.state sink.old).failures + write_failures result }
@@ -63,10 +63,10 @@ fn write_lines<T: Sink>(
     requires countable { (T.state sink.old).failures < u64.MAX }
     requires plays_countable { plays.old + node_count collection.now ≤ u64.MAX }
     ensures answer { WritesLines options.now.form
-        (limited options.now.limit (drop cursor.old.given (lines collection.now)))
+        (limited options.now.limit (drop cursor.old.index (lines collection.now)))
         (T.state sink.old) (T.state sink.new) result }
-    ensures plays { CountsLines options.now.form
-        (limited options.now.limit (drop cursor.old.given (lines collection.now)))
+    ensures plays { PlaysLines options.now.form
+        (limited options.now.limit (drop cursor.old.index (lines collection.now)))
         plays.old plays.new result }
     ensures failures { (T.state sink.new).failures
         ≡ (T.state sink.old).failures + write_failures result }

@@ -42,7 +42,7 @@ pub mod Literal
 pub mod Examples
 pub mod NodesSpelled
 pub mod NodeTexts
-pub mod Walks
+pub mod Iterating
 pub mod Taking
 pub mod WrittenParts
 pub mod LoneNodes

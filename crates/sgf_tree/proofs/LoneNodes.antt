@@ -7,10 +7,10 @@ use Rattle.sgf_tree.specs.RawValue.{no_unit, plain}
 use Rattle.sgf_tree.specs.Spelling.{is_white, is_upper, no_white, no_letter, IsPropValue, prop_value, no_value, AreProperties, property, no_property, properties}
 use Rattle.sgf_tree.specs.Written.{property_text}
 use Rattle.sgf_tree.specs.inner.NodeText.{is_letter, properties_in, EndsNode, ArePropertiesIn, IsPastValues}
-use Rattle.sgf_tree.specs.inner.Progress.{IsSpan, is_plain, IsNodeEnd, IsPlainFront, IsLoneNode, IsFrontOfMore}
+use Rattle.sgf_tree.specs.inner.Progress.{IsSpan, is_plain, IsNodeEnd, IsShortFront, IsLoneNode, IsFrontOfMore}
 use Rattle.sgf_tree.proofs.Classes.{fails, upper-range, upper-not_white, upper-not_bracket, white-not_bracket, white-not_upper}
 use Rattle.sgf_tree.proofs.NodeTexts.{white-same, properties-in}
-use Rattle.sgf_tree.proofs.Walks.{byte-at, run-drop, white-to, no-bracket, next-property}
+use Rattle.sgf_tree.proofs.Iterating.{byte-at, run-drop, white-to, no-bracket, next-property}
 use Rattle.sgf_tree.proofs.ValueEnds.{plain-other}
 
 -- a node ends where a byte before the letters follows white space
@@ -82,7 +82,7 @@ module _ (b x y : ℕ) (upper : IsTrue (is_upper b)) (h : IsTrue (is_plain x)) (
       }
 
 -- its bytes in a node
-module _ (s : List ℕ) (is : IsPlainFront s) where
+module _ (s : List ℕ) (is : IsShortFront s) where
   abbrev letter : ℕ
   letter = get_or s 1 0
 

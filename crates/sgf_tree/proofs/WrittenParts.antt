@@ -15,7 +15,7 @@ use Rattle.sgf_tree.proofs.NameEnds.{span-one}
 use Rattle.sgf_tree.proofs.NodesSpelled.{white-byte}
 use Rattle.sgf_tree.proofs.NodeTexts.{white-same, white-none, ends-values, property-is, properties-in}
 use Rattle.sgf_tree.proofs.ValueEnds.{span-join}
-use Rattle.sgf_tree.proofs.Walks.{white-to, white-all, byte-at, run-drop, values-more}
+use Rattle.sgf_tree.proofs.Iterating.{white-to, white-all, byte-at, run-drop, values-more}
 
 -- capitals are letters of a name
 capitals : (n : ℕ) (s : List ℕ) → n ≤ length s → ((i : ℕ) → i < n → IsTrue (is_upper (get_or s i 0))) → Letters (take n s) s (drop n s)

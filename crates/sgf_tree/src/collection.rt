@@ -18,7 +18,7 @@ pub struct Collection<'a> {
     text: &'a [u8],
     games: u32,
     nodes: Vec<NodeEntry>,
-    /// In file order, so that a node's walk finds its own by halves.
+    /// In file order, so that a step over a node finds the node's own by halves.
     long: Vec<LongValue>,
 }
 
@@ -209,7 +209,7 @@ mod tests {
         assert_eq!(rt; c.long.len(), 3);
         let mut seen = Vec::new(rt.alloc());
         for i in 0..c.nodes() {
-            let mut properties = c.node(i).walk();
+            let mut properties = c.node(i).iter();
             for _ in 0..3 {
                 let Some(property) = properties.next() else {
                     continue;

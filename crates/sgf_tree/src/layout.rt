@@ -21,7 +21,7 @@ pub(crate) struct NodeEntry {
     pub last_below: u32,
 }
 
-/// A long raw value, of which is kept how many bytes it has, so that a walk over its node doesn't search for its end again.
+/// A long raw value, of which is kept how many bytes it has, so that steps over its node don't search for its end again.
 #[derive(Clone, Copy)]
 pub(crate) struct LongValue {
     /// How many bytes are left of the text where it begins, which is the same for each part that goes up to the text's end.

@@ -8,7 +8,7 @@
 //! ```text
 //! let collection = read(alloc, text)?;
 //! for i in 0..collection.nodes() {
-//!     let mut properties = collection.node(i).walk();
+//!     let mut properties = collection.node(i).iter();
 //!     while let Some(property) = properties.next() {
 //!         if property.is(b"C") {
 //!             push_text(property.value(0), &mut comments)?;
@@ -20,7 +20,7 @@
 //! - `fault` has the ways in which a call may fail.
 //! - `layout` has the entries of the flat vectors that hold a collection.
 //! - `collection`, `node` and `property` look into a collection that was read.
-//! - `walk` steps forward over the properties of a node and the values of a property.
+//! - `iter` steps forward over the properties of a node and the values of a property.
 //! - `reader` reads a text, and keeps where its long values end.
 //! - `text` decodes the text of a value, and `numbers` has the value of a number.
 //! - `laws` has what holds of all texts.
@@ -28,6 +28,7 @@
 
 mod collection;
 mod fault;
+mod iter;
 pub mod laws;
 mod layout;
 mod node;
@@ -35,13 +36,12 @@ mod numbers;
 mod property;
 mod reader;
 mod text;
-mod walk;
 
 pub use collection::Collection;
 pub use fault::{MAX_LENGTH, MemoryFault, ReadFault};
+pub use iter::{Properties, Values};
 pub use node::NodeRef;
 pub use numbers::number;
 pub use property::PropRef;
 pub use reader::read;
 pub use text::push_text;
-pub use walk::{Properties, Values};

@@ -5,10 +5,10 @@ ghost use Rattle.std.specs.Str.{bytes_eq};
 ghost use Rattle.sgf_tree.specs.Tree.{lone_property};
 ghost use Rattle.sgf_tree.specs.Written.{node_text, IsWrittenNode};
 
+use crate::iter::{Properties, written_properties_end};
 use crate::layout::LongValue;
 use crate::property::PropRef;
 use crate::reader::scan::{is_front_of_more, is_lone_node, part, rest_from};
-use crate::walk::{Properties, written_properties_end};
 use std::marker::Model;
 
 /// A node, seen as its place and its properties.
@@ -42,7 +42,7 @@ impl<'a> Model for NodeRef<'a> {
 
 impl<'a> NodeRef<'a> {
     /// Its properties, to be taken off one after another.
-    pub fn walk(&self) -> Properties<'a>
+    pub fn iter(&self) -> Properties<'a>
         ensures { result ≡ self.now.properties }
     {
         let text = rest_from(self.text, 1);
@@ -76,7 +76,7 @@ impl<'a> NodeRef<'a> {
 
     /// The letter and the raw value of its one property, where the node is written as `;B[pd]` is: a name of one capital, one
     /// value of two bytes that stand for themselves, and nothing between the parts; white space may follow.
-    /// None of each other node, so whoever gets None takes `walk`. It looks at a few bytes and at such white space.
+    /// None of each other node, so whoever gets None takes `iter`. It looks at a few bytes and at such white space.
     pub fn lone(&self) -> Option<(u8, &'a [u8])>
         ensures { IfSome result (λ lone. self.now.properties ≡ lone_property lone.0 lone.1.now ∷ []) }
     {
@@ -90,7 +90,7 @@ impl<'a> NodeRef<'a> {
 
     /// The letter and the raw value of its first property, where the node begins as `;B[pd]C` does: a name of one capital, one
     /// value of two bytes that stand for themselves, and at once the name of another property; and the properties that are left.
-    /// None of each other node, so whoever gets None takes `walk`. It looks at a few bytes.
+    /// None of each other node, so whoever gets None takes `iter`. It looks at a few bytes.
     pub fn front(&self) -> Option<(u8, &'a [u8], Properties<'a>)>
         ensures { IfSome result (λ front. self.now.properties ≡ lone_property front.0 front.1.now ∷ front.2) }
     {
@@ -122,12 +122,12 @@ impl<'a> NodeRef<'a> {
     }
 
     /// Property `i`, counted from 0 in file order.
-    /// It goes over the properties before it, so whoever wants them all takes `walk`.
+    /// It goes over the properties before it, so whoever wants them all takes `iter`.
     pub fn prop(&self, i: usize) -> PropRef<'a>
         requires { i < length self.now.properties }
         ensures { slice_get self.now.properties i ≡ Some result }
     {
-        let mut left = self.walk();
+        let mut left = self.iter();
         for _before in 0..i {
             left.next().unwrap();
         }
@@ -139,7 +139,7 @@ impl<'a> NodeRef<'a> {
     pub fn first(&self, name: &[u8]) -> Option<PropRef<'a>>
         ensures { result ≡ find (λ p. bytes_eq p.name name.now) self.now.properties }
     {
-        let mut left = self.walk();
+        let mut left = self.iter();
         while let Some(property) = left.next() {
             if property.is(name) {
                 return Some(property);

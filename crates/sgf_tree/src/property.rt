@@ -5,7 +5,7 @@ ghost use Rattle.sgf_tree.specs.Tree.{values};
 ghost use Rattle.sgf_tree.specs.inner.NodeText.{name_in};
 
 use crate::fault::MemoryFault;
-use crate::walk::Values;
+use crate::iter::Values;
 use std::marker::Model;
 
 /// A property, seen as its name and its raw values.
@@ -81,7 +81,7 @@ impl<'a> PropRef<'a> {
     }
 
     /// Its raw values, to be taken off one after another.
-    pub fn walk(&self) -> Values<'a>
+    pub fn iter(&self) -> Values<'a>
         ensures { result ≡ values self.now }
     {
         Values {
@@ -109,12 +109,12 @@ impl<'a> PropRef<'a> {
 
     /// Raw value `i`, counted from 0 in file order: the bytes between the `[` and the `]`.
     /// It is a part of the text that was read.
-    /// It goes over the values before it, so whoever wants them all takes `walk`.
+    /// It goes over the values before it, so whoever wants them all takes `iter`.
     pub fn value(&self, i: usize) -> &'a [u8]
         requires { i < length (values self.now) }
         ensures { slice_get (values self.now) i ≡ Some result.now }
     {
-        let mut left = self.walk();
+        let mut left = self.iter();
         for _before in 0..i {
             left.next().unwrap();
         }

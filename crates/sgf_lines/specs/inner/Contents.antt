@@ -13,7 +13,7 @@ use Rattle.sgf_lines.specs.declared.contents.Kind.{Kind}
 use Rattle.sgf_lines.specs.declared.contents.Kind.TheVariants.{Move as move_kind, Stones as stones_kind, Player as player_kind, Comment as comment_kind}
 use Rattle.sgf_lines.specs.declared.contents.Contents.{Contents}
 use Rattle.sgf_lines.specs.NodeContents.{Move, Stones, moves_in, stones_in, players_in, first_value}
-use Rattle.sgf_lines.specs.Values.{operations, last_player}
+use Rattle.sgf_lines.specs.NodeValues.{operations, last_player}
 
 -- moves, stones and players
 pub record Lists : Type 0 where
@@ -62,12 +62,12 @@ AreMoves Nothing ms = ms ≡ []
 AreMoves (One k raw) ms = ms ≡ record { player = k; raw = raw.now } ∷ []
 AreMoves Several ms = (m l : Move) × (more : List Move) × (ms ≡ m ∷ l ∷ more)
 
--- moves, operations, a player and a mark for faults tell of the lists what a step asks for
+-- moves, operations, a player, and whether some value is faulty, tell of the lists what a step asks for
 pub record AreTold (side : ℕ) (moves : Moves) (ops : List SetupOp) (player : Option Colour) (faulty : Bool) (held : Lists) : Type 0 where
   pub moves_are : AreMoves moves held.moves
-  pub stones : faulty ≡ false → operations side held.stones ≡ Some ops
+  pub stones : faulty ≡ false → operations held.stones side ≡ Some ops
   pub players : faulty ≡ false → last_player None held.players ≡ Some player
-  pub faults : faulty ≡ true → (operations side held.stones ≡ None) ⊎ (last_player None held.players ≡ None)
+  pub faults : faulty ≡ true → (operations held.stones side ≡ None) ⊎ (last_player None held.players ≡ None)
   pub on_board : All (λ op. IsRectOn side op.area) ops
 
 abbrev pub IsContents : ℕ → Contents → Lists → Type 0

@@ -6,15 +6,15 @@ use Rattle.go_board.specs.declared.referee.plays.Play.TheVariants.{Stone}
 use Rattle.go_board.specs.Colour.{stone_of, same_cell}
 use Rattle.go_board.specs.Grid.{Grid, cell_at}
 use Rattle.go_board.specs.declared.vertices.Vertex.{Vertex}
-use Rattle.sgf_lines.specs.Script.{colour_letter, vertex_text, play_line}
+use Rattle.sgf_lines.specs.Script.{colour_letter, vertex_text, play_command}
 
--- the line of a point, if it has that colour
-abbrev pub lines_at : Grid → Colour → Point → List ℕ
-lines_at g k p = if same_cell (cell_at g p) (stone_of k) then play_line g.side k (Stone p) else []
+-- the command of a point, if it has that colour
+abbrev pub commands_at : Grid → Colour → Point → List ℕ
+commands_at g k p = if same_cell (cell_at g p) (stone_of k) then play_command g.side k (Stone p) else []
 
--- the line of a pass, and that of a stone by its vertex
-abbrev pub pass_line : Colour → List ℕ
-pass_line k = codes "play " ++ colour_letter k ++ codes " " ++ codes "pass" ++ codes "\n"
+-- the command of a pass, and that of a stone by its vertex
+abbrev pub pass_command : Colour → List ℕ
+pass_command k = codes "play " ++ colour_letter k ++ codes " " ++ codes "pass" ++ codes "\n"
 
-abbrev pub stone_line : Colour → Vertex → List ℕ
-stone_line k v = codes "play " ++ colour_letter k ++ codes " " ++ vertex_text v ++ codes "\n"
+abbrev pub stone_command : Colour → Vertex → List ℕ
+stone_command k v = codes "play " ++ colour_letter k ++ codes " " ++ vertex_text v ++ codes "\n"

@@ -24,17 +24,17 @@ followed_commands NoBoard = []
 followed_commands (Judged game) = game_commands game.commands
 
 -- plays went from `old` to `new` where nodes of a game whose root says this became more of them
-abbrev pub CountsOn : {A E : Type 0} → ℕ → ℕ → GameKind → List Node → List Node → Result A E → Type 0
-CountsOn old new other_game nodes more result = new ≡ old
-CountsOn old new no_board nodes more result = new ≡ old
-CountsOn old new (board side) nodes more result = RaisesPlays old new side nodes more result
+abbrev pub PlaysOn : {A E : Type 0} → ℕ → ℕ → GameKind → List Node → List Node → Result A E → Type 0
+PlaysOn old new other_game nodes more result = new ≡ old
+PlaysOn old new no_board nodes more result = new ≡ old
+PlaysOn old new (board side) nodes more result = RaisesPlays old new side nodes more result
 
 -- how many nodes are played for the line of these nodes, of which the first `shared` are played already
 abbrev pub fresh_plays : List Node → ℕ → ℕ
 fresh_plays nodes shared = length (judged_on (game_kind (root_properties nodes)) nodes) - shared
 
 -- plays went from `old` to `new` for that line: each of its fresh nodes counts, and not more than each where memory was refused
-pub record CountsFresh {A E : Type 0} (old new : ℕ) (nodes : List Node) (shared : ℕ) (result : Result A E) : Type 0 where
+pub record PlaysFresh {A E : Type 0} (old new : ℕ) (nodes : List Node) (shared : ℕ) (result : Result A E) : Type 0 where
   pub not_fewer : old ≤ new
   pub not_more : new ≤ old + fresh_plays nodes shared
   pub each : OnOk result (new ≡ old + fresh_plays nodes shared)

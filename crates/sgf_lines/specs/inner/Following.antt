@@ -27,7 +27,7 @@ numbers_before games (suc k) = numbers_of (slice_get (paths games) k)
 
 -- the nodes of the line before a position; none before the first line
 abbrev pub path_before : Position → List ℕ
-path_before at = numbers_before at.games at.given
+path_before at = numbers_before at.games at.index
 
 -- How many nodes at the front of a path end with the node `parent`, which stands last there; 0 where there is no parent.
 abbrev pub IsCutBack : List ℕ → Option ℕ → ℕ → Type 0

@@ -4,12 +4,12 @@ use Rattle.sgf_tree.specs.Tree.{Node, node_count}
 use Rattle.sgf_tree.specs.FileOrder.{node_at}
 use Rattle.sgf_lines.specs.Lines.{Line, lines}
 use Rattle.sgf_lines.specs.Cursor.{Position, advanced}
-use Rattle.sgf_lines.specs.CountedRun.{plays_in}
+use Rattle.sgf_lines.specs.RunPlays.{plays_in}
 use Rattle.sgf_lines.specs.declared.options.Form.{Form}
 use Rattle.sgf_lines.specs.declared.options.Form.TheVariants.{List as list_form, Sgf as sgf_form, Gtp as gtp_form}
 use Rattle.sgf_lines.specs.declared.writer.Writer.{Writer}
 use Rattle.sgf_lines.specs.inner.Kept.{IsKeptRecord}
-use Rattle.sgf_lines.specs.inner.Followed.{IsFollowed, followed_commands, CountsFresh, fresh_plays}
+use Rattle.sgf_lines.specs.inner.Followed.{IsFollowed, followed_commands, PlaysFresh, fresh_plays}
 use Rattle.sgf_lines.specs.inner.Following.{Continues, first_after, path_before}
 
 -- the record that was made last
@@ -45,10 +45,10 @@ abbrev pub KeepsBefore : Position → Writer → Type 0
 KeepsBefore at w = KeepsOnce w.wrote at w
 
 -- plays went from `old` to `new` for the line of these nodes, of which the first `shared` are played already
-abbrev pub CountsIn : {A E : Type 0} → Form → ℕ → ℕ → List Node → ℕ → Result A E → Type 0
-CountsIn list_form old new nodes shared result = CountsFresh old new nodes shared result
-CountsIn sgf_form old new nodes shared result = new ≡ old
-CountsIn gtp_form old new nodes shared result = CountsFresh old new nodes shared result
+abbrev pub PlaysIn : {A E : Type 0} → Form → ℕ → ℕ → List Node → ℕ → Result A E → Type 0
+PlaysIn list_form old new nodes shared result = PlaysFresh old new nodes shared result
+PlaysIn sgf_form old new nodes shared result = new ≡ old
+PlaysIn gtp_form old new nodes shared result = PlaysFresh old new nodes shared result
 
 -- how many nodes of the line at a position are played already: those that it shares with the line before it, if the run wrote that one
 abbrev pub IsShared : Bool → Position → ℕ → Type 0
@@ -58,17 +58,17 @@ IsShared false at shared = shared ≡ 0
 -- the line at a position, and how many of its nodes are played for it
 pub record HasPlays (form : Form) (wrote : Bool) (at : Position) (count : ℕ) : Type 0 where
   pub line : Line
-  pub found : slice_get (lines at.games) at.given ≡ Some line
+  pub found : slice_get (lines at.games) at.index ≡ Some line
   pub shared : ℕ
   pub shares : IsShared wrote at shared
   pub count_is : count ≡ plays_in form (fresh_plays line.nodes shared)
 
 -- plays went from `old` to `new` where the line at a position was to be written: those of that line, if there is one; none or some
 -- of them where memory was refused
-abbrev pub CountsLine : {E : Type 0} → Form → Bool → Position → ℕ → ℕ → Result Bool E → Type 0
-CountsLine form wrote at old new (Ok true) = (n : ℕ) × HasPlays form wrote at n × (new ≡ old + n)
-CountsLine form wrote at old new (Ok false) = new ≡ old
-CountsLine form wrote at old new (Err fault) = (new ≡ old) ⊎ ((n : ℕ) × HasPlays form wrote at n × (old ≤ new) × (new ≤ old + n))
+abbrev pub PlaysLine : {E : Type 0} → Form → Bool → Position → ℕ → ℕ → Result Bool E → Type 0
+PlaysLine form wrote at old new (Ok true) = (n : ℕ) × HasPlays form wrote at n × (new ≡ old + n)
+PlaysLine form wrote at old new (Ok false) = new ≡ old
+PlaysLine form wrote at old new (Err fault) = (new ≡ old) ⊎ ((n : ℕ) × HasPlays form wrote at n × (old ≤ new) × (new ≤ old + n))
 
 -- how many nodes a run can still play: those after the line before a position, or all before its first line
 abbrev pub left : Bool → Position → ℕ

@@ -43,14 +43,14 @@ HasChanged side nodes n board None = (walk side (nodes ++ n ∷ [])).taken ≡ (
 
 -- the first index, once one more is looked at
 abbrev pub first_unreaching : Option ℕ → ℕ → Bool → Option ℕ
-first_unreaching (Some i) index counts = Some i
+first_unreaching (Some i) index unreaching = Some i
 first_unreaching None index true = Some index
 first_unreaching None index false = None
 
 -- the first index among the first ones
 abbrev pub unreaching_before : Option ℕ → ℕ → Option ℕ
-unreaching_before (Some i) kept = if nat_lt i kept then Some i else None
-unreaching_before None kept = None
+unreaching_before (Some i) count = if nat_lt i count then Some i else None
+unreaching_before None count = None
 
 -- what is kept of commands, where they can be said
 abbrev pub kept_unless : Option ℕ → List ℕ → List ℕ

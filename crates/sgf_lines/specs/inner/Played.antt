@@ -3,7 +3,7 @@ use Rattle.std.specs.Prelude.{◌≡◌, ℕ, ◌+◌, ◌<◌, ◌≤◌, nat_l
 use Rattle.sgf_tree.specs.Tree.{Node}
 use Rattle.go_board.specs.State.{State, States}
 use Rattle.sgf_lines.specs.Walk.{IllegalNode, walk, judged_by}
-use Rattle.sgf_lines.specs.declared.game.MetFault.{MetFault}
+use Rattle.sgf_lines.specs.declared.game.MetIllegal.{MetIllegal}
 use Rattle.sgf_lines.specs.declared.game.Game.{Game}
 use Rattle.sgf_lines.specs.declared.commands.Commands.{Commands}
 use Rattle.sgf_lines.specs.inner.KeptCommands.{AreCommands, commands_kept}
@@ -16,30 +16,30 @@ back_from s (e ∷ es) depth = if nat_le (length (e ∷ es)) depth then record {
 abbrev pub back_to : States → ℕ → States
 back_to states depth = back_from states.present states.earlier depth
 
--- the fault is the first one of the walk along the nodes, and the index is that of its node; or the walk meets none
-abbrev pub IsFaultOf : ℕ → List Node → Option MetFault → Type 0
-IsFaultOf side nodes None = (walk side nodes).fault ≡ None
-IsFaultOf side nodes (Some met) =
-    (met.index < length nodes) × ((walk side (take met.index nodes)).fault ≡ None)
-    × ((fault : IllegalNode) × ((walk side (take (met.index + 1) nodes)).fault ≡ Some fault) × (met.place ≡ fault.node.place) × (met.reason ≡ fault.reason))
+-- it is the first illegal node of the walk along the nodes, and the index is that node's; or the walk meets none
+abbrev pub IsFirstIllegal : ℕ → List Node → Option MetIllegal → Type 0
+IsFirstIllegal side nodes None = (walk side nodes).illegal ≡ None
+IsFirstIllegal side nodes (Some met) =
+    (met.index < length nodes) × ((walk side (take met.index nodes)).illegal ≡ None)
+    × ((illegal : IllegalNode) × ((walk side (take (met.index + 1) nodes)).illegal ≡ Some illegal) × (met.place ≡ illegal.node.place) × (met.reason ≡ illegal.reason))
 
--- the fault that was met, where its node is among the first ones
-abbrev pub met_before : Option MetFault → ℕ → Option MetFault
-met_before (Some met) kept = if nat_lt met.index kept then Some met else None
-met_before None kept = None
+-- the illegal node that was met, where it is among the first ones
+abbrev pub met_before : Option MetIllegal → ℕ → Option MetIllegal
+met_before (Some met) count = if nat_lt met.index count then Some met else None
+met_before None count = None
 
 -- a depth leads back to where the walk along the first i nodes leads
 pub record IsDepthBefore (side : ℕ) (nodes : List Node) (states : States) (i depth : ℕ) : Type 0 where
   pub within : depth ≤ length states.earlier
   pub state : (back_to states depth).present ≡ (walk side (take i nodes)).state
 
--- the game was played along the nodes, and each of its marks leads back to before its node
+-- the game was played along the nodes, and each of its depths leads back to before its node
 pub record IsPlayed (side : ℕ) (nodes : List Node) (game : Game) : Type 0 where
   pub state : game.referee.present ≡ (walk side nodes).state
-  pub fault : IsFaultOf side nodes game.fault
-  pub count : length game.marks.items ≡ length nodes
-  pub marks : (i depth : ℕ) → slice_get game.marks.items i ≡ Some depth → IsDepthBefore side nodes game.referee i depth
-  pub order : (i j early late : ℕ) → i ≤ j → slice_get game.marks.items i ≡ Some early → slice_get game.marks.items j ≡ Some late → early ≤ late
+  pub illegal : IsFirstIllegal side nodes game.illegal
+  pub count : length game.depths.items ≡ length nodes
+  pub depths : (i depth : ℕ) → slice_get game.depths.items i ≡ Some depth → IsDepthBefore side nodes game.referee i depth
+  pub order : (i j early late : ℕ) → i ≤ j → slice_get game.depths.items i ≡ Some early → slice_get game.depths.items j ≡ Some late → early ≤ late
 
 -- what is kept of the commands of the nodes, where they are asked for
 abbrev pub HasCommands : Bool → ℕ → List Node → Option Commands → Type 0

@@ -48,7 +48,7 @@ IsSplitOf o c sink new_sink result = (text : List ℕ) → Spells c text → IsS
 
 -- where a cursor stands before the page, or why there is none
 abbrev pub IsStart : Games → Option ℕ → Result Position RunFault → Type 0
-IsStart c after (Ok at) = lines_from_place (lines c) after ≡ Some (drop at.given (lines c))
+IsStart c after (Ok at) = lines_from_place (lines c) after ≡ Some (drop at.index (lines c))
 IsStart c after (Err Read) = ⊥
 IsStart c after (Err TooLong) = ⊥
 IsStart c after (Err (NotSgf at len)) = ⊥
@@ -74,7 +74,7 @@ pub record WritesLines (form : Form) (ls : List Line) (sink new_sink : SinkState
 -- the record of the line at the cursor, which went on by one line
 pub record HasRecord (form : Form) (old new : Position) (bytes : List ℕ) : Type 0 where
   pub line : Line
-  pub found : slice_get (lines old.games) old.given ≡ Some line
+  pub found : slice_get (lines old.games) old.index ≡ Some line
   pub bytes_are : bytes ≡ record_of form line
   pub goes_on : new ≡ advanced old
 

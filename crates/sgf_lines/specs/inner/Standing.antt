@@ -22,4 +22,4 @@ pub record IsAfterLeaf (c : Games) (next : ℕ) (numbers : List ℕ) : Type 0 wh
 
 -- a position is stored as the pair of its parts
 abbrev pub position_code : Coded Position
-position_code = code_by (Games × ℕ) (coded× games_code coded_ℕ) (λ at. (at.games, at.given)) (λ p. record { games = p.0; given = p.1 }) (λ _. refl)
+position_code = code_by (Games × ℕ) (coded× games_code coded_ℕ) (λ at. (at.games, at.index)) (λ p. record { games = p.0; index = p.1 }) (λ _. refl)

@@ -6,7 +6,7 @@ use crate::{ArraySink, Form, Options, Plays, RunFault, SliceSource, split_counte
 const BRANCHES: &[u8] = b"(;SZ[3](;B[aa])(;B[bb];W[aa]))";
 
 /// Two lines that share a node that isn't allowed.
-const FAULTY: &[u8] = b"(;SZ[1];B[aa](;W[])(;C[x]))";
+const ILLEGAL: &[u8] = b"(;SZ[1];B[aa](;W[])(;C[x]))";
 
 /// Three lines that share a pass, the last one with a setup.
 const PASSES: &[u8] = b"(;SZ[3];B[](;W[])(;W[bb])(;AE[aa];W[]))";
@@ -32,7 +32,7 @@ fn small_runs(rt: HostRuntime) {
         ),
         (BRANCHES, Form::List, Some(22), b"", Ok(0), 0),
         (
-            FAULTY,
+            ILLEGAL,
             Form::List,
             None,
             b"14 1 3 illegal 1 7 repeat\n20 1 3 illegal 1 7 repeat\n",

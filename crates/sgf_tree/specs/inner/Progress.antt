@@ -90,7 +90,7 @@ pub record IsNodeEnd (t : List ℕ) (at : ℕ) : Type 0 where
   pub below : slice_index t next < capital_a
 
 -- a `;`, one capital and two plain bytes between brackets, with nothing between them, and one byte more
-pub record IsPlainFront (t : List ℕ) : Type 0 where
+pub record IsShortFront (t : List ℕ) : Type 0 where
   pub within : 6 < length t
   pub capital : IsTrue (is_upper (slice_index t 1))
   pub bracket : slice_index t 2 ≡ open_bracket
@@ -98,12 +98,12 @@ pub record IsPlainFront (t : List ℕ) : Type 0 where
 
 -- and then the end of the node
 pub record IsLoneNode (t : List ℕ) : Type 0 where
-  pub front : IsPlainFront t
+  pub front : IsShortFront t
   pub ends : IsNodeEnd t 6
 
 -- and then the name of another property
 pub record IsFrontOfMore (t : List ℕ) : Type 0 where
-  pub front : IsPlainFront t
+  pub front : IsShortFront t
   pub next : IsTrue (is_upper (slice_index t 6))
 
 -- no raw value begins at `at`

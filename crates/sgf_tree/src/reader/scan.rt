@@ -3,7 +3,7 @@
 ghost use Rattle.std.specs.Prelude.{◌≡◌, ◌+◌, ◌≤◌, ◌<◌, length, drop, slice_index, slice_range, IsTrue, IfSome, MatchOption};
 ghost use Rattle.sgf_tree.specs.Spelling.{is_white, is_upper};
 ghost use Rattle.sgf_tree.specs.inner.NodeText.{is_letter};
-ghost use Rattle.sgf_tree.specs.inner.Progress.{IsSpan, IsValueEnd, IsUnended, SpellsValue, SpellsNoValue, HasNoBracket, IsNextBracket, IsBareBracket, IsEscapeRun, AreEscapes, IsTwoPlain, IsNodeEnd, IsPlainFront, IsLoneNode, IsFrontOfMore};
+ghost use Rattle.sgf_tree.specs.inner.Progress.{IsSpan, IsValueEnd, IsUnended, SpellsValue, SpellsNoValue, HasNoBracket, IsNextBracket, IsBareBracket, IsEscapeRun, AreEscapes, IsTwoPlain, IsNodeEnd, IsShortFront, IsLoneNode, IsFrontOfMore};
 
 use memchr::memchr;
 use std::simd::prelude::*;
@@ -194,8 +194,8 @@ fn ends_node(text: &[u8], at: usize) -> bool
 }
 
 /// Whether the text begins with a `;` and a property that is written as `B[pd]` is, and goes on.
-fn is_plain_front(text: &[u8]) -> bool
-    ensures { IsTrue result → IsPlainFront text.now }
+fn is_short_front(text: &[u8]) -> bool
+    ensures { IsTrue result → IsShortFront text.now }
 {
     text.len() > 6 && text[1].is_ascii_uppercase() && text[2] == b'[' && is_two_plain(text, 3)
 }
@@ -204,14 +204,14 @@ fn is_plain_front(text: &[u8]) -> bool
 pub(crate) fn is_lone_node(text: &[u8]) -> bool
     ensures { IsTrue result → IsLoneNode text.now }
 {
-    is_plain_front(text) && ends_node(text, 6)
+    is_short_front(text) && ends_node(text, 6)
 }
 
 /// Whether the text begins with a node that begins as `;B[pd]C` does.
 pub(crate) fn is_front_of_more(text: &[u8]) -> bool
     ensures { IsTrue result → IsFrontOfMore text.now }
 {
-    is_plain_front(text) && text[6].is_ascii_uppercase()
+    is_short_front(text) && text[6].is_ascii_uppercase()
 }
 
 /// The `]` that ends the raw value at `at`, where it is the first one, among the `NEAR` bytes there.
@@ -252,7 +252,7 @@ pub(crate) fn far_value_end(text: &[u8], at: usize) -> Option<usize>
     None
 }
 
-/// The `]` that ends the raw value at `at`, where it is short and plain, as most are.
+/// The `]` that ends the raw value at `at`, where it is short, as most are.
 /// Where it answers None, nothing is known.
 #[inline(always)]
 pub(crate) fn short_value_end(text: &[u8], at: usize) -> Option<usize>

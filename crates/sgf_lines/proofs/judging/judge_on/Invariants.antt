@@ -1,4 +1,4 @@
--- The walk along the nodes so far has met no fault, and the referee is in its state.
+-- The walk along the nodes so far has met no illegal node, and the referee is in its state.
 use Rattle.std.proofs.Common.{◌≡◌, List, Some, map, take}
 use Rattle.sgf_tree.specs.Tree.{Node}
 use Rattle.sgf_tree.specs.FileOrder.{node_at}

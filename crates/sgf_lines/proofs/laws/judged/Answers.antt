@@ -1,10 +1,10 @@
 use Rattle.go_board.specs.State.{starting}
-use Rattle.sgf_lines.proofs.Judgement.{scores, faults, ends}
+use Rattle.sgf_lines.proofs.Judgement.{scores, refuses, ends}
 use Rattle.sgf_lines.proofs.laws.judged.Goals as goal
 
 pub returns : goal.returns
 returns c = record {
   scored = scores;
-  faulty = faults;
+  illegal = refuses;
   one_of_two = λ side nodes. ends (starting side) nodes;
 }

@@ -21,13 +21,13 @@ loop-i-preserved c = λ old nodes held le named same.
     let n = c.node.result in
     let at = node_named (node_at c.args.collection.now) nodes c.args.path.now i 0 n named c.loop-i-test.true c.node.ensures in
     let text : c.push_node.new.output.items ≡ c.loop-i.kept.text.items ++ node_text n = c.in_ok-push_node.ensures ∙ ap (λ t. t ++ node_text n) c.in_ok-begin_node.ensures.text in
-    let new : KeptText = record { text = c.push_node.new.output; marks = c.begin_node.new.self.marks } in
+    let new : KeptText = record { text = c.push_node.new.output; starts = c.begin_node.new.self.starts } in
     rw (front_more nodes i n at)
-    (kept_on open_game (take i nodes) c.loop-i.kept new (c.loop-i.invariant old nodes held le named same) n (node_text n) c.in_ok-begin_node.ensures.marks text (open_game_more (take i nodes) n))
+    (kept_on open_game (take i nodes) c.loop-i.kept new (c.loop-i.invariant old nodes held le named same) n (node_text n) c.in_ok-begin_node.ensures.starts text (open_game_more (take i nodes) n))
 
 pub returns : goal.returns
 returns c = λ old nodes held le named same.
     let past : length nodes ≤ c.loop-i.i = omega (arith, as_many (node_at c.args.collection.now) nodes c.args.path.now named, c.loop-i-test.false) in
     let is_open : IsKeptText open_game nodes c.loop-i.kept =
     subst (λ ns. IsKeptText open_game ns c.loop-i.kept) (take_all c.loop-i.i nodes past) (c.loop-i.invariant old nodes held le named same) in
-    on_ok_weaker c.push_bytes.result (λ text. record { opened = c.loop-i.kept; is_open = is_open; text = text; marks = refl }) c.push_bytes.ensures
+    on_ok_weaker c.push_bytes.result (λ text. record { opened = c.loop-i.kept; is_open = is_open; text = text; starts = refl }) c.push_bytes.ensures

@@ -6,10 +6,10 @@ use Rattle.sgf_tree.specs.Tree.{node_count}
 use Rattle.sgf_lines.specs.Lines.{lines}
 use Rattle.sgf_tree.specs.declared.fault.MemoryFault.{MemoryFault}
 use Rattle.sgf_lines.specs.inner.Running.{HasRecord}
-use Rattle.sgf_lines.specs.inner.Keeping.{record_in, CountsLine, left}
+use Rattle.sgf_lines.specs.inner.Keeping.{record_in, PlaysLine, left}
 use Rattle.sgf_lines.specs.declared.fault.RunFault.TheVariants.{Write, Memory}
 use Rattle.sgf_lines.proofs.Paging.{one_written, cut_short, limit_met, for_options}
-use Rattle.sgf_lines.proofs.CountedPaging.{one_played, played_then_cut, played_in_part, all_played, counts_for_options}
+use Rattle.sgf_lines.proofs.PagingPlays.{one_played, played_then_cut, played_in_part, all_played, plays_for_options}
 use Rattle.sgf_lines.proofs.writing.write_lines.Goals as goal
 
 pub page-preserved : goal.page-preserved
@@ -19,17 +19,17 @@ page-preserved g c =
     let wrote : c.next.new.self.wrote ≡ true = rw c.in-Ok-true.field-0-test at c.in-Ok-true.ensures.wrote in
     let room : c.next.new.plays + left true c.next.new.cursor ≤ c.page.plays + left c.page.writer.wrote c.page.cursor = rw c.in-Ok-true.field-0-test at c.in-Ok-true.ensures.countable in
     let more : c.next.new.plays + left true c.next.new.cursor ≤ c.args.plays.now + node_count c.args.collection.now = omega (arith, room, c.page.invariant.countable) in
-    let judged : CountsLine {E = MemoryFault} c.page.writer.form c.page.writer.wrote c.page.cursor c.page.plays c.next.new.plays (Ok true) = rw c.in-Ok-true.field-0-test at c.in-Ok-true.ensures.counted in
-    let counted : CountsLine {E = MemoryFault} c.args.options.now.form c.page.writer.wrote c.page.cursor c.page.plays c.next.new.plays (Ok true) = rw c.page.invariant.form at judged in
+    let judged : PlaysLine {E = MemoryFault} c.page.writer.form c.page.writer.wrote c.page.cursor c.page.plays c.next.new.plays (Ok true) = rw c.in-Ok-true.field-0-test at c.in-Ok-true.ensures.plays in
+    let counted : PlaysLine {E = MemoryFault} c.args.options.now.form c.page.writer.wrote c.page.cursor c.page.plays c.next.new.plays (Ok true) = rw c.page.invariant.form at judged in
     record {
-      written = one_written c.args.options.now.form c.args.collection.now c.args.cursor.now.given c.unwrap_or-limit.result (g.T.Sink.state c.args.sink.now) c.page.lines c.page.cursor
+      written = one_written c.args.options.now.form c.args.collection.now c.args.cursor.now.index c.unwrap_or-limit.result (g.T.Sink.state c.args.sink.now) c.page.lines c.page.cursor
           (g.T.Sink.state c.page.sink) c.page.invariant.written c.next.new.cursor (g.T.Sink.state c.put.new.sink) (record_in c.next.new.self) (omega (arith, c.page-test.true))
           got c.in-Ok.ensures.0 c.in-Ok.ensures.1;
       form = c.in-Ok-true.ensures.form ∙ c.page.invariant.form;
       first = λ none. absurd (omega (arith, none));
       later = λ some. wrote;
       keeps = c.in-Ok-true.ensures.keeps;
-      plays = one_played c.args.options.now.form c.args.collection.now c.nodes.ensures.places_rise c.args.cursor.now.given c.unwrap_or-limit.result c.args.plays.now c.page.lines c.page.writer.wrote c.page.cursor (g.T.Sink.state c.args.sink.now)
+      plays = one_played c.args.options.now.form c.args.collection.now c.nodes.ensures.places_rise c.args.cursor.now.index c.unwrap_or-limit.result c.args.plays.now c.page.lines c.page.writer.wrote c.page.cursor (g.T.Sink.state c.args.sink.now)
           (g.T.Sink.state c.page.sink) c.page.invariant.written c.page.invariant.first c.page.invariant.later (omega (arith, c.page-test.true)) c.page.plays c.page.invariant.plays c.next.new.plays counted;
       countable = rw wrote more;
     }
@@ -41,45 +41,45 @@ returns-in-Err-put-clause-answer g c =
     let limit : c.unwrap_or-limit.result ≡ unwrap_or c.args.options.now.limit (node_count c.args.collection.now) =
     c.unwrap_or-limit.ensures ∙ ap (unwrap_or c.args.options.now.limit) c.nodes.ensures.count in
     let cut = c.in-Err-put.ensures in
-    for_options c.args.options.now.form c.args.collection.now c.args.cursor.now.given c.args.options.now.limit c.unwrap_or-limit.result (g.T.Sink.state c.args.sink.now)
+    for_options c.args.options.now.form c.args.collection.now c.args.cursor.now.index c.args.options.now.limit c.unwrap_or-limit.result (g.T.Sink.state c.args.sink.now)
     (g.T.Sink.state c.put.new.sink) (Err (Write c.page.lines)) limit
-    (cut_short c.args.options.now.form c.args.collection.now c.args.cursor.now.given c.unwrap_or-limit.result (g.T.Sink.state c.args.sink.now) c.page.lines c.page.cursor
+    (cut_short c.args.options.now.form c.args.collection.now c.args.cursor.now.index c.unwrap_or-limit.result (g.T.Sink.state c.args.sink.now) c.page.lines c.page.cursor
     (g.T.Sink.state c.page.sink) c.page.invariant.written c.next.new.cursor (g.T.Sink.state c.put.new.sink) (record_in c.next.new.self) cut.0 (omega (arith, c.page-test.true))
     got cut.1 cut.2)
 
 pub returns-in-Err-put-clause-plays : goal.returns-in-Err-put-clause-plays
 returns-in-Err-put-clause-plays g c =
-    let judged : CountsLine {E = MemoryFault} c.page.writer.form c.page.writer.wrote c.page.cursor c.page.plays c.next.new.plays (Ok true) = rw c.in-Ok-true.field-0-test at c.in-Ok-true.ensures.counted in
-    let counted : CountsLine {E = MemoryFault} c.args.options.now.form c.page.writer.wrote c.page.cursor c.page.plays c.next.new.plays (Ok true) = rw c.page.invariant.form at judged in
+    let judged : PlaysLine {E = MemoryFault} c.page.writer.form c.page.writer.wrote c.page.cursor c.page.plays c.next.new.plays (Ok true) = rw c.in-Ok-true.field-0-test at c.in-Ok-true.ensures.plays in
+    let counted : PlaysLine {E = MemoryFault} c.args.options.now.form c.page.writer.wrote c.page.cursor c.page.plays c.next.new.plays (Ok true) = rw c.page.invariant.form at judged in
     let limit : c.unwrap_or-limit.result ≡ unwrap_or c.args.options.now.limit (node_count c.args.collection.now) =
     c.unwrap_or-limit.ensures ∙ ap (unwrap_or c.args.options.now.limit) c.nodes.ensures.count in
-    counts_for_options c.args.options.now.form c.args.collection.now c.args.cursor.now.given c.args.options.now.limit c.unwrap_or-limit.result c.args.plays.now c.next.new.plays (Err (Write c.page.lines)) limit
-    (played_then_cut c.args.options.now.form c.args.collection.now c.nodes.ensures.places_rise c.args.cursor.now.given c.unwrap_or-limit.result c.args.plays.now c.page.lines c.page.writer.wrote c.page.cursor (g.T.Sink.state c.args.sink.now)
+    plays_for_options c.args.options.now.form c.args.collection.now c.args.cursor.now.index c.args.options.now.limit c.unwrap_or-limit.result c.args.plays.now c.next.new.plays (Err (Write c.page.lines)) limit
+    (played_then_cut c.args.options.now.form c.args.collection.now c.nodes.ensures.places_rise c.args.cursor.now.index c.unwrap_or-limit.result c.args.plays.now c.page.lines c.page.writer.wrote c.page.cursor (g.T.Sink.state c.args.sink.now)
     (g.T.Sink.state c.page.sink) c.page.invariant.written c.page.invariant.first c.page.invariant.later (omega (arith, c.page-test.true)) c.page.plays c.page.invariant.plays c.next.new.plays counted)
 
 pub returns-in-Err-clause-plays : goal.returns-in-Err-clause-plays
 returns-in-Err-clause-plays g c =
-    let judged : CountsLine c.page.writer.form c.page.writer.wrote c.page.cursor c.page.plays c.next.new.plays (Err c.in-Err.field-0) = c.in-Err.ensures.counted in
-    let counted : CountsLine c.args.options.now.form c.page.writer.wrote c.page.cursor c.page.plays c.next.new.plays (Err c.in-Err.field-0) = rw c.page.invariant.form at judged in
+    let judged : PlaysLine c.page.writer.form c.page.writer.wrote c.page.cursor c.page.plays c.next.new.plays (Err c.in-Err.field-0) = c.in-Err.ensures.plays in
+    let counted : PlaysLine c.args.options.now.form c.page.writer.wrote c.page.cursor c.page.plays c.next.new.plays (Err c.in-Err.field-0) = rw c.page.invariant.form at judged in
     let limit : c.unwrap_or-limit.result ≡ unwrap_or c.args.options.now.limit (node_count c.args.collection.now) =
     c.unwrap_or-limit.ensures ∙ ap (unwrap_or c.args.options.now.limit) c.nodes.ensures.count in
-    counts_for_options c.args.options.now.form c.args.collection.now c.args.cursor.now.given c.args.options.now.limit c.unwrap_or-limit.result c.args.plays.now c.next.new.plays (Err (Memory c.page.lines)) limit
-    (played_in_part c.args.options.now.form c.args.collection.now c.nodes.ensures.places_rise c.args.cursor.now.given c.unwrap_or-limit.result c.args.plays.now c.page.lines c.page.writer.wrote c.page.cursor (g.T.Sink.state c.args.sink.now)
+    plays_for_options c.args.options.now.form c.args.collection.now c.args.cursor.now.index c.args.options.now.limit c.unwrap_or-limit.result c.args.plays.now c.next.new.plays (Err (Memory c.page.lines)) limit
+    (played_in_part c.args.options.now.form c.args.collection.now c.nodes.ensures.places_rise c.args.cursor.now.index c.unwrap_or-limit.result c.args.plays.now c.page.lines c.page.writer.wrote c.page.cursor (g.T.Sink.state c.args.sink.now)
     (g.T.Sink.state c.page.sink) c.page.invariant.written c.page.invariant.first c.page.invariant.later (omega (arith, c.page-test.true)) c.page.plays c.page.invariant.plays c.in-Err.field-0 c.next.new.plays counted)
 
 pub returns-clause-plays : goal.returns-clause-plays
 returns-clause-plays g c =
     let limit : c.unwrap_or-limit.result ≡ unwrap_or c.args.options.now.limit (node_count c.args.collection.now) =
     c.unwrap_or-limit.ensures ∙ ap (unwrap_or c.args.options.now.limit) c.nodes.ensures.count in
-    counts_for_options c.args.options.now.form c.args.collection.now c.args.cursor.now.given c.args.options.now.limit c.unwrap_or-limit.result c.args.plays.now c.page.plays (Ok c.page.lines) limit
-    (all_played c.args.options.now.form c.args.collection.now c.args.cursor.now.given c.unwrap_or-limit.result c.args.plays.now c.page.lines c.page.plays c.page.invariant.plays
-    (omega (arith, c.page-test.false, length-take c.unwrap_or-limit.result (drop c.args.cursor.now.given (lines c.args.collection.now)))))
+    plays_for_options c.args.options.now.form c.args.collection.now c.args.cursor.now.index c.args.options.now.limit c.unwrap_or-limit.result c.args.plays.now c.page.plays (Ok c.page.lines) limit
+    (all_played c.args.options.now.form c.args.collection.now c.args.cursor.now.index c.unwrap_or-limit.result c.args.plays.now c.page.lines c.page.plays c.page.invariant.plays
+    (omega (arith, c.page-test.false, length-take c.unwrap_or-limit.result (drop c.args.cursor.now.index (lines c.args.collection.now)))))
 
 pub returns-clause-answer : goal.returns-clause-answer
 returns-clause-answer g c =
     let limit : c.unwrap_or-limit.result ≡ unwrap_or c.args.options.now.limit (node_count c.args.collection.now) =
     c.unwrap_or-limit.ensures ∙ ap (unwrap_or c.args.options.now.limit) c.nodes.ensures.count in
-    for_options c.args.options.now.form c.args.collection.now c.args.cursor.now.given c.args.options.now.limit c.unwrap_or-limit.result (g.T.Sink.state c.args.sink.now)
+    for_options c.args.options.now.form c.args.collection.now c.args.cursor.now.index c.args.options.now.limit c.unwrap_or-limit.result (g.T.Sink.state c.args.sink.now)
     (g.T.Sink.state c.page.sink) (Ok c.page.lines) limit
-    (limit_met c.args.options.now.form c.args.collection.now c.args.cursor.now.given c.unwrap_or-limit.result (g.T.Sink.state c.args.sink.now) c.page.lines c.page.cursor
+    (limit_met c.args.options.now.form c.args.collection.now c.args.cursor.now.index c.unwrap_or-limit.result (g.T.Sink.state c.args.sink.now) c.page.lines c.page.cursor
     (g.T.Sink.state c.page.sink) c.page.invariant.written (omega (arith, c.page-test.false)))

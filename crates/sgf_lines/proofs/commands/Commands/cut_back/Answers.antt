@@ -7,5 +7,5 @@ use Rattle.sgf_lines.proofs.commands.Commands.cut_back.Goals as goal
 pub returns : goal.returns
 returns c = λ side nodes h lt le.
     rw c.first_before-self.ensures
-    (commands_back side nodes c.args.self.now c.args.kept c.cut_back.new.self h le
+    (commands_back side nodes c.args.self.now c.args.count c.cut_back.new.self h le
     (c.cut_back.ensures (commands_text side) nodes (λ some. h.kept) le (λ none. absurd (omega (arith, none, lt)))))

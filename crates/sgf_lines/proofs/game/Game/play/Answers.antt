@@ -5,12 +5,12 @@ use Rattle.go_board.specs.Grid.{Grid}
 use Rattle.sgf_tree.specs.FileOrder.{node_at}
 use Rattle.sgf_lines.specs.declared.step.TakenStep.{TakenStep}
 use Rattle.sgf_lines.specs.inner.KeptCommands.{HasChanged}
-use Rattle.sgf_lines.proofs.Counted.{counts_ok, counts_err}
+use Rattle.sgf_lines.proofs.RaisedPlays.{raises_ok, raises_err}
 use Rattle.sgf_lines.proofs.PlayedScripts.{side_played, with_commands, none_asked, some_asked, step_of}
 use Rattle.sgf_lines.proofs.game.Game.play.Goals as goal
 
-pub returns-in_err-step-clause-counted : goal.returns-in_err-step-clause-counted
-returns-in_err-step-clause-counted c = λ side nodes node h. counts_err _ _ c.from_residual.result c.from_residual.ensures.0 (c.in_err-step.ensures.counted side nodes node h)
+pub returns-in_err-step-clause-plays : goal.returns-in_err-step-clause-plays
+returns-in_err-step-clause-plays c = λ side nodes node h. raises_err _ _ c.from_residual.result c.from_residual.ensures.0 (c.in_err-step.ensures.plays side nodes node h)
 
 pub returns-in-None-clause-played : goal.returns-in-None-clause-played
 returns-in-None-clause-played c = λ scripted side nodes node h e. record {
@@ -18,11 +18,11 @@ returns-in-None-clause-played c = λ scripted side nodes node h e. record {
   commands = none_asked scripted side nodes (nodes ++ node ∷ []) c.args.self.now.commands c.take_step.new.self.commands c.in-None.is c.take_step.ensures.commands h.commands;
 }
 
-pub returns-in-None-clause-counted : goal.returns-in-None-clause-counted
-returns-in-None-clause-counted c = λ side nodes node h. counts_ok _ _ (c.in_ok-step.ensures.counted side nodes node h)
+pub returns-in-None-clause-plays : goal.returns-in-None-clause-plays
+returns-in-None-clause-plays c = λ side nodes node h. raises_ok _ _ (c.in_ok-step.ensures.plays side nodes node h)
 
-pub returns-in-Some-clause-counted : goal.returns-in-Some-clause-counted
-returns-in-Some-clause-counted c = λ side nodes node h. counts_ok _ _ (c.in_ok-step.ensures.counted side nodes node h)
+pub returns-in-Some-clause-plays : goal.returns-in-Some-clause-plays
+returns-in-Some-clause-plays c = λ side nodes node h. raises_ok _ _ (c.in_ok-step.ensures.plays side nodes node h)
 
 pub returns-in-Some-clause-played : goal.returns-in-Some-clause-played
 returns-in-Some-clause-played c = λ scripted side nodes node h e.

@@ -5,7 +5,7 @@ use Rattle.sgf_lines.specs.inner.Kept.{IsKeptRecord}
 use Rattle.sgf_lines.proofs.KeptTexts.{record_of_nodes}
 use Rattle.sgf_lines.proofs.Scripted.{row_followed, script_followed}
 use Rattle.sgf_lines.specs.inner.Followed.{IsFollowed}
-use Rattle.sgf_lines.proofs.Counted.{on_any}
+use Rattle.sgf_lines.proofs.RaisedPlays.{on_any}
 use Rattle.sgf_lines.proofs.writer.Writer.make.Goals as goal
 
 pub returns-in_ok-follow-in-List-clause-keeps : goal.returns-in_ok-follow-in-List-clause-keeps
@@ -16,16 +16,16 @@ returns-in_ok-follow-in-List-clause-keeps c = λ old l h held le same.
 pub returns-in_ok-follow-in-Gtp-clause-keeps : goal.returns-in_ok-follow-in-Gtp-clause-keeps
 returns-in_ok-follow-in-Gtp-clause-keeps c = λ old l h held le same.
     let was : 0 < c.args.shared → IsFollowed true old c.args.self.now.followed = rw c.in-Gtp.is at held in
-    on_any c.push_comment_row.result (rw c.in-Gtp.is (c.in_ok-follow-in-Gtp.ensures.followed old l.nodes was le h.nodes same))
+    on_any c.push_list_comment.result (rw c.in-Gtp.is (c.in_ok-follow-in-Gtp.ensures.followed old l.nodes was le h.nodes same))
 
 pub returns-in_ok-follow-in-Gtp-clause-made : goal.returns-in_ok-follow-in-Gtp-clause-made
 returns-in_ok-follow-in-Gtp-clause-made c = λ old l h held le same.
     let was : 0 < c.args.shared → IsFollowed true old c.args.self.now.followed = rw c.in-Gtp.is at held in
     let is : IsFollowed true l.nodes c.follow-in-Gtp.new.self = c.in_ok-follow-in-Gtp.ensures.followed old l.nodes was le h.nodes same in
     let verdict = c.verdict-verdict-in-Gtp.ensures true l.nodes is in
-    on_ok_weaker c.push_comment_row.result
-    (λ pushed. rw c.in-Gtp.is (script_followed c.args.collection.now l c.args.line.now c.verdict-verdict-in-Gtp.result c.follow-in-Gtp.new.self c.push_comment_row.new.output.items h verdict is (rw c.clear.ensures.items at pushed)))
-    c.push_comment_row.ensures
+    on_ok_weaker c.push_list_comment.result
+    (λ pushed. rw c.in-Gtp.is (script_followed c.args.collection.now l c.args.line.now c.verdict-verdict-in-Gtp.result c.follow-in-Gtp.new.self c.push_list_comment.new.output.items h verdict is (rw c.clear.ensures.items at pushed)))
+    c.push_list_comment.ensures
 
 pub returns-in-Sgf-clause-keeps : goal.returns-in-Sgf-clause-keeps
 returns-in-Sgf-clause-keeps c = λ old l h held le same.

@@ -1,7 +1,7 @@
 use Rattle.std.proofs.Common.{ap, length, length-drop, arith}
 use Rattle.sgf_tree.specs.Tree.{Node}
 use Rattle.sgf_tree.proofs.KeptEnds.{kept-properties}
-use Rattle.sgf_tree.proofs.Walks.{count-properties-held}
+use Rattle.sgf_tree.proofs.Iterating.{count-properties-held}
 use Rattle.sgf_tree.proofs.node.NodeRef.props.Goals as goal
 
 pub invariant_of-left : goal.invariant_of-left

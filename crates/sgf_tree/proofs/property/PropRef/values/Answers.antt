@@ -1,6 +1,6 @@
 use Rattle.std.proofs.Common.{ap, length, arith}
 use Rattle.sgf_tree.specs.Tree.{Property, values}
-use Rattle.sgf_tree.proofs.Walks.{count-values_held}
+use Rattle.sgf_tree.proofs.Iterating.{count-values_held}
 use Rattle.sgf_tree.proofs.property.PropRef.values.Goals as goal
 
 pub overflow_add-count : goal.overflow_add-count

@@ -1,0 +1,134 @@
+-- The loop that writes the lines of a page counts the nodes that are judged on them.
+use Rattle.std.proofs.Common.{◌≡◌, ℕ, zero, suc, ◌+◌, ◌-◌, ◌<◌, ◌≤◌, Bool, true, false, List, ◌++◌, length, take, drop, slice_get, Option, Some, Result, Ok, Err, inl, inr, refl, sym, ap, ◌∙◌, arith, add-one, length-append}
+use Rattle.std.specs.Prelude.{unwrap_or, filter}
+use Rattle.std.specs.List.{flat_map}
+use Rattle.std.proofs.Math.Seq.{take-add}
+use Rattle.std.proofs.lemmas.List.{take_all, length-take, length-drop}
+use Rattle.std.proofs.lemmas.Grind.{flat_map-append}
+use Rattle.sgf_tree.specs.Tree.{Games, node_count}
+use Rattle.sgf_tree.specs.FileOrder.{PlacesRise}
+use Rattle.sgf_tree.specs.declared.fault.MemoryFault.{MemoryFault}
+use Rattle.sgf_lines.specs.Lines.{Line, lines}
+use Rattle.sgf_lines.specs.Page.{limited}
+use Rattle.sgf_lines.specs.Ends.{SinkState}
+use Rattle.sgf_lines.specs.Cursor.{Position}
+use Rattle.sgf_lines.specs.Verdict.{judged_nodes}
+use Rattle.sgf_lines.specs.Plays.{different, all_judged, judged_places}
+use Rattle.sgf_lines.specs.RunPlays.{plays_in, plays_of}
+use Rattle.sgf_lines.specs.declared.options.Form.{Form}
+use Rattle.sgf_lines.specs.declared.options.Form.TheVariants.{List as list_form, Sgf as sgf_form, Gtp as gtp_form}
+use Rattle.sgf_lines.specs.declared.fault.RunFault.{RunFault}
+use Rattle.sgf_lines.specs.declared.fault.RunFault.TheVariants.{Write, Memory}
+use Rattle.sgf_lines.specs.inner.Following.{Continues, numbers_before}
+use Rattle.sgf_lines.specs.inner.Keeping.{IsShared, HasPlays, PlaysLine}
+use Rattle.sgf_lines.specs.inner.LinePlays.{PlaysLines}
+use Rattle.sgf_lines.proofs.Pages.{get_dropped, get_taken, get_some, limited_is}
+use Rattle.sgf_lines.proofs.LineCounts.{lines_within}
+use Rattle.sgf_lines.proofs.Different.{is_new, different-append}
+use Rattle.sgf_lines.proofs.PlayCounts.{first_plays, next_plays}
+use Rattle.sgf_lines.proofs.Paging.{page_from, IsSoFar}
+
+-- in a form that judges what is added is added, and in the other nothing is
+added_in : (form : Form) (all some more : ℕ) → all ≡ some + more → plays_in form all ≡ plays_in form some + plays_in form more
+added_in list_form all some more e = e
+added_in sgf_form all some more e = refl
+added_in gtp_form all some more e = e
+
+fewer_in : (form : Form) (some all : ℕ) → some ≤ all → plays_in form some ≤ plays_in form all
+fewer_in list_form some all le = le
+fewer_in sgf_form some all le = omega arith
+fewer_in gtp_form some all le = le
+
+-- a line more plays no less
+plays_grow : (form : Form) (ls : List Line) (k : ℕ) → plays_of form (take k ls) ≤ plays_of form (take (k + 1) ls)
+plays_grow form ls k =
+    let front = flat_map judged_places (take k ls) in
+    let one = flat_map judged_places (take 1 (drop k ls)) in
+    let all : all_judged (take (k + 1) ls) ≡ different front ++ filter (is_new front) (different one) =
+    ap all_judged (take-add k 1 ls) ∙ ap different (flat_map-append judged_places (take k ls) (take 1 (drop k ls))) ∙ different-append front one in
+    fewer_in form (length (all_judged (take k ls))) (length (all_judged (take (k + 1) ls)))
+    (omega (arith, ap length all, length-append (different front) (filter (is_new front) (different one))))
+
+-- all lines
+all_plays : (form : Form) (ls : List Line) (k : ℕ) → length ls ≤ k → plays_of form (take k ls) ≡ plays_of form ls
+all_plays form ls k le = ap (plays_of form) (take_all k ls le)
+
+module _ (c : Games) (rise : PlacesRise c) (first limit : ℕ) where
+  stands : (k : ℕ) (line : Line) → slice_get (page_from c first limit) k ≡ Some line → slice_get (lines c) (first + k) ≡ Some line
+  stands k line e =
+      let lt : k < limit = omega (arith, get_some (page_from c first limit) k line e, length-take limit (drop first (lines c))) in
+      sym (get_taken (drop first (lines c)) limit k lt ∙ get_dropped (lines c) first k) ∙ e
+
+  -- how many nodes a line shares with the one before it on the page
+  abbrev pub Shares : ℕ → ℕ → Type 0
+  Shares zero shared = shared ≡ 0
+  Shares (suc k) shared = Continues (numbers_before c (first + suc k)) shared (numbers_before c (suc (first + suc k)))
+
+  pub adds : (form : Form) (k shared : ℕ) (line : Line) → slice_get (page_from c first limit) k ≡ Some line → Shares k shared
+      → plays_of form (take (k + 1) (page_from c first limit)) ≡ plays_of form (take k (page_from c first limit)) + plays_in form (length (judged_nodes line) - shared)
+  adds form zero shared line e h =
+      let page = page_from c first limit in
+      let one : zero + 1 ≡ 1 = refl in
+      let sum : length (all_judged (take 1 page)) ≡ 0 + (length (judged_nodes line) - shared) = omega (arith, first_plays c rise first page stands line e, h) in
+      added_in form (length (all_judged (take 1 page))) 0 (length (judged_nodes line) - shared) sum
+  adds form (suc k) shared line e h =
+      let page = page_from c first limit in
+      rw add-one (added_in form (length (all_judged (take (suc (suc k)) page))) (length (all_judged (take (suc k) page))) (length (judged_nodes line) - shared)
+      (next_plays c rise first page stands k shared line e h))
+
+-- what a line shares with the one before it, by where the cursor stands
+shares_by : (c : Games) (rise : PlacesRise c) (first limit k : ℕ) (wrote : Bool) (at : Position) (shared : ℕ) → at.games ≡ c → at.index ≡ first + k → (k ≡ 0 → wrote ≡ false) → (0 < k → wrote ≡ true)
+    → IsShared wrote at shared → Shares c rise first limit k shared
+shares_by c rise first limit zero wrote at shared same index first_line later h = rw (first_line refl) at h
+shares_by c rise first limit (suc k) wrote at shared same index first_line later h =
+    let go : Continues (numbers_before at.games at.index) shared (numbers_before at.games (at.index + 1)) = rw (later (omega arith)) at h in
+    rw (same, index, add-one) at go
+
+module _ (form : Form) (c : Games) (rise : PlacesRise c) (first limit count k : ℕ) (wrote : Bool) (at : Position) (old sink : SinkState) (written : IsSoFar form c first limit old k at sink)
+    (first_line : k ≡ 0 → wrote ≡ false) (later : 0 < k → wrote ≡ true) (lt : k < limit) (now : ℕ) (h : now ≡ count + plays_of form (take k (page_from c first limit))) where
+  next_adds : (n : ℕ) → HasPlays form wrote at n → plays_of form (take (k + 1) (page_from c first limit)) ≡ plays_of form (take k (page_from c first limit)) + n
+  next_adds n p =
+      let there : slice_get (lines c) (first + k) ≡ Some p.line = rw (written.same, written.index) at p.found in
+      let here : slice_get (page_from c first limit) k ≡ Some p.line = get_taken (drop first (lines c)) limit k lt ∙ get_dropped (lines c) first k ∙ there in
+      rw (← p.count_is) at
+      (adds c rise first limit form k p.shared p.line here (shares_by c rise first limit k wrote at p.shared written.same written.index first_line later p.shares))
+
+  -- the next line was played whole
+  pub one_played : (new : ℕ) → PlaysLine {E = MemoryFault} form wrote at now new (Ok true) → new ≡ count + plays_of form (take (k + 1) (page_from c first limit))
+  one_played new p = omega (arith, p.2, h, next_adds p.0 p.1)
+
+  -- but its record wasn't taken whole
+  pub played_then_cut : (new : ℕ) → PlaysLine {E = MemoryFault} form wrote at now new (Ok true) → PlaysLines form (page_from c first limit) count new (Err (Write k))
+  played_then_cut new p = record {
+    plays = plays_of form (take (k + 1) (page_from c first limit));
+    rises = one_played new p;
+    answers = record { at_least = plays_grow form (page_from c first limit) k; at_most = omega arith };
+  }
+
+  -- no memory for all of it
+  pub played_in_part : (e : MemoryFault) (new : ℕ) → PlaysLine form wrote at now new (Err e) → PlaysLines form (page_from c first limit) count new (Err (Memory k))
+  played_in_part e new (inl none) = record {
+    plays = plays_of form (take k (page_from c first limit));
+    rises = none ∙ h;
+    answers = record { at_least = omega arith; at_most = plays_grow form (page_from c first limit) k };
+  }
+  played_in_part e new (inr p) = record {
+    plays = new - count;
+    rises = omega (arith, p.2, h);
+    answers = record { at_least = omega (arith, p.2, h); at_most = omega (arith, p.3, h, next_adds p.0 p.1) };
+  }
+
+pub all_played : (form : Form) (c : Games) (first limit count k now : ℕ) → now ≡ count + plays_of form (take k (page_from c first limit)) → length (page_from c first limit) ≤ k
+    → PlaysLines form (page_from c first limit) count now (Ok k)
+all_played form c first limit count k now h le = record {
+  plays = plays_of form (take k (page_from c first limit));
+  rises = h;
+  answers = all_plays form (page_from c first limit) k le;
+}
+
+-- the page by the options
+pub plays_for_options : (form : Form) (c : Games) (first : ℕ) (asked : Option ℕ) (limit count new : ℕ) (result : Result ℕ RunFault) → limit ≡ unwrap_or asked (node_count c)
+    → PlaysLines form (page_from c first limit) count new result → PlaysLines form (limited asked (drop first (lines c))) count new result
+plays_for_options form c first asked limit count new result is h =
+    let fewer : length (drop first (lines c)) ≤ node_count c = omega (arith, lines_within c, length-drop first (lines c)) in
+    rw (limited_is asked (node_count c) (drop first (lines c)) fewer, ← is) h

@@ -1,0 +1,150 @@
+-- The rows of a script: what a text of whole rows does to the board, whatever follows it.
+use Rattle.std.proofs.Common.{◌≡◌, ℕ, zero, suc, ◌≤◌, ◌/◌, ◌%◌, List, [], ◌∷◌, ◌++◌, length, fold, Option, Some, None, Bool, true, false, codes, refl, ap, ◌∙◌, arith, append_assoc, decimal, cond, ◌==◌}
+use Rattle.std.specs.List.{flat_map, slice_split, onto_first}
+use Rattle.std.specs.Fmt.{digits, digits_onto, digit_glyph}
+use Rattle.std.proofs.lemmas.List.Splits.{slice_split_at}
+use Rattle.std.proofs.lemmas.List.Elements.{All-from_recursion}
+use Rattle.go_board.specs.Grid.{Grid}
+use Rattle.go_board.specs.Reason.{word_of}
+use Rattle.go_board.specs.declared.reason.Reason.{Reason}
+use Rattle.go_board.specs.declared.reason.Reason.TheVariants.{Mixed, TwoMoves, BadSetup, BadPoint, Over, Turn, Occupied, Repeat}
+use Rattle.sgf_lines.specs.declared.verdict.Verdict.{Verdict}
+use Rattle.sgf_lines.specs.declared.verdict.Verdict.TheVariants.{Score, Illegal, NotGo, BadSize}
+use Rattle.sgf_lines.specs.Lines.{Line, place_of}
+use Rattle.sgf_lines.specs.Verdict.{verdict}
+use Rattle.sgf_lines.specs.ListRow.{verdict_text, list_row}
+use Rattle.sgf_lines.specs.Script.{comment_row, text_rows}
+use Rattle.sgf_lines.specs.Replay.{after_row, after_text}
+use Rattle.sgf_lines.proofs.Lists.{Each, each_append}
+
+-- the byte doesn't end a row
+abbrev pub IsWithin : ℕ → Type 0
+IsWithin b = (b == 10) ≡ false
+
+-- a text of whole rows takes one board to another
+abbrev pub CarriesBoard : ℕ → Option Grid → List ℕ → Option Grid → Type 0
+CarriesBoard side before text after = (rest : List ℕ) → after_text side before (text ++ rest) ≡ after_text side after rest
+
+pub takes_row : (side : ℕ) (before : Option Grid) (line : List ℕ) → Each IsWithin line → CarriesBoard side before (line ++ (10 ∷ [])) (after_row side before line)
+takes_row side before line h rest =
+    ap (λ t. after_text side before t) (append_assoc line (10 ∷ []) rest)
+    ∙ ap (λ ls. fold (after_row side) before ls) (slice_split_at (λ b. b == 10) line 10 rest (All-from_recursion IsWithin line h) refl)
+
+pub takes_nothing : (side : ℕ) (board : Option Grid) → CarriesBoard side board [] board
+takes_nothing side board rest = refl
+
+pub takes_both : (side : ℕ) (a b c : Option Grid) (t u : List ℕ) → CarriesBoard side a t b → CarriesBoard side b u c → CarriesBoard side a (t ++ u) c
+takes_both side a b c t u first then rest = ap (λ x. after_text side a x) (append_assoc t u rest) ∙ first (u ++ rest) ∙ then rest
+
+-- ---- comments
+
+comment_leaves : (side : ℕ) (board : Option Grid) (piece : List ℕ) → after_row side board (codes "# " ++ piece) ≡ board
+comment_leaves side None piece = refl
+comment_leaves side (Some g) piece = refl
+
+pub takes_comment : (side : ℕ) (board : Option Grid) (piece : List ℕ) → Each IsWithin piece → CarriesBoard side board (comment_row piece) board
+takes_comment side board piece h rest =
+    takes_row side board (codes "# " ++ piece) (refl, (refl, h)) rest ∙ ap (λ b. after_text side b rest) (comment_leaves side board piece)
+
+-- the pieces of a text that is cut at its line feeds have none
+onto_within : (b : ℕ) (pieces : List (List ℕ)) → IsWithin b → Each (λ p. Each IsWithin p) pieces → Each (λ p. Each IsWithin p) (onto_first b pieces)
+onto_within b [] h k = ((h, tt), tt)
+onto_within b (p ∷ ps) h k = ((h, k.0), k.1)
+
+pieces_by : (b : ℕ) (bs : List ℕ) (ends : Bool) → (b == 10) ≡ ends → Each (λ p. Each IsWithin p) (slice_split (λ c. c == 10) bs)
+    → Each (λ p. Each IsWithin p) (cond ends ([] ∷ slice_split (λ c. c == 10) bs) (onto_first b (slice_split (λ c. c == 10) bs)))
+pieces_by b bs true e h = (tt, h)
+pieces_by b bs false e h = onto_within b (slice_split (λ c. c == 10) bs) e h
+
+pieces_within : (text : List ℕ) → Each (λ p. Each IsWithin p) (slice_split (λ c. c == 10) text)
+pieces_within [] = (tt, tt)
+pieces_within (b ∷ bs) = pieces_by b bs (b == 10) refl (pieces_within bs)
+
+takes_comments : (side : ℕ) (board : Option Grid) (pieces : List (List ℕ)) → Each (λ p. Each IsWithin p) pieces → CarriesBoard side board (flat_map comment_row pieces) board
+takes_comments side board [] h = takes_nothing side board
+takes_comments side board (p ∷ ps) h =
+    takes_both side board board board (comment_row p) (flat_map comment_row ps) (takes_comment side board p h.0) (takes_comments side board ps h.1)
+
+pub takes_text_rows : (side : ℕ) (board : Option Grid) (text : List ℕ) → CarriesBoard side board (text_rows text) board
+takes_text_rows side board [] = takes_nothing side board
+takes_text_rows side board (b ∷ bs) = takes_comments side board (slice_split (λ c. c == 10) (b ∷ bs)) (pieces_within (b ∷ bs))
+
+-- ---- the row
+
+-- a digit or a letter: no white space and no `#`
+abbrev pub IsSolid : ℕ → Type 0
+IsSolid b = 48 ≤ b
+
+glyph_solid : (d : ℕ) → IsSolid (digit_glyph false d)
+glyph_solid d = grind (arith)
+
+digits_by : (last : Bool) (one more : List ℕ) → Each IsSolid one → Each IsSolid more → Each IsSolid (cond last one more)
+digits_by true one more h k = h
+digits_by false one more h k = k
+
+digits_solid : (fuel n : ℕ) (after : List ℕ) → Each IsSolid after → Each IsSolid (digits_onto fuel 10 false n after)
+digits_solid zero n after h = h
+digits_solid (suc fuel) n after h =
+    let all = digit_glyph false (n % 10) ∷ after in
+    let solid : Each IsSolid all = (glyph_solid (n % 10), h) in
+    digits_by (n / 10 == 0) all (digits_onto fuel 10 false (n / 10) all) solid (digits_solid fuel (n / 10) all solid)
+
+pub decimal_solid : (n : ℕ) → Each IsSolid (decimal n)
+unfolding digits
+decimal_solid n = digits_solid 64 n [] tt
+
+pub solid_within : (bs : List ℕ) → Each IsSolid bs → Each IsWithin bs
+solid_within [] h = tt
+solid_within (b ∷ bs) h = (grind (arith, h.0), solid_within bs h.1)
+
+pub decimal_within : (n : ℕ) → Each IsWithin (decimal n)
+decimal_within n = solid_within (decimal n) (decimal_solid n)
+
+pub within_both : (xs ys : List ℕ) → Each IsWithin xs → Each IsWithin ys → Each IsWithin (xs ++ ys)
+within_both xs ys h k = each_append IsWithin xs ys h k
+
+-- a decimal after other bytes, and a space after that
+number_within : (before : List ℕ) (n : ℕ) → Each IsWithin before → Each IsWithin (before ++ decimal n)
+number_within before n h = within_both before (decimal n) h (decimal_within n)
+
+space_within : (before : List ℕ) → Each IsWithin before → Each IsWithin (before ++ codes " ")
+space_within before h = within_both before (codes " ") h (refl, tt)
+
+word_within : (r : Reason) → Each IsWithin (word_of r)
+word_within Mixed = search
+word_within TwoMoves = search
+word_within BadSetup = search
+word_within BadPoint = search
+word_within Over = search
+word_within Turn = search
+word_within Occupied = search
+word_within Repeat = search
+
+over_within : (over : Bool) → Each IsWithin (cond over (codes " over") (codes " open"))
+over_within true = search
+over_within false = search
+
+verdict_within : (v : Verdict) → Each IsWithin (verdict_text v)
+verdict_within (Score black white over) =
+    let one = codes "score " ++ decimal black in
+    let both = one ++ codes " " ++ decimal white in
+    let first : Each IsWithin one = number_within (codes "score ") black search in
+    let second : Each IsWithin both = number_within (one ++ codes " ") white (space_within one first) in
+    within_both both (cond over (codes " over") (codes " open")) second (over_within over)
+verdict_within (Illegal turn place reason) =
+    let one = codes "illegal " ++ decimal turn in
+    let both = one ++ codes " " ++ decimal place in
+    let first : Each IsWithin one = number_within (codes "illegal ") turn search in
+    let second : Each IsWithin both = number_within (one ++ codes " ") place (space_within one first) in
+    within_both (both ++ codes " ") (word_of reason) (space_within both second) (word_within reason)
+verdict_within NotGo = search
+verdict_within BadSize = search
+
+pub row_within : (line : Line) → Each IsWithin (list_row line)
+row_within line =
+    let one = decimal (place_of line) in
+    let two = one ++ codes " " ++ decimal line.game_number in
+    let three = two ++ codes " " ++ decimal (length line.nodes) in
+    let second : Each IsWithin two = number_within (one ++ codes " ") line.game_number (space_within one (decimal_within (place_of line))) in
+    let third : Each IsWithin three = number_within (two ++ codes " ") (length line.nodes) (space_within two second) in
+    within_both (three ++ codes " ") (verdict_text (verdict line)) (space_within three third) (verdict_within (verdict line))

@@ -1,8 +1,0 @@
--- The pieces so far are appended.
-use Rattle.std.proofs.Common.{◌≡◌, ◌++◌, map}
-use Rattle.std.specs.List.{flat_map}
-use Rattle.sgf_lines.specs.Script.{comment_line}
-use Rattle.sgf_lines.proofs.script.push_text_lines.Given as goal
-
-abbrev pub invariant-loop-piece : goal.invariant-loop-piece
-invariant-loop-piece l = l.output.items ≡ l.fn.output.items ++ flat_map comment_line (map (λ p. p.now) l.yielded)

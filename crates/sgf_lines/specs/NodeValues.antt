@@ -1,0 +1,38 @@
+-- What raw values say on a board of a given side (SGF FF[4], "Move", "Stone", "Color").
+use Rattle.std.specs.Prelude.{ℕ, Bool, ◌==◌, ◌||◌, ◌&&◌, nat_le, if◌then◌else◌, Option, Some, None, option_map, option_and_then, List, [], ◌∷◌, length, codes, bytes_eq}
+use Rattle.go_board.specs.declared.stones.Colour.{Colour}
+use Rattle.go_board.specs.declared.stones.Colour.TheVariants.{Black, White}
+use Rattle.go_board.specs.declared.referee.plays.Play.{Play}
+use Rattle.go_board.specs.declared.referee.plays.Play.TheVariants.{Pass, Stone}
+use Rattle.go_board.specs.declared.referee.plays.SetupOp.{SetupOp}
+use Rattle.go_board.specs.Values.{point_value, rect_value}
+use Rattle.sgf_lines.specs.NodeContents.{Stones}
+
+-- a pass is the empty value, or `tt` on a board of side 19 at most
+abbrev pub is_pass : List ℕ → ℕ → Bool
+is_pass raw side = (length raw == 0) || (bytes_eq raw (codes "tt") && nat_le side 19)
+
+-- the play of a move: a pass, or a stone on a point of the board
+abbrev pub move_value : List ℕ → ℕ → Option Play
+move_value raw side = if is_pass raw side then Some Pass else option_map Stone (point_value raw side)
+
+-- the player that a colour names
+abbrev pub player_value : List ℕ → Option Colour
+player_value raw =
+    if bytes_eq raw (codes "B") then Some Black
+    else (if bytes_eq raw (codes "W") then Some White else None)
+
+-- the operation that stones are: they colour a rectangle of the board
+abbrev pub operation : Stones → ℕ → Option SetupOp
+operation s side = option_map (λ area. record { cell = s.cell; area = area }) (rect_value s.raw side)
+
+-- the operations that all of them are, in order; none where one of them names no rectangle of the board
+abbrev pub operations : List Stones → ℕ → Option (List SetupOp)
+operations [] side = Some []
+operations (s ∷ ss) side =
+    option_and_then (λ op. option_map (λ ops. op ∷ ops) (operations ss side)) (operation s side)
+
+-- the last player named, after one who was named before or none; nothing where one of the values names no player
+abbrev pub last_player : Option Colour → List (List ℕ) → Option (Option Colour)
+last_player before [] = Some before
+last_player before (raw ∷ raws) = option_and_then (λ k. last_player (Some k) raws) (player_value raw)

@@ -1,0 +1,24 @@
+use Rattle.std.proofs.Common.{[], ◌∷◌, ◌++◌, slice_range, arith}
+use Rattle.sgf_tree.specs.Spelling.{no_value}
+use Rattle.sgf_tree.proofs.Iterating.{values-more}
+use Rattle.sgf_tree.proofs.iter.far_values_end.Goals as goal
+
+pub values-init : goal.values-init
+values-init c = record { rises = omega arith; within = c.requires.within; values = []; spelled = no_value }
+
+pub values-preserved : goal.values-preserved
+values-preserved c =
+    let t = c.args.text.now in
+    let before = c.values.invariant in
+    let next = c.in-Some.ensures in
+    record {
+      rises = omega (arith, before.rises, next.begins, next.rises);
+      within = omega (arith, next.within);
+      values = before.values ++ slice_range t c.in-Some._start c.in-Some.close ∷ [];
+      spelled = values-more before.spelled next.spelled;
+    }
+
+pub returns : goal.returns
+returns c =
+    let before = c.values.invariant in
+    record { within = before.within; past = record { values = before.values; spelled = before.spelled; none_left = c.in_default.ensures } }

@@ -1,0 +1,309 @@
+//! Steps forward over the properties of a node, and over the values of a property.
+//! All steps over a node together cost what its text costs, however many properties and values it has.
+
+ghost use Rattle.std.specs.Prelude.{◌≡◌, ◌↔◌, ◌≤◌, ◌<◌, false, [], ◌∷◌, length, drop, slice_index, IsTrue, IfSome, MatchOption};
+ghost use Rattle.sgf_tree.specs.Written.{IsWrittenFront};
+ghost use Rattle.sgf_tree.specs.Spelling.{is_white, is_upper};
+ghost use Rattle.sgf_tree.specs.inner.Progress.{IsSpan};
+ghost use Rattle.sgf_tree.specs.inner.NodeText.{properties_in, ArePropertiesIn, AreValuesWritten, IsPropertyWritten, ArePropertiesWritten, IsValueAt, IsValuesEnd, IsNoPropValue};
+ghost use Rattle.sgf_tree.specs.inner.KeptEnds.{AreKeptEnds};
+
+use crate::layout::LongValue;
+use crate::property::PropRef;
+use crate::reader::long::value_end;
+use crate::reader::scan::{
+    capitals_end, identifier_end, part, rest_from, skip_to_bracket, skip_white,
+};
+use std::marker::Model;
+
+/// The properties of a node that are left, in file order.
+/// No call on it takes memory.
+#[derive(Drop)]
+pub struct Properties<'a> {
+    pub(crate) rest: &'a [u8],
+    pub(crate) long: &'a Vec<LongValue>,
+}
+
+impl<'a> Model for Properties<'a> {
+    ghost use Rattle.std.specs.Prelude.{List};
+    ghost use Rattle.sgf_tree.specs.Tree.{Property};
+    ghost use Rattle.sgf_tree.specs.inner.TreeCode.{properties_code};
+
+    ghost Value = { List Property };
+
+    ghost coded = { properties_code };
+
+    ghost use Rattle.sgf_tree.specs.inner.NodeText.{properties_in, ArePropertiesIn};
+    ghost use Rattle.sgf_tree.specs.inner.KeptEnds.{AreKeptEnds};
+
+    ghost view = { λ n. properties_in n.rest.now };
+
+    ghost invariant = { λ n. ArePropertiesIn n.rest.now × AreKeptEnds n.rest.now n.long.now.items };
+}
+
+impl<'a> Properties<'a> {
+    /// Whether none is left.
+    pub(crate) fn is_empty(&self) -> bool
+        ensures { IsTrue result ↔ self.now ≡ [] }
+    {
+        let text = self.rest;
+        let start = skip_white(text, 0);
+        start == text.len() || !text[start].is_ascii_uppercase()
+    }
+
+    /// Takes off the next property.
+    /// None after the last one, again and again.
+    #[inline(always)]
+    pub fn next(&mut self) -> Option<PropRef<'a>>
+        ensures { MatchOption result ((self.old ≡ []) × (self.new ≡ [])) (λ p. self.old ≡ p ∷ self.new) }
+    {
+        let text = self.rest;
+        let start = skip_white(text, 0);
+        if start == text.len() || !text[start].is_ascii_uppercase() {
+            return None;
+        }
+        let (property, next) = property_at(text, start, self.long);
+        self.rest = rest_from(text, next);
+        Some(property)
+    }
+
+    /// Takes off the properties in front that stand as the sgf form writes them, with no white space and no small letter
+    /// between their parts, and answers their text, without the white space before it.
+    /// It is empty where the first property doesn't stand so, and where none is left.
+    pub fn written(&mut self) -> &'a [u8]
+        ensures { IsWrittenFront self.old self.new result.now }
+    {
+        let text = self.rest;
+        let start = skip_white(text, 0);
+        let end = written_properties_end(text, start, self.long);
+        self.rest = rest_from(text, end);
+        part(text, start, end)
+    }
+}
+
+/// The first property of a text, whose identifier begins at `start`, after white space, and where its values end.
+/// It is kept apart from the test whether there is one, so that finding none costs little.
+#[inline(never)]
+fn property_at<'a>(text: &'a [u8], start: usize, long: &Vec<LongValue>) -> (PropRef<'a>, usize)
+    requires held { ArePropertiesIn text.now }
+    requires kept { AreKeptEnds text.now long.now.items }
+    requires white { IsSpan is_white text.now 0 start }
+    requires within { start < length text.now }
+    requires capital { IsTrue (is_upper (slice_index text.now start)) }
+    ensures within { result.1 ≤ length text.now }
+    ensures left { ArePropertiesIn (drop result.1 text.now) }
+    ensures first { properties_in text.now ≡ result.0 ∷ properties_in (drop result.1 text.now) }
+{
+    let end = identifier_end(text, start);
+    let (from, close) = value_at(text, end, Some(long)).unwrap();
+    let more = close + 1;
+    let next = values_end(text, more, long);
+    let property = PropRef {
+        identifier: part(text, start, end),
+        first: part(text, from, close),
+        more: rest_from(text, more),
+    };
+    (property, next)
+}
+
+/// Where the raw value at `at` begins, after white space and a `[`, and where its `]` stands.
+/// None where no value is there.
+///
+/// It is compiled into its callers, as a call would hand its offsets over in memory.
+#[inline(always)]
+fn value_at(text: &[u8], at: usize, long: Option<&Vec<LongValue>>) -> Option<(usize, usize)>
+    requires within { at ≤ length text.now }
+    requires kept { IfSome long (λ kept. AreKeptEnds text.now kept.now.items) }
+    ensures { MatchOption result (IsNoPropValue (drop at text.now)) (λ value. IsValueAt text.now at value.0 value.1) }
+{
+    let bracket = skip_to_bracket(text, at);
+    if bracket == text.len() || text[bracket] != b'[' {
+        return None;
+    }
+    let Some(close) = value_end(text, bracket + 1, long) else {
+        return None;
+    };
+    Some((bracket + 1, close))
+}
+
+/// Whether a value may be at `at`: white space there, or none, and a `[`.
+fn begins_value(text: &[u8], at: usize) -> bool
+    requires { at ≤ length text.now }
+    ensures { result ≡ false → IsNoPropValue (drop at text.now) }
+{
+    let bracket = skip_white(text, at);
+    bracket < text.len() && text[bracket] == b'['
+}
+
+/// The end of the values at `at`, of which there are some.
+#[inline(never)]
+fn far_values_end(text: &[u8], at: usize, long: &Vec<LongValue>) -> usize
+    requires within { at ≤ length text.now }
+    requires kept { AreKeptEnds text.now long.now.items }
+    ensures { IsValuesEnd text.now at result }
+{
+    let mut end = at;
+    'values: while let Some((_start, close)) = value_at(text, end, Some(long)) {
+        end = close + 1;
+    }
+    end
+}
+
+/// The end of the values at `at`. After the first value of a property there are mostly none.
+fn values_end(text: &[u8], at: usize, long: &Vec<LongValue>) -> usize
+    requires within { at ≤ length text.now }
+    requires kept { AreKeptEnds text.now long.now.items }
+    ensures { IsValuesEnd text.now at result }
+{
+    if begins_value(text, at) {
+        far_values_end(text, at, long)
+    } else {
+        at
+    }
+}
+
+/// The end of the properties at `at`, as far as they stand as the sgf form writes them.
+pub(crate) fn written_properties_end(text: &[u8], at: usize, long: &Vec<LongValue>) -> usize
+    requires within { at ≤ length text.now }
+    requires held { ArePropertiesIn (drop at text.now) }
+    requires kept { AreKeptEnds text.now long.now.items }
+    ensures { ArePropertiesWritten text.now at result }
+{
+    let mut end = at;
+    'properties: while let Some(next) = written_end(text, end, long) {
+        end = next;
+    }
+    end
+}
+
+/// The end of the values at `at`, as far as they stand as the sgf form writes them, with nothing between them.
+fn written_values_end(text: &[u8], at: usize, long: &Vec<LongValue>) -> Option<usize>
+    requires within { at ≤ length text.now }
+    requires kept { AreKeptEnds text.now long.now.items }
+    ensures { IfSome result (AreValuesWritten text.now at) }
+{
+    let mut end = at;
+    'values: while end < text.len() && text[end] == b'[' {
+        let Some(close) = value_end(text, end + 1, Some(long)) else {
+            return None;
+        };
+        end = close + 1;
+    }
+    Some(end)
+}
+
+/// The end of the property at `at`.
+/// None where none is there, or one that doesn't stand as the sgf form writes it.
+fn written_end(text: &[u8], at: usize, long: &Vec<LongValue>) -> Option<usize>
+    requires within { at ≤ length text.now }
+    requires kept { AreKeptEnds text.now long.now.items }
+    ensures { IfSome result (IsPropertyWritten text.now at) }
+{
+    let name_end = capitals_end(text, at);
+    let Some(end) = written_values_end(text, name_end, long) else {
+        return None;
+    };
+    if name_end == at || end == name_end {
+        return None;
+    }
+    let next = skip_white(text, end);
+    if next < text.len() && text[next] == b'[' {
+        return None;
+    }
+    Some(end)
+}
+
+/// The raw values of a property that are left, in file order.
+/// No call on it takes memory.
+#[derive(Drop)]
+pub struct Values<'a> {
+    /// The first one, until it is taken off: where it ends is known already.
+    pub(crate) first: Option<&'a [u8]>,
+    pub(crate) rest: &'a [u8],
+}
+
+impl<'a> Model for Values<'a> {
+    ghost use Rattle.std.specs.Prelude.{ℕ, List, option_copied};
+    ghost use Rattle.sgf_tree.specs.inner.TreeCode.{values_code};
+
+    ghost Value = { List (List ℕ) };
+
+    ghost coded = { values_code };
+
+    ghost use Rattle.sgf_tree.specs.inner.NodeText.{values_in, values_left, AreValuesIn};
+
+    ghost view = { λ p. values_left (option_copied p.first) (values_in p.rest.now) };
+
+    ghost invariant = { λ p. AreValuesIn p.rest.now };
+}
+
+impl<'a> Values<'a> {
+    /// Takes off the next raw value: the bytes between its `[` and its `]`, which are a part of the text that was read.
+    /// None after the last one, again and again.
+    pub fn next(&mut self) -> Option<&'a [u8]>
+        ensures { MatchOption result ((self.old ≡ []) × (self.new ≡ [])) (λ v. self.old ≡ v.now ∷ self.new) }
+    {
+        if let Some(first) = self.first {
+            self.first = None;
+            return Some(first);
+        }
+        let text = self.rest;
+        let Some((start, close)) = value_at(text, 0, None) else {
+            return None;
+        };
+        self.rest = rest_from(text, close + 1);
+        Some(part(text, start, close))
+    }
+}
+
+#[cfg(test)]
+mod tests {
+    use super::*;
+    use crate::reader::read;
+    use std::test::Fail;
+
+    #[test]
+    fn steps_forward(rt: HostRuntime) -> Result<(), Fail> {
+        let c = read(rt.alloc(), b"(; AB [aa]\n[bb] C[x\\]y] ;PL[B])")?;
+        assert_eq!(rt; c.nodes(), 2);
+        let mut properties = c.node(0).iter();
+        let mut seen = Vec::new(rt.alloc());
+        for _ in 0..3 {
+            let Some(property) = properties.next() else {
+                seen.push(b'.')?;
+                continue;
+            };
+            property.push_name(&mut seen)?;
+            let mut values = property.iter();
+            for _ in 0..3 {
+                let Some(value) = values.next() else {
+                    seen.push(b';')?;
+                    continue;
+                };
+                seen.push(b' ')?;
+                seen.extend_from_slice(value)?;
+            }
+        }
+        assert_eq!(rt; seen.as_slice(), b"AB aa bb;C x\\]y;;.".as_slice());
+        Ok(())
+    }
+
+    #[test]
+    fn takes_off_what_is_written(rt: HostRuntime) -> Result<(), Fail> {
+        for (text, want) in [
+            (
+                b"(;B[aa]C[x\\]][y] W[bb])".as_slice(),
+                b"B[aa]C[x\\]][y]".as_slice(),
+            ),
+            (b"(;B[aa]AB[a] [b])".as_slice(), b"B[aa]".as_slice()),
+            (b"(;GaMe[1]B[aa])".as_slice(), b"".as_slice()),
+            (b"(;\nB[aa]PL[W]\n)".as_slice(), b"B[aa]PL[W]".as_slice()),
+            (b"(;)".as_slice(), b"".as_slice()),
+        ] {
+            let c = read(rt.alloc(), text)?;
+            assert_eq!(rt; c.nodes(), 1);
+            assert_eq!(rt; c.node(0).iter().written(), want, "of {text:?}");
+        }
+        Ok(())
+    }
+}
