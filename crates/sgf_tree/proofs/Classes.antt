@@ -1,5 +1,5 @@
 -- The classes of bytes stand apart.
-use Rattle.std.proofs.Common.{◌≡◌, ◌≢◌, ℕ, ◌≤◌, Bool, true, false, ◌==◌, nat_le, IsTrue, arith, refl, leb-true, eqb-true}
+use Rattle.std.proofs.Common.{◌≡◌, ◌≢◌, ℕ, ◌≤◌, Bool, true, false, ◌==◌, nat_le, ◌<◌, IsTrue, arith, refl, leb-true, eqb-true}
 use Rattle.std.proofs.lemmas.Bool.{and_parts, or_cases}
 use Rattle.std.proofs.lemmas.Bool.Decides.{nat_tests}
 use Rattle.sgf_tree.specs.Spelling.{is_white, is_upper, is_lower}
@@ -31,6 +31,13 @@ lower-not_upper b h = fails (is_upper b) (λ w. let u = upper-range b w in let v
 
 pub upper-not_bracket : (b : ℕ) → IsTrue (is_upper b) → b == 91 ≡ false
 upper-not_bracket b h = fails (b == 91) (λ e. let u = upper-range b h in let v = eqb-true b 91 e in omega arith)
+
+-- the bytes between a space and the capitals
+pub between-not_white : (b : ℕ) → 32 < b → is_white b ≡ false
+between-not_white b above = fails (is_white b) (λ w. let v = white-range b w in omega arith)
+
+pub between-not_upper : (b : ℕ) → b < 65 → is_upper b ≡ false
+between-not_upper b below = fails (is_upper b) (λ w. let u = upper-range b w in omega arith)
 
 pub white-not_mark : (b : ℕ) → IsTrue (is_white b) → b == 239 ≡ false
 white-not_mark b h = fails (b == 239) (λ e. let u = white-range b h in let v = eqb-true b 239 e in omega arith)

@@ -6,6 +6,8 @@ pub mod Names
 pub mod ValueEnds
 pub mod ValueSpelled
 pub mod ValueUnits
+pub mod NearMarks
+pub mod NearLiterals
 pub mod NearBrackets
 pub mod KeptEnds
 pub mod ValuesRead

@@ -1,12 +1,9 @@
 -- The bytes that stand for themselves, whatever follows.
-use Rattle.std.proofs.Common.{◌≡◌, ℕ, Bool, true, false, not, ◌||◌, ◌&&◌, ◌==◌, nat_le, List, [], ◌∷◌, ◌++◌, take, drop, refl, ap, sym, ◌∙◌, arith}
+use Rattle.std.proofs.Common.{◌≡◌, ℕ, zero, suc, ◌≤◌, true, false, ◌==◌, List, [], ◌∷◌, ◌++◌, length, take, drop, refl, ap, sym, ◌∙◌, arith}
 use Rattle.std.proofs.lemmas.List.{take-append-drop}
 use Rattle.std.specs.List.{list_all}
 use Rattle.sgf_tree.specs.Text.{text_of, is_pair, unescaped}
-
--- neither a `\` nor one of tab, LF, vertical tab, form feed and CR
-abbrev pub is_literal : ℕ → Bool
-is_literal b = not (b == 92 || nat_le 9 b && nat_le b 13)
+use Rattle.sgf_tree.specs.inner.Literals.{is_literal, AreLiterals}
 
 not_backslash : (a : ℕ) → is_literal a ≡ true → (a == 92) ≡ false
 not_backslash a h = grind arith
@@ -29,6 +26,18 @@ text_of-literals (x ∷ xs) s h =
     let rest : list_all is_literal xs ≡ true = grind arith in
     text_of-literal x (xs ++ s) first ∙ ap (λ t. x ∷ t) (text_of-literals xs s rest)
 
-pub text_of-take_literals : (xs : List ℕ) (i : ℕ) → list_all is_literal (take i xs) ≡ true → text_of xs ≡ take i xs ++ text_of (drop i xs)
+text_of-take_literals : (xs : List ℕ) (i : ℕ) → list_all is_literal (take i xs) ≡ true → text_of xs ≡ take i xs ++ text_of (drop i xs)
 text_of-take_literals xs i h =
     ap text_of (sym (take-append-drop i xs)) ∙ text_of-literals (take i xs) (drop i xs) h
+
+-- bytes that are literal one by one are so together
+all-literal : (xs : List ℕ) (n : ℕ) → n ≤ length xs → AreLiterals xs 0 n → list_all is_literal (take n xs) ≡ true
+all-literal xs zero within each = refl
+all-literal [] (suc n) within each = absurd (omega arith)
+all-literal (x ∷ xs) (suc n) within each =
+    let first : is_literal x ≡ true = each 0 (omega arith) (omega arith) in
+    let rest : list_all is_literal (take n xs) ≡ true = all-literal xs n (omega arith) (λ i low high. each (suc i) (omega arith) (omega arith)) in
+    rw (first, rest) refl
+
+pub text_of-literals_before : (xs : List ℕ) (n : ℕ) → n ≤ length xs → AreLiterals xs 0 n → text_of xs ≡ take n xs ++ text_of (drop n xs)
+text_of-literals_before xs n within each = text_of-take_literals xs n (all-literal xs n within each)

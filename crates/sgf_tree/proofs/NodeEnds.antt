@@ -5,7 +5,7 @@ use Rattle.sgf_tree.specs.Spelling.{is_white, is_upper}
 use Rattle.sgf_tree.specs.inner.Machine.{Started, MachineState, in_node, in_name, after_value, after_node, with_property, ended, next_state, accepted}
 use Rattle.sgf_tree.specs.inner.Progress.{ComesTo, IsSpan}
 use Rattle.sgf_tree.specs.inner.PropertiesRead.{IsPropertyRead, StandsAfterNode, with_properties, ArePropertiesRead}
-use Rattle.sgf_tree.proofs.Classes.{upper-not_white, upper-not_bracket}
+use Rattle.sgf_tree.proofs.Classes.{between-not_white, between-not_upper, upper-not_white, upper-not_bracket}
 use Rattle.sgf_tree.proofs.Run.{run-take-step}
 use Rattle.sgf_tree.proofs.Skipping.{stays-in_node}
 use Rattle.sgf_tree.proofs.Spans.{run-white}
@@ -120,3 +120,14 @@ module _ (t : List ℕ) where
         not_white = so_far.not_white;
         reached = λ n none h. let before = so_far.reached n none h in (before.0, node-done end (with_properties n before.0) before.1 so_far.not_white upper);
       }
+
+  -- a byte that is neither white space nor a capital ends a node at once
+  pub properties-none : (at : ℕ) → at < length t → 32 < get_or t at 0 → get_or t at 0 < 65 → ArePropertiesRead t at at
+  properties-none at lt above below =
+      let nothing : IsSpan is_white t at at = record {
+        rises = omega arith;
+        within = omega arith;
+        passing = λ i low high. absurd (omega arith);
+        stops = λ lt'. between-not_white (get_or t at 0) above;
+      } in
+      properties-done at at (properties-begin at at nothing) (λ lt'. between-not_upper (get_or t at 0) below)

@@ -3,6 +3,7 @@ pub mod Machine
 pub mod Layout
 pub mod NodeText
 pub mod Progress
+pub mod Literals
 pub mod KeptEnds
 pub mod PropertiesRead
 pub mod GamesRead

@@ -2,8 +2,10 @@
 
 ghost use Rattle.std.specs.Prelude.{◌≡◌, ◌<◌, ◌≤◌, ◌+◌, ◌++◌, OnOk, OnErr, length, take, drop, option_to_list};
 ghost use Rattle.sgf_tree.specs.Text.{text_of, spaced as spaced_rule};
+ghost use Rattle.sgf_tree.specs.inner.Literals.{AreLiterals, lowest_mark};
 
 use crate::fault::MemoryFault;
+use std::simd::prelude::*;
 
 /// Appends the decoded text of a raw value to `out` (SGF FF[4], Text).
 ///
@@ -31,17 +33,50 @@ pub fn push_text(raw: &[u8], out: &mut Vec<u8>) -> Result<(), MemoryFault>
     Ok(())
 }
 
-/// How many bytes at the front stand for themselves, whatever follows.
+/// How many bytes are looked at together.
+const TOGETHER: usize = 16;
+
+/// How many bytes at the front stand for themselves, whatever follows. There may be more.
 fn literal_length(raw: &[u8]) -> usize
     ensures within { result ≤ length raw.now }
     ensures literal { text_of raw.now ≡ take result raw.now ++ text_of (drop result raw.now) }
 {
-    for (i, byte) in raw.iter().enumerate() {
-        if matches!(byte, b'\\' | b'\t'..=b'\r') {
-            return i;
+    let mut end = 0;
+    'together: while raw.len() - end >= TOGETHER {
+        let more = near_literals(raw, end);
+        end += more;
+        if more < TOGETHER {
+            return end;
         }
     }
-    raw.len()
+    'bytes: while end < raw.len() && !matches!(raw[end], b'\\' | b'\t'..=b'\r') {
+        end += 1;
+    }
+    end
+}
+
+/// How many of the `TOGETHER` bytes at `at` come before the first one that is a `\` or a control byte up to CR, which may not
+/// stand for itself.
+fn near_literals(raw: &[u8], at: usize) -> usize
+    requires { at + TOGETHER ≤ length raw.now }
+    ensures at_most { result ≤ TOGETHER }
+    ensures literal { AreLiterals raw.now at (at + result) }
+{
+    let bytes = u8x16::from_slice(&raw[at..]);
+    let escapes = bytes.simd_eq(u8x16::splat(b'\\')).to_bitmask();
+    let controls = bytes.simd_lt(u8x16::splat(b'\r' + 1)).to_bitmask();
+    first_mark(escapes).min(first_mark(controls))
+}
+
+/// The index of the lowest bit that is set, or `TOGETHER` where none is.
+fn first_mark(marks: u64) -> usize
+    ensures { result ≡ lowest_mark marks }
+{
+    if marks == 0 {
+        TOGETHER
+    } else {
+        marks.trailing_zeros() as usize
+    }
 }
 
 /// The byte that the front of a raw value gives, if it gives one, and the rest.
@@ -92,6 +127,37 @@ mod tests {
             let mut out = Vec::new(rt.alloc());
             push_text(raw.as_bytes(), &mut out)?;
             assert_eq!(rt; out.as_slice(), want.as_bytes(), "of {raw:?}");
+        }
+        Ok(())
+    }
+
+    /// Bytes that are looked at together and those that are left give the same, wherever the first special one stands.
+    #[test]
+    fn decodes_after_plain_bytes(rt: HostRuntime) -> Result<(), Fail> {
+        for plain in 0..40 {
+            for (special, want) in [
+                ("", ""),
+                ("\\]b", "]b"),
+                ("\tb", " b"),
+                ("\r\nb", "\nb"),
+                ("\x01b", "\x01b"),
+            ] {
+                let mut raw = Vec::new(rt.alloc());
+                raw.resize(plain, b'a')?;
+                raw.extend_from_slice(special.as_bytes())?;
+                raw.resize(raw.len().wrapping_add(20), b'c')?;
+                let mut decoded = Vec::new(rt.alloc());
+                decoded.resize(plain, b'a')?;
+                decoded.extend_from_slice(want.as_bytes())?;
+                decoded.resize(decoded.len().wrapping_add(20), b'c')?;
+                let mut out = Vec::new(rt.alloc());
+                push_text(&raw, &mut out)?;
+                assert_eq!(rt;
+                    out.as_slice(),
+                    decoded.as_slice(),
+                    "of {plain} and {special:?}"
+                );
+            }
         }
         Ok(())
     }

@@ -52,7 +52,30 @@ fn read_property(text: &[u8], start: usize, long: &mut Vec<LongValue>) -> Result
 
 /// Reads the properties of a node, which begin at `at` or after white space there.
 /// The result is the offset of the byte after them and the white space there.
+///
+/// Where a mark of the tree stands there, the node is empty: that is told before anything is called.
+#[inline(always)]
 pub(crate) fn read_properties(
+    text: &[u8],
+    at: usize,
+    long: &mut Vec<LongValue>,
+) -> Result<usize, PartFault>
+    requires short { length text.now ≤ MAX_LENGTH }
+    requires within { at ≤ length text.now }
+    requires kept { AreKeptEnds text.now long.old.items }
+    ensures read { IfOk result (ArePropertiesRead text.now at) }
+    ensures fault { IfErr result (IsFaultInNode text.now at) }
+    ensures kept { OnOk result (AreKeptEnds text.now long.new.items) }
+{
+    if at < text.len() && b' ' < text[at] && text[at] < b'A' {
+        return Ok(at);
+    }
+    read_some_properties(text, at, long)
+}
+
+/// The same, for any node.
+#[inline(never)]
+fn read_some_properties(
     text: &[u8],
     at: usize,
     long: &mut Vec<LongValue>,

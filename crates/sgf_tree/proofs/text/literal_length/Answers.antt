@@ -1,11 +1,21 @@
-use Rattle.std.proofs.Common.{length, ◌≡◌, arith}
-use Rattle.sgf_tree.proofs.Literal.{text_of-take_literals}
+use Rattle.std.proofs.Common.{◌+◌, inl, inr, arith}
+use Rattle.std.proofs.lemmas.Bool.{cases_lt}
+use Rattle.sgf_tree.proofs.Literal.{text_of-literals_before}
 use Rattle.sgf_tree.proofs.text.literal_length.Goals as goal
 
-pub returns-then-matches-clause-literal : goal.returns-then-matches-clause-literal
-returns-then-matches-clause-literal c = text_of-take_literals c.args.raw.now c.loop-i.i c.loop-i.invariant
+pub returns-then-more-lt-TOGETHER-clause-literal : goal.returns-then-more-lt-TOGETHER-clause-literal
+returns-then-more-lt-TOGETHER-clause-literal c =
+    let end = c.together.end + c.near_literals-more.result in
+    text_of-literals_before c.args.raw.now end (omega (arith, c.near_literals-more.ensures.at_most, c.together-test.true))
+    (λ i low high. elim (cases_lt i c.together.end) [
+      | inl before ↦ c.together.invariant.so_far i low before
+      | inr from ↦ c.near_literals-more.ensures.literal i (omega arith) high
+    ])
 
-pub returns-clause-literal : goal.returns-clause-literal
-returns-clause-literal c =
-    let end : c.loop-i.i ≡ length c.args.raw.now = omega arith in
-    rw (← end) (text_of-take_literals c.args.raw.now c.loop-i.i c.loop-i.invariant)
+pub returns-else-not-matches-clause-literal : goal.returns-else-not-matches-clause-literal
+returns-else-not-matches-clause-literal c =
+    text_of-literals_before c.args.raw.now c.bytes.end c.bytes.invariant.within c.bytes.invariant.so_far
+
+pub returns-after-bytes-clause-literal : goal.returns-after-bytes-clause-literal
+returns-after-bytes-clause-literal c =
+    text_of-literals_before c.args.raw.now c.bytes.end c.bytes.invariant.within c.bytes.invariant.so_far

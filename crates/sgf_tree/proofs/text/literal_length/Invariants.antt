@@ -1,8 +1,22 @@
-use Rattle.std.proofs.Common.{◌≡◌, true, take}
-use Rattle.std.specs.List.{list_all}
-use Rattle.sgf_tree.proofs.Literal.{is_literal}
+use Rattle.std.proofs.Common.{◌-◌, ◌≤◌, length}
+use Rattle.sgf_tree.specs.inner.Literals.{AreLiterals}
 use Rattle.sgf_tree.proofs.text.literal_length.Given as goal
 
 -- the bytes so far are literal
-abbrev pub invariant-loop-i : goal.invariant-loop-i
-invariant-loop-i l = list_all is_literal (take l.i l.raw) ≡ true
+abbrev pub invariant-together : goal.invariant-together
+invariant-together l = record {
+  within : l.end ≤ length l.raw;
+  so_far : AreLiterals l.raw 0 l.end;
+}
+
+abbrev pub decreases-together : goal.decreases-together
+decreases-together l = length l.raw - l.end
+
+abbrev pub invariant-bytes : goal.invariant-bytes
+invariant-bytes l = record {
+  within : l.end ≤ length l.raw;
+  so_far : AreLiterals l.raw 0 l.end;
+}
+
+abbrev pub decreases-bytes : goal.decreases-bytes
+decreases-bytes l = length l.raw - l.end

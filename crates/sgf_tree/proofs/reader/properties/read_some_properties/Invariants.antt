@@ -1,7 +1,7 @@
 use Rattle.std.proofs.Common.{◌-◌, length}
 use Rattle.sgf_tree.specs.inner.KeptEnds.{AreKeptEnds}
 use Rattle.sgf_tree.proofs.NodeEnds.{PropertiesSoFar}
-use Rattle.sgf_tree.proofs.reader.properties.read_properties.Given as goal
+use Rattle.sgf_tree.proofs.reader.properties.read_some_properties.Given as goal
 
 abbrev pub invariant-properties : goal.invariant-properties
 invariant-properties l = record {

@@ -1,0 +1,16 @@
+-- The bytes of a value that stand for themselves, and how many of some looked at together do.
+use Rattle.std.specs.Prelude.{ℕ, ◌<◌, ◌≤◌, ◌==◌, Bool, not, ◌||◌, ◌&&◌, nat_le, if◌then◌else◌, List, slice_index, IsTrue}
+use Rattle.std.specs.Int.Count.{count_trailing_zeros}
+use Rattle.sgf_tree.specs.Bytes.{tab, carriage_return, backslash}
+
+-- neither a `\` nor one of tab, LF, vertical tab, form feed and CR
+abbrev pub is_literal : ℕ → Bool
+is_literal b = not (b == backslash || nat_le tab b && nat_le b carriage_return)
+
+-- the bytes from `at` to `end` are such
+abbrev pub AreLiterals : List ℕ → ℕ → ℕ → Type 0
+AreLiterals t at end = (i : ℕ) → at ≤ i → i < end → IsTrue (is_literal (slice_index t i))
+
+-- the index of the lowest bit that is set, of sixteen; or sixteen, where none is
+abbrev pub lowest_mark : ℕ → ℕ
+lowest_mark marks = if marks == 0 then 16 else count_trailing_zeros 64 marks
