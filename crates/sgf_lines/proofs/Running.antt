@@ -1,5 +1,5 @@
 -- The answers of a run and of its parts.
-use Rattle.std.proofs.Common.{◌≡◌, ℕ, ◌+◌, ◌<◌, inl, inr, List, [], ◌++◌, length, take, drop, slice_get, Option, Some, Result, Ok, Err, refl, sym, ap, ◌∙◌, arith, add-one, append_assoc, append-nil, length-append}
+use Rattle.std.proofs.Common.{◌≡◌, ℕ, ◌+◌, ◌<◌, ◌≤◌, inl, inr, List, [], ◌++◌, length, take, drop, slice_get, Option, Some, Result, Ok, Err, refl, sym, ap, subst, ◌∙◌, arith, add-one, append_assoc, append-nil, length-append}
 use Rattle.std.specs.List.{flat_map}
 use Rattle.std.specs.Io.KnownBytes.{Appends}
 use Rattle.std.proofs.KnownBytes.{Appends-nil}
@@ -7,13 +7,17 @@ use Rattle.std.proofs.lemmas.List.{take_all, take-append-drop, length-take-le}
 use Rattle.std.proofs.lemmas.Grind.{flat_map-append}
 use Rattle.sgf_tree.specs.Tree.{Games}
 use Rattle.sgf_tree.specs.Spelling.{Spells}
+use Rattle.sgf_tree.specs.Refusal.{IsFaultyWhereNotSgf}
+use Rattle.sgf_tree.specs.declared.fault.TheConstants.{MAX_LENGTH}
+use Rattle.sgf_tree.specs.declared.fault.ReadFault.{ReadFault}
+use Rattle.sgf_tree.specs.declared.fault.ReadFault.TheVariants.{TooLong as TextTooLong, NotSgf as TextNotSgf, Memory as TextMemory}
 use Rattle.sgf_lines.specs.Lines.{Line}
 use Rattle.sgf_lines.specs.Page.{page}
 use Rattle.sgf_lines.specs.Record.{record_of}
 use Rattle.sgf_lines.specs.Output.{output}
 use Rattle.sgf_lines.specs.Ends.{SourceState, SinkState}
 use Rattle.sgf_lines.specs.Answer.{IsWhole, Answers, IsCutShort, IsRun, read_failures, write_failures}
-use Rattle.sgf_lines.specs.inner.Running.{AnswersReading, IsReading, IsSplit, IsSplitOf, AnswersLines, WritesLines, IsStart}
+use Rattle.sgf_lines.specs.inner.Running.{AnswersReading, IsReading, IsSplit, IsSplitOf, AnswersLines, WritesLines, IsStart, unread}
 use Rattle.sgf_lines.specs.declared.options.Form.{Form}
 use Rattle.sgf_lines.specs.declared.options.Options.{Options}
 use Rattle.sgf_lines.specs.declared.fault.RunFault.{RunFault}
@@ -89,6 +93,18 @@ answers_start o text to_come c (Memory k) spelled whole h = inr (h, refl)
 pub split_of_no_start : (o : Options) (c : Games) (sink : SinkState) (fault : RunFault) → ((text : List ℕ) → Spells c text → IsStart c o.after (Err fault)) → IsSplitOf o c sink sink (Err fault)
 split_of_no_start o c sink fault h = λ text spelled to_come whole.
     record { taken = []; takes = appends_nothing sink.taken; answers = answers_start o text to_come c fault spelled whole (h text spelled) }
+
+-- the run over a text that wasn't read
+pub split_of_unread : (o : Options) (text : List ℕ) (sink : SinkState) (fault : ReadFault) (met : RunFault) → met ≡ unread fault (length text) → length text ≤ MAX_LENGTH
+    → (fault ≡ TextTooLong → MAX_LENGTH < length text) → IsFaultyWhereNotSgf text fault → IsSplit o text sink sink (Err met)
+split_of_unread o text sink fault met is short long faulty = λ to_come whole.
+    record { taken = []; takes = appends_nothing sink.taken; answers = subst (λ f. Answers o text to_come [] (Err f)) (sym is) (by to_come fault long faulty whole) }
+  where
+    by : (to_come : Option (List ℕ)) (f : ReadFault) → (f ≡ TextTooLong → MAX_LENGTH < length text) → IsFaultyWhereNotSgf text f → IsWhole text to_come
+        → Answers o text to_come [] (Err (unread f (length text)))
+    by to_come TextTooLong long faulty whole = absurd (omega (arith, long refl, short))
+    by to_come (TextNotSgf at) long faulty whole = (whole, faulty, refl, refl)
+    by to_come TextMemory long faulty whole = inr (refl, refl)
 
 -- one record more
 pub one_more : (form : Form) (ls : List Line) (k : ℕ) (line : Line) → slice_get ls k ≡ Some line

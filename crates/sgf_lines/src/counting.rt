@@ -12,7 +12,7 @@ use crate::sink::{Sink, SinkFault};
 use crate::source::Source;
 use crate::writing::put_all;
 use itoa::Buffer;
-use sgf_tree::{Collection, ReadFault, read};
+use sgf_tree::{Collection, read};
 use std::alloc::Global;
 
 /// The counts of a collection.
@@ -44,12 +44,7 @@ pub fn count<S: Source>(alloc: Global, source: &mut S) -> Result<Counts, RunFaul
     }
     match read(alloc, &text) {
         Ok(collection) => Ok(counted(&collection)),
-        Err(ReadFault::TooLong) => Err(RunFault::TooLong),
-        Err(ReadFault::NotSgf { at }) => Err(RunFault::NotSgf {
-            at,
-            len: text.len(),
-        }),
-        Err(ReadFault::Memory) => Err(RunFault::Memory { lines: 0 }),
+        Err(fault) => Err(RunFault::unread(fault, text.len())),
     }
 }
 

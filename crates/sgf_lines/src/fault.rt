@@ -1,6 +1,8 @@
 //! The ways in which a run may fail.
 
-use sgf_tree::MAX_LENGTH;
+ghost use Rattle.std.specs.Prelude.{◌≡◌};
+
+use sgf_tree::{MAX_LENGTH, ReadFault};
 use thiserror::Error;
 
 /// Why a run ended before it had done all that was asked.
@@ -37,4 +39,19 @@ pub enum RunFault {
     /// The sink has taken exactly the records of the first `lines` lines, and was not flushed.
     #[error("out of memory")]
     Memory { lines: u64 },
+}
+
+impl RunFault {
+    ghost use Rattle.sgf_lines.specs.inner.Running.{unread};
+
+    /// Why a text of so many bytes wasn't read.
+    pub(crate) fn unread(fault: ReadFault, len: usize) -> RunFault
+        ensures { result ≡ unread fault len }
+    {
+        match fault {
+            ReadFault::TooLong => RunFault::TooLong,
+            ReadFault::NotSgf { at } => RunFault::NotSgf { at, len },
+            ReadFault::Memory => RunFault::Memory { lines: 0 },
+        }
+    }
 }

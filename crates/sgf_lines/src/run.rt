@@ -17,7 +17,7 @@ use crate::seek::SeekFault;
 use crate::sink::Sink;
 use crate::source::Source;
 use crate::writing::deliver;
-use sgf_tree::{Collection, MAX_LENGTH, ReadFault, read};
+use sgf_tree::{Collection, MAX_LENGTH, read};
 use std::alloc::Global;
 
 /// How many bytes a source is asked for at once.
@@ -128,12 +128,7 @@ fn split_text<T: Sink>(
 {
     match read(alloc, text) {
         Ok(collection) => split_collection(alloc, &collection, sink, options, plays),
-        Err(ReadFault::TooLong) => Err(RunFault::TooLong),
-        Err(ReadFault::NotSgf { at }) => Err(RunFault::NotSgf {
-            at,
-            len: text.len(),
-        }),
-        Err(ReadFault::Memory) => Err(RunFault::Memory { lines: 0 }),
+        Err(fault) => Err(RunFault::unread(fault, text.len())),
     }
 }
 

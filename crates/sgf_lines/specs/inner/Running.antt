@@ -4,6 +4,8 @@ use Rattle.std.specs.Io.KnownBytes.{Appends, Consumes}
 use Rattle.sgf_tree.specs.Tree.{Games}
 use Rattle.sgf_tree.specs.Spelling.{Spells}
 use Rattle.sgf_tree.specs.declared.fault.TheConstants.{MAX_LENGTH}
+use Rattle.sgf_tree.specs.declared.fault.ReadFault.{ReadFault}
+use Rattle.sgf_tree.specs.declared.fault.ReadFault.TheVariants.{TooLong as TextTooLong, NotSgf as TextNotSgf, Memory as TextMemory}
 use Rattle.sgf_lines.specs.Lines.{Line, lines}
 use Rattle.sgf_lines.specs.Page.{lines_after, lines_from_place}
 use Rattle.sgf_lines.specs.Output.{output}
@@ -31,6 +33,12 @@ pub record IsReading {A : Type 0} (source new_source : SourceState) (text : List
   pub gives : Appends source.given new_source.given given
   pub consumes : Consumes source.to_come new_source.to_come given
   pub answers : AnswersReading given new_source.to_come text result
+
+-- why a text of so many bytes wasn't read, as the fault of a run
+abbrev pub unread : ReadFault → ℕ → RunFault
+unread TextTooLong len = TooLong
+unread (TextNotSgf at) len = NotSgf at len
+unread TextMemory len = Memory 0
 
 -- the answer of a run whose source gave this text
 pub record Finishes (o : Options) (text : List ℕ) (to_come : Option (List ℕ)) (sink new_sink : SinkState) (result : Result ℕ RunFault) : Type 0 where
