@@ -46,6 +46,7 @@ pub mod Scripted
 pub mod Judgement
 pub mod Again
 pub mod Appended
+pub mod Pieces
 pub mod ScriptRows
 pub mod ScriptWords
 pub mod Placing

@@ -14,6 +14,7 @@ use crate::node_values::move_value;
 use crate::step::{Effect, TakenStep};
 use crate::text::{push_bytes, push_number};
 use go_board::{Board, Cell, Colour, MAX_VERTEX_SIDE, Play, Point, Size, Vertex, vertex};
+use memchr::memchr;
 use sgf_tree::{MemoryFault, push_text};
 use std::alloc::Global;
 
@@ -69,10 +70,12 @@ fn push_text_rows(text: &[u8], output: &mut Vec<u8>) -> Result<(), MemoryFault>
     if text.is_empty() {
         return Ok(());
     }
-    for piece in text.split(|byte| *byte == b'\n') {
-        push_comment_row(piece, output)?;
+    let mut rest = text;
+    'pieces: while let Some(end) = memchr(b'\n', rest) {
+        push_comment_row(&rest[..end], output)?;
+        rest = &rest[end + 1..];
     }
-    Ok(())
+    push_comment_row(rest, output)
 }
 
 /// Appends a row that is a comment.
