@@ -1,5 +1,5 @@
 -- The answers of a run and of its parts.
-use Rattle.std.proofs.Common.{◌≡◌, ℕ, ◌+◌, ◌<◌, ◌≤◌, inl, inr, List, [], ◌++◌, length, take, drop, slice_get, Option, Some, Result, Ok, Err, refl, sym, ap, subst, ◌∙◌, arith, add-one, append_assoc, append-nil, length-append}
+use Rattle.std.proofs.Common.{◌≡◌, ℕ, ◌+◌, ◌<◌, ◌≤◌, inr, List, [], ◌++◌, length, take, drop, slice_get, Option, Some, Result, Ok, Err, refl, sym, ap, subst, ◌∙◌, arith, add-one, append_assoc, append-nil, length-append}
 use Rattle.std.specs.List.{flat_map}
 use Rattle.std.specs.Io.KnownBytes.{Appends}
 use Rattle.std.proofs.KnownBytes.{Appends-nil}
@@ -12,7 +12,6 @@ use Rattle.sgf_tree.specs.declared.fault.TheConstants.{MAX_LENGTH}
 use Rattle.sgf_tree.specs.declared.fault.ReadFault.{ReadFault}
 use Rattle.sgf_tree.specs.declared.fault.ReadFault.TheVariants.{TooLong as TextTooLong, NotSgf as TextNotSgf, Memory as TextMemory}
 use Rattle.sgf_lines.specs.Lines.{Line}
-use Rattle.sgf_lines.specs.Page.{page}
 use Rattle.sgf_lines.specs.Record.{record_of}
 use Rattle.sgf_lines.specs.Output.{output}
 use Rattle.sgf_lines.specs.Ends.{SourceState, SinkState}
@@ -56,17 +55,6 @@ run_of_text o source new_source sink new_sink text u result h split =
       takes = end.takes;
       answers = end.answers;
     }
-
--- the answer for lines that are the page
-pub answers_of_lines : (o : Options) (text : List ℕ) (to_come : Option (List ℕ)) (c : Games) (ls : List Line) (taken : List ℕ) (result : Result ℕ RunFault)
-    → Spells c text → IsWhole text to_come → page o c ≡ Some ls → AnswersLines o.form ls taken result → Answers o text to_come taken result
-answers_of_lines o text to_come c ls taken (Ok k) spelled whole is h = (whole, (ls, record { games = c; spelled = spelled; page_is = is }, h.0, h.1))
-answers_of_lines o text to_come c ls taken (Err Read) spelled whole is h = absurd h
-answers_of_lines o text to_come c ls taken (Err TooLong) spelled whole is h = absurd h
-answers_of_lines o text to_come c ls taken (Err (NotSgf at len)) spelled whole is h = absurd h
-answers_of_lines o text to_come c ls taken (Err (NoSuchLine place)) spelled whole is h = absurd h
-answers_of_lines o text to_come c ls taken (Err (Write k)) spelled whole is h = (whole, (ls, record { games = c; spelled = spelled; page_is = is }, h))
-answers_of_lines o text to_come c ls taken (Err (Memory k)) spelled whole is h = inl (whole, (ls, record { games = c; spelled = spelled; page_is = is }, h))
 
 lines_no_read : (form : Form) (ls : List Line) (taken : List ℕ) (result : Result ℕ RunFault) → AnswersLines form ls taken result → read_failures result ≡ 0
 lines_no_read form ls taken (Ok k) h = refl
