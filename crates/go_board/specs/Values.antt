@@ -1,5 +1,5 @@
 -- The property values of SGF FF[4] that name points. Which value is a pass, as `tt` is, is said where moves are read: the
--- Values.antt of sgf_lines.
+-- NodeValues.antt of sgf_lines.
 use Rattle.std.specs.Prelude.{ℕ, ◌-◌, ◌+◌, ◌&&◌, ◌==◌, nat_lt, nat_le, if◌then◌else◌, Option, Some, None, option_and_then, List, [], ◌∷◌}
 use Rattle.go_board.specs.declared.points.Point.{Point}
 use Rattle.go_board.specs.declared.points.Rect.{Rect}

@@ -13,7 +13,7 @@ raised_verdict by (Illegal turn place reason) = Illegal turn (by + place) reason
 raised_verdict by NotGo = NotGo
 raised_verdict by BadSize = BadSize
 
--- the record in list form of a line that stands `by` bytes further on, after so many games: its place and that of a
+-- the record in list form of a line that stands `by` bytes further on, after so many games: its place and that of an
 -- illegal node are raised by the bytes, and the number of its game by the games
 abbrev pub raised_row : ℕ → ℕ → Line → List ℕ
 raised_row by games line =

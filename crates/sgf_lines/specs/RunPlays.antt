@@ -25,7 +25,7 @@ pub record ArePlaysFor (form : Form) (ls : List Line) (k plays : ℕ) : Type 0 w
   pub at_least : plays_of form (take k ls) ≤ plays
   pub at_most : plays ≤ plays_of form (take (k + 1) ls)
 
--- What holds of the number of nodes that were played, with a row for each answer, as `Answers` has them for the bytes.
+-- What holds of the number of nodes that were played, with a case for each answer, as `Answers` has them for the bytes.
 abbrev pub AnswersPlays : Options → List ℕ → Option (List ℕ) → ℕ → Result ℕ RunFault → Type 0
 AnswersPlays o given to_come plays (Ok k) = (ls : List Line) × HasPage o given ls × (plays ≡ plays_of o.form ls)
 AnswersPlays o given to_come plays (Err Read) = plays ≡ 0

@@ -2,7 +2,7 @@
 
 ghost use Rattle.std.specs.Prelude.{◌≡◌};
 
-/// A line of play, as a cursor gives it.
+/// A line of play, from the root of a game to a leaf, as a cursor gives it.
 /// No call on it takes memory.
 #[derive(Clone, Copy)]
 pub struct LineRef<'l> {

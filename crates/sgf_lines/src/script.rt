@@ -47,7 +47,7 @@ pub(crate) fn push_node_script(
     }
 }
 
-/// Appends a comment, a row for each of its lines; none where there is none.
+/// Appends a comment, a row for each piece of its text that line feeds part; none where there is none.
 fn push_comment(
     alloc: Global,
     comment: Option<&[u8]>,

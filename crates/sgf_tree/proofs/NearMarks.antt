@@ -7,7 +7,7 @@ use Rattle.std.proofs.lemmas.Simd.{length-chunk, mask_l-lt, bit_mask_l, none_fro
 use Rattle.std.proofs.Math.ListN.{get_or-eq_default}
 use Rattle.std.specs.Int.Count.{count_trailing_zeros}
 use Rattle.std.specs.Simd.Lanes.{chunk, mask_l}
-use Rattle.sgf_tree.specs.inner.Literals.{lowest_mark}
+use Rattle.sgf_tree.specs.inner.Literals.{lowest_bit}
 
 module _ (test : ℕ → Bool) (t : List ℕ) (at : ℕ) (room : at + 16 ≤ length t) where
   -- a bit for each byte
@@ -45,7 +45,7 @@ module _ (test : ℕ → Bool) (t : List ℕ) (at : ℕ) (room : at + 16 ≤ len
         before = λ i low high. run_in_chunk_fails test t at 16 r 0 room counted i low high;
       }
 
-  lowest-of-some : (m : ℕ) → 0 < m → lowest_mark m ≡ count_trailing_zeros 64 m
+  lowest-of-some : (m : ℕ) → 0 < m → lowest_bit m ≡ count_trailing_zeros 64 m
   lowest-of-some m some =
       let other : (m == 0) ≡ false = ne_eqb m 0 (λ none. let zero_is : m ≡ 0 = none in omega arith) in
       rw other refl
@@ -55,7 +55,7 @@ module _ (test : ℕ → Bool) (t : List ℕ) (at : ℕ) (room : at + 16 ≤ len
     pub at_most : r ≤ 16
     pub before : (i : ℕ) → at ≤ i → i < at + r → test (get_or t i 0) ≡ false
 
-  pub before-lowest : (m r : ℕ) → m ≡ marks → r ≡ lowest_mark m → AreBefore r
+  pub before-lowest : (m r : ℕ) → m ≡ marks → r ≡ lowest_bit m → AreBefore r
   before-lowest m r are is =
       elim (cases_lt 0 m) [
         | inl some ↦
@@ -68,7 +68,7 @@ module _ (test : ℕ → Bool) (t : List ℕ) (at : ℕ) (room : at + 16 ≤ len
             }
         | inr past ↦
             let none : m ≡ 0 = omega arith in
-            let all : r ≡ 16 = is ∙ ap lowest_mark none in
+            let all : r ≡ 16 = is ∙ ap lowest_bit none in
             record {
               at_most = omega arith;
               before = λ i low high. no-marks (sym are ∙ none) i low (omega arith);

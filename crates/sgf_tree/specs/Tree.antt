@@ -20,8 +20,9 @@ pub record Node : Type 0 where
   pub place : ℕ
   pub properties : List Property
 
--- Games that stand side by side. A game has a first node, more nodes after it, and the games below them;
--- then come the games after it.
+-- Games that stand side by side. A game (a GameTree of SGF, at any depth) has a first node, more nodes after it, and the
+-- games below them, each of which begins a variation; then come the games after it. A node that none follows is a leaf.
+-- Only the games of the collection itself, which stand below none, are counted and numbered.
 pub data Games : Type 0 where
   no_games : Games
   game : (first : Node) (more : List Node) (below after : Games) → Games

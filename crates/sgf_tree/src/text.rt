@@ -2,7 +2,7 @@
 
 ghost use Rattle.std.specs.Prelude.{◌≡◌, ◌<◌, ◌≤◌, ◌+◌, ◌++◌, OnOk, OnErr, length, take, drop, option_to_list};
 ghost use Rattle.sgf_tree.specs.Text.{text_of, spaced as spaced_rule};
-ghost use Rattle.sgf_tree.specs.inner.Literals.{AreLiterals, lowest_mark};
+ghost use Rattle.sgf_tree.specs.inner.Literals.{AreLiterals, lowest_bit};
 
 use crate::fault::MemoryFault;
 use std::simd::prelude::*;
@@ -65,17 +65,17 @@ fn near_literals(raw: &[u8], at: usize) -> usize
     let bytes = u8x16::from_slice(&raw[at..]);
     let escapes = bytes.simd_eq(u8x16::splat(b'\\')).to_bitmask();
     let controls = bytes.simd_lt(u8x16::splat(b'\r' + 1)).to_bitmask();
-    first_mark(escapes).min(first_mark(controls))
+    first_bit(escapes).min(first_bit(controls))
 }
 
 /// The index of the lowest bit that is set, or `TOGETHER` where none is.
-fn first_mark(marks: u64) -> usize
-    ensures { result ≡ lowest_mark marks }
+fn first_bit(mask: u64) -> usize
+    ensures { result ≡ lowest_bit mask }
 {
-    if marks == 0 {
+    if mask == 0 {
         TOGETHER
     } else {
-        marks.trailing_zeros() as usize
+        mask.trailing_zeros() as usize
     }
 }
 

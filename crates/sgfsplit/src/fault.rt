@@ -18,8 +18,8 @@ impl Fault {
     ghost use Rattle.sgfsplit.specs.Fault.{status_of, message_of, line_of};
     ghost use Rattle.sgfsplit.specs.inner.ShortText.{short_text, number_text};
 
-    /// The exit status: 1 for an input that is refused, 3 for a file that isn't opened, read or written, 4 for want of
-    /// memory.
+    /// The exit status: 1 for an input that is refused, 3 where FILE can't be opened or a read, a write or the flush
+    /// failed, 4 for want of memory.
     pub fn status(&self) -> u8
         ensures { result ≡ status_of self.now }
     {

@@ -22,8 +22,8 @@ pub(crate) fn next_difference(old: &[Cell], new: &[Cell], from: usize) -> usize
     ensures differ { result < length old.now
         → slice_index_or old.now result Empty ≢ slice_index_or new.now result Empty }
 {
-    let large = past_large_chunks(old, new, from);
-    let mut index = past_same_chunks(old, new, large, SMALL);
+    let large = after_large_chunks(old, new, from);
+    let mut index = after_same_chunks(old, new, large, SMALL);
     while index < old.len() && old[index] == new[index] {
         index += 1;
     }
@@ -32,7 +32,7 @@ pub(crate) fn next_difference(old: &[Cell], new: &[Cell], from: usize) -> usize
 
 /// An index from `from` on, so that all cells up to there are the same. Where cells differ soon, as they do where many stones were set
 /// up together, no large chunk is compared for nothing.
-fn past_large_chunks(old: &[Cell], new: &[Cell], from: usize) -> usize
+fn after_large_chunks(old: &[Cell], new: &[Cell], from: usize) -> usize
     requires lengths { length new.now ≡ length old.now }
     requires from { from ≤ length old.now }
     ensures from { from ≤ result }
@@ -40,14 +40,14 @@ fn past_large_chunks(old: &[Cell], new: &[Cell], from: usize) -> usize
     ensures same { slice_range old.now from result ≡ slice_range new.now from result }
 {
     if from + SMALL <= old.len() && is_same_chunk(old, new, from, SMALL) {
-        past_same_chunks(old, new, from, LARGE)
+        after_same_chunks(old, new, from, LARGE)
     } else {
         from
     }
 }
 
 /// An index from `from` on, so that all cells up to there are the same.
-fn past_same_chunks(old: &[Cell], new: &[Cell], from: usize, chunk: usize) -> usize
+fn after_same_chunks(old: &[Cell], new: &[Cell], from: usize, chunk: usize) -> usize
     requires some { 0 < chunk }
     requires few { chunk ≤ LARGE }
     requires lengths { length new.now ≡ length old.now }

@@ -44,7 +44,7 @@ impl<P: Past> Referee<P> {
     fn reason_before_repeat(&self, colour: Colour, play: Play) -> Option<Reason>
         requires { IsPlayOn self.now.present.colouring.side play }
         ensures known { IfSome result (λ reason. reason_of self.now.present colour play ≡ Some reason) }
-        ensures left { IfNone result (MayOnlyRepeat self.now.present colour play) }
+        ensures only_repeat { IfNone result (MayOnlyRepeat self.now.present colour play) }
     {
         if self.over() {
             return Some(Reason::Over);
@@ -77,7 +77,7 @@ impl<P: Past> Referee<P> {
     /// Takes the turn of a stone, unless it repeats a colouring. Tells whether the turn was taken.
     fn take_stone(&mut self, colour: Colour, point: Point) -> Result<bool, MemoryFault>
         requires on_board { IsOn self.old.present.colouring.side point }
-        requires left { MayOnlyRepeat self.old.present colour (Stone point) }
+        requires only_repeat { MayOnlyRepeat self.old.present colour (Stone point) }
         ensures known { IfOk result (λ taken. reason_of self.old.present colour (Stone point)
             ≡ (if taken then None else Some Repeat)) }
         ensures allowed { OnErr result (reason_of self.old.present colour (Stone point) ≡ None) }
@@ -105,7 +105,7 @@ impl<P: Past> Referee<P> {
     #[inline(never)]
     fn take_by_spare(&mut self, colour: Colour, point: Point) -> Result<bool, MemoryFault>
         requires on_board { IsOn self.old.present.colouring.side point }
-        requires left { MayOnlyRepeat self.old.present colour (Stone point) }
+        requires only_repeat { MayOnlyRepeat self.old.present colour (Stone point) }
         ensures known { IfOk result (λ taken. reason_of self.old.present colour (Stone point)
             ≡ (if taken then None else Some Repeat)) }
         ensures allowed { OnErr result (reason_of self.old.present colour (Stone point) ≡ None) }

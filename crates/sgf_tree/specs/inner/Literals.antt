@@ -12,5 +12,5 @@ abbrev pub AreLiterals : List ℕ → ℕ → ℕ → Type 0
 AreLiterals t at end = (i : ℕ) → at ≤ i → i < end → IsTrue (is_literal (slice_index t i))
 
 -- the index of the lowest bit that is set, of sixteen; or sixteen, where none is
-abbrev pub lowest_mark : ℕ → ℕ
-lowest_mark marks = if marks == 0 then 16 else count_trailing_zeros 64 marks
+abbrev pub lowest_bit : ℕ → ℕ
+lowest_bit mask = if mask == 0 then 16 else count_trailing_zeros 64 mask

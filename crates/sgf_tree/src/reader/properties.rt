@@ -53,7 +53,7 @@ fn read_property(text: &[u8], start: usize, long: &mut Vec<LongValue>) -> Result
 /// Reads the properties of a node, which begin at `at` or after white space there.
 /// The result is the offset of the byte after them and the white space there.
 ///
-/// Where a mark of the tree stands there, the node is empty: that is told before anything is called.
+/// Where a `;` or a parenthesis stands there, the node is empty: that is told before anything is called.
 #[inline(always)]
 pub(crate) fn read_properties(
     text: &[u8],

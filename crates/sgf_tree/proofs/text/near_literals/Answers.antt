@@ -10,7 +10,7 @@ returns-clause-at_most c =
     let t = c.args.raw.now in
     let at = c.args.at in
     let marks = bitmask_splat w8 eqb (chunk at 16 t) 16 92 (length-chunk at 16 t c.requires) (omega arith) in
-    let escapes = before-lowest (λ x. eqb x 92) t at c.requires _ c.first_mark.result marks c.first_mark.ensures in
+    let escapes = before-lowest (λ x. eqb x 92) t at c.requires _ c.first_bit.result marks c.first_bit.ensures in
     omega (arith, escapes.at_most, c.min.ensures)
 
 pub returns-clause-literal : goal.returns-clause-literal
@@ -18,6 +18,6 @@ returns-clause-literal c =
     let t = c.args.raw.now in
     let at = c.args.at in
     let long = length-chunk at 16 t c.requires in
-    let escapes = before-lowest (λ x. eqb x 92) t at c.requires _ c.first_mark.result (bitmask_splat w8 eqb (chunk at 16 t) 16 92 long (omega arith)) c.first_mark.ensures in
-    let controls = before-lowest (λ x. ltb x 14) t at c.requires _ c.first_mark-2.result (bitmask_splat w8 ltb (chunk at 16 t) 16 14 long (omega arith)) c.first_mark-2.ensures in
+    let escapes = before-lowest (λ x. eqb x 92) t at c.requires _ c.first_bit.result (bitmask_splat w8 eqb (chunk at 16 t) 16 92 long (omega arith)) c.first_bit.ensures in
+    let controls = before-lowest (λ x. ltb x 14) t at c.requires _ c.first_bit-2.result (bitmask_splat w8 ltb (chunk at 16 t) 16 14 long (omega arith)) c.first_bit-2.ensures in
     near-literals t at c.requires _ _ c.min.result escapes controls (omega (arith, c.min.ensures)) (omega (arith, c.min.ensures))

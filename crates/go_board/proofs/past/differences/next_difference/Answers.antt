@@ -15,10 +15,10 @@ loop-index-preserved c =
 
 pub loop-index-init : goal.loop-index-init
 loop-index-init c =
-    let first = c.past_large_chunks-large.ensures in
-    let next = c.past_same_chunks-index.ensures in
+    let first = c.after_large_chunks-large.ensures in
+    let next = c.after_same_chunks-index.ensures in
     record {
       from = omega (arith, first.from, next.from);
       within = next.within;
-      same = same-ranges c.args.old.now c.args.new.now c.args.from c.past_large_chunks-large.result c.past_same_chunks-index.result first.from next.from first.within (omega (arith, first.within, c.requires.lengths)) first.same next.same;
+      same = same-ranges c.args.old.now c.args.new.now c.args.from c.after_large_chunks-large.result c.after_same_chunks-index.result first.from next.from first.within (omega (arith, first.within, c.requires.lengths)) first.same next.same;
     }

@@ -13,7 +13,7 @@ returns-then-holds-clause-known g c =
     let p = c.args.point in
     let newest_is = sym (ap (λ (o : Option Grid). unwrap_or o (empty_grid 0)) c.newest.ensures) ∙ ap (λ (states : States). states.present.colouring) c.self.view_is in
     let made : c.place.new.self ≡ play s.colouring k p = c.place.ensures.value ∙ ap (λ (h : Grid). play h k p) (c.bring_in_step.ensures ∙ newest_is) in
-    reason_by_past s k p c.holds.result _ _ (ap (λ (states : States). states.present.seen) c.self.view_is) made c.requires.left.0 c.requires.left.1 c.requires.left.2 c.holds.ensures
+    reason_by_past s k p c.holds.result _ _ (ap (λ (states : States). states.present.seen) c.self.view_is) made c.requires.only_repeat.0 c.requires.only_repeat.1 c.requires.only_repeat.2 c.holds.ensures
     ∙ ap (λ b. cond b (Some Repeat) None) c.if-holds.true
 
 pub returns-in_err-reserve-clause-allowed : goal.returns-in_err-reserve-clause-allowed
@@ -24,7 +24,7 @@ returns-in_err-reserve-clause-allowed g c =
     let newest_is = sym (ap (λ (o : Option Grid). unwrap_or o (empty_grid 0)) c.newest.ensures) ∙ ap (λ (states : States). states.present.colouring) c.self.view_is in
     let made : c.place.new.self ≡ play s.colouring k p = c.place.ensures.value ∙ ap (λ (h : Grid). play h k p) (c.bring_in_step.ensures ∙ newest_is) in
     on_err c.from_residual.result _
-    (reason_by_past s k p c.holds.result _ _ (ap (λ (states : States). states.present.seen) c.self.view_is) made c.requires.left.0 c.requires.left.1 c.requires.left.2 c.holds.ensures
+    (reason_by_past s k p c.holds.result _ _ (ap (λ (states : States). states.present.seen) c.self.view_is) made c.requires.only_repeat.0 c.requires.only_repeat.1 c.requires.only_repeat.2 c.holds.ensures
     ∙ ap (λ b. cond b (Some Repeat) None) c.if-holds.false)
 
 pub returns-in_err-push-clause-allowed : goal.returns-in_err-push-clause-allowed
@@ -35,7 +35,7 @@ returns-in_err-push-clause-allowed g c =
     let newest_is = sym (ap (λ (o : Option Grid). unwrap_or o (empty_grid 0)) c.newest.ensures) ∙ ap (λ (states : States). states.present.colouring) c.self.view_is in
     let made : c.place.new.self ≡ play s.colouring k p = c.place.ensures.value ∙ ap (λ (h : Grid). play h k p) (c.bring_in_step.ensures ∙ newest_is) in
     on_err c.from_residual-in_err-push.result _
-    (reason_by_past s k p c.holds.result _ _ (ap (λ (states : States). states.present.seen) c.self.view_is) made c.requires.left.0 c.requires.left.1 c.requires.left.2 c.holds.ensures
+    (reason_by_past s k p c.holds.result _ _ (ap (λ (states : States). states.present.seen) c.self.view_is) made c.requires.only_repeat.0 c.requires.only_repeat.1 c.requires.only_repeat.2 c.holds.ensures
     ∙ ap (λ b. cond b (Some Repeat) None) c.if-holds.false)
 
 pub returns-clause-known : goal.returns-clause-known
@@ -45,5 +45,5 @@ returns-clause-known g c =
     let p = c.args.point in
     let newest_is = sym (ap (λ (o : Option Grid). unwrap_or o (empty_grid 0)) c.newest.ensures) ∙ ap (λ (states : States). states.present.colouring) c.self.view_is in
     let made : c.place.new.self ≡ play s.colouring k p = c.place.ensures.value ∙ ap (λ (h : Grid). play h k p) (c.bring_in_step.ensures ∙ newest_is) in
-    reason_by_past s k p c.holds.result _ _ (ap (λ (states : States). states.present.seen) c.self.view_is) made c.requires.left.0 c.requires.left.1 c.requires.left.2 c.holds.ensures
+    reason_by_past s k p c.holds.result _ _ (ap (λ (states : States). states.present.seen) c.self.view_is) made c.requires.only_repeat.0 c.requires.only_repeat.1 c.requires.only_repeat.2 c.holds.ensures
     ∙ ap (λ b. cond b (Some Repeat) None) c.if-holds.false

@@ -12,18 +12,18 @@ pub returns-in_err-try_stone-clause-allowed : goal.returns-in_err-try_stone-clau
 returns-in_err-try_stone-clause-allowed g c =
     on_err c.from_residual.result _
     (reason_of-new c.args.self.now.present c.args.colour c.args.point _ _ (ap (λ (states : States). states.present.seen) c.self.view_is)
-    (ap (λ (states : States). play states.present.colouring c.args.colour c.args.point) c.self.view_is) c.requires.left c.in_err-try_stone.ensures.refused)
+    (ap (λ (states : States). play states.present.colouring c.args.colour c.args.point) c.self.view_is) c.requires.only_repeat c.in_err-try_stone.ensures.refused)
 
 pub returns-then-is_err-clause-allowed : goal.returns-then-is_err-clause-allowed
 returns-then-is_err-clause-allowed g c =
     reason_of-new c.args.self.now.present c.args.colour c.args.point _ _ (ap (λ (states : States). states.present.seen) c.self.view_is)
-    (ap (λ (states : States). play states.present.colouring c.args.colour c.args.point) c.self.view_is) c.requires.left
+    (ap (λ (states : States). play states.present.colouring c.args.colour c.args.point) c.self.view_is) c.requires.only_repeat
     (c.in_ok-try_stone.ensures.new c.if-not-branch.false)
 
 pub returns-clause-known : goal.returns-clause-known
 returns-clause-known g c =
     reason_of-new c.args.self.now.present c.args.colour c.args.point _ _ (ap (λ (states : States). states.present.seen) c.self.view_is)
-    (ap (λ (states : States). play states.present.colouring c.args.colour c.args.point) c.self.view_is) c.requires.left
+    (ap (λ (states : States). play states.present.colouring c.args.colour c.args.point) c.self.view_is) c.requires.only_repeat
     (c.in_ok-try_stone.ensures.new c.if-not-branch.false)
 
 pub invariant_of-self-2 : goal.invariant_of-self-2

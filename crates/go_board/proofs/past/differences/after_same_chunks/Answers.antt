@@ -1,6 +1,6 @@
 use Rattle.std.proofs.Common.{◌+◌, arith}
 use Rattle.go_board.proofs.RangeLemmas.{same-ranges}
-use Rattle.go_board.proofs.past.differences.past_same_chunks.Goals as goal
+use Rattle.go_board.proofs.past.differences.after_same_chunks.Goals as goal
 
 pub loop-index-preserved : goal.loop-index-preserved
 loop-index-preserved c = record {

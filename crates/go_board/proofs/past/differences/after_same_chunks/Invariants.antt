@@ -1,5 +1,5 @@
 use Rattle.std.proofs.Common.{◌≡◌, ◌-◌, ◌≤◌, length, slice_range}
-use Rattle.go_board.proofs.past.differences.past_same_chunks.Given as goal
+use Rattle.go_board.proofs.past.differences.after_same_chunks.Given as goal
 
 abbrev pub invariant-loop-index : goal.invariant-loop-index
 invariant-loop-index l = record {
