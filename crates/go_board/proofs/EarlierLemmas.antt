@@ -17,14 +17,14 @@ pub length-earlier : (held : List Held) (es : List Earlier) → length (states_b
 length-earlier held es = length-states_before held (reverse es) ∙ length-reverse es
 
 -- what a referee keeps once its past grew by a colouring that was made in place
-pub IsKept-grown : (held now : List Held) (made spare : Grid) (begins : Bool) (InStep : Type 0) (player next : Option Colour) (passes turns turns' : ℕ) (left : Earlier) (es : List Earlier) → now ≡ record { colouring = made; begins = begins } ∷ held → made.side ≡ (newest_grid held).side → IsKept held spare InStep player passes turns es → left ≡ record { turns = turns; player = player; passes = passes; grew = true } → turns' ≤ turns + 1 → IsKept now spare (IsTrue false) next 0 turns' (left ∷ es)
-IsKept-grown held now made spare begins InStep player next passes turns turns' left es is side kept left_is few =
-    rw (is, left_is)
+pub IsKept-grown : (held now : List Held) (made spare : Grid) (begins : Bool) (SpareIsCurrent : Type 0) (player next : Option Colour) (passes turns turns' : ℕ) (saved : Earlier) (es : List Earlier) → now ≡ record { colouring = made; begins = begins } ∷ held → made.side ≡ (newest_grid held).side → IsKept held spare SpareIsCurrent player passes turns es → saved ≡ record { turns = turns; player = player; passes = passes; grew = true } → turns' ≤ turns + 1 → IsKept now spare (IsTrue false) next 0 turns' (saved ∷ es)
+IsKept-grown held now made spare begins SpareIsCurrent player next passes turns turns' saved es is side kept saved_is few =
+    rw (is, saved_is)
     (record {
       one_side = (refl, subst (λ n. HaveSide n held) (sym side) kept.one_side);
       enough = omega (arith, kept.enough);
       spare_side = kept.spare_side ∙ sym side;
-      in_step = λ never. absurd (false≢true never);
+      spare_is_current = λ never. absurd (false≢true never);
       few_passes = omega arith;
       few_turns = omega (arith, kept.few_turns, few);
       bounded = (kept.few_passes, kept.few_turns, kept.bounded);

@@ -37,29 +37,29 @@ with_cells side cells = record { side = side; cells = cells }
 
 -- the stretch of the first n colourings has the one of those cells
 abbrev pub Has : ℕ → List Cell → List Bool → List Cell → ℕ → Type 0
-Has side all marks cells n =
-    Contains (present_stretch (entries side all marks n)) (record { side = side; cells = cells })
+Has side all flags cells n =
+    Contains (present_stretch (entries side all flags n)) (record { side = side; cells = cells })
 
-module _ (side points : ℕ) (square : points ≡ side * side) (all : List Cell) (marks : List Bool) (cells : List Cell) where
+module _ (side points : ℕ) (square : points ≡ side * side) (all : List Cell) (flags : List Bool) (cells : List Cell) where
   -- the cells of the colouring at place n
   abbrev pub cells_at : ℕ → List Cell
   cells_at n = slice_range all (n * points) ((n + 1) * points)
 
-  at_index : (n : ℕ) → (entry side all marks n).colouring ≡ record { side = side; cells = cells_at n }
+  at_index : (n : ℕ) → (entry side all flags n).colouring ≡ record { side = side; cells = cells_at n }
   at_index n = rw square refl
 
-  pub Has-none : (i : ℕ) → i ≡ 0 → Has side all marks cells i → ⊥
+  pub Has-none : (i : ℕ) → i ≡ 0 → Has side all flags cells i → ⊥
   Has-none i e h = Contains-none _ (rw e at h)
 
-  pub Has-found : (i n : ℕ) → i ≡ suc n → cells_at n ≡ cells → Has side all marks cells i
+  pub Has-found : (i n : ℕ) → i ≡ suc n → cells_at n ≡ cells → Has side all flags cells i
   Has-found i n e same = rw e (0, omega arith, at_index n ∙ ap (with_cells side) same)
 
-  pub Has-more : (i n : ℕ) → i ≡ suc n → slice_index_or marks n false ≡ false → Has side all marks cells n → Has side all marks cells i
-  Has-more i n e on h = rw e (going_on _ _ (slice_index_or marks n false) _ on h)
+  pub Has-more : (i n : ℕ) → i ≡ suc n → slice_index_or flags n false ≡ false → Has side all flags cells n → Has side all flags cells i
+  Has-more i n e on h = rw e (going_on _ _ (slice_index_or flags n false) _ on h)
 
-  pub Has-cases : (i n : ℕ) → i ≡ suc n → cells_at n ≢ cells → Has side all marks cells i → (slice_index_or marks n false ≡ false) × Has side all marks cells n
+  pub Has-cases : (i n : ℕ) → i ≡ suc n → cells_at n ≢ cells → Has side all flags cells i → (slice_index_or flags n false ≡ false) × Has side all flags cells n
   Has-cases i n e other h =
-      only_later _ _ (slice_index_or marks n false) _ (λ same. other (same_cells side _ _ (sym (at_index n) ∙ same))) (rw e at h)
+      only_later _ _ (slice_index_or flags n false) _ (λ same. other (same_cells side _ _ (sym (at_index n) ∙ same))) (rw e at h)
 
 -- Adding a colouring behind the others.
 
@@ -76,46 +76,46 @@ part_of_back xs ys i j front whole =
 rows_below : (n m points : ℕ) → n < m → (n + 1) * points ≤ m * points
 rows_below n m points h = mul-le-mul_right points (omega arith)
 
-module _ (side : ℕ) (cells new : List Cell) (marks : List Bool) (b : Bool) (fits : length cells ≡ length marks * (side * side)) where
+module _ (side : ℕ) (cells new : List Cell) (flags : List Bool) (b : Bool) (fits : length cells ≡ length flags * (side * side)) where
   -- the colourings before the new one stay
-  entries-more : (n : ℕ) → n ≤ length marks → entries side (cells ++ new) (marks ++ b ∷ []) n ≡ entries side cells marks n
+  entries-more : (n : ℕ) → n ≤ length flags → entries side (cells ++ new) (flags ++ b ∷ []) n ≡ entries side cells flags n
   entries-more zero h = refl
   entries-more (suc n) h =
-      let cells_stay : slice_range (cells ++ new) (n * (side * side)) ((n + 1) * (side * side)) ≡ slice_range cells (n * (side * side)) ((n + 1) * (side * side)) = part_of_front cells new _ _ (rw fits (rows_below n (length marks) (side * side) h)) in
-      let mark_stays : slice_index_or (marks ++ b ∷ []) n false ≡ slice_index_or marks n false = get_or_append_left marks (b ∷ []) false n h in
-      rw (cells_stay, mark_stays, entries-more n (omega arith)) refl
+      let cells_stay : slice_range (cells ++ new) (n * (side * side)) ((n + 1) * (side * side)) ≡ slice_range cells (n * (side * side)) ((n + 1) * (side * side)) = part_of_front cells new _ _ (rw fits (rows_below n (length flags) (side * side) h)) in
+      let flag_stays : slice_index_or (flags ++ b ∷ []) n false ≡ slice_index_or flags n false = get_or_append_left flags (b ∷ []) false n h in
+      rw (cells_stay, flag_stays, entries-more n (omega arith)) refl
 
   -- the new one is the newest
-  pub entries-push : length new ≡ side * side → entries side (cells ++ new) (marks ++ b ∷ []) (length (marks ++ b ∷ [])) ≡ record { colouring = record { side = side; cells = new }; begins = b } ∷ entries side cells marks (length marks)
+  pub entries-push : length new ≡ side * side → entries side (cells ++ new) (flags ++ b ∷ []) (length (flags ++ b ∷ [])) ≡ record { colouring = record { side = side; cells = new }; begins = b } ∷ entries side cells flags (length flags)
   entries-push square =
-      let count : length (marks ++ b ∷ []) ≡ suc (length marks) = omega (arith, length-append marks (b ∷ [])) in
-      let cells_new : slice_range (cells ++ new) (length marks * (side * side)) ((length marks + 1) * (side * side)) ≡ new = part_of_back cells new _ _ fits (omega arith) in
-      let mark_new : slice_index_or (marks ++ b ∷ []) (length marks) false ≡ b = get_or_at marks b [] false (length marks) refl in
-      rw (count, cells_new, mark_new, entries-more (length marks) (omega arith)) refl
+      let count : length (flags ++ b ∷ []) ≡ suc (length flags) = omega (arith, length-append flags (b ∷ [])) in
+      let cells_new : slice_range (cells ++ new) (length flags * (side * side)) ((length flags + 1) * (side * side)) ≡ new = part_of_back cells new _ _ fits (omega arith) in
+      let flag_new : slice_index_or (flags ++ b ∷ []) (length flags) false ≡ b = get_or_at flags b [] false (length flags) refl in
+      rw (count, cells_new, flag_new, entries-more (length flags) (omega arith)) refl
 
 -- the newest colouring stands apart; once another takes its place, it stands behind the others
-pub held-add : (newest added : Grid) (mark begins : Bool) (cells cells' : List Cell) (marks marks' : List Bool) → length cells ≡ length marks * (newest.side * newest.side) → length newest.cells ≡ newest.side * newest.side → newest.side ≡ added.side → cells' ≡ cells ++ newest.cells → marks' ≡ marks ++ mark ∷ [] → ◌≡◌ {A = List Held} (record { colouring = added; begins = begins } ∷ entries added.side cells' marks' (length marks')) (record { colouring = added; begins = begins } ∷ (record { colouring = newest; begins = mark } ∷ entries newest.side cells marks (length marks)))
-held-add newest added mark begins cells cells' marks marks' fits square same more_cells more_marks =
-    let others : ◌≡◌ {A = List Held} (entries added.side cells' marks' (length marks')) (record { colouring = newest; begins = mark } ∷ entries newest.side cells marks (length marks)) = rw (← same, more_cells, more_marks) (entries-push newest.side cells newest.cells marks mark fits square) in
+pub held-add : (newest added : Grid) (flag begins : Bool) (cells cells' : List Cell) (flags flags' : List Bool) → length cells ≡ length flags * (newest.side * newest.side) → length newest.cells ≡ newest.side * newest.side → newest.side ≡ added.side → cells' ≡ cells ++ newest.cells → flags' ≡ flags ++ flag ∷ [] → ◌≡◌ {A = List Held} (record { colouring = added; begins = begins } ∷ entries added.side cells' flags' (length flags')) (record { colouring = added; begins = begins } ∷ (record { colouring = newest; begins = flag } ∷ entries newest.side cells flags (length flags)))
+held-add newest added flag begins cells cells' flags flags' fits square same more_cells more_flags =
+    let others : ◌≡◌ {A = List Held} (entries added.side cells' flags' (length flags')) (record { colouring = newest; begins = flag } ∷ entries newest.side cells flags (length flags)) = rw (← same, more_cells, more_flags) (entries-push newest.side cells newest.cells flags flag fits square) in
     ap (λ (hs : List Held). record { colouring = added; begins = begins } ∷ hs) others
 
 -- once the newest one is taken away, the last of the others takes its place
-pub held-pop : (side kept : ℕ) (mark : Bool) (cells cells' : List Cell) (marks marks' : List Bool) → length cells ≡ length marks * (side * side) → kept ≡ length cells - side * side → cells' ≡ take kept cells → marks ≡ marks' ++ mark ∷ [] → record { colouring = record { side = side; cells = take (length cells - kept) (drop kept cells) }; begins = mark } ∷ entries side cells' marks' (length marks') ≡ entries side cells marks (length marks)
-held-pop side kept mark cells cells' marks marks' fits is_kept less_cells less_marks =
-    let count : length marks ≡ length marks' + 1 = rw less_marks (length-append marks' (mark ∷ [])) in
-    let whole : length cells ≡ length marks' * (side * side) + side * side = rw (fits, count) (omega arith) in
-    let is_front : kept ≡ length marks' * (side * side) = omega arith in
-    let front : length cells' ≡ length marks' * (side * side) = rw less_cells (length-take kept cells ∙ omega arith) in
+pub held-pop : (side kept : ℕ) (flag : Bool) (cells cells' : List Cell) (flags flags' : List Bool) → length cells ≡ length flags * (side * side) → kept ≡ length cells - side * side → cells' ≡ take kept cells → flags ≡ flags' ++ flag ∷ [] → record { colouring = record { side = side; cells = take (length cells - kept) (drop kept cells) }; begins = flag } ∷ entries side cells' flags' (length flags') ≡ entries side cells flags (length flags)
+held-pop side kept flag cells cells' flags flags' fits is_kept less_cells less_flags =
+    let count : length flags ≡ length flags' + 1 = rw less_flags (length-append flags' (flag ∷ [])) in
+    let whole : length cells ≡ length flags' * (side * side) + side * side = rw (fits, count) (omega arith) in
+    let is_front : kept ≡ length flags' * (side * side) = omega arith in
+    let front : length cells' ≡ length flags' * (side * side) = rw less_cells (length-take kept cells ∙ omega arith) in
     let back : length (drop kept cells) ≡ side * side = length-drop kept cells ∙ omega arith in
     let last : take (length cells - kept) (drop kept cells) ≡ drop kept cells = between_to_end cells kept (length cells) (omega arith) in
     let joined : cells ≡ cells' ++ drop kept cells = rw less_cells (sym (take-append-drop kept cells)) in
     rw last
-    (sym (subst (λ (cs : List Cell). entries side cs marks (length marks) ≡ record { colouring = record { side = side; cells = drop kept cells }; begins = mark } ∷ entries side cells' marks' (length marks')) (sym joined)
-    (rw less_marks (entries-push side cells' (drop kept cells) marks' mark front back))))
+    (sym (subst (λ (cs : List Cell). entries side cs flags (length flags) ≡ record { colouring = record { side = side; cells = drop kept cells }; begins = flag } ∷ entries side cells' flags' (length flags')) (sym joined)
+    (rw less_flags (entries-push side cells' (drop kept cells) flags' flag front back))))
 
 -- the stretch has a colouring that isn't the newest exactly where it goes on and the others have it
-pub held-has : (r : Bool) (newest grid : Grid) (begins : Bool) (cells : List Cell) (marks : List Bool) → newest.side ≡ grid.side → begins ≡ false → newest ≢ grid → (IsTrue r ↔ Has newest.side cells marks grid.cells (length marks)) → IsTrue r ↔ Contains (present_stretch (record { colouring = newest; begins = begins } ∷ entries newest.side cells marks (length marks))) grid
-held-has r newest grid begins cells marks same on other has =
+pub held-has : (r : Bool) (newest grid : Grid) (begins : Bool) (cells : List Cell) (flags : List Bool) → newest.side ≡ grid.side → begins ≡ false → newest ≢ grid → (IsTrue r ↔ Has newest.side cells flags grid.cells (length flags)) → IsTrue r ↔ Contains (present_stretch (record { colouring = newest; begins = begins } ∷ entries newest.side cells flags (length flags))) grid
+held-has r newest grid begins cells flags same on other has =
     let whole : record { side = newest.side; cells = grid.cells } ≡ grid = ap (λ s. record { side = s; cells = grid.cells }) same in
     let others = rw whole at has in
     (λ t. going_on newest grid begins _ on (others.0 t), λ h. others.1 (only_later newest grid begins _ other h).1)

@@ -1,4 +1,4 @@
--- The past colourings of a game, newest first, each with a mark where it begins a stretch. Positional superko looks at the present
+-- The past colourings of a game, newest first, each with whether it begins a stretch. Positional superko looks at the present
 -- stretch alone: what it forbids is in Reason.antt.
 use Rattle.std.specs.Prelude.{◌≡◌, ℕ, Bool, Option, Some, None, List, [], ◌∷◌, if◌then◌else◌, unwrap_or}
 use Rattle.go_board.specs.Grid.{Grid, empty_grid}

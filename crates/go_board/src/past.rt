@@ -31,7 +31,7 @@ pub use list_past::ListPast;
 pub use print_past::PrintPast;
 use std::alloc::Global;
 
-/// The colourings that a game has been through, at least one, each with a mark where it begins a stretch. The present
+/// The colourings that a game has been through, at least one, of each of which is known whether it begins a stretch. The present
 /// stretch is the newest colouring that begins one, and all after it. Boards handed in have the size of the first one.
 /// After a refusal the past is unchanged.
 pub trait Past: Drop {
@@ -98,7 +98,7 @@ pub trait Past: Drop {
         Ok(false)
     }
 
-    /// Takes the newest colouring back, with its mark. The caller knows that there are two or more.
+    /// Takes the newest colouring back. The caller knows that there are two or more.
     fn pop(&mut self)
         requires { 2 ≤ length (held self.old) }
         ensures { held self.new ≡ drop 1 (held self.old) };

@@ -33,7 +33,7 @@ pub struct Referee<P: Past> {
     /// A second board, on which stones are tried and areas coloured.
     spare: Board,
     /// Whether it is known that the spare board has the present colouring.
-    in_step: bool,
+    spare_is_current: bool,
     player: Option<Colour>,
     passes: u8,
     turns: u64,
@@ -50,7 +50,7 @@ impl<P: Past> Model for Referee<P> {
 
     ghost view = { λ r. states_of (P.held r.past) r.player r.passes r.turns r.earlier.items };
 
-    ghost invariant = { λ r. IsKept (P.held r.past) r.spare (IsTrue r.in_step) r.player r.passes r.turns (reverse r.earlier.items) };
+    ghost invariant = { λ r. IsKept (P.held r.past) r.spare (IsTrue r.spare_is_current) r.player r.passes r.turns (reverse r.earlier.items) };
 }
 
 impl<P: Past> Referee<P> {
@@ -68,7 +68,7 @@ impl<P: Past> Referee<P> {
         Ok(Referee {
             past: P::new(alloc, &spare)?,
             spare,
-            in_step: true,
+            spare_is_current: true,
             player: Some(Colour::Black),
             passes: 0,
             turns: 0,
@@ -91,14 +91,14 @@ impl<P: Past> Referee<P> {
         ensures value { self.old ≡ followed_by self.new self.old.present }
         ensures side { self.new.present.colouring.side ≡ self.old.present.colouring.side }
     {
-        let left = self.earlier.pop().unwrap();
-        if left.grew {
+        let earlier = self.earlier.pop().unwrap();
+        if earlier.grew {
             self.past.pop();
-            self.in_step = false;
+            self.spare_is_current = false;
         }
-        self.player = left.player;
-        self.passes = left.passes;
-        self.turns = left.turns;
+        self.player = earlier.player;
+        self.passes = earlier.passes;
+        self.turns = earlier.turns;
     }
 
     /// The present board.
@@ -150,12 +150,12 @@ impl<P: Past> Referee<P> {
 }
 
 /// Gives the spare board the newest colouring, unless it is known to have it.
-fn bring_in_step(spare: &mut Board, newest: &Board, in_step: bool)
+fn bring_up_to_date(spare: &mut Board, newest: &Board, spare_is_current: bool)
     requires side { spare.old.side ≡ newest.now.side }
-    requires known { IsTrue in_step → spare.old ≡ newest.now }
+    requires known { IsTrue spare_is_current → spare.old ≡ newest.now }
     ensures { spare.new ≡ newest.now }
 {
-    if !in_step {
+    if !spare_is_current {
         spare.copy_from(newest);
     }
 }

@@ -62,54 +62,54 @@ last_player-push before (r ∷ rs) raw = each (λ k. last_player-push (Some k) r
     each h None = refl
     each h (Some k) = h k
 
-module _ (side : ℕ) (moves : Moves) (ops : List SetupOp) (player : Option Colour) (faulty : Bool) (held : Lists) (h : AreTold side moves ops player faulty held) where
-  same_moves : AreMoves moves (held.moves ++ [])
-  same_moves = subst (AreMoves moves) (sym (append-nil held.moves)) h.moves_are
+module _ (side : ℕ) (moves : Moves) (ops : List SetupOp) (player : Option Colour) (faulty : Bool) (lists : Lists) (h : AreTold side moves ops player faulty lists) where
+  same_moves : AreMoves moves (lists.moves ++ [])
+  same_moves = subst (AreMoves moves) (sym (append-nil lists.moves)) h.moves_are
 
-  same_stones : operations (held.stones ++ []) side ≡ operations held.stones side
-  same_stones = ap (λ ss. operations ss side) (append-nil held.stones)
+  same_stones : operations (lists.stones ++ []) side ≡ operations lists.stones side
+  same_stones = ap (λ ss. operations ss side) (append-nil lists.stones)
 
-  same_players : last_player None (held.players ++ []) ≡ last_player None held.players
-  same_players = ap (last_player None) (append-nil held.players)
+  same_players : last_player None (lists.players ++ []) ≡ last_player None lists.players
+  same_players = ap (last_player None) (append-nil lists.players)
 
-  fault_stays_in_stones : (s : Stones) → (operations held.stones side ≡ None) ⊎ (last_player None held.players ≡ None)
-      → (operations (held.stones ++ s ∷ []) side ≡ None) ⊎ (last_player None (held.players ++ []) ≡ None)
+  fault_stays_in_stones : (s : Stones) → (operations lists.stones side ≡ None) ⊎ (last_player None lists.players ≡ None)
+      → (operations (lists.stones ++ s ∷ []) side ≡ None) ⊎ (last_player None (lists.players ++ []) ≡ None)
   fault_stays_in_stones s e = elim e [
-    | inl bad ↦ inl (operations-push side held.stones s ∙ ap (λ os. after_all os (operation s side)) bad)
+    | inl bad ↦ inl (operations-push side lists.stones s ∙ ap (λ os. after_all os (operation s side)) bad)
     | inr bad ↦ inr (same_players ∙ bad)
   ]
 
-  fault_stays_in_players : (raw : List ℕ) → (operations held.stones side ≡ None) ⊎ (last_player None held.players ≡ None)
-      → (operations (held.stones ++ []) side ≡ None) ⊎ (last_player None (held.players ++ raw ∷ []) ≡ None)
+  fault_stays_in_players : (raw : List ℕ) → (operations lists.stones side ≡ None) ⊎ (last_player None lists.players ≡ None)
+      → (operations (lists.stones ++ []) side ≡ None) ⊎ (last_player None (lists.players ++ raw ∷ []) ≡ None)
   fault_stays_in_players raw e = elim e [
     | inl bad ↦ inl (same_stones ∙ bad)
-    | inr bad ↦ inr (last_player-push None held.players raw ∙ ap (λ last. player_after last (player_value raw)) bad)
+    | inr bad ↦ inr (last_player-push None lists.players raw ∙ ap (λ last. player_after last (player_value raw)) bad)
   ]
 
   -- stones that are a rectangle of the board
   pub tells_stones : (s : Stones) (area : Rect) (longer : List SetupOp) → rect_value s.raw side ≡ Some area → IsRectOn side area
       → longer ≡ ops ++ record { cell = s.cell; area = area } ∷ []
-      → AreTold side moves longer player faulty (combined held (record { moves = []; stones = s ∷ []; players = [] }))
+      → AreTold side moves longer player faulty (combined lists (record { moves = []; stones = s ∷ []; players = [] }))
   tells_stones s area longer e on more =
       let op : SetupOp = record { cell = s.cell; area = area } in
       let is : operation s side ≡ Some op = ap (λ o. option_map (λ a. record { cell = s.cell; area = a }) o) e in
       record {
         moves_are = same_moves;
-        stones = λ good. operations-push side held.stones s ∙ ap (λ os. after_all os (operation s side)) (h.stones good) ∙ ap (λ o. after_all (Some ops) o) is ∙ ap Some (sym more);
+        stones = λ good. operations-push side lists.stones s ∙ ap (λ os. after_all os (operation s side)) (h.stones good) ∙ ap (λ o. after_all (Some ops) o) is ∙ ap Some (sym more);
         players = λ good. same_players ∙ h.players good;
         faults = λ bad. fault_stays_in_stones s (h.faults bad);
         on_board = subst (All (λ o. IsRectOn side o.area)) (sym more) (All-append (λ (o : SetupOp). IsRectOn side o.area) ops (op ∷ []) h.on_board (All-from_recursion (λ (o : SetupOp). IsRectOn side o.area) (op ∷ []) (on, tt)));
       }
 
   -- stones that are none
-  pub tells_no_stones : (s : Stones) → rect_value s.raw side ≡ None → AreTold side moves ops player true (combined held (record { moves = []; stones = s ∷ []; players = [] }))
+  pub tells_no_stones : (s : Stones) → rect_value s.raw side ≡ None → AreTold side moves ops player true (combined lists (record { moves = []; stones = s ∷ []; players = [] }))
   tells_no_stones s e =
       let is : operation s side ≡ None = ap (λ o. option_map (λ a. record { cell = s.cell; area = a }) o) e in
       record {
         moves_are = same_moves;
         stones = λ good. absurd cc;
         players = λ good. absurd cc;
-        faults = λ bad. inl (operations-push side held.stones s ∙ ap (λ o. after_all (operations held.stones side) o) is ∙ none_after (operations held.stones side));
+        faults = λ bad. inl (operations-push side lists.stones s ∙ ap (λ o. after_all (operations lists.stones side) o) is ∙ none_after (operations lists.stones side));
         on_board = h.on_board;
       }
     where
@@ -118,22 +118,22 @@ module _ (side : ℕ) (moves : Moves) (ops : List SetupOp) (player : Option Colo
       none_after (Some ops) = refl
 
   -- a player
-  pub tells_player : (raw : List ℕ) (k : Colour) → player_value raw ≡ Some k → AreTold side moves ops (Some k) faulty (combined held (record { moves = []; stones = []; players = raw ∷ [] }))
+  pub tells_player : (raw : List ℕ) (k : Colour) → player_value raw ≡ Some k → AreTold side moves ops (Some k) faulty (combined lists (record { moves = []; stones = []; players = raw ∷ [] }))
   tells_player raw k e = record {
     moves_are = same_moves;
     stones = λ good. same_stones ∙ h.stones good;
-    players = λ good. last_player-push None held.players raw ∙ ap (λ last. player_after last (player_value raw)) (h.players good) ∙ ap (λ o. player_after (Some player) o) e;
+    players = λ good. last_player-push None lists.players raw ∙ ap (λ last. player_after last (player_value raw)) (h.players good) ∙ ap (λ o. player_after (Some player) o) e;
     faults = λ bad. fault_stays_in_players raw (h.faults bad);
     on_board = h.on_board;
   }
 
   -- no player
-  pub tells_no_player : (raw : List ℕ) → player_value raw ≡ None → AreTold side moves ops player true (combined held (record { moves = []; stones = []; players = raw ∷ [] }))
+  pub tells_no_player : (raw : List ℕ) → player_value raw ≡ None → AreTold side moves ops player true (combined lists (record { moves = []; stones = []; players = raw ∷ [] }))
   tells_no_player raw e = record {
     moves_are = same_moves;
     stones = λ good. absurd cc;
     players = λ good. absurd cc;
-    faults = λ bad. inr (last_player-push None held.players raw ∙ ap (λ o. player_after (last_player None held.players) o) e ∙ none_after (last_player None held.players));
+    faults = λ bad. inr (last_player-push None lists.players raw ∙ ap (λ o. player_after (last_player None lists.players) o) e ∙ none_after (last_player None lists.players));
     on_board = h.on_board;
   }
     where
@@ -142,7 +142,7 @@ module _ (side : ℕ) (moves : Moves) (ops : List SetupOp) (player : Option Colo
       none_after (Some before) = refl
 
   -- moves
-  pub tells_moves : (longer : Moves) (more : List Move) → AreMoves longer (held.moves ++ more) → AreTold side longer ops player faulty (combined held (record { moves = more; stones = []; players = [] }))
+  pub tells_moves : (longer : Moves) (more : List Move) → AreMoves longer (lists.moves ++ more) → AreTold side longer ops player faulty (combined lists (record { moves = more; stones = []; players = [] }))
   tells_moves longer more is = record {
     moves_are = is;
     stones = λ good. same_stones ∙ h.stones good;
@@ -152,7 +152,7 @@ module _ (side : ℕ) (moves : Moves) (ops : List SetupOp) (player : Option Colo
   }
 
   -- nothing
-  pub tells_no_more : AreTold side moves ops player faulty (combined held empty_lists)
+  pub tells_no_more : AreTold side moves ops player faulty (combined lists empty_lists)
   tells_no_more = tells_moves moves [] same_moves
 
 -- what a property holds, by its name

@@ -49,16 +49,16 @@ module _ (c : Games) (leaf n : ℕ) (parent : Option ℕ) (h : IsClimb c leaf (S
   shortens = (above_of h.way e).2
 
 -- the nodes of the way that the loop has left are counted
-pub record IsCounted (c : Games) (leaf : ℕ) (current : Option ℕ) (depth : ℕ) : Type 0 where
+pub record IsCounted (c : Games) (leaf : ℕ) (current : Option ℕ) (count : ℕ) : Type 0 where
   pub climb : IsClimb c leaf current
-  pub counted : length climb.numbers ≡ length climb.above + depth
-  pub small : height current + depth ≤ leaf + 1
+  pub counted : length climb.numbers ≡ length climb.above + count
+  pub small : height current + count ≤ leaf + 1
 
 pub count_begins : (c : Games) (leaf : ℕ) → leaf < node_count c → IsLeaf c leaf → IsCounted c leaf (Some leaf) 0
 count_begins c leaf lt is_leaf = record { climb = begins c leaf lt is_leaf; counted = omega arith; small = omega arith }
 
-counts_one : (c : Games) (leaf n depth : ℕ) (parent : Option ℕ) → IsCounted c leaf (Some n) depth → parent_at c n ≡ Some parent → IsCounted c leaf parent (depth + 1)
-counts_one c leaf n depth parent h e =
+counts_one : (c : Games) (leaf n count : ℕ) (parent : Option ℕ) → IsCounted c leaf (Some n) count → parent_at c n ≡ Some parent → IsCounted c leaf parent (count + 1)
+counts_one c leaf n count parent h e =
     let shorter = ap length (shortens c leaf n parent h.climb e) ∙ length-append (climbs c leaf n parent h.climb e).above (n ∷ []) in
     record {
       climb = climbs c leaf n parent h.climb e;
@@ -66,12 +66,12 @@ counts_one c leaf n depth parent h e =
       small = omega (arith, h.small, height_falls c leaf n parent h.climb e);
     }
 
-pub counts : (c : Games) (leaf n depth : ℕ) (current parent : Option ℕ) → IsCounted c leaf current depth → current ≡ Some n → parent_at c n ≡ Some parent
-    → IsCounted c leaf parent (depth + 1)
-counts c leaf n depth current parent h is e = counts_one c leaf n depth parent (rw is at h) e
+pub counts : (c : Games) (leaf n count : ℕ) (current parent : Option ℕ) → IsCounted c leaf current count → current ≡ Some n → parent_at c n ≡ Some parent
+    → IsCounted c leaf parent (count + 1)
+counts c leaf n count current parent h is e = counts_one c leaf n count parent (rw is at h) e
 
-pub count_fits : (c : Games) (leaf n depth : ℕ) (current : Option ℕ) → IsCounted c leaf current depth → current ≡ Some n → depth ≤ leaf
-count_fits c leaf n depth current h is = omega (arith, h.small, ap height is)
+pub count_fits : (c : Games) (leaf n count : ℕ) (current : Option ℕ) → IsCounted c leaf current count → current ≡ Some n → count ≤ leaf
+count_fits c leaf n count current h is = omega (arith, h.small, ap height is)
 
 -- the loop's measure
 pub height_goes_down : (c : Games) (n : ℕ) (current parent : Option ℕ) → current ≡ Some n → parent_at c n ≡ Some parent → height parent < height current
@@ -81,8 +81,8 @@ height_goes_down c n current parent is e = rw is (lower c n parent e)
 none_above : {c : Games} {way : List ℕ} → IsWayTo c None way → way ≡ []
 none_above top = refl
 
-pub counted_all : (c : Games) (leaf depth : ℕ) (current : Option ℕ) → IsCounted c leaf current depth → current ≡ None → (numbers : List ℕ) → IsWayTo c (Some leaf) numbers → depth ≡ length numbers
-counted_all c leaf depth current h is numbers way =
+pub counted_all : (c : Games) (leaf count : ℕ) (current : Option ℕ) → IsCounted c leaf current count → current ≡ None → (numbers : List ℕ) → IsWayTo c (Some leaf) numbers → count ≡ length numbers
+counted_all c leaf count current h is numbers way =
     omega (arith, h.counted, ap length (none_above (rw is at h.climb.way)), ap length (one_way h.climb.whole way))
 
 -- the nodes of the way that the loop has left are written

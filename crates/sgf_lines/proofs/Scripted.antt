@@ -15,7 +15,7 @@ use Rattle.sgf_lines.specs.declared.followed.Followed.{Followed}
 use Rattle.sgf_lines.specs.declared.followed.Followed.TheVariants.{OtherGame, NoBoard, Judged}
 use Rattle.sgf_lines.specs.inner.Shown.{IsShownAs}
 use Rattle.sgf_lines.specs.inner.Played.{HasCommands, game_commands}
-use Rattle.sgf_lines.specs.inner.Followed.{IsHeld, IsFollowed, followed_commands}
+use Rattle.sgf_lines.specs.inner.Followed.{IsFollowedAs, IsFollowed, followed_commands}
 use Rattle.sgf_lines.proofs.KeptScripts.{commands_are}
 use Rattle.sgf_lines.proofs.Lined.{row-is}
 
@@ -23,7 +23,7 @@ asked_commands : (side : ℕ) (nodes : List Node) (commands : Option Commands) �
 asked_commands side nodes None h = absurd h
 asked_commands side nodes (Some commands) h = commands_are side nodes commands h
 
-commands_held : (said : GameKind) (nodes : List Node) (followed : Followed) → IsHeld true said nodes followed → followed_commands followed ≡ commands_by said nodes
+commands_held : (said : GameKind) (nodes : List Node) (followed : Followed) → IsFollowedAs true said nodes followed → followed_commands followed ≡ commands_by said nodes
 commands_held said nodes OtherGame h = ap (λ o. commands_by o nodes) (sym h)
 commands_held said nodes NoBoard h = ap (λ o. commands_by o nodes) (sym h)
 commands_held said nodes (Judged game) h = asked_commands h.0 nodes game.commands h.2.commands ∙ ap (λ o. commands_by o nodes) (sym h.1)

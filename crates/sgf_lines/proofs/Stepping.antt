@@ -64,20 +64,20 @@ faulty_players [] e = absurd cc
 faulty_players (raw ∷ raws) e = omega arith
 
 -- whether there is a setup
-pub met_by_fault : (side : ℕ) (held : Lists) → (operations held.stones side ≡ None) ⊎ (last_player None held.players ≡ None) → IsSetupMet held true
-met_by_fault side held e = elim e [
-  | inl bad ↦ omega (arith, faulty_stones side held.stones bad)
-  | inr bad ↦ omega (arith, faulty_players held.players bad)
+pub met_by_fault : (side : ℕ) (lists : Lists) → (operations lists.stones side ≡ None) ⊎ (last_player None lists.players ≡ None) → IsSetupMet lists true
+met_by_fault side lists e = elim e [
+  | inl bad ↦ omega (arith, faulty_stones side lists.stones bad)
+  | inr bad ↦ omega (arith, faulty_players lists.players bad)
 ]
 
-pub met_by_player : (held : Lists) (k : Colour) → last_player None held.players ≡ Some (Some k) → IsSetupMet held true
-met_by_player held k e = omega (arith, some_players held.players k e)
+pub met_by_player : (lists : Lists) (k : Colour) → last_player None lists.players ≡ Some (Some k) → IsSetupMet lists true
+met_by_player lists k e = omega (arith, some_players lists.players k e)
 
-pub met_by_stones : (side : ℕ) (held : Lists) (ops : List SetupOp) → operations held.stones side ≡ Some ops → 0 < length ops → IsSetupMet held true
-met_by_stones side held ops e lt = omega (arith, some_stones side held.stones ops e lt)
+pub met_by_stones : (side : ℕ) (lists : Lists) (ops : List SetupOp) → operations lists.stones side ≡ Some ops → 0 < length ops → IsSetupMet lists true
+met_by_stones side lists ops e lt = omega (arith, some_stones side lists.stones ops e lt)
 
-pub not_met : (side : ℕ) (held : Lists) → operations held.stones side ≡ Some [] → last_player None held.players ≡ Some None → IsSetupMet held false
-not_met side held e f = (stones_none side held.stones e, players_none held.players f)
+pub not_met : (side : ℕ) (lists : Lists) → operations lists.stones side ≡ Some [] → last_player None lists.players ≡ Some None → IsSetupMet lists false
+not_met side lists e f = (stones_none side lists.stones e, players_none lists.players f)
 
 -- a setup alone
 no_last : (s : State) (o : Option (List SetupOp)) → setup_step s o None ≡ Err BadSetup
@@ -118,52 +118,52 @@ is_no_player : (o : Option Colour) → is_some o ≡ false → o ≡ None
 is_no_player None e = refl
 is_no_player (Some k) e = absurd cc
 
-module _ (side : ℕ) (moves : Moves) (ops : List SetupOp) (player : Option Colour) (faulty : Bool) (held : Lists) (h : AreTold side moves ops player faulty held) where
-  pub met_when_faulty : faulty ≡ true → IsSetupMet held true
-  met_when_faulty e = met_by_fault side held (h.faults e)
+module _ (side : ℕ) (moves : Moves) (ops : List SetupOp) (player : Option Colour) (faulty : Bool) (lists : Lists) (h : AreTold side moves ops player faulty lists) where
+  pub met_when_faulty : faulty ≡ true → IsSetupMet lists true
+  met_when_faulty e = met_by_fault side lists (h.faults e)
 
-  pub met_when_player : faulty ≡ false → is_some player ≡ true → IsSetupMet held true
+  pub met_when_player : faulty ≡ false → is_some player ≡ true → IsSetupMet lists true
   met_when_player good e = by player (h.players good) e
     where
-      by : (o : Option Colour) → last_player None held.players ≡ Some o → is_some o ≡ true → IsSetupMet held true
+      by : (o : Option Colour) → last_player None lists.players ≡ Some o → is_some o ≡ true → IsSetupMet lists true
       by None f e = absurd cc
-      by (Some k) f e = met_by_player held k f
+      by (Some k) f e = met_by_player lists k f
 
-  no_operations : faulty ≡ false → length ops ≡ 0 → operations held.stones side ≡ Some []
+  no_operations : faulty ≡ false → length ops ≡ 0 → operations lists.stones side ≡ Some []
   no_operations good e = h.stones good ∙ ap Some (no_elements ops e)
 
-  no_one : faulty ≡ false → is_some player ≡ false → last_player None held.players ≡ Some None
+  no_one : faulty ≡ false → is_some player ≡ false → last_player None lists.players ≡ Some None
   no_one good e = h.players good ∙ ap Some (is_no_player player e)
 
-  pub met_by_rest : (b : Bool) → b ≡ (length ops == 0) → faulty ≡ false → is_some player ≡ false → IsSetupMet held (not b)
-  met_by_rest true is good e = not_met side held (no_operations good (eqb-true (length ops) 0 (sym is))) (no_one good e)
+  pub met_by_rest : (b : Bool) → b ≡ (length ops == 0) → faulty ≡ false → is_some player ≡ false → IsSetupMet lists (not b)
+  met_by_rest true is good e = not_met side lists (no_operations good (eqb-true (length ops) 0 (sym is))) (no_one good e)
   met_by_rest false is good e =
       let some : length ops ≡ 0 → ⊥ = eqb-false (length ops) 0 (sym is) in
-      met_by_stones side held ops (h.stones good) (omega (arith, some))
+      met_by_stones side lists ops (h.stones good) (omega (arith, some))
 
   -- nothing to set up
-  pub sets_nothing : (s : State) → side ≡ side_in s → faulty ≡ false → length ops ≡ 0 → is_some player ≡ false → (held.stones ≡ []) × (step_by s [] held.stones held.players ≡ Ok s)
+  pub sets_nothing : (s : State) → side ≡ side_in s → faulty ≡ false → length ops ≡ 0 → is_some player ≡ false → (lists.stones ≡ []) × (step_by s [] lists.stones lists.players ≡ Ok s)
   sets_nothing s is good none e =
-      let ops_are : operations held.stones (side_in s) ≡ Some [] = subst (λ n. operations held.stones n ≡ Some []) is (no_operations good none) in
-      no_setup s held.stones held.players ops_are (no_one good e)
+      let ops_are : operations lists.stones (side_in s) ≡ Some [] = subst (λ n. operations lists.stones n ≡ Some []) is (no_operations good none) in
+      no_setup s lists.stones lists.players ops_are (no_one good e)
 
   -- something to set up
-  pub sets_something : (s : State) → side ≡ side_in s → faulty ≡ false → (0 < length ops) ⊎ IsSome player → step_by s [] held.stones held.players ≡ Ok (set_up s ops player)
+  pub sets_something : (s : State) → side ≡ side_in s → faulty ≡ false → (0 < length ops) ⊎ IsSome player → step_by s [] lists.stones lists.players ≡ Ok (set_up s ops player)
   sets_something s is good some =
-      let ops_are : operations held.stones (side_in s) ≡ Some ops = subst (λ n. operations held.stones n ≡ Some ops) is (h.stones good) in
-      sets_up s held.stones held.players ops player ops_are (h.players good) some
+      let ops_are : operations lists.stones (side_in s) ≡ Some ops = subst (λ n. operations lists.stones n ≡ Some ops) is (h.stones good) in
+      sets_up s lists.stones lists.players ops player ops_are (h.players good) some
 
-  pub sets_faulty : (s : State) → side ≡ side_in s → faulty ≡ true → step_by s [] held.stones held.players ≡ Err BadSetup
+  pub sets_faulty : (s : State) → side ≡ side_in s → faulty ≡ true → step_by s [] lists.stones lists.players ≡ Err BadSetup
   sets_faulty s is bad =
-      let faults : (operations held.stones (side_in s) ≡ None) ⊎ (last_player None held.players ≡ None) =
-      subst (λ n. (operations held.stones n ≡ None) ⊎ (last_player None held.players ≡ None)) is (h.faults bad) in
-      faulty_setup s held.stones held.players faults
+      let faults : (operations lists.stones (side_in s) ≡ None) ⊎ (last_player None lists.players ≡ None) =
+      subst (λ n. (operations lists.stones n ≡ None) ⊎ (last_player None lists.players ≡ None)) is (h.faults bad) in
+      faulty_setup s lists.stones lists.players faults
 
-  pub has_stones : faulty ≡ false → (length ops ≡ 0 → ⊥) → 0 < length held.stones
-  has_stones good some = some_stones side held.stones ops (h.stones good) (omega (arith, some))
+  pub has_stones : faulty ≡ false → (length ops ≡ 0 → ⊥) → 0 < length lists.stones
+  has_stones good some = some_stones side lists.stones ops (h.stones good) (omega (arith, some))
 
-  pub has_no_stones : faulty ≡ false → length ops ≡ 0 → held.stones ≡ []
-  has_no_stones good none = stones_none side held.stones (no_operations good none)
+  pub has_no_stones : faulty ≡ false → length ops ≡ 0 → lists.stones ≡ []
+  has_no_stones good none = stones_none side lists.stones (no_operations good none)
 
 -- a turn that the referee took has no reason against it
 no_reason : (o : Option Reason) → ((r : Reason) → o ≡ Some r → ⊥) → o ≡ None

@@ -41,12 +41,12 @@ colour_named word =
     if bytes_eq name (codes "B") || bytes_eq name (codes "BLACK") then Some Black
     else (if bytes_eq name (codes "W") || bytes_eq name (codes "WHITE") then Some White else None)
 
--- the point of that column from the left and that row's number from the bottom, from 1, where the board has it
+-- the point of that column from the left and that number from the bottom, from 1, where the board has it
 abbrev pub point_there : ℕ → ℕ → ℕ → Option Point
 point_there side col number =
     if nat_lt col side && (nat_le 1 number && nat_le number side) then Some (record { col = col; row = side - number }) else None
 
--- the point that a word names: the letter of its column and its row's number; `pass` names none
+-- the point that a word names: the letter of its column and its number from the bottom; `pass` names none
 abbrev pub point_named : ℕ → List ℕ → Option Point
 point_named side [] = None
 point_named side (letter ∷ digits) =

@@ -47,7 +47,7 @@ abbrev pub colour_letter : Colour → List ℕ
 colour_letter Black = codes "B"
 colour_letter White = codes "W"
 
--- a vertex with its row's number, or `pass`
+-- a vertex as it is written, or `pass`
 abbrev pub vertex_text : Vertex → List ℕ
 vertex_text v = v.letter ∷ decimal v.row
 

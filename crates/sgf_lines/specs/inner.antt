@@ -14,4 +14,4 @@ pub mod Kept
 pub mod KeptCommands
 pub mod Keeping
 pub mod Cutting
-pub mod Rows
+pub mod BuiltRow

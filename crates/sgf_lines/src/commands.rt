@@ -142,6 +142,6 @@ fn leaves_unreaching(effect: Effect<'_>, board: &Board) -> bool
 {
     match effect {
         Effect::Stones => board.has_unreaching(),
-        Effect::Nothing | Effect::Turn(..) => false,
+        Effect::Nothing | Effect::Move(..) => false,
     }
 }

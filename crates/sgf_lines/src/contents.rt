@@ -91,9 +91,9 @@ impl<'a> Contents<'a> {
         property: &PropRef<'a>,
         size: Size,
     ) -> Result<(), MemoryFault>
-        ensures told { (held : Lists) → IsContents size self.old held
+        ensures told { (lists : Lists) → IsContents size self.old lists
             → OnOk result (IsContents size self.new
-            (combined held (lists_of_kind (Kind.Stones cell) (values property.now)))) }
+            (combined lists (lists_of_kind (Kind.Stones cell) (values property.now)))) }
         ensures comment { self.new.comment ≡ self.old.comment }
     {
         make_room(&mut self.operations)?;
@@ -106,8 +106,8 @@ impl<'a> Contents<'a> {
 
     /// Takes one value of stones.
     fn take_area(&mut self, cell: Cell, raw: &[u8], size: Size) -> Result<(), MemoryFault>
-        ensures told { (held : Lists) → IsContents size self.old held
-            → OnOk result (IsContents size self.new (combined held (lists_of_kind (Kind.Stones cell) (raw.now ∷ [])))) }
+        ensures told { (lists : Lists) → IsContents size self.old lists
+            → OnOk result (IsContents size self.new (combined lists (lists_of_kind (Kind.Stones cell) (raw.now ∷ [])))) }
         ensures comment { self.new.comment ≡ self.old.comment }
     {
         match rect(raw, size) {
@@ -121,8 +121,8 @@ impl<'a> Contents<'a> {
 
     /// Takes the players of a property.
     fn take_players(&mut self, property: &PropRef<'a>)
-        ensures told { (side : ℕ) (held : Lists) → IsContents side self.old held
-            → IsContents side self.new (combined held (lists_of_kind Kind.Player (values property.now))) }
+        ensures told { (side : ℕ) (lists : Lists) → IsContents side self.old lists
+            → IsContents side self.new (combined lists (lists_of_kind Kind.Player (values property.now))) }
         ensures comment { self.new.comment ≡ self.old.comment }
     {
         let mut values = property.iter();
@@ -133,8 +133,8 @@ impl<'a> Contents<'a> {
 
     /// Takes one value of a player.
     fn take_player(&mut self, raw: &[u8])
-        ensures told { (side : ℕ) (held : Lists) → IsContents side self.old held
-            → IsContents side self.new (combined held (lists_of_kind Kind.Player (raw.now ∷ []))) }
+        ensures told { (side : ℕ) (lists : Lists) → IsContents side self.old lists
+            → IsContents side self.new (combined lists (lists_of_kind Kind.Player (raw.now ∷ []))) }
         ensures comment { self.new.comment ≡ self.old.comment }
     {
         match player_value(raw) {

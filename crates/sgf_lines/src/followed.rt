@@ -7,7 +7,7 @@ ghost use Rattle.sgf_lines.specs.JudgedGames.{GameKind as GameKindSaid, board, g
 ghost use Rattle.sgf_lines.specs.Verdict.{verdict_of};
 ghost use Rattle.sgf_lines.specs.declared.followed.Followed.TheVariants.{OtherGame, NoBoard};
 ghost use Rattle.sgf_lines.specs.inner.Played.{IsPlayedAs, RaisesPlays};
-ghost use Rattle.sgf_lines.specs.inner.Followed.{IsHeld, IsFollowed, followed_commands, PlaysOn, PlaysFresh};
+ghost use Rattle.sgf_lines.specs.inner.Followed.{IsFollowedAs, IsFollowed, followed_commands, PlaysOn, PlaysFresh};
 
 use crate::game::Game;
 use crate::game_kind::{GameKind, game_kind_of};
@@ -71,7 +71,7 @@ impl Followed {
         ensures { (old nodes : List Node) (node : Node) → (0 < shared → IsFollowed scripted old self.old) → shared ≤ length old
             → take shared old ≡ take shared nodes → node_at collection.now root ≡ Some node
             → root_properties nodes ≡ node.properties
-            → OnOk result (IsHeld scripted (game_kind (root_properties nodes)) (take shared nodes) self.new) }
+            → OnOk result (IsFollowedAs scripted (game_kind (root_properties nodes)) (take shared nodes) self.new) }
     {
         if shared == 0 {
             return self.begin_game(alloc, collection, root, scripted);
@@ -96,7 +96,7 @@ impl Followed {
     ) -> Result<(), MemoryFault>
         requires { root < node_count collection.now }
         ensures { (node : Node) → node_at collection.now root ≡ Some node
-            → OnOk result (IsHeld scripted (game_kind node.properties) [] self.new) }
+            → OnOk result (IsFollowedAs scripted (game_kind node.properties) [] self.new) }
     {
         match game_kind_of(&collection.node(root)) {
             GameKind::Board(size) => self.begin_on(alloc, size, scripted),
@@ -129,7 +129,7 @@ impl Followed {
 
     /// Begins a game on a board of that size. Where the line before was played, its game is begun anew in place.
     fn begin_on(&mut self, alloc: Global, size: Size, scripted: bool) -> Result<(), MemoryFault>
-        ensures { OnOk result (IsHeld scripted (board size) [] self.new) }
+        ensures { OnOk result (IsFollowedAs scripted (board size) [] self.new) }
     {
         match self {
             Followed::Judged(game) => game.reset(alloc, size, scripted),
@@ -141,7 +141,7 @@ impl Followed {
     /// where no game is made.
     #[inline(never)]
     fn make_game(&mut self, alloc: Global, size: Size, scripted: bool) -> Result<(), MemoryFault>
-        ensures { OnOk result (IsHeld scripted (board size) [] self.new) }
+        ensures { OnOk result (IsFollowedAs scripted (board size) [] self.new) }
     {
         *self = Followed::Judged(Game::new(alloc, size, scripted)?);
         Ok(())
@@ -158,10 +158,10 @@ impl Followed {
     ) -> Result<(), MemoryFault>
         requires within { All (λ i. i < node_count collection.now) path.now }
         requires countable { plays.old + (length path.now - shared) ≤ u64.MAX }
-        ensures held { (scripted : Bool) (said : GameKindSaid) (nodes : List Node) → map Some nodes ≡ map (node_at collection.now) path.now
-            → IsHeld scripted said (take shared nodes) self.old → OnOk result (IsHeld scripted said nodes self.new) }
+        ensures followed { (scripted : Bool) (said : GameKindSaid) (nodes : List Node) → map Some nodes ≡ map (node_at collection.now) path.now
+            → IsFollowedAs scripted said (take shared nodes) self.old → OnOk result (IsFollowedAs scripted said nodes self.new) }
         ensures plays { (scripted : Bool) (said : GameKindSaid) (nodes : List Node) → map Some nodes ≡ map (node_at collection.now) path.now
-            → IsHeld scripted said (take shared nodes) self.old
+            → IsFollowedAs scripted said (take shared nodes) self.old
             → PlaysOn plays.old plays.new said (take shared nodes) nodes result }
     {
         match self {

@@ -21,7 +21,7 @@ struct Row {
 }
 
 impl Row {
-    ghost use Rattle.sgf_lines.specs.inner.Rows.{built_text};
+    ghost use Rattle.sgf_lines.specs.inner.BuiltRow.{built_text};
 
     /// The empty text.
     fn new() -> Row

@@ -43,7 +43,7 @@ pub(crate) fn push_node_script(
     match step.effect {
         Effect::Nothing => Ok(()),
         Effect::Stones => push_board(board, output),
-        Effect::Turn(colour, raw) => push_move(board.size(), colour, raw, output),
+        Effect::Move(colour, raw) => push_move(board.size(), colour, raw, output),
     }
 }
 

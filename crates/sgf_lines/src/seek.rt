@@ -82,25 +82,25 @@ pub(crate) fn write_way(
     ensures ok { OnOk result (IsWayTo collection.now (Some leaf) path.new.items) }
     ensures unchanged { OnErr result (path.new.items ≡ path.old.items) }
 {
-    path.resize(depth(collection, leaf), 0)?;
+    path.resize(way_length(collection, leaf), 0)?;
     fill_way(collection, leaf, path);
     Ok(())
 }
 
 /// The number of nodes from the root to a leaf.
-fn depth(collection: &Collection<'_>, leaf: usize) -> usize
+fn way_length(collection: &Collection<'_>, leaf: usize) -> usize
     requires within { leaf < node_count collection.now }
     requires small { leaf < usize.MAX }
     requires is_leaf { IsLeaf collection.now leaf }
     ensures { (numbers : List ℕ) → IsWayTo collection.now (Some leaf) numbers → result ≡ length numbers }
 {
-    let mut depth = 0;
+    let mut length = 0;
     let mut node = Some(leaf);
     while let Some(number) = node {
-        depth += 1;
+        length += 1;
         node = collection.parent(number);
     }
-    depth
+    length
 }
 
 /// Writes the numbers of the nodes from the root to a leaf, of which there are as many as `path` has room for.

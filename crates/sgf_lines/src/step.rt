@@ -64,7 +64,7 @@ pub(crate) enum Effect<'a> {
     /// It set up stones.
     Stones,
     /// It has a move: the player, and the raw value that says where.
-    Turn(Colour, &'a [u8]),
+    Move(Colour, &'a [u8]),
 }
 
 /// A node's step that was taken, and what the node says beside it.
@@ -92,7 +92,7 @@ pub(crate) fn play_node<'a, P: Past>(
         return play_setup(alloc, referee, node);
     }
     match WithoutSetup::of(node) {
-        Some(held) => play_without_setup(referee, held),
+        Some(contents) => play_without_setup(referee, contents),
         None => play_setup(alloc, referee, node),
     }
 }
@@ -100,17 +100,17 @@ pub(crate) fn play_node<'a, P: Past>(
 /// Takes the step of a node that holds this and sets nothing up.
 fn play_without_setup<'a, P: Past>(
     referee: &mut Referee<P>,
-    held: WithoutSetup<'a>,
+    contents: WithoutSetup<'a>,
 ) -> Result<TakenStep<'a>, StepFault>
-    ensures stepped { (node : Node) → IsWithoutSetup node.properties held.entry
+    ensures stepped { (node : Node) → IsWithoutSetup node.properties contents.entry
         → IsStepped (step referee.old.present node) referee.old referee.new result }
-    ensures told { (node : Node) → IsWithoutSetup node.properties held.entry
+    ensures told { (node : Node) → IsWithoutSetup node.properties contents.entry
         → IfOk result (IsStepOf node) }
 {
-    match play_moves(referee, held.moves) {
+    match play_moves(referee, contents.moves) {
         Ok(effect) => Ok(TakenStep {
             effect,
-            comment: held.comment,
+            comment: contents.comment,
         }),
         Err(fault) => Err(fault),
     }
@@ -165,10 +165,10 @@ fn play_contents<'a, P: Past>(
 ) -> Result<Effect<'a>, StepFault>
     requires side { size ≡ referee.old.present.colouring.side }
     requires areas { All (λ op. IsRectOn size op.area) contents.now.operations.items }
-    ensures stepped { (held : Lists) → IsContents size contents.now held
-        → IsStepped (step_by referee.old.present held.moves held.stones held.players) referee.old referee.new result }
-    ensures effect { (held : Lists) → IsContents size contents.now held
-        → IfOk result (IsEffectBy held.moves held.stones) }
+    ensures stepped { (lists : Lists) → IsContents size contents.now lists
+        → IsStepped (step_by referee.old.present lists.moves lists.stones lists.players) referee.old referee.new result }
+    ensures effect { (lists : Lists) → IsContents size contents.now lists
+        → IfOk result (IsEffectBy lists.moves lists.stones) }
 {
     match (contents.moves, has_setup(contents)) {
         (Moves::Nothing, _) => set_up(referee, contents, size),
@@ -180,7 +180,7 @@ fn play_contents<'a, P: Past>(
 
 /// Whether contents have stones or players.
 fn has_setup(contents: &Contents<'_>) -> bool
-    ensures { (side : ℕ) (held : Lists) → IsContents side contents.now held → IsSetupMet held result }
+    ensures { (side : ℕ) (lists : Lists) → IsContents side contents.now lists → IsSetupMet lists result }
 {
     if contents.faulty {
         return true;
@@ -199,10 +199,10 @@ fn set_up<'a, P: Past>(
 ) -> Result<Effect<'a>, StepFault>
     requires side { size ≡ referee.old.present.colouring.side }
     requires areas { All (λ op. IsRectOn size op.area) contents.now.operations.items }
-    ensures stepped { (held : Lists) → IsContents size contents.now held
-        → IsStepped (step_by referee.old.present [] held.stones held.players) referee.old referee.new result }
-    ensures effect { (held : Lists) → IsContents size contents.now held
-        → IfOk result (IsEffectBy [] held.stones) }
+    ensures stepped { (lists : Lists) → IsContents size contents.now lists
+        → IsStepped (step_by referee.old.present [] lists.stones lists.players) referee.old referee.new result }
+    ensures effect { (lists : Lists) → IsContents size contents.now lists
+        → IfOk result (IsEffectBy [] lists.stones) }
 {
     if contents.faulty {
         return Err(StepFault::Illegal(Reason::BadSetup));
@@ -224,10 +224,10 @@ fn set_player<'a, P: Past>(
     requires side { size ≡ referee.old.present.colouring.side }
     requires good { contents.now.faulty ≡ false }
     requires no_stones { length contents.now.operations.items ≡ 0 }
-    ensures stepped { (held : Lists) → IsContents size contents.now held
-        → IsStepped (step_by referee.old.present [] held.stones held.players) referee.old referee.new result }
-    ensures effect { (held : Lists) → IsContents size contents.now held
-        → IfOk result (IsEffectBy [] held.stones) }
+    ensures stepped { (lists : Lists) → IsContents size contents.now lists
+        → IsStepped (step_by referee.old.present [] lists.stones lists.players) referee.old referee.new result }
+    ensures effect { (lists : Lists) → IsContents size contents.now lists
+        → IfOk result (IsEffectBy [] lists.stones) }
 {
     if contents.player.is_none() {
         return Ok(Effect::Nothing);
@@ -249,7 +249,7 @@ fn take_move<'a, P: Past>(
     ensures effect { IfOk result (IsMoveOf colour raw.now) }
 {
     match take_turn(referee, colour, raw, size) {
-        Ok(()) => Ok(Effect::Turn(colour, raw)),
+        Ok(()) => Ok(Effect::Move(colour, raw)),
         Err(fault) => Err(fault),
     }
 }

@@ -54,13 +54,13 @@ impl<'a> WithoutSetup<'a> {
     fn of_properties(node: &NodeRef<'a>) -> Option<WithoutSetup<'a>>
         ensures { IfSome result (IsWithoutSetup node.now.properties) }
     {
-        let (mut held, mut left) = WithoutSetup::of_front(node);
+        let (mut contents, mut left) = WithoutSetup::of_front(node);
         while let Some(property) = left.next() {
-            if !held.take(&property) {
+            if !contents.take(&property) {
                 return None;
             }
         }
-        Some(held)
+        Some(contents)
     }
 
     /// What a front of a node's properties holds, and the properties that are left.

@@ -7,17 +7,17 @@ use Rattle.sgf_tree.specs.Tree.{Games, no_games, game, joined, game_count, node_
 use Rattle.sgf_tree.specs.FileOrder.{game_of}
 use Rattle.sgf_tree.specs.inner.Machine.{OpenGame, whole_game}
 use Rattle.sgf_tree.specs.inner.Layout.{outline, outline_by, outlines_by}
-use Rattle.sgf_tree.specs.inner.GamesRead.{open_count, lasts, open_lasts, IsRootOf, HoldStack, unmarked, ClosesRun}
+use Rattle.sgf_tree.specs.inner.GamesRead.{open_count, lasts, open_lasts, IsRootOf, HoldStack, without_last, ClosesRun}
 use Rattle.sgf_tree.specs.declared.layout.NodeEntry.{NodeEntry}
 use Rattle.sgf_tree.proofs.Completion.{add_games}
-use Rattle.sgf_tree.proofs.Marking.{mark_of, get_or-map}
+use Rattle.sgf_tree.proofs.Closing.{last_of, get_or-map}
 use Rattle.sgf_tree.proofs.NodesRead.{nodes-held}
 use Rattle.sgf_tree.proofs.Stacks.{node_count-followed, length-open_lasts, open_nodes-closed, open_lasts-closed}
 
--- marks change no outline
-outlines-unmarked : (i : ℕ) (ns : List NodeEntry) → outlines_by i (map unmarked ns) ≡ outlines_by i ns
-outlines-unmarked i [] = refl
-outlines-unmarked i (n ∷ ns) = ap (λ rs. outline_by i n ∷ rs) (outlines-unmarked (i + 1) ns)
+-- the number of the last node below changes no outline
+outlines-without_last : (i : ℕ) (ns : List NodeEntry) → outlines_by i (map without_last ns) ≡ outlines_by i ns
+outlines-without_last i [] = refl
+outlines-without_last i (n ∷ ns) = ap (λ rs. outline_by i n ∷ rs) (outlines-without_last (i + 1) ns)
 
 -- an element that a function maps to x
 mapped : {A B : Type 0} (f : A → B) (o : Option A) (y : B) → option_map f o ≡ Some y → (x : A) × (o ≡ Some x) × (f x ≡ y)
@@ -52,11 +52,11 @@ root-closed closed g [] i r (inr h) =
     inl (omega (arith, h.0, node_count-followed closed (whole_game g)), ap (game_of (joined closed (whole_game g))) h.0 ∙ game_of-next closed g ∙ sym h.1)
 root-closed closed g (k ∷ gs) i r h = h
 
--- the marks of a game's own nodes
-lasts-marked : (closed : Games) (g : OpenGame) (gs : List OpenGame) (marks : List ℕ) (count : ℕ) → marks ≡ open_lasts closed (g ∷ gs) → count ≡ open_count closed (g ∷ gs)
+-- the last numbers of a game's own nodes
+lasts-got : (closed : Games) (g : OpenGame) (gs : List OpenGame) (numbers : List ℕ) (count : ℕ) → numbers ≡ open_lasts closed (g ∷ gs) → count ≡ open_count closed (g ∷ gs)
     → open_lasts (add_games closed gs (whole_game g)).closed (add_games closed gs (whole_game g)).unclosed
-    ≡ take (open_count closed gs) marks ++ replicate (open_count closed gs + length g.more + 1 - open_count closed gs) (count - 1) ++ drop (open_count closed gs + length g.more + 1) marks
-lasts-marked closed g gs marks count is counts =
+    ≡ take (open_count closed gs) numbers ++ replicate (open_count closed gs + length g.more + 1 - open_count closed gs) (count - 1) ++ drop (open_count closed gs + length g.more + 1) numbers
+lasts-got closed g gs numbers count is counts =
     let at : ℕ = open_count closed gs in
     let m : ℕ = length g.more in
     let before : List ℕ = open_lasts closed gs in
@@ -79,16 +79,16 @@ module _ (t : List ℕ) (closed : Games) (g : OpenGame) (gs : List OpenGame) whe
   game-closed ns ns' parent held closes =
       record {
         same_order =
-            ap (map outline) (open_nodes-closed closed g gs) ∙ held.same_order ∙ sym (outlines-unmarked 0 ns) ∙ ap (outlines_by 0) (sym closes.same) ∙ outlines-unmarked 0 ns';
+            ap (map outline) (open_nodes-closed closed g gs) ∙ held.same_order ∙ sym (outlines-without_last 0 ns) ∙ ap (outlines_by 0) (sym closes.same) ∙ outlines-without_last 0 ns';
         same_lasts =
-            lasts-marked closed g gs (map mark_of ns) (length ns) (sym held.same_lasts) (nodes-held t (record { closed = closed; unclosed = g ∷ gs }) ns held) ∙ sym closes.marked;
+            lasts-got closed g gs (map last_of ns) (length ns) (sym held.same_lasts) (nodes-held t (record { closed = closed; unclosed = g ∷ gs }) ns held) ∙ sym closes.lasts_are;
         places_within = λ k d lt.
             let same : (get_or ns' k d).place ≡ (get_or ns k d).place =
-            ap (λ (n : NodeEntry). n.place) (sym (get_or-map unmarked ns' k d) ∙ ap (λ xs. get_or xs k (unmarked d)) closes.same ∙ get_or-map unmarked ns k d) in
+            ap (λ (n : NodeEntry). n.place) (sym (get_or-map without_last ns' k d) ∙ ap (λ xs. get_or xs k (without_last d)) closes.same ∙ get_or-map without_last ns k d) in
             let count : length ns' ≡ length ns =
-            sym (length-map ns' unmarked) ∙ ap length closes.same ∙ length-map ns unmarked in
+            sym (length-map ns' without_last) ∙ ap length closes.same ∙ length-map ns without_last in
             subst (λ p. p < length t) (sym same) (held.places_within k d (omega arith));
         roots = λ i n r here is.
-            let old = mapped unmarked (slice_get ns i) (unmarked n) (sym (slice_get-map unmarked ns i) ∙ ap (λ xs. slice_get xs i) (sym closes.same) ∙ slice_get-map unmarked ns' i ∙ ap (option_map unmarked) here) in
+            let old = mapped without_last (slice_get ns i) (without_last n) (sym (slice_get-map without_last ns i) ∙ ap (λ xs. slice_get xs i) (sym closes.same) ∙ slice_get-map without_last ns' i ∙ ap (option_map without_last) here) in
             root-closed closed g gs i r (held.roots i old.0 r old.1 (ap (λ (m : NodeEntry). m.link) old.2 ∙ is));
       }

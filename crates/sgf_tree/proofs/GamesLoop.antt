@@ -7,7 +7,7 @@ use Rattle.sgf_tree.specs.Spelling.{is_white}
 use Rattle.sgf_tree.specs.inner.Machine.{OpenGame, Stack, opened, after_game, between_games, close_in, whole_game, next_state, accepted}
 use Rattle.sgf_tree.specs.Refusal.{IsFaultyAt}
 use Rattle.sgf_tree.specs.inner.Progress.{ComesTo, IsSpan}
-use Rattle.sgf_tree.specs.inner.GamesRead.{open_count, tip, HoldStack, IsOpening, StandsBetween, IsSequenceRead, IsOwnRun, unmarked, ClosesRun, IsRead}
+use Rattle.sgf_tree.specs.inner.GamesRead.{open_count, tip, HoldStack, IsOpening, StandsBetween, IsSequenceRead, IsOwnRun, without_last, ClosesRun, IsRead}
 use Rattle.sgf_tree.specs.declared.layout.Link.TheVariants.{Root}
 use Rattle.sgf_tree.specs.declared.layout.NodeEntry.{NodeEntry}
 use Rattle.sgf_tree.proofs.Completion.{add_games, closed-in}
@@ -163,7 +163,7 @@ module _ (t : List ℕ) where
     -- as many nodes as before
     pub close-count : (ns' : List NodeEntry) (parent : Option ℕ) → ((first : ℕ) → IsOwnRun ns first last → ClosesRun ns ns' first last parent) → length ns' ≡ length ns
     close-count ns' parent h =
-        sym (length-map ns' unmarked) ∙ ap length (closes ns' parent h).same ∙ length-map ns unmarked
+        sym (length-map ns' without_last) ∙ ap length (closes ns' parent h).same ∙ length-map ns without_last
 
     abbrev closed_stack : Stack
     closed_stack = add_games so_far.stack.closed inmost.outer (whole_game inmost.inner)

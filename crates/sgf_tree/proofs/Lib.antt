@@ -6,7 +6,7 @@ pub mod Names
 pub mod ValueEnds
 pub mod ValueSpelled
 pub mod ValueUnits
-pub mod NearMarks
+pub mod NearBits
 pub mod NearLiterals
 pub mod NearBrackets
 pub mod KeptEnds
@@ -15,13 +15,13 @@ pub mod NameEnds
 pub mod NodeEnds
 pub mod Stacks
 pub mod OwnRuns
-pub mod Marking
+pub mod Closing
 pub mod NodesRead
 pub mod SequencesRead
 pub mod GameEnds
 pub mod LastBelow
 pub mod GamesLoop
-pub mod Marks
+pub mod ByteOrderMark
 pub mod WholeRead
 pub mod Leaves
 pub mod Held

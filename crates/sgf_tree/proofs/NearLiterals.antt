@@ -2,7 +2,7 @@
 use Rattle.std.proofs.Common.{◌≡◌, ℕ, ◌+◌, ◌≤◌, true, false, eqb, ltb, List, length, get_or, arith}
 use Rattle.std.proofs.lemmas.Bool.Decides.{nat_tests}
 use Rattle.sgf_tree.specs.inner.Literals.{is_literal, AreLiterals}
-use Rattle.sgf_tree.proofs.NearMarks.{AreBefore}
+use Rattle.sgf_tree.proofs.NearBits.{AreBefore}
 
 literal-by-tests : (b : ℕ) → eqb b 92 ≡ false → ltb b 14 ≡ false → is_literal b ≡ true
 literal-by-tests b other above = grind (arith, nat_tests)

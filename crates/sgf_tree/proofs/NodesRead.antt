@@ -8,7 +8,7 @@ use Rattle.sgf_tree.specs.inner.Machine.{OpenGame, Stack, ended, new_game}
 use Rattle.sgf_tree.specs.inner.Layout.{outline, outline_by, outlines_by, parent_by, opens_by}
 use Rattle.sgf_tree.specs.inner.GamesRead.{open_count, tip, open_nodes, open_lasts, IsRootOf, HoldStack, IsOpening, IsNodeRead}
 use Rattle.sgf_tree.specs.declared.layout.Link.{Link}
-use Rattle.sgf_tree.specs.declared.layout.Link.TheVariants.{Root, Branch, Next}
+use Rattle.sgf_tree.specs.declared.layout.Link.TheVariants.{Root, Variation, Next}
 use Rattle.sgf_tree.specs.declared.layout.NodeEntry.{NodeEntry}
 use Rattle.sgf_tree.proofs.Flat.{length-outlines_by, outlines_by-push}
 use Rattle.sgf_tree.proofs.Stacks.{length-open_nodes, open_lasts-new_game, open_nodes-more, open_lasts-more}
@@ -30,7 +30,7 @@ opening-link k (Root r) count e h = (
   λ g same.
       let r_is : r ≡ g = cc in inr (e ∙ ap (open_count k.closed) h.0, sym r_is ∙ h.1),
 )
-opening-link k (Branch p) count e h = (h, refl, λ g same. absurd (cc))
+opening-link k (Variation p) count e h = (h, refl, λ g same. absurd (cc))
 opening-link k Next count e h = absurd h
 
 -- what holds of one element holds of each one of a list of it

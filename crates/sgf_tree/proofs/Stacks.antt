@@ -89,7 +89,7 @@ lasts-whole : (at : ℕ) (g : OpenGame) → lasts at (whole_game g) ≡ replicat
 lasts-whole at g =
     append-nil (replicate (1 + length g.more) (at + length g.more + node_count g.below) ++ lasts (at + 1 + length g.more) g.below)
 
--- the last nodes below, once a game's own nodes are marked
+-- the last nodes below, once a game's own nodes got them
 pub open_lasts-closed : (closed : Games) (g : OpenGame) (gs : List OpenGame)
     → open_lasts (add_games closed gs (whole_game g)).closed (add_games closed gs (whole_game g)).unclosed
     ≡ open_lasts closed gs ++ replicate (1 + length g.more) (open_count closed gs + length g.more + node_count g.below) ++ lasts (open_count closed gs + 1 + length g.more) g.below

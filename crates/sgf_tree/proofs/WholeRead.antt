@@ -11,7 +11,7 @@ use Rattle.sgf_tree.specs.inner.GamesRead.{IsRootOf, IsRead}
 use Rattle.sgf_tree.specs.declared.layout.NodeEntry.{NodeEntry}
 use Rattle.sgf_tree.proofs.AcceptedSpelled.{accepted-spelled}
 use Rattle.sgf_tree.proofs.LastBelow.{lasts-below}
-use Rattle.sgf_tree.proofs.Marking.{mark_of}
+use Rattle.sgf_tree.proofs.Closing.{last_of}
 use Rattle.sgf_tree.proofs.NodesRead.{nodes-held}
 use Rattle.sgf_tree.proofs.Run.{collection-run}
 use Rattle.sgf_tree.proofs.ValueEnds.{reaches-all}
@@ -43,6 +43,6 @@ module _ (t : List ℕ) (c : Games) (ns : List NodeEntry) (read : IsRead t c ns)
             ∙ whole-root i k (omega (arith, slice_get_within ns i n here)) (read.held.roots i n k here is);
         last_known = λ i n here.
             subst (λ g. IsLastBelow g i n.last_below) (sym whole-games)
-            (lasts-below c i n.last_below (ap (λ ls. slice_get ls i) read.held.same_lasts ∙ slice_get-map mark_of ns i ∙ ap (option_map mark_of) here));
+            (lasts-below c i n.last_below (ap (λ ls. slice_get ls i) read.held.same_lasts ∙ slice_get-map last_of ns i ∙ ap (option_map last_of) here));
         places_within = read.held.places_within;
       }

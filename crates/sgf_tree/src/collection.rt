@@ -99,7 +99,7 @@ impl<'a> Collection<'a> {
     {
         match self.nodes[i].link {
             Link::Root(_) => None,
-            Link::Branch(parent) => Some(parent as usize),
+            Link::Variation(parent) => Some(parent as usize),
             Link::Next => Some(i - 1),
         }
     }
@@ -129,7 +129,7 @@ impl<'a> Collection<'a> {
         'climb: loop {
             match self.nodes[at].link {
                 Link::Root(game) => return game as usize,
-                Link::Branch(parent) => at = parent as usize,
+                Link::Variation(parent) => at = parent as usize,
                 Link::Next => at -= 1,
             }
         }

@@ -6,7 +6,7 @@ pub(crate) enum Link {
     /// It is the root of the game of this number, from 1.
     Root(u32),
     /// It is the first node after a `(`, and the node of this number is its parent.
-    Branch(u32),
+    Variation(u32),
     /// The node before it in the file is its parent.
     Next,
 }

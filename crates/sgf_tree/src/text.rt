@@ -133,7 +133,7 @@ mod tests {
 
     /// Bytes that are looked at together and those that are left give the same, wherever the first special one stands.
     #[test]
-    fn decodes_after_plain_bytes(rt: HostRuntime) -> Result<(), Fail> {
+    fn decodes_after_literals(rt: HostRuntime) -> Result<(), Fail> {
         for plain in 0..40 {
             for (special, want) in [
                 ("", ""),

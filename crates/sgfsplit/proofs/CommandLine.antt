@@ -12,14 +12,14 @@ use Rattle.std.specs.Str.{bytes_eq}
 use Rattle.clap.specs.ValueTests.{is_unsigned_in}
 use Rattle.clap.proofs.OnLiterals.{clap_on_literals}
 use Rattle.clap.proofs.WalkLemmas.{walk_stopped}
-use Rattle.sgfsplit.specs.CommandLine.{FormNames, program_line}
+use Rattle.sgfsplit.specs.CommandLine.{FormNames, program_app}
 use Rattle.sgfsplit.specs.PlainWords.{option_words, file_words}
 
 -- ---- which values clap accepts
 
-pub line_simple : (names : FormNames) → is_simple (program_line names) ≡ true
+pub app_simple : (names : FormNames) → is_simple (program_app names) ≡ true
 unfolding clap_on_literals
-line_simple names = refl
+app_simple names = refl
 
 abbrev pub accepts_form : FormNames → Text → Bool
 accepts_form names word = list_any (λ name. same_text false name.now word) names.now
@@ -36,7 +36,7 @@ pub record IsNoOption (w : Text) : Type 0 where
 -- ---- the command as clap builds it
 
 abbrev pub sub_shape : FormNames → Text → Shape
-sub_shape names word = unwrap_or (find (λ s. answers_to word (label_of s)) (built (program_line names)).subs) (new_shape [])
+sub_shape names word = unwrap_or (find (λ s. answers_to word (label_of s)) (built (program_app names)).subs) (new_shape [])
 
 abbrev pub split_shape : FormNames → Shape
 split_shape names = sub_shape names (codes "split")
@@ -345,10 +345,10 @@ stopped_passes s subs w p (x ∷ xs) = stopped_passes s subs w (p.0, p.1 ++ x �
 
 module _ (names : FormNames) where
   abbrev pub top : Shape
-  top = (built (program_line names)).top
+  top = (built (program_app names)).top
 
   abbrev pub subs : Names
-  subs = subcommands (built (program_line names))
+  subs = subcommands (built (program_app names))
 
   abbrev pub met : Text → List Text → Walk
   met word rest = record (walk_from nothing_held) { stopped = Some (word, rest) }
@@ -363,20 +363,20 @@ module _ (names : FormNames) where
 
   abbrev pub takes_by : List Text → Walk → Bool
   takes_by words w =
-      entered_passes (built (program_line names)) w.stopped
+      entered_passes (built (program_app names)) w.stopped
       && (walk_passes top subs (walk_from nothing_held) words
       && (settle_passes top.rules top.args_override_self w.held
-      && (list_all default_passes top.rules && is_valid top (finished top.rules w.held) (is_some (entered (built (program_line names)) w.stopped)))))
+      && (list_all default_passes top.rules && is_valid top (finished top.rules w.held) (is_some (entered (built (program_app names)) w.stopped)))))
 
   pub split_taken : (name : Text) (rest : List Text) → level_passes (split_shape names) [] nothing_held rest false ≡ true
-      → takes (program_line names) (name ∷ codes "split" ∷ rest) ≡ true
+      → takes (program_app names) (name ∷ codes "split" ∷ rest) ≡ true
   unfolding clap_on_literals
   split_taken name rest level =
       ap (takes_by (codes "split" ∷ rest)) (split_met rest) ∙ both_true _ _ level (both_true _ _ (split_met_passes rest) refl)
 
-  pub split_entered : (name : Text) (rest : List Text) → subcommand_of (program_line names) (name ∷ codes "split" ∷ rest) ≡ Some (codes "split", rows_after (split_rules names) [] rest)
+  pub split_entered : (name : Text) (rest : List Text) → subcommand_of (program_app names) (name ∷ codes "split" ∷ rest) ≡ Some (codes "split", rows_after (split_rules names) [] rest)
   unfolding clap_on_literals
-  split_entered name rest = ap (λ (w : Walk). entered (built (program_line names)) w.stopped) (split_met rest)
+  split_entered name rest = ap (λ (w : Walk). entered (built (program_app names)) w.stopped) (split_met rest)
 
   count_met : (rest : List Text) → walk top.rules subs nothing_held (codes "count" ∷ rest) ≡ met (codes "count") rest
   unfolding clap_on_literals
@@ -387,14 +387,14 @@ module _ (names : FormNames) where
   count_met_passes rest = stopped_passes top subs (walk_from nothing_held) (codes "count", []) rest
 
   pub count_taken : (name : Text) (rest : List Text) → level_passes (count_shape names) [] nothing_held rest false ≡ true
-      → takes (program_line names) (name ∷ codes "count" ∷ rest) ≡ true
+      → takes (program_app names) (name ∷ codes "count" ∷ rest) ≡ true
   unfolding clap_on_literals
   count_taken name rest level =
       ap (takes_by (codes "count" ∷ rest)) (count_met rest) ∙ both_true _ _ level (both_true _ _ (count_met_passes rest) refl)
 
-  pub count_entered : (name : Text) (rest : List Text) → subcommand_of (program_line names) (name ∷ codes "count" ∷ rest) ≡ Some (codes "count", rows_after (count_rules names) [] rest)
+  pub count_entered : (name : Text) (rest : List Text) → subcommand_of (program_app names) (name ∷ codes "count" ∷ rest) ≡ Some (codes "count", rows_after (count_rules names) [] rest)
   unfolding clap_on_literals
-  count_entered name rest = ap (λ (w : Walk). entered (built (program_line names)) w.stopped) (count_met rest)
+  count_entered name rest = ap (λ (w : Walk). entered (built (program_app names)) w.stopped) (count_met rest)
 
 -- what clap finds for the options of `split`
 module _ (names : FormNames) (form after limit file : Option Text) (a : AreAccepted names form after limit file) where

@@ -1,4 +1,4 @@
--- What a put says of the line that is put, and the answers of counting of failures.
+-- What a put says of the row that is put, and the answers of counting of failures.
 use Rattle.std.proofs.Common.{◌≡◌, ◌∙◌, ℕ, ◌-◌, ◌≤◌, List, ◌++◌, length, take, drop, Result, Ok, Err, Option, Some, refl, sym, ap, arith, append_assoc, length-drop}
 use Rattle.std.proofs.Math.Seq.{take-length}
 use Rattle.std.proofs.lemmas.List.{take-append-drop}
@@ -9,9 +9,9 @@ use Rattle.sgf_lines.specs.declared.fault.RunFault.{RunFault}
 use Rattle.sgf_lines.specs.declared.fault.RunFault.TheVariants.{Read, TooLong, NotSgf, NoSuchLine, Write, Memory}
 
 -- one more part was put
-pub part_put : (line front rest : List ℕ) (n : ℕ) → line ≡ front ++ rest → n ≤ length rest
-    → line ≡ (front ++ take n rest) ++ take (length rest - n) (drop n rest)
-part_put line front rest n parts within =
+pub part_put : (row front rest : List ℕ) (n : ℕ) → row ≡ front ++ rest → n ≤ length rest
+    → row ≡ (front ++ take n rest) ++ take (length rest - n) (drop n rest)
+part_put row front rest n parts within =
     let left : length rest - n ≡ length (drop n rest) = omega (arith, length-drop n rest) in
     let whole : take (length rest - n) (drop n rest) ≡ drop n rest = rw left (take-length (drop n rest)) in
     parts ∙ (ap (λ r. front ++ r) (sym (take-append-drop n rest)) ∙ (sym (append_assoc front (take n rest) (drop n rest)) ∙ ap (λ r. (front ++ take n rest) ++ r) (sym whole)))

@@ -22,7 +22,7 @@ use Rattle.clap.specs.declared.builder.value_parser.ValueParser.TheVariants.{Uns
 use Rattle.clap.proofs.ValueTestLemmas.{Accepts-accepts}
 use Rattle.sgf_lines.specs.declared.options.Form.{Form}
 use Rattle.sgf_lines.specs.declared.options.Form.TheVariants as form
-use Rattle.sgfsplit.specs.CommandLine.{FormNames, forms, names_of, program_line}
+use Rattle.sgfsplit.specs.CommandLine.{FormNames, forms, names_of, program_app}
 use Rattle.sgfsplit.specs.PlainWords.{ArePlainWords, IsFileWord, IsNameWord, IsNumberWord, SplitWords, Word, count_words, file_words, split_words, form_word}
 use Rattle.sgfsplit.specs.inner.Found.{HoldSplitWords, form_named, rows_found}
 use Rattle.sgfsplit.proofs.CommandLine.{AreAccepted, IsNoOption, accepts_form, accepts_number, after_row, count_entered, count_level, count_row, count_rules, count_taken, file_row, form_row, limit_row, split_entered, split_level, split_rows_are, split_rules, split_taken, words_after}
@@ -122,13 +122,13 @@ module _ (names : FormNames) (are : names_of names ≡ forms) where
     file_plain = each_some given.file IsFileWord IsNoOption file_plain plain.file;
   }
 
-  pub split_words_taken : (name : Word) (given : SplitWords) → ArePlainWords given → takes (program_line names) (split_words name given) ≡ true
+  pub split_words_taken : (name : Word) (given : SplitWords) → ArePlainWords given → takes (program_app names) (split_words name given) ≡ true
   split_words_taken name given plain =
       split_taken names name (after_split given)
       (split_level names (option_map form_word given.form) given.after given.limit given.file (accepted given plain))
 
   pub split_words_entered : (name : Word) (given : SplitWords) → ArePlainWords given
-      → (rows : List Row) × (subcommand_of (program_line names) (split_words name given) ≡ Some (codes "split", rows)) × HoldSplitWords given rows
+      → (rows : List Row) × (subcommand_of (program_app names) (split_words name given) ≡ Some (codes "split", rows)) × HoldSplitWords given rows
   split_words_entered name given plain =
       let f = option_map form_word given.form in
       let all = split_rows_are names f given.after given.limit given.file (accepted given plain) in
@@ -147,12 +147,12 @@ module _ (names : FormNames) (are : names_of names ≡ forms) where
       unnamed None = refl
       unnamed (Some g) = refl
 
-  pub count_words_taken : (name : Word) (file : Option Word) → IfSome file IsFileWord → takes (program_line names) (count_words name file) ≡ true
+  pub count_words_taken : (name : Word) (file : Option Word) → IfSome file IsFileWord → takes (program_app names) (count_words name file) ≡ true
   count_words_taken name file plain =
       count_taken names name (file_words file) (count_level names file (each_some file IsFileWord IsNoOption file_plain plain))
 
   pub count_words_entered : (name : Word) (file : Option Word)
-      → subcommand_of (program_line names) (count_words name file) ≡ Some (codes "count", rows_after (count_rules names) [] (file_words file))
+      → subcommand_of (program_app names) (count_words name file) ≡ Some (codes "count", rows_after (count_rules names) [] (file_words file))
   count_words_entered name file = count_entered names name (file_words file)
 
   pub count_words_hold : (file : Option Word) → IfSome file IsFileWord → first_of (codes "file") (rows_after (count_rules names) [] (file_words file)) ≡ file

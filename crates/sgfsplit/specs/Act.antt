@@ -1,4 +1,4 @@
--- What the doing of a job comes to: the bytes read and written, the status, and the line on standard error.
+-- What the doing of a job comes to: the bytes read and written, the status, and the row on standard error.
 use Rattle.std.specs.Prelude.{◌≡◌, ◌⊎◌, ℕ, ◌+◌, List, [], ◌++◌, Option, Some, None, Result, Ok, Err, String}
 use Rattle.std.specs.declared.alloc.Global.{Global}
 use Rattle.std.specs.Result.{result_err}
@@ -9,7 +9,7 @@ use Rattle.sgf_lines.specs.Counts.{IsCount, IsRow, counts_row}
 use Rattle.sgf_lines.specs.declared.counting.Counts.{Counts}
 use Rattle.sgf_lines.specs.declared.fault.RunFault.{RunFault}
 use Rattle.sgf_lines.specs.declared.fault.RunFault.TheVariants.{Read, Write, Memory}
-use Rattle.sgfsplit.specs.Fault.{line_of, status_of}
+use Rattle.sgfsplit.specs.Fault.{fault_row, status_of}
 use Rattle.sgfsplit.specs.declared.fault.Fault.{Fault}
 use Rattle.sgfsplit.specs.declared.fault.Fault.TheVariants.{Run}
 use Rattle.sgfsplit.specs.declared.request.Job.{Job}
@@ -38,19 +38,19 @@ abbrev pub FlushesAfter : Option RunFault → SinkState → SinkState → Type 0
 FlushesAfter (Some (Memory lines)) old new = FlushesAnyway old new
 FlushesAfter _ old new = new ≡ old
 
--- a sink took the line, or a front of it where it failed
-pub record TakesLine (line : List ℕ) (old new : SinkState) : Type 0 where
+-- a sink took the row, or a front of it where it failed
+pub record TakesRow (row : List ℕ) (old new : SinkState) : Type 0 where
   pub taken : List ℕ
   pub takes : Appends old.taken new.taken taken
-  pub whole_or_front : ((taken ≡ line) × (new.failures ≡ old.failures))
-      ⊎ ((rest : List ℕ) × (line ≡ taken ++ rest) × (new.failures ≡ old.failures + 1))
+  pub whole_or_front : ((taken ≡ row) × (new.failures ≡ old.failures))
+      ⊎ ((rest : List ℕ) × (row ≡ taken ++ rest) × (new.failures ≡ old.failures + 1))
 
--- how a fault is told: by its status, and its line on the sink for faults
+-- how a fault is told: by its status, and its row on the sink for faults
 pub record Tells (fault : Fault) (old new : SinkState) (status : ℕ) : Type 0 where
   pub status_is : status ≡ status_of fault
-  pub line : TakesLine (line_of fault) old new
+  pub row : TakesRow (fault_row fault) old new
 
--- how a run's end is told: with no fault by status 0 and no line
+-- how a run's end is told: with no fault by status 0 and no row
 abbrev pub TellsEnd : Option RunFault → SinkState → SinkState → ℕ → Type 0
 TellsEnd None old new status = (status ≡ 0) × (new ≡ old)
 TellsEnd (Some fault) old new status = Tells (Run fault) old new status

@@ -39,18 +39,18 @@ abbrev pub program_alone : App
 program_alone = on_top (λ s. record s { subcommand_required = true }) (new_app (codes "sgfsplit"))
 
 -- `split [--form FORM] [--after PLACE] [--limit N] [FILE]`
-abbrev pub split_line : FormNames → App
-split_line names =
+abbrev pub split_app : FormNames → App
+split_app names =
     with_rule (with_rule (with_rule (with_rule (new_app (codes "split")) (form_rule names)) (number_rule (codes "after")))
     (number_rule (codes "limit"))) file_rule
 
 -- `count [FILE]`
-abbrev pub count_line : App
-count_line = with_rule (new_app (codes "count")) file_rule
+abbrev pub count_app : App
+count_app = with_rule (new_app (codes "count")) file_rule
 
 -- the whole command line
-abbrev pub program_line : FormNames → App
-program_line names = with_subcommand (with_subcommand program_alone (split_line names).top) count_line.top
+abbrev pub program_app : FormNames → App
+program_app names = with_subcommand (with_subcommand program_alone (split_app names).top) count_app.top
 
 -- the forms that `--form` takes
 abbrev pub forms : List (List ℕ)
@@ -59,4 +59,4 @@ forms = codes "list" ∷ codes "sgf" ∷ codes "gtp" ∷ []
 -- clap finds no fault in the words, read as a command line of the program
 abbrev pub AreFaultless : List (List ℕ) → Type 0
 AreFaultless words =
-    (names : FormNames) × (names_of names ≡ forms) × (fault_of (program_line names) words ≡ [])
+    (names : FormNames) × (names_of names ≡ forms) × (fault_of (program_app names) words ≡ [])

@@ -1,4 +1,4 @@
--- Why the program ends with another status than 0: the status, and the line on standard error.
+-- Why the program ends with another status than 0: the status, and the row on standard error.
 use Rattle.std.specs.Prelude.{ℕ, ◌++◌, ◌==◌, List, codes, decimal, if◌then◌else◌}
 use Rattle.sgf_lines.specs.Answer.{MAX_LENGTH}
 use Rattle.sgf_lines.specs.declared.fault.RunFault.TheVariants.{Read, TooLong, NotSgf, NoSuchLine, Write, Memory}
@@ -25,6 +25,6 @@ message_of (Run (NoSuchLine place)) = codes "no line ends at " ++ decimal place
 message_of (Run (Write lines)) = codes "write failed"
 message_of (Run (Memory lines)) = codes "out of memory"
 
--- the line, with its line feed
-abbrev pub line_of : Fault → List ℕ
-line_of fault = codes "sgfsplit: " ++ message_of fault ++ codes "\n"
+-- the row, with its line feed
+abbrev pub fault_row : Fault → List ℕ
+fault_row fault = codes "sgfsplit: " ++ message_of fault ++ codes "\n"

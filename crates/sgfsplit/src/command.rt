@@ -8,7 +8,7 @@
 ghost use Rattle.std.specs.Prelude.{◌≡◌, false, IfOk};
 ghost use Rattle.clap.specs.Walk.{rule_of};
 ghost use Rattle.clap.specs.Simple.{app_of};
-ghost use Rattle.sgfsplit.specs.CommandLine.{FormNames, names_of, forms, form_rule, number_rule, file_rule, split_line, count_line, program_line};
+ghost use Rattle.sgfsplit.specs.CommandLine.{FormNames, names_of, forms, form_rule, number_rule, file_rule, split_app, count_app, program_app};
 
 use clap::{Arg, Command, value_parser};
 use std::alloc::{AllocError, Global};
@@ -88,7 +88,7 @@ fn file_argument<'a>(alloc: Global) -> Arg<'a>
 /// The command `split`.
 fn split_command<'a>(alloc: Global) -> Result<Command<'a>, AllocError>
     ensures { IfOk result (λ c. (names : FormNames)
-        × (names_of names ≡ forms) × (app_of c ≡ split_line names)) }
+        × (names_of names ≡ forms) × (app_of c ≡ split_app names)) }
 {
     let after = number_option(
         alloc,
@@ -109,7 +109,7 @@ fn split_command<'a>(alloc: Global) -> Result<Command<'a>, AllocError>
 
 /// The command `count`.
 fn count_command<'a>(alloc: Global) -> Result<Command<'a>, AllocError>
-    ensures { IfOk result (λ c. app_of c ≡ count_line) }
+    ensures { IfOk result (λ c. app_of c ≡ count_app) }
 {
     let count = Command::new(alloc, "count")
         .about("Counts the games, nodes and lines of play")
@@ -121,7 +121,7 @@ fn count_command<'a>(alloc: Global) -> Result<Command<'a>, AllocError>
 /// The whole command line.
 pub fn command<'a>(alloc: Global) -> Result<Command<'a>, AllocError>
     ensures { IfOk result (λ c. (names : FormNames)
-        × (names_of names ≡ forms) × (app_of c ≡ program_line names)) }
+        × (names_of names ≡ forms) × (app_of c ≡ program_app names)) }
 {
     let program = Command::new(alloc, "sgfsplit")
         .about("Splits Go game records with variations into their single lines of play")

@@ -1,4 +1,4 @@
-//! Why the program ends with another status than 0: the status, and the line on standard error.
+//! Why the program ends with another status than 0: the status, and the row on standard error.
 
 ghost use Rattle.std.specs.Prelude.{◌≡◌, ◌<◌, ◌≤◌, ◌+◌, ◌++◌, length};
 
@@ -15,7 +15,7 @@ pub enum Fault {
 }
 
 impl Fault {
-    ghost use Rattle.sgfsplit.specs.Fault.{status_of, message_of, line_of};
+    ghost use Rattle.sgfsplit.specs.Fault.{status_of, message_of, fault_row};
     ghost use Rattle.sgfsplit.specs.inner.ShortText.{short_text, number_text};
 
     /// The exit status: 1 for an input that is refused, 3 where FILE can't be opened or a read, a write or the flush
@@ -57,9 +57,9 @@ impl Fault {
         }
     }
 
-    /// The line on standard error, with its line feed.
-    pub(crate) fn line(&self) -> ShortText
-        ensures { short_text result ≡ line_of self.now }
+    /// The row on standard error, with its line feed.
+    pub(crate) fn row(&self) -> ShortText
+        ensures { short_text result ≡ fault_row self.now }
     {
         let (before, number, after) = self.message();
         let mut text = ShortText::new();

@@ -1,22 +1,22 @@
-//! Doing a job: what comes in, what goes out, the status, and the line on standard error.
+//! Doing a job: what comes in, what goes out, the status, and the row on standard error.
 
 ghost use Rattle.std.specs.Prelude.{◌≡◌, ◌<◌, ◌+◌, Some};
 ghost use Rattle.std.specs.Result.{result_err};
 ghost use Rattle.sgf_lines.specs.Answer.{reads_failed, writes_failed};
-ghost use Rattle.sgfsplit.specs.Fault.{line_of, status_of};
-ghost use Rattle.sgfsplit.specs.Act.{DoesJob, FlushesAnyway, IsAct, TakesLine, Tells};
+ghost use Rattle.sgfsplit.specs.Fault.{fault_row, status_of};
+ghost use Rattle.sgfsplit.specs.Act.{DoesJob, FlushesAnyway, IsAct, TakesRow, Tells};
 
 use crate::fault::Fault;
 use crate::request::Job;
 use sgf_lines::{RunFault, Sink, Source, count, split, write_counts};
 use std::alloc::Global;
 
-/// Puts a line whole, or up to the first failure, which is ignored.
-fn put_line<E: Sink>(line: &[u8], faults: &mut E)
+/// Puts a row whole, or up to the first failure, which is ignored.
+fn put_row<E: Sink>(row: &[u8], faults: &mut E)
     requires { (E.state faults.old).failures < u64.MAX }
-    ensures { TakesLine line.now (E.state faults.old) (E.state faults.new) }
+    ensures { TakesRow row.now (E.state faults.old) (E.state faults.new) }
 {
-    let mut rest = line;
+    let mut rest = row;
     while !rest.is_empty() {
         let Ok(count) = faults.put(rest) else {
             return;
@@ -26,13 +26,13 @@ fn put_line<E: Sink>(line: &[u8], faults: &mut E)
     let _ = faults.flush();
 }
 
-/// Tells a fault: puts its line on the sink for faults, and answers its status.
-/// Where that sink fails, no more of the line is put, and the status is the same.
+/// Tells a fault: puts its row on the sink for faults, and answers its status.
+/// Where that sink fails, no more of the row is put, and the status is the same.
 pub fn tell<E: Sink>(fault: &Fault, faults: &mut E) -> u8
     requires { (E.state faults.old).failures < u64.MAX }
     ensures { Tells fault.now (E.state faults.old) (E.state faults.new) result }
 {
-    put_line(fault.line().as_bytes(), faults);
+    put_row(fault.row().as_bytes(), faults);
     fault.status()
 }
 
@@ -72,7 +72,7 @@ fn flush_anyway<T: Sink>(output: &mut T)
 
 /// Does a job, tells its fault, if there is one, and answers the exit status.
 ///
-/// The output holds what was written before a fault. After want of memory it is flushed, whatever that answers. The line
+/// The output holds what was written before a fault. After want of memory it is flushed, whatever that answers. The row
 /// of a fault goes to `faults`, and with status 0 none does; where `faults` fails, the status is the same.
 pub fn act<S: Source, T: Sink, E: Sink>(
     alloc: Global,

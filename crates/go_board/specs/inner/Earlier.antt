@@ -20,15 +20,15 @@ state_of held player passes turns =
       turns = turns;
     }
 
--- the past before the call that left an earlier state
+-- the past before the call of which this is kept
 abbrev pub held_before_call : List Held → Earlier → List Held
-held_before_call held left = if left.grew then drop 1 held else held
+held_before_call held kept = if kept.grew then drop 1 held else held
 
 -- the earlier states, newest first
 abbrev pub states_before : List Held → List Earlier → List State
 states_before held [] = []
-states_before held (left ∷ others) =
-    state_of (held_before_call held left) left.player left.passes left.turns ∷ states_before (held_before_call held left) others
+states_before held (kept ∷ others) =
+    state_of (held_before_call held kept) kept.player kept.passes kept.turns ∷ states_before (held_before_call held kept) others
 
 -- the present state and the earlier ones; what is kept of these stands oldest first
 abbrev pub states_of : List Held → Option Colour → ℕ → ℕ → List Earlier → States
@@ -48,21 +48,21 @@ with_setup state grid player =
 -- how many of the calls made the past grow
 abbrev pub grown : List Earlier → ℕ
 grown [] = 0
-grown (left ∷ others) = (if left.grew then 1 else 0) + grown others
+grown (kept ∷ others) = (if kept.grew then 1 else 0) + grown others
 
 -- each earlier state, newest first, has at most two passes, and at most as many turns as there are states before it
 abbrev pub AreBounded : List Earlier → Type 0
 AreBounded [] = Unit {0}
-AreBounded (left ∷ others) = (left.passes ≤ 2) × (left.turns ≤ length others) × AreBounded others
+AreBounded (kept ∷ others) = (kept.passes ≤ 2) × (kept.turns ≤ length others) × AreBounded others
 
 -- what a referee keeps, of its earlier states newest first: past colourings of one side, one more at least than calls that
--- made them grow; a spare board of that side, with the newest colouring where the two are in step; at most two passes, and
+-- made them grow; a spare board of that side, with the newest colouring where that is known; at most two passes, and
 -- at most as many turns as earlier states; the oldest state is the starting one
-pub record IsKept (held : List Held) (spare : Grid) (InStep : Type 0) (player : Option Colour) (passes turns : ℕ) (earlier : List Earlier) : Type 0 where
+pub record IsKept (held : List Held) (spare : Grid) (SpareIsCurrent : Type 0) (player : Option Colour) (passes turns : ℕ) (earlier : List Earlier) : Type 0 where
   pub one_side : HaveSide (newest_grid held).side held
   pub enough : grown earlier < length held
   pub spare_side : spare.side ≡ (newest_grid held).side
-  pub in_step : InStep → spare ≡ newest_grid held
+  pub spare_is_current : SpareIsCurrent → spare ≡ newest_grid held
   pub few_passes : passes ≤ 2
   pub few_turns : turns ≤ length earlier
   pub bounded : AreBounded earlier

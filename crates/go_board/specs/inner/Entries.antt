@@ -5,13 +5,13 @@ use Rattle.go_board.specs.Past.{Held}
 
 -- the colouring at an index of the list, counted from 0
 abbrev pub entry : ℕ → List Cell → List Bool → ℕ → Held
-entry side cells marks n =
+entry side cells flags n =
     record {
       colouring = record { side = side; cells = slice_range cells (n * (side * side)) ((n + 1) * (side * side)) };
-      begins = slice_index_or marks n false;
+      begins = slice_index_or flags n false;
     }
 
 -- the first n of them, newest first
 abbrev pub entries : ℕ → List Cell → List Bool → ℕ → List Held
-entries side cells marks zero = []
-entries side cells marks (suc n) = entry side cells marks n ∷ entries side cells marks n
+entries side cells flags zero = []
+entries side cells flags (suc n) = entry side cells flags n ∷ entries side cells flags n

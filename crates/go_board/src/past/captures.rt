@@ -87,10 +87,10 @@ fn place_and_keep(
         return false;
     }
     board.set(point, colour.stone());
-    if !take_around(board, colour.opponent(), point, changes) {
+    if !capture_around(board, colour.opponent(), point, changes) {
         return false;
     }
-    if !take_stone(board, colour, point, changes) {
+    if !capture_stone(board, colour, point, changes) {
         return false;
     }
     changes.len() - start <= usize::from(u16::MAX)
@@ -112,7 +112,7 @@ fn put_back(board: &mut Board, start: usize, changes: &mut Vec<Change>)
 
 /// Takes off the groups of a colour beside a point that have no liberty, and adds changes that lead back. Tells whether
 /// there was room for the changes.
-fn take_around(board: &mut Board, colour: Colour, point: Point, changes: &mut Vec<Change>) -> bool
+fn capture_around(board: &mut Board, colour: Colour, point: Point, changes: &mut Vec<Change>) -> bool
     requires { IsOn board.old.side point }
     ensures logged { (start : ℕ) (h : Grid) (front : List Change) → LeadBackwards start h front board.old changes.old.items
         → LeadBackwards start h front board.new changes.new.items }
@@ -120,20 +120,20 @@ fn take_around(board: &mut Board, colour: Colour, point: Point, changes: &mut Ve
     ensures beside { IsTrue result → ReachBeside board.new colour point }
 {
     let size = board.size();
-    if !take_group(board, colour, point.left(), changes) {
+    if !capture_group(board, colour, point.left(), changes) {
         return false;
     }
-    if !take_group(board, colour, point.right(size), changes) {
+    if !capture_group(board, colour, point.right(size), changes) {
         return false;
     }
-    if !take_group(board, colour, point.above(), changes) {
+    if !capture_group(board, colour, point.above(), changes) {
         return false;
     }
-    take_group(board, colour, point.below(size), changes)
+    capture_group(board, colour, point.below(size), changes)
 }
 
 /// The same for the group of the stone on one point, if there is such a point with a stone of that colour.
-fn take_group(
+fn capture_group(
     board: &mut Board,
     colour: Colour,
     at: Option<Point>,
@@ -146,13 +146,13 @@ fn take_group(
     ensures settled { IsTrue result → ForSome at (ReachesIfStone board.new colour) }
 {
     match at {
-        Some(point) => take_stone(board, colour, point, changes),
+        Some(point) => capture_stone(board, colour, point, changes),
         None => true,
     }
 }
 
 /// The same for the group of the stone on a point, if it has that colour.
-fn take_stone(board: &mut Board, colour: Colour, from: Point, changes: &mut Vec<Change>) -> bool
+fn capture_stone(board: &mut Board, colour: Colour, from: Point, changes: &mut Vec<Change>) -> bool
     requires { IsOn board.old.side from }
     ensures logged { (start : ℕ) (h : Grid) (front : List Change) → LeadBackwards start h front board.old changes.old.items
         → LeadBackwards start h front board.new changes.new.items }
@@ -166,14 +166,14 @@ fn take_stone(board: &mut Board, colour: Colour, from: Point, changes: &mut Vec<
         return true;
     }
     if board.is_usual() {
-        take_searched::<USUAL_ROWS>(board, colour, from, changes)
+        capture_searched::<USUAL_ROWS>(board, colour, from, changes)
     } else {
-        take_searched::<MAX_ROWS>(board, colour, from, changes)
+        capture_searched::<MAX_ROWS>(board, colour, from, changes)
     }
 }
 
 /// The same, by a search of the group. `N` rows are enough for the board.
-fn take_searched<const N: usize>(
+fn capture_searched<const N: usize>(
     board: &mut Board,
     colour: Colour,
     from: Point,
@@ -193,12 +193,12 @@ fn take_searched<const N: usize>(
     if board.group_has_liberty::<N>(colour, from, from, group) {
         return true;
     }
-    take_rows(board, group, colour, changes)
+    capture_rows(board, group, colour, changes)
 }
 
 /// Empties the points of a set, which have stones of a colour, and adds changes that lead back. Tells whether there was
 /// room for the changes.
-fn take_rows(board: &mut Board, rows: &[u64], colour: Colour, changes: &mut Vec<Change>) -> bool
+fn capture_rows(board: &mut Board, rows: &[u64], colour: Colour, changes: &mut Vec<Change>) -> bool
     requires all { length rows.now ≡ board.old.side }
     requires on_board { (p : Point) → IsTrue (is_set rows.now p) → IsOn board.old.side p }
     requires stones { (p : Point) → IsTrue (is_set rows.now p) → cell_at board.old p ≡ stone_of colour }
@@ -207,7 +207,7 @@ fn take_rows(board: &mut Board, rows: &[u64], colour: Colour, changes: &mut Vec<
     ensures gone { IsTrue result → IsWithout board.old board.new (λ p. IsTrue (is_set rows.now p)) }
 {
     'rows: for row in 0..board.size().side() {
-        if !take_columns(board, row, rows[usize::from(row)], colour, changes) {
+        if !capture_columns(board, row, rows[usize::from(row)], colour, changes) {
             return false;
         }
     }
@@ -215,7 +215,7 @@ fn take_rows(board: &mut Board, rows: &[u64], colour: Colour, changes: &mut Vec<
 }
 
 /// The same for the points of a row in a set of columns.
-fn take_columns(
+fn capture_columns(
     board: &mut Board,
     row: u8,
     columns: u64,

@@ -21,7 +21,7 @@ pub struct ListPast {
     /// The points of the colourings before the newest, oldest first.
     cells: Vec<Cell>,
     /// Whether each of these begins a stretch.
-    marks: Vec<bool>,
+    begin_flags: Vec<bool>,
 }
 
 impl Model for ListPast {
@@ -32,9 +32,9 @@ impl Model for ListPast {
     ghost Value = { List Held };
 
     ghost view = { λ p. record { colouring = p.newest; begins = p.begins }
-        ∷ entries p.newest.side p.cells.items p.marks.items (length p.marks.items) };
+        ∷ entries p.newest.side p.cells.items p.begin_flags.items (length p.begin_flags.items) };
 
-    ghost invariant = { λ p. length p.cells.items ≡ length p.marks.items * (p.newest.side * p.newest.side) };
+    ghost invariant = { λ p. length p.cells.items ≡ length p.begin_flags.items * (p.newest.side * p.newest.side) };
 }
 
 impl Past for ListPast {
@@ -45,14 +45,14 @@ impl Past for ListPast {
             newest: board.copy(),
             begins: true,
             cells: Vec::new(alloc),
-            marks: Vec::new(alloc),
+            begin_flags: Vec::new(alloc),
         })
     }
 
     fn holds(&self, board: &Board) -> bool {
         self.newest.same(board)
             || (!self.begins
-                && stretch_has(self.newest.size(), &self.cells, &self.marks, board.cells()))
+                && stretch_has(self.newest.size(), &self.cells, &self.begin_flags, board.cells()))
     }
 
     fn newest(&self) -> &Board {
@@ -72,7 +72,7 @@ impl Past for ListPast {
         let kept = self.cells.len() - points;
         self.newest.set_cells(&self.cells[kept..]);
         self.cells.truncate(kept);
-        self.begins = self.marks.pop().unwrap();
+        self.begins = self.begin_flags.pop().unwrap();
     }
 }
 
@@ -80,16 +80,16 @@ impl ListPast {
     ghost use Rattle.std.specs.Prelude.{◌≡◌, ◌∷◌, OnOk, OnErr};
     ghost use Rattle.go_board.specs.Past.{HaveSide};
 
-    /// Adds a colouring, with its mark.
+    /// Adds a colouring, which begins a stretch or not.
     fn add(&mut self, board: &Board, begins: bool) -> Result<(), MemoryFault>
         requires { HaveSide board.now.side self.old }
         ensures ok { OnOk result (self.new
             ≡ record { colouring = board.now; begins = begins } ∷ self.old) }
         ensures err { OnErr result (self.new ≡ self.old) }
     {
-        self.marks.reserve(1)?;
+        self.begin_flags.reserve(1)?;
         self.cells.extend_from_slice(self.newest.cells())?;
-        self.marks.push(self.begins).unwrap();
+        self.begin_flags.push(self.begins).unwrap();
         self.newest.copy_from(board);
         self.begins = begins;
         Ok(())
@@ -98,19 +98,19 @@ impl ListPast {
 
 /// Whether the newest stretch of these colourings has the one with those cells. A colouring has as many cells as there
 /// are points of a board of that size.
-fn stretch_has(size: Size, all: &[Cell], marks: &[bool], cells: &[Cell]) -> bool
-    requires all { length all.now ≡ length marks.now * (size * size) }
+fn stretch_has(size: Size, all: &[Cell], begin_flags: &[bool], cells: &[Cell]) -> bool
+    requires all { length all.now ≡ length begin_flags.now * (size * size) }
     requires one { length cells.now ≡ size * size }
     ensures { IsTrue result
-        ↔ Contains (present_stretch (entries size all.now marks.now (length marks.now)))
+        ↔ Contains (present_stretch (entries size all.now begin_flags.now (length begin_flags.now)))
         (record { side = size; cells = cells.now }) }
 {
     let points = size.points();
-    for i in (0..marks.len()).rev() {
+    for i in (0..begin_flags.len()).rev() {
         if &all[i * points..(i + 1) * points] == cells {
             return true;
         }
-        if marks[i] {
+        if begin_flags[i] {
             return false;
         }
     }

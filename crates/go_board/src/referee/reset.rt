@@ -19,7 +19,7 @@ impl<P: Past> Referee<P> {
     {
         self.past.reset(*self.earlier.allocator(), size)?;
         self.spare.reset(size);
-        self.in_step = true;
+        self.spare_is_current = true;
         self.player = Some(Colour::Black);
         self.passes = 0;
         self.turns = 0;

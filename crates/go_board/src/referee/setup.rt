@@ -2,7 +2,7 @@
 
 use crate::fault::MemoryFault;
 use crate::past::Past;
-use crate::referee::{Referee, SetupOp, bring_in_step};
+use crate::referee::{Referee, SetupOp, bring_up_to_date};
 use crate::stones::Colour;
 
 impl<P: Past> Referee<P> {
@@ -35,8 +35,8 @@ impl<P: Past> Referee<P> {
             ≡ followed_by self.old (record self.old.present { player = player })) }
         ensures err { OnErr result (self.new ≡ self.old) }
     {
-        let left = self.present_kept(false);
-        self.earlier.push(left)?;
+        let present = self.present_kept(false);
+        self.earlier.push(present)?;
         self.player = player;
         Ok(())
     }
@@ -48,15 +48,15 @@ impl<P: Past> Referee<P> {
             (with_setup self.old.present (fold with_area self.old.present.colouring ops.now) player)) }
         ensures err { OnErr result (self.new ≡ self.old) }
     {
-        let left = self.present_kept(true);
+        let present = self.present_kept(true);
         if !self.past.try_setup(ops)? {
             return self.begin_by_spare(ops, player);
         }
-        if self.earlier.push(left).is_err() {
+        if self.earlier.push(present).is_err() {
             self.past.pop();
             return Err(MemoryFault);
         }
-        self.in_step = false;
+        self.spare_is_current = false;
         self.player = player;
         self.passes = 0;
         Ok(())
@@ -70,15 +70,15 @@ impl<P: Past> Referee<P> {
             (with_setup self.old.present (fold with_area self.old.present.colouring ops.now) player)) }
         ensures err { OnErr result (self.new ≡ self.old) }
     {
-        bring_in_step(&mut self.spare, self.past.newest(), self.in_step);
-        self.in_step = false;
+        bring_up_to_date(&mut self.spare, self.past.newest(), self.spare_is_current);
+        self.spare_is_current = false;
         self.spare.colour_areas(ops);
         self.spare.prepare();
-        let left = self.present_kept(true);
+        let present = self.present_kept(true);
         self.earlier.reserve(1)?;
         self.past.restart(&self.spare)?;
-        self.earlier.push(left).unwrap();
-        self.in_step = true;
+        self.earlier.push(present).unwrap();
+        self.spare_is_current = true;
         self.player = player;
         self.passes = 0;
         Ok(())

@@ -4,7 +4,7 @@ use crate::fault::{MemoryFault, TurnFault};
 use crate::past::Past;
 use crate::points::Point;
 use crate::reason::Reason;
-use crate::referee::{Play, Referee, bring_in_step};
+use crate::referee::{Play, Referee, bring_up_to_date};
 use crate::stones::{Cell, Colour};
 
 impl<P: Past> Referee<P> {
@@ -66,8 +66,8 @@ impl<P: Past> Referee<P> {
         ensures ok { OnOk result (self.new ≡ followed_by self.old (turned self.old.present colour Pass)) }
         ensures err { OnErr result (self.new ≡ self.old) }
     {
-        let left = self.present_kept(false);
-        self.earlier.push(left)?;
+        let present = self.present_kept(false);
+        self.earlier.push(present)?;
         self.player = Some(colour.opponent());
         self.passes += 1;
         self.turns += 1;
@@ -85,15 +85,15 @@ impl<P: Past> Referee<P> {
             ≡ (if taken then followed_by self.old (turned self.old.present colour (Stone point)) else self.old)) }
         ensures err { OnErr result (self.new ≡ self.old) }
     {
-        let left = self.present_kept(true);
+        let present = self.present_kept(true);
         if !self.past.try_stone(colour, point)? {
             return self.take_by_spare(colour, point);
         }
-        if self.earlier.push(left).is_err() {
+        if self.earlier.push(present).is_err() {
             self.past.pop();
             return Err(MemoryFault);
         }
-        self.in_step = false;
+        self.spare_is_current = false;
         self.player = Some(colour.opponent());
         self.passes = 0;
         self.turns += 1;
@@ -113,17 +113,17 @@ impl<P: Past> Referee<P> {
             ≡ (if taken then followed_by self.old (turned self.old.present colour (Stone point)) else self.old)) }
         ensures err { OnErr result (self.new ≡ self.old) }
     {
-        bring_in_step(&mut self.spare, self.past.newest(), self.in_step);
-        self.in_step = false;
+        bring_up_to_date(&mut self.spare, self.past.newest(), self.spare_is_current);
+        self.spare_is_current = false;
         self.spare.place(colour, point);
         if self.past.holds(&self.spare) {
             return Ok(false);
         }
-        let left = self.present_kept(true);
+        let present = self.present_kept(true);
         self.earlier.reserve(1)?;
         self.past.push(&self.spare)?;
-        self.earlier.push(left).unwrap();
-        self.in_step = true;
+        self.earlier.push(present).unwrap();
+        self.spare_is_current = true;
         self.player = Some(colour.opponent());
         self.passes = 0;
         self.turns += 1;

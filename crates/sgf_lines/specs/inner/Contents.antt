@@ -63,15 +63,15 @@ AreMoves (One k raw) ms = ms ≡ record { player = k; raw = raw.now } ∷ []
 AreMoves Several ms = (m l : Move) × (more : List Move) × (ms ≡ m ∷ l ∷ more)
 
 -- moves, operations, a player, and whether some value is faulty, tell of the lists what a step asks for
-pub record AreTold (side : ℕ) (moves : Moves) (ops : List SetupOp) (player : Option Colour) (faulty : Bool) (held : Lists) : Type 0 where
-  pub moves_are : AreMoves moves held.moves
-  pub stones : faulty ≡ false → operations held.stones side ≡ Some ops
-  pub players : faulty ≡ false → last_player None held.players ≡ Some player
-  pub faults : faulty ≡ true → (operations held.stones side ≡ None) ⊎ (last_player None held.players ≡ None)
+pub record AreTold (side : ℕ) (moves : Moves) (ops : List SetupOp) (player : Option Colour) (faulty : Bool) (lists : Lists) : Type 0 where
+  pub moves_are : AreMoves moves lists.moves
+  pub stones : faulty ≡ false → operations lists.stones side ≡ Some ops
+  pub players : faulty ≡ false → last_player None lists.players ≡ Some player
+  pub faults : faulty ≡ true → (operations lists.stones side ≡ None) ⊎ (last_player None lists.players ≡ None)
   pub on_board : All (λ op. IsRectOn side op.area) ops
 
 abbrev pub IsContents : ℕ → Contents → Lists → Type 0
-IsContents side c held = AreTold side c.moves c.operations.items c.player c.faulty held
+IsContents side c lists = AreTold side c.moves c.operations.items c.player c.faulty lists
 
 -- the contents tell what properties hold
 pub record IsGathered (side : ℕ) (ps : List Property) (c : Contents) : Type 0 where

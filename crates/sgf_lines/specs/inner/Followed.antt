@@ -8,14 +8,14 @@ use Rattle.sgf_lines.specs.Verdict.{judged_on}
 use Rattle.sgf_lines.specs.inner.Played.{IsPlayedAs, game_commands, RaisesPlays}
 
 -- what the root says of the game, and the game played along the nodes, where it is judged
-abbrev pub IsHeld : Bool → GameKind → List Node → Followed → Type 0
-IsHeld scripted said nodes OtherGame = said ≡ other_game
-IsHeld scripted said nodes NoBoard = said ≡ no_board
-IsHeld scripted said nodes (Judged game) = (side : ℕ) × (said ≡ board side) × IsPlayedAs scripted side nodes game
+abbrev pub IsFollowedAs : Bool → GameKind → List Node → Followed → Type 0
+IsFollowedAs scripted said nodes OtherGame = said ≡ other_game
+IsFollowedAs scripted said nodes NoBoard = said ≡ no_board
+IsFollowedAs scripted said nodes (Judged game) = (side : ℕ) × (said ≡ board side) × IsPlayedAs scripted side nodes game
 
 -- it is held of all nodes of the line
 abbrev pub IsFollowed : Bool → List Node → Followed → Type 0
-IsFollowed scripted nodes followed = IsHeld scripted (game_kind (root_properties nodes)) nodes followed
+IsFollowed scripted nodes followed = IsFollowedAs scripted (game_kind (root_properties nodes)) nodes followed
 
 -- the commands of that line
 abbrev pub followed_commands : Followed → List ℕ

@@ -6,11 +6,11 @@ use Rattle.sgf_lines.specs.Record.{node_text}
 use Rattle.sgf_lines.specs.declared.kept.KeptText.{KeptText}
 
 -- the text is that of the nodes, and cut back to a node's start it is that of the nodes before that one
-pub record IsKeptText (text_of : List Node → List ℕ) (nodes : List Node) (kept : KeptText) : Type 0 where
-  pub text : kept.text.items ≡ text_of nodes
+pub record IsKeptText (nodes_text : List Node → List ℕ) (nodes : List Node) (kept : KeptText) : Type 0 where
+  pub text : kept.text.items ≡ nodes_text nodes
   pub count : length kept.starts.items ≡ length nodes
   pub within : (i start : ℕ) → slice_get kept.starts.items i ≡ Some start → start ≤ length kept.text.items
-  pub starts : (i start : ℕ) → slice_get kept.starts.items i ≡ Some start → take start kept.text.items ≡ text_of (take i nodes)
+  pub starts : (i start : ℕ) → slice_get kept.starts.items i ≡ Some start → take start kept.text.items ≡ nodes_text (take i nodes)
   pub order : (i j early late : ℕ) → i ≤ j → slice_get kept.starts.items i ≡ Some early → slice_get kept.starts.items j ≡ Some late → early ≤ late
 
 -- the nodes of a game that isn't closed, as the sgf form writes them

@@ -2,13 +2,13 @@
 use Rattle.std.specs.Prelude.{◌≡◌, Some, map}
 use Rattle.sgf_tree.specs.Tree.{Games}
 use Rattle.sgf_tree.specs.FileOrder.{node_at}
-use Rattle.sgf_lines.specs.declared.game_kind.GameKind.{GameKind as Held}
+use Rattle.sgf_lines.specs.declared.game_kind.GameKind.{GameKind as KindInMemory}
 use Rattle.sgf_lines.specs.declared.game_kind.GameKind.TheVariants.{OtherGame, NoBoard, Board}
 use Rattle.sgf_lines.specs.declared.line.LineRef.{LineRef}
 use Rattle.sgf_lines.specs.Lines.{Line, place_of}
 use Rattle.sgf_lines.specs.JudgedGames.{GameKind, other_game, no_board, board}
 
-abbrev pub shown_game_kind : Held → GameKind
+abbrev pub shown_game_kind : KindInMemory → GameKind
 shown_game_kind OtherGame = other_game
 shown_game_kind NoBoard = no_board
 shown_game_kind (Board side) = board side

@@ -10,7 +10,7 @@ use Rattle.sgf_tree.specs.declared.fault.MemoryFault.{MemoryFault}
 use Rattle.sgf_lines.specs.declared.verdict.Verdict.{Verdict}
 use Rattle.sgf_lines.specs.declared.verdict.Verdict.TheVariants.{Illegal as IllegalLine}
 use Rattle.sgf_lines.specs.declared.step.Effect.{Effect}
-use Rattle.sgf_lines.specs.declared.step.Effect.TheVariants.{Nothing, Stones as stones_set, Turn}
+use Rattle.sgf_lines.specs.declared.step.Effect.TheVariants.{Nothing, Stones as stones_set, Move as one_move}
 use Rattle.sgf_lines.specs.declared.step.TakenStep.{TakenStep}
 use Rattle.sgf_lines.specs.declared.step.StepFault.{StepFault}
 use Rattle.sgf_lines.specs.declared.step.StepFault.TheVariants.{Illegal, Memory}
@@ -36,7 +36,7 @@ IsStepped step old new (Err Memory) = new ≡ old
 abbrev pub IsEffectBy : List Move → List Stones → Effect → Type 0
 IsEffectBy ms ts Nothing = (ms ≡ []) × (ts ≡ [])
 IsEffectBy ms ts stones_set = (ms ≡ []) × (0 < length ts)
-IsEffectBy ms ts (Turn colour raw) = (ms ≡ record { player = colour; raw = raw.now } ∷ []) × (ts ≡ [])
+IsEffectBy ms ts (one_move colour raw) = (ms ≡ record { player = colour; raw = raw.now } ∷ []) × (ts ≡ [])
 
 abbrev pub IsEffect : Node → Effect → Type 0
 IsEffect n effect = IsEffectBy (moves n) (stones n) effect
@@ -52,8 +52,8 @@ IsMoveOf colour raw effect = IsEffectBy (record { player = colour; raw = raw } �
 
 -- whether there are stones or players
 abbrev pub IsSetupMet : Lists → Bool → Type 0
-IsSetupMet held met =
-    MatchBool met (0 < length held.stones + length held.players) ((held.stones ≡ []) × (held.players ≡ []))
+IsSetupMet lists met =
+    MatchBool met (0 < length lists.stones + length lists.players) ((lists.stones ≡ []) × (lists.players ≡ []))
 
 -- what a line's verdict is that ends with a fault at a place, after so many turns
 abbrev pub ended_with : StepFault → ℕ → ℕ → Result Verdict MemoryFault

@@ -13,11 +13,11 @@ first_comment (Some met) first = Some met
 first_comment None first = Some first
 
 -- properties set nothing up, and hold these moves and that comment
-pub record IsWithoutSetup (ps : List Property) (held : WithoutSetup) : Type 0 where
-  pub moves_are : AreMoves held.moves (flat_map moves_in ps)
+pub record IsWithoutSetup (ps : List Property) (contents : WithoutSetup) : Type 0 where
+  pub moves_are : AreMoves contents.moves (flat_map moves_in ps)
   pub no_stones : flat_map stones_in ps ≡ []
   pub no_players : flat_map players_in ps ≡ []
-  pub comment_is : option_copied held.comment ≡ first_value (codes "C") ps
+  pub comment_is : option_copied contents.comment ≡ first_value (codes "C") ps
 
 -- the node has these moves, and sets nothing up
 pub record HasMovesAlone (n : Node) (ms : Moves) : Type 0 where

@@ -8,7 +8,7 @@ use Rattle.sgf_tree.specs.inner.Layout.{parent_by, opens_by, outline, outlines_b
 use Rattle.sgf_tree.specs.inner.Progress.{ComesTo, IsTrueFault}
 use Rattle.sgf_tree.specs.inner.PropertiesRead.{ArePropertiesRead}
 use Rattle.sgf_tree.specs.declared.layout.Link.{Link}
-use Rattle.sgf_tree.specs.declared.layout.Link.TheVariants.{Root, Branch, Next}
+use Rattle.sgf_tree.specs.declared.layout.Link.TheVariants.{Root, Variation, Next}
 use Rattle.sgf_tree.specs.declared.layout.NodeEntry.{NodeEntry}
 use Rattle.sgf_tree.specs.declared.reader.fault.PartFault.{PartFault}
 
@@ -61,7 +61,7 @@ pub record HoldStack (t : List ℕ) (k : Stack) (nodes : List NodeEntry) : Type 
 -- the link of the first node of a game that begins at the stack k
 abbrev pub IsOpening : Stack → Link → Type 0
 IsOpening k (Root g) = (k.unclosed ≡ []) × (g ≡ game_count k.closed + 1)
-IsOpening k (Branch p) = tip k.closed k.unclosed ≡ Some p
+IsOpening k (Variation p) = tip k.closed k.unclosed ≡ Some p
 IsOpening k Next = ⊥
 
 -- the machine has the games of the stack k, and a `(`, a `)` or the end of the text may come
@@ -95,13 +95,13 @@ pub record IsOwnRun (nodes : List NodeEntry) (first last : ℕ) : Type 0 where
   pub goes_on : (i : ℕ) → first < i → i ≤ last → opens_at nodes i ≡ Some false
 
 -- the node without the number of the last one below it
-abbrev pub unmarked : NodeEntry → NodeEntry
-unmarked n = record { place = n.place; link = n.link; last_below = 0 }
+abbrev pub without_last : NodeEntry → NodeEntry
+without_last n = record { place = n.place; link = n.link; last_below = 0 }
 
 -- the nodes from first to last got the number of the last node, and nothing else changed; the parent is that of the first
 pub record ClosesRun (old new : List NodeEntry) (first last : ℕ) (parent : Option ℕ) : Type 0 where
-  pub same : map unmarked new ≡ map unmarked old
-  pub marked : map (λ (n : NodeEntry). n.last_below) new
+  pub same : map without_last new ≡ map without_last old
+  pub lasts_are : map (λ (n : NodeEntry). n.last_below) new
       ≡ take first (map (λ (n : NodeEntry). n.last_below) old) ++ replicate (last + 1 - first) (length old - 1) ++ drop (last + 1) (map (λ (n : NodeEntry). n.last_below) old)
   pub parent_is : option_map (λ (n : NodeEntry). parent_by n.link first) (slice_get old first) ≡ Some parent
 

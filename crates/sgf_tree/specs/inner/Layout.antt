@@ -6,7 +6,7 @@ use Rattle.sgf_tree.specs.Spelling.{Spells}
 use Rattle.sgf_tree.specs.inner.Machine.{collection_of}
 use Rattle.sgf_tree.specs.declared.fault.TheConstants.{MAX_LENGTH}
 use Rattle.sgf_tree.specs.declared.layout.Link.{Link}
-use Rattle.sgf_tree.specs.declared.layout.Link.TheVariants.{Root, Branch, Next}
+use Rattle.sgf_tree.specs.declared.layout.Link.TheVariants.{Root, Variation, Next}
 use Rattle.sgf_tree.specs.declared.layout.NodeEntry.{NodeEntry}
 
 -- the collection that a text spells, and none where it spells none
@@ -16,13 +16,13 @@ games_in text = unwrap_or (collection_of text) no_games
 -- the parent that a link gives to node i
 abbrev pub parent_by : Link → ℕ → Option ℕ
 parent_by (Root game) i = None
-parent_by (Branch parent) i = Some parent
+parent_by (Variation parent) i = Some parent
 parent_by Next i = Some (i - 1)
 
 -- whether a link is that of the first node after a `(`
 abbrev pub opens_by : Link → Bool
 opens_by (Root game) = true
-opens_by (Branch parent) = true
+opens_by (Variation parent) = true
 opens_by Next = false
 
 -- an ordered node without its properties

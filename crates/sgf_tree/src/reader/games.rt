@@ -89,7 +89,7 @@ fn close_game(nodes: &mut Vec<NodeEntry>, tip: u32) -> Option<u32>
         node.last_below = last;
         match node.link {
             Link::Root(_) => return None,
-            Link::Branch(parent) => return Some(parent),
+            Link::Variation(parent) => return Some(parent),
             Link::Next => at -= 1,
         }
     }
@@ -103,7 +103,7 @@ fn opening_link(games: u32, innermost: Option<u32>) -> Link
 {
     match innermost {
         None => Link::Root(games + 1),
-        Some(parent) => Link::Branch(parent),
+        Some(parent) => Link::Variation(parent),
     }
 }
 

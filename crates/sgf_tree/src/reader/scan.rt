@@ -124,13 +124,13 @@ fn near_bracket(text: &[u8], at: usize) -> Option<usize>
     requires { at + NEAR ≤ length text.now }
     ensures { MatchOption result (HasNoBracket text.now at (at + NEAR)) (λ end. IsNextBracket text.now at end) }
 {
-    let marked = u8x16::from_slice(&text[at..])
+    let found = u8x16::from_slice(&text[at..])
         .simd_eq(u8x16::splat(b']'))
         .to_bitmask();
-    if marked == 0 {
+    if found == 0 {
         None
     } else {
-        Some(at + marked.trailing_zeros() as usize)
+        Some(at + found.trailing_zeros() as usize)
     }
 }
 

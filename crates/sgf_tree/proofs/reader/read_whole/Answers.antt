@@ -1,4 +1,4 @@
-use Rattle.sgf_tree.proofs.Marks.{games-begin}
+use Rattle.sgf_tree.proofs.ByteOrderMark.{games-begin}
 use Rattle.sgf_tree.proofs.reader.read_whole.Goals as goal
 
 pub read_games-requires-clause-begins : goal.read_games-requires-clause-begins

@@ -1,7 +1,7 @@
 use Rattle.std.proofs.Common.{eqb, ltb, arith, w8}
 use Rattle.std.proofs.lemmas.Simd.{length-chunk, bitmask_splat}
 use Rattle.std.specs.Simd.Lanes.{chunk}
-use Rattle.sgf_tree.proofs.NearMarks.{before-lowest}
+use Rattle.sgf_tree.proofs.NearBits.{before-lowest}
 use Rattle.sgf_tree.proofs.NearLiterals.{near-literals}
 use Rattle.sgf_tree.proofs.text.near_literals.Goals as goal
 
@@ -9,8 +9,8 @@ pub returns-clause-at_most : goal.returns-clause-at_most
 returns-clause-at_most c =
     let t = c.args.raw.now in
     let at = c.args.at in
-    let marks = bitmask_splat w8 eqb (chunk at 16 t) 16 92 (length-chunk at 16 t c.requires) (omega arith) in
-    let escapes = before-lowest (λ x. eqb x 92) t at c.requires _ c.first_bit.result marks c.first_bit.ensures in
+    let bits = bitmask_splat w8 eqb (chunk at 16 t) 16 92 (length-chunk at 16 t c.requires) (omega arith) in
+    let escapes = before-lowest (λ x. eqb x 92) t at c.requires _ c.first_bit.result bits c.first_bit.ensures in
     omega (arith, escapes.at_most, c.min.ensures)
 
 pub returns-clause-literal : goal.returns-clause-literal

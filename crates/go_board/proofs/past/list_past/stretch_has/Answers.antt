@@ -14,13 +14,13 @@ returns-then-eq c =
     let same = (slice_eq-Decides Decides-cell_eq _ _ c.eq.result c.eq.ensures).0 c.if-eq.true in
     (λ _. c.loop-i.invariant.1 (Has-found _ _ c.points-points.ensures.value _ _ _ _ _ e same), λ _. refl)
 
-pub returns-then-marks-i : goal.returns-then-marks-i
-returns-then-marks-i c =
+pub returns-then-begin_flags-i : goal.returns-then-begin_flags-i
+returns-then-begin_flags-i c =
     let e : c.loop-i.i ≡ suc (c.loop-i.i - 1) = omega arith in (
       λ t. absurd (false≢true t),
       λ h.
           let later = Has-cases _ _ c.points-points.ensures.value _ _ _ _ _ e (λ same. false≢true (sym c.if-eq.false ∙ (slice_eq-Decides Decides-cell_eq _ _ c.eq.result c.eq.ensures).1 same)) (c.loop-i.invariant.0 h) in
-          sym later.0 ∙ c.if-marks-i.true,
+          sym later.0 ∙ c.if-begin_flags-i.true,
     )
 
 pub loop-i-preserved : goal.loop-i-preserved
@@ -28,7 +28,7 @@ loop-i-preserved c =
     let e : c.loop-i.i ≡ suc (c.loop-i.i - 1) = omega arith in (
       λ h.
           (Has-cases _ _ c.points-points.ensures.value _ _ _ _ _ e (λ same. false≢true (sym c.if-eq.false ∙ (slice_eq-Decides Decides-cell_eq _ _ c.eq.result c.eq.ensures).1 same)) (c.loop-i.invariant.0 h)).1,
-      λ h. c.loop-i.invariant.1 (Has-more _ _ c.points-points.ensures.value _ _ _ _ _ e c.if-marks-i.false h),
+      λ h. c.loop-i.invariant.1 (Has-more _ _ c.points-points.ensures.value _ _ _ _ _ e c.if-begin_flags-i.false h),
     )
 
 pub returns : goal.returns

@@ -6,5 +6,5 @@ use Rattle.go_board.proofs.past.list_past.stretch_has.Given as goal
 
 abbrev pub invariant-loop-i : goal.invariant-loop-i
 invariant-loop-i l =
-    Contains (present_stretch (entries l.fn.size l.all l.marks (length l.marks))) (record { side = l.fn.size; cells = l.cells })
-    ↔ Contains (present_stretch (entries l.fn.size l.all l.marks l.i)) (record { side = l.fn.size; cells = l.cells })
+    Contains (present_stretch (entries l.fn.size l.all l.begin_flags (length l.begin_flags))) (record { side = l.fn.size; cells = l.cells })
+    ↔ Contains (present_stretch (entries l.fn.size l.all l.begin_flags l.i)) (record { side = l.fn.size; cells = l.cells })

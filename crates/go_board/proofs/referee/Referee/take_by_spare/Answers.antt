@@ -12,7 +12,7 @@ returns-then-holds-clause-known g c =
     let k = c.args.colour in
     let p = c.args.point in
     let newest_is = sym (ap (λ (o : Option Grid). unwrap_or o (empty_grid 0)) c.newest.ensures) ∙ ap (λ (states : States). states.present.colouring) c.self.view_is in
-    let made : c.place.new.self ≡ play s.colouring k p = c.place.ensures.value ∙ ap (λ (h : Grid). play h k p) (c.bring_in_step.ensures ∙ newest_is) in
+    let made : c.place.new.self ≡ play s.colouring k p = c.place.ensures.value ∙ ap (λ (h : Grid). play h k p) (c.bring_up_to_date.ensures ∙ newest_is) in
     reason_by_past s k p c.holds.result _ _ (ap (λ (states : States). states.present.seen) c.self.view_is) made c.requires.only_repeat.0 c.requires.only_repeat.1 c.requires.only_repeat.2 c.holds.ensures
     ∙ ap (λ b. cond b (Some Repeat) None) c.if-holds.true
 
@@ -22,7 +22,7 @@ returns-in_err-reserve-clause-allowed g c =
     let k = c.args.colour in
     let p = c.args.point in
     let newest_is = sym (ap (λ (o : Option Grid). unwrap_or o (empty_grid 0)) c.newest.ensures) ∙ ap (λ (states : States). states.present.colouring) c.self.view_is in
-    let made : c.place.new.self ≡ play s.colouring k p = c.place.ensures.value ∙ ap (λ (h : Grid). play h k p) (c.bring_in_step.ensures ∙ newest_is) in
+    let made : c.place.new.self ≡ play s.colouring k p = c.place.ensures.value ∙ ap (λ (h : Grid). play h k p) (c.bring_up_to_date.ensures ∙ newest_is) in
     on_err c.from_residual.result _
     (reason_by_past s k p c.holds.result _ _ (ap (λ (states : States). states.present.seen) c.self.view_is) made c.requires.only_repeat.0 c.requires.only_repeat.1 c.requires.only_repeat.2 c.holds.ensures
     ∙ ap (λ b. cond b (Some Repeat) None) c.if-holds.false)
@@ -33,7 +33,7 @@ returns-in_err-push-clause-allowed g c =
     let k = c.args.colour in
     let p = c.args.point in
     let newest_is = sym (ap (λ (o : Option Grid). unwrap_or o (empty_grid 0)) c.newest.ensures) ∙ ap (λ (states : States). states.present.colouring) c.self.view_is in
-    let made : c.place.new.self ≡ play s.colouring k p = c.place.ensures.value ∙ ap (λ (h : Grid). play h k p) (c.bring_in_step.ensures ∙ newest_is) in
+    let made : c.place.new.self ≡ play s.colouring k p = c.place.ensures.value ∙ ap (λ (h : Grid). play h k p) (c.bring_up_to_date.ensures ∙ newest_is) in
     on_err c.from_residual-in_err-push.result _
     (reason_by_past s k p c.holds.result _ _ (ap (λ (states : States). states.present.seen) c.self.view_is) made c.requires.only_repeat.0 c.requires.only_repeat.1 c.requires.only_repeat.2 c.holds.ensures
     ∙ ap (λ b. cond b (Some Repeat) None) c.if-holds.false)
@@ -44,6 +44,6 @@ returns-clause-known g c =
     let k = c.args.colour in
     let p = c.args.point in
     let newest_is = sym (ap (λ (o : Option Grid). unwrap_or o (empty_grid 0)) c.newest.ensures) ∙ ap (λ (states : States). states.present.colouring) c.self.view_is in
-    let made : c.place.new.self ≡ play s.colouring k p = c.place.ensures.value ∙ ap (λ (h : Grid). play h k p) (c.bring_in_step.ensures ∙ newest_is) in
+    let made : c.place.new.self ≡ play s.colouring k p = c.place.ensures.value ∙ ap (λ (h : Grid). play h k p) (c.bring_up_to_date.ensures ∙ newest_is) in
     reason_by_past s k p c.holds.result _ _ (ap (λ (states : States). states.present.seen) c.self.view_is) made c.requires.only_repeat.0 c.requires.only_repeat.1 c.requires.only_repeat.2 c.holds.ensures
     ∙ ap (λ b. cond b (Some Repeat) None) c.if-holds.false

@@ -7,8 +7,8 @@ use Rattle.sgf_lines.proofs.contents.Contents.take_players.Given as goal
 
 abbrev pub invariant-loop-raw : goal.invariant-loop-raw
 invariant-loop-raw l = record {
-  told : (side : ℕ) (held : Lists) → IsContents side l.fn.self held → (told : Lists) × IsContents side l.self told
-      × (combined told (lists_of_kind Player l.values) ≡ combined held (lists_of_kind Player (values l.property)));
+  told : (side : ℕ) (lists : Lists) → IsContents side l.fn.self lists → (told : Lists) × IsContents side l.self told
+      × (combined told (lists_of_kind Player l.values) ≡ combined lists (lists_of_kind Player (values l.property)));
   comment : l.self.comment ≡ l.fn.self.comment;
 }
 

@@ -7,8 +7,8 @@ use Rattle.sgf_lines.proofs.contents.Contents.take_stones.Given as goal
 
 abbrev pub invariant-loop-raw : goal.invariant-loop-raw
 invariant-loop-raw l = record {
-  told : (held : Lists) → IsContents l.size l.fn.self held → (told : Lists) × IsContents l.size l.self told
-      × (combined told (lists_of_kind (Stones l.cell) l.values) ≡ combined held (lists_of_kind (Stones l.cell) (values l.property)));
+  told : (lists : Lists) → IsContents l.size l.fn.self lists → (told : Lists) × IsContents l.size l.self told
+      × (combined told (lists_of_kind (Stones l.cell) l.values) ≡ combined lists (lists_of_kind (Stones l.cell) (values l.property)));
   comment : l.self.comment ≡ l.fn.self.comment;
 }
 

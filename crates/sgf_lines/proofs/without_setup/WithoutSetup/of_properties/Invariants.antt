@@ -5,7 +5,7 @@ use Rattle.sgf_lines.specs.inner.WithoutSetup.{IsWithoutSetup}
 use Rattle.sgf_lines.proofs.without_setup.WithoutSetup.of_properties.Given as goal
 
 abbrev pub invariant-loop-property : goal.invariant-loop-property
-invariant-loop-property l = (front : List Property) × IsWithoutSetup front l.held × (front ++ l.left ≡ l.node.properties)
+invariant-loop-property l = (front : List Property) × IsWithoutSetup front l.contents × (front ++ l.left ≡ l.node.properties)
 
 abbrev pub decreases-loop-property : goal.decreases-loop-property
 decreases-loop-property l = length l.left

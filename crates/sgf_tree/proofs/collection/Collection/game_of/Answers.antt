@@ -10,14 +10,14 @@ returns-in-Root c =
     sym (root-held c.self.inside c.self.invariant.0 _ c.self.view_is c.climb.at _ _ c.climb.invariant.in_range c.index.ensures c.in-Root.is)
     ∙ c.climb.invariant.same_game
 
-pub climb-smaller-in-Branch : goal.climb-smaller-in-Branch
-climb-smaller-in-Branch c =
-    let up = game-held c.self.inside c.self.invariant.0 _ c.self.view_is c.climb.at c.in-Branch.parent _ _ c.climb.invariant.in_range c.index.ensures c.in-Branch.is refl in
+pub climb-smaller-in-Variation : goal.climb-smaller-in-Variation
+climb-smaller-in-Variation c =
+    let up = game-held c.self.inside c.self.invariant.0 _ c.self.view_is c.climb.at c.in-Variation.parent _ _ c.climb.invariant.in_range c.index.ensures c.in-Variation.is refl in
     up.0
 
-pub climb-preserved-in-Branch : goal.climb-preserved-in-Branch
-climb-preserved-in-Branch c =
-    let up = game-held c.self.inside c.self.invariant.0 _ c.self.view_is c.climb.at c.in-Branch.parent _ _ c.climb.invariant.in_range c.index.ensures c.in-Branch.is refl in
+pub climb-preserved-in-Variation : goal.climb-preserved-in-Variation
+climb-preserved-in-Variation c =
+    let up = game-held c.self.inside c.self.invariant.0 _ c.self.view_is c.climb.at c.in-Variation.parent _ _ c.climb.invariant.in_range c.index.ensures c.in-Variation.is refl in
     record { in_range = omega (arith, up.0); same_game = up.1 ∙ c.climb.invariant.same_game }
 
 pub overflow_sub-at : goal.overflow_sub-at

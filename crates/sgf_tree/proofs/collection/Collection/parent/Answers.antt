@@ -13,9 +13,9 @@ pub returns-in-Root : goal.returns-in-Root
 returns-in-Root c =
     parent-held c.self.inside c.self.invariant.0 _ c.self.view_is c.args.i _ _ c.requires c.index.ensures c.in-Root.is
 
-pub returns-in-Branch : goal.returns-in-Branch
-returns-in-Branch c =
-    parent-held c.self.inside c.self.invariant.0 _ c.self.view_is c.args.i _ _ c.requires c.index.ensures c.in-Branch.is
+pub returns-in-Variation : goal.returns-in-Variation
+returns-in-Variation c =
+    parent-held c.self.inside c.self.invariant.0 _ c.self.view_is c.args.i _ _ c.requires c.index.ensures c.in-Variation.is
 
 pub returns-in-Next : goal.returns-in-Next
 returns-in-Next c =

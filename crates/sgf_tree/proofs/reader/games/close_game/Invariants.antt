@@ -1,12 +1,12 @@
 use Rattle.std.proofs.Common.{ℕ, ◌≤◌, ◌+◌}
 use Rattle.sgf_tree.specs.inner.GamesRead.{IsOwnRun}
-use Rattle.sgf_tree.proofs.Marking.{Marks}
+use Rattle.sgf_tree.proofs.Closing.{GetLasts}
 use Rattle.sgf_tree.proofs.reader.games.close_game.Given as goal
 
 abbrev pub invariant-own : goal.invariant-own
 invariant-own l = record {
   low : l.at ≤ l.tip;
-  marks : Marks l.fn.nodes.items l.nodes.items l.tip (l.at + 1);
+  lasts : GetLasts l.fn.nodes.items l.nodes.items l.tip (l.at + 1);
   begins : (first : ℕ) → IsOwnRun l.fn.nodes.items first l.tip → first ≤ l.at;
 }
 

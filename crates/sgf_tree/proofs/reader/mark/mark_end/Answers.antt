@@ -1,6 +1,6 @@
 use Rattle.std.proofs.Common.{ℕ, Bool, false, ◌==◌, List, [], ◌∷◌, ◌≡◌, ◌≢◌, ◌<◌, ◌∙◌, length, get_or, sym, arith}
 use Rattle.std.proofs.lemmas.Bool.{eqb-true, false≢true}
-use Rattle.sgf_tree.proofs.Marks.{mark-none, mark-read, first-faulty, second-faulty}
+use Rattle.sgf_tree.proofs.ByteOrderMark.{mark-none, mark-read, first-faulty, second-faulty}
 use Rattle.sgf_tree.proofs.reader.mark.mark_end.Goals as goal
 use Rattle.sgf_tree.proofs.reader.mark.mark_end.Goals.{then-is_empty-via-then-is_empty, then-is_empty-via-else-is_empty+then-text, then-text-lt2-via-then-text-lt2, then-text-lt2-via-else-text-lt2+then-text-2, then-text-lt3-via-then-text-lt3, then-text-lt3-via-else-text-lt3+then-text-3}
 

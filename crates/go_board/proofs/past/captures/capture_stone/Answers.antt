@@ -1,6 +1,6 @@
 use Rattle.std.proofs.Common.{sym, ◌∙◌}
 use Rattle.go_board.proofs.CaptureLemmas.{reaches_liberty}
-use Rattle.go_board.proofs.past.captures.take_stone.Goals as goal
+use Rattle.go_board.proofs.past.captures.capture_stone.Goals as goal
 
 pub returns-then-has_free_neighbour-clause-settled : goal.returns-then-has_free_neighbour-clause-settled
 returns-then-has_free_neighbour-clause-settled c =

@@ -10,7 +10,7 @@ use Rattle.go_board.specs.inner.Sweep.{IsWithout}
 use Rattle.go_board.specs.inner.Changes.{LeadBackwards}
 use Rattle.go_board.proofs.SweepLemmas.{InTaken, lowest_left, next_part, next_smaller, taken_more}
 use Rattle.go_board.proofs.BackwardsLemmas.{backwards-put}
-use Rattle.go_board.proofs.past.captures.take_columns.Goals as goal
+use Rattle.go_board.proofs.past.captures.capture_columns.Goals as goal
 
 pub returns-then-not-push_in_room-clause-logged : goal.returns-then-not-push_in_room-clause-logged
 returns-then-not-push_in_room-clause-logged c = λ start h front was.

@@ -4,7 +4,7 @@ use Rattle.go_board.specs.Grid.{Grid}
 use Rattle.go_board.specs.inner.Sweep.{IsWithout}
 use Rattle.go_board.specs.inner.Changes.{LeadBackwards}
 use Rattle.go_board.proofs.SweepLemmas.{InRowsBefore}
-use Rattle.go_board.proofs.past.captures.take_rows.Given as goal
+use Rattle.go_board.proofs.past.captures.capture_rows.Given as goal
 
 abbrev pub invariant-rows : goal.invariant-rows
 invariant-rows l = record {

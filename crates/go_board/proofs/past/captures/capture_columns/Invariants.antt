@@ -5,7 +5,7 @@ use Rattle.go_board.specs.inner.Rows.{has_bit, IsPart}
 use Rattle.go_board.specs.inner.Sweep.{IsWithout}
 use Rattle.go_board.specs.inner.Changes.{LeadBackwards}
 use Rattle.go_board.proofs.SweepLemmas.{InTaken}
-use Rattle.go_board.proofs.past.captures.take_columns.Given as goal
+use Rattle.go_board.proofs.past.captures.capture_columns.Given as goal
 
 abbrev pub invariant-columns : goal.invariant-columns
 invariant-columns l = record {

@@ -1,14 +1,14 @@
 -- One step up the way counts one node more.
 use Rattle.std.proofs.Common.{rules}
 use Rattle.sgf_lines.proofs.Loops.{count_begins, counts, count_fits, counted_all, height_goes_down}
-use Rattle.sgf_lines.proofs.seek.depth.Goals as goal
+use Rattle.sgf_lines.proofs.seek.way_length.Goals as goal
 
 pub loop-node-init : goal.loop-node-init
 loop-node-init c = count_begins c.args.collection.now c.args.leaf c.requires.within c.requires.is_leaf
 
-pub overflow_add-depth : goal.overflow_add-depth
-overflow_add-depth c =
-    let fits = count_fits c.args.collection.now c.args.leaf c.in-Some.number c.loop-node.depth c.loop-node.node c.loop-node.invariant c.in-Some.is in
+pub overflow_add-length : goal.overflow_add-length
+overflow_add-length c =
+    let fits = count_fits c.args.collection.now c.args.leaf c.in-Some.number c.loop-node.length c.loop-node.node c.loop-node.invariant c.in-Some.is in
     search rules
 
 pub loop-node-smaller : goal.loop-node-smaller
@@ -16,7 +16,7 @@ loop-node-smaller c = height_goes_down c.args.collection.now c.in-Some.number c.
 
 pub loop-node-preserved : goal.loop-node-preserved
 loop-node-preserved c =
-    counts c.args.collection.now c.args.leaf c.in-Some.number c.loop-node.depth c.loop-node.node c.parent-node.result c.loop-node.invariant c.in-Some.is c.parent-node.ensures
+    counts c.args.collection.now c.args.leaf c.in-Some.number c.loop-node.length c.loop-node.node c.parent-node.result c.loop-node.invariant c.in-Some.is c.parent-node.ensures
 
 pub returns : goal.returns
-returns c = counted_all c.args.collection.now c.args.leaf c.loop-node.depth c.loop-node.node c.loop-node.invariant c.in_default.is
+returns c = counted_all c.args.collection.now c.args.leaf c.loop-node.length c.loop-node.node c.loop-node.invariant c.in_default.is
