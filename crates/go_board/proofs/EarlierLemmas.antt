@@ -1,7 +1,7 @@
 -- A referee has as many earlier states as it keeps something of.
-use Rattle.std.proofs.Common.{◌≡◌, ℕ, suc, ◌+◌, ◌≤◌, Bool, true, false, Option, List, [], ◌∷◌, length, reverse, refl, sym, ap, subst, ◌∙◌, arith, IsTrue}
+use Rattle.std.proofs.Common.{◌≡◌, ℕ, suc, ◌+◌, ◌≤◌, Bool, true, false, Option, List, [], ◌∷◌, ◌++◌, length, reverse, refl, sym, ap, subst, ◌∙◌, arith, IsTrue}
 use Rattle.std.proofs.lemmas.Bool.{false≢true}
-use Rattle.std.proofs.lemmas.List.{length-reverse}
+use Rattle.std.proofs.lemmas.List.{length-reverse, reverse-append}
 use Rattle.go_board.specs.declared.referee.earlier.Earlier.{Earlier}
 use Rattle.go_board.specs.declared.stones.Colour.{Colour}
 use Rattle.go_board.specs.Grid.{Grid}
@@ -16,17 +16,28 @@ length-states_before held (e ∷ es) = ap suc (length-states_before (held_before
 pub length-earlier : (held : List Held) (es : List Earlier) → length (states_before held (reverse es)) ≡ length es
 length-earlier held es = length-states_before held (reverse es) ∙ length-reverse es
 
+-- what is kept of a state is what the referee had of it
+saved_as : (saved : Earlier) (turns : ℕ) (player : Option Colour) (passes : ℕ) (grew : Bool) → saved.turns ≡ turns → saved.player ≡ player → saved.passes ≡ passes → saved.grew ≡ grew
+    → saved ≡ record { turns = turns; player = player; passes = passes; grew = grew }
+saved_as saved turns player passes grew e f g h =
+    ap (λ n. record { turns = n; player = saved.player; passes = saved.passes; grew = saved.grew }) e
+    ∙ ap (λ p. record { turns = turns; player = p; passes = saved.passes; grew = saved.grew }) f
+    ∙ ap (λ n. record { turns = turns; player = player; passes = n; grew = saved.grew }) g
+    ∙ ap (λ b. record { turns = turns; player = player; passes = passes; grew = b }) h
+
 -- what a referee keeps once its past grew by a colouring that was made in place
-pub IsKept-grown : (held now : List Held) (made spare : Grid) (begins : Bool) (SpareIsCurrent : Type 0) (player next : Option Colour) (passes turns turns' : ℕ) (saved : Earlier) (es : List Earlier) → now ≡ record { colouring = made; begins = begins } ∷ held → made.side ≡ (newest_grid held).side → IsKept held spare SpareIsCurrent player passes turns es → saved ≡ record { turns = turns; player = player; passes = passes; grew = true } → turns' ≤ turns + 1 → IsKept now spare (IsTrue false) next 0 turns' (saved ∷ es)
-IsKept-grown held now made spare begins SpareIsCurrent player next passes turns turns' saved es is side kept saved_is few =
-    rw (is, saved_is)
-    (record {
-      one_side = (refl, subst (λ n. HaveSide n held) (sym side) kept.one_side);
-      enough = omega (arith, kept.enough);
-      spare_side = kept.spare_side ∙ sym side;
-      spare_is_current = λ never. absurd (false≢true never);
-      few_passes = omega arith;
-      few_turns = omega (arith, kept.few_turns, few);
-      bounded = (kept.few_passes, kept.few_turns, kept.bounded);
-      from_start = kept.from_start ∙ ap starting (sym side);
-    })
+module _ (held : List Held) (spare : Grid) (SpareIsCurrent : Type 0) (player : Option Colour) (passes turns : ℕ) (earlier : List Earlier) (kept : IsKept held spare SpareIsCurrent player passes turns (reverse earlier))
+    (saved : Earlier) (same_turns : saved.turns ≡ turns) (same_player : saved.player ≡ player) (same_passes : saved.passes ≡ passes) (grew : saved.grew ≡ true) where
+  pub IsKept-grown : (now : List Held) (made : Grid) (begins : Bool) (next : Option Colour) (turns' : ℕ) (earlier' : List Earlier) → now ≡ record { colouring = made; begins = begins } ∷ held → made.side ≡ (newest_grid held).side → earlier' ≡ earlier ++ saved ∷ [] → turns' ≤ turns + 1 → IsKept now spare (IsTrue false) next 0 turns' (reverse earlier')
+  IsKept-grown now made begins next turns' earlier' is side longer few =
+      rw (is, longer, reverse-append earlier (saved ∷ []), saved_as saved turns player passes true same_turns same_player same_passes grew)
+      (record {
+        one_side = (refl, subst (λ n. HaveSide n held) (sym side) kept.one_side);
+        enough = omega (arith, kept.enough);
+        spare_side = kept.spare_side ∙ sym side;
+        spare_is_current = λ never. absurd (false≢true never);
+        few_passes = omega arith;
+        few_turns = omega (arith, kept.few_turns, few);
+        bounded = (kept.few_passes, kept.few_turns, kept.bounded);
+        from_start = kept.from_start ∙ ap starting (sym side);
+      })

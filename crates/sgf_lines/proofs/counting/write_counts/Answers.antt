@@ -5,7 +5,23 @@ use Rattle.std.specs.Io.KnownBytes.{Appends}
 use Rattle.std.proofs.KnownBytes.{Appends-nil, Appends-trans}
 use Rattle.sgf_lines.specs.Counts.{counts_row}
 use Rattle.sgf_lines.proofs.CountAnswers.{row_cut, row_flushed, row_not_flushed, row_pieces, row_end}
+use Rattle.sgf_lines.proofs.counting.write_counts.Given.{Over}
 use Rattle.sgf_lines.proofs.counting.write_counts.Goals as goal
+use Rattle.sgf_lines.proofs.counting.write_counts.Goals.{After-flush}
+
+-- the sink took the whole row, piece after piece
+all_taken : (g : Over) (c : After-flush g) → Appends (g.T.Sink.state c.args.sink.now).taken (g.T.Sink.state c.put_number-3.new.sink).taken (counts_row c.args.counts.now)
+all_taken g c =
+    let counts = c.args.counts.now in
+    let old = g.T.Sink.state c.args.sink.now in
+    let first = g.T.Sink.state c.put_number.new.sink in
+    let second = g.T.Sink.state c.put_number-2.new.sink in
+    let third = g.T.Sink.state c.put_number-3.new.sink in
+    let games = decimal counts.games ++ codes " " in
+    let nodes = decimal counts.nodes ++ codes " " in
+    let lines = decimal counts.lines ++ codes "\n" in
+    let more = Appends-trans first.taken second.taken third.taken nodes lines c.in-Ok-put_number.ensures.0 c.in-Ok-put_number-2.ensures.0 in
+    rw (row_pieces (decimal counts.games) (decimal counts.nodes) (decimal counts.lines)) (Appends-trans old.taken first.taken third.taken games (nodes ++ lines) c.in-Ok.ensures.0 more)
 
 pub returns-in_default-clause-answer : goal.returns-in_default-clause-answer
 returns-in_default-clause-answer g c =
@@ -40,30 +56,10 @@ returns-in_default-put_number-2-clause-answer g c =
 
 pub returns-in-Ok-flush-clause-answer : goal.returns-in-Ok-flush-clause-answer
 returns-in-Ok-flush-clause-answer g c =
-    let counts = c.args.counts.now in
-    let old = g.T.Sink.state c.args.sink.now in
-    let first = g.T.Sink.state c.put_number.new.sink in
-    let second = g.T.Sink.state c.put_number-2.new.sink in
-    let third = g.T.Sink.state c.put_number-3.new.sink in
-    let games = decimal counts.games ++ codes " " in
-    let nodes = decimal counts.nodes ++ codes " " in
-    let lines = decimal counts.lines ++ codes "\n" in
-    let more = Appends-trans first.taken second.taken third.taken nodes lines c.in-Ok-put_number.ensures.0 c.in-Ok-put_number-2.ensures.0 in
-    let all : Appends old.taken third.taken (counts_row counts) =
-    rw (row_pieces (decimal counts.games) (decimal counts.nodes) (decimal counts.lines)) (Appends-trans old.taken first.taken third.taken games (nodes ++ lines) c.in-Ok.ensures.0 more) in
-    row_flushed (counts_row counts) old third (g.T.Sink.state c.flush.new.self) tt all c.in-Ok-flush.ensures
+    row_flushed (counts_row c.args.counts.now) (g.T.Sink.state c.args.sink.now) (g.T.Sink.state c.put_number-3.new.sink) (g.T.Sink.state c.flush.new.self) tt
+    (all_taken g (goal.at.returns-in-Ok-flush-clause-answer g c).After-flush) c.in-Ok-flush.ensures
 
 pub returns-in-Err-clause-answer : goal.returns-in-Err-clause-answer
 returns-in-Err-clause-answer g c =
-    let counts = c.args.counts.now in
-    let old = g.T.Sink.state c.args.sink.now in
-    let first = g.T.Sink.state c.put_number.new.sink in
-    let second = g.T.Sink.state c.put_number-2.new.sink in
-    let third = g.T.Sink.state c.put_number-3.new.sink in
-    let games = decimal counts.games ++ codes " " in
-    let nodes = decimal counts.nodes ++ codes " " in
-    let lines = decimal counts.lines ++ codes "\n" in
-    let more = Appends-trans first.taken second.taken third.taken nodes lines c.in-Ok-put_number.ensures.0 c.in-Ok-put_number-2.ensures.0 in
-    let all : Appends old.taken third.taken (counts_row counts) =
-    rw (row_pieces (decimal counts.games) (decimal counts.nodes) (decimal counts.lines)) (Appends-trans old.taken first.taken third.taken games (nodes ++ lines) c.in-Ok.ensures.0 more) in
-    row_not_flushed (counts_row counts) old third (g.T.Sink.state c.flush.new.self) all c.in-Err.ensures
+    row_not_flushed (counts_row c.args.counts.now) (g.T.Sink.state c.args.sink.now) (g.T.Sink.state c.put_number-3.new.sink) (g.T.Sink.state c.flush.new.self)
+    (all_taken g (goal.at.returns-in-Err-clause-answer g c).After-flush) c.in-Err.ensures

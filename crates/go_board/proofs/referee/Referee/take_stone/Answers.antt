@@ -1,5 +1,4 @@
-use Rattle.std.proofs.Common.{◌≡◌, ◌+◌, ◌++◌, [], ◌∷◌, true, false, Some, IsTrue, reverse, ap, sym, ◌∙◌, arith, rules}
-use Rattle.std.proofs.lemmas.List.{reverse-append}
+use Rattle.std.proofs.Common.{◌≡◌, ◌+◌, ◌++◌, [], ◌∷◌, false, Some, IsTrue, ap, sym, ◌∙◌, arith, rules}
 use Rattle.go_board.specs.Clearing.{play}
 use Rattle.go_board.specs.Past.{newest_grid}
 use Rattle.go_board.specs.State.{States}
@@ -33,14 +32,7 @@ invariant_of-self-2 g c =
     let held = g.P.Past.held was.past in
     let made = play (newest_grid held) c.args.colour c.args.point in
     let now : g.P.Past.held c.try_stone.new.self ≡ record { colouring = made; begins = false } ∷ held = rw c.if-not-branch.false at c.in_ok-try_stone.ensures.ok in
-    let turns : kept.result.turns ≡ was.turns = kept.ensures.turns ∙ sym (ap (λ (states : States). states.present.turns) c.self.view_is) in
-    let player : kept.result.player ≡ was.player = kept.ensures.player ∙ sym (ap (λ (states : States). states.present.player) c.self.view_is) in
-    let passes : kept.result.passes ≡ was.passes = kept.ensures.passes ∙ sym (ap (λ (states : States). states.present.passes) c.self.view_is) in
-    let is : kept.result ≡ record { turns = was.turns; player = was.player; passes = was.passes; grew = true } =
-    ap (λ n. record { turns = n; player = kept.result.player; passes = kept.result.passes; grew = kept.result.grew }) turns
-    ∙ ap (λ p. record { turns = was.turns; player = p; passes = kept.result.passes; grew = kept.result.grew }) player
-    ∙ ap (λ n. record { turns = was.turns; player = was.player; passes = n; grew = kept.result.grew }) passes
-    ∙ ap (λ b. record { turns = was.turns; player = was.player; passes = was.passes; grew = b }) kept.ensures.grew in
     let items : c.push.new.self.items ≡ was.earlier.items ++ kept.result ∷ [] = search rules in
-    let earlier : reverse c.push.new.self.items ≡ kept.result ∷ reverse was.earlier.items = ap reverse items ∙ reverse-append was.earlier.items (kept.result ∷ []) in
-    rw earlier (IsKept-grown held (g.P.Past.held c.try_stone.new.self) made was.spare false (IsTrue was.spare_is_current) was.player (Some c.opponent.result) was.passes was.turns (was.turns + 1) kept.result (reverse was.earlier.items) now (side_play (newest_grid held) c.args.colour c.args.point) c.self.invariant is (omega arith))
+    IsKept-grown held was.spare (IsTrue was.spare_is_current) was.player was.passes was.turns was.earlier.items c.self.invariant
+    kept.result (kept.ensures.turns ∙ sym (ap (λ (states : States). states.present.turns) c.self.view_is)) (kept.ensures.player ∙ sym (ap (λ (states : States). states.present.player) c.self.view_is)) (kept.ensures.passes ∙ sym (ap (λ (states : States). states.present.passes) c.self.view_is)) kept.ensures.grew
+    (g.P.Past.held c.try_stone.new.self) made false (Some c.opponent.result) (was.turns + 1) c.push.new.self.items now (side_play (newest_grid held) c.args.colour c.args.point) items (omega arith)
