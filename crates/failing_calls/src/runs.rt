@@ -165,11 +165,11 @@ fn has_first(bytes: &[u8], records: &[&[u8]], lines: u64) -> bool {
         if rest.len() < record.len() {
             return false;
         }
-        let (front, behind) = rest.split_at(record.len());
+        let (front, after) = rest.split_at(record.len());
         if front != *record {
             return false;
         }
-        rest = behind;
+        rest = after;
     }
     rest.is_empty()
 }

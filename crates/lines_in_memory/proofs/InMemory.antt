@@ -2,7 +2,7 @@
 use Rattle.std.proofs.Common.{◌≡◌, ℕ, List, [], ◌++◌, Option, Some, None, Ok, sym, ap, ◌∙◌, append-nil}
 use Rattle.std.specs.Io.KnownBytes.{Appends, Consumes, IsAtEnd}
 use Rattle.sgf_lines.specs.Lines.{Line}
-use Rattle.sgf_lines.specs.Output.{output}
+use Rattle.sgf_lines.specs.Record.{output}
 use Rattle.sgf_lines.specs.Ends.{SourceState, SinkState}
 use Rattle.sgf_lines.specs.Answer.{HasPage, IsRun}
 use Rattle.sgf_lines.specs.declared.options.Options.{Options}

@@ -3,7 +3,7 @@
 
 ghost use Rattle.std.specs.Prelude.{◌≡◌, List, IfOk};
 ghost use Rattle.sgf_lines.specs.Lines.{Line};
-ghost use Rattle.sgf_lines.specs.Output.{output};
+ghost use Rattle.sgf_lines.specs.Record.{output};
 ghost use Rattle.sgf_lines.specs.Answer.{HasPage};
 
 use sgf_lines::{Options, RunFault, SliceSource, WriteSink, split};

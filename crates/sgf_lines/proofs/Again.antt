@@ -151,19 +151,19 @@ pub flat_map-append : {A : Type 0} (f : A → List ℕ) (xs ys : List A) → fla
 flat_map-append f [] ys = refl
 flat_map-append f (x ∷ xs) ys = ap (λ t. f x ++ t) (flat_map-append f xs ys) ∙ sym (append_assoc (f x) (flat_map f xs) (flat_map f ys))
 
-records_of_game : (number : ℕ) (ways : List (List Node)) → flat_map (λ line. sgf_record line.nodes) (lines_of_game number ways) ≡ flat_map sgf_record ways
+records_of_game : (number : ℕ) (variations : List (List Node)) → flat_map (λ line. sgf_record line.nodes) (lines_of_game number variations) ≡ flat_map sgf_record variations
 records_of_game number [] = refl
 records_of_game number (w ∷ ws) = ap (λ t. sgf_record w ++ t) (records_of_game number ws)
 
 records_of_lines : (number : ℕ) (g : Games) → flat_map (λ line. sgf_record line.nodes) (lines_from number g) ≡ flat_map sgf_record (node_lines g)
 records_of_lines number no_games = refl
 records_of_lines number (game first more below after) =
-    let ways = through (first ∷ more) (node_lines below) in
+    let variations = through (first ∷ more) (node_lines below) in
     let text = λ (line : Line). sgf_record line.nodes in
-    flat_map-append text (lines_of_game number ways) (lines_from (number + 1) after)
-    ∙ ap (λ t. t ++ flat_map text (lines_from (number + 1) after)) (records_of_game number ways)
-    ∙ ap (λ t. flat_map sgf_record ways ++ t) (records_of_lines (number + 1) after)
-    ∙ sym (flat_map-append sgf_record ways (node_lines after))
+    flat_map-append text (lines_of_game number variations) (lines_from (number + 1) after)
+    ∙ ap (λ t. t ++ flat_map text (lines_from (number + 1) after)) (records_of_game number variations)
+    ∙ ap (λ t. flat_map sgf_record variations ++ t) (records_of_lines (number + 1) after)
+    ∙ sym (flat_map-append sgf_record variations (node_lines after))
 
 -- the sgf output of the games is spelled by a collection with that output
 again_of : (ls : List (List Node)) → ls ≢ [] → Each IsSpelledLine ls

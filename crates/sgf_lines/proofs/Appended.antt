@@ -9,13 +9,13 @@ use Rattle.go_board.specs.State.{State}
 use Rattle.sgf_lines.specs.declared.options.Form.TheVariants.{List as list_form}
 use Rattle.sgf_lines.specs.declared.verdict.Verdict.{Verdict}
 use Rattle.sgf_lines.specs.Lines.{Line, through, node_lines, lines_of_game, lines_from, lines, last_number, place_of}
-use Rattle.sgf_lines.specs.JudgedGames.{GameKind, other_game, no_board, board, game_kind, root_properties}
+use Rattle.sgf_lines.specs.JudgedGames.{GameKind, not_go, bad_size, board, game_kind, root_properties}
 use Rattle.sgf_lines.specs.Step.{step}
 use Rattle.sgf_lines.specs.Walk.{TakenNode, IllegalNode, Walk, before_root, stepped, next_by, next, walk}
 use Rattle.sgf_lines.specs.Verdict.{verdict_with, verdict_by, verdict_of}
 use Rattle.sgf_lines.specs.ListRow.{verdict_text}
 use Rattle.sgf_lines.specs.Record.{record_of}
-use Rattle.sgf_lines.specs.Appending.{raised_verdict, raised_row}
+use Rattle.sgf_lines.specs.Appending.{raised_verdict, raised_record}
 use Rattle.sgf_lines.proofs.Lists.{Each, each_append, each_through}
 use Rattle.sgf_lines.proofs.Named.{map-through}
 use Rattle.sgf_lines.proofs.Again.{flat_map-append}
@@ -128,8 +128,8 @@ verdict_with-raised by s None = refl
 verdict_with-raised by s (Some met) = refl
 
 verdict_by-raised : (by : ℕ) (o : GameKind) (nodes : List Node) → verdict_by o (map (raised_node by) nodes) ≡ raised_verdict by (verdict_by o nodes)
-verdict_by-raised by other_game nodes = refl
-verdict_by-raised by no_board nodes = refl
+verdict_by-raised by not_go nodes = refl
+verdict_by-raised by bad_size nodes = refl
 verdict_by-raised by (board side) nodes =
     ap (λ w. verdict_with w.state w.illegal) (walk-raised by (before_root side) nodes)
     ∙ verdict_with-raised by (walk side nodes).state (walk side nodes).illegal
@@ -138,7 +138,7 @@ verdict-raised : (by : ℕ) (nodes : List Node) → verdict_of (map (raised_node
 verdict-raised by nodes =
     ap (λ ps. verdict_by (game_kind ps) (map (raised_node by) nodes)) (root-raised by nodes) ∙ verdict_by-raised by (game_kind (root_properties nodes)) nodes
 
-row-raised : (by games : ℕ) (line : Line) → IsFilled line → record_of list_form (raised_line by games line) ≡ raised_row by games line
+row-raised : (by games : ℕ) (line : Line) → IsFilled line → record_of list_form (raised_line by games line) ≡ raised_record by games line
 row-raised by games line filled =
     let text = λ (place size : ℕ) (v : Verdict). (decimal place ++ codes " " ++ decimal (games + line.game_number) ++ codes " " ++ decimal size
     ++ codes " " ++ verdict_text v) ++ codes "\n" in
@@ -148,14 +148,14 @@ row-raised by games line filled =
     ∙ ap (λ v. text (by + place_of line) (length line.nodes) v) (verdict-raised by line.nodes)
 
 rows-raised : (by games : ℕ) (ls : List Line) → Each IsFilled ls
-    → flat_map (λ line. record_of list_form line) (map (raised_line by games) ls) ≡ flat_map (λ line. raised_row by games line) ls
+    → flat_map (λ line. record_of list_form line) (map (raised_line by games) ls) ≡ flat_map (λ line. raised_record by games line) ls
 rows-raised by games [] h = refl
 rows-raised by games (l ∷ ls) h =
     ap (λ t. t ++ flat_map (λ line. record_of list_form line) (map (raised_line by games) ls)) (row-raised by games l h.0)
-    ∙ ap (λ t. raised_row by games l ++ t) (rows-raised by games ls h.1)
+    ∙ ap (λ t. raised_record by games l ++ t) (rows-raised by games ls h.1)
 
 pub rows_joined : (c d : Games) (by : ℕ) → flat_map (λ line. record_of list_form line) (lines (joined c (raised by d)))
-    ≡ flat_map (λ line. record_of list_form line) (lines c) ++ flat_map (λ line. raised_row by (game_count c) line) (lines d)
+    ≡ flat_map (λ line. record_of list_form line) (lines c) ++ flat_map (λ line. raised_record by (game_count c) line) (lines d)
 rows_joined c d by =
     let row = λ (line : Line). record_of list_form line in
     let games = game_count c in

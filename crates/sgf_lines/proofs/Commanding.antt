@@ -13,7 +13,7 @@ use Rattle.go_board.specs.State.{State, with_area, set_up, turned}
 use Rattle.go_board.specs.Reason.{reason_of}
 use Rattle.sgf_lines.specs.NodeContents.{Move, Stones, moves, stones, players}
 use Rattle.sgf_lines.specs.NodeValues.{move_value, operations, last_player}
-use Rattle.sgf_lines.specs.Step.{side_in, taken, move_step, setup_step, step_by, step}
+use Rattle.sgf_lines.specs.Step.{side_in, turn_step, move_step, setup_step, step_by, step}
 use Rattle.sgf_lines.specs.Walk.{TakenNode, IllegalNode, Walk, stepped, next_by, next}
 
 -- a step leaves the side of the board
@@ -34,13 +34,13 @@ side-turned s k (Stone p) = refl
 side-same : (s t : State) (u : State) → side_in u ≡ side_in s → (let r : Result State Reason = Ok u in r ≡ Ok t) → side_in t ≡ side_in s
 side-same s t u side e = let same : u ≡ t = cc in ap side_in (sym same) ∙ side
 
-side-taken : (s t : State) (k : Colour) (x : Play) (r : Option Reason) → taken s k x r ≡ Ok t → side_in t ≡ side_in s
-side-taken s t k x (Some r) e = absurd cc
-side-taken s t k x None e = side-same s t (turned s k x) (side-turned s k x) e
+side-turn_step : (s t : State) (k : Colour) (x : Play) (r : Option Reason) → turn_step s k x r ≡ Ok t → side_in t ≡ side_in s
+side-turn_step s t k x (Some r) e = absurd cc
+side-turn_step s t k x None e = side-same s t (turned s k x) (side-turned s k x) e
 
 side-move : (s t : State) (k : Colour) (x : Option Play) → move_step s k x ≡ Ok t → side_in t ≡ side_in s
 side-move s t k None e = absurd cc
-side-move s t k (Some x) e = side-taken s t k x (reason_of s k x) e
+side-move s t k (Some x) e = side-turn_step s t k x (reason_of s k x) e
 
 side-setup : (s t : State) (o : Option (List SetupOp)) (last : Option (Option Colour)) → setup_step s o last ≡ Ok t → side_in t ≡ side_in s
 side-setup s t None last e = absurd cc

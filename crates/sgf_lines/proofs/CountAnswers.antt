@@ -11,7 +11,7 @@ use Rattle.sgf_tree.specs.Spelling.{Spells}
 use Rattle.sgf_tree.specs.Refusal.{IsFaultyAt}
 use Rattle.sgf_lines.specs.Ends.{SourceState, SinkState, Takes, TakesNothing}
 use Rattle.sgf_lines.specs.Answer.{IsWhole}
-use Rattle.sgf_lines.specs.Counts.{counts_of, AnswersCount, IsCount, IsRow}
+use Rattle.sgf_lines.specs.Counts.{counts_of, AnswersCount, IsCount, IsWriting}
 use Rattle.sgf_lines.specs.inner.Running.{IsReading, PutsAll}
 use Rattle.sgf_lines.specs.declared.counting.Counts.{Counts}
 use Rattle.sgf_lines.specs.declared.fault.RunFault.{RunFault}
@@ -43,7 +43,7 @@ module _ {A : Type 0} (source new_source : SourceState) (text : List ℕ) (u : A
 
 -- the sink failed within a piece of the row
 pub row_cut : {A : Type 0} (row : List ℕ) (old now new : SinkState) (done piece rest : List ℕ) (n : ℕ) → row ≡ done ++ (piece ++ rest) → Appends old.taken now.taken done
-    → Appends now.taken new.taken (take n piece) → IsRow {A = A} row old new (Err (Write 0))
+    → Appends now.taken new.taken (take n piece) → IsWriting {A = A} row old new (Err (Write 0))
 row_cut row old now new done piece rest n is front more =
     let cut : done ++ (piece ++ rest) ≡ (done ++ take n piece) ++ (drop n piece ++ rest) =
     ap (λ bs. done ++ (bs ++ rest)) (sym (take-append-drop n piece)) ∙ ap (λ bs. done ++ bs) (append_assoc (take n piece) (drop n piece) rest)
@@ -55,7 +55,7 @@ row_cut row old now new done piece rest n is front more =
     }
 
 -- the whole row was taken, and the flush was answered
-pub row_flushed : {A : Type 0} (row : List ℕ) (old now new : SinkState) (u : A) → Appends old.taken now.taken row → Takes now new [] → IsRow {A = A} row old new (Ok u)
+pub row_flushed : {A : Type 0} (row : List ℕ) (old now new : SinkState) (u : A) → Appends old.taken now.taken row → Takes now new [] → IsWriting {A = A} row old new (Ok u)
 row_flushed row old now new u h f = record {
   taken = row;
   takes = rw append-nil at (Appends-trans old.taken now.taken new.taken row [] h f.taken);
@@ -63,7 +63,7 @@ row_flushed row old now new u h f = record {
 }
 
 -- and where the flush failed
-pub row_not_flushed : {A : Type 0} (row : List ℕ) (old now new : SinkState) → Appends old.taken now.taken row → TakesNothing now new → IsRow {A = A} row old new (Err (Write 0))
+pub row_not_flushed : {A : Type 0} (row : List ℕ) (old now new : SinkState) → Appends old.taken now.taken row → TakesNothing now new → IsWriting {A = A} row old new (Err (Write 0))
 row_not_flushed row old now new h f = record {
   taken = row;
   takes = kept old.taken now.taken new.taken row h f.taken;

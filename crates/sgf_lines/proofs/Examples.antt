@@ -4,7 +4,7 @@ use Rattle.std.specs.Prelude.{codes}
 use Rattle.sgf_tree.specs.Tree.{Property, Node, Games, no_games, game}
 use Rattle.sgf_lines.specs.Lines.{lines, place_of}
 use Rattle.sgf_lines.specs.Paths.{paths}
-use Rattle.sgf_lines.specs.Output.{sgf_output}
+use Rattle.sgf_lines.specs.Record.{sgf_output}
 
 abbrev one : List ℕ → List ℕ → Property
 one name value = record { name = name; first = value; more = [] }

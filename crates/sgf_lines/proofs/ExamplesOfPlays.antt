@@ -10,7 +10,7 @@ use Rattle.go_board.specs.State.{with_area}
 use Rattle.go_board.specs.Values.{point_value, rect_value}
 use Rattle.sgf_lines.specs.Lines.{lines}
 use Rattle.sgf_lines.specs.Page.{page}
-use Rattle.sgf_lines.specs.Plays.{all_touched, all_judged}
+use Rattle.sgf_lines.specs.Plays.{touched_places, all_judged_places}
 use Rattle.sgf_lines.specs.RunPlays.{plays_of}
 use Rattle.sgf_lines.specs.declared.options.Form.{Form}
 use Rattle.sgf_lines.specs.declared.options.Form.TheVariants.{List as list_form, Sgf as sgf_form, Gtp as gtp_form}
@@ -27,10 +27,10 @@ variations =
     no_games))
     no_games
 
-each_node_is_touched : all_touched (lines variations) ≡ 1 ∷ 8 ∷ 16 ∷ 22 ∷ []
+each_node_is_touched : touched_places (lines variations) ≡ 1 ∷ 8 ∷ 16 ∷ 22 ∷ []
 each_node_is_touched = refl
 
-each_node_is_judged_once : all_judged (lines variations) ≡ 1 ∷ 8 ∷ 16 ∷ 22 ∷ []
+each_node_is_judged_once : all_judged_places (lines variations) ≡ 1 ∷ 8 ∷ 16 ∷ 22 ∷ []
 unfolding reaching_within spread points reaches clear cleared_cell play score_of counts_for with_area point_value rect_value
 each_node_is_judged_once = refl
 
@@ -62,7 +62,7 @@ suicide =
     no_games
 
 -- nothing is judged after the first node that isn't allowed
-up_to_the_illegal_node : all_judged (lines suicide) ≡ 1 ∷ 7 ∷ []
+up_to_the_illegal_node : all_judged_places (lines suicide) ≡ 1 ∷ 7 ∷ []
 unfolding reaching_within spread points reaches clear cleared_cell play score_of counts_for with_area point_value rect_value
 up_to_the_illegal_node = refl
 
@@ -93,16 +93,16 @@ unfolding reaching_within spread points reaches clear cleared_cell play score_of
 each_game_is_played = refl
 
 -- (;GM[2](;)(;))
-abbrev other_game : Games
-other_game =
+abbrev not_go : Games
+not_go =
     game (node 1 (codes "GM") (codes "2")) []
     (game (record { place = 8; properties = [] }) [] no_games
     (game (record { place = 11; properties = [] }) [] no_games
     no_games))
     no_games
 
-another_game_is_not_judged : all_judged (lines other_game) ≡ []
+another_game_is_not_judged : all_judged_places (lines not_go) ≡ []
 another_game_is_not_judged = refl
 
-another_game_is_not_played : plays list_form None other_game ≡ Some 0
+another_game_is_not_played : plays list_form None not_go ≡ Some 0
 another_game_is_not_played = refl

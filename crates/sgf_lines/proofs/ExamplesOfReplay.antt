@@ -1,4 +1,4 @@
--- Small scripts, taken.
+-- Small scripts, followed.
 use Rattle.std.proofs.Common.{◌≡◌, [], ◌∷◌, codes, Some, None, refl}
 use Rattle.go_board.specs.declared.stones.Cell.TheVariants.{Black, Empty}
 use Rattle.go_board.specs.declared.stones.Colour.TheVariants.{Black as BlackPlayer}
@@ -6,20 +6,20 @@ use Rattle.go_board.specs.Grid.{empty_grid}
 use Rattle.go_board.specs.Point.{points}
 use Rattle.go_board.specs.Reaching.{spread, reaching_within, reaches}
 use Rattle.go_board.specs.Clearing.{cleared_cell, clear, play}
-use Rattle.sgf_lines.specs.Replay.{plays, leaves, words, command_of, point_named, replayed}
+use Rattle.sgf_lines.specs.Replay.{plays_stone, does_nothing, words, command_of, point_named, replayed}
 
 -- the corner point is `A2` on a side of 2, in either case
-reads_plays : command_of 2 (words (codes "play B A2")) ≡ plays BlackPlayer (record { col = 0; row = 0 })
-reads_plays = refl
+reads_stones : command_of 2 (words (codes "play B A2")) ≡ plays_stone BlackPlayer (record { col = 0; row = 0 })
+reads_stones = refl
 
-reads_either_case : command_of 19 (words (codes "play black j1 # the ninth column")) ≡ plays BlackPlayer (record { col = 8; row = 18 })
+reads_either_case : command_of 19 (words (codes "play black j1 # the ninth column")) ≡ plays_stone BlackPlayer (record { col = 8; row = 18 })
 reads_either_case = refl
 
-leaves_passes : command_of 19 (words (codes "play B pass")) ≡ leaves
-leaves_passes = refl
+passes_do_nothing : command_of 19 (words (codes "play B pass")) ≡ does_nothing
+passes_do_nothing = refl
 
-leaves_comments : command_of 19 (words (codes "# clear_board")) ≡ leaves
-leaves_comments = refl
+comments_do_nothing : command_of 19 (words (codes "# clear_board")) ≡ does_nothing
+comments_do_nothing = refl
 
 no_such_point : point_named 2 (codes "C1") ≡ None
 no_such_point = refl

@@ -8,7 +8,7 @@ use Rattle.sgf_lines.specs.Lines.{through, last_number}
 use Rattle.sgf_lines.specs.Paths.{number_lines, paths_of_game, paths_from, paths}
 use Rattle.sgf_lines.specs.inner.Following.{first_after, Continues}
 use Rattle.sgf_lines.proofs.Climbing.{last_number-append}
-use Rattle.sgf_lines.proofs.Ways.{last_number-range, no_ways}
+use Rattle.sgf_lines.proofs.PathsTo.{last_number-range, no_ways}
 
 -- paths that follow one another, after the path `old` and from the node `next` on, up to the path `last` and the node `end`
 pub data Follow : ℕ → List ℕ → List (List ℕ) → ℕ → List ℕ → Type 0 where

@@ -20,8 +20,13 @@ use Rattle.sgf_lines.specs.declared.contents.Kind.{Kind}
 use Rattle.sgf_lines.specs.declared.contents.Kind.TheVariants.{Move as move_kind, Stones as stones_kind, Player as player_kind, Comment as comment_kind}
 use Rattle.sgf_lines.specs.NodeContents.{Move, Stones, moves_in, stones_in, players_in, is_named, first_value}
 use Rattle.sgf_lines.specs.NodeValues.{player_value, operation, operations, last_player}
-use Rattle.sgf_lines.specs.inner.Contents.{Lists, empty_lists, combined, kind_of, lists_by, lists_in, AreMoves, AreTold, IsContents, IsGathered}
+use Rattle.sgf_lines.specs.inner.Contents.{Lists, empty_lists, combined, kind_of, lists_of_kind, lists_in, AreMoves, AreTold, IsContents, IsGathered}
 use Rattle.sgf_lines.specs.inner.WithoutSetup.{first_comment}
+
+-- values of a kind that the referee or a script asks for, or of none
+abbrev pub lists_by : Option Kind → List (List ℕ) → Lists
+lists_by (Some kind) raws = lists_of_kind kind raws
+lists_by None raws = empty_lists
 
 -- one operation before others, and after them
 abbrev before_all : Option SetupOp → Option (List SetupOp) → Option (List SetupOp)

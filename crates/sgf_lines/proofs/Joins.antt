@@ -1,4 +1,4 @@
--- Texts that are appended one behind the other.
+-- Texts that are appended one after the other.
 use Rattle.std.proofs.Common.{◌≡◌, ℕ, zero, suc, ◌+◌, ◌<◌, ◌≤◌, List, [], ◌∷◌, ◌++◌, length, take, map, slice_get, Option, Some, refl, sym, ap, ◌∙◌, arith, append_assoc, add-one, append-nil, get_or, Result, Ok, Err}
 use Rattle.std.specs.Prelude.{OnOk}
 use Rattle.std.proofs.lemmas.List.{take_all}
@@ -33,7 +33,7 @@ as_many f [] (p ∷ ps) e = absurd cc
 as_many f (m ∷ ms) [] e = absurd cc
 as_many f (m ∷ ms) (p ∷ ps) e = ap suc (as_many f ms ps (cc))
 
--- the last bytes, behind all elements
+-- the last bytes, after all elements
 pub ends : {X E : Type 0} (f : X → List ℕ) (r : Result (Unit {0}) E) (old front tail : List ℕ) (xs : List X) (n : ℕ) (now new : List ℕ) → length xs ≤ n
     → now ≡ old ++ (front ++ flat_map f (take n xs)) → OnOk r (new ≡ now ++ tail) → OnOk r (new ≡ old ++ (front ++ (flat_map f xs ++ tail)))
 ends f (Ok u) old front tail xs n now new le now_is new_is =

@@ -9,17 +9,17 @@ use Rattle.sgf_lines.specs.declared.verdict.Verdict.{Verdict}
 use Rattle.sgf_lines.specs.Lines.{last_number}
 use Rattle.sgf_lines.specs.Paths.{leaf_of}
 use Rattle.sgf_lines.specs.Verdict.{verdict_of, IsVerdictAt}
-use Rattle.sgf_lines.specs.inner.Ways.{IsWayTo}
+use Rattle.sgf_lines.specs.inner.PathTo.{IsPathTo}
 use Rattle.sgf_lines.specs.inner.Standing.{lines_before}
 use Rattle.sgf_lines.proofs.Climbing.{last-way}
-use Rattle.sgf_lines.proofs.Positions.{given_line}
+use Rattle.sgf_lines.proofs.CursorStates.{given_line}
 use Rattle.sgf_lines.proofs.Named.{line_at}
 use Rattle.sgf_lines.proofs.Standings.{within_way}
 
-pub all_within : (c : Games) (leaf : ℕ) (numbers : List ℕ) → IsWayTo c (Some leaf) numbers → All (λ n. n < node_count c) numbers
+pub all_within : (c : Games) (leaf : ℕ) (numbers : List ℕ) → IsPathTo c (Some leaf) numbers → All (λ n. n < node_count c) numbers
 all_within c leaf numbers way = All-from_recursion (λ n. n < node_count c) numbers (within_way way)
 
-pub judged_at : (c : Games) (leaf : ℕ) (numbers : List ℕ) (r : Result Verdict MemoryFault) → leaf < node_count c → IsLeaf c leaf → IsWayTo c (Some leaf) numbers
+pub judged_at : (c : Games) (leaf : ℕ) (numbers : List ℕ) (r : Result Verdict MemoryFault) → leaf < node_count c → IsLeaf c leaf → IsPathTo c (Some leaf) numbers
     → ((nodes : List Node) → map Some nodes ≡ map (node_at c) numbers → IfOk r (λ v. v ≡ verdict_of nodes)) → IfOk r (IsVerdictAt c leaf)
 judged_at c leaf numbers (Err fault) lt is_leaf way h = tt
 judged_at c leaf numbers (Ok v) lt is_leaf way h =

@@ -6,7 +6,7 @@ use Rattle.sgf_tree.specs.Tree.{Node}
 use Rattle.go_board.specs.declared.reason.Reason.{Reason}
 use Rattle.go_board.specs.State.{State}
 use Rattle.sgf_lines.specs.Step.{step}
-use Rattle.sgf_lines.specs.JudgedGames.{GameKind, other_game, no_board, board, game_kind, root_properties}
+use Rattle.sgf_lines.specs.JudgedGames.{GameKind, not_go, bad_size, board, game_kind, root_properties}
 use Rattle.sgf_lines.specs.Walk.{TakenNode, IllegalNode, Walk, before_root, stepped, next, judged_by}
 use Rattle.sgf_lines.specs.Verdict.{judged_on}
 use Rattle.sgf_lines.proofs.Walking.{after_illegal}
@@ -57,16 +57,16 @@ judged_take w (suc k) (n ∷ ns) = by w.illegal (judged_take (next w n) k ns)
 
 -- the judged nodes are the first ones
 pub judged_front : (said : GameKind) (nodes : List Node) → (m : ℕ) × (judged_on said nodes ≡ take m nodes)
-judged_front other_game nodes = (0, refl)
-judged_front no_board nodes = (0, refl)
+judged_front not_go nodes = (0, refl)
+judged_front bad_size nodes = (0, refl)
 judged_front (board side) nodes = (more_judged (before_root side) nodes, judged_fold (before_root side) nodes)
 
 -- and which of a front they are is seen in it
 judged_of_front : (said : GameKind) (nodes : List Node) (k : ℕ) → take k (judged_on said nodes) ≡ judged_on said (take k nodes)
-judged_of_front other_game nodes zero = refl
-judged_of_front other_game nodes (suc k) = refl
-judged_of_front no_board nodes zero = refl
-judged_of_front no_board nodes (suc k) = refl
+judged_of_front not_go nodes zero = refl
+judged_of_front not_go nodes (suc k) = refl
+judged_of_front bad_size nodes zero = refl
+judged_of_front bad_size nodes (suc k) = refl
 judged_of_front (board side) nodes k =
     ap (take k) (judged_fold (before_root side) nodes) ∙ sym (judged_take (before_root side) k nodes) ∙ sym (judged_fold (before_root side) (take k nodes))
 

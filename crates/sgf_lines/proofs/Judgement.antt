@@ -13,7 +13,7 @@ use Rattle.sgf_lines.proofs.Walking.{StandsAfter, goes_on, next_is, ends_at, aft
 
 goes_along : {s u : State} {ns : List Node} → IsAfter s ns u → (w : Walk) → StandsAfter w s → StandsAfter (fold next w ns) u
 goes_along no_node w h = h
-goes_along (one_node {s = s} {t = t} {n = n} e rest) w h = goes_along rest (next w n) (goes_on w s h n t e)
+goes_along (one_node {from = s} {between = t} {node = n} e rest) w h = goes_along rest (next w n) (goes_on w s h n t e)
 
 at_beginning : (side : ℕ) → StandsAfter (before_root side) (starting side)
 at_beginning side = record { no_illegal = refl; state = refl }

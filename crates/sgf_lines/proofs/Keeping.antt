@@ -11,24 +11,24 @@ use Rattle.sgf_tree.specs.FileOrder.{node_at}
 use Rattle.sgf_tree.specs.declared.fault.MemoryFault.{MemoryFault}
 use Rattle.sgf_lines.specs.Lines.{Line, lines, last_number}
 use Rattle.sgf_lines.specs.Paths.{paths}
-use Rattle.sgf_lines.specs.Cursor.{Position, advanced, shown, IsLine}
-use Rattle.sgf_lines.specs.JudgedGames.{GameKind, other_game, no_board, board, game_kind, root_properties}
+use Rattle.sgf_lines.specs.Cursor.{CursorState, advanced, shown, IsLine}
+use Rattle.sgf_lines.specs.JudgedGames.{GameKind, not_go, bad_size, board, game_kind, root_properties}
 use Rattle.sgf_lines.specs.Walk.{before_root}
 use Rattle.sgf_lines.specs.Verdict.{judged_on}
 use Rattle.sgf_lines.specs.declared.line.LineRef.{LineRef}
 use Rattle.sgf_lines.specs.declared.options.Form.{Form}
 use Rattle.sgf_lines.specs.declared.options.Form.TheVariants.{List as list_form, Sgf as sgf_form, Gtp as gtp_form}
 use Rattle.sgf_lines.specs.declared.writer.Writer.{Writer}
-use Rattle.sgf_lines.specs.inner.Ways.{IsWayTo, top}
-use Rattle.sgf_lines.specs.inner.Shown.{IsShownAs}
+use Rattle.sgf_lines.specs.inner.PathTo.{IsPathTo, top}
+use Rattle.sgf_lines.specs.inner.Views.{IsShownAs}
 use Rattle.sgf_lines.specs.inner.Followed.{fresh_plays}
 use Rattle.sgf_lines.specs.inner.Following.{Continues, first_after, numbers_of, path_before}
 use Rattle.sgf_lines.specs.RunPlays.{plays_in}
 use Rattle.sgf_lines.specs.inner.Keeping.{KeepsBy, Keeps, KeepsAt, KeepsOnce, KeepsBefore, PlaysIn, PlaysLine, IsShared, HasPlays, left}
 use Rattle.sgf_lines.proofs.Lists.{Each, each_get}
 use Rattle.sgf_lines.proofs.Joins.{as_many}
-use Rattle.sgf_lines.proofs.Ways.{IsDescent, each_path}
-use Rattle.sgf_lines.proofs.Descending.{way_length}
+use Rattle.sgf_lines.proofs.PathsTo.{IsDescent, each_path}
+use Rattle.sgf_lines.proofs.Descending.{path_length}
 use Rattle.sgf_lines.proofs.Standings.{within_way}
 use Rattle.sgf_lines.proofs.Following.{after_new}
 use Rattle.sgf_lines.proofs.Recorded.{path_filled, line_shown_in}
@@ -40,19 +40,19 @@ fresh_within : (nodes : List Node) (shared : ℕ) → fresh_plays nodes shared �
 fresh_within nodes shared = by (game_kind (root_properties nodes))
   where
     by : (o : GameKind) → length (judged_on o nodes) - shared ≤ length nodes - shared
-    by other_game = omega arith
-    by no_board = omega arith
+    by not_go = omega arith
+    by bad_size = omega arith
     by (board side) = omega (arith, within (before_root side) nodes)
 
 -- the line that the cursor shows once it went on
-line_on : (at new : Position) (line : LineRef) → new ≡ advanced at → IsLine new.games (new.index - 1) line → IsLine at.games at.index line
+line_on : (at new : CursorState) (line : LineRef) → new ≡ advanced at → IsLine new.games (new.index - 1) line → IsLine at.games at.index line
 line_on at new line is h =
     let there : IsLine at.games (at.index + 1 - 1) line = rw is at h in
     let less : at.index + 1 - 1 ≡ at.index = omega arith in
     rw less at there
 
 -- its path is the one before the new position
-path_on : (at : Position) (line : LineRef) → IsLine at.games at.index line → path_before (advanced at) ≡ line.path.now
+path_on : (at : CursorState) (line : LineRef) → IsLine at.games at.index line → path_before (advanced at) ≡ line.path.now
 path_on at line h = let one : at.index + 1 ≡ suc at.index = add-one at.index in rw one (ap numbers_of h.path)
 
 some_inj : (xs ys : List Node) → map Some xs ≡ map Some ys → xs ≡ ys
@@ -83,7 +83,7 @@ keeps_on w list_form nodes h = h
 keeps_on w sgf_form nodes h = h
 keeps_on w gtp_form nodes h = h
 
-shares_with : (b : Bool) (at : Position) (w : Writer) (shared : ℕ) (line : LineRef) (l : Line) → KeepsOnce b at w → IsShared b at shared
+shares_with : (b : Bool) (at : CursorState) (w : Writer) (shared : ℕ) (line : LineRef) (l : Line) → KeepsOnce b at w → IsShared b at shared
     → IsLine at.games at.index line → IsShownAs at.games l line → Shares w shared l.nodes
 shares_with true at w shared line l keeps is shows named =
     let new : map Some l.nodes ≡ map (node_at at.games) (path_before (advanced at)) = named.nodes ∙ ap (map (node_at at.games)) (sym (path_on at line shows)) in
@@ -101,7 +101,7 @@ shares_with false at w shared line l keeps is shows named = record {
 }
 
 -- what is kept once a run has begun
-pub keeps_before : (at : Position) (w : Writer) → w.wrote ≡ true → KeepsAt at w → KeepsBefore at w
+pub keeps_before : (at : CursorState) (w : Writer) → w.wrote ≡ true → KeepsAt at w → KeepsBefore at w
 keeps_before at w is h = subst (λ b. KeepsOnce b at w) (sym is) h
 
 -- there is room for its nodes
@@ -118,10 +118,10 @@ last_within c k line h =
     by : (ns : List ℕ) → IsDescent c None ns → (first_after ns ≤ node_count c) × (length ns ≤ first_after ns)
     by [] d = absurd (d.filled refl)
     by (n ∷ ns) d =
-        let way : IsWayTo c (Some (last_number (n ∷ ns))) (n ∷ ns) = d.up [] top in
-        (omega (arith, each_last (λ n. n < node_count c) n ns (within_way way)), way_length way (last_number (n ∷ ns)) refl)
+        let way : IsPathTo c (Some (last_number (n ∷ ns))) (n ∷ ns) = d.up [] top in
+        (omega (arith, each_last (λ n. n < node_count c) n ns (within_way way)), path_length way (last_number (n ∷ ns)) refl)
 
-room_left : (b : Bool) (at : Position) (shared : ℕ) (line : LineRef) → IsShared b at shared → IsLine at.games at.index line
+room_left : (b : Bool) (at : CursorState) (shared : ℕ) (line : LineRef) → IsShared b at shared → IsLine at.games at.index line
     → (length line.path.now - shared) + left true (advanced at) ≤ left b at
 room_left true at shared line is shows =
     let last = last_within at.games at.index line shows in
@@ -137,13 +137,13 @@ room_left false at shared line is shows =
     omega (arith, last.0, last.1, is, ap first_after (path_on at line shows))
 
 -- how many nodes are known of a line that shares so many
-pub known_are : (b : Bool) (at new : Position) (shared known : ℕ) → new ≡ advanced at → Continues (path_before at) shared (path_before new) → MatchBool b (known ≡ shared) (known ≡ 0) → IsShared b at known
+pub known_are : (b : Bool) (at new : CursorState) (shared known : ℕ) → new ≡ advanced at → Continues (path_before at) shared (path_before new) → MatchBool b (known ≡ shared) (known ≡ 0) → IsShared b at known
 known_are true at new shared known on is e =
     subst (λ p. Continues (path_before at) known (path_before p)) on (subst (λ k. Continues (path_before at) k (path_before new)) (sym e) is)
 known_are false at new shared known on is e = e
 
 -- the cursor went on by a line
-module _ (c : Games) (at new : Position) (line : LineRef) (same : at.games ≡ c) (on : new ≡ advanced at) (shows : IsLine new.games (new.index - 1) line) where
+module _ (c : Games) (at new : CursorState) (line : LineRef) (same : at.games ≡ c) (on : new ≡ advanced at) (shows : IsLine new.games (new.index - 1) line) where
   here : IsLine at.games at.index line
   here = line_on at new line on shows
 
@@ -172,20 +172,20 @@ module _ (c : Games) (at new : Position) (line : LineRef) (same : at.games ≡ c
     pub next_keeps : (l : Line) (new_w : Writer) → IsShownAs c l line → Keeps l.nodes new_w → KeepsAt new new_w
     next_keeps l new_w named keeps =
         let path : path_before new ≡ line.path.now = ap path_before on ∙ path_on at line here in
-        let games : new.games ≡ c = ap (λ (p : Position). p.games) on ∙ same in
+        let games : new.games ≡ c = ap (λ (p : CursorState). p.games) on ∙ same in
         record { nodes = l.nodes; named = rw (path, games) named.nodes; keeps = keeps }
 
     pub next_plays : (l : Line) → slice_get (lines at.games) at.index ≡ Some l → HasPlays form b at (plays_in form (fresh_plays l.nodes shared))
     next_plays l found = record { line = l; found = found; shared = shared; shares = is; count_is = refl }
 
 -- what was counted for it
-pub plays_line : {A : Type 0} (form : Form) (b : Bool) (at : Position) (old new : ℕ) (nodes : List Node) (shared : ℕ) (u : A) → HasPlays form b at (plays_in form (fresh_plays nodes shared))
+pub plays_line : {A : Type 0} (form : Form) (b : Bool) (at : CursorState) (old new : ℕ) (nodes : List Node) (shared : ℕ) (u : A) → HasPlays form b at (plays_in form (fresh_plays nodes shared))
     → PlaysIn {E = MemoryFault} form old new nodes shared (Ok u) → (n : ℕ) × HasPlays form b at n × (new ≡ old + n)
 plays_line list_form b at old new nodes shared u h counts = (fresh_plays nodes shared, h, counts.each)
 plays_line sgf_form b at old new nodes shared u h counts = (0, h, omega (arith, counts))
 plays_line gtp_form b at old new nodes shared u h counts = (fresh_plays nodes shared, h, counts.each)
 
-pub plays_refused : {E F : Type 0} (A : Type 0) (form : Form) (b : Bool) (at : Position) (old new : ℕ) (nodes : List Node) (shared : ℕ) (e : E) (r : Result Bool F) → IsErr r → HasPlays form b at (plays_in form (fresh_plays nodes shared))
+pub plays_refused : {E F : Type 0} (A : Type 0) (form : Form) (b : Bool) (at : CursorState) (old new : ℕ) (nodes : List Node) (shared : ℕ) (e : E) (r : Result Bool F) → IsErr r → HasPlays form b at (plays_in form (fresh_plays nodes shared))
     → PlaysIn {A = A} form old new nodes shared (Err e) → PlaysLine form b at old new r
 plays_refused A form b at old new nodes shared e (Ok x) bad h counts = absurd cc
 plays_refused A list_form b at old new nodes shared e (Err f) is h counts = inr (fresh_plays nodes shared, h, counts.not_fewer, counts.not_more)

@@ -10,7 +10,7 @@ use Rattle.sgf_lines.specs.Paths.{number_lines, paths_of_game, paths_from, leaf_
 use Rattle.sgf_lines.proofs.Lists.{Each, each_append, each_through, get_left, get_right}
 use Rattle.sgf_lines.proofs.Standing.{StandsAt, Stands, stands_get, stands_own, stands_below, stands_after, first_ordered}
 use Rattle.sgf_lines.proofs.Climbing.{last_number-append}
-use Rattle.sgf_lines.proofs.Ways.{last_number-range}
+use Rattle.sgf_lines.proofs.PathsTo.{last_number-range}
 
 -- the leaves below a game's last node, or that node where there are none
 abbrev pub leaves_or : ℕ → List ℕ → List ℕ

@@ -6,11 +6,11 @@ pub mod Lists
 pub mod Standing
 pub mod Parents
 pub mod Climbing
-pub mod Ways
+pub mod PathsTo
 pub mod Leaves
 pub mod GameNumbers
 pub mod Named
-pub mod Positions
+pub mod CursorStates
 pub mod LinesRise
 pub mod Following
 pub mod Different

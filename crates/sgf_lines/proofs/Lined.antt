@@ -7,7 +7,7 @@ use Rattle.sgf_lines.specs.declared.verdict.Verdict.{Verdict}
 use Rattle.sgf_lines.specs.Lines.{Line, place_of}
 use Rattle.sgf_lines.specs.Verdict.{verdict_of}
 use Rattle.sgf_lines.specs.ListRow.{row_text, list_row}
-use Rattle.sgf_lines.specs.inner.Shown.{IsShownAs}
+use Rattle.sgf_lines.specs.inner.Views.{IsShownAs}
 use Rattle.sgf_lines.proofs.Joins.{as_many}
 
 pub row-is : (c : Games) (l : Line) (line : LineRef) (v : Verdict) → IsShownAs c l line → v ≡ verdict_of l.nodes → row_text line.place line.game (length line.path.now) v ≡ list_row l

@@ -8,9 +8,9 @@ use Rattle.sgf_tree.specs.FileOrder.{PlacesRise}
 use Rattle.sgf_lines.specs.Lines.{Line, lines, place_of}
 use Rattle.sgf_lines.specs.Paths.{Path, paths, leaf_of}
 use Rattle.sgf_lines.proofs.Lists.{element, each_get}
-use Rattle.sgf_lines.proofs.Ways.{IsDescent, each_path}
+use Rattle.sgf_lines.proofs.PathsTo.{IsDescent, each_path}
 use Rattle.sgf_lines.proofs.Named.{line_at, place-line, length-paths}
-use Rattle.sgf_lines.proofs.Positions.{leaf_rises}
+use Rattle.sgf_lines.proofs.CursorStates.{leaf_rises}
 
 module _ (c : Games) where
   place_at_line : (k : ℕ) (line : Line) → slice_get (lines c) k ≡ Some line → slice_index (map place_of (lines c)) k ≡ place_of line

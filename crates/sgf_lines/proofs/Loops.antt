@@ -4,10 +4,10 @@ use Rattle.std.proofs.lemmas.List.{drop_all}
 use Rattle.std.proofs.lemmas.Grind.{drop-set_at}
 use Rattle.sgf_tree.specs.Tree.{Games, node_count}
 use Rattle.sgf_tree.specs.FileOrder.{parent_at, IsLeaf}
-use Rattle.sgf_lines.specs.inner.Ways.{IsWayTo, top, step}
+use Rattle.sgf_lines.specs.inner.PathTo.{IsPathTo, top, step}
 use Rattle.sgf_lines.proofs.Parents.{parent_before}
 use Rattle.sgf_lines.proofs.Climbing.{one_way}
-use Rattle.sgf_lines.proofs.Positions.{next_line}
+use Rattle.sgf_lines.proofs.CursorStates.{next_line}
 
 -- one more than a node's number, and 0 above a root
 abbrev pub height : Option ℕ → ℕ
@@ -18,8 +18,8 @@ height (Some n) = n + 1
 pub record IsClimb (c : Games) (leaf : ℕ) (current : Option ℕ) : Type 0 where
   pub numbers : List ℕ
   pub above : List ℕ
-  pub whole : IsWayTo c (Some leaf) numbers
-  pub way : IsWayTo c current above
+  pub whole : IsPathTo c (Some leaf) numbers
+  pub way : IsPathTo c current above
   pub within : height current ≤ node_count c
 
 abbrev pub begins : (c : Games) (leaf : ℕ) → leaf < node_count c → IsLeaf c leaf → IsClimb c leaf (Some leaf)
@@ -28,8 +28,8 @@ begins c leaf lt is_leaf =
     record { numbers = f.0.numbers; above = f.0.numbers; whole = f.1.up; way = f.1.up; within = omega arith }
 
 -- the way to a node is that to its parent, and the node
-pub above_of : {c : Games} {n : ℕ} {parent : Option ℕ} {way : List ℕ} → IsWayTo c (Some n) way → parent_at c n ≡ Some parent
-    → (above : List ℕ) × IsWayTo c parent above × (way ≡ above ++ n ∷ [])
+pub above_of : {c : Games} {n : ℕ} {parent : Option ℕ} {way : List ℕ} → IsPathTo c (Some n) way → parent_at c n ≡ Some parent
+    → (above : List ℕ) × IsPathTo c parent above × (way ≡ above ++ n ∷ [])
 above_of {parent = q} (step {parent = p} {above = above} e up is) f = let same : p ≡ q = cc in (above, rw same at up, is)
 
 pub lower : (c : Games) (n : ℕ) (parent : Option ℕ) → parent_at c n ≡ Some parent → height parent < n + 1
@@ -78,10 +78,10 @@ pub height_goes_down : (c : Games) (n : ℕ) (current parent : Option ℕ) → c
 height_goes_down c n current parent is e = rw is (lower c n parent e)
 
 -- above the root no node of the way is left
-none_above : {c : Games} {way : List ℕ} → IsWayTo c None way → way ≡ []
+none_above : {c : Games} {way : List ℕ} → IsPathTo c None way → way ≡ []
 none_above top = refl
 
-pub counted_all : (c : Games) (leaf count : ℕ) (current : Option ℕ) → IsCounted c leaf current count → current ≡ None → (numbers : List ℕ) → IsWayTo c (Some leaf) numbers → count ≡ length numbers
+pub counted_all : (c : Games) (leaf count : ℕ) (current : Option ℕ) → IsCounted c leaf current count → current ≡ None → (numbers : List ℕ) → IsPathTo c (Some leaf) numbers → count ≡ length numbers
 counted_all c leaf count current h is numbers way =
     omega (arith, h.counted, ap length (none_above (rw is at h.climb.way)), ap length (one_way h.climb.whole way))
 
@@ -93,7 +93,7 @@ pub record IsFilled (c : Games) (leaf : ℕ) (current : Option ℕ) (room : ℕ)
   pub filled : climb.numbers ≡ climb.above ++ drop room path
 
 pub fill_begins : (c : Games) (leaf : ℕ) (path : List ℕ) → leaf < node_count c → IsLeaf c leaf
-    → ((numbers : List ℕ) → IsWayTo c (Some leaf) numbers → length path ≡ length numbers) → IsFilled c leaf (Some leaf) (length path) path
+    → ((numbers : List ℕ) → IsPathTo c (Some leaf) numbers → length path ≡ length numbers) → IsFilled c leaf (Some leaf) (length path) path
 fill_begins c leaf path lt is_leaf room =
     let climb = begins c leaf lt is_leaf in
     let long : length path ≡ length climb.numbers = room climb.numbers climb.whole in

@@ -10,9 +10,9 @@ use Rattle.sgf_lines.specs.declared.contents.Moves.TheVariants.{Several}
 use Rattle.sgf_lines.specs.declared.contents.Kind.{Kind}
 use Rattle.sgf_lines.specs.declared.without_setup.WithoutSetup.{WithoutSetup}
 use Rattle.sgf_lines.specs.NodeContents.{Move, moves_in, moves_by}
-use Rattle.sgf_lines.specs.inner.Contents.{Lists, kind_of, lists_by, lists_in, AreMoves}
+use Rattle.sgf_lines.specs.inner.Contents.{Lists, kind_of, lists_in, AreMoves}
 use Rattle.sgf_lines.specs.inner.WithoutSetup.{IsWithoutSetup}
-use Rattle.sgf_lines.proofs.Gathering.{comment_by, lists_more, first_value_more}
+use Rattle.sgf_lines.proofs.Gathering.{lists_by, comment_by, lists_more, first_value_more}
 
 -- a property more, of a kind that sets nothing up
 pub without_setup_more : (ps : List Property) (p : Property) (k : Option Kind) (old new : WithoutSetup) → kind_of p ≡ k → IsWithoutSetup ps old
@@ -32,7 +32,7 @@ without_setup_more ps p k old new is h stones players moves comment =
 pub same_moves : (moves : Moves) (ms : List Move) → AreMoves moves ms → AreMoves moves (ms ++ [])
 same_moves moves ms h = subst (AreMoves moves) (sym (append-nil ms)) h
 
--- a move behind others, or before others
+-- a move after others, or before others
 pub two_at_least : (ms : List Move) (m : Move) (rest : List Move) → (ms ≡ [] → (l : Move) × (more : List Move) × (rest ≡ l ∷ more)) → AreMoves Several (ms ++ m ∷ rest)
 two_at_least [] m rest h = let r = h refl in (m, r.0, r.1, ap (λ t. m ∷ t) r.2)
 two_at_least (a ∷ []) m rest h = (a, m, rest, refl)

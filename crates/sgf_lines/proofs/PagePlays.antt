@@ -5,17 +5,17 @@ use Rattle.std.proofs.lemmas.List.{take_all}
 use Rattle.sgf_tree.specs.Tree.{Games, node_count}
 use Rattle.sgf_tree.specs.FileOrder.{PlacesRise}
 use Rattle.sgf_lines.specs.Lines.{Line, lines}
-use Rattle.sgf_lines.specs.Page.{page, limited, lines_from_place}
-use Rattle.sgf_lines.specs.Plays.{all_judged}
+use Rattle.sgf_lines.specs.Page.{page, limited, lines_asked}
+use Rattle.sgf_lines.specs.Plays.{all_judged_places}
 use Rattle.sgf_lines.specs.declared.options.Options.{Options}
 use Rattle.sgf_lines.proofs.Lists.{get_left, get_right}
 use Rattle.sgf_lines.proofs.PagesJoin.{tail_of, front_of}
 use Rattle.sgf_lines.proofs.PlayCounts.{plays_within}
 
-pub page_plays : (c : Games) → PlacesRise c → (o : Options) (ls : List Line) → page o c ≡ Some ls → length (all_judged ls) ≤ node_count c
-page_plays c rise o ls e = by (lines_from_place (lines c) o.after) refl e
+pub page_plays : (c : Games) → PlacesRise c → (o : Options) (ls : List Line) → page o c ≡ Some ls → length (all_judged_places ls) ≤ node_count c
+page_plays c rise o ls e = by (lines_asked (lines c) o.after) refl e
   where
-    by : (found : Option (List Line)) → lines_from_place (lines c) o.after ≡ found → option_map (limited o.limit) found ≡ Some ls → length (all_judged ls) ≤ node_count c
+    by : (found : Option (List Line)) → lines_asked (lines c) o.after ≡ found → option_map (limited o.limit) found ≡ Some ls → length (all_judged_places ls) ≤ node_count c
     by None is e = absurd cc
     by (Some tail) is e =
         let front : limited o.limit tail ≡ ls = cc in

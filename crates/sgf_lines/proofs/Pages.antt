@@ -7,8 +7,8 @@ use Rattle.std.proofs.lemmas.List.{take_all, length-map}
 use Rattle.std.proofs.lemmas.Option.{slice_get-map, get_or_from_slice_get}
 use Rattle.sgf_tree.specs.Tree.{Games}
 use Rattle.sgf_lines.specs.Lines.{Line, lines, place_of}
-use Rattle.sgf_lines.specs.Cursor.{Position, IsAfterPlace, HasNoLineAt}
-use Rattle.sgf_lines.specs.Page.{lines_after, lines_from_place, limited}
+use Rattle.sgf_lines.specs.Cursor.{CursorState, IsAfterPlace, HasNoLineAt}
+use Rattle.sgf_lines.specs.Page.{lines_after, lines_asked, limited}
 use Rattle.sgf_lines.proofs.Lists.{element}
 
 -- the first line with a place is the one that it is looked for at, where no line before has it
@@ -74,7 +74,7 @@ placed_within [] k place e = absurd cc
 placed_within (l ∷ ls) zero place e = omega arith
 placed_within (l ∷ ls) (suc k) place e = omega (arith, placed_within ls k place e)
 
--- where places rise, the lines after the one with a place are those behind its index
+-- where places rise, the lines after the one with a place are those after its index
 pub after_index : (ls : List Line) (k place : ℕ) → IsStrictlyIncreasing (map place_of ls) → option_map place_of (slice_get ls k) ≡ Some place
     → lines_after ls place ≡ Some (drop (k + 1) ls)
 after_index ls k place rise e = rw add-one (found_at ls k place e (λ j lt other.
@@ -95,18 +95,18 @@ after_none ls place none = none_found ls place (λ j lt e.
     other (ap place_of read ∙ same))
 
 -- a cursor after the line with a place stands before the page
-pub started : (c : Games) (after : Option ℕ) (place : ℕ) (at new : Position) → after ≡ Some place → at ≡ record { games = c; index = 0 } → IsStrictlyIncreasing (map place_of (lines c))
-    → IsAfterPlace place at new → lines_from_place (lines c) after ≡ Some (drop new.index (lines c))
+pub started : (c : Games) (after : Option ℕ) (place : ℕ) (at new : CursorState) → after ≡ Some place → at ≡ record { games = c; index = 0 } → IsStrictlyIncreasing (map place_of (lines c))
+    → IsAfterPlace place at new → lines_asked (lines c) after ≡ Some (drop new.index (lines c))
 started c after place at new is at_is rise s =
     let line : option_map place_of (slice_get (lines c) s.index) ≡ Some place = rw at_is at s.line in
     let index : new.index ≡ s.index + 1 = ap (λ p. p.index) s.new_is in
     rw (is, index) (after_index (lines c) s.index place rise line)
 
-pub started_same : (c : Games) (place : ℕ) (at new : Position) → at ≡ record { games = c; index = 0 } → IsAfterPlace place at new → new.games ≡ c
+pub started_same : (c : Games) (place : ℕ) (at new : CursorState) → at ≡ record { games = c; index = 0 } → IsAfterPlace place at new → new.games ≡ c
 started_same c place at new at_is s = ap (λ p. p.games) s.new_is ∙ ap (λ p. p.games) at_is
 
 -- there is no such line
-pub not_started : (c : Games) (after : Option ℕ) (place asked : ℕ) (at : Position) → after ≡ Some place → at ≡ record { games = c; index = 0 } → (asked ≡ place) × HasNoLineAt at.games place
+pub not_started : (c : Games) (after : Option ℕ) (place asked : ℕ) (at : CursorState) → after ≡ Some place → at ≡ record { games = c; index = 0 } → (asked ≡ place) × HasNoLineAt at.games place
     → (after ≡ Some asked) × (lines_after (lines c) asked ≡ None)
 not_started c after place asked at is at_is h =
     let none : All (λ line. place_of line ≢ place) (lines c) = rw at_is at h.1 in

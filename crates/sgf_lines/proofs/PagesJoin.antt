@@ -7,7 +7,7 @@ use Rattle.std.proofs.lemmas.List.{take-append-drop}
 use Rattle.sgf_tree.specs.Tree.{Games}
 use Rattle.sgf_tree.specs.FileOrder.{PlacesRise}
 use Rattle.sgf_lines.specs.Lines.{Line, lines, place_of}
-use Rattle.sgf_lines.specs.Page.{lines_after, lines_from_place, limited, page}
+use Rattle.sgf_lines.specs.Page.{lines_after, lines_asked, limited, page}
 use Rattle.sgf_lines.specs.declared.options.Options.{Options}
 use Rattle.sgf_lines.proofs.Lists.{Each, each_weaker}
 use Rattle.sgf_lines.proofs.LinesRise.{lines_rise}
@@ -52,7 +52,7 @@ ends_list (l ∷ ls) place tail e = by (place_of l == place) refl (λ later. end
     by true is below = let here : Some ls ≡ Some tail = rw is at e in let same : ls ≡ tail = cc in (l ∷ [], ap (λ xs. l ∷ xs) same)
     by false is below = let f = below (rw is at e) in (l ∷ f.0, ap (λ xs. l ∷ xs) f.1)
 
-pub tail_of : (ls : List Line) (after : Option ℕ) (tail : List Line) → lines_from_place ls after ≡ Some tail → (before : List Line) × (ls ≡ before ++ tail)
+pub tail_of : (ls : List Line) (after : Option ℕ) (tail : List Line) → lines_asked ls after ≡ Some tail → (before : List Line) × (ls ≡ before ++ tail)
 tail_of ls None tail e = ([], cc)
 tail_of ls (Some place) tail e = ends_list ls place tail e
 
@@ -69,11 +69,11 @@ mapped limit (Some tail) ls e = (tail, refl, cc)
 pub record GoesOn (o : Options) (c : Games) (front : List Line) (last : Line) : Type 0 where
   pub rest : List Line
   pub after : lines_after (lines c) (place_of last) ≡ Some rest
-  pub whole : lines_from_place (lines c) o.after ≡ Some (front ++ last ∷ rest)
+  pub whole : lines_asked (lines c) o.after ≡ Some (front ++ last ∷ rest)
 
 pub goes_on : (c : Games) (o : Options) (front : List Line) (last : Line) → PlacesRise c → page o c ≡ Some (front ++ last ∷ []) → GoesOn o c front last
 goes_on c o front last rise e =
-    let m = mapped o.limit (lines_from_place (lines c) o.after) (front ++ last ∷ []) e in
+    let m = mapped o.limit (lines_asked (lines c) o.after) (front ++ last ∷ []) e in
     let f = front_of o.limit m.0 (front ++ last ∷ []) m.2 in
     let tail : m.0 ≡ front ++ last ∷ f.0 = f.1 ∙ append_assoc front (last ∷ []) f.0 in
     let t = tail_of (lines c) o.after m.0 m.1 in

@@ -7,10 +7,9 @@ use Rattle.std.proofs.lemmas.List.{take_all, length-take, length-drop}
 use Rattle.sgf_tree.specs.Tree.{Games, node_count}
 use Rattle.sgf_lines.specs.Lines.{Line, lines}
 use Rattle.sgf_lines.specs.Page.{limited}
-use Rattle.sgf_lines.specs.Record.{record_of}
-use Rattle.sgf_lines.specs.Output.{output}
+use Rattle.sgf_lines.specs.Record.{record_of, output}
 use Rattle.sgf_lines.specs.Ends.{SinkState, Takes}
-use Rattle.sgf_lines.specs.Cursor.{Position}
+use Rattle.sgf_lines.specs.Cursor.{CursorState}
 use Rattle.sgf_lines.specs.inner.Running.{WritesLines, HasRecord}
 use Rattle.sgf_lines.specs.declared.options.Form.{Form}
 use Rattle.sgf_lines.specs.declared.fault.RunFault.{RunFault}
@@ -24,21 +23,21 @@ abbrev pub page_from : Games → ℕ → ℕ → List Line
 page_from c first limit = take limit (drop first (lines c))
 
 -- k lines of the page were written, and the cursor stands after them
-pub record IsSoFar (form : Form) (c : Games) (first limit : ℕ) (old : SinkState) (k : ℕ) (at : Position) (now : SinkState) : Type 0 where
+pub record IsSoFar (form : Form) (c : Games) (first limit : ℕ) (old : SinkState) (k : ℕ) (at : CursorState) (now : SinkState) : Type 0 where
   pub same : at.games ≡ c
   pub index : at.index ≡ first + k
   pub within : k ≤ length (page_from c first limit)
   pub takes : Appends old.taken now.taken (output form (take k (page_from c first limit)))
   pub failures : now.failures ≡ old.failures
 
-module _ (form : Form) (c : Games) (first limit : ℕ) (old : SinkState) (k : ℕ) (at : Position) (now : SinkState) (h : IsSoFar form c first limit old k at now) where
+module _ (form : Form) (c : Games) (first limit : ℕ) (old : SinkState) (k : ℕ) (at : CursorState) (now : SinkState) (h : IsSoFar form c first limit old k at now) where
   next_of_page : (line : Line) → k < limit → slice_get (lines at.games) at.index ≡ Some line → slice_get (page_from c first limit) k ≡ Some line
   next_of_page line lt found =
       let there : slice_get (lines c) (first + k) ≡ Some line = rw (h.same, h.index) at found in
       get_taken (drop first (lines c)) limit k lt ∙ get_dropped (lines c) first k ∙ there
 
   -- the next record is written too
-  pub one_written : (new : Position) (sink : SinkState) (bytes : List ℕ) → k < limit → HasRecord form at new bytes → Appends now.taken sink.taken bytes → sink.failures ≡ now.failures
+  pub one_written : (new : CursorState) (sink : SinkState) (bytes : List ℕ) → k < limit → HasRecord form at new bytes → Appends now.taken sink.taken bytes → sink.failures ≡ now.failures
       → IsSoFar form c first limit old (k + 1) new sink
   one_written new sink bytes lt r more failures =
       let there = next_of_page r.line lt r.found in
@@ -53,7 +52,7 @@ module _ (form : Form) (c : Games) (first limit : ℕ) (old : SinkState) (k : �
       }
 
   -- the sink failed within the next record
-  pub cut_short : (new : Position) (sink : SinkState) (bytes : List ℕ) (n : ℕ) → k < limit → HasRecord form at new bytes → n < length bytes
+  pub cut_short : (new : CursorState) (sink : SinkState) (bytes : List ℕ) (n : ℕ) → k < limit → HasRecord form at new bytes → n < length bytes
       → Appends now.taken sink.taken (take n bytes) → WritesLines form (page_from c first limit) old sink (Err (Write k))
   cut_short new sink bytes n lt r less more =
       let there = next_of_page r.line lt r.found in

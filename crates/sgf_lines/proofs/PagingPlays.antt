@@ -11,9 +11,9 @@ use Rattle.sgf_tree.specs.declared.fault.MemoryFault.{MemoryFault}
 use Rattle.sgf_lines.specs.Lines.{Line, lines}
 use Rattle.sgf_lines.specs.Page.{limited}
 use Rattle.sgf_lines.specs.Ends.{SinkState}
-use Rattle.sgf_lines.specs.Cursor.{Position}
+use Rattle.sgf_lines.specs.Cursor.{CursorState}
 use Rattle.sgf_lines.specs.Verdict.{judged_nodes}
-use Rattle.sgf_lines.specs.Plays.{different, all_judged, judged_places}
+use Rattle.sgf_lines.specs.Plays.{different, all_judged_places, judged_places}
 use Rattle.sgf_lines.specs.RunPlays.{plays_in, plays_of}
 use Rattle.sgf_lines.specs.declared.options.Form.{Form}
 use Rattle.sgf_lines.specs.declared.options.Form.TheVariants.{List as list_form, Sgf as sgf_form, Gtp as gtp_form}
@@ -44,9 +44,9 @@ plays_grow : (form : Form) (ls : List Line) (k : ℕ) → plays_of form (take k 
 plays_grow form ls k =
     let front = flat_map judged_places (take k ls) in
     let one = flat_map judged_places (take 1 (drop k ls)) in
-    let all : all_judged (take (k + 1) ls) ≡ different front ++ filter (is_new front) (different one) =
-    ap all_judged (take-add k 1 ls) ∙ ap different (flat_map-append judged_places (take k ls) (take 1 (drop k ls))) ∙ different-append front one in
-    fewer_in form (length (all_judged (take k ls))) (length (all_judged (take (k + 1) ls)))
+    let all : all_judged_places (take (k + 1) ls) ≡ different front ++ filter (is_new front) (different one) =
+    ap all_judged_places (take-add k 1 ls) ∙ ap different (flat_map-append judged_places (take k ls) (take 1 (drop k ls))) ∙ different-append front one in
+    fewer_in form (length (all_judged_places (take k ls))) (length (all_judged_places (take (k + 1) ls)))
     (omega (arith, ap length all, length-append (different front) (filter (is_new front) (different one))))
 
 -- all lines
@@ -69,22 +69,22 @@ module _ (c : Games) (rise : PlacesRise c) (first limit : ℕ) where
   adds form zero shared line e h =
       let page = page_from c first limit in
       let one : zero + 1 ≡ 1 = refl in
-      let sum : length (all_judged (take 1 page)) ≡ 0 + (length (judged_nodes line) - shared) = omega (arith, first_plays c rise first page stands line e, h) in
-      added_in form (length (all_judged (take 1 page))) 0 (length (judged_nodes line) - shared) sum
+      let sum : length (all_judged_places (take 1 page)) ≡ 0 + (length (judged_nodes line) - shared) = omega (arith, first_plays c rise first page stands line e, h) in
+      added_in form (length (all_judged_places (take 1 page))) 0 (length (judged_nodes line) - shared) sum
   adds form (suc k) shared line e h =
       let page = page_from c first limit in
-      rw add-one (added_in form (length (all_judged (take (suc (suc k)) page))) (length (all_judged (take (suc k) page))) (length (judged_nodes line) - shared)
+      rw add-one (added_in form (length (all_judged_places (take (suc (suc k)) page))) (length (all_judged_places (take (suc k) page))) (length (judged_nodes line) - shared)
       (next_plays c rise first page stands k shared line e h))
 
 -- what a line shares with the one before it, by where the cursor stands
-shares_by : (c : Games) (rise : PlacesRise c) (first limit k : ℕ) (wrote : Bool) (at : Position) (shared : ℕ) → at.games ≡ c → at.index ≡ first + k → (k ≡ 0 → wrote ≡ false) → (0 < k → wrote ≡ true)
+shares_by : (c : Games) (rise : PlacesRise c) (first limit k : ℕ) (wrote : Bool) (at : CursorState) (shared : ℕ) → at.games ≡ c → at.index ≡ first + k → (k ≡ 0 → wrote ≡ false) → (0 < k → wrote ≡ true)
     → IsShared wrote at shared → Shares c rise first limit k shared
 shares_by c rise first limit zero wrote at shared same index first_line later h = rw (first_line refl) at h
 shares_by c rise first limit (suc k) wrote at shared same index first_line later h =
     let go : Continues (numbers_before at.games at.index) shared (numbers_before at.games (at.index + 1)) = rw (later (omega arith)) at h in
     rw (same, index, add-one) at go
 
-module _ (form : Form) (c : Games) (rise : PlacesRise c) (first limit count k : ℕ) (wrote : Bool) (at : Position) (old sink : SinkState) (written : IsSoFar form c first limit old k at sink)
+module _ (form : Form) (c : Games) (rise : PlacesRise c) (first limit count k : ℕ) (wrote : Bool) (at : CursorState) (old sink : SinkState) (written : IsSoFar form c first limit old k at sink)
     (first_line : k ≡ 0 → wrote ≡ false) (later : 0 < k → wrote ≡ true) (lt : k < limit) (now : ℕ) (h : now ≡ count + plays_of form (take k (page_from c first limit))) where
   next_adds : (n : ℕ) → HasPlays form wrote at n → plays_of form (take (k + 1) (page_from c first limit)) ≡ plays_of form (take k (page_from c first limit)) + n
   next_adds n p =

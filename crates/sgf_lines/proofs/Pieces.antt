@@ -1,4 +1,4 @@
--- A text that is cut where a test passes, by the first place where it does.
+-- A text that is cut where a test passes, by the first byte where it does.
 use Rattle.std.proofs.Common.{◌≡◌, ℕ, ◌<◌, ◌+◌, ◌-◌, ◌++◌, Option, Some, None, Bool, true, false, List, [], ◌∷◌, zero, suc, length, take, drop, get_or, refl, sym, ap, ◌∙◌, arith}
 use Rattle.std.specs.List.{flat_map, slice_split}
 use Rattle.std.proofs.lemmas.Bool.{false_from_ne_true}
@@ -26,7 +26,7 @@ module _ (test : ℕ → Bool) where
       let first : test b ≡ false = none 0 (omega arith) in
       rw (first, later) refl
 
-  -- the rows of the pieces, by the first place where the test passes
+  -- the rows of the pieces, by the first byte where the test passes
   rows-found : (row : List ℕ → List ℕ) (t : List ℕ) (end : ℕ) → IsFirstByte test t (Some end)
       → flat_map row (slice_split test t) ≡ row (take end t) ++ flat_map row (slice_split test (take (length t - (end + 1)) (drop (end + 1) t)))
   rows-found row t end found =

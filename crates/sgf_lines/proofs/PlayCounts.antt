@@ -10,7 +10,7 @@ use Rattle.sgf_lines.specs.Lines.{Line, lines}
 use Rattle.sgf_lines.specs.Paths.{paths}
 use Rattle.sgf_lines.specs.JudgedGames.{game_kind, root_properties}
 use Rattle.sgf_lines.specs.Verdict.{judged_nodes}
-use Rattle.sgf_lines.specs.Plays.{different, all_judged, judged_places, places_of}
+use Rattle.sgf_lines.specs.Plays.{different, all_judged_places, judged_places, places_of}
 use Rattle.sgf_lines.specs.inner.Following.{first_after, Continues, numbers_of, numbers_before}
 use Rattle.sgf_lines.proofs.Lists.{Each, each_append, each_weaker, element}
 use Rattle.sgf_lines.proofs.Named.{line_at, length-paths}
@@ -132,7 +132,7 @@ module _ (c : Games) (rise : PlacesRise c) where
         rw (next, ← more_texts judged_places page k l.0 l.1) (each_append (IsPlaceBefore end) (so_far k) (judged_places l.0) old own_end)
 
     -- the first line adds all its judged nodes
-    pub first_plays : (line : Line) → slice_get page 0 ≡ Some line → length (all_judged (take 1 page)) ≡ length (judged_nodes line)
+    pub first_plays : (line : Line) → slice_get page 0 ≡ Some line → length (all_judged_places (take 1 page)) ≡ length (judged_nodes line)
     first_plays line e =
         let here = stands 0 line e in
         let n = has_numbers (first + 0) line here in
@@ -145,7 +145,7 @@ module _ (c : Games) (rise : PlacesRise c) where
 
     -- a later one adds those that it doesn't share with the one before it
     pub next_plays : (k shared : ℕ) (line : Line) → slice_get page (suc k) ≡ Some line → Continues (numbers_before c (first + suc k)) shared (numbers_before c (suc (first + suc k)))
-        → length (all_judged (take (suc (suc k)) page)) ≡ length (all_judged (take (suc k) page)) + (length (judged_nodes line) - shared)
+        → length (all_judged_places (take (suc (suc k)) page)) ≡ length (all_judged_places (take (suc k) page)) + (length (judged_nodes line) - shared)
     next_plays k shared line e h =
         let last = element page k (omega (arith, slice_get_within page (suc k) line e)) in
         let next : first + suc k ≡ suc (first + k) = omega arith in
@@ -177,7 +177,7 @@ module _ (c : Games) (rise : PlacesRise c) where
         ∙ ap (λ n. length (different xs) + n) (length-drop shared (judged_places line) ∙ ap (λ n. n - shared) (length-map (judged_nodes line) (λ n. n.place)))
 
     -- no more than the nodes before the one after the last of these lines
-    pub plays_before : (k : ℕ) → k ≤ length page → length (all_judged (take k page)) ≤ first_after (numbers_before c (first + k))
+    pub plays_before : (k : ℕ) → k ≤ length page → length (all_judged_places (take k page)) ≤ first_after (numbers_before c (first + k))
     plays_before zero le = omega arith
     plays_before (suc zero) le =
         let l = element page 0 (omega arith) in
@@ -207,7 +207,7 @@ module _ (c : Games) (rise : PlacesRise c) where
           length_range (first_after before) (h.1.more + 1),
         ))
 
-    pub plays_within : (k : ℕ) → k ≤ length page → length (all_judged (take k page)) ≤ node_count c
+    pub plays_within : (k : ℕ) → k ≤ length page → length (all_judged_places (take k page)) ≤ node_count c
     plays_within zero le = omega arith
     plays_within (suc k) le =
         let l = element page k (omega arith) in

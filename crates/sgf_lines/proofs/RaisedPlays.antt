@@ -10,7 +10,7 @@ use Rattle.go_board.specs.declared.reason.Reason.{Reason}
 use Rattle.go_board.specs.State.{State}
 use Rattle.sgf_lines.specs.Step.{step}
 use Rattle.sgf_lines.specs.Walk.{TakenNode, IllegalNode, Walk, before_root, stepped, next_by, next, walk, judged_by}
-use Rattle.sgf_lines.specs.JudgedGames.{GameKind, other_game, no_board, board, game_kind, root_properties}
+use Rattle.sgf_lines.specs.JudgedGames.{GameKind, not_go, bad_size, board, game_kind, root_properties}
 use Rattle.sgf_lines.specs.Verdict.{judged_on}
 use Rattle.sgf_lines.specs.declared.game.Game.{Game}
 use Rattle.sgf_lines.specs.inner.Played.{IsPlayed, judged_count, RaisesPlays}
@@ -50,9 +50,9 @@ not_fewer w [] = omega arith
 not_fewer w (n ∷ ns) = omega (arith, not_fewer_by w n w.illegal refl, not_fewer (next w n) ns)
 
 -- where the walk met no illegal node all nodes are judged
-all_judged : (w : Walk) (ns : List Node) → w.illegal ≡ None → (fold next w ns).illegal ≡ None → length (judged_by (fold next w ns)) ≡ length (judged_by w) + length ns
-all_judged w [] none end = omega arith
-all_judged w (n ∷ ns) none end = by (next w n).illegal refl (λ e. all_judged (next w n) ns e end)
+all_judged_places : (w : Walk) (ns : List Node) → w.illegal ≡ None → (fold next w ns).illegal ≡ None → length (judged_by (fold next w ns)) ≡ length (judged_by w) + length ns
+all_judged_places w [] none end = omega arith
+all_judged_places w (n ∷ ns) none end = by (next w n).illegal refl (λ e. all_judged_places (next w n) ns e end)
   where
     by : (o : Option IllegalNode) → (next w n).illegal ≡ o → ((next w n).illegal ≡ None → length (judged_by (fold next (next w n) ns)) ≡ length (judged_by (next w n)) + length ns)
         → length (judged_by (fold next w (n ∷ ns))) ≡ length (judged_by w) + length (n ∷ ns)
@@ -87,7 +87,7 @@ judged_after side nodes k le = by (walk side (take k nodes)).illegal refl
 
     by : (o : Option IllegalNode) → front.illegal ≡ o → judged_count side nodes - k ≡ judged_count side nodes - judged_count side (take k nodes)
     by None e =
-        let all : judged_count side (take k nodes) ≡ k = omega (arith, all_judged (before_root side) (take k nodes) refl e, length-take-le k nodes le) in
+        let all : judged_count side (take k nodes) ≡ k = omega (arith, all_judged_places (before_root side) (take k nodes) refl e, length-take-le k nodes le) in
         ap (λ j. judged_count side nodes - j) (sym all)
     by (Some f) e =
         let same : judged_count side nodes ≡ judged_count side (take k nodes) = ap (λ v. length (judged_by v)) (whole ∙ after_illegal front f (drop k nodes) e) in
@@ -164,8 +164,8 @@ raises_fresh old new nodes shared r le h = by (game_kind (root_properties nodes)
         record { not_fewer = omega arith; not_more = omega arith; each = on_any r (omega arith) }
 
     by : (o : GameKind) → game_kind (root_properties nodes) ≡ o → PlaysOn old new o (take shared nodes) nodes r → PlaysFresh old new nodes shared r
-    by other_game e is = none (ap (λ o. judged_on o nodes) e) is
-    by no_board e is = none (ap (λ o. judged_on o nodes) e) is
+    by not_go e is = none (ap (λ o. judged_on o nodes) e) is
+    by bad_size e is = none (ap (λ o. judged_on o nodes) e) is
     by (board side) e g =
         let count : fresh_plays nodes shared ≡ judged_count side nodes - judged_count side (take shared nodes) =
         ap (λ o. length (judged_on o nodes) - shared) e ∙ judged_after side nodes shared le in

@@ -4,14 +4,14 @@ use Rattle.std.proofs.lemmas.List.Elements.{All-from_recursion}
 use Rattle.sgf_tree.specs.Tree.{Games, node_count}
 use Rattle.sgf_tree.specs.declared.fault.MemoryFault.{MemoryFault}
 use Rattle.sgf_lines.specs.Paths.{paths}
-use Rattle.sgf_lines.specs.Cursor.{Position, advanced, shown, IsLine, LeavesCursor}
-use Rattle.sgf_lines.specs.inner.Ways.{top}
+use Rattle.sgf_lines.specs.Cursor.{CursorState, advanced, shown, IsLine, LeavesCursor}
+use Rattle.sgf_lines.specs.inner.PathTo.{top}
 use Rattle.sgf_lines.specs.declared.line.LineRef.{LineRef}
 use Rattle.sgf_lines.proofs.Lists.{each_get}
-use Rattle.sgf_lines.proofs.Ways.{IsDescent, each_path}
+use Rattle.sgf_lines.proofs.PathsTo.{IsDescent, each_path}
 use Rattle.sgf_lines.proofs.Standings.{within_way}
 
-pub goes_on : (at new : Position) (r : Result (Option LineRef) MemoryFault) (o : Option LineRef) (line : LineRef) → r ≡ Ok o → o ≡ Some line → LeavesCursor at r new → new ≡ advanced at
+pub goes_on : (at new : CursorState) (r : Result (Option LineRef) MemoryFault) (o : Option LineRef) (line : LineRef) → r ≡ Ok o → o ≡ Some line → LeavesCursor at r new → new ≡ advanced at
 goes_on at new r o line ok is h = rw (ok, is) at h
 
 -- each number on a line's path is that of a node

@@ -26,12 +26,12 @@ use Rattle.sgf_lines.specs.Lines.{Line}
 use Rattle.sgf_lines.specs.NodeContents.{Move, Stones, moves, stones, players}
 use Rattle.sgf_lines.specs.NodeValues.{is_pass, move_value, operations, last_player}
 use Rattle.sgf_lines.specs.JudgedGames.{board, game_kind, root_properties}
-use Rattle.sgf_lines.specs.Step.{side_in, taken, move_step, setup_step, step_by, step}
+use Rattle.sgf_lines.specs.Step.{side_in, turn_step, move_step, setup_step, step_by, step}
 use Rattle.sgf_lines.specs.Walk.{TakenNode, IllegalNode, Walk, before_root, stepped, next_by, next, walk}
 use Rattle.sgf_lines.specs.ListRow.{list_row}
 use Rattle.sgf_lines.specs.Script.{comment_row, comment_text, comment_rows, play_command, colouring_commands, setup_commands, move_commands_by, move_commands, node_script, taken_script, leaves_unreaching_by, leaves_unreaching, has_no_commands, board_commands, commands_by, script}
 use Rattle.sgf_lines.specs.NodeContents.{first_value}
-use Rattle.sgf_lines.specs.Replay.{is_word, leaves, command_of, after_command, after_row, after_text, replayed}
+use Rattle.sgf_lines.specs.Replay.{is_word, does_nothing, command_of, after_command, after_row, after_text, replayed}
 use Rattle.sgf_lines.proofs.Lists.{Each}
 use Rattle.sgf_lines.proofs.Again.{flat_map-append}
 use Rattle.sgf_lines.proofs.ScriptRows.{IsWithin, CarriesBoard, takes_row, takes_nothing, takes_both, takes_comment, takes_text_rows, row_within, decimal_within, decimal_solid, within_both}
@@ -173,7 +173,7 @@ module _ (laws : BoardLaws) (side : ℕ) (small : side ≤ 25) where
       )
 
   turn_leads : (s t : State) (m : Move) (x : Play) (reason : Option Reason) → IsFull side s.colouring → move_value m.raw (side_in s) ≡ Some x
-      → reason_of s m.player x ≡ reason → taken s m.player x reason ≡ Ok t → StepReplayed s t [] (m ∷ [])
+      → reason_of s m.player x ≡ reason → turn_step s m.player x reason ≡ Ok t → StepReplayed s t [] (m ∷ [])
   turn_leads s t m x (Some reason) full e r is = absurd cc
   turn_leads s t m x None full e r is =
       let after : t ≡ turned s m.player x = cc in
@@ -266,7 +266,7 @@ module _ (laws : BoardLaws) (side : ℕ) (small : side ≤ 25) where
 
   -- ---- The whole script.
 
-  two_words : (word : List ℕ) → command_of side (codes "boardsize" ∷ filter is_word (word ∷ [])) ≡ leaves
+  two_words : (word : List ℕ) → command_of side (codes "boardsize" ∷ filter is_word (word ∷ [])) ≡ does_nothing
   two_words [] = refl
   two_words (b ∷ bs) = refl
 

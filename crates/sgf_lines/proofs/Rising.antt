@@ -10,9 +10,9 @@ use Rattle.sgf_tree.specs.FileOrder.{PlacesRise}
 use Rattle.sgf_lines.specs.Lines.{last_number}
 use Rattle.sgf_lines.specs.Paths.{Path, paths}
 use Rattle.sgf_lines.specs.inner.Following.{first_after, Continues, numbers_before}
-use Rattle.sgf_lines.specs.inner.Ways.{top}
+use Rattle.sgf_lines.specs.inner.PathTo.{top}
 use Rattle.sgf_lines.proofs.Lists.{Each, each_append, each_weaker, each_get, element}
-use Rattle.sgf_lines.proofs.Ways.{IsDescent, each_path}
+use Rattle.sgf_lines.proofs.PathsTo.{IsDescent, each_path}
 use Rattle.sgf_lines.proofs.Standings.{within_way}
 use Rattle.sgf_lines.proofs.Following.{paths_follow, after_new, head_continues, next_continues}
 use Rattle.sgf_lines.proofs.Different.{RisesFrom}

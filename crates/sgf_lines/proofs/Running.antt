@@ -12,8 +12,7 @@ use Rattle.sgf_tree.specs.declared.fault.TheConstants.{MAX_LENGTH}
 use Rattle.sgf_tree.specs.declared.fault.ReadFault.{ReadFault}
 use Rattle.sgf_tree.specs.declared.fault.ReadFault.TheVariants.{TooLong as TextTooLong, NotSgf as TextNotSgf, Memory as TextMemory}
 use Rattle.sgf_lines.specs.Lines.{Line}
-use Rattle.sgf_lines.specs.Record.{record_of}
-use Rattle.sgf_lines.specs.Output.{output}
+use Rattle.sgf_lines.specs.Record.{record_of, output}
 use Rattle.sgf_lines.specs.Ends.{SourceState, SinkState}
 use Rattle.sgf_lines.specs.Answer.{IsWhole, Answers, IsCutShort, IsRun, read_failures, write_failures}
 use Rattle.sgf_lines.specs.inner.Running.{AnswersReading, IsReading, IsSplit, IsSplitOf, AnswersLines, WritesLines, IsStart, unread}

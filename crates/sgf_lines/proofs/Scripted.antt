@@ -12,8 +12,8 @@ use Rattle.sgf_lines.specs.declared.line.LineRef.{LineRef}
 use Rattle.sgf_lines.specs.declared.verdict.Verdict.{Verdict}
 use Rattle.sgf_lines.specs.declared.commands.Commands.{Commands}
 use Rattle.sgf_lines.specs.declared.followed.Followed.{Followed}
-use Rattle.sgf_lines.specs.declared.followed.Followed.TheVariants.{OtherGame, NoBoard, Judged}
-use Rattle.sgf_lines.specs.inner.Shown.{IsShownAs}
+use Rattle.sgf_lines.specs.declared.followed.Followed.TheVariants.{NotGo, BadSize, Judged}
+use Rattle.sgf_lines.specs.inner.Views.{IsShownAs}
 use Rattle.sgf_lines.specs.inner.Played.{HasCommands, game_commands}
 use Rattle.sgf_lines.specs.inner.Followed.{IsFollowedAs, IsFollowed, followed_commands}
 use Rattle.sgf_lines.proofs.KeptScripts.{commands_are}
@@ -24,8 +24,8 @@ asked_commands side nodes None h = absurd h
 asked_commands side nodes (Some commands) h = commands_are side nodes commands h
 
 commands_held : (said : GameKind) (nodes : List Node) (followed : Followed) → IsFollowedAs true said nodes followed → followed_commands followed ≡ commands_by said nodes
-commands_held said nodes OtherGame h = ap (λ o. commands_by o nodes) (sym h)
-commands_held said nodes NoBoard h = ap (λ o. commands_by o nodes) (sym h)
+commands_held said nodes NotGo h = ap (λ o. commands_by o nodes) (sym h)
+commands_held said nodes BadSize h = ap (λ o. commands_by o nodes) (sym h)
 commands_held said nodes (Judged game) h = asked_commands h.0 nodes game.commands h.2.commands ∙ ap (λ o. commands_by o nodes) (sym h.1)
 
 -- its row as a comment, its commands, and an empty line

@@ -3,21 +3,21 @@ use Rattle.std.proofs.Common.{◌≡◌, ℕ, ◌+◌, ◌-◌, ◌<◌, List, g
 use Rattle.sgf_tree.specs.Tree.{Games, node_count}
 use Rattle.sgf_tree.specs.FileOrder.{place_at, game_of}
 use Rattle.sgf_lines.specs.Lines.{lines}
-use Rattle.sgf_lines.specs.Cursor.{Position, advanced, IsLine}
-use Rattle.sgf_lines.specs.inner.Ways.{HasNoLeaf, IsNextLeaf}
+use Rattle.sgf_lines.specs.Cursor.{CursorState, advanced, IsLine}
+use Rattle.sgf_lines.specs.inner.PathTo.{HasNoLeaf, IsNextLeaf}
 use Rattle.sgf_lines.specs.inner.Standing.{IsAfterLeaf, lines_before}
 use Rattle.sgf_lines.specs.declared.line.LineRef.{LineRef}
-use Rattle.sgf_lines.proofs.Positions.{before_none}
+use Rattle.sgf_lines.proofs.CursorStates.{before_none}
 use Rattle.sgf_lines.proofs.Standings.{IsShown, shows, none_left, one_more}
 
 -- the position of a cursor that goes on from the node `next`
-abbrev pub before : Games → ℕ → Position
+abbrev pub before : Games → ℕ → CursorState
 before c next = record { games = c; index = lines_before c next }
 
 pub starts : (c : Games) → before c 0 ≡ record { games = c; index = 0 }
 starts c = ap (λ n. record { games = c; index = n }) (before_none c)
 
-module _ (c : Games) (next : ℕ) (at : Position) (is : before c next ≡ at) where
+module _ (c : Games) (next : ℕ) (at : CursorState) (is : before c next ≡ at) where
   pub shows_line : (numbers : List ℕ) → IsAfterLeaf c next numbers → 0 < at.index → IsShown c next numbers
   shows_line numbers h lt = shows c next numbers h (rw (← is) at lt)
 

@@ -5,27 +5,27 @@ use Rattle.sgf_tree.specs.Tree.{Games, node_count}
 use Rattle.sgf_tree.specs.FileOrder.{place_at, IsLeaf}
 use Rattle.sgf_lines.specs.Lines.{lines, place_of}
 use Rattle.sgf_lines.specs.Paths.{paths, leaf_of}
-use Rattle.sgf_lines.specs.Cursor.{Position, IsAfterPlace, HasNoLineAt}
-use Rattle.sgf_lines.specs.inner.Ways.{IsWayTo}
+use Rattle.sgf_lines.specs.Cursor.{CursorState, IsAfterPlace, HasNoLineAt}
+use Rattle.sgf_lines.specs.inner.PathTo.{IsPathTo}
 use Rattle.sgf_lines.specs.inner.Standing.{lines_before, IsAfterLeaf}
 use Rattle.sgf_lines.proofs.Lists.{each_get, element}
-use Rattle.sgf_lines.proofs.Ways.{IsDescent, each_path}
+use Rattle.sgf_lines.proofs.PathsTo.{IsDescent, each_path}
 use Rattle.sgf_lines.proofs.Named.{line_at, place-line, length-paths}
-use Rattle.sgf_lines.proofs.Positions.{given_line}
+use Rattle.sgf_lines.proofs.CursorStates.{given_line}
 use Rattle.sgf_lines.proofs.Standings.{shows}
 use Rattle.sgf_lines.proofs.Shows.{before}
 
-pub stands_after : (c : Games) (leaf : ℕ) (numbers : List ℕ) → leaf < node_count c → IsLeaf c leaf → IsWayTo c (Some leaf) numbers → IsAfterLeaf c (leaf + 1) numbers
+pub stands_after : (c : Games) (leaf : ℕ) (numbers : List ℕ) → leaf < node_count c → IsLeaf c leaf → IsPathTo c (Some leaf) numbers → IsAfterLeaf c (leaf + 1) numbers
 stands_after c leaf numbers lt is_leaf way = record {
   within = omega arith;
   start = λ e. absurd (omega arith);
   leaf = λ i e. let same : leaf ≡ i = omega arith in rw (← same) is_leaf;
-  way = λ i e. let same : leaf ≡ i = omega arith in rw (← same) way;
+  path = λ i e. let same : leaf ≡ i = omega arith in rw (← same) way;
 }
 
 -- after the leaf with the place
-pub sought : (c : Games) (next leaf place : ℕ) (at : Position) (numbers : List ℕ) → before c next ≡ at → leaf < node_count c → IsLeaf c leaf → place_at c leaf ≡ Some place
-    → IsWayTo c (Some leaf) numbers → IsAfterPlace place at (before c (leaf + 1))
+pub sought : (c : Games) (next leaf place : ℕ) (at : CursorState) (numbers : List ℕ) → before c next ≡ at → leaf < node_count c → IsLeaf c leaf → place_at c leaf ≡ Some place
+    → IsPathTo c (Some leaf) numbers → IsAfterPlace place at (before c (leaf + 1))
 sought c next leaf place at numbers is lt is_leaf placed way =
     let given = given_line c leaf numbers lt is_leaf way in
     let shown = shows c (leaf + 1) numbers (stands_after c leaf numbers lt is_leaf way) given.3 in
@@ -47,5 +47,5 @@ no_line c place none = λ k d lt e.
     let placed : place_of l.0 ≡ place = rw line at e in
     none (leaf_of p.0) descent.is_leaf (place-line c k p.0 l.0 l.1 descent.filled ∙ ap Some placed)
 
-pub no_line_there : (c : Games) (next place : ℕ) (at : Position) → before c next ≡ at → ((leaf : ℕ) → IsLeaf c leaf → place_at c leaf ≢ Some place) → HasNoLineAt at.games place
+pub no_line_there : (c : Games) (next place : ℕ) (at : CursorState) → before c next ≡ at → ((leaf : ℕ) → IsLeaf c leaf → place_at c leaf ≢ Some place) → HasNoLineAt at.games place
 no_line_there c next place at is none = rw (← is) (no_line c place none)

@@ -6,23 +6,23 @@ use Rattle.sgf_tree.specs.Tree.{Games, node_count}
 use Rattle.sgf_tree.specs.FileOrder.{place_at, game_of, IsLeaf}
 use Rattle.sgf_lines.specs.Lines.{lines, place_of, last_number}
 use Rattle.sgf_lines.specs.Paths.{Path, paths, leaf_of}
-use Rattle.sgf_lines.specs.inner.Ways.{IsWayTo, top, step, HasNoLeaf, IsNextLeaf}
+use Rattle.sgf_lines.specs.inner.PathTo.{IsPathTo, top, step, HasNoLeaf, IsNextLeaf}
 use Rattle.sgf_lines.specs.inner.Standing.{IsAfterLeaf, lines_before}
 use Rattle.sgf_lines.proofs.Lists.{Each, each_append, each_get, element}
 use Rattle.sgf_lines.proofs.Parents.{node_within}
 use Rattle.sgf_lines.proofs.Climbing.{last-way}
-use Rattle.sgf_lines.proofs.Ways.{IsDescent, each_path}
+use Rattle.sgf_lines.proofs.PathsTo.{IsDescent, each_path}
 use Rattle.sgf_lines.proofs.GameNumbers.{game_of_path}
 use Rattle.sgf_lines.proofs.Named.{line_at, place-line, length-paths}
-use Rattle.sgf_lines.proofs.Positions.{before_none, next_line, no_line_left, given_line}
+use Rattle.sgf_lines.proofs.CursorStates.{before_none, next_line, no_line_left, given_line}
 
 -- each node on a way is one of the collection
-pub within_way : {c : Games} {at : Option ℕ} {way : List ℕ} → IsWayTo c at way → Each (λ n. n < node_count c) way
+pub within_way : {c : Games} {at : Option ℕ} {way : List ℕ} → IsPathTo c at way → Each (λ n. n < node_count c) way
 within_way top = tt
 within_way {c = c} (step {i = i} {parent = p} {above = above} e up is) =
     subst (Each (λ n. n < node_count c)) (sym is) (each_append (λ n. n < node_count c) above (i ∷ []) (within_way up) (node_within c i p e, tt))
 
-longer : {c : Games} {i : ℕ} {way : List ℕ} → IsWayTo c (Some i) way → 0 < length way
+longer : {c : Games} {i : ℕ} {way : List ℕ} → IsPathTo c (Some i) way → 0 < length way
 longer {i = i} (step {above = above} e up is) = omega (arith, ap length is, length-append above (i ∷ []))
 
 each_head : (P : ℕ → Type 0) (ns : List ℕ) (d : ℕ) → 0 < length ns → Each P ns → P (get_or ns 0 d)
@@ -41,7 +41,7 @@ pub record IsShown (c : Games) (next : ℕ) (numbers : List ℕ) : Type 0 where
 same_path : (p : Path) (g : ℕ) (ns : List ℕ) → p.game_number ≡ g → p.numbers ≡ ns → p ≡ record { game_number = g; numbers = ns }
 same_path p g ns e f = ap (λ n. record { game_number = n; numbers = p.numbers }) e ∙ ap (λ l. record { game_number = g; numbers = l }) f
 
-shown_at : (c : Games) (i : ℕ) (numbers : List ℕ) → i < node_count c → IsLeaf c i → IsWayTo c (Some i) numbers → IsShown c (suc i) numbers
+shown_at : (c : Games) (i : ℕ) (numbers : List ℕ) → i < node_count c → IsLeaf c i → IsPathTo c (Some i) numbers → IsShown c (suc i) numbers
 shown_at c i numbers lt leaf way =
     let more : suc i ≡ i + 1 = omega arith in
     let less : suc i - 1 ≡ i = omega arith in
@@ -72,7 +72,7 @@ pub shows : (c : Games) (next : ℕ) (numbers : List ℕ) → IsAfterLeaf c next
 shows c zero numbers h lt = absurd (omega (arith, before_none c))
 shows c (suc i) numbers h lt =
     let is : suc i ≡ i + 1 = omega arith in
-    shown_at c i numbers (omega (arith, h.within)) (h.leaf i is) (h.way i is)
+    shown_at c i numbers (omega (arith, h.within)) (h.leaf i is) (h.path i is)
 
 -- where no leaf is left, no line is
 pub none_left : (c : Games) (next : ℕ) → HasNoLeaf c next (node_count c) → slice_get (lines c) (lines_before c next) ≡ None

@@ -13,7 +13,7 @@ use Rattle.go_board.specs.State.{State, States, set_up, turned, followed_by}
 use Rattle.go_board.specs.Reason.{reason_of}
 use Rattle.sgf_lines.specs.NodeContents.{Stones}
 use Rattle.sgf_lines.specs.NodeValues.{player_value, operation, operations, last_player}
-use Rattle.sgf_lines.specs.Step.{step_by, setup_step, taken, side_in}
+use Rattle.sgf_lines.specs.Step.{step_by, setup_step, turn_step, side_in}
 use Rattle.sgf_lines.specs.declared.contents.Moves.{Moves}
 use Rattle.sgf_lines.specs.inner.Contents.{Lists, AreTold}
 use Rattle.sgf_lines.specs.declared.step.StepFault.{StepFault}
@@ -172,19 +172,19 @@ no_reason (Some r) h = absurd (h r refl)
 
 -- a turn that was taken, or refused
 pub takes_turn : (old new : States) (k : Colour) (play : Play) (u : Unit {0}) → ((r : Reason) → IsErrOf (Ok u) (TurnIllegal r) ↔ (reason_of old.present k play ≡ Some r))
-    → new ≡ followed_by old (turned old.present k play) → (taken old.present k play (reason_of old.present k play) ≡ Ok new.present) × GrowsByOne old new
+    → new ≡ followed_by old (turned old.present k play) → (turn_step old.present k play (reason_of old.present k play) ≡ Ok new.present) × GrowsByOne old new
 takes_turn old new k play u h e =
     let none : reason_of old.present k play ≡ None = no_reason (reason_of old.present k play) (λ r is. let bad : Ok u ≡ Err (TurnIllegal r) = (h r).1 is in cc) in
     let state : new.present ≡ turned old.present k play = ap (λ (s : States). s.present) e in
-    (ap (taken old.present k play) none ∙ ap Ok (sym state), inr (e ∙ ap (followed_by old) (sym state)))
+    (ap (turn_step old.present k play) none ∙ ap Ok (sym state), inr (e ∙ ap (followed_by old) (sym state)))
 
 pub refuses_turn : (old new : States) (k : Colour) (play : Play) (fault : TurnFault) (refused : StepFault) → refused ≡ step_fault fault
     → ((r : Reason) → IsErrOf {T = Unit {0}} (Err fault) (TurnIllegal r) ↔ (reason_of old.present k play ≡ Some r)) → new ≡ old
-    → IsStepped {A = Unit {0}} (taken old.present k play (reason_of old.present k play)) old new (Err refused)
-refuses_turn old new k play fault refused is h e = subst (λ f. IsStepped {A = Unit {0}} (taken old.present k play (reason_of old.present k play)) old new (Err f)) (sym is) (by fault h)
+    → IsStepped {A = Unit {0}} (turn_step old.present k play (reason_of old.present k play)) old new (Err refused)
+refuses_turn old new k play fault refused is h e = subst (λ f. IsStepped {A = Unit {0}} (turn_step old.present k play (reason_of old.present k play)) old new (Err f)) (sym is) (by fault h)
   where
-    by : (f : TurnFault) → ((r : Reason) → IsErrOf {T = Unit {0}} (Err f) (TurnIllegal r) ↔ (reason_of old.present k play ≡ Some r)) → IsStepped {A = Unit {0}} (taken old.present k play (reason_of old.present k play)) old new (Err (step_fault f))
-    by (TurnIllegal r) h = (ap (taken old.present k play) ((h r).0 refl), e)
+    by : (f : TurnFault) → ((r : Reason) → IsErrOf {T = Unit {0}} (Err f) (TurnIllegal r) ↔ (reason_of old.present k play ≡ Some r)) → IsStepped {A = Unit {0}} (turn_step old.present k play (reason_of old.present k play)) old new (Err (step_fault f))
+    by (TurnIllegal r) h = (ap (turn_step old.present k play) ((h r).0 refl), e)
     by TurnMemory h = e
 
 -- a step that was refused, whatever would have come of it

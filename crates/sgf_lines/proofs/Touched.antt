@@ -7,7 +7,7 @@ use Rattle.sgf_tree.specs.Tree.{Node, Games, node_count}
 use Rattle.sgf_tree.specs.FileOrder.{OrderedNode, ordered_nodes, node_at, place_at, PlacesRise}
 use Rattle.sgf_lines.specs.Lines.{Line, lines}
 use Rattle.sgf_lines.specs.Paths.{Path, paths, IsPathOf}
-use Rattle.sgf_lines.specs.Plays.{different, places_of, node_places, all_touched}
+use Rattle.sgf_lines.specs.Plays.{different, places_of, node_places, touched_places}
 use Rattle.sgf_lines.proofs.Lists.{Each, each_append, each_weaker, element, get_right}
 use Rattle.sgf_lines.proofs.Standing.{length-nodes_from}
 use Rattle.sgf_lines.proofs.Named.{place_of_node, each_named}
@@ -156,7 +156,7 @@ module _ (c : Games) where
         rw is (each_append (λ i. i < to) front range (each_weaker (λ i. i < next) (λ i. i < to) (λ i lt. omega arith) front front_below) (range_below next (more + 1) to (omega arith))) in
         rw (← append_assoc xs (map (place_number c) new) (flat_map (λ numbers. map (place_number c) numbers) news)) (covers_all (xs ++ map (place_number c) new) f within new_below grown)
 
-    pub touched_all : all_touched (lines c) ≡ node_places c
+    pub touched_all : touched_places (lines c) ≡ node_places c
     touched_all =
         let f = paths_follow c in
         let none : Covers 0 [] = record { once = refl; all = λ i lt. absurd (omega arith); only = tt } in

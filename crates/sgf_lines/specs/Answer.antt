@@ -8,23 +8,23 @@ use Rattle.sgf_tree.specs.Refusal.{IsFaultyAt}
 pub use Rattle.sgf_tree.specs.declared.fault.TheConstants.{MAX_LENGTH}
 use Rattle.sgf_lines.specs.Lines.{Line, lines}
 use Rattle.sgf_lines.specs.Page.{page, lines_after}
-use Rattle.sgf_lines.specs.Output.{output}
+use Rattle.sgf_lines.specs.Record.{output}
 use Rattle.sgf_lines.specs.Ends.{SourceState, SinkState}
 use Rattle.sgf_lines.specs.declared.options.Form.{Form}
 use Rattle.sgf_lines.specs.declared.options.Options.{Options}
 use Rattle.sgf_lines.specs.declared.fault.RunFault.{RunFault}
 use Rattle.sgf_lines.specs.declared.fault.RunFault.TheVariants.{Read, TooLong, NotSgf, NoSuchLine, Write, Memory}
 
--- the source is at its end, and what it gave is within the limit
+-- the source is at its end, and gave at most MAX_LENGTH bytes
 pub record IsWhole (given : List ℕ) (to_come : Option (List ℕ)) : Type 0 where
   pub at_end : IsAtEnd to_come
   pub within : length given ≤ MAX_LENGTH
 
 -- what the source gave spells a collection of which these lines are the page
-pub record HasPage (options : Options) (given : List ℕ) (ls : List Line) : Type 0 where
+pub record HasPage (options : Options) (given : List ℕ) (asked : List Line) : Type 0 where
   pub games : Games
   pub spelled : Spells games given
-  pub page_is : page options games ≡ Some ls
+  pub page_is : page options games ≡ Some asked
 
 -- what the source gave spells a collection that has no line with the place that is asked for
 pub record HasNoLine (options : Options) (given : List ℕ) (place : ℕ) : Type 0 where
@@ -33,38 +33,38 @@ pub record HasNoLine (options : Options) (given : List ℕ) (place : ℕ) : Type
   pub asked : options.after ≡ Some place
   pub none : lines_after (lines games) place ≡ None
 
--- a front of the output: the records of the first k lines whole, and of the next less than the whole
-pub record IsCutShort (form : Form) (ls : List Line) (k : ℕ) (taken : List ℕ) : Type 0 where
-  pub front : (rest : List ℕ) × (output form ls ≡ taken ++ rest)
-  pub lines : k ≤ length ls
-  pub whole : length (output form (take k ls)) ≤ length taken
-  pub no_more : k < length ls → length taken < length (output form (take (k + 1) ls))
+-- a front of the output: the records of the first `count` lines whole, and of the next less than the whole
+pub record IsCutShort (form : Form) (page : List Line) (count : ℕ) (taken : List ℕ) : Type 0 where
+  pub front : (rest : List ℕ) × (output form page ≡ taken ++ rest)
+  pub lines : count ≤ length page
+  pub whole : length (output form (take count page)) ≤ length taken
+  pub no_more : count < length page → length taken < length (output form (take (count + 1) page))
 
--- exactly the records of the first k lines
-pub record IsCutBetween (form : Form) (ls : List Line) (k : ℕ) (taken : List ℕ) : Type 0 where
-  pub lines : k ≤ length ls
-  pub taken_is : taken ≡ output form (take k ls)
+-- exactly the records of the first `count` lines
+pub record IsCutBetween (form : Form) (page : List Line) (count : ℕ) (taken : List ℕ) : Type 0 where
+  pub lines : count ≤ length page
+  pub taken_is : taken ≡ output form (take count page)
 
 -- What holds of the bytes that the source gave, of those that are to come, and of the bytes that the sink took.
 abbrev pub Answers : Options → List ℕ → Option (List ℕ) → List ℕ → Result ℕ RunFault → Type 0
-Answers o given to_come taken (Ok k) =
-    IsWhole given to_come × ((ls : List Line) × HasPage o given ls × (taken ≡ output o.form ls) × (k ≡ length ls))
-Answers o given to_come taken (Err Read) = (length given ≤ MAX_LENGTH) × (taken ≡ [])
-Answers o given to_come taken (Err TooLong) = (MAX_LENGTH < length given) × (taken ≡ [])
-Answers o given to_come taken (Err (NotSgf at len)) = IsWhole given to_come × IsFaultyAt given at × (len ≡ length given) × (taken ≡ [])
-Answers o given to_come taken (Err (NoSuchLine place)) = IsWhole given to_come × HasNoLine o given place × (taken ≡ [])
-Answers o given to_come taken (Err (Write k)) = IsWhole given to_come × ((ls : List Line) × HasPage o given ls × IsCutShort o.form ls k taken)
-Answers o given to_come taken (Err (Memory k)) =
-    (IsWhole given to_come × ((ls : List Line) × HasPage o given ls × IsCutBetween o.form ls k taken)) ⊎ ((k ≡ 0) × (taken ≡ []))
+Answers options given to_come taken (Ok count) =
+    IsWhole given to_come × ((page : List Line) × HasPage options given page × (taken ≡ output options.form page) × (count ≡ length page))
+Answers options given to_come taken (Err Read) = (length given ≤ MAX_LENGTH) × (taken ≡ [])
+Answers options given to_come taken (Err TooLong) = (MAX_LENGTH < length given) × (taken ≡ [])
+Answers options given to_come taken (Err (NotSgf at len)) = IsWhole given to_come × IsFaultyAt given at × (len ≡ length given) × (taken ≡ [])
+Answers options given to_come taken (Err (NoSuchLine place)) = IsWhole given to_come × HasNoLine options given place × (taken ≡ [])
+Answers options given to_come taken (Err (Write count)) = IsWhole given to_come × ((page : List Line) × HasPage options given page × IsCutShort options.form page count taken)
+Answers options given to_come taken (Err (Memory count)) =
+    (IsWhole given to_come × ((page : List Line) × HasPage options given page × IsCutBetween options.form page count taken)) ⊎ ((count ≡ 0) × (taken ≡ []))
 
 -- The answer of a run, by how it finds its ends and how it leaves them.
-pub record IsRun (o : Options) (source new_source : SourceState) (sink new_sink : SinkState) (result : Result ℕ RunFault) : Type 0 where
+pub record IsRun (options : Options) (source new_source : SourceState) (sink new_sink : SinkState) (result : Result ℕ RunFault) : Type 0 where
   pub given : List ℕ
   pub taken : List ℕ
   pub gives : Appends source.given new_source.given given
   pub consumes : Consumes source.to_come new_source.to_come given
   pub takes : Appends sink.taken new_sink.taken taken
-  pub answers : Answers o given new_source.to_come taken result
+  pub answers : Answers options given new_source.to_come taken result
 
 -- how many failures of the source a fault tells of, and how many of the sink
 abbrev pub reads_failed : Option RunFault → ℕ

@@ -15,6 +15,6 @@ raised_verdict by BadSize = BadSize
 
 -- the record in list form of a line that stands `by` bytes further on, after so many games: its place and that of an
 -- illegal node are raised by the bytes, and the number of its game by the games
-abbrev pub raised_row : ℕ → ℕ → Line → List ℕ
-raised_row by games line =
+abbrev pub raised_record : ℕ → ℕ → Line → List ℕ
+raised_record by games line =
     row_text (by + place_of line) (games + line.game_number) (length line.nodes) (raised_verdict by (verdict line)) ++ codes "\n"

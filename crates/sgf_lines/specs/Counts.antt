@@ -14,7 +14,7 @@ use Rattle.sgf_lines.specs.declared.fault.RunFault.TheVariants.{Read, TooLong, N
 
 -- the games of a collection, its nodes at every depth, and its lines
 abbrev pub counts_of : Games → Counts
-counts_of c = record { games = game_count c; nodes = node_count c; lines = length (lines c) }
+counts_of games = record { games = game_count games; nodes = node_count games; lines = length (lines games) }
 
 -- the three counts in one row
 abbrev pub counts_row : Counts → List ℕ
@@ -22,13 +22,13 @@ counts_row counts = decimal counts.games ++ codes " " ++ decimal counts.nodes ++
 
 -- What holds of the bytes that the source gave, and of those that are to come.
 abbrev pub AnswersCount : List ℕ → Option (List ℕ) → Result Counts RunFault → Type 0
-AnswersCount given to_come (Ok counts) = IsWhole given to_come × ((c : Games) × Spells c given × (counts ≡ counts_of c))
+AnswersCount given to_come (Ok counts) = IsWhole given to_come × ((games : Games) × Spells games given × (counts ≡ counts_of games))
 AnswersCount given to_come (Err Read) = length given ≤ MAX_LENGTH
 AnswersCount given to_come (Err TooLong) = MAX_LENGTH < length given
 AnswersCount given to_come (Err (NotSgf at len)) = IsWhole given to_come × IsFaultyAt given at × (len ≡ length given)
 AnswersCount given to_come (Err (NoSuchLine place)) = ⊥
-AnswersCount given to_come (Err (Write k)) = ⊥
-AnswersCount given to_come (Err (Memory k)) = k ≡ 0
+AnswersCount given to_come (Err (Write count)) = ⊥
+AnswersCount given to_come (Err (Memory count)) = count ≡ 0
 
 -- The answer of a count, by how it finds its source and how it leaves it.
 pub record IsCount (source new_source : SourceState) (result : Result Counts RunFault) : Type 0 where
@@ -44,11 +44,11 @@ AnswersRow row taken (Err Read) = ⊥
 AnswersRow row taken (Err TooLong) = ⊥
 AnswersRow row taken (Err (NotSgf at len)) = ⊥
 AnswersRow row taken (Err (NoSuchLine place)) = ⊥
-AnswersRow row taken (Err (Write k)) = (k ≡ 0) × ((rest : List ℕ) × (row ≡ taken ++ rest))
-AnswersRow row taken (Err (Memory k)) = ⊥
+AnswersRow row taken (Err (Write count)) = (count ≡ 0) × ((rest : List ℕ) × (row ≡ taken ++ rest))
+AnswersRow row taken (Err (Memory count)) = ⊥
 
 -- The answer of writing a row, by how it finds its sink and how it leaves it.
-pub record IsRow {A : Type 0} (row : List ℕ) (sink new_sink : SinkState) (result : Result A RunFault) : Type 0 where
+pub record IsWriting {A : Type 0} (row : List ℕ) (sink new_sink : SinkState) (result : Result A RunFault) : Type 0 where
   pub taken : List ℕ
   pub takes : Appends sink.taken new_sink.taken taken
   pub answers : AnswersRow row taken result

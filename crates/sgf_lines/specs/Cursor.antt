@@ -9,12 +9,12 @@ use Rattle.sgf_lines.specs.declared.seek.SeekFault.{SeekFault}
 use Rattle.sgf_lines.specs.declared.seek.SeekFault.TheVariants.{NoSuchLine, Memory}
 
 -- a collection, and the index of the cursor's next line, from 0: so many lines stand before it
-pub record Position : Type 0 where
+pub record CursorState : Type 0 where
   pub games : Games
   pub index : ℕ
 
 -- one line later
-abbrev pub advanced : Position → Position
+abbrev pub advanced : CursorState → CursorState
 advanced at = record { games = at.games; index = at.index + 1 }
 
 -- what is shown of a line: its path, and its place (that both are of one line is the law `named`)
@@ -30,19 +30,19 @@ pub record IsLine (games : Games) (index : ℕ) (line : LineRef) : Type 0 where
   pub path : slice_get (paths games) index ≡ Some (shown line).path
   pub place : option_map place_of (slice_get (lines games) index) ≡ Some (shown line).place
 
--- the line at a position, or none after the last one
-abbrev pub GivesLine : Position → Option LineRef → Type 0
+-- the next line, or none after the last one
+abbrev pub GivesLine : CursorState → Option LineRef → Type 0
 GivesLine at None = slice_get (lines at.games) at.index ≡ None
 GivesLine at (Some line) = IsLine at.games at.index line
 
 -- a line takes the cursor one line on; at the end and after a refusal it is unchanged
-abbrev pub LeavesCursor : Position → Result (Option LineRef) MemoryFault → Position → Type 0
+abbrev pub LeavesCursor : CursorState → Result (Option LineRef) MemoryFault → CursorState → Type 0
 LeavesCursor old (Ok (Some line)) new = new ≡ advanced old
 LeavesCursor old (Ok None) new = new ≡ old
 LeavesCursor old (Err fault) new = new ≡ old
 
--- the position directly after the line with this place
-pub record IsAfterPlace (place : ℕ) (old new : Position) : Type 0 where
+-- directly after the line with this place
+pub record IsAfterPlace (place : ℕ) (old new : CursorState) : Type 0 where
   pub index : ℕ
   pub line : option_map place_of (slice_get (lines old.games) index) ≡ Some place
   pub new_is : new ≡ record { games = old.games; index = index + 1 }

@@ -34,15 +34,15 @@ side_of (Some raw) = side_from (number_of raw)
 
 -- what the root says: another game, a size that there isn't, or a board of that side
 pub data GameKind : Type 0 where
-  other_game : GameKind
-  no_board : GameKind
+  not_go : GameKind
+  bad_size : GameKind
   board : (side : ℕ) → GameKind
 
 abbrev pub game_kind_on : Option ℕ → GameKind
-game_kind_on None = no_board
+game_kind_on None = bad_size
 game_kind_on (Some side) = board side
 
 -- a game that isn't Go is found before a faulty size; GM and SZ of other nodes have no effect (this project's choices)
 abbrev pub game_kind : List Property → GameKind
-game_kind ps =
-    if is_go (first_value (codes "GM") ps) then game_kind_on (side_of (first_value (codes "SZ") ps)) else other_game
+game_kind properties =
+    if is_go (first_value (codes "GM") properties) then game_kind_on (side_of (first_value (codes "SZ") properties)) else not_go

@@ -18,9 +18,9 @@ pub record Line : Type 0 where
   pub game_number : ℕ
   pub nodes : List Node
 
--- the ways through the game of this number
+-- the lines of the game of this number, by their nodes
 abbrev pub lines_of_game : ℕ → List (List Node) → List Line
-lines_of_game number ways = map (λ nodes. record { game_number = number; nodes = nodes }) ways
+lines_of_game number variations = map (λ nodes. record { game_number = number; nodes = nodes }) variations
 
 -- the lines of games, the first of which has this number
 abbrev pub lines_from : ℕ → Games → List Line
@@ -30,7 +30,7 @@ lines_from number (game first more below after) =
 
 -- the lines of a collection, those of an earlier game and of an earlier child tree first
 abbrev pub lines : Games → List Line
-lines c = lines_from 1 c
+lines games = lines_from 1 games
 
 -- the last of some numbers, or 0 where there is none
 abbrev pub last_number : List ℕ → ℕ

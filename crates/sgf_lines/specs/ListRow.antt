@@ -17,8 +17,8 @@ verdict_text BadSize = codes "unjudged size"
 
 -- the row of a line with this place, in the game of this number, with so many nodes and this verdict; no line feed
 abbrev pub row_text : ℕ → ℕ → ℕ → Verdict → List ℕ
-row_text place game_number count v =
-    decimal place ++ codes " " ++ decimal game_number ++ codes " " ++ decimal count ++ codes " " ++ verdict_text v
+row_text place game_number count told =
+    decimal place ++ codes " " ++ decimal game_number ++ codes " " ++ decimal count ++ codes " " ++ verdict_text told
 
 abbrev pub list_row : Line → List ℕ
 list_row line = row_text (place_of line) line.game_number (length line.nodes) (verdict line)

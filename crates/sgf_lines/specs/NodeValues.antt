@@ -22,17 +22,17 @@ player_value raw =
     if bytes_eq raw (codes "B") then Some Black
     else (if bytes_eq raw (codes "W") then Some White else None)
 
--- the operation that stones are: they colour a rectangle of the board
+-- the operation that a value of AB, AW or AE names: it colours a rectangle of the board
 abbrev pub operation : Stones → ℕ → Option SetupOp
-operation s side = option_map (λ area. record { cell = s.cell; area = area }) (rect_value s.raw side)
+operation value side = option_map (λ area. record { cell = value.cell; area = area }) (rect_value value.raw side)
 
--- the operations that all of them are, in order; none where one of them names no rectangle of the board
+-- the operations that such values name, in order; none where one of them names no rectangle of the board
 abbrev pub operations : List Stones → ℕ → Option (List SetupOp)
 operations [] side = Some []
-operations (s ∷ ss) side =
-    option_and_then (λ op. option_map (λ ops. op ∷ ops) (operations ss side)) (operation s side)
+operations (value ∷ values) side =
+    option_and_then (λ op. option_map (λ ops. op ∷ ops) (operations values side)) (operation value side)
 
 -- the last player named, after one who was named before or none; nothing where one of the values names no player
 abbrev pub last_player : Option Colour → List (List ℕ) → Option (Option Colour)
 last_player before [] = Some before
-last_player before (raw ∷ raws) = option_and_then (λ k. last_player (Some k) raws) (player_value raw)
+last_player before (raw ∷ raws) = option_and_then (λ colour. last_player (Some colour) raws) (player_value raw)

@@ -7,18 +7,18 @@ use Rattle.sgf_lines.specs.declared.options.Options.{Options}
 -- the lines that follow the line with a place; none where no line has that place
 abbrev pub lines_after : List Line → ℕ → Option (List Line)
 lines_after [] place = None
-lines_after (l ∷ ls) place = if place_of l == place then Some ls else lines_after ls place
+lines_after (line ∷ others) place = if place_of line == place then Some others else lines_after others place
 
--- those that follow the line with a place, where one is given, else all
-abbrev pub lines_from_place : List Line → Option ℕ → Option (List Line)
-lines_from_place ls None = Some ls
-lines_from_place ls (Some place) = lines_after ls place
+-- the lines after the line with that place, where a place is asked for, else all
+abbrev pub lines_asked : List Line → Option ℕ → Option (List Line)
+lines_asked lines None = Some lines
+lines_asked lines (Some place) = lines_after lines place
 
 -- at most so many lines, the first ones, where a limit is given, else all
 abbrev pub limited : Option ℕ → List Line → List Line
-limited None ls = ls
-limited (Some limit) ls = take limit ls
+limited None lines = lines
+limited (Some limit) lines = take limit lines
 
 -- the page that the options ask for; none where no line has the place that they name
 abbrev pub page : Options → Games → Option (List Line)
-page options c = option_map (limited options.limit) (lines_from_place (lines c) options.after)
+page options games = option_map (limited options.limit) (lines_asked (lines games) options.after)

@@ -5,7 +5,7 @@ use Rattle.sgf_tree.specs.Tree.{Games, no_games, game, node_count}
 use Rattle.sgf_tree.specs.FileOrder.{node_at}
 use Rattle.sgf_lines.specs.Lines.{Line, through, last_number}
 
--- the ways through games whose first node has the number `at`
+-- the variations through games whose first node has the number `at`
 abbrev pub number_lines : ℕ → Games → List (List ℕ)
 number_lines at no_games = []
 number_lines at (game first more below after) =
@@ -18,9 +18,9 @@ pub record Path : Type 0 where
   pub game_number : ℕ
   pub numbers : List ℕ
 
--- the ways through the game of this number
+-- the paths of the game of this number, by the numbers of their nodes
 abbrev pub paths_of_game : ℕ → List (List ℕ) → List Path
-paths_of_game number ways = map (λ numbers. record { game_number = number; numbers = numbers }) ways
+paths_of_game number variations = map (λ numbers. record { game_number = number; numbers = numbers }) variations
 
 -- the paths of games, of which the first has this number and begins at the node `at`
 abbrev pub paths_from : ℕ → ℕ → Games → List Path
@@ -32,13 +32,13 @@ paths_from number at (game first more below after) =
 
 -- the paths of a collection's lines, in the same order
 abbrev pub paths : Games → List Path
-paths c = paths_from 1 0 c
+paths games = paths_from 1 0 games
 
 -- the number of a path's last node, which is a leaf
 abbrev pub leaf_of : Path → ℕ
 leaf_of path = last_number path.numbers
 
 -- the path names the nodes of the line, in the same game
-pub record IsPathOf (c : Games) (line : Line) (path : Path) : Type 0 where
+pub record IsPathOf (games : Games) (line : Line) (path : Path) : Type 0 where
   pub game_number : path.game_number ≡ line.game_number
-  pub nodes : map (node_at c) path.numbers ≡ map Some line.nodes
+  pub nodes : map (node_at games) path.numbers ≡ map Some line.nodes

@@ -20,11 +20,11 @@ places_of nodes = map (λ n. n.place) nodes
 
 -- the places of all nodes of a collection, in file order
 abbrev pub node_places : Games → List ℕ
-node_places c = map (λ r. r.node.place) (ordered_nodes c)
+node_places games = map (λ ordered. ordered.node.place) (ordered_nodes games)
 
 -- the places of the nodes that stand on some of these lines
-abbrev pub all_touched : List Line → List ℕ
-all_touched ls = different (flat_map (λ line. places_of line.nodes) ls)
+abbrev pub touched_places : List Line → List ℕ
+touched_places lines = different (flat_map (λ line. places_of line.nodes) lines)
 
 -- the places of the nodes of a line that are judged: up to the first that isn't allowed, that one among them
 abbrev pub judged_places : Line → List ℕ
@@ -32,5 +32,5 @@ judged_places line = places_of (judged_nodes line)
 
 -- The places of the nodes that are judged on some of these lines. Nodes of one text have different places, so there are as
 -- many places as nodes.
-abbrev pub all_judged : List Line → List ℕ
-all_judged ls = different (flat_map judged_places ls)
+abbrev pub all_judged_places : List Line → List ℕ
+all_judged_places lines = different (flat_map judged_places lines)

@@ -1,4 +1,4 @@
--- How a script is taken by an engine of the Go Text Protocol (GTP 2), from the bytes of the script: a command a row, from
+-- How an engine of the Go Text Protocol (GTP 2) follows a script, from the bytes of the script: a command a row, from
 -- the top, on a board of a given side, where a stone is played by the Tromp-Taylor rules.
 use Rattle.std.specs.Prelude.{ℕ, Bool, true, false, ◌-◌, ◌==◌, ◌||◌, ◌&&◌, nat_le, nat_lt, if◌then◌else◌, Option, Some, None, option_and_then, List, [], ◌∷◌, filter, map, fold, codes, bytes_eq}
 use Rattle.std.specs.List.{slice_split, position}
@@ -53,41 +53,41 @@ point_named side (letter ∷ digits) =
     option_and_then (λ col. option_and_then (point_there side col) (magnitude_of digits))
     (position (λ l. l == capital letter) column_letters)
 
--- what a row does to the board: it empties it, plays a stone, or leaves it
+-- what a row does to the board: it clears it, plays a stone, or does nothing
 pub data Command : Type 0 where
   clears : Command
-  plays : (colour : Colour) (point : Point) → Command
-  leaves : Command
+  plays_stone : (colour : Colour) (point : Point) → Command
+  does_nothing : Command
 
 abbrev pub play_of : Option Colour → Option Point → Command
-play_of (Some colour) (Some point) = plays colour point
-play_of (Some colour) None = leaves
-play_of None point = leaves
+play_of (Some colour) (Some point) = plays_stone colour point
+play_of (Some colour) None = does_nothing
+play_of None point = does_nothing
 
 -- the command of words: `clear_board`, `play` with a colour and a point, or another
 abbrev pub command_of : ℕ → List (List ℕ) → Command
-command_of side [] = leaves
-command_of side (name ∷ []) = if bytes_eq name (codes "clear_board") then clears else leaves
-command_of side (name ∷ first ∷ []) = leaves
+command_of side [] = does_nothing
+command_of side (name ∷ []) = if bytes_eq name (codes "clear_board") then clears else does_nothing
+command_of side (name ∷ first ∷ []) = does_nothing
 command_of side (name ∷ first ∷ second ∷ []) =
-    if bytes_eq name (codes "play") then play_of (colour_named first) (point_named side second) else leaves
-command_of side (name ∷ first ∷ second ∷ third ∷ more) = leaves
+    if bytes_eq name (codes "play") then play_of (colour_named first) (point_named side second) else does_nothing
+command_of side (name ∷ first ∷ second ∷ third ∷ more) = does_nothing
 
 -- the board after a command; none where a stone is played on a point that isn't empty
 abbrev pub after_command : ℕ → Grid → Command → Option Grid
 after_command side board clears = Some (empty_grid side)
-after_command side board (plays colour point) =
+after_command side board (plays_stone colour point) =
     if same_cell (cell_at board point) Empty then Some (play board colour point) else None
-after_command side board leaves = Some board
+after_command side board does_nothing = Some board
 
 -- one row later
 abbrev pub after_row : ℕ → Option Grid → List ℕ → Option Grid
 after_row side board row = option_and_then (λ (g : Grid). after_command side g (command_of side (words row))) board
 
--- the rows of a text taken from the top
+-- the rows of a text followed from the top
 abbrev pub after_text : ℕ → Option Grid → List ℕ → Option Grid
 after_text side board text = fold (after_row side) board (slice_split (λ b. b == line_feed) text)
 
--- the board after a whole script, which begins with an empty one; none where a stone is played on a point that isn't empty
+-- the board after a whole script, from an empty board; none where a stone is played on a point that isn't empty
 abbrev pub replayed : ℕ → List ℕ → Option Grid
 replayed side script = after_text side (Some (empty_grid side)) script

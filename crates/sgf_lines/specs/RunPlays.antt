@@ -1,7 +1,7 @@
 -- A run that is asked how many nodes it played: what the result says of them, beside what it says of the bytes.
 use Rattle.std.specs.Prelude.{◌≡◌, ℕ, ◌+◌, ◌≤◌, ◌⊎◌, List, length, take, Option, Result, Ok, Err}
 use Rattle.sgf_lines.specs.Lines.{Line}
-use Rattle.sgf_lines.specs.Plays.{all_judged}
+use Rattle.sgf_lines.specs.Plays.{all_judged_places}
 use Rattle.sgf_lines.specs.Ends.{SourceState, SinkState}
 use Rattle.sgf_lines.specs.Answer.{IsWhole, HasPage, IsRun}
 use Rattle.sgf_lines.specs.declared.options.Form.{Form}
@@ -12,33 +12,33 @@ use Rattle.sgf_lines.specs.declared.fault.RunFault.TheVariants.{Read, TooLong, N
 
 -- of so many judged nodes how many are played: in sgf form, which has no verdict, none
 abbrev pub plays_in : Form → ℕ → ℕ
-plays_in list_form judged_nodes = judged_nodes
-plays_in sgf_form judged_nodes = 0
-plays_in gtp_form judged_nodes = judged_nodes
+plays_in list_form count = count
+plays_in sgf_form count = 0
+plays_in gtp_form count = count
 
 -- how many nodes are played for these lines: each node that is judged on some of them, once
 abbrev pub plays_of : Form → List Line → ℕ
-plays_of form ls = plays_in form (length (all_judged ls))
+plays_of form lines = plays_in form (length (all_judged_places lines))
 
--- at least as many as for the first k lines, and at most as many as for these and the next one
-pub record ArePlaysFor (form : Form) (ls : List Line) (k plays : ℕ) : Type 0 where
-  pub at_least : plays_of form (take k ls) ≤ plays
-  pub at_most : plays ≤ plays_of form (take (k + 1) ls)
+-- at least as many as for the first `count` lines, and at most as many as for these and the next one
+pub record ArePlaysFor (form : Form) (page : List Line) (count plays : ℕ) : Type 0 where
+  pub at_least : plays_of form (take count page) ≤ plays
+  pub at_most : plays ≤ plays_of form (take (count + 1) page)
 
 -- What holds of the number of nodes that were played, with a case for each answer, as `Answers` has them for the bytes.
 abbrev pub AnswersPlays : Options → List ℕ → Option (List ℕ) → ℕ → Result ℕ RunFault → Type 0
-AnswersPlays o given to_come plays (Ok k) = (ls : List Line) × HasPage o given ls × (plays ≡ plays_of o.form ls)
-AnswersPlays o given to_come plays (Err Read) = plays ≡ 0
-AnswersPlays o given to_come plays (Err TooLong) = plays ≡ 0
-AnswersPlays o given to_come plays (Err (NotSgf at len)) = plays ≡ 0
-AnswersPlays o given to_come plays (Err (NoSuchLine place)) = plays ≡ 0
-AnswersPlays o given to_come plays (Err (Write k)) = (ls : List Line) × HasPage o given ls × ArePlaysFor o.form ls k plays
-AnswersPlays o given to_come plays (Err (Memory k)) =
-    (IsWhole given to_come × ((ls : List Line) × HasPage o given ls × ArePlaysFor o.form ls k plays)) ⊎ ((k ≡ 0) × (plays ≡ 0))
+AnswersPlays options given to_come plays (Ok count) = (page : List Line) × HasPage options given page × (plays ≡ plays_of options.form page)
+AnswersPlays options given to_come plays (Err Read) = plays ≡ 0
+AnswersPlays options given to_come plays (Err TooLong) = plays ≡ 0
+AnswersPlays options given to_come plays (Err (NotSgf at len)) = plays ≡ 0
+AnswersPlays options given to_come plays (Err (NoSuchLine place)) = plays ≡ 0
+AnswersPlays options given to_come plays (Err (Write count)) = (page : List Line) × HasPage options given page × ArePlaysFor options.form page count plays
+AnswersPlays options given to_come plays (Err (Memory count)) =
+    (IsWhole given to_come × ((page : List Line) × HasPage options given page × ArePlaysFor options.form page count plays)) ⊎ ((count ≡ 0) × (plays ≡ 0))
 
 -- The answer of a run, where the plays went from `old` to `new`.
-pub record IsRunWithPlays (o : Options) (source new_source : SourceState) (sink new_sink : SinkState) (old new : ℕ) (result : Result ℕ RunFault) : Type 0 where
-  pub run : IsRun o source new_source sink new_sink result
+pub record IsRunWithPlays (options : Options) (source new_source : SourceState) (sink new_sink : SinkState) (old new : ℕ) (result : Result ℕ RunFault) : Type 0 where
+  pub run : IsRun options source new_source sink new_sink result
   pub plays : ℕ
   pub rises : new ≡ old + plays
-  pub answers : AnswersPlays o run.given new_source.to_come plays result
+  pub answers : AnswersPlays options run.given new_source.to_come plays result

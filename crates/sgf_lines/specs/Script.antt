@@ -20,7 +20,7 @@ use Rattle.go_board.specs.State.{State}
 use Rattle.sgf_lines.specs.Lines.{Line}
 use Rattle.sgf_lines.specs.NodeContents.{Move, Stones, moves, stones, first_value}
 use Rattle.sgf_lines.specs.NodeValues.{move_value}
-use Rattle.sgf_lines.specs.JudgedGames.{GameKind, other_game, no_board, board, game_kind, root_properties}
+use Rattle.sgf_lines.specs.JudgedGames.{GameKind, not_go, bad_size, board, game_kind, root_properties}
 use Rattle.sgf_lines.specs.Walk.{TakenNode, Walk, walk}
 use Rattle.sgf_lines.specs.ListRow.{list_row}
 
@@ -40,7 +40,7 @@ comment_text (Some raw) = text_of raw
 
 -- the comment of a node, which is the first value of its first C
 abbrev pub comment_rows : Node → List ℕ
-comment_rows n = text_rows (comment_text (first_value (codes "C") n.properties))
+comment_rows node = text_rows (comment_text (first_value (codes "C") node.properties))
 
 -- B or W
 abbrev pub colour_letter : Colour → List ℕ
@@ -49,59 +49,59 @@ colour_letter White = codes "W"
 
 -- a vertex as it is written, or `pass`
 abbrev pub vertex_text : Vertex → List ℕ
-vertex_text v = v.letter ∷ decimal v.row
+vertex_text vertex = vertex.letter ∷ decimal vertex.row
 
 abbrev pub play_text : ℕ → Play → List ℕ
 play_text side Pass = codes "pass"
-play_text side (Stone p) = vertex_text (vertex_of p side)
+play_text side (Stone point) = vertex_text (vertex_of point side)
 
 abbrev pub play_command : ℕ → Colour → Play → List ℕ
-play_command side k play = codes "play " ++ colour_letter k ++ codes " " ++ play_text side play ++ codes "\n"
+play_command side colour play = codes "play " ++ colour_letter colour ++ codes " " ++ play_text side play ++ codes "\n"
 
 -- the points of a colour, row by row from the top, from left to right
 abbrev pub stones_on : Grid → Colour → List Point
-stones_on g k = filter (λ p. same_cell (cell_at g p) (stone_of k)) (points g.side)
+stones_on grid colour = filter (λ point. same_cell (cell_at grid point) (stone_of colour)) (points grid.side)
 
 abbrev pub stone_commands : Grid → Colour → List ℕ
-stone_commands g k = flat_map (λ p. play_command g.side k (Stone p)) (stones_on g k)
+stone_commands grid colour = flat_map (λ point. play_command grid.side colour (Stone point)) (stones_on grid colour)
 
 -- a whole colouring: all black stones, then all white ones
 abbrev pub colouring_commands : Grid → List ℕ
-colouring_commands g = codes "clear_board\n" ++ stone_commands g Black ++ stone_commands g White
+colouring_commands grid = codes "clear_board\n" ++ stone_commands grid Black ++ stone_commands grid White
 
 -- where a node has stones, the colouring after it
 abbrev pub setup_commands : Grid → List Stones → List ℕ
-setup_commands g [] = []
-setup_commands g (t ∷ ts) = colouring_commands g
+setup_commands grid [] = []
+setup_commands grid (value ∷ values) = colouring_commands grid
 
 -- where a node has a move, its play
 abbrev pub move_commands_by : ℕ → Colour → Option Play → List ℕ
-move_commands_by side k None = []
-move_commands_by side k (Some play) = play_command side k play
+move_commands_by side colour None = []
+move_commands_by side colour (Some play) = play_command side colour play
 
 abbrev pub move_commands : ℕ → List Move → List ℕ
-move_commands side ms = flat_map (λ m. move_commands_by side m.player (move_value m.raw side)) ms
+move_commands side moves = flat_map (λ move. move_commands_by side move.player (move_value move.raw side)) moves
 
 -- what a node adds, where its step leads to this state
 abbrev pub node_script : State → Node → List ℕ
-node_script after n =
-    let g : Grid = after.colouring in
-    comment_rows n ++ setup_commands g (stones n) ++ move_commands g.side (moves n)
+node_script after node =
+    let grid : Grid = after.colouring in
+    comment_rows node ++ setup_commands grid (stones node) ++ move_commands grid.side (moves node)
 
 abbrev pub taken_script : TakenNode → List ℕ
-taken_script p = node_script p.after p.node
+taken_script taken = node_script taken.after taken.node
 
--- whether a node sets up stones of which one doesn't reach empty, which no play on a board can lead to
+-- whether a node's setup leaves a stone without a liberty on the board, which no moves lead to
 abbrev pub leaves_unreaching_by : Grid → List Stones → Bool
-leaves_unreaching_by g [] = false
-leaves_unreaching_by g (t ∷ ts) = has_unreaching g
+leaves_unreaching_by grid [] = false
+leaves_unreaching_by grid (value ∷ values) = has_unreaching grid
 
 abbrev pub leaves_unreaching : TakenNode → Bool
-leaves_unreaching p = leaves_unreaching_by p.after.colouring (stones p.node)
+leaves_unreaching taken = leaves_unreaching_by taken.after.colouring (stones taken.node)
 
--- whether a walk can't be said in commands: the side is past the letters, or some setup can't be put on a board
+-- whether a walk can't be said in commands: the board has more columns than GTP has letters, or some setup leaves a stone without a liberty
 abbrev pub has_no_commands : ℕ → Walk → Bool
-has_no_commands side w = nat_lt MAX_VERTEX_SIDE side || list_any leaves_unreaching w.taken
+has_no_commands side walked = nat_lt MAX_VERTEX_SIDE side || list_any leaves_unreaching walked.taken
 
 -- the commands before the first node's
 abbrev pub board_commands : ℕ → List ℕ
@@ -109,13 +109,13 @@ board_commands side = codes "boardsize " ++ decimal side ++ codes "\nclear_board
 
 -- the commands of a walk: those of all nodes before the illegal one
 abbrev pub commands_of : ℕ → Walk → List ℕ
-commands_of side w =
-    if has_no_commands side w then [] else board_commands side ++ flat_map taken_script w.taken
+commands_of side walked =
+    if has_no_commands side walked then [] else board_commands side ++ flat_map taken_script walked.taken
 
 -- a line that isn't judged has none
 abbrev pub commands_by : GameKind → List Node → List ℕ
-commands_by other_game nodes = []
-commands_by no_board nodes = []
+commands_by not_go nodes = []
+commands_by bad_size nodes = []
 commands_by (board side) nodes = commands_of side (walk side nodes)
 
 -- the line's row as a comment, its commands, and an empty row

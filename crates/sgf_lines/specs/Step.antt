@@ -14,33 +14,34 @@ use Rattle.sgf_lines.specs.NodeValues.{move_value, operations, last_player}
 
 -- the side of the board
 abbrev pub side_in : State → ℕ
-side_in s = s.colouring.side
+side_in state = state.colouring.side
 
 -- the state after a turn, or why the referee refuses it
-abbrev pub taken : State → Colour → Play → Option Reason → Result State Reason
-taken s k play (Some reason) = Err reason
-taken s k play None = Ok (turned s k play)
+abbrev pub turn_step : State → Colour → Play → Option Reason → Result State Reason
+turn_step state colour play (Some reason) = Err reason
+turn_step state colour play None = Ok (turned state colour play)
 
 -- a move's step: its value is a play, which the referee allows
 abbrev pub move_step : State → Colour → Option Play → Result State Reason
-move_step s k None = Err BadPoint
-move_step s k (Some play) = taken s k play (reason_of s k play)
+move_step state colour None = Err BadPoint
+move_step state colour (Some play) = turn_step state colour play (reason_of state colour play)
 
--- a setup's step: its stones are operations and its players are players, of whom the last one counts
+-- a setup's step: each value names a rectangle of the board or a player, and the last player counts
 abbrev pub setup_step : State → Option (List SetupOp) → Option (Option Colour) → Result State Reason
-setup_step s None last = Err BadSetup
-setup_step s (Some ops) None = Err BadSetup
-setup_step s (Some ops) (Some player) = Ok (set_up s ops player)
+setup_step state None last = Err BadSetup
+setup_step state (Some ops) None = Err BadSetup
+setup_step state (Some ops) (Some player) = Ok (set_up state ops player)
 
 -- the step by what the node holds: its moves, its stones and its players
 abbrev pub step_by : State → List Move → List Stones → List (List ℕ) → Result State Reason
-step_by s [] [] [] = Ok s
-step_by s (m ∷ ms) (t ∷ ts) ps = Err Mixed
-step_by s (m ∷ ms) [] (p ∷ ps) = Err Mixed
-step_by s (m ∷ l ∷ ms) [] [] = Err TwoMoves
-step_by s (m ∷ []) [] [] = move_step s m.player (move_value m.raw (side_in s))
-step_by s [] (t ∷ ts) ps = setup_step s (operations (t ∷ ts) (side_in s)) (last_player None ps)
-step_by s [] [] (p ∷ ps) = setup_step s (Some []) (last_player None (p ∷ ps))
+step_by state [] [] [] = Ok state
+step_by state (move ∷ more) (value ∷ values) players = Err Mixed
+step_by state (move ∷ more) [] (player ∷ players) = Err Mixed
+step_by state (move ∷ other ∷ more) [] [] = Err TwoMoves
+step_by state (move ∷ []) [] [] = move_step state move.player (move_value move.raw (side_in state))
+step_by state [] (value ∷ values) players =
+    setup_step state (operations (value ∷ values) (side_in state)) (last_player None players)
+step_by state [] [] (player ∷ players) = setup_step state (Some []) (last_player None (player ∷ players))
 
 abbrev pub step : State → Node → Result State Reason
-step s n = step_by s (moves n) (stones n) (players n)
+step state node = step_by state (moves node) (stones node) (players node)

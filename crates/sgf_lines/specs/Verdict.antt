@@ -9,25 +9,25 @@ use Rattle.sgf_lines.specs.declared.verdict.Verdict.{Verdict}
 use Rattle.sgf_lines.specs.declared.verdict.Verdict.TheVariants.{Score, Illegal, NotGo, BadSize}
 use Rattle.sgf_lines.specs.Lines.{Line, lines}
 use Rattle.sgf_lines.specs.Paths.{paths, leaf_of}
-use Rattle.sgf_lines.specs.JudgedGames.{GameKind, other_game, no_board, board, game_kind, root_properties}
+use Rattle.sgf_lines.specs.JudgedGames.{GameKind, not_go, bad_size, board, game_kind, root_properties}
 use Rattle.sgf_lines.specs.Walk.{IllegalNode, Walk, walk, judged_by}
 
 -- the scores of a state, and whether two passes in a row ended the game
 abbrev pub score_in : State → Verdict
-score_in s = Score (score_of s.colouring Black) (score_of s.colouring White) (is_over s)
+score_in state = Score (score_of state.colouring Black) (score_of state.colouring White) (is_over state)
 
 -- an illegal node is named with the number of the turn that would have come, its node's place and its reason
 abbrev pub verdict_with : State → Option IllegalNode → Verdict
-verdict_with s None = score_in s
-verdict_with s (Some met) = Illegal (s.turns + 1) met.node.place met.reason
+verdict_with state None = score_in state
+verdict_with state (Some met) = Illegal (state.turns + 1) met.node.place met.reason
 
 -- the verdict of a walk
 abbrev pub verdict_at : Walk → Verdict
-verdict_at w = verdict_with w.state w.illegal
+verdict_at walked = verdict_with walked.state walked.illegal
 
 abbrev pub verdict_by : GameKind → List Node → Verdict
-verdict_by other_game nodes = NotGo
-verdict_by no_board nodes = BadSize
+verdict_by not_go nodes = NotGo
+verdict_by bad_size nodes = BadSize
 verdict_by (board side) nodes = verdict_at (walk side nodes)
 
 -- the verdict of the nodes of a line, the root first
@@ -39,17 +39,17 @@ verdict line = verdict_of line.nodes
 
 -- the nodes of a line that are judged: all, or those up to the first that isn't allowed, or none
 abbrev pub judged_on : GameKind → List Node → List Node
-judged_on other_game nodes = []
-judged_on no_board nodes = []
+judged_on not_go nodes = []
+judged_on bad_size nodes = []
 judged_on (board side) nodes = judged_by (walk side nodes)
 
 abbrev pub judged_nodes : Line → List Node
 judged_nodes line = judged_on (game_kind (root_properties line.nodes)) line.nodes
 
 -- the verdict is that of the line of a collection that ends in the node of this number
-pub record IsVerdictAt (c : Games) (leaf : ℕ) (v : Verdict) : Type 0 where
+pub record IsVerdictAt (games : Games) (leaf : ℕ) (told : Verdict) : Type 0 where
   pub index : ℕ
   pub line : Line
-  pub found : slice_get (lines c) index ≡ Some line
-  pub ends : option_map leaf_of (slice_get (paths c) index) ≡ Some leaf
-  pub verdict_is : v ≡ verdict line
+  pub found : slice_get (lines games) index ≡ Some line
+  pub ends : option_map leaf_of (slice_get (paths games) index) ≡ Some leaf
+  pub verdict_is : told ≡ verdict line

@@ -27,16 +27,17 @@ before_root side = record { taken = []; state = starting side; illegal = None }
 
 -- a step that was taken goes on, and where it was refused, the node is the illegal one
 abbrev pub stepped : Walk → Node → Result State Reason → Walk
-stepped w n (Ok s) = record { taken = w.taken ++ record { node = n; after = s } ∷ []; state = s; illegal = None }
-stepped w n (Err reason) = record w { illegal = Some (record { node = n; reason = reason }) }
+stepped walked node (Ok state) =
+    record { taken = walked.taken ++ record { node = node; after = state } ∷ []; state = state; illegal = None }
+stepped walked node (Err reason) = record walked { illegal = Some (record { node = node; reason = reason }) }
 
 -- one node later; nothing comes after an illegal node
 abbrev pub next_by : Walk → Option IllegalNode → Node → Walk
-next_by w (Some met) n = w
-next_by w None n = stepped w n (step w.state n)
+next_by walked (Some met) node = walked
+next_by walked None node = stepped walked node (step walked.state node)
 
 abbrev pub next : Walk → Node → Walk
-next w n = next_by w w.illegal n
+next walked node = next_by walked walked.illegal node
 
 -- along nodes, from the state in which a game on a board of that side begins
 abbrev pub walk : ℕ → List Node → Walk
@@ -44,12 +45,14 @@ walk side nodes = fold next (before_root side) nodes
 
 -- the nodes that were judged: those whose steps were taken, and the illegal one
 abbrev pub judged_by : Walk → List Node
-judged_by w = map (λ (p : TakenNode). p.node) w.taken ++ map (λ (f : IllegalNode). f.node) (option_to_list w.illegal)
+judged_by walked =
+    map (λ (taken : TakenNode). taken.node) walked.taken ++ map (λ (met : IllegalNode). met.node) (option_to_list walked.illegal)
 
 -- the state after nodes whose steps are taken one after another, from a state on
 pub data IsAfter : State → List Node → State → Type 0 where
-  no_node : {s : State} → IsAfter s [] s
-  one_node : {s t u : State} {n : Node} {ns : List Node} → step s n ≡ Ok t → IsAfter t ns u → IsAfter s (n ∷ ns) u
+  no_node : {from : State} → IsAfter from [] from
+  one_node : {from between last : State} {node : Node} {nodes : List Node} → step from node ≡ Ok between → IsAfter between nodes last
+      → IsAfter from (node ∷ nodes) last
 
 -- nodes among which one is the first that isn't allowed, in the state after those before it
 pub record HasIllegal (from : State) (nodes : List Node) : Type 0 where

@@ -1,11 +1,11 @@
-pub mod Ways
+pub mod PathTo
 pub mod Standing
 pub mod Seeking
 pub mod Following
 pub mod Contents
 pub mod WithoutSetup
 pub mod Stepping
-pub mod Shown
+pub mod Views
 pub mod Running
 pub mod LinePlays
 pub mod Played
@@ -14,4 +14,3 @@ pub mod Kept
 pub mod KeptCommands
 pub mod Keeping
 pub mod Cutting
-pub mod BuiltRow

@@ -18,10 +18,10 @@ use std::alloc::Global;
 /// The commands of the nodes of a line on a board.
 #[derive(Drop)]
 pub(crate) struct Commands {
-    // none where the side is past the letters of vertices
+    // none where the board has more columns than there are letters of vertices
     kept: KeptText,
 
-    // the index of the first node that set up stones of which one doesn't reach empty
+    // the index of the first node whose setup leaves a stone without a liberty
     unreaching: Option<usize>,
 }
 
@@ -135,7 +135,7 @@ fn push_lettered(
     push_node_script(alloc, step, board, output)
 }
 
-/// Whether a node with that effect set up stones of which one doesn't reach empty.
+/// Whether the setup of a node with that effect leaves a stone without a liberty.
 fn leaves_unreaching(effect: Effect<'_>, board: &Board) -> bool
     ensures { (node : Node) → IsEffect node effect.entry
         → result ≡ leaves_unreaching_by board.now (stones node) }

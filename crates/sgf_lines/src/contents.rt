@@ -29,11 +29,11 @@ pub(crate) struct Contents<'a> {
     pub(crate) moves: Moves<'a>,
     /// The first value of its first C.
     pub(crate) comment: Option<&'a [u8]>,
-    /// What its stones set up, in order.
+    /// What its values of AB, AW and AE set up, in order.
     pub(crate) operations: Vec<SetupOp>,
     /// The player that it names last.
     pub(crate) player: Option<Colour>,
-    /// Whether some stone is no rectangle of the board, or some player is none.
+    /// Whether some value of AB, AW or AE names no rectangle of the board, or some value of PL no player.
     pub(crate) faulty: bool,
 }
 

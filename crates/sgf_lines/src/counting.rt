@@ -3,7 +3,7 @@
 ghost use Rattle.std.specs.Prelude.{◌≡◌, ◌<◌, ◌+◌, ◌++◌, length, decimal};
 ghost use Rattle.sgf_lines.specs.Lines.{lines};
 ghost use Rattle.sgf_lines.specs.Answer.{read_failures, write_failures};
-ghost use Rattle.sgf_lines.specs.Counts.{IsCount, IsRow, counts_of, counts_row};
+ghost use Rattle.sgf_lines.specs.Counts.{IsCount, IsWriting, counts_of, counts_row};
 ghost use Rattle.sgf_lines.specs.inner.Running.{PutsAll};
 
 use crate::fault::RunFault;
@@ -79,7 +79,7 @@ fn line_count(collection: &Collection<'_>) -> u64
 /// Where the sink failed it answers `Write { lines: 0 }`, and a front of the row was written.
 pub fn write_counts<T: Sink>(sink: &mut T, counts: &Counts) -> Result<(), RunFault>
     requires { (T.state sink.old).failures < u64.MAX }
-    ensures answer { IsRow (counts_row counts.now) (T.state sink.old) (T.state sink.new) result }
+    ensures answer { IsWriting (counts_row counts.now) (T.state sink.old) (T.state sink.new) result }
     ensures failures { (T.state sink.new).failures
         ≡ (T.state sink.old).failures + write_failures result }
 {
@@ -108,3 +108,6 @@ fn put_number<T: Sink>(number: u64, end: &[u8], sink: &mut T) -> Result<(), Sink
     put_all(buffer.format(number).as_bytes(), sink)?;
     put_all(end, sink)
 }
+
+#[cfg(test)]
+mod tests;

@@ -4,11 +4,11 @@ ghost use Rattle.std.specs.Prelude.{◌≡◌, ◌+◌, ◌-◌, ◌<◌, ◌≤
 ghost use Rattle.std.specs.List.{range_with_len};
 ghost use Rattle.sgf_lines.specs.Lines.{lines};
 ghost use Rattle.sgf_lines.specs.Cursor.{advanced, IsLine};
-ghost use Rattle.sgf_lines.specs.inner.Ways.{IsLeafSearch};
+ghost use Rattle.sgf_lines.specs.inner.PathTo.{IsLeafSearch};
 ghost use Rattle.sgf_lines.specs.inner.Following.{Continues, path_before, IsCutBack};
 
 use crate::line::LineRef;
-use crate::seek::{SeekFault, leaf_at, write_way};
+use crate::seek::{SeekFault, leaf_at, write_path};
 use sgf_tree::{Collection, MemoryFault};
 use std::alloc::Global;
 use std::marker::Model;
@@ -27,12 +27,12 @@ pub struct Cursor<'c, 'a> {
 }
 
 impl<'c, 'a> Model for Cursor<'c, 'a> {
-    ghost use Rattle.sgf_lines.specs.Cursor.{Position};
-    ghost use Rattle.sgf_lines.specs.inner.Standing.{position_code, lines_before, IsAfterLeaf};
+    ghost use Rattle.sgf_lines.specs.Cursor.{CursorState};
+    ghost use Rattle.sgf_lines.specs.inner.Standing.{cursor_state_code, lines_before, IsAfterLeaf};
 
-    ghost Value = { Position };
+    ghost Value = { CursorState };
 
-    ghost coded = { position_code };
+    ghost coded = { cursor_state_code };
 
     ghost view = { λ s. record { games = s.collection.now; index = lines_before s.collection.now s.next } };
 
@@ -68,7 +68,7 @@ impl<'c, 'a> Cursor<'c, 'a> {
         }
     }
 
-    /// Goes to the position directly after the line with this place, the offset of the `;` of its last node, from wherever it
+    /// Goes directly after the line with this place, the offset of the `;` of its last node, from wherever it
     /// stood.
     ///
     /// `NoSuchLine` comes exactly where no line has that place, unless memory was refused.
@@ -81,7 +81,7 @@ impl<'c, 'a> Cursor<'c, 'a> {
         let Some(leaf) = leaf_at(self.collection, place) else {
             return Err(SeekFault::NoSuchLine { place });
         };
-        write_way(self.collection, leaf, &mut self.path)?;
+        write_path(self.collection, leaf, &mut self.path)?;
         self.next = leaf + 1;
         Ok(())
     }

@@ -3,6 +3,7 @@
 ghost use Rattle.std.specs.Prelude.{◌≡◌};
 
 use sgf_tree::{MAX_LENGTH, ReadFault};
+use std::alloc::AllocError;
 use thiserror::Error;
 
 /// Why a run ended before it had done all that was asked.
@@ -39,6 +40,17 @@ pub enum RunFault {
     /// The sink has taken exactly the records of the first `lines` lines, and was not flushed.
     #[error("out of memory")]
     Memory { lines: u64 },
+}
+
+/// For memory that is refused before a line is written.
+impl From<AllocError> for RunFault {
+    ghost use Rattle.sgf_lines.specs.declared.fault.RunFault.TheVariants.{Memory};
+
+    ghost from_gives = { λ _ fault. fault ≡ Memory 0 };
+
+    fn from(_refused: AllocError) -> RunFault {
+        RunFault::Memory { lines: 0 }
+    }
 }
 
 impl RunFault {

@@ -5,7 +5,7 @@ ghost use Rattle.sgf_tree.specs.Tree.{Node, node_count};
 ghost use Rattle.sgf_tree.specs.FileOrder.{node_at};
 ghost use Rattle.sgf_lines.specs.JudgedGames.{GameKind as GameKindSaid, board, game_kind, root_properties};
 ghost use Rattle.sgf_lines.specs.Verdict.{verdict_of};
-ghost use Rattle.sgf_lines.specs.declared.followed.Followed.TheVariants.{OtherGame, NoBoard};
+ghost use Rattle.sgf_lines.specs.declared.followed.Followed.TheVariants.{NotGo, BadSize};
 ghost use Rattle.sgf_lines.specs.inner.Played.{IsPlayedAs, RaisesPlays};
 ghost use Rattle.sgf_lines.specs.inner.Followed.{IsFollowedAs, IsFollowed, followed_commands, PlaysOn, PlaysFresh};
 
@@ -21,10 +21,10 @@ use std::alloc::Global;
 #[derive(Drop)]
 pub(crate) enum Followed {
     /// Its game isn't Go; so it is before the first line.
-    OtherGame,
+    NotGo,
 
     /// There is no board of the game's size.
-    NoBoard,
+    BadSize,
 
     /// It is played.
     Judged(Game),
@@ -81,8 +81,8 @@ impl Followed {
                 game.cut_back(shared);
                 Ok(())
             }
-            Followed::OtherGame => Ok(()),
-            Followed::NoBoard => Ok(()),
+            Followed::NotGo => Ok(()),
+            Followed::BadSize => Ok(()),
         }
     }
 
@@ -100,12 +100,12 @@ impl Followed {
     {
         match game_kind_of(&collection.node(root)) {
             GameKind::Board(size) => self.begin_on(alloc, size, scripted),
-            GameKind::OtherGame => {
-                self.hold_other_game();
+            GameKind::NotGo => {
+                self.hold_not_go();
                 Ok(())
             }
-            GameKind::NoBoard => {
-                self.hold_no_board();
+            GameKind::BadSize => {
+                self.hold_bad_size();
                 Ok(())
             }
         }
@@ -113,18 +113,18 @@ impl Followed {
 
     /// Holds a line of a game that isn't Go. It is kept apart as `make_game` is.
     #[inline(never)]
-    fn hold_other_game(&mut self)
-        ensures { self.new ≡ OtherGame }
+    fn hold_not_go(&mut self)
+        ensures { self.new ≡ NotGo }
     {
-        *self = Followed::OtherGame;
+        *self = Followed::NotGo;
     }
 
     /// Holds a line of a game for which there is no board. It is kept apart as `make_game` is.
     #[inline(never)]
-    fn hold_no_board(&mut self)
-        ensures { self.new ≡ NoBoard }
+    fn hold_bad_size(&mut self)
+        ensures { self.new ≡ BadSize }
     {
-        *self = Followed::NoBoard;
+        *self = Followed::BadSize;
     }
 
     /// Begins a game on a board of that size. Where the line before was played, its game is begun anew in place.
@@ -133,7 +133,7 @@ impl Followed {
     {
         match self {
             Followed::Judged(game) => game.reset(alloc, size, scripted),
-            Followed::OtherGame | Followed::NoBoard => self.make_game(alloc, size, scripted),
+            Followed::NotGo | Followed::BadSize => self.make_game(alloc, size, scripted),
         }
     }
 
@@ -166,8 +166,8 @@ impl Followed {
     {
         match self {
             Followed::Judged(game) => play_from(alloc, collection, game, path, shared, plays),
-            Followed::OtherGame => Ok(()),
-            Followed::NoBoard => Ok(()),
+            Followed::NotGo => Ok(()),
+            Followed::BadSize => Ok(()),
         }
     }
 
@@ -176,8 +176,8 @@ impl Followed {
         ensures { (scripted : Bool) (nodes : List Node) → IsFollowed scripted nodes self.now → result ≡ verdict_of nodes }
     {
         match self {
-            Followed::OtherGame => Verdict::NotGo,
-            Followed::NoBoard => Verdict::BadSize,
+            Followed::NotGo => Verdict::NotGo,
+            Followed::BadSize => Verdict::BadSize,
             Followed::Judged(game) => game.verdict(),
         }
     }
@@ -187,8 +187,8 @@ impl Followed {
         ensures { result.now ≡ followed_commands self.now }
     {
         match self {
-            Followed::OtherGame => &[],
-            Followed::NoBoard => &[],
+            Followed::NotGo => &[],
+            Followed::BadSize => &[],
             Followed::Judged(game) => game.commands(),
         }
     }

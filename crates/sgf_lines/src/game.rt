@@ -48,6 +48,7 @@ impl Game {
     pub(crate) fn new(alloc: Global, size: Size, scripted: bool) -> Result<Game, MemoryFault>
         ensures { IfOk result (IsPlayedAs scripted size []) }
     {
+        // No `From` may be given here between the faults of two other crates.
         let Ok(referee) = Referee::new(alloc, size) else {
             return Err(MemoryFault);
         };
@@ -69,6 +70,7 @@ impl Game {
     ) -> Result<(), MemoryFault>
         ensures { OnOk result (IsPlayedAs scripted size [] self.new) }
     {
+        // No `From` may be given here between the faults of two other crates.
         let Ok(()) = self.referee.reset(size) else {
             return Err(MemoryFault);
         };

@@ -3,7 +3,7 @@
 ghost use Rattle.std.specs.Prelude.{◌≡◌, option_copied};
 ghost use Rattle.sgf_lines.specs.NodeContents.{first_value as first_value_rule};
 ghost use Rattle.sgf_lines.specs.JudgedGames.{is_go as is_go_rule, side_of, game_kind as game_kind_rule};
-ghost use Rattle.sgf_lines.specs.inner.Shown.{shown_game_kind};
+ghost use Rattle.sgf_lines.specs.inner.Views.{shown_game_kind};
 
 use go_board::{MAX_SIDE, Size};
 use sgf_tree::{NodeRef, number};
@@ -15,9 +15,9 @@ const USUAL_SIDE: i64 = 19;
 #[derive(Clone, Copy)]
 pub(crate) enum GameKind {
     /// The game isn't Go.
-    OtherGame,
+    NotGo,
     /// There is no board of the size.
-    NoBoard,
+    BadSize,
     Board(Size),
 }
 
@@ -26,11 +26,11 @@ pub(crate) fn game_kind_of(root: &NodeRef<'_>) -> GameKind
     ensures { shown_game_kind result ≡ game_kind_rule root.now.properties }
 {
     if !is_go(first_value(root, b"GM")) {
-        return GameKind::OtherGame;
+        return GameKind::NotGo;
     }
     match size(first_value(root, b"SZ")) {
         Some(size) => GameKind::Board(size),
-        None => GameKind::NoBoard,
+        None => GameKind::BadSize,
     }
 }
 

@@ -8,7 +8,7 @@ ghost use Rattle.sgf_lines.specs.Verdict.{score_in, verdict_of, verdict_by, IsVe
 ghost use Rattle.sgf_lines.specs.inner.Stepping.{ended_with};
 
 use crate::game_kind::{GameKind, game_kind_of};
-use crate::seek::write_way;
+use crate::seek::write_path;
 use crate::step::{StepFault, play_node};
 use crate::verdict::Verdict;
 use go_board::{Past, PrintPast, Referee, Size};
@@ -31,7 +31,7 @@ pub fn judge(
     let nodes = collection.nodes();
     prove!(leaf < nodes);
     let mut path = Vec::new(alloc);
-    write_way(collection, leaf, &mut path)?;
+    write_path(collection, leaf, &mut path)?;
     judge_path(alloc, collection, &path)
 }
 
@@ -47,8 +47,8 @@ pub(crate) fn judge_path(
         → IfOk result (λ verdict. verdict ≡ verdict_of nodes) }
 {
     match game_kind_of(&collection.node(path[0])) {
-        GameKind::OtherGame => Ok(Verdict::NotGo),
-        GameKind::NoBoard => Ok(Verdict::BadSize),
+        GameKind::NotGo => Ok(Verdict::NotGo),
+        GameKind::BadSize => Ok(Verdict::BadSize),
         GameKind::Board(size) => judge_on(alloc, collection, path, size),
     }
 }
@@ -64,6 +64,7 @@ fn judge_on(
     ensures { (nodes : List Node) → map Some nodes ≡ map (node_at collection.now) path.now
         → IfOk result (λ verdict. verdict ≡ verdict_by (board size) nodes) }
 {
+    // No `From` may be given here between the faults of two other crates.
     let Ok(mut referee) = Referee::<PrintPast>::new(alloc, size) else {
         return Err(MemoryFault);
     };

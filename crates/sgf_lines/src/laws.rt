@@ -10,11 +10,10 @@ ghost use Rattle.sgf_lines.specs.Lines.{Line, lines, place_of};
 ghost use Rattle.sgf_lines.specs.Paths.{paths, IsPathOf};
 ghost use Rattle.sgf_lines.specs.Page.{page};
 ghost use Rattle.sgf_lines.specs.declared.options.Options.{Options};
-ghost use Rattle.sgf_lines.specs.Plays.{all_touched, all_judged, node_places};
+ghost use Rattle.sgf_lines.specs.Plays.{touched_places, all_judged_places, node_places};
 ghost use Rattle.sgf_lines.specs.declared.options.Form.TheVariants.{List as list_form};
-ghost use Rattle.sgf_lines.specs.Appending.{raised_row};
-ghost use Rattle.sgf_lines.specs.Output.{sgf_output};
-ghost use Rattle.sgf_lines.specs.Record.{record_of};
+ghost use Rattle.sgf_lines.specs.Appending.{raised_record};
+ghost use Rattle.sgf_lines.specs.Record.{sgf_output, record_of};
 ghost use Rattle.sgf_lines.specs.JudgedGames.{game_kind, root_properties, board};
 ghost use Rattle.sgf_tree.specs.Tree.{Node};
 ghost use Rattle.go_board.specs.declared.reason.Reason.{Reason};
@@ -55,7 +54,7 @@ pub fn append()
         → Spells (joined c (raised (length t) d)) (t ++ u) }
     ensures rows { (c d : Games) (t u : List ℕ) → Spells c t → Spells d u → ¬ BeginsWithMark u
         → flat_map (record_of list_form) (lines (joined c (raised (length t) d)))
-        ≡ flat_map (record_of list_form) (lines c) ++ flat_map (raised_row (length t) (game_count c)) (lines d) }
+        ≡ flat_map (record_of list_form) (lines c) ++ flat_map (raised_record (length t) (game_count c)) (lines d) }
 {
     sgf_tree::laws::append();
 }
@@ -63,9 +62,9 @@ pub fn append()
 /// The places that the lines of a collection touch are the places of all its nodes, in file order.
 /// On no page are more nodes judged than there are, so no run plays more.
 pub fn touched()
-    ensures places { (c : Games) (t : List ℕ) → Spells c t → all_touched (lines c) ≡ node_places c }
+    ensures places { (c : Games) (t : List ℕ) → Spells c t → touched_places (lines c) ≡ node_places c }
     ensures plays { (c : Games) (t : List ℕ) → Spells c t → (o : Options) (ls : List Line) → page o c ≡ Some ls
-        → length (all_judged ls) ≤ node_count c }
+        → length (all_judged_places ls) ≤ node_count c }
 {
     sgf_tree::laws::places_rise();
 }
@@ -82,7 +81,7 @@ pub fn pages()
     sgf_tree::laws::places_rise();
 }
 
-/// A script that has commands, read from its bytes and taken from the top on an empty board of the line's side: no stone is
+/// A script that has commands, read from its bytes and followed from the top on an empty board of the line's side: no stone is
 /// played on a point that isn't empty, and the last board is the colouring of the judged line after the nodes before its
 /// first illegal one, or after all of them.
 /// So an engine that plays stones by the same rules, and refuses none of these, shows the position that was judged.

@@ -1,6 +1,7 @@
 //! The lines of play of a Smart Game Format (SGF FF[4]) collection, from the root of a game to a leaf.
 //! A cursor gives them one by one, in file order, over a collection that was read once.
-//! A run writes each as a record, a text of its own.
+//! `judge` tells of a line its first illegal turn, or the area score at its end (Tromp-Taylor).
+//! A run writes each line as a record, a text of its own.
 //!
 //!     let collection = sgf_tree::read(alloc, text)?;
 //!     let mut cursor = Cursor::new(alloc, &collection);
@@ -14,7 +15,7 @@
 //! - `options` has what a run is asked for.
 //! - `verdict` has what a referee says of a line.
 //! - `judging` judges a line: `game_kind` reads its root, `without_setup`, `contents` and `node_values` a node, and `step` plays it.
-//! - `record` writes the text of a line's nodes, `list_row` its `row`, and `script` the `commands` of a node, out of pieces of `text`;
+//! - `record` writes the text of a line's nodes, `list_row` its row, and `script` the `commands` of a node, out of pieces of `text`;
 //!   what lines share of them is `kept`.
 //! - `laws` has laws of the definitions.
 //! - `source` and `sink` are the ends of a run.
@@ -50,8 +51,6 @@ mod seek;
 mod sink;
 mod source;
 mod step;
-#[cfg(test)]
-mod tests;
 mod text;
 mod verdict;
 mod without_setup;

@@ -12,6 +12,28 @@ use sgf_tree::MemoryFault;
 /// How many bytes there is room for: five numbers of 20 digits at most, and the words of a verdict.
 const ROOM: usize = 160;
 
+/// Appends the row of a line with this place, in the game of this number, with so many nodes; and a line feed.
+pub(crate) fn push_row(
+    place: usize,
+    game: usize,
+    nodes: usize,
+    verdict: Verdict,
+    output: &mut Vec<u8>,
+) -> Result<(), MemoryFault>
+    ensures { OnOk result (output.new.items ≡ output.old.items ++ (row_text place game nodes verdict ++ codes "\n")) }
+{
+    let mut row = Row::new();
+    row.put(b"\n");
+    row.put_verdict(verdict);
+    row.put(b" ");
+    row.put_number(nodes as u64);
+    row.put(b" ");
+    row.put_number(game as u64);
+    row.put(b" ");
+    row.put_number(place as u64);
+    push_bytes(row.text(), output)
+}
+
 /// A row's end, which grows at its front.
 #[derive(Drop)]
 struct Row {
@@ -21,7 +43,7 @@ struct Row {
 }
 
 impl Row {
-    ghost use Rattle.sgf_lines.specs.inner.BuiltRow.{built_text};
+    ghost use Rattle.sgf_lines.specs.inner.Views.{built_text};
 
     /// The empty text.
     fn new() -> Row
@@ -107,26 +129,4 @@ impl Row {
     {
         &self.bytes[self.start..]
     }
-}
-
-/// Appends the row of a line with this place, in the game of this number, with so many nodes; and a line feed.
-pub(crate) fn push_row(
-    place: usize,
-    game: usize,
-    nodes: usize,
-    verdict: Verdict,
-    output: &mut Vec<u8>,
-) -> Result<(), MemoryFault>
-    ensures { OnOk result (output.new.items ≡ output.old.items ++ (row_text place game nodes verdict ++ codes "\n")) }
-{
-    let mut row = Row::new();
-    row.put(b"\n");
-    row.put_verdict(verdict);
-    row.put(b" ");
-    row.put_number(nodes as u64);
-    row.put(b" ");
-    row.put_number(game as u64);
-    row.put(b" ");
-    row.put_number(place as u64);
-    push_bytes(row.text(), output)
 }

@@ -29,7 +29,7 @@ const CHUNK: usize = 65_536;
 /// The lines are those that follow the line with the place `options.after`, or all, and of these the first
 /// `options.limit`, or all; each is written in the form `options.form`, an earlier one first.
 /// A record is built whole before the first of its bytes is put.
-/// The sink is flushed once, after the last record, also where there is none.
+/// Unless a write failed or memory was refused, the sink is flushed once, after the last record, or where there is none.
 ///
 /// The faults come in this order: `Read` where the source failed, or `TooLong` where it gave too much, whichever comes first;
 /// `NotSgf`; `NoSuchLine`; `Write` where the sink failed.
@@ -103,9 +103,7 @@ pub(crate) fn read_all<S: Source>(source: &mut S, text: &mut Vec<u8>) -> Result<
         if MAX_LENGTH - text.len() < count {
             return Err(RunFault::TooLong);
         }
-        if text.extend_from_slice(&chunk[..count]).is_err() {
-            return Err(RunFault::Memory { lines: 0 });
-        }
+        text.extend_from_slice(&chunk[..count])?;
     }
 }
 
@@ -181,3 +179,6 @@ fn cursor_after<'c, 'a>(
         Err(SeekFault::Memory) => Err(RunFault::Memory { lines: 0 }),
     }
 }
+
+#[cfg(test)]
+mod tests;

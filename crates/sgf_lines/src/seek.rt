@@ -3,7 +3,7 @@
 ghost use Rattle.std.specs.Prelude.{◌≡◌, ◌+◌, ◌<◌, ◌≤◌, Some, List, ℕ, length, IfSome, OnOk, OnErr};
 ghost use Rattle.sgf_tree.specs.Tree.{node_count};
 ghost use Rattle.sgf_tree.specs.FileOrder.{IsLeaf, PlacesRise};
-ghost use Rattle.sgf_lines.specs.inner.Ways.{IsWayTo};
+ghost use Rattle.sgf_lines.specs.inner.PathTo.{IsPathTo};
 ghost use Rattle.sgf_lines.specs.inner.Seeking.{IsLeafAt, AllBefore, GoesOnFrom};
 
 use sgf_tree::{Collection, MemoryFault};
@@ -71,7 +71,7 @@ fn go_on_from(collection: &Collection<'_>, node: usize, place: u64) -> usize
 
 /// Replaces the numbers in `path` by those of the nodes from the root to a leaf.
 /// After a refusal of memory `path` is unchanged.
-pub(crate) fn write_way(
+pub(crate) fn write_path(
     collection: &Collection<'_>,
     leaf: usize,
     path: &mut Vec<usize>,
@@ -79,20 +79,20 @@ pub(crate) fn write_way(
     requires within { leaf < node_count collection.now }
     requires small { leaf < usize.MAX }
     requires is_leaf { IsLeaf collection.now leaf }
-    ensures ok { OnOk result (IsWayTo collection.now (Some leaf) path.new.items) }
+    ensures ok { OnOk result (IsPathTo collection.now (Some leaf) path.new.items) }
     ensures unchanged { OnErr result (path.new.items ≡ path.old.items) }
 {
-    path.resize(way_length(collection, leaf), 0)?;
-    fill_way(collection, leaf, path);
+    path.resize(path_length(collection, leaf), 0)?;
+    fill_path(collection, leaf, path);
     Ok(())
 }
 
 /// The number of nodes from the root to a leaf.
-fn way_length(collection: &Collection<'_>, leaf: usize) -> usize
+fn path_length(collection: &Collection<'_>, leaf: usize) -> usize
     requires within { leaf < node_count collection.now }
     requires small { leaf < usize.MAX }
     requires is_leaf { IsLeaf collection.now leaf }
-    ensures { (numbers : List ℕ) → IsWayTo collection.now (Some leaf) numbers → result ≡ length numbers }
+    ensures { (numbers : List ℕ) → IsPathTo collection.now (Some leaf) numbers → result ≡ length numbers }
 {
     let mut length = 0;
     let mut node = Some(leaf);
@@ -104,11 +104,11 @@ fn way_length(collection: &Collection<'_>, leaf: usize) -> usize
 }
 
 /// Writes the numbers of the nodes from the root to a leaf, of which there are as many as `path` has room for.
-fn fill_way(collection: &Collection<'_>, leaf: usize, path: &mut [usize])
+fn fill_path(collection: &Collection<'_>, leaf: usize, path: &mut [usize])
     requires within { leaf < node_count collection.now }
     requires is_leaf { IsLeaf collection.now leaf }
-    requires room { (numbers : List ℕ) → IsWayTo collection.now (Some leaf) numbers → length path.old ≡ length numbers }
-    ensures { IsWayTo collection.now (Some leaf) path.new }
+    requires room { (numbers : List ℕ) → IsPathTo collection.now (Some leaf) numbers → length path.old ≡ length numbers }
+    ensures { IsPathTo collection.now (Some leaf) path.new }
 {
     let mut room = path.len();
     let mut node = Some(leaf);

@@ -5,7 +5,7 @@ ghost use Rattle.sgf_tree.specs.Tree.{Node, node_count};
 ghost use Rattle.sgf_tree.specs.FileOrder.{node_at};
 ghost use Rattle.sgf_lines.specs.Lines.{Line, lines};
 ghost use Rattle.sgf_lines.specs.Record.{record_of};
-ghost use Rattle.sgf_lines.specs.inner.Shown.{IsShownAs};
+ghost use Rattle.sgf_lines.specs.inner.Views.{IsShownAs};
 ghost use Rattle.sgf_lines.specs.inner.Running.{HasRecord, PutsAll};
 ghost use Rattle.sgf_lines.specs.inner.Keeping.{record_in, Keeps, KeepsBefore, PlaysIn, PlaysLine, left};
 
@@ -49,7 +49,7 @@ impl Writer {
         Writer {
             form,
             wrote: false,
-            followed: Followed::OtherGame,
+            followed: Followed::NotGo,
             nodes: KeptText::new(alloc),
             head: Vec::new(alloc),
         }

@@ -5,7 +5,7 @@ use Rattle.std.specs.Result.{result_err}
 use Rattle.std.specs.Io.KnownBytes.{Appends}
 use Rattle.sgf_lines.specs.Ends.{SinkState, SourceState, Takes, TakesNothing}
 use Rattle.sgf_lines.specs.Answer.{IsRun, reads_failed, writes_failed}
-use Rattle.sgf_lines.specs.Counts.{IsCount, IsRow, counts_row}
+use Rattle.sgf_lines.specs.Counts.{IsCount, IsWriting, counts_row}
 use Rattle.sgf_lines.specs.declared.counting.Counts.{Counts}
 use Rattle.sgf_lines.specs.declared.fault.RunFault.{RunFault}
 use Rattle.sgf_lines.specs.declared.fault.RunFault.TheVariants.{Read, Write, Memory}
@@ -18,7 +18,7 @@ use Rattle.sgfsplit.specs.declared.request.Job.TheVariants.{Split, Count}
 -- the counts are written where the counting gave them
 abbrev pub WritesCounts : Result Counts RunFault → SinkState → SinkState → Option RunFault → Type 0
 WritesCounts (Ok counts) output new_output fault =
-    (written : Result (Unit {0}) RunFault) × IsRow (counts_row counts) output new_output written × (fault ≡ result_err written)
+    (written : Result (Unit {0}) RunFault) × IsWriting (counts_row counts) output new_output written × (fault ≡ result_err written)
 WritesCounts (Err met) output new_output fault = (new_output ≡ output) × (fault ≡ Some met)
 
 -- A job was done over a source and a sink, whole or up to a fault: a split has the answer of a run, by its options, and a

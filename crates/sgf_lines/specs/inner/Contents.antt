@@ -48,10 +48,6 @@ lists_of_kind (stones_kind cell) raws = record empty_lists { stones = map (λ ra
 lists_of_kind player_kind raws = record empty_lists { players = raws }
 lists_of_kind comment_kind raws = empty_lists
 
-abbrev pub lists_by : Option Kind → List (List ℕ) → Lists
-lists_by (Some kind) raws = lists_of_kind kind raws
-lists_by None raws = empty_lists
-
 -- those of properties
 abbrev pub lists_in : List Property → Lists
 lists_in ps = record { moves = flat_map moves_in ps; stones = flat_map stones_in ps; players = flat_map players_in ps }

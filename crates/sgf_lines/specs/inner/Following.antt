@@ -4,7 +4,7 @@ use Rattle.std.specs.List.{range_with_len}
 use Rattle.sgf_tree.specs.Tree.{Games}
 use Rattle.sgf_lines.specs.Lines.{last_number}
 use Rattle.sgf_lines.specs.Paths.{Path, paths}
-use Rattle.sgf_lines.specs.Cursor.{Position}
+use Rattle.sgf_lines.specs.Cursor.{CursorState}
 
 -- the first node after the nodes of a line in file order; before the first line it is the first node of all
 abbrev pub first_after : List ℕ → ℕ
@@ -25,8 +25,8 @@ abbrev pub numbers_before : Games → ℕ → List ℕ
 numbers_before games zero = []
 numbers_before games (suc k) = numbers_of (slice_get (paths games) k)
 
--- the nodes of the line before a position; none before the first line
-abbrev pub path_before : Position → List ℕ
+-- the nodes of the line before a cursor's next one; none before the first line
+abbrev pub path_before : CursorState → List ℕ
 path_before at = numbers_before at.games at.index
 
 -- How many nodes at the front of a path end with the node `parent`, which stands last there; 0 where there is no parent.

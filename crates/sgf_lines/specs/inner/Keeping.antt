@@ -3,7 +3,7 @@ use Rattle.std.specs.Prelude.{◌≡◌, ◌⊎◌, ℕ, ◌+◌, ◌-◌, ◌�
 use Rattle.sgf_tree.specs.Tree.{Node, node_count}
 use Rattle.sgf_tree.specs.FileOrder.{node_at}
 use Rattle.sgf_lines.specs.Lines.{Line, lines}
-use Rattle.sgf_lines.specs.Cursor.{Position, advanced}
+use Rattle.sgf_lines.specs.Cursor.{CursorState, advanced}
 use Rattle.sgf_lines.specs.RunPlays.{plays_in}
 use Rattle.sgf_lines.specs.declared.options.Form.{Form}
 use Rattle.sgf_lines.specs.declared.options.Form.TheVariants.{List as list_form, Sgf as sgf_form, Gtp as gtp_form}
@@ -30,18 +30,18 @@ KeepsBy gtp_form nodes w = IsFollowed true nodes w.followed
 abbrev pub Keeps : List Node → Writer → Type 0
 Keeps nodes w = KeepsBy w.form nodes w
 
--- it is kept of the line before a position
-pub record KeepsAt (at : Position) (w : Writer) : Type 0 where
+-- it is kept of the line before a cursor's next one
+pub record KeepsAt (at : CursorState) (w : Writer) : Type 0 where
   pub nodes : List Node
   pub named : map Some nodes ≡ map (node_at at.games) (path_before at)
   pub keeps : Keeps nodes w
 
 -- once a run has written a line
-abbrev pub KeepsOnce : Bool → Position → Writer → Type 0
+abbrev pub KeepsOnce : Bool → CursorState → Writer → Type 0
 KeepsOnce true at w = KeepsAt at w
 KeepsOnce false at w = Unit {0}
 
-abbrev pub KeepsBefore : Position → Writer → Type 0
+abbrev pub KeepsBefore : CursorState → Writer → Type 0
 KeepsBefore at w = KeepsOnce w.wrote at w
 
 -- plays went from `old` to `new` for the line of these nodes, of which the first `shared` are played already
@@ -50,27 +50,27 @@ PlaysIn list_form old new nodes shared result = PlaysFresh old new nodes shared 
 PlaysIn sgf_form old new nodes shared result = new ≡ old
 PlaysIn gtp_form old new nodes shared result = PlaysFresh old new nodes shared result
 
--- how many nodes of the line at a position are played already: those that it shares with the line before it, if the run wrote that one
-abbrev pub IsShared : Bool → Position → ℕ → Type 0
+-- how many nodes of a cursor's next line are played already: those that it shares with the line before it, if the run wrote that one
+abbrev pub IsShared : Bool → CursorState → ℕ → Type 0
 IsShared true at shared = Continues (path_before at) shared (path_before (advanced at))
 IsShared false at shared = shared ≡ 0
 
--- the line at a position, and how many of its nodes are played for it
-pub record HasPlays (form : Form) (wrote : Bool) (at : Position) (count : ℕ) : Type 0 where
+-- a cursor's next line, and how many of its nodes are played for it
+pub record HasPlays (form : Form) (wrote : Bool) (at : CursorState) (count : ℕ) : Type 0 where
   pub line : Line
   pub found : slice_get (lines at.games) at.index ≡ Some line
   pub shared : ℕ
   pub shares : IsShared wrote at shared
   pub count_is : count ≡ plays_in form (fresh_plays line.nodes shared)
 
--- plays went from `old` to `new` where the line at a position was to be written: those of that line, if there is one; none or some
+-- plays went from `old` to `new` where a cursor's next line was to be written: those of that line, if there is one; none or some
 -- of them where memory was refused
-abbrev pub PlaysLine : {E : Type 0} → Form → Bool → Position → ℕ → ℕ → Result Bool E → Type 0
+abbrev pub PlaysLine : {E : Type 0} → Form → Bool → CursorState → ℕ → ℕ → Result Bool E → Type 0
 PlaysLine form wrote at old new (Ok true) = (n : ℕ) × HasPlays form wrote at n × (new ≡ old + n)
 PlaysLine form wrote at old new (Ok false) = new ≡ old
 PlaysLine form wrote at old new (Err fault) = (new ≡ old) ⊎ ((n : ℕ) × HasPlays form wrote at n × (old ≤ new) × (new ≤ old + n))
 
--- how many nodes a run can still play: those after the line before a position, or all before its first line
-abbrev pub left : Bool → Position → ℕ
+-- how many nodes a run can still play: those after the line before a cursor's next one, or all before its first line
+abbrev pub left : Bool → CursorState → ℕ
 left true at = node_count at.games - first_after (path_before at)
 left false at = node_count at.games

@@ -10,18 +10,18 @@ use Rattle.sgf_lines.specs.Script.{node_script, taken_script, leaves_unreaching,
 use Rattle.sgf_lines.specs.declared.commands.Commands.{Commands}
 use Rattle.sgf_lines.specs.inner.Kept.{IsKeptText}
 
--- a text, or none where the side is past the letters
+-- a text, or none where the board has more columns than there are letters of vertices
 abbrev pub if_lettered : ℕ → List ℕ → List ℕ
 if_lettered side text = if nat_lt MAX_VERTEX_SIDE side then [] else text
 
 abbrev pub lettered_script : ℕ → State → Node → List ℕ
 lettered_script side after n = if_lettered side (node_script after n)
 
--- the commands of nodes, whether or not each stone of a setup reaches empty
+-- the commands of nodes, whether or not each stone of a setup has a liberty
 abbrev pub commands_text : ℕ → List Node → List ℕ
 commands_text side nodes = if_lettered side (board_commands side ++ flat_map taken_script (walk side nodes).taken)
 
--- whether one of the nodes sets up stones of which one doesn't reach empty
+-- whether the setup of one of the nodes leaves a stone without a liberty
 abbrev pub some_unreaching : ℕ → List Node → Bool
 some_unreaching side nodes = list_any leaves_unreaching (walk side nodes).taken
 

@@ -7,11 +7,10 @@ use Rattle.sgf_tree.specs.declared.fault.TheConstants.{MAX_LENGTH}
 use Rattle.sgf_tree.specs.declared.fault.ReadFault.{ReadFault}
 use Rattle.sgf_tree.specs.declared.fault.ReadFault.TheVariants.{TooLong as TextTooLong, NotSgf as TextNotSgf, Memory as TextMemory}
 use Rattle.sgf_lines.specs.Lines.{Line, lines}
-use Rattle.sgf_lines.specs.Page.{lines_after, lines_from_place}
-use Rattle.sgf_lines.specs.Output.{output}
+use Rattle.sgf_lines.specs.Page.{lines_after, lines_asked}
+use Rattle.sgf_lines.specs.Record.{output, record_of}
 use Rattle.sgf_lines.specs.Ends.{SourceState, SinkState}
-use Rattle.sgf_lines.specs.Cursor.{Position, advanced}
-use Rattle.sgf_lines.specs.Record.{record_of}
+use Rattle.sgf_lines.specs.Cursor.{CursorState, advanced}
 use Rattle.sgf_lines.specs.Answer.{IsWhole, Answers, IsCutShort, IsCutBetween}
 use Rattle.sgf_lines.specs.declared.options.Form.{Form}
 use Rattle.sgf_lines.specs.declared.options.Options.{Options}
@@ -55,8 +54,8 @@ abbrev pub IsSplitOf : Options → Games → SinkState → SinkState → Result 
 IsSplitOf o c sink new_sink result = (text : List ℕ) → Spells c text → IsSplit o text sink new_sink result
 
 -- where a cursor stands before the page, or why there is none
-abbrev pub IsStart : Games → Option ℕ → Result Position RunFault → Type 0
-IsStart c after (Ok at) = lines_from_place (lines c) after ≡ Some (drop at.index (lines c))
+abbrev pub IsStart : Games → Option ℕ → Result CursorState RunFault → Type 0
+IsStart c after (Ok at) = lines_asked (lines c) after ≡ Some (drop at.index (lines c))
 IsStart c after (Err Read) = ⊥
 IsStart c after (Err TooLong) = ⊥
 IsStart c after (Err (NotSgf at len)) = ⊥
@@ -80,7 +79,7 @@ pub record WritesLines (form : Form) (ls : List Line) (sink new_sink : SinkState
   pub answers : AnswersLines form ls taken result
 
 -- the record of the line at the cursor, which went on by one line
-pub record HasRecord (form : Form) (old new : Position) (bytes : List ℕ) : Type 0 where
+pub record HasRecord (form : Form) (old new : CursorState) (bytes : List ℕ) : Type 0 where
   pub line : Line
   pub found : slice_get (lines old.games) old.index ≡ Some line
   pub bytes_are : bytes ≡ record_of form line

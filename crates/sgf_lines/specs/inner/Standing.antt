@@ -1,4 +1,4 @@
--- How a cursor's position is read from the node from which on it goes on.
+-- How a cursor's state is read from the node from which on it goes on.
 use Rattle.std.specs.Prelude.{◌≡◌, ℕ, ◌+◌, ◌≤◌, List, [], Some, nat_lt, refl}
 use Rattle.std.specs.List.{prefix_len}
 use Rattle.std.specs.Coded.{Coded, code_by, coded×, coded_ℕ}
@@ -6,20 +6,20 @@ use Rattle.sgf_tree.specs.Tree.{Games, node_count}
 use Rattle.sgf_tree.specs.inner.TreeCode.{games_code}
 use Rattle.sgf_tree.specs.FileOrder.{IsLeaf}
 use Rattle.sgf_lines.specs.Paths.{paths, leaf_of}
-use Rattle.sgf_lines.specs.Cursor.{Position}
-use Rattle.sgf_lines.specs.inner.Ways.{IsWayTo}
+use Rattle.sgf_lines.specs.Cursor.{CursorState}
+use Rattle.sgf_lines.specs.inner.PathTo.{IsPathTo}
 
 -- how many lines end before node n
 abbrev pub lines_before : Games → ℕ → ℕ
 lines_before c n = prefix_len (λ path. nat_lt (leaf_of path) n) (paths c)
 
--- Where a cursor stands. It goes on from the node `next`; the node before that one is the last leaf, and `numbers` the way to it.
+-- Where a cursor stands. It goes on from the node `next`; the node before that one is the last leaf, and `numbers` the path to it.
 pub record IsAfterLeaf (c : Games) (next : ℕ) (numbers : List ℕ) : Type 0 where
   pub within : next ≤ node_count c
   pub start : next ≡ 0 → numbers ≡ []
   pub leaf : (i : ℕ) → next ≡ i + 1 → IsLeaf c i
-  pub way : (i : ℕ) → next ≡ i + 1 → IsWayTo c (Some i) numbers
+  pub path : (i : ℕ) → next ≡ i + 1 → IsPathTo c (Some i) numbers
 
--- a position is stored as the pair of its parts
-abbrev pub position_code : Coded Position
-position_code = code_by (Games × ℕ) (coded× games_code coded_ℕ) (λ at. (at.games, at.index)) (λ p. record { games = p.0; index = p.1 }) (λ _. refl)
+-- a cursor's state is stored as the pair of its parts
+abbrev pub cursor_state_code : Coded CursorState
+cursor_state_code = code_by (Games × ℕ) (coded× games_code coded_ℕ) (λ at. (at.games, at.index)) (λ p. record { games = p.0; index = p.1 }) (λ _. refl)

@@ -2,7 +2,7 @@
 use Rattle.std.proofs.Common.{◌≡◌, sym, ap, ◌∙◌, arith}
 use Rattle.sgf_tree.specs.Tree.{node_count}
 use Rattle.sgf_lines.specs.inner.Standing.{lines_before}
-use Rattle.sgf_lines.proofs.Positions.{before_none}
+use Rattle.sgf_lines.proofs.CursorStates.{before_none}
 use Rattle.sgf_lines.proofs.LineCounts.{one_line, no_line_more, all_before}
 use Rattle.sgf_lines.proofs.counting.line_count.Goals as goal
 use Rattle.sgf_lines.proofs.counting.line_count.Goals.{then-is_leaf, else-is_leaf}

@@ -1,5 +1,5 @@
 -- No leaf was passed.
-use Rattle.sgf_lines.specs.inner.Ways.{HasNoLeaf}
+use Rattle.sgf_lines.specs.inner.PathTo.{HasNoLeaf}
 use Rattle.sgf_lines.proofs.cursor.next_leaf.Given as goal
 
 abbrev pub invariant-loop-node : goal.invariant-loop-node

@@ -1,4 +1,4 @@
--- The property that is taken off goes behind the front.
+-- The property that is taken off goes after the front.
 use Rattle.std.proofs.Common.{[], ◌∷◌, ◌++◌, ◌∙◌, sym, ap, subst, append_assoc, append-nil}
 use Rattle.sgf_lines.specs.inner.Contents.{IsGathered}
 use Rattle.sgf_lines.proofs.contents.Contents.of.Goals as goal

@@ -1,4 +1,4 @@
--- What the property holds is told behind what was told.
+-- What the property holds is told after what was told.
 use Rattle.std.proofs.Common.{Some, None, ap, sym, ◌∙◌}
 use Rattle.std.specs.Prelude.{option_copied}
 use Rattle.sgf_lines.specs.declared.contents.Contents.{Contents}

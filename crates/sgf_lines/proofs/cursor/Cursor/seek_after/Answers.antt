@@ -8,5 +8,5 @@ returns-in_default-clause-why c = (refl, no_line_there c.self.inside.collection.
 
 pub returns-clause-sought : goal.returns-clause-sought
 returns-clause-sought c =
-    sought c.self.inside.collection.now c.self.inside.next c.in-Some.leaf c.args.place c.args.self.now c.write_way.new.path.items c.self.view_is c.in-Some.ensures.leaf.0
-    c.in-Some.ensures.leaf.1 c.in-Some.ensures.leaf.2 c.in_ok-write_way.ensures.ok
+    sought c.self.inside.collection.now c.self.inside.next c.in-Some.leaf c.args.place c.args.self.now c.write_path.new.path.items c.self.view_is c.in-Some.ensures.leaf.0
+    c.in-Some.ensures.leaf.1 c.in-Some.ensures.leaf.2 c.in_ok-write_path.ensures.ok

@@ -1,4 +1,4 @@
--- The property that is taken off goes behind the front.
+-- The property that is taken off goes after the front.
 use Rattle.std.proofs.Common.{[], ◌∷◌, ◌++◌, ◌∙◌, sym, ap, append_assoc}
 use Rattle.sgf_lines.proofs.without_setup.WithoutSetup.of_properties.Goals as goal
 

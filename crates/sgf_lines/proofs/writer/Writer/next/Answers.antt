@@ -7,7 +7,7 @@ use Rattle.sgf_lines.specs.RunPlays.{plays_in}
 use Rattle.sgf_lines.specs.inner.Followed.{fresh_plays}
 use Rattle.sgf_lines.specs.inner.Following.{Continues, path_before}
 use Rattle.sgf_lines.specs.inner.Keeping.{IsShared, HasPlays, left}
-use Rattle.sgf_lines.specs.inner.Shown.{IsShownAs}
+use Rattle.sgf_lines.specs.inner.Views.{IsShownAs}
 use Rattle.sgf_lines.proofs.Joins.{as_many}
 use Rattle.sgf_lines.proofs.Keeping.{Shares, known_are, line_next, next_filled, next_within, next_room, next_shares, next_keeps, keeps_before, next_plays, plays_line, plays_refused, raises_within}
 use Rattle.sgf_lines.proofs.writer.Writer.next.Goals as goal

@@ -1,13 +1,13 @@
--- The way from the root of a game down to a node, and the leaves that a cursor looks for.
+-- The path from the root of a game down to a node, and the leaves that a cursor looks for.
 use Rattle.std.specs.Prelude.{◌≡◌, ℕ, ◌<◌, ◌≤◌, List, [], ◌∷◌, ◌++◌, Option, Some, None, MatchOption}
 use Rattle.sgf_tree.specs.Tree.{Games, node_count}
 use Rattle.sgf_tree.specs.FileOrder.{parent_at, IsLeaf}
 
 -- the numbers of the nodes from the root to a node, each the parent of the next; above a root there is none
-pub data IsWayTo (c : Games) : Option ℕ → List ℕ → Type 0 where
-  top : IsWayTo c None []
-  step : {i : ℕ} {parent : Option ℕ} {above numbers : List ℕ} → parent_at c i ≡ Some parent → IsWayTo c parent above → numbers ≡ above ++ i ∷ []
-      → IsWayTo c (Some i) numbers
+pub data IsPathTo (c : Games) : Option ℕ → List ℕ → Type 0 where
+  top : IsPathTo c None []
+  step : {i : ℕ} {parent : Option ℕ} {above numbers : List ℕ} → parent_at c i ≡ Some parent → IsPathTo c parent above → numbers ≡ above ++ i ∷ []
+      → IsPathTo c (Some i) numbers
 
 -- no leaf stands from node `from` on and before node `to`
 abbrev pub HasNoLeaf : Games → ℕ → ℕ → Type 0

@@ -5,14 +5,14 @@ use Rattle.sgf_tree.specs.Tree.{Node, Games, no_games, game, node_count}
 use Rattle.sgf_tree.specs.FileOrder.{IsLeaf}
 use Rattle.sgf_lines.specs.Lines.{through, last_number}
 use Rattle.sgf_lines.specs.Paths.{number_lines, paths_of_game, paths_from, paths}
-use Rattle.sgf_lines.specs.inner.Ways.{IsWayTo}
+use Rattle.sgf_lines.specs.inner.PathTo.{IsPathTo}
 use Rattle.sgf_lines.proofs.Lists.{Each, each_append, each_through, each_map}
 use Rattle.sgf_lines.proofs.Parents.{Among, among_whole, among_below, among_after, last_is_leaf}
 use Rattle.sgf_lines.proofs.Climbing.{up_own, last_number-append}
 
 -- a way from below `parent` down to a leaf
 pub record IsDescent (c : Games) (parent : Option ℕ) (way : List ℕ) : Type 0 where
-  pub up : (above : List ℕ) → IsWayTo c parent above → IsWayTo c (Some (last_number way)) (above ++ way)
+  pub up : (above : List ℕ) → IsPathTo c parent above → IsPathTo c (Some (last_number way)) (above ++ way)
   pub is_leaf : IsLeaf c (last_number way)
   pub filled : way ≢ []
 
@@ -21,7 +21,7 @@ last_number-range start zero = sym (add-zero start)
 last_number-range start (suc count) = last_number-range (start + 1) count ∙ omega arith
 
 -- own nodes and a way below them are a way
-after_own : (c : Games) (last : ℕ) (parent : Option ℕ) (o : ℕ) (os way : List ℕ) → ((above : List ℕ) → IsWayTo c parent above → IsWayTo c (Some last) (above ++ o ∷ os))
+after_own : (c : Games) (last : ℕ) (parent : Option ℕ) (o : ℕ) (os way : List ℕ) → ((above : List ℕ) → IsPathTo c parent above → IsPathTo c (Some last) (above ++ o ∷ os))
     → IsDescent c (Some last) way → IsDescent c parent (o ∷ os ++ way)
 after_own c last parent o os [] up h = absurd (h.filled refl)
 after_own c last parent o os (w ∷ ws) up h =

@@ -1,9 +1,8 @@
 //! What no clause says: worked examples with ample memory, and ends that fail.
 
-use crate::{
-    ArraySink, Counts, Form, Options, ReadSource, RunFault, SliceSource, WriteSink, count, split,
-    write_counts,
-};
+use super::split;
+use crate::counting::count;
+use crate::{ArraySink, Form, Options, ReadSource, RunFault, SliceSource, WriteSink};
 use std::alloc::Global;
 use std::io::{self, ErrorKind, Read, Write};
 
@@ -222,24 +221,4 @@ fn sources_that_fail(rt: HostRuntime) {
         let mut source = ReadSource::new(Failing { calls });
         assert_eq!(rt; count(rt.alloc(), &mut source), Err(RunFault::Read));
     }
-}
-
-#[test]
-fn small_counts(rt: HostRuntime) {
-    let mut source = SliceSource::new(BRANCHES);
-    let counts = Counts {
-        games: 1,
-        nodes: 4,
-        lines: 2,
-    };
-    assert_eq!(rt; count(rt.alloc(), &mut source), Ok(counts));
-    let mut sink = ArraySink::<6>::new();
-    assert_eq!(rt; write_counts(&mut sink, &counts), Ok(()));
-    assert_eq!(rt; sink.as_slice(), b"1 4 2\n".as_slice());
-    let mut sink = ArraySink::<3>::new();
-    assert_eq!(rt;
-        write_counts(&mut sink, &counts),
-        Err(RunFault::Write { lines: 0 })
-    );
-    assert_eq!(rt; sink.as_slice(), b"1 4".as_slice());
 }

@@ -1,6 +1,6 @@
 -- One step up the way writes one node more.
 use Rattle.sgf_lines.proofs.Loops.{fill_begins, fills, height_goes_down}
-use Rattle.sgf_lines.proofs.seek.fill_way.Goals as goal
+use Rattle.sgf_lines.proofs.seek.fill_path.Goals as goal
 
 pub loop-node-init : goal.loop-node-init
 loop-node-init c = fill_begins c.args.collection.now c.args.leaf c.args.path.now c.requires.within c.requires.is_leaf c.requires.room

@@ -8,12 +8,12 @@ use Rattle.std.proofs.lemmas.Option.{slice_get-map, slice_get_past}
 use Rattle.sgf_tree.specs.Tree.{Games, node_count}
 use Rattle.sgf_tree.specs.FileOrder.{IsLeaf}
 use Rattle.sgf_lines.specs.Paths.{Path, paths, leaf_of}
-use Rattle.sgf_lines.specs.inner.Ways.{IsWayTo, top}
+use Rattle.sgf_lines.specs.inner.PathTo.{IsPathTo, top}
 use Rattle.sgf_lines.specs.inner.Standing.{lines_before}
 use Rattle.sgf_lines.proofs.Lists.{each_get}
 use Rattle.sgf_lines.proofs.Standing.{stands_whole}
 use Rattle.sgf_lines.proofs.Climbing.{one_way}
-use Rattle.sgf_lines.proofs.Ways.{IsDescent, each_path}
+use Rattle.sgf_lines.proofs.PathsTo.{IsDescent, each_path}
 use Rattle.sgf_lines.proofs.Leaves.{Rises, leaves, leaves_rise, leaves_of_paths, covered}
 
 -- how many numbers at the front are below n
@@ -105,7 +105,7 @@ pub record IsNextLine (c : Games) (n i : ℕ) (path : Path) : Type 0 where
   pub found : slice_get (paths c) (lines_before c n) ≡ Some path
   pub ends : leaf_of path ≡ i
   pub one_more : lines_before c (i + 1) ≡ lines_before c n + 1
-  pub up : IsWayTo c (Some i) path.numbers
+  pub up : IsPathTo c (Some i) path.numbers
 
 pub next_line : (c : Games) (n i : ℕ) → n ≤ i → i < node_count c → IsLeaf c i → ((j : ℕ) → n ≤ j → j < i → IsLeaf c j → ⊥) → (path : Path) × IsNextLine c n i path
 next_line c n i le lt leaf none =
@@ -135,7 +135,7 @@ no_line_left c n none =
     slice_get_past (paths c) (lines_before c n) (omega arith)
 
 -- the line that ends at a leaf, by the way to it
-pub given_line : (c : Games) (i : ℕ) (numbers : List ℕ) → i < node_count c → IsLeaf c i → IsWayTo c (Some i) numbers
+pub given_line : (c : Games) (i : ℕ) (numbers : List ℕ) → i < node_count c → IsLeaf c i → IsPathTo c (Some i) numbers
     → (path : Path) × (slice_get (paths c) (lines_before c (i + 1) - 1) ≡ Some path) × (path.numbers ≡ numbers) × (0 < lines_before c (i + 1))
 given_line c i numbers lt leaf up =
     let f = next_line c i i (omega arith) lt leaf (λ j le below l. omega arith) in

@@ -1,6 +1,6 @@
 -- The nodes that the loop has left are counted.
 use Rattle.sgf_lines.proofs.Loops.{IsCounted, height}
-use Rattle.sgf_lines.proofs.seek.way_length.Given as goal
+use Rattle.sgf_lines.proofs.seek.path_length.Given as goal
 
 abbrev pub invariant-loop-node : goal.invariant-loop-node
 invariant-loop-node l = IsCounted l.collection l.leaf l.node l.length

@@ -1,6 +1,6 @@
 -- The nodes that the loop has left are written.
 use Rattle.sgf_lines.proofs.Loops.{IsFilled, height}
-use Rattle.sgf_lines.proofs.seek.fill_way.Given as goal
+use Rattle.sgf_lines.proofs.seek.fill_path.Given as goal
 
 abbrev pub invariant-loop-node : goal.invariant-loop-node
 invariant-loop-node l = IsFilled l.collection l.leaf l.node l.room l.path
