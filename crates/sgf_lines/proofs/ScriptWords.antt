@@ -11,7 +11,7 @@ use Rattle.go_board.specs.declared.points.Point.{Point}
 use Rattle.go_board.specs.Point.{IsOn}
 use Rattle.go_board.specs.Vertex.{column_letters, vertex_of}
 use Rattle.sgf_lines.specs.Script.{colour_letter, vertex_text}
-use Rattle.sgf_lines.specs.Replay.{before_comment, is_word, words, capital, point_there, point_named, plays, play_of, command_of}
+use Rattle.sgf_lines.specs.Replay.{before_comment, is_word, words, capital, point_there, point_named, plays_stone, play_of, command_of}
 use Rattle.std.proofs.lemmas.Bool.{cases_eq}
 use Rattle.std.proofs.lemmas.Bool.Decides.{nat_tests}
 use Rattle.sgf_lines.proofs.Lists.{Each}
@@ -113,11 +113,11 @@ pub vertex_solid : (side : ℕ) (p : Point) → side ≤ 25 → IsOn side p → 
 unfolding vertex_of
 vertex_solid side p small on = (letter_solid p.col (omega (arith, on.0)), decimal_solid (side - p.row))
 
-named_back : (side : ℕ) (k : Colour) (o : Option Point) (p : Point) → o ≡ Some p → play_of (Some k) o ≡ plays k p
+named_back : (side : ℕ) (k : Colour) (o : Option Point) (p : Point) → o ≡ Some p → play_of (Some k) o ≡ plays_stone k p
 named_back side k o p e = ap (λ x. play_of (Some k) x) e
 
 pub play_reads : (side : ℕ) (k : Colour) (p : Point) → side ≤ 25 → IsOn side p
-    → command_of side (words (codes "play " ++ colour_letter k ++ codes " " ++ vertex_text (vertex_of p side))) ≡ plays k p
+    → command_of side (words (codes "play " ++ colour_letter k ++ codes " " ++ vertex_text (vertex_of p side))) ≡ plays_stone k p
 play_reads side Black p small on =
     ap (λ ws. command_of side ws) (play_words Black (vertex_of p side).letter (decimal (vertex_of p side).row) (vertex_solid side p small on))
     ∙ named_back side Black (point_named side (vertex_text (vertex_of p side))) p (point_names side p small on)
