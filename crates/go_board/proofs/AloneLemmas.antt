@@ -9,7 +9,7 @@ use Rattle.go_board.specs.Colour.{opponent, stone_of, same_cell}
 use Rattle.go_board.specs.Point.{IsOn}
 use Rattle.go_board.specs.Grid.{Grid, cell_at, with_cell}
 use Rattle.go_board.specs.Clearing.{play, has_unreaching}
-use Rattle.go_board.specs.inner.Groups.{ReachesIfStone, LivesAt, LosesDead, AllLive}
+use Rattle.go_board.specs.inner.Groups.{ReachesIfStone, LivesAt, LosesShut, AllLive}
 use Rattle.go_board.proofs.PointLemmas.{same_or_not}
 use Rattle.go_board.proofs.GridLemmas.{Decides-same_cell, cell_at-with_cell, cell_at-with_cell_elsewhere}
 use Rattle.go_board.proofs.GroupLemmas.{stone_of≢Empty}
@@ -70,8 +70,8 @@ reaches_beside_one h d from one other on by by_other lives =
     elim lives [ inl a ↦ reaches_beside h d from one on by a | inr b ↦ reaches_beside h d from other on by_other b ]
 
 -- taking nothing off
-pub LosesDead-none : (g : Grid) (k : Colour) → LosesDead g g k
-LosesDead-none g k = record {
+pub LosesShut-none : (g : Grid) (k : Colour) → LosesShut g g k
+LosesShut-none g k = record {
   same_side = refl;
   all = refl;
   taken = λ p on. inl refl;
@@ -83,4 +83,4 @@ LosesDead-none g k = record {
 pub alone_is_play : (g : Grid) (p : Point) (k : Colour) → IsOn g.side p → length g.cells ≡ g.side * g.side → has_unreaching g ≡ false → AllLive (with_cell g p (stone_of k)) k p → play g k p ≡ with_cell g p (stone_of k)
 alone_is_play g p k on all settled live =
     let h = with_cell g p (stone_of k) in
-    sym (captured_is_play g h h p k on all settled (LosesDead-none h (opponent k)) live.1 (LosesDead-none h k) live.0)
+    sym (captured_is_play g h h p k on all settled (LosesShut-none h (opponent k)) live.1 (LosesShut-none h k) live.0)

@@ -51,7 +51,7 @@ pub coloured_none : (side : ℕ) (op : SetupOp) (old : List Cell) → IsColoured
 coloured_none side op old =
     record { same_length = refl; inside = λ p on h. absurd (omega (arith, h.below, h.above)); outside = λ p on h. refl }
 
--- the place of a point of an earlier or a later row
+-- the index of a point of an earlier or a later row
 index_above : (side : ℕ) (p : Point) (row : ℕ) → p.col < side → p.row < row → index_of side p < row * side
 index_above side p row on h =
     let rows : (p.row + 1) * side ≤ row * side = mul-le-mul_right side (omega arith) in omega arith
@@ -69,9 +69,9 @@ module _ (side : ℕ) (op : SetupOp) (row a k : ℕ) (old new : List Cell) (so_f
   unfolding after
   cell_before p h = get_or-below_part a k new _ _ Empty (length-replicate k op.cell) fits h
 
-  cell_behind : (p : Point) → a + k ≤ index_of side p → get_or after (index_of side p) Empty ≡ get_or new (index_of side p) Empty
+  cell_after : (p : Point) → a + k ≤ index_of side p → get_or after (index_of side p) Empty ≡ get_or new (index_of side p) Empty
   unfolding after
-  cell_behind p h = get_or-above_part a k new _ _ Empty (length-replicate k op.cell) fits h
+  cell_after p h = get_or-above_part a k new _ _ Empty (length-replicate k op.cell) fits h
 
   cell_within : (p : Point) → a ≤ index_of side p → index_of side p < a + k → get_or after (index_of side p) Empty ≡ op.cell
   unfolding after
@@ -97,14 +97,14 @@ module _ (side : ℕ) (op : SetupOp) (row a k : ℕ) (old new : List Cell) (so_f
             elim (cases_lt p.col op.area.first.col) [
               | inl left ↦ (cell_before p (omega arith) ∙ so_far.outside p on not_above)
               | inr within ↦ elim (cases_lt op.area.last.col p.col) [
-                | inl right ↦ (cell_behind p (omega arith) ∙ so_far.outside p on not_above)
+                | inl right ↦ (cell_after p (omega arith) ∙ so_far.outside p on not_above)
                 | inr inner ↦ absurd (not (record { right_of = within; left_of = inner; below = omega arith; above = omega arith }))
               ]
             ])
         | inr (inl less) ↦ (let above = index_above side p row on.0 less in
             cell_before p (omega arith) ∙ so_far.outside p on not_above)
-        | inr (inr more) ↦ (let behind = index_below_row side p row more in
-            cell_behind p (omega (arith, on_board.1.0)) ∙ so_far.outside p on not_above)
+        | inr (inr more) ↦ (let below = index_below_row side p row more in
+            cell_after p (omega (arith, on_board.1.0)) ∙ so_far.outside p on not_above)
       ]
 
   pub coloured_more : IsColouredTo side op (row + 1) old (put_mid a k new (replicate k op.cell))

@@ -10,9 +10,9 @@ use Rattle.go_board.specs.declared.past.changes.Change.{Change}
 use Rattle.go_board.specs.declared.points.Point.{Point}
 use Rattle.go_board.specs.Point.{IsOn}
 use Rattle.go_board.specs.Grid.{Grid, cell_at, with_cell}
-use Rattle.go_board.specs.inner.Changes.{after_changes, IsRunOn, AreOn, LeadBackwards}
+use Rattle.go_board.specs.inner.Changes.{after_changes, IsChangeOn, AreOn, LeadBackwards}
 use Rattle.go_board.proofs.PointLemmas.{index_below}
-use Rattle.go_board.proofs.ChangesLemmas.{with_cell-back, with_run-one, after-side}
+use Rattle.go_board.proofs.ChangesLemmas.{with_cell-back, with_change-one, after-side}
 
 All-reverse : {X : Type 0} (P : X → Type 0) (xs : List X) → All P xs → All P (reverse xs)
 All-reverse P xs all = λ i d below.
@@ -37,16 +37,16 @@ pub backwards-more : (start : ℕ) (h : Grid) (front : List Change) (g : Grid) (
 backwards-more start h front g changes p cell on was =
     let c : Change = record { point = p; cell = cell_at g p; more = 0 } in
     let side = backwards-side start h front g changes was in
-    let here : IsRunOn h.side c = subst (λ n. IsRunOn n c) side (on, omega (arith, index_below g.side p on)) in
+    let here : IsChangeOn h.side c = subst (λ n. IsChangeOn n c) side (on, omega (arith, index_below g.side p on)) in
     record {
       starts = omega (arith, was.starts, length-append changes (c ∷ []));
       front_is = take-append-le start changes (c ∷ []) was.starts ∙ was.front_is;
       back =
           ap (λ cs. after_changes (with_cell g p cell) (reverse cs)) (drop-append-le start changes (c ∷ []) was.starts)
           ∙ ap (after_changes (with_cell g p cell)) (reverse-append (drop start changes) (c ∷ []))
-          ∙ ap (λ x. after_changes x (reverse (drop start changes))) (with_run-one (with_cell g p cell) p (cell_at g p) ∙ with_cell-back g p cell)
+          ∙ ap (λ x. after_changes x (reverse (drop start changes))) (with_change-one (with_cell g p cell) p (cell_at g p) ∙ with_cell-back g p cell)
           ∙ was.back;
-      on_grid = All-push (IsRunOn h.side) changes c was.on_grid here;
+      on_grid = All-push (IsChangeOn h.side) changes c was.on_grid here;
     }
 
 -- the same, where it is known what stood there
@@ -65,6 +65,6 @@ backwards-stone g b p stone items changes on empty on_grid pushed is =
 -- changes turned round are of points of the grid, too
 pub on_grid-round : (side start : ℕ) (changes : List Change) → AreOn side changes → AreOn side (take start changes ++ reverse (drop start changes))
 on_grid-round side start changes on =
-    All-append (IsRunOn side) (take start changes) (reverse (drop start changes))
-    (All-take (IsRunOn side) start changes on)
-    (All-reverse (IsRunOn side) (drop start changes) (All-drop (IsRunOn side) start changes on))
+    All-append (IsChangeOn side) (take start changes) (reverse (drop start changes))
+    (All-take (IsChangeOn side) start changes on)
+    (All-reverse (IsChangeOn side) (drop start changes) (All-drop (IsChangeOn side) start changes on))

@@ -10,7 +10,7 @@ use Rattle.go_board.specs.declared.stones.Colour.{Colour}
 use Rattle.go_board.specs.Colour.{stone_of}
 use Rattle.go_board.specs.Point.{index_of}
 use Rattle.go_board.specs.Grid.{Grid, cell_at, with_cell}
-use Rattle.go_board.specs.inner.Changes.{after_changes, painted, with_run, IsRunOn, IsRunOf, LeadsBack}
+use Rattle.go_board.specs.inner.Changes.{after_changes, painted, with_change, IsChangeOn, AreAllOf, LeadsBack}
 use Rattle.go_board.proofs.RangeLemmas.{front-range, back-range}
 
 -- a point coloured anew and then as it was
@@ -20,28 +20,28 @@ with_cell-back g p c =
     (set-set g.cells (index_of g.side p) c (cell_at g p) ∙ set-get_or g.cells (index_of g.side p) Empty)
 
 -- a change of one point
-pub with_run-one : (g : Grid) (p : Point) (c : Cell) → with_run g (record { point = p; cell = c; more = 0 }) ≡ with_cell g p c
-with_run-one g p c =
+pub with_change-one : (g : Grid) (p : Point) (c : Cell) → with_change g (record { point = p; cell = c; more = 0 }) ≡ with_cell g p c
+with_change-one g p c =
     let same : index_of g.side p + 0 ≡ index_of g.side p = omega arith in
     ap (λ i. record { side = g.side; cells = set g.cells i c }) same
 
 -- a stone on an empty point taken off again
-pub stone-back : (g h : Grid) (p : Point) (k : Colour) → h ≡ with_cell g p (stone_of k) → cell_at g p ≡ Empty → with_run h (record { point = p; cell = Empty; more = 0 }) ≡ g
+pub stone-back : (g h : Grid) (p : Point) (k : Colour) → h ≡ with_cell g p (stone_of k) → cell_at g p ≡ Empty → with_change h (record { point = p; cell = Empty; more = 0 }) ≡ g
 stone-back g h p k is empty =
-    with_run-one h p Empty
+    with_change-one h p Empty
     ∙ ap (λ (x : Grid). with_cell x p Empty) is
     ∙ ap (λ x. with_cell (with_cell g p (stone_of k)) p x) (sym empty) ∙ with_cell-back g p (stone_of k)
 
 -- the last of the changes comes last
-pub after-push : (g : Grid) (cs : List Change) (c : Change) → after_changes g (cs ++ c ∷ []) ≡ with_run (after_changes g cs) c
+pub after-push : (g : Grid) (cs : List Change) (c : Change) → after_changes g (cs ++ c ∷ []) ≡ with_change (after_changes g cs) c
 after-push g [] c = refl
-after-push g (x ∷ xs) c = after-push (with_run g x) xs c
+after-push g (x ∷ xs) c = after-push (with_change g x) xs c
 
 -- one change more, and what it leads to
 last-count : (cs : List Change) (c : Change) → length (cs ++ c ∷ []) - 1 ≡ length cs
 last-count cs c = omega (arith, length-append cs (c ∷ []))
 
-pub last-back : (g : Grid) (cs : List Change) (c : Change) → after_changes g (drop (length (cs ++ c ∷ []) - 1) (cs ++ c ∷ [])) ≡ with_run g c
+pub last-back : (g : Grid) (cs : List Change) (c : Change) → after_changes g (drop (length (cs ++ c ∷ []) - 1) (cs ++ c ∷ [])) ≡ with_change g c
 last-back g cs c = ap (after_changes g) (drop_at cs (c ∷ []) (length (cs ++ c ∷ []) - 1) (sym (last-count cs c)))
 
 pub last-front : (cs : List Change) (c : Change) → take (length (cs ++ c ∷ []) - 1) (cs ++ c ∷ []) ≡ cs
@@ -50,7 +50,7 @@ last-front cs c = take_at cs (c ∷ []) (length (cs ++ c ∷ []) - 1) (sym (last
 -- the side stays
 pub after-side : (g : Grid) (cs : List Change) → (after_changes g cs).side ≡ g.side
 after-side g [] = refl
-after-side g (x ∷ xs) = after-side (with_run g x) xs
+after-side g (x ∷ xs) = after-side (with_change g x) xs
 
 -- and so does the number of cells
 length-painted : (cells : List Cell) (cell : Cell) (i n : ℕ) → length (painted cells cell i n) ≡ length cells
@@ -59,7 +59,7 @@ length-painted cells cell i (suc n) = length-set (painted cells cell i n) (i + n
 
 pub after-length : (g : Grid) (cs : List Change) → length (after_changes g cs).cells ≡ length g.cells
 after-length g [] = refl
-after-length g (x ∷ xs) = after-length (with_run g x) xs ∙ length-painted g.cells x.cell (index_of g.side x.point) (suc x.more)
+after-length g (x ∷ xs) = after-length (with_change g x) xs ∙ length-painted g.cells x.cell (index_of g.side x.point) (suc x.more)
 
 -- the first n old cells, and then the new ones
 abbrev pub spliced : List Cell → List Cell → ℕ → List Cell
@@ -85,7 +85,7 @@ spliced-range old new a b h same =
     ∙ sym (append_assoc (take a old) (slice_range old a b) (drop b new))
     ∙ ap (λ xs. xs ++ drop b new) (sym (front-range old a b h))
 
-painted-spliced : (old new : List Cell) (cell : Cell) (i n : ℕ) → i + n ≤ length old → i + n ≤ length new → IsRunOf cell old i n → painted (spliced old new i) cell i n ≡ spliced old new (i + n)
+painted-spliced : (old new : List Cell) (cell : Cell) (i n : ℕ) → i + n ≤ length old → i + n ≤ length new → AreAllOf cell old i n → painted (spliced old new i) cell i n ≡ spliced old new (i + n)
 painted-spliced old new cell i zero in_old in_new run = ap (spliced old new) (omega arith)
 painted-spliced old new cell i (suc n) in_old in_new run =
     let so_far = painted-spliced old new cell i n (omega (arith, in_old)) (omega (arith, in_new)) (λ k h. run k (omega (arith, h))) in
@@ -96,18 +96,18 @@ painted-spliced old new cell i (suc n) in_old in_new run =
 
 module _ (side start : ℕ) (old new : List Cell) where
   -- a change added, of the next points up to j
-  pub leads-more : (i j n : ℕ) (changes : List Change) (c : Change) → n ≡ suc c.more → j ≡ i + n → j ≤ length old → j ≤ length new → IsRunOn side c → index_of side c.point ≡ i → IsRunOf c.cell old i n → LeadsBack side old new start i changes → LeadsBack side old new start j (changes ++ c ∷ [])
+  pub leads-more : (i j n : ℕ) (changes : List Change) (c : Change) → n ≡ suc c.more → j ≡ i + n → j ≤ length old → j ≤ length new → IsChangeOn side c → index_of side c.point ≡ i → AreAllOf c.cell old i n → LeadsBack side old new start i changes → LeadsBack side old new start j (changes ++ c ∷ [])
   leads-more i j n changes c count to in_old in_new on at run leads =
       let g : Grid = record { side = side; cells = new } in
       let parts : drop start (changes ++ c ∷ []) ≡ drop start changes ++ c ∷ [] = drop-append-le start changes (c ∷ []) leads.starts in
       let so_far : after_changes g (drop start changes) ≡ record { side = side; cells = spliced old new i } = leads.back in
-      let one : with_run (record { side = side; cells = spliced old new i }) c ≡ record { side = side; cells = painted (spliced old new i) c.cell i n } = ap (λ x. record { side = side; cells = painted (spliced old new i) c.cell x (suc c.more) }) at ∙ ap (λ k. record { side = side; cells = painted (spliced old new i) c.cell i k }) (sym count) in
+      let one : with_change (record { side = side; cells = spliced old new i }) c ≡ record { side = side; cells = painted (spliced old new i) c.cell i n } = ap (λ x. record { side = side; cells = painted (spliced old new i) c.cell x (suc c.more) }) at ∙ ap (λ k. record { side = side; cells = painted (spliced old new i) c.cell i k }) (sym count) in
       let all : painted (spliced old new i) c.cell i n ≡ spliced old new j = painted-spliced old new c.cell i n (omega (arith, to, in_old)) (omega (arith, to, in_new)) run ∙ ap (spliced old new) (sym to) in
       record {
         starts = omega (arith, leads.starts, length-append changes (c ∷ []));
-        back = ap (after_changes g) parts ∙ after-push g (drop start changes) c ∙ ap (λ (x : Grid). with_run x c) so_far ∙ one ∙ ap (λ (xs : List Cell). record { side = side; cells = xs }) all;
+        back = ap (after_changes g) parts ∙ after-push g (drop start changes) c ∙ ap (λ (x : Grid). with_change x c) so_far ∙ one ∙ ap (λ (xs : List Cell). record { side = side; cells = xs }) all;
         few = omega (arith, count, to, leads.few, length-append changes (c ∷ []));
-        on_grid = All-push (IsRunOn side) changes c leads.on_grid on;
+        on_grid = All-push (IsChangeOn side) changes c leads.on_grid on;
       }
 
   -- no change, where the next cells are the same

@@ -9,16 +9,16 @@ use Rattle.go_board.specs.declared.past.changes.Older.{Older}
 use Rattle.go_board.specs.Grid.{Grid}
 use Rattle.go_board.specs.Clearing.{has_unreaching}
 use Rattle.go_board.specs.Past.{Held, newest, present_stretch}
-use Rattle.go_board.specs.inner.Changes.{after_changes, with_run, IsRunOn, before, changes_before, held_before, AreKept, AreCounted, AreOn, IsPast}
+use Rattle.go_board.specs.inner.Changes.{after_changes, with_change, IsChangeOn, before, changes_before, held_before, AreKept, AreCounted, AreOn, IsPast}
 use Rattle.go_board.proofs.ChangesLemmas.{after-side, last-back, last-front}
 
 -- a stretch has no more older colourings than there are
-pub counted-le : (since : ℕ) (os : List Older) → AreCounted since os → since ≤ length os
-counted-le since [] h = omega arith
+pub counted-le : (older_in_stretch : ℕ) (os : List Older) → AreCounted older_in_stretch os → older_in_stretch ≤ length os
+counted-le older_in_stretch [] h = omega arith
 counted-le zero (o ∷ os) h = omega arith
 counted-le (suc n) (o ∷ os) h =
-    let one : suc n ≡ suc o.since = h.0 (omega arith) in
-    omega (arith, one, counted-le o.since os h.1)
+    let one : suc n ≡ suc o.older_in_stretch = h.0 (omega arith) in
+    omega (arith, one, counted-le o.older_in_stretch os h.1)
 
 pub length-held : (g : Grid) (os : List Older) (changes : List Change) → length (held_before g os changes) ≡ length os
 length-held g [] changes = refl
@@ -26,37 +26,37 @@ length-held g (o ∷ os) changes = ap suc (length-held (before g o changes) os (
 
 -- the colourings, newest first
 abbrev pub all_held : Grid → ℕ → List Older → List Change → List Held
-all_held g since os changes = record { colouring = g; begins = since == 0 } ∷ held_before g os changes
+all_held g older_in_stretch os changes = record { colouring = g; begins = older_in_stretch == 0 } ∷ held_before g os changes
 
 -- the present stretch is the newest colouring and as many older ones as are counted
-pub stretch-is : (g : Grid) (since : ℕ) (os : List Older) (changes : List Change) → AreCounted since os → present_stretch (all_held g since os changes) ≡ map (λ (h : Held). h.colouring) (take (suc since) (all_held g since os changes))
+pub stretch-is : (g : Grid) (older_in_stretch : ℕ) (os : List Older) (changes : List Change) → AreCounted older_in_stretch os → present_stretch (all_held g older_in_stretch os changes) ≡ map (λ (h : Held). h.colouring) (take (suc older_in_stretch) (all_held g older_in_stretch os changes))
 stretch-is g zero os changes h = refl
 stretch-is g (suc n) [] changes h = absurd (omega arith)
 stretch-is g (suc n) (o ∷ os) changes h =
-    let one : suc n ≡ suc o.since = h.0 (omega arith) in
-    let less : n ≡ o.since = omega arith in
+    let one : suc n ≡ suc o.older_in_stretch = h.0 (omega arith) in
+    let less : n ≡ o.older_in_stretch = omega arith in
     let goes_on : (suc n == 0) ≡ false = grind (arith, nat_tests) in
     rw goes_on
     (ap (λ (gs : List Grid). g ∷ gs)
-    (stretch-is (before g o changes) o.since os (changes_before o changes) h.1
+    (stretch-is (before g o changes) o.older_in_stretch os (changes_before o changes) h.1
     ∙ ap (λ k. map (λ (x : Held). x.colouring) (take (suc k) (held_before g (o ∷ os) changes))) (sym less)))
 
 -- one colouring less
-pub past-pop : (g : Grid) (since : ℕ) (older older' : List Older) (o : Older) (changes : List Change) → older ≡ older' ++ o ∷ [] → IsPast g since older changes → IsPast (before g o changes) o.since older' (changes_before o changes)
-past-pop g since older older' o changes parts past =
+pub past-pop : (g : Grid) (older_in_stretch : ℕ) (older older' : List Older) (o : Older) (changes : List Change) → older ≡ older' ++ o ∷ [] → IsPast g older_in_stretch older changes → IsPast (before g o changes) o.older_in_stretch older' (changes_before o changes)
+past-pop g older_in_stretch older older' o changes parts past =
     let turned : reverse older ≡ o ∷ reverse older' = ap reverse parts ∙ reverse-append older' (o ∷ []) in
     let kept = subst (λ (os : List Older). AreKept g os changes) turned past.kept in
-    let counted = subst (λ (os : List Older). AreCounted since os) turned past.counted in
+    let counted = subst (λ (os : List Older). AreCounted older_in_stretch os) turned past.counted in
     let side : (before g o changes).side ≡ g.side = after-side g (drop (length changes - o.changes) changes) in
     record {
       kept = kept.2;
       counted = counted.1;
-      on_grid = rw side (All-take (IsRunOn g.side) (length changes - o.changes) changes past.on_grid);
+      on_grid = rw side (All-take (IsChangeOn g.side) (length changes - o.changes) changes past.on_grid);
     }
 
 -- one colouring more, from which the newest changes lead back
-pub past-more : (g h : Grid) (since next : ℕ) (older : List Older) (o : Older) (old new : List Change) → (0 < next → next ≡ since + 1) → o.since ≡ since → o.changes ≤ length new → before h o new ≡ g → changes_before o new ≡ old → IsPast g since older old → (IsTrue o.settled → has_unreaching g ≡ false) → AreOn h.side new → IsPast h next (older ++ o ∷ []) new
-past-more g h since next older o old new follows same few before_is rest_is past settled on =
+pub past-more : (g h : Grid) (older_in_stretch next : ℕ) (older : List Older) (o : Older) (old new : List Change) → (0 < next → next ≡ older_in_stretch + 1) → o.older_in_stretch ≡ older_in_stretch → o.changes ≤ length new → before h o new ≡ g → changes_before o new ≡ old → IsPast g older_in_stretch older old → (IsTrue o.settled → has_unreaching g ≡ false) → AreOn h.side new → IsPast h next (older ++ o ∷ []) new
+past-more g h older_in_stretch next older o old new follows same few before_is rest_is past settled on =
     let turned : reverse (older ++ o ∷ []) ≡ o ∷ reverse older = reverse-append older (o ∷ []) in
     record {
       kept = rw turned (few, λ is. ap has_unreaching before_is ∙ settled is, rw (before_is, rest_is) past.kept);
@@ -65,7 +65,7 @@ past-more g h since next older o old new follows same few before_is rest_is past
     }
 
 -- one colouring more, from which one change leads back
-module _ (g h : Grid) (since next : ℕ) (older : List Older) (o : Older) (changes : List Change) (c : Change) (follows : next ≡ since + 1) (back : with_run h c ≡ g) (one : o.changes ≡ 1) (same : o.since ≡ since) where
+module _ (g h : Grid) (older_in_stretch next : ℕ) (older : List Older) (o : Older) (changes : List Change) (c : Change) (follows : next ≡ older_in_stretch + 1) (back : with_change h c ≡ g) (one : o.changes ≡ 1) (same : o.older_in_stretch ≡ older_in_stretch) where
   abbrev all : List Change
   all = changes ++ c ∷ []
 
@@ -78,14 +78,14 @@ module _ (g h : Grid) (since next : ℕ) (older : List Older) (o : Older) (chang
   turned : reverse (older ++ o ∷ []) ≡ o ∷ reverse older
   turned = reverse-append older (o ∷ [])
 
-  pub past-push : IsPast g since older changes → (IsTrue o.settled → has_unreaching g ≡ false) → IsRunOn h.side c → h.side ≡ g.side → IsPast h next (older ++ o ∷ []) all
+  pub past-push : IsPast g older_in_stretch older changes → (IsTrue o.settled → has_unreaching g ≡ false) → IsChangeOn h.side c → h.side ≡ g.side → IsPast h next (older ++ o ∷ []) all
   past-push past settled on side = record {
     kept = rw turned (omega (arith, one, length-append changes (c ∷ [])), λ is. ap has_unreaching before_is ∙ settled is, rw (before_is, rest_is) past.kept);
     counted = rw turned ((λ _. omega (arith, follows, same)), rw same past.counted);
-    on_grid = All-push (IsRunOn h.side) changes c (rw side past.on_grid) on;
+    on_grid = All-push (IsChangeOn h.side) changes c (rw side past.on_grid) on;
   }
 
-  pub held-push : all_held h next (reverse (older ++ o ∷ [])) all ≡ record { colouring = h; begins = false } ∷ all_held g since (reverse older) changes
+  pub held-push : all_held h next (reverse (older ++ o ∷ [])) all ≡ record { colouring = h; begins = false } ∷ all_held g older_in_stretch (reverse older) changes
   held-push =
       let goes_on : (next == 0) ≡ false = grind (arith, nat_tests) in
       rw (turned, goes_on, before_is, rest_is, same) refl
@@ -113,13 +113,13 @@ module _ (held : List Held) (older : List Older) (changes : List Change) (board 
       let count : length (take end changes) ≡ end = length-take end changes ∙ omega arith in
       ap (λ k. take (k - one.changes) (take end changes)) count ∙ take-take (end - one.changes) end changes (omega arith)
 
-  whole : drop (length older - n) held ≡ record { colouring = board_before; begins = one.since == 0 } ∷ held_before board_before (reverse (take n older)) (take (end - one.changes) changes)
+  whole : drop (length older - n) held ≡ record { colouring = board_before; begins = one.older_in_stretch == 0 } ∷ held_before board_before (reverse (take n older)) (take (end - one.changes) changes)
   whole =
       let count : length older - n ≡ length older - (n + 1) + 1 = omega arith in
       ap (λ k. drop k held) count ∙ earlier
       ∙ ap (λ os. held_before board os (take end changes)) (turned-take older n d is_one)
-      ∙ ap (λ (b : Grid). record { colouring = b; begins = one.since == 0 } ∷ held_before b (reverse (take n older)) (changes_before one (take end changes))) same_board
-      ∙ ap (λ cs. record { colouring = board_before; begins = one.since == 0 } ∷ held_before board_before (reverse (take n older)) cs) same_changes
+      ∙ ap (λ (b : Grid). record { colouring = b; begins = one.older_in_stretch == 0 } ∷ held_before b (reverse (take n older)) (changes_before one (take end changes))) same_board
+      ∙ ap (λ cs. record { colouring = board_before; begins = one.older_in_stretch == 0 } ∷ held_before board_before (reverse (take n older)) cs) same_changes
 
   pub there-back : newest (drop (length older - n) held) ≡ Some board_before
   there-back = ap newest whole

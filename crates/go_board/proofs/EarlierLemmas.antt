@@ -2,12 +2,12 @@
 use Rattle.std.proofs.Common.{◌≡◌, ℕ, suc, ◌+◌, ◌≤◌, Bool, true, false, Option, List, [], ◌∷◌, ◌++◌, length, reverse, refl, sym, ap, subst, ◌∙◌, arith, IsTrue}
 use Rattle.std.proofs.lemmas.Bool.{false≢true}
 use Rattle.std.proofs.lemmas.List.{length-reverse, reverse-append}
-use Rattle.go_board.specs.declared.referee.earlier.Earlier.{Earlier}
+use Rattle.go_board.specs.declared.referee.Earlier.{Earlier}
 use Rattle.go_board.specs.declared.stones.Colour.{Colour}
 use Rattle.go_board.specs.Grid.{Grid}
 use Rattle.go_board.specs.Past.{Held, newest_grid, HaveSide}
 use Rattle.go_board.specs.State.{starting}
-use Rattle.go_board.specs.inner.Earlier.{held_before_call, states_before, IsKept}
+use Rattle.go_board.specs.inner.Earlier.{held_before_call, states_before, IsRefereeKept}
 
 length-states_before : (held : List Held) (es : List Earlier) → length (states_before held es) ≡ length es
 length-states_before held [] = refl
@@ -26,10 +26,10 @@ saved_as saved turns player passes grew e f g h =
     ∙ ap (λ b. record { turns = turns; player = player; passes = passes; grew = b }) h
 
 -- what a referee keeps once its past grew by a colouring that was made in place
-module _ (held : List Held) (spare : Grid) (SpareIsCurrent : Type 0) (player : Option Colour) (passes turns : ℕ) (earlier : List Earlier) (kept : IsKept held spare SpareIsCurrent player passes turns (reverse earlier))
+module _ (held : List Held) (spare : Grid) (SpareIsCurrent : Type 0) (player : Option Colour) (passes turns : ℕ) (earlier : List Earlier) (kept : IsRefereeKept held spare SpareIsCurrent player passes turns (reverse earlier))
     (saved : Earlier) (same_turns : saved.turns ≡ turns) (same_player : saved.player ≡ player) (same_passes : saved.passes ≡ passes) (grew : saved.grew ≡ true) where
-  pub IsKept-grown : (now : List Held) (made : Grid) (begins : Bool) (next : Option Colour) (turns' : ℕ) (earlier' : List Earlier) → now ≡ record { colouring = made; begins = begins } ∷ held → made.side ≡ (newest_grid held).side → earlier' ≡ earlier ++ saved ∷ [] → turns' ≤ turns + 1 → IsKept now spare (IsTrue false) next 0 turns' (reverse earlier')
-  IsKept-grown now made begins next turns' earlier' is side longer few =
+  pub IsRefereeKept-grown : (now : List Held) (made : Grid) (begins : Bool) (next : Option Colour) (turns' : ℕ) (earlier' : List Earlier) → now ≡ record { colouring = made; begins = begins } ∷ held → made.side ≡ (newest_grid held).side → earlier' ≡ earlier ++ saved ∷ [] → turns' ≤ turns + 1 → IsRefereeKept now spare (IsTrue false) next 0 turns' (reverse earlier')
+  IsRefereeKept-grown now made begins next turns' earlier' is side longer few =
       rw (is, longer, reverse-append earlier (saved ∷ []), saved_as saved turns player passes true same_turns same_player same_passes grew)
       (record {
         one_side = (refl, subst (λ n. HaveSide n held) (sym side) kept.one_side);

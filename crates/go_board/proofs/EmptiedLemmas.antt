@@ -5,7 +5,7 @@ use Rattle.go_board.specs.declared.points.Point.{Point}
 use Rattle.go_board.specs.Point.{index_of}
 use Rattle.go_board.specs.Grid.{Grid, cell_at, with_cell}
 
--- an emptied place is empty, also behind the end of the list
+-- an emptied point is empty, also after the end of the list
 set_default : {X : Type 0} (xs : List X) (i : ℕ) (d : X) → get_or (set xs i d) i d ≡ d
 set_default [] i d = refl
 set_default (x ∷ xs) zero d = refl

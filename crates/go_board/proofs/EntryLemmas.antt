@@ -1,4 +1,4 @@
--- The stretch of past colourings whose cells stand one behind the other in one list.
+-- The stretch of past colourings whose cells stand one after the other in one list.
 use Rattle.std.proofs.Common.{◌≡◌, ◌≢◌, ℕ, zero, suc, ◌+◌, ◌*◌, ◌<◌, ◌⊎◌, ◌↔◌, inl, inr, Bool, true, false, List, [], ◌∷◌, ◌++◌, ◌≤◌, length, drop, slice_range, slice_index_or, Contains, length-append, length-take, length-drop, take, ◌-◌, subst, IsTrue, refl, sym, ap, ◌∙◌, arith, cond}
 use Rattle.std.proofs.lemmas.List.{take-append-le, drop_at, get_or_at, get_or_append_left, take-append-drop}
 use Rattle.std.proofs.lemmas.Slice.{between_is, between_to_end}
@@ -19,7 +19,7 @@ Contains-cases x y xs (suc k, h, e) = inr (k, omega (arith, h), e)
 pub Contains-none : {X : Type 0} (y : X) → Contains [] y → ⊥
 Contains-none y h = absurd (omega (arith, h.1))
 
--- a stretch that goes on behind its first colouring only where that doesn't begin it
+-- a stretch that goes on after its first colouring only where that doesn't begin it
 going_on : {X : Type 0} (x y : X) (b : Bool) (xs : List X) → b ≡ false → Contains xs y → Contains (x ∷ cond b [] xs) y
 going_on x y false xs e h = Contains-later x y xs h
 going_on x y true xs e h = absurd (cc)
@@ -41,7 +41,7 @@ Has side all flags cells n =
     Contains (present_stretch (entries side all flags n)) (record { side = side; cells = cells })
 
 module _ (side points : ℕ) (square : points ≡ side * side) (all : List Cell) (flags : List Bool) (cells : List Cell) where
-  -- the cells of the colouring at place n
+  -- the cells of the colouring at index n
   abbrev pub cells_at : ℕ → List Cell
   cells_at n = slice_range all (n * points) ((n + 1) * points)
 
@@ -61,13 +61,13 @@ module _ (side points : ℕ) (square : points ≡ side * side) (all : List Cell)
   Has-cases i n e other h =
       only_later _ _ (slice_index_or flags n false) _ (λ same. other (same_cells side _ _ (sym (at_index n) ∙ same))) (rw e at h)
 
--- Adding a colouring behind the others.
+-- Adding a colouring after the others.
 
 -- a part within the front of a joined list is that part of the front
 part_of_front : {X : Type 0} (xs ys : List X) (i j : ℕ) → j ≤ length xs → slice_range (xs ++ ys) i j ≡ slice_range xs i j
 part_of_front xs ys i j h = between_is (xs ++ ys) i j ∙ ap (drop i) (take-append-le j xs ys h) ∙ sym (between_is xs i j)
 
--- the part behind the front of a joined list is its back
+-- the part after the front of a joined list is its rest
 part_of_back : {X : Type 0} (xs ys : List X) (i j : ℕ) → length xs ≡ i → length xs + length ys ≡ j → slice_range (xs ++ ys) i j ≡ ys
 part_of_back xs ys i j front whole =
     let short : length (xs ++ ys) ≤ j = omega (arith, length-append xs ys) in
@@ -93,13 +93,13 @@ module _ (side : ℕ) (cells new : List Cell) (flags : List Bool) (b : Bool) (fi
       let flag_new : slice_index_or (flags ++ b ∷ []) (length flags) false ≡ b = get_or_at flags b [] false (length flags) refl in
       rw (count, cells_new, flag_new, entries-more (length flags) (omega arith)) refl
 
--- the newest colouring stands apart; once another takes its place, it stands behind the others
+-- the newest colouring stands apart; once another is the newest, it stands after the others
 pub held-add : (newest added : Grid) (flag begins : Bool) (cells cells' : List Cell) (flags flags' : List Bool) → length cells ≡ length flags * (newest.side * newest.side) → length newest.cells ≡ newest.side * newest.side → newest.side ≡ added.side → cells' ≡ cells ++ newest.cells → flags' ≡ flags ++ flag ∷ [] → ◌≡◌ {A = List Held} (record { colouring = added; begins = begins } ∷ entries added.side cells' flags' (length flags')) (record { colouring = added; begins = begins } ∷ (record { colouring = newest; begins = flag } ∷ entries newest.side cells flags (length flags)))
 held-add newest added flag begins cells cells' flags flags' fits square same more_cells more_flags =
     let others : ◌≡◌ {A = List Held} (entries added.side cells' flags' (length flags')) (record { colouring = newest; begins = flag } ∷ entries newest.side cells flags (length flags)) = rw (← same, more_cells, more_flags) (entries-push newest.side cells newest.cells flags flag fits square) in
     ap (λ (hs : List Held). record { colouring = added; begins = begins } ∷ hs) others
 
--- once the newest one is taken away, the last of the others takes its place
+-- once the newest one is taken away, the last of the others is the newest
 pub held-pop : (side kept : ℕ) (flag : Bool) (cells cells' : List Cell) (flags flags' : List Bool) → length cells ≡ length flags * (side * side) → kept ≡ length cells - side * side → cells' ≡ take kept cells → flags ≡ flags' ++ flag ∷ [] → record { colouring = record { side = side; cells = take (length cells - kept) (drop kept cells) }; begins = flag } ∷ entries side cells' flags' (length flags') ≡ entries side cells flags (length flags)
 held-pop side kept flag cells cells' flags flags' fits is_kept less_cells less_flags =
     let count : length flags ≡ length flags' + 1 = rw less_flags (length-append flags' (flag ∷ [])) in

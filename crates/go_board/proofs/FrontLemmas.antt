@@ -22,7 +22,7 @@ pub grid_in-replicate : (side n : ℕ) (cells : List Cell) → cells ≡ replica
 grid_in-replicate side n cells is fits =
     ap (grid_in side) is ∙ ap (λ l. record { side = side; cells = l }) (take-replicate (side * side) n Empty fits)
 
--- the front of an array in which nothing stands, whatever stands behind it
+-- the front of an array in which nothing stands, whatever the rest is
 pub grid_in-emptied : (side : ℕ) (front rest : List Cell) → front ≡ replicate (side * side) Empty → grid_in side (front ++ rest) ≡ empty_grid side
 grid_in-emptied side front rest is =
     let long : side * side ≡ length front = sym (ap length is ∙ length-replicate (side * side) Empty) in

@@ -12,7 +12,7 @@ use Rattle.go_board.specs.Colour.{opponent, stone_of, same_cell}
 use Rattle.go_board.specs.Point.{IsOn, DifferByOne, AreAdjacent}
 use Rattle.go_board.specs.Grid.{Grid, cell_at, with_cell}
 use Rattle.go_board.specs.Reaching.{Reaches}
-use Rattle.go_board.specs.inner.Glance.{IsIn, IsRowAt}
+use Rattle.go_board.specs.inner.Glance.{IsInRowAround, IsRowAt}
 use Rattle.go_board.specs.inner.Groups.{ReachesIfStone}
 use Rattle.go_board.specs.inner.Regions.{AreRowsOf}
 use Rattle.go_board.specs.inner.Rows.{has_bit, is_set, IsInOrBeside}
@@ -163,9 +163,9 @@ module _ (g : Grid) (k : Colour) (p : Point) (own others : List ℕ) (side : g.s
 
   -- the columns of a row around the stone's are those of free points
   abbrev pub AreFree : ℕ → ℕ → Type 0
-  AreFree i word = (col : ℕ) → has_bit word col ≡ true → (z : Point) × IsIn p.row i col z × IsOn g.side z × (cell_at (with_cell g p (stone_of k)) z ≡ Empty)
+  AreFree i word = (col : ℕ) → has_bit word col ≡ true → (z : Point) × IsInRowAround p.row i col z × IsOn g.side z × (cell_at (with_cell g p (stone_of k)) z ≡ Empty)
 
-  free_point : (i : ℕ) (row : RowStones) → IsRowAt own others p.row i row → ((z : Point) → IsIn p.row i z.col z → has_bit row.free z.col ≡ true → z ≢ p) → AreFree i row.free
+  free_point : (i : ℕ) (row : RowStones) → IsRowAt own others p.row i row → ((z : Point) → IsInRowAround p.row i z.col z → has_bit row.free z.col ≡ true → z ≢ p) → AreFree i row.free
   free_point i row is other =
       λ col set.
       let found = is.are_free col set in

@@ -82,7 +82,7 @@ pub cell_at-with_cell_elsewhere : (g : Grid) (p q : Point) (c : Cell) → IsOn g
 cell_at-with_cell_elsewhere g p q c hp hq other =
     get_or-set_other g.cells (index_of g.side p) (index_of g.side q) c Empty (λ e. other (index_of-injective g.side q p hq hp e))
 
--- a list of one value, read with that value for what is behind its end
+-- a list of one value, read with that value for what is after its end
 pub get_or-replicate_default : {X : Type 0} (n i : ℕ) (d : X) → get_or (replicate n d) i d ≡ d
 get_or-replicate_default zero i d = refl
 get_or-replicate_default (suc n) zero d = refl

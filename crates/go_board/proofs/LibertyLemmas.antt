@@ -11,7 +11,7 @@ use Rattle.go_board.specs.Point.{IsOn}
 use Rattle.go_board.specs.Grid.{Grid, cell_at}
 use Rattle.go_board.specs.inner.Groups.{AllReach, is_shut}
 use Rattle.go_board.specs.inner.Rows.{is_set, IsAmong, IsClosed, Grows}
-use Rattle.go_board.specs.inner.Regions.{is_either, AreRowsOf, IsLeft, AreBeside}
+use Rattle.go_board.specs.inner.Regions.{is_either, AreRowsOf, IsDifference, AreBeside}
 use Rattle.go_board.specs.Reaching.{Leads, reaches}
 use Rattle.go_board.specs.Clearing.{has_unreaching}
 use Rattle.go_board.proofs.GridLemmas.{Decides-same_cell}
@@ -44,7 +44,7 @@ in_or_left true true is none = refl
 in_or_left true false is none = sym none
 in_or_left false in_set is none = absurd (false≢true is)
 
-module _ (g : Grid) (k : Colour) (rows others room empty first : List ℕ) (small : g.side ≤ 52) (all : length rows ≡ g.side) (other_all : length others ≡ g.side) (room_all : length room ≡ g.side) (is_own : AreRowsOf g.side (λ p. same_cell (cell_at g p) (stone_of k)) rows) (is_other : AreRowsOf g.side (λ p. same_cell (cell_at g p) (stone_of (opponent k))) others) (is_room : AreRowsOf (length others) (λ p. not (is_set others p)) room) (is_empty : IsLeft room rows empty) (are_first : AreBeside rows empty first) where
+module _ (g : Grid) (k : Colour) (rows others room empty first : List ℕ) (small : g.side ≤ 52) (all : length rows ≡ g.side) (other_all : length others ≡ g.side) (room_all : length room ≡ g.side) (is_own : AreRowsOf g.side (λ p. same_cell (cell_at g p) (stone_of k)) rows) (is_other : AreRowsOf g.side (λ p. same_cell (cell_at g p) (stone_of (opponent k))) others) (is_room : AreRowsOf (length others) (λ p. not (is_set others p)) room) (is_empty : IsDifference room rows empty) (are_first : AreBeside rows empty first) where
   not_other : AreRowsOf g.side (λ p. not (same_cell (cell_at g p) (stone_of (opponent k)))) room
   not_other =
       AreRowsOf-same g.side _ _ room (λ p on. ap not (is_other.on p on))
@@ -79,7 +79,7 @@ module _ (g : Grid) (k : Colour) (rows others room empty first : List ℕ) (smal
   pub Grows-first : Grows (is_set rows) (is_set first) (is_set first)
   Grows-first = Grows-none rows first first_among
 
-  module _ (reached left : List ℕ) (is_left : IsLeft rows reached left) (grows : Grows (is_set rows) (is_set first) (is_set reached)) where
+  module _ (reached left : List ℕ) (is_left : IsDifference rows reached left) (grows : Grows (is_set rows) (is_set first) (is_set reached)) where
     -- those of the stones that reach empty
     reaching : Point → Bool
     reaching p = is_set rows p && reaches g Empty p

@@ -7,7 +7,7 @@ use Rattle.std.proofs.lemmas.List.{get_or-set_same, get_or-set_other}
 use Rattle.go_board.specs.declared.points.Point.{Point}
 use Rattle.go_board.specs.Point.{IsOn, AreAdjacent, DifferByOne}
 use Rattle.go_board.specs.inner.Rows.{has_bit, is_set, row_above, IsAmong, IsRowClosed, Grows, IsInOrBeside}
-use Rattle.go_board.specs.inner.Linked.{IsLinked, IsFilled, IsLiberty, IsBegun, IsShutIn}
+use Rattle.go_board.specs.inner.Linked.{IsLinked, IsFilled, IsLiberty, IsRowGroup, IsShutIn}
 use Rattle.go_board.proofs.WordLemmas.{has_bit-or, has_bit-and, has_bit-left, from_left, has_bit-right, has_bit-zero}
 use Rattle.go_board.proofs.GrowLemmas.{row_below}
 use Rattle.go_board.proofs.SweepLemmas.{lowest_left}
@@ -164,8 +164,8 @@ module _ (own others : List ℕ) (besides from : Point) where
     pub first_within : is_set own from ≡ true → IsAmong (is_set first) (is_set own)
     first_within stone = λ p is. ap (is_set own) (in_first p is) ∙ stone
 
-    pub IsBegun-grown : is_set own from ≡ true → Grows (is_set own) (is_set first) (is_set grown) → ((k : ℕ) → k ≢ from.row → slice_index grown k ≡ slice_index first k) → IsRowClosed (is_set own) (is_set grown) from.row → IsBegun own from grown
-    IsBegun-grown stone grows others_same closed = record {
+    pub IsRowGroup-grown : is_set own from ≡ true → Grows (is_set own) (is_set first) (is_set grown) → ((k : ℕ) → k ≢ from.row → slice_index grown k ≡ slice_index first k) → IsRowClosed (is_set own) (is_set grown) from.row → IsRowGroup own from grown
+    IsRowGroup-grown stone grows others_same closed = record {
       within = grows.within;
       start = grows.kept from from_in_first;
       linked = λ p is set shut has. grows.least set shut (λ q there_q. ap set (in_first q there_q) ∙ has) p is;
@@ -177,7 +177,7 @@ module _ (own others : List ℕ) (besides from : Point) where
       closed = closed;
     }
 
-  pub IsSpread-begun : (group : List ℕ) (waiting : ℕ) → IsBegun own from group → length group ≡ length own → ((p q : Point) → p.row ≡ from.row → IsOn (length own) p → AreAdjacent p q → is_set group q ≡ true → IsFilled own others besides p) → ((r : ℕ) → has_bit waiting r ≡ true → r < length own) → ((r : ℕ) → DifferByOne r from.row → r < length own → has_bit waiting r ≡ true) → IsSpread own others besides from group waiting
+  pub IsSpread-begun : (group : List ℕ) (waiting : ℕ) → IsRowGroup own from group → length group ≡ length own → ((p q : Point) → p.row ≡ from.row → IsOn (length own) p → AreAdjacent p q → is_set group q ≡ true → IsFilled own others besides p) → ((r : ℕ) → has_bit waiting r ≡ true → r < length own) → ((r : ℕ) → DifferByOne r from.row → r < length own → has_bit waiting r ≡ true) → IsSpread own others besides from group waiting
   IsSpread-begun group waiting begun all filled rows_in beside = record {
     all = all;
     within = begun.within;

@@ -1,5 +1,5 @@
--- A move on a grid where every stone reaches empty: taking the dead groups beside the stone, and then its own, is the
--- whole move.
+-- A move on a grid where every stone reaches empty: taking off the groups without a liberty beside the stone, and then its
+-- own where that has none, is the whole move.
 use Rattle.std.proofs.Common.{◌≡◌, ◌≢◌, ◌⊎◌, inl, inr, ◌*◌, false, List, [], ◌∷◌, length, refl, sym, ap, subst, ◌∙◌}
 use Rattle.std.specs.Option.{ForSome}
 use Rattle.std.proofs.lemmas.List.{length-set}
@@ -14,7 +14,7 @@ use Rattle.go_board.specs.Grid.{Grid, cell_at, with_cell}
 use Rattle.go_board.specs.Reaching.{Leads, Reaches}
 use Rattle.go_board.specs.Clearing.{clear, play, has_unreaching}
 use Rattle.go_board.specs.inner.Neighbour.{left_of, right_of, above, below}
-use Rattle.go_board.specs.inner.Groups.{AllReach, ReachBeside, ReachesIfStone, LosesDead}
+use Rattle.go_board.specs.inner.Groups.{AllReach, ReachBeside, ReachesIfStone, LosesShut}
 use Rattle.go_board.proofs.PointLemmas.{same_or_not}
 use Rattle.go_board.proofs.GridLemmas.{same_grid, cell_at-with_cell, cell_at-with_cell_elsewhere}
 use Rattle.go_board.proofs.ReachingLemmas.{Leads-on, Leads-next, path_by_step}
@@ -27,7 +27,7 @@ opponent_differs Black = λ e. cc
 opponent_differs White = λ e. cc
 
 -- a stone of the colour that is left was there before
-pub left_over : (g h : Grid) (k d : Colour) (p : Point) → LosesDead g h k → IsOn g.side p → cell_at h p ≡ stone_of d → cell_at g p ≡ stone_of d
+pub left_over : (g h : Grid) (k d : Colour) (p : Point) → LosesShut g h k → IsOn g.side p → cell_at h p ≡ stone_of d → cell_at g p ≡ stone_of d
 left_over g h k d p loses on left =
     elim (loses.taken p on)
     [ inl same ↦ sym same ∙ left | inr gone ↦ absurd (stone_of≢Empty d (sym left ∙ gone.0)) ]
@@ -84,9 +84,10 @@ module _ (g : Grid) (cells : List Cell) (p : Point) (k : Colour) (fewer : (r : P
             ]
       ]
 
--- A stone is played on a grid where every stone reaches empty; then the opponent's dead groups are taken, and the own one.
+-- A stone is played on a grid where every stone reaches empty; then the opponent's groups without a liberty are taken off, and
+-- the own one.
 module _ (g : Grid) (p : Point) (k : Colour) (on : IsOn g.side p) (all : length g.cells ≡ g.side * g.side) (settled : has_unreaching g ≡ false) where
-  module _ (cells : List Cell) (first : LosesDead (with_cell g p (stone_of k)) (record g { cells = cells }) (opponent k)) (around : ReachBeside (record g { cells = cells }) (opponent k) p) where
+  module _ (cells : List Cell) (first : LosesShut (with_cell g p (stone_of k)) (record g { cells = cells }) (opponent k)) (around : ReachBeside (record g { cells = cells }) (opponent k) p) where
     after : Grid
     after = record g { cells = cells }
 
@@ -118,7 +119,7 @@ module _ (g : Grid) (p : Point) (k : Colour) (on : IsOn g.side p) (all : length 
         (λ e. absurd (opponent_differs k (sym stone_stays ∙ e)))
         (AllReach-settled g (opponent k) settled))
 
-    module _ (rest : List Cell) (second : LosesDead (record g { cells = cells }) (record g { cells = rest }) k) (own : ReachesIfStone (record g { cells = rest }) k p) where
+    module _ (rest : List Cell) (second : LosesShut (record g { cells = cells }) (record g { cells = rest }) k) (own : ReachesIfStone (record g { cells = rest }) k p) where
       left : Grid
       left = record g { cells = rest }
 
@@ -149,29 +150,30 @@ module _ (g : Grid) (p : Point) (k : Colour) (on : IsOn g.side p) (all : length 
           ∙ clear-AllReach left k (second.all ∙ length-after)
           (AllReach-after g rest p k fewer_left own_beside own (AllReach-settled g k settled)))
 
--- the move, where every stone reaches empty: the opponent's dead groups beside the point are taken, and then its own
-pub captured_is_play : (g h i : Grid) (p : Point) (k : Colour) → IsOn g.side p → length g.cells ≡ g.side * g.side → has_unreaching g ≡ false → LosesDead (with_cell g p (stone_of k)) h (opponent k) → ReachBeside h (opponent k) p → LosesDead h i k → ReachesIfStone i k p → i ≡ play g k p
+-- the move, where every stone reaches empty: the opponent's groups without a liberty beside the point are taken off, and
+-- then its own
+pub captured_is_play : (g h i : Grid) (p : Point) (k : Colour) → IsOn g.side p → length g.cells ≡ g.side * g.side → has_unreaching g ≡ false → LosesShut (with_cell g p (stone_of k)) h (opponent k) → ReachBeside h (opponent k) p → LosesShut h i k → ReachesIfStone i k p → i ≡ play g k p
 captured_is_play g h i p k on all settled first around second own =
     let eh = same_grid (record g { cells = h.cells }) h (sym first.same_side) refl in
     let ei = same_grid (record g { cells = i.cells }) i (sym (second.same_side ∙ first.same_side)) refl in
     sym ei
     ∙ is_play g p k on all settled h.cells
-    (subst (λ x. LosesDead (with_cell g p (stone_of k)) x (opponent k)) (sym eh) first)
+    (subst (λ x. LosesShut (with_cell g p (stone_of k)) x (opponent k)) (sym eh) first)
     (subst (λ x. ReachBeside x (opponent k) p) (sym eh) around)
     i.cells
-    (subst (λ x. LosesDead (record g { cells = h.cells }) x k) (sym ei) (subst (λ x. LosesDead x i k) (sym eh) second))
+    (subst (λ x. LosesShut (record g { cells = h.cells }) x k) (sym ei) (subst (λ x. LosesShut x i k) (sym eh) second))
     (subst (λ x. ReachesIfStone x k p) (sym ei) own)
 
 -- a stone that reaches empty, if it is one, does so after a group was taken
-still_settled : (g h : Grid) (k : Colour) (q : Point) → LosesDead g h k → IsOn g.side q → ReachesIfStone g k q → ReachesIfStone h k q
+still_settled : (g h : Grid) (k : Colour) (q : Point) → LosesShut g h k → IsOn g.side q → ReachesIfStone g k q → ReachesIfStone h k q
 still_settled g h k q loses on settled = λ stone. loses.still q on (settled (left_over g h k k q loses on stone))
 
-on_next : (g h : Grid) (k : Colour) (q : Point) → LosesDead g h k → IsOn g.side q → IsOn h.side q
+on_next : (g h : Grid) (k : Colour) (q : Point) → LosesShut g h k → IsOn g.side q → IsOn h.side q
 on_next g h k q loses on = subst (λ s. IsOn s q) (sym loses.same_side) on
 
--- dead groups are taken after others
-pub LosesDead-twice : (a b c : Grid) (k : Colour) → LosesDead a b k → LosesDead b c k → LosesDead a c k
-LosesDead-twice a b c k ab bc = record {
+-- groups without a liberty are taken off after others
+pub LosesShut-twice : (a b c : Grid) (k : Colour) → LosesShut a b k → LosesShut b c k → LosesShut a c k
+LosesShut-twice a b c k ab bc = record {
   same_side = bc.same_side ∙ ab.same_side;
   all = bc.all ∙ ab.all;
   taken = λ p on.
@@ -184,8 +186,8 @@ LosesDead-twice a b c k ab bc = record {
   cleared = bc.cleared ∙ ab.cleared;
 }
 
--- the dead groups of the four neighbours are taken in turn
-pub ReachBeside-four : (a b c d e : Grid) (k : Colour) (p : Point) → LosesDead a b k → LosesDead b c k → LosesDead c d k → LosesDead d e k → ForSome (left_of p) (ReachesIfStone b k) → ForSome (right_of a.side p) (ReachesIfStone c k) → ForSome (above p) (ReachesIfStone d k) → ForSome (below a.side p) (ReachesIfStone e k) → ReachBeside e k p
+-- the groups without a liberty of the four neighbours are taken off in turn
+pub ReachBeside-four : (a b c d e : Grid) (k : Colour) (p : Point) → LosesShut a b k → LosesShut b c k → LosesShut c d k → LosesShut d e k → ForSome (left_of p) (ReachesIfStone b k) → ForSome (right_of a.side p) (ReachesIfStone c k) → ForSome (above p) (ReachesIfStone d k) → ForSome (below a.side p) (ReachesIfStone e k) → ReachBeside e k p
 unfolding IsNeighbour
 ReachBeside-four a b c d e k p ab bc cd de left right up down = λ q at beside.
     let on : IsOn a.side q = subst (λ s. IsOn s q) (de.same_side ∙ cd.same_side ∙ bc.same_side ∙ ab.same_side) at in

@@ -8,34 +8,34 @@ use Rattle.go_board.specs.Past.{Held, newest, present_stretch}
 use Rattle.go_board.specs.inner.Print.{print_of, prints_of}
 use Rattle.go_board.specs.inner.Table.{IsLastOf}
 
--- the colouring at a place of the list, newest first
+-- the colouring at an index of the list, newest first
 abbrev pub IsAt : List Held → ℕ → Grid → Type 0
 IsAt held j g = newest (drop j held) ≡ Some g
 
 some_same : (a b : Grid) → Some a ≡ Some b → a ≡ b
 some_same a b e = cc
 
--- its print is at that place of the prints
+-- its print is at that index of the prints
 print-at : (held : List Held) (j : ℕ) (g : Grid) → j < length held → IsAt held j g → get_or (prints_of held) j 0 ≡ print_of g.cells
 print-at [] j g h at = absurd (omega (arith, h))
 print-at (x ∷ xs) zero g h at = ap (λ (c : Grid). print_of c.cells) (some_same x.colouring g at)
 print-at (x ∷ xs) (suc j) g h at = print-at xs j g (omega (arith, h)) at
 
--- a colouring among the newest n is at one of these places, and the other way round
-place-of : (n : ℕ) (held : List Held) (g : Grid) → Contains (map (λ (h : Held). h.colouring) (take n held)) g → (j : ℕ) × (j < n) × (j < length held) × IsAt held j g
-place-of zero held g c = absurd (omega (arith, c.1))
-place-of (suc n) [] g c = absurd (omega (arith, c.1))
-place-of (suc n) (x ∷ xs) g (zero, h, e) = (zero, omega arith, omega arith, ap (λ (c : Grid). Some c) e)
-place-of (suc n) (x ∷ xs) g (suc k, h, e) =
-    let rest = place-of n xs g (k, omega (arith, h), e) in
+-- a colouring among the newest n is at one of these indices, and the other way round
+index-of : (n : ℕ) (held : List Held) (g : Grid) → Contains (map (λ (h : Held). h.colouring) (take n held)) g → (j : ℕ) × (j < n) × (j < length held) × IsAt held j g
+index-of zero held g c = absurd (omega (arith, c.1))
+index-of (suc n) [] g c = absurd (omega (arith, c.1))
+index-of (suc n) (x ∷ xs) g (zero, h, e) = (zero, omega arith, omega arith, ap (λ (c : Grid). Some c) e)
+index-of (suc n) (x ∷ xs) g (suc k, h, e) =
+    let rest = index-of n xs g (k, omega (arith, h), e) in
     (suc rest.0, omega (arith, rest.1), omega (arith, rest.2), rest.3)
 
-of-place : (n j : ℕ) (held : List Held) (g : Grid) → j < n → j < length held → IsAt held j g → Contains (map (λ (h : Held). h.colouring) (take n held)) g
-of-place zero j held g h l at = absurd (omega (arith, h))
-of-place (suc n) j [] g h l at = absurd (omega (arith, l))
-of-place (suc n) zero (x ∷ xs) g h l at = (zero, omega arith, some_same x.colouring g at)
-of-place (suc n) (suc j) (x ∷ xs) g h l at =
-    let rest = of-place n j xs g (omega (arith, h)) (omega (arith, l)) at in
+of-index : (n j : ℕ) (held : List Held) (g : Grid) → j < n → j < length held → IsAt held j g → Contains (map (λ (h : Held). h.colouring) (take n held)) g
+of-index zero j held g h l at = absurd (omega (arith, h))
+of-index (suc n) j [] g h l at = absurd (omega (arith, l))
+of-index (suc n) zero (x ∷ xs) g h l at = (zero, omega arith, some_same x.colouring g at)
+of-index (suc n) (suc j) (x ∷ xs) g h l at =
+    let rest = of-index n j xs g (omega (arith, h)) (omega (arith, l)) at in
     (suc rest.0, omega (arith, rest.1), rest.2)
 
 -- no print of a range is one of which the last wasn't found
@@ -67,12 +67,12 @@ module _ (held : List Held) (prints : List ℕ) (kept : reverse prints ≡ print
   -- a stretch from a number on has the colouring of a number in it
   pub seen : (start y : ℕ) (g : Grid) → present_stretch held ≡ map (λ (h : Held). h.colouring) (take (length held - start) held) → start ≤ y → y < length held → IsNumber held y g → Contains (present_stretch held) g
   seen start y g stretch low high at =
-      rw stretch (of-place (length held - start) (length held - 1 - y) held g (omega arith) (omega arith) at)
+      rw stretch (of-index (length held - start) (length held - 1 - y) held g (omega arith) (omega arith) at)
 
   -- and no other
   pub unseen : (start : ℕ) (g : Grid) → present_stretch held ≡ map (λ (h : Held). h.colouring) (take (length held - start) held) → ((y : ℕ) → start ≤ y → y < length held → IsNumber held y g → ⊥) → Contains (present_stretch held) g → ⊥
   unseen start g stretch never has =
-      let there = place-of (length held - start) held g (rw stretch at has) in
+      let there = index-of (length held - start) held g (rw stretch at has) in
       let j = there.0 in
       let y = length held - 1 - j in
       let turned : length held - 1 - y ≡ j = omega (arith, there.2) in

@@ -119,7 +119,7 @@ module _ (g : Grid) (k : Cell) where
       ap (λ j. get_or (marks_after n) j false)
       (ap (λ s. index_of s (point_at g.side i)) (side_after n) ∙ index_of-point_at g.side i h)
 
-  -- a mark stays, at each place
+  -- a mark stays, at each index
   round_adds : (n : ℕ) → IsWithin (marks_after n) (marks_after (suc n))
   unfolding IsWithin Within
   round_adds n i b h =

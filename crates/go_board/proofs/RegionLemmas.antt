@@ -16,7 +16,7 @@ use Rattle.go_board.specs.Point.{IsOn, AreAdjacent}
 use Rattle.go_board.specs.Grid.{Grid, cell_at}
 use Rattle.go_board.specs.Reaching.{Leads, Reaches, reaches}
 use Rattle.go_board.specs.inner.Rows.{has_bit, is_set, IsAmong, IsClosed, Grows}
-use Rattle.go_board.specs.inner.Regions.{is_either, is_there, AreRowsOf, IsLeft, reaches_through_own}
+use Rattle.go_board.specs.inner.Regions.{is_either, is_there, AreRowsOf, IsDifference, reaches_through_own}
 use Rattle.go_board.proofs.GridLemmas.{Decides-same_cell}
 use Rattle.go_board.proofs.GrowLemmas.{row_below}
 use Rattle.go_board.proofs.WordLemmas.{has_bit-zero, has_bit-and, has_bit-without}
@@ -181,8 +181,8 @@ left_more rows others left row within low before =
           )
     ]
 
-pub IsLeft-all : (rows others left : List ℕ) → length left ≡ length rows → LeftBelow rows others (length rows) left → IsLeft rows others left
-IsLeft-all rows others left long each = record {
+pub IsDifference-all : (rows others left : List ℕ) → length left ≡ length rows → LeftBelow rows others (length rows) left → IsDifference rows others left
+IsDifference-all rows others left long each = record {
   on = λ p row col. (each p.row row).0 p.col col;
   off = λ p is. (each p.row (rw (← long) (row_below left p is))).1 p.col is;
 }

@@ -10,15 +10,14 @@ use Rattle.go_board.specs.Colour.{opponent, stone_of, same_cell}
 use Rattle.go_board.specs.Point.{IsOn}
 use Rattle.go_board.specs.Grid.{Grid, cell_at, with_cell}
 use Rattle.go_board.specs.Reaching.{Reaches, reaches}
-use Rattle.go_board.specs.inner.Groups.{IsDead, LosesDead}
-use Rattle.go_board.specs.inner.Sweep.{IsWithout}
+use Rattle.go_board.specs.inner.Groups.{IsWithoutLiberty, LosesShut, IsWithout}
 use Rattle.go_board.specs.inner.Rows.{is_set, IsClosed}
 use Rattle.go_board.specs.inner.Regions.{AreRowsOf}
 use Rattle.go_board.specs.inner.Linked.{IsLiberty, IsShutIn, IsSameBut}
 use Rattle.go_board.proofs.PointLemmas.{same_or_not}
 use Rattle.go_board.proofs.GridLemmas.{same_grid, Decides-same_cell, cell_at-with_cell_elsewhere}
 use Rattle.go_board.proofs.NeighbourLemmas.{AreAdjacent-sym}
-use Rattle.go_board.proofs.GroupLemmas.{stone_of≢Empty, LosesDead-group}
+use Rattle.go_board.proofs.GroupLemmas.{stone_of≢Empty, LosesShut-group}
 use Rattle.go_board.proofs.ReachingLemmas.{Decides-reaches, path_by_step}
 
 not_true : (x y : Bool) → x ≡ true → (not x || y) ≡ true → y ≡ true
@@ -46,9 +45,9 @@ module _ (g : Grid) (k : Colour) (own others : List ℕ) (besides from : Point) 
   own_set : (p : Point) → IsOn g.side p → cell_at g p ≡ stone_of k → is_set own p ≡ true
   own_set p on stone = is_own.on p on ∙ (Decides-same_cell _ _).1 stone
 
-  -- a group beside which each point has a stone is dead
-  pub IsDead-shut : (group : List ℕ) → cell_at g besides ≢ Empty → IsShutIn own others besides from group → IsDead g k (λ p. is_set group p)
-  IsDead-shut group stone shut = record {
+  -- a group beside which each point has a stone has no liberty
+  pub IsWithoutLiberty-shut : (group : List ℕ) → cell_at g besides ≢ Empty → IsShutIn own others besides from group → IsWithoutLiberty g k (λ p. is_set group p)
+  IsWithoutLiberty-shut group stone shut = record {
     stones = λ p on is. own_stone p (shut.within p is);
     shut = λ p q on at adjacent is free.
         elim (shut.filled q p (subst (λ n. IsOn n q) (sym all) at) (AreAdjacent-sym p q adjacent) is) [
@@ -110,12 +109,12 @@ module _ (g : Grid) (k : Colour) (own others : List ℕ) (besides from : Point) 
 pub rows_of_colour : (g : Grid) (k d : Colour) (rows : List ℕ) → d ≡ k → AreRowsOf g.side (λ p. same_cell (cell_at g p) (stone_of k)) rows → AreRowsOf g.side (λ p. same_cell (cell_at g p) (stone_of d)) rows
 rows_of_colour g k d rows is are = subst (λ c. AreRowsOf g.side (λ p. same_cell (cell_at g p) (stone_of c)) rows) (sym is) are
 
--- a dead group is taken off by emptying its points
-pub LosesDead-without : (g h : Grid) (k : Colour) (rows : List ℕ) → IsDead g k (λ p. is_set rows p) → IsWithout g h (λ p. IsTrue (is_set rows p)) → LosesDead g h k
-LosesDead-without g h k rows dead is =
+-- a group without a liberty is taken off by emptying its points
+pub LosesShut-without : (g h : Grid) (k : Colour) (rows : List ℕ) → IsWithoutLiberty g k (λ p. is_set rows p) → IsWithout g h (λ p. IsTrue (is_set rows p)) → LosesShut g h k
+LosesShut-without g h k rows shut is =
     let same : record g { cells = h.cells } ≡ h = same_grid (record g { cells = h.cells }) h (sym is.same_side) refl in
-    subst (λ x. LosesDead g x k) same
-    (LosesDead-group g k (λ p. is_set rows p) dead h.cells is.all
+    subst (λ x. LosesShut g x k) same
+    (LosesShut-group g k (λ p. is_set rows p) shut h.cells is.all
     (λ p on at. ap (λ x. cell_at x p) same ∙ is.emptied p on at)
     (λ p on other. ap (λ x. cell_at x p) same ∙ is.kept p on (λ gone. true≢false (sym gone ∙ other))))
 

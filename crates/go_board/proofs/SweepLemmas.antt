@@ -10,10 +10,9 @@ use Rattle.go_board.specs.declared.points.Point.{Point}
 use Rattle.go_board.specs.Point.{IsOn, index_of}
 use Rattle.go_board.specs.Grid.{Grid, cell_at, with_cell, grid_of}
 use Rattle.go_board.specs.Clearing.{cleared_cell, clear}
-use Rattle.go_board.specs.inner.Groups.{is_shut}
+use Rattle.go_board.specs.inner.Groups.{is_shut, IsWithout}
 use Rattle.go_board.specs.inner.Rows.{has_bit, is_set, IsPart}
 use Rattle.go_board.specs.inner.Regions.{AreRowsOf}
-use Rattle.go_board.specs.inner.Sweep.{IsWithout}
 use Rattle.go_board.proofs.PointLemmas.{same_or_not}
 use Rattle.go_board.proofs.GridLemmas.{cell_at-with_cell_elsewhere}
 use Rattle.go_board.proofs.GroupLemmas.{grid_of-cells}

@@ -99,20 +99,20 @@ never_before s k x Turn h f = absurd (omega arith)
 never_before s k x Occupied h f = absurd (omega arith)
 never_before s k x Repeat h f = absurd (omega arith)
 
--- the reason at a place in the order of checking
+-- the reason of a rank
 abbrev reason_at : ℕ → Reason
 reason_at n =
     slice_index_or (Mixed ∷ TwoMoves ∷ BadSetup ∷ BadPoint ∷ Over ∷ Turn ∷ Occupied ∷ Repeat ∷ []) n Mixed
 
-at_its_place : (q : Reason) → reason_at (rank_of q) ≡ q
-at_its_place Mixed = refl
-at_its_place TwoMoves = refl
-at_its_place BadSetup = refl
-at_its_place BadPoint = refl
-at_its_place Over = refl
-at_its_place Turn = refl
-at_its_place Occupied = refl
-at_its_place Repeat = refl
+at_its_rank : (q : Reason) → reason_at (rank_of q) ≡ q
+at_its_rank Mixed = refl
+at_its_rank TwoMoves = refl
+at_its_rank BadSetup = refl
+at_its_rank BadPoint = refl
+at_its_rank Over = refl
+at_its_rank Turn = refl
+at_its_rank Occupied = refl
+at_its_rank Repeat = refl
 
 module _ (s : State) (k : Colour) (x : Play) where
   none_up_to : (n : ℕ) → (¬ Forbids s k x (reason_at n)) → ((q : Reason) → rank_of q < n → ¬ Forbids s k x q) → (q : Reason) → rank_of q < n + 1 → ¬ Forbids s k x q
@@ -120,7 +120,7 @@ module _ (s : State) (k : Colour) (x : Play) where
       elim (cases_lt (rank_of q) n) [
         | inl less ↦ before q less f
         | inr more ↦ (let at_n : rank_of q ≡ n = omega arith in
-            here (subst (Forbids s k x) (sym (at_its_place q) ∙ ap reason_at at_n) f))
+            here (subst (Forbids s k x) (sym (at_its_rank q) ∙ ap reason_at at_n) f))
       ]
 
   module _ (b1 b2 b3 b4 : Bool) (over : Decides b1 (Forbids s k x Over)) (turn : Decides b2 (Forbids s k x Turn)) (occupied : Decides b3 (Forbids s k x Occupied)) (repeat : Decides b4 (Forbids s k x Repeat)) where

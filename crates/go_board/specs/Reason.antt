@@ -15,18 +15,18 @@ use Rattle.go_board.specs.State.{State, is_over}
 
 -- the reason holds of the turn: two passes in a row ended the game; it is the other player's turn; the point isn't
 -- empty; the colouring that the stone makes was there since the last setup of stones, whoever moved then (positional
--- superko)
+-- superko); the reasons of whole nodes hold of no turn
 abbrev pub Forbids : State → Colour → Play → Reason → Type 0
-Forbids state colour play Over = state.passes ≡ 2
-Forbids state colour play Turn = state.player ≡ Some (opponent colour)
+Forbids state colour turn Over = state.passes ≡ 2
+Forbids state colour turn Turn = state.player ≡ Some (opponent colour)
 Forbids state colour (Stone point) Occupied = cell_at state.colouring point ≢ Empty
 Forbids state colour (Stone point) Repeat = Contains state.seen (play state.colouring colour point)
 Forbids state colour Pass Occupied = ⊥
 Forbids state colour Pass Repeat = ⊥
-Forbids state colour play Mixed = ⊥
-Forbids state colour play TwoMoves = ⊥
-Forbids state colour play BadSetup = ⊥
-Forbids state colour play BadPoint = ⊥
+Forbids state colour turn Mixed = ⊥
+Forbids state colour turn TwoMoves = ⊥
+Forbids state colour turn BadSetup = ⊥
+Forbids state colour turn BadPoint = ⊥
 
 -- the rank of a reason in the order of checking
 abbrev pub rank_of : Reason → ℕ
@@ -40,9 +40,9 @@ rank_of Occupied = 6
 rank_of Repeat = 7
 
 -- the reason holds of the turn, and none before it does
-pub record IsFirstReason (state : State) (colour : Colour) (play : Play) (reason : Reason) : Type 0 where
-  pub holds : Forbids state colour play reason
-  pub first : (other : Reason) → rank_of other < rank_of reason → ¬ Forbids state colour play other
+pub record IsFirstReason (state : State) (colour : Colour) (turn : Play) (reason : Reason) : Type 0 where
+  pub holds : Forbids state colour turn reason
+  pub first : (other : Reason) → rank_of other < rank_of reason → ¬ Forbids state colour turn other
 
 -- Below, the same as a function that computes; the laws say that the two agree.
 
@@ -67,13 +67,13 @@ is_repeat state colour (Stone point) = list_any (same_grid (play state.colouring
 
 -- the first reason, in this order, for which a turn isn't allowed
 abbrev pub reason_of : State → Colour → Play → Option Reason
-reason_of state colour play =
+reason_of state colour turn =
     if is_over state then Some Over
     else (if must_move state.player (opponent colour) then Some Turn
-    else (if is_occupied state play then Some Occupied
-    else (if is_repeat state colour play then Some Repeat else None)))
+    else (if is_occupied state turn then Some Occupied
+    else (if is_repeat state colour turn then Some Repeat else None)))
 
--- the word that a reason is printed as
+-- the word that a reason is written as
 abbrev pub word_of : Reason → List ℕ
 word_of Mixed = codes "mixed"
 word_of TwoMoves = codes "two-moves"

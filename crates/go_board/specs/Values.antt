@@ -33,9 +33,9 @@ coordinate side letter =
 
 -- the point that two letters name, the column's before the row's
 abbrev pub point_of : ℕ → ℕ → ℕ → Option Point
-point_of side first second =
-    option_and_then (λ col. option_and_then (λ row. Some (record { col = col; row = row })) (coordinate side second))
-    (coordinate side first)
+point_of side col_letter row_letter =
+    option_and_then (λ col. option_and_then (λ row. Some (record { col = col; row = row })) (coordinate side row_letter))
+    (coordinate side col_letter)
 
 -- the rectangle of these corners, where the first is the upper left one
 abbrev pub rect_of : Point → Point → Option Rect
@@ -44,14 +44,16 @@ rect_of first last =
 
 -- the point of the board that a raw value names: two letters and nothing else
 unfoldable pub point_value : List ℕ → ℕ → Option Point
-point_value (first ∷ second ∷ []) side = point_of side first second
+point_value (col_letter ∷ row_letter ∷ []) side = point_of side col_letter row_letter
 point_value _ side = None
 
 -- the rectangle of the board that a raw value names: a point alone, or two points with a `:` between them
 unfoldable pub rect_value : List ℕ → ℕ → Option Rect
-rect_value (a ∷ b ∷ []) side = option_and_then (λ only. rect_of only only) (point_of side a b)
-rect_value (a ∷ b ∷ between ∷ c ∷ d ∷ []) side =
+rect_value (col_letter ∷ row_letter ∷ []) side =
+    option_and_then (λ only. rect_of only only) (point_of side col_letter row_letter)
+rect_value (first_col ∷ first_row ∷ between ∷ last_col ∷ last_row ∷ []) side =
     if between == colon
-    then option_and_then (λ first. option_and_then (rect_of first) (point_of side c d)) (point_of side a b)
+    then option_and_then (λ first. option_and_then (rect_of first) (point_of side last_col last_row))
+    (point_of side first_col first_row)
     else None
 rect_value _ side = None

@@ -4,12 +4,10 @@ pub mod Rows
 pub mod Edge
 pub mod Linked
 pub mod Regions
-pub mod StoneRows
 pub mod Glance
 pub mod Search
 pub mod Flood
 pub mod Groups
-pub mod Sweep
 pub mod Entries
 pub mod Earlier
 pub mod Print

@@ -49,7 +49,7 @@ impl Model for Board {
     ghost use Rattle.go_board.specs.declared.size.TheConstants.{MAX_POINTS};
     ghost use Rattle.go_board.specs.Grid.{Grid};
     ghost use Rattle.go_board.specs.inner.Print.{print_of};
-    ghost use Rattle.go_board.specs.inner.StoneRows.{AreRowsKept};
+    ghost use Rattle.go_board.specs.inner.Regions.{AreRowsKept};
 
     ghost Value = { Grid };
 
@@ -353,6 +353,7 @@ impl Board {
         requires settled { has_unreaching self.old ≡ false }
         ensures { self.new ≡ play self.old colour point }
     {
+        // a field is read, so that the proof can use the invariant: every point has a cell
         let _ = &self.size;
         self.set(point, colour.stone());
         self.capture_around(colour.opponent(), point);

@@ -39,39 +39,44 @@ pub fn colouring()
 
 /// The function `reaches` tells exactly the points of the grid that reach a colour by a path.
 pub fn reaching()
-    ensures { (g : Grid) (k : Cell) (p : Point) → IsOn g.side p
-        → (IsTrue (reaches g k p) ↔ Reaches g k p) }
+    ensures { (grid : Grid) (wanted : Cell) (point : Point) → IsOn grid.side point
+        → (IsTrue (reaches grid wanted point) ↔ Reaches grid wanted point) }
 {}
 
 /// Setting a point colours it, and no other.
 pub fn setting()
-    ensures there { (g : Grid) (p : Point) (c : Cell) → IsOn g.side p
-        → length g.cells ≡ g.side * g.side → cell_at (with_cell g p c) p ≡ c }
-    ensures elsewhere { (g : Grid) (p q : Point) (c : Cell) → IsOn g.side p → IsOn g.side q
-        → q ≢ p → cell_at (with_cell g p c) q ≡ cell_at g q }
+    ensures there { (grid : Grid) (point : Point) (cell : Cell) → IsOn grid.side point
+        → length grid.cells ≡ grid.side * grid.side
+        → cell_at (with_cell grid point cell) point ≡ cell }
+    ensures elsewhere { (grid : Grid) (point other : Point) (cell : Cell)
+        → IsOn grid.side point → IsOn grid.side other
+        → other ≢ point → cell_at (with_cell grid point cell) other ≡ cell_at grid other }
 {}
 
 /// Clearing a colour empties exactly its points that don't reach empty by a path.
 pub fn clearing()
-    ensures side { (g : Grid) (k : Colour) → (clear g k).side ≡ g.side }
-    ensures all { (g : Grid) (k : Colour) → length (clear g k).cells ≡ g.side * g.side }
-    ensures emptied { (g : Grid) (k : Colour) (p : Point) → IsOn g.side p
-        → cell_at g p ≡ stone_of k → (¬ (Reaches g Empty p)) → cell_at (clear g k) p ≡ Empty }
-    ensures kept { (g : Grid) (k : Colour) (p : Point) → IsOn g.side p
-        → Reaches g Empty p → cell_at (clear g k) p ≡ cell_at g p }
-    ensures others { (g : Grid) (k : Colour) (p : Point) → IsOn g.side p
-        → cell_at g p ≢ stone_of k → cell_at (clear g k) p ≡ cell_at g p }
+    ensures side { (grid : Grid) (colour : Colour) → (clear grid colour).side ≡ grid.side }
+    ensures all { (grid : Grid) (colour : Colour)
+        → length (clear grid colour).cells ≡ grid.side * grid.side }
+    ensures emptied { (grid : Grid) (colour : Colour) (point : Point) → IsOn grid.side point
+        → cell_at grid point ≡ stone_of colour → (¬ (Reaches grid Empty point))
+        → cell_at (clear grid colour) point ≡ Empty }
+    ensures kept { (grid : Grid) (colour : Colour) (point : Point) → IsOn grid.side point
+        → Reaches grid Empty point → cell_at (clear grid colour) point ≡ cell_at grid point }
+    ensures others { (grid : Grid) (colour : Colour) (point : Point) → IsOn grid.side point
+        → cell_at grid point ≢ stone_of colour
+        → cell_at (clear grid colour) point ≡ cell_at grid point }
 {}
 
 /// A score counts exactly the points of the player's colour and the empty ones that reach hers and not the other's.
 pub fn scoring()
-    ensures { (g : Grid) (k : Colour) (p : Point) → IsOn g.side p
-        → (IsTrue (counts_for g k p) ↔ CountsFor g k p) }
+    ensures { (grid : Grid) (colour : Colour) (point : Point) → IsOn grid.side point
+        → (IsTrue (counts_for grid colour point) ↔ CountsFor grid colour point) }
 {}
 
 /// Some stone doesn't reach empty exactly where a point of the grid has a stone and no path to an empty point.
 pub fn unreaching()
-    ensures { (g : Grid) → (IsTrue (has_unreaching g) ↔ HasUnreaching g) }
+    ensures { (grid : Grid) → (IsTrue (has_unreaching grid) ↔ HasUnreaching grid) }
 {}
 
 /// After a move no stone is without a liberty, whatever stood on the grid before.
@@ -88,20 +93,21 @@ pub fn naming()
 
 /// The function `reason_of` tells exactly the first reason, in the order of checking, that holds of a turn.
 pub fn reasons()
-    ensures { (s : State) (k : Colour) (x : Play) (r : Reason)
-        → ((reason_of s k x ≡ Some r) ↔ IsFirstReason s k x r) }
+    ensures { (state : State) (colour : Colour) (turn : Play) (reason : Reason)
+        → ((reason_of state colour turn ≡ Some reason) ↔ IsFirstReason state colour turn reason) }
 {}
 
 /// Colouring an area colours its points, and no other.
 pub fn areas()
-    ensures { (g : Grid) (op : SetupOp) (p : Point) → IsOn g.side p
-        → cell_at (with_area g op) p ≡ (if is_in op.area p then op.cell else cell_at g p) }
+    ensures { (grid : Grid) (op : SetupOp) (point : Point) → IsOn grid.side point
+        → cell_at (with_area grid op) point
+        ≡ (if is_in op.area point then op.cell else cell_at grid point) }
 {}
 
 /// Setups and turns leave the side of the board.
 pub fn sides()
-    ensures setup { (s : State) (ops : List SetupOp) (player : Option Colour)
-        → (set_up s ops player).colouring.side ≡ s.colouring.side }
-    ensures turn { (s : State) (k : Colour) (x : Play)
-        → (turned s k x).colouring.side ≡ s.colouring.side }
+    ensures setup { (state : State) (ops : List SetupOp) (player : Option Colour)
+        → (set_up state ops player).colouring.side ≡ state.colouring.side }
+    ensures turn { (state : State) (colour : Colour) (turn : Play)
+        → (turned state colour turn).colouring.side ≡ state.colouring.side }
 {}

@@ -1,10 +1,10 @@
 //! The board of the game of Go, by the Tromp-Taylor rules, and a referee of a game on it.
 //!
 //! A `Board` is a square of 1 to 52 points a side (the largest whose points SGF FF[4] can name) and what stands on them;
-//! playing a stone captures the opponent's groups without a liberty and then, where its own has none, that (suicide). A
-//! `Referee` is seen as the list of the states that a game went through: an accepted setup or turn adds the state that
-//! the rules say, a refusal changes nothing, and undo takes the newest state back. A turn that would bring back a
-//! colouring since the last setup of stones is refused (positional superko), for which a `Past` holds the colourings.
+//! playing a stone takes off the opponent's groups without a liberty, and then the player's own (suicide). A `Referee` is
+//! seen as the list of the states that a game went through: an accepted setup or turn adds the state that the rules say, a
+//! refusal changes nothing, and undo takes the newest state back. A turn that would bring back a colouring since the last
+//! setup of stones is refused (positional superko), for which a `Past` holds the colourings.
 //!
 //! ```text
 //! let mut referee = Referee::<ListPast>::new(alloc, size)?;
@@ -33,8 +33,8 @@
 //! | `past/colourings`, `past/changes`, `past/differences`, `past/cells` | past colourings as changes that lead back |
 //! | `past/captures`, `past/setups` | a stone with what it captures, and a setup's points, on the newest colouring itself |
 //! | `past/print`, `past/table` | the print of a colouring, and `past/print/powers` for it; prints looked up by a table |
-//! | `reason`, `fault` | why a turn, or a node of a game record, isn't allowed; the errors |
-//! | `referee` | the referee and undo; `referee/plays`, `referee/setup`, `referee/turn`, `referee/reset` and `referee/earlier` below it |
+//! | `reason`, `fault` | why a turn, or a node, isn't allowed; the errors |
+//! | `referee` | the referee and undo; `referee/plays`, `referee/setup`, `referee/turn` and `referee/reset` below it |
 //! | `laws` | what follows from the definitions |
 //!
 //! A point *reaches* a colour where a path of adjacent points of the point's own colour leads from it to a point of that

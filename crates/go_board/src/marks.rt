@@ -1,7 +1,8 @@
 //! A set of points of a board.
 
-ghost use Rattle.std.specs.Prelude.{◌≡◌, replicate};
+ghost use Rattle.std.specs.Prelude.{◌≡◌};
 
+use crate::board::regions::no_rows;
 use crate::points::Point;
 use crate::size::{MAX_ROWS, Size};
 use std::marker::Model;
@@ -24,13 +25,6 @@ impl Model for Marks {
     ghost view = { λ m. marking_of m.size (is_set m.rows) };
 
     ghost invariant = { λ m. (length m.rows ≡ MAX_ROWS) × (m.size ≤ MAX_ROWS) };
-}
-
-// The rows of the greatest board, with no bit set.
-fn no_rows() -> [u64; MAX_ROWS]
-    ensures { result ≡ replicate MAX_ROWS 0 }
-{
-    [0; MAX_ROWS]
 }
 
 impl Marks {

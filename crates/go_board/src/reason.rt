@@ -5,8 +5,8 @@ ghost use Rattle.go_board.specs.Reason.{word_of};
 
 use std::fmt;
 
-/// Why a turn, or a node of a game record, isn't allowed; in the order of checking (this project's choice). A referee
-/// answers the last four alone. The others are faults of a record, found before a referee is asked.
+/// Why a turn, or a node, isn't allowed; in the order of checking (this project's choice). A referee answers the last four
+/// alone. The others are faults of a node, found before a referee is asked.
 #[derive(Clone, Copy, Debug, PartialEq, Eq)]
 pub enum Reason {
     /// A node has moves, and setup stones or a player.
@@ -29,7 +29,7 @@ pub enum Reason {
 }
 
 impl Reason {
-    /// The word that the reason is printed as.
+    /// The word that the reason is written as.
     pub fn word(self) -> &'static str
         ensures { result.now ≡ word_of self }
     {

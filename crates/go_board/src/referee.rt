@@ -2,7 +2,6 @@
 
 #[cfg(test)]
 mod capture_tests;
-mod earlier;
 mod plays;
 mod reset;
 mod setup;
@@ -15,7 +14,6 @@ ghost use Rattle.std.specs.Prelude.{◌≡◌, IsTrue};
 use crate::board::Board;
 use crate::fault::MemoryFault;
 use crate::past::Past;
-use crate::referee::earlier::Earlier;
 use crate::size::Size;
 use crate::stones::Colour;
 pub use plays::{Play, SetupOp};
@@ -41,16 +39,29 @@ pub struct Referee<P: Past> {
     earlier: Vec<Earlier>,
 }
 
+/// What is kept of the state before an accepted setup or turn, besides the past.
+#[derive(Clone, Copy)]
+struct Earlier {
+    /// How many turns were made.
+    turns: u64,
+    /// Who had to move; none, where either player could.
+    player: Option<Colour>,
+    /// How many passes in a row were made last, at most 2.
+    passes: u8,
+    /// Whether the call added a colouring to the past.
+    grew: bool,
+}
+
 impl<P: Past> Model for Referee<P> {
     ghost use Rattle.std.specs.Prelude.{IsTrue, reverse};
     ghost use Rattle.go_board.specs.State.{States};
-    ghost use Rattle.go_board.specs.inner.Earlier.{states_of, IsKept};
+    ghost use Rattle.go_board.specs.inner.Earlier.{states_of, IsRefereeKept};
 
     ghost Value = { States };
 
     ghost view = { λ r. states_of (P.held r.past) r.player r.passes r.turns r.earlier.items };
 
-    ghost invariant = { λ r. IsKept (P.held r.past) r.spare (IsTrue r.spare_is_current) r.player r.passes r.turns (reverse r.earlier.items) };
+    ghost invariant = { λ r. IsRefereeKept (P.held r.past) r.spare (IsTrue r.spare_is_current) r.player r.passes r.turns (reverse r.earlier.items) };
 }
 
 impl<P: Past> Referee<P> {

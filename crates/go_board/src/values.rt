@@ -10,23 +10,6 @@ ghost use Rattle.go_board.specs.Values.{coordinate, rect_of, point_value, rect_v
 use crate::points::{Point, Rect};
 use crate::size::Size;
 
-/// The column or row, from 0, that a letter names on a board of that size: `a` to `z` are the first 26, `A` to `Z` the
-/// next 26.
-fn coordinate_of(letter: u8, size: Size) -> Option<u8>
-    ensures { result ≡ coordinate size letter }
-{
-    let index = match letter {
-        b'a'..=b'z' => letter - b'a',
-        b'A'..=b'Z' => letter - b'A' + 26,
-        _ => return None,
-    };
-    if index < size.side() {
-        Some(index)
-    } else {
-        None
-    }
-}
-
 /// The point of the board that a raw value names: two letters, the column's and then the row's, and nothing else. None
 /// for everything else.
 #[tactic(auto, unfolding(crate::specs::Values::point_value))]
@@ -43,12 +26,18 @@ pub fn point(raw: &[u8], size: Size) -> Option<Point>
     })
 }
 
-/// The rectangle with these corners, where the first is the upper left one.
-fn ordered(first: Point, last: Point) -> Option<Rect>
-    ensures { result ≡ rect_of first last }
+/// The column or row, from 0, that a letter names on a board of that size: `a` to `z` are the first 26, `A` to `Z` the
+/// next 26.
+fn coordinate_of(letter: u8, size: Size) -> Option<u8>
+    ensures { result ≡ coordinate size letter }
 {
-    if first.col <= last.col && first.row <= last.row {
-        Some(Rect { first, last })
+    let index = match letter {
+        b'a'..=b'z' => letter - b'a',
+        b'A'..=b'Z' => letter - b'A' + 26,
+        _ => return None,
+    };
+    if index < size.side() {
+        Some(index)
     } else {
         None
     }
@@ -69,5 +58,16 @@ pub fn rect(raw: &[u8], size: Size) -> Option<Rect>
         }
         [_, _, b':', _, _] => ordered(point(&raw[..2], size)?, point(&raw[3..], size)?),
         _ => None,
+    }
+}
+
+/// The rectangle with these corners, where the first is the upper left one.
+fn ordered(first: Point, last: Point) -> Option<Rect>
+    ensures { result ≡ rect_of first last }
+{
+    if first.col <= last.col && first.row <= last.row {
+        Some(Rect { first, last })
+    } else {
+        None
     }
 }

@@ -15,21 +15,21 @@ painted cells cell i zero = cells
 painted cells cell i (suc n) = slice_set (painted cells cell i n) (i + n) cell
 
 -- the grid with the points of a change coloured
-abbrev pub with_run : Grid → Change → Grid
-with_run g c = record g { cells = painted g.cells c.cell (index_of g.side c.point) (suc c.more) }
+abbrev pub with_change : Grid → Change → Grid
+with_change g c = record g { cells = painted g.cells c.cell (index_of g.side c.point) (suc c.more) }
 
 -- so many cells from an index on are that one
-abbrev pub IsRunOf : Cell → List Cell → ℕ → ℕ → Type 0
-IsRunOf cell cells i n = (k : ℕ) → k < n → slice_index_or cells (i + k) Black ≡ cell
+abbrev pub AreAllOf : Cell → List Cell → ℕ → ℕ → Type 0
+AreAllOf cell cells i n = (k : ℕ) → k < n → slice_index_or cells (i + k) Black ≡ cell
 
 -- the points of a change are on the grid
-abbrev pub IsRunOn : ℕ → Change → Type 0
-IsRunOn side c = IsOn side c.point × (index_of side c.point + c.more < side * side)
+abbrev pub IsChangeOn : ℕ → Change → Type 0
+IsChangeOn side c = IsOn side c.point × (index_of side c.point + c.more < side * side)
 
 -- the grid after the changes, one after another
 abbrev pub after_changes : Grid → List Change → Grid
 after_changes g [] = g
-after_changes g (c ∷ cs) = after_changes (with_run g c) cs
+after_changes g (c ∷ cs) = after_changes (with_change g c) cs
 
 -- the colouring before a grid: the newest of the changes lead back to it
 abbrev pub before : Grid → Older → List Change → Grid
@@ -43,7 +43,7 @@ changes_before o changes = take (length changes - o.changes) changes
 abbrev pub held_before : Grid → List Older → List Change → List Held
 held_before g [] changes = []
 held_before g (o ∷ os) changes =
-    record { colouring = before g o changes; begins = o.since == 0 }
+    record { colouring = before g o changes; begins = o.older_in_stretch == 0 }
     ∷ held_before (before g o changes) os (changes_before o changes)
 
 -- there are so many changes for each, and a colouring that is said to be settled is
@@ -56,17 +56,17 @@ AreKept g (o ∷ os) changes =
 
 -- each begins a stretch, or its stretch has one older colouring more than that of the one before it
 abbrev pub AreCounted : ℕ → List Older → Type 0
-AreCounted since [] = since ≡ 0
-AreCounted since (o ∷ os) = (0 < since → since ≡ suc o.since) × AreCounted o.since os
+AreCounted older_in_stretch [] = older_in_stretch ≡ 0
+AreCounted older_in_stretch (o ∷ os) = (0 < older_in_stretch → older_in_stretch ≡ suc o.older_in_stretch) × AreCounted o.older_in_stretch os
 
 -- each change is of points of the grid
 abbrev pub AreOn : ℕ → List Change → Type 0
-AreOn side changes = All (IsRunOn side) changes
+AreOn side changes = All (IsChangeOn side) changes
 
 -- what is kept of a past, the older colourings oldest first
-pub record IsPast (newest : Grid) (since : ℕ) (older : List Older) (changes : List Change) : Type 0 where
+pub record IsPast (newest : Grid) (older_in_stretch : ℕ) (older : List Older) (changes : List Change) : Type 0 where
   pub kept : AreKept newest (reverse older) changes
-  pub counted : AreCounted since (reverse older)
+  pub counted : AreCounted older_in_stretch (reverse older)
   pub on_grid : AreOn newest.side changes
 
 -- the changes from a start on lead from the new cells to these: the first n old ones, and then the new ones

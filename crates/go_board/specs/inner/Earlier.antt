@@ -2,7 +2,7 @@
 use Rattle.std.specs.Prelude.{◌≡◌, ℕ, ◌+◌, ◌≤◌, ◌<◌, Option, List, [], ◌∷◌, if◌then◌else◌, length, reverse, drop, false}
 use Rattle.go_board.specs.declared.stones.Colour.{Colour}
 use Rattle.go_board.specs.declared.referee.plays.Play.{Play}
-use Rattle.go_board.specs.declared.referee.earlier.Earlier.{Earlier}
+use Rattle.go_board.specs.declared.referee.Earlier.{Earlier}
 use Rattle.go_board.specs.Colour.{opponent}
 use Rattle.go_board.specs.Grid.{Grid}
 use Rattle.go_board.specs.Past.{Held, newest_grid, present_stretch, HaveSide}
@@ -37,8 +37,8 @@ states_of held player passes turns earlier =
 
 -- no reason but that of a repeat can forbid the turn
 abbrev pub MayOnlyRepeat : State → Colour → Play → Type 0
-MayOnlyRepeat state colour play =
-    (is_over state ≡ false) × (must_move state.player (opponent colour) ≡ false) × (is_occupied state play ≡ false)
+MayOnlyRepeat state colour turn =
+    (is_over state ≡ false) × (must_move state.player (opponent colour) ≡ false) × (is_occupied state turn ≡ false)
 
 -- the state once a setup made a colouring
 abbrev pub with_setup : State → Grid → Option Colour → State
@@ -58,7 +58,7 @@ AreBounded (kept ∷ others) = (kept.passes ≤ 2) × (kept.turns ≤ length oth
 -- what a referee keeps, of its earlier states newest first: past colourings of one side, one more at least than calls that
 -- made them grow; a spare board of that side, with the newest colouring where that is known; at most two passes, and
 -- at most as many turns as earlier states; the oldest state is the starting one
-pub record IsKept (held : List Held) (spare : Grid) (SpareIsCurrent : Type 0) (player : Option Colour) (passes turns : ℕ) (earlier : List Earlier) : Type 0 where
+pub record IsRefereeKept (held : List Held) (spare : Grid) (SpareIsCurrent : Type 0) (player : Option Colour) (passes turns : ℕ) (earlier : List Earlier) : Type 0 where
   pub one_side : HaveSide (newest_grid held).side held
   pub enough : grown earlier < length held
   pub spare_side : spare.side ≡ (newest_grid held).side

@@ -1,4 +1,4 @@
--- Groups without liberties, and grids on which every stone reaches empty.
+-- Groups without liberties, grids once points were taken off, and grids on which every stone reaches empty.
 use Rattle.std.specs.Prelude.{◌≡◌, ◌≢◌, ◌⊎◌, Bool, false, ◌||◌, ◌&&◌, not, IsTrue, Option, Some, None, length}
 use Rattle.go_board.specs.declared.stones.Cell.TheVariants.{Empty}
 use Rattle.go_board.specs.declared.stones.Colour.{Colour}
@@ -12,12 +12,12 @@ use Rattle.go_board.specs.inner.Neighbour.{left_of, right_of, above, below}
 
 -- the points that pass the test are stones of one colour, with each stone of that colour beside one of them, and no point
 -- beside them is empty
-pub record IsDead (g : Grid) (k : Colour) (dead : Point → Bool) : Type 0 where
-  pub stones : (p : Point) → IsOn g.side p → IsTrue (dead p) → cell_at g p ≡ stone_of k
-  pub shut : (p q : Point) → IsOn g.side p → IsOn g.side q → AreAdjacent p q → IsTrue (dead p)
+pub record IsWithoutLiberty (g : Grid) (k : Colour) (test : Point → Bool) : Type 0 where
+  pub stones : (p : Point) → IsOn g.side p → IsTrue (test p) → cell_at g p ≡ stone_of k
+  pub shut : (p q : Point) → IsOn g.side p → IsOn g.side q → AreAdjacent p q → IsTrue (test p)
       → cell_at g q ≢ Empty
-  pub whole : (p q : Point) → IsOn g.side p → IsOn g.side q → AreAdjacent p q → IsTrue (dead p)
-      → cell_at g q ≡ stone_of k → IsTrue (dead q)
+  pub whole : (p q : Point) → IsOn g.side p → IsOn g.side q → AreAdjacent p q → IsTrue (test p)
+      → cell_at g q ≡ stone_of k → IsTrue (test q)
 
 -- all stones of a colour reach empty
 abbrev pub AllReach : Grid → Colour → Type 0
@@ -54,8 +54,15 @@ ReachBeside g k p = (q : Point) → IsOn g.side q → AreAdjacent p q → Reache
 abbrev pub AllLive : Grid → Colour → Point → Type 0
 AllLive g k p = ReachesIfStone g k p × ReachBeside g (opponent k) p
 
+-- h is g with the points that are meant emptied
+pub record IsWithout (g h : Grid) (Gone : Point → Type 0) : Type 0 where
+  pub same_side : h.side ≡ g.side
+  pub all : length h.cells ≡ length g.cells
+  pub emptied : (p : Point) → IsOn g.side p → Gone p → cell_at h p ≡ Empty
+  pub kept : (p : Point) → IsOn g.side p → (¬ Gone p) → cell_at h p ≡ cell_at g p
+
 -- h is g without some stones of a colour: what reached empty still does, and clearing the colour gives the same grid
-pub record LosesDead (g h : Grid) (k : Colour) : Type 0 where
+pub record LosesShut (g h : Grid) (k : Colour) : Type 0 where
   pub same_side : h.side ≡ g.side
   pub all : length h.cells ≡ length g.cells
   pub taken : (p : Point) → IsOn g.side p

@@ -31,7 +31,7 @@ pub record IsLiberty (own others : List ℕ) (besides from p : Point) : Type 0 w
   pub another : p ≢ besides
 
 -- the stones of a group that are in one row
-pub record IsBegun (own : List ℕ) (from : Point) (group : List ℕ) : Type 0 where
+pub record IsRowGroup (own : List ℕ) (from : Point) (group : List ℕ) : Type 0 where
   pub within : IsAmong (is_set group) (is_set own)
   pub start : IsTrue (is_set group from)
   pub linked : (p : Point) → IsTrue (is_set group p) → IsLinked (is_set own) from p

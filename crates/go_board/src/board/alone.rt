@@ -29,6 +29,7 @@ impl Board {
         requires empty { cell_at self.now point ≡ Empty }
         ensures { IsTrue result → play self.now colour point ≡ with_cell self.now point (stone_of colour) }
     {
+        // a field is read, so that the proof can use the invariant: every point has a cell
         let _ = &self.size;
         self.is_settled() && self.all_live(colour, point)
     }
@@ -39,6 +40,7 @@ impl Board {
         requires empty { cell_at self.now point ≡ Empty }
         ensures { IsTrue result → play self.now colour point ≡ with_cell self.now point (stone_of colour) }
     {
+        // a field is read, so that the proof can use the invariant: every point has a cell
         let _ = &self.size;
         self.is_settled() && self.all_live_at_a_glance(colour, point)
     }
@@ -223,6 +225,7 @@ impl Board {
         requires besides { IsOn self.now.side besides }
         ensures { (k : Colour) → result ≡ is_free (with_cell self.now besides (stone_of k)) at }
     {
+        // a field is read, so that the proof can use the invariant: every point has a cell
         let _ = &self.size;
         match at {
             Some(point) => point != besides && self.at(point) == Cell::Empty,

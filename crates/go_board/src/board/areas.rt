@@ -24,6 +24,7 @@ impl Board {
         requires { IsRectOn self.old.side op.area }
         ensures { self.new ≡ with_area self.old op }
     {
+        // a field is read, so that the proof can use the invariant: every point has a cell
         let _ = &self.size;
         if op.area.is_point() {
             self.set(op.area.first, op.cell);

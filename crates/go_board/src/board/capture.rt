@@ -8,7 +8,7 @@ ghost use Rattle.go_board.specs.Colour.{same_cell, stone_of};
 ghost use Rattle.go_board.specs.Point.{IsOn};
 ghost use Rattle.go_board.specs.Grid.{Grid, cell_at};
 ghost use Rattle.go_board.specs.Reaching.{Reaches};
-ghost use Rattle.go_board.specs.inner.Groups.{IsDead, is_free, has_free_neighbour, ReachesIfStone, ReachBeside, LosesDead};
+ghost use Rattle.go_board.specs.inner.Groups.{IsWithoutLiberty, is_free, has_free_neighbour, ReachesIfStone, ReachBeside, LosesShut};
 ghost use Rattle.go_board.specs.inner.Linked.{IsSameBut};
 ghost use Rattle.go_board.specs.inner.Regions.{AreRowsOf};
 ghost use Rattle.go_board.specs.inner.Rows.{is_set};
@@ -24,7 +24,7 @@ impl Board {
     /// Takes off the groups of a colour beside a point that have no liberty.
     pub(crate) fn capture_around(&mut self, colour: Colour, point: Point)
         requires { IsOn self.old.side point }
-        ensures taken { LosesDead self.old self.new colour }
+        ensures taken { LosesShut self.old self.new colour }
         ensures beside { ReachBeside self.new colour point }
     {
         let size = self.size();
@@ -38,7 +38,7 @@ impl Board {
     /// has no liberty.
     pub(crate) fn capture(&mut self, colour: Colour, at: Option<Point>)
         requires { ForSome at (IsOn self.old.side) }
-        ensures taken { LosesDead self.old self.new colour }
+        ensures taken { LosesShut self.old self.new colour }
         ensures settled { ForSome at (ReachesIfStone self.new colour) }
     {
         if let Some(point) = at {
@@ -52,7 +52,7 @@ impl Board {
     fn capture_stone(&mut self, colour: Colour, from: Point)
         requires on_board { IsOn self.old.side from }
         requires stone { cell_at self.old from ≡ stone_of colour }
-        ensures taken { LosesDead self.old self.new colour }
+        ensures taken { LosesShut self.old self.new colour }
         ensures settled { ReachesIfStone self.new colour from }
     {
         // most stones have a liberty of their own: no set is made ready for these
@@ -72,7 +72,7 @@ impl Board {
         requires at_most { N ≤ MAX_ROWS }
         requires on_board { IsOn self.old.side from }
         requires stone { cell_at self.old from ≡ stone_of colour }
-        ensures taken { LosesDead self.old self.new colour }
+        ensures taken { LosesShut self.old self.new colour }
         ensures settled { ReachesIfStone self.new colour from }
     {
         let mut words = no_rows::<N>();
@@ -99,7 +99,7 @@ impl Board {
         requires rows { length group.old ≡ self.now.side }
         requires none { (p : Point) → is_set group.old p ≡ false }
         ensures lives { (h : Grid) → IsSameBut self.now h colour besides → IsTrue result → Reaches h Empty from }
-        ensures dead { cell_at self.now besides ≢ Empty → IsFalse result → IsDead self.now colour (λ p. is_set group.new p) }
+        ensures shut { cell_at self.now besides ≢ Empty → IsFalse result → IsWithoutLiberty self.now colour (λ p. is_set group.new p) }
         ensures start { IsFalse result → IsTrue (is_set group.new from) }
         ensures on_grid { IsFalse result → (p : Point) → IsTrue (is_set group.new p) → IsOn self.now.side p }
         ensures rows { length group.new ≡ self.now.side }
@@ -137,7 +137,7 @@ impl Board {
         requires black { AreRowsOf self.now.side (λ p. same_cell (cell_at self.now p) Black) black.now }
         requires white { AreRowsOf self.now.side (λ p. same_cell (cell_at self.now p) White) white.now }
         ensures lives { (h : Grid) → IsSameBut self.now h colour besides → IsTrue result → Reaches h Empty from }
-        ensures dead { cell_at self.now besides ≢ Empty → IsFalse result → IsDead self.now colour (λ p. is_set group.new p) }
+        ensures shut { cell_at self.now besides ≢ Empty → IsFalse result → IsWithoutLiberty self.now colour (λ p. is_set group.new p) }
         ensures start { IsFalse result → IsTrue (is_set group.new from) }
         ensures on_grid { IsFalse result → (p : Point) → IsTrue (is_set group.new p) → IsOn self.now.side p }
         ensures rows { length group.new ≡ self.now.side }

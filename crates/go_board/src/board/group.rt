@@ -4,7 +4,7 @@ ghost use Rattle.std.specs.Prelude.{◌≡◌, ◌≢◌, ◌⊎◌, false, ℕ,
 ghost use Rattle.go_board.specs.declared.points.Point.{Point};
 ghost use Rattle.go_board.specs.Point.{IsOn, AreAdjacent, DifferByOne};
 ghost use Rattle.go_board.specs.inner.Rows.{has_bit, is_set, row_above, IsPart, IsInOrBeside};
-ghost use Rattle.go_board.specs.inner.Linked.{IsFilled, IsLiberty, IsAt, IsBegun, IsShutIn};
+ghost use Rattle.go_board.specs.inner.Linked.{IsFilled, IsLiberty, IsAt, IsRowGroup, IsShutIn};
 
 use crate::board::fill::{grow_row, row_above, row_below};
 use crate::board::regions::{other_columns, with_column};
@@ -59,7 +59,7 @@ fn begin(own: &[u64], from: Point, group: &mut [u64])
     requires column { from.col < 64 }
     requires stone { IsTrue (is_set own.now from) }
     requires none { (p : Point) → is_set group.old p ≡ false }
-    ensures { IsBegun own.now from group.new }
+    ensures { IsRowGroup own.now from group.new }
 {
     let row = usize::from(from.row);
     group[row] = with_column(0, usize::from(from.col), true);

@@ -8,134 +8,13 @@ ghost use Rattle.go_board.specs.Colour.{opponent, same_cell, stone_of};
 ghost use Rattle.go_board.specs.Grid.{cell_at};
 ghost use Rattle.go_board.specs.inner.Groups.{AllReach, is_shut};
 ghost use Rattle.go_board.specs.inner.Rows.{has_bit, is_set};
-ghost use Rattle.go_board.specs.inner.Regions.{is_there, AreRowsOf, IsLeft, AreBeside, reaches_through_own, count_apart};
+ghost use Rattle.go_board.specs.inner.Regions.{is_there, AreRowsOf, IsDifference, AreBeside, reaches_through_own, count_apart};
 
 use crate::board::Board;
 use crate::board::fill::{fill, fill_both, row_above, row_below};
 use crate::board::group::columns_beside;
 use crate::size::{MAX_ROWS, Size};
 use crate::stones::{Cell, Colour};
-
-/// The word with the bit of a column set, if it is to be.
-pub(crate) fn with_column(word: u64, col: usize, set: bool) -> u64
-    requires { col < 64 }
-    ensures there { has_bit result col ≡ (has_bit word col || set) }
-    ensures elsewhere { (k : ℕ) → k ≢ col → has_bit result k ≡ has_bit word k }
-{
-    if set { word | 1 << col } else { word }
-}
-
-/// The columns of a row with a black stone, and those with a white one.
-pub(crate) fn row_of(cells: &[Cell]) -> (u64, u64)
-    requires { length cells.now ≤ 64 }
-    ensures black { (col : ℕ) → has_bit result.0 col ≡ is_there (slice_get cells.now col) Black }
-    ensures white { (col : ℕ) → has_bit result.1 col ≡ is_there (slice_get cells.now col) White }
-{
-    let mut black = 0;
-    let mut white = 0;
-    for (col, cell) in cells.iter().enumerate() {
-        black = with_column(black, col, *cell == Cell::Black);
-        white = with_column(white, col, *cell == Cell::White);
-    }
-    (black, white)
-}
-
-/// The points of a board with a black stone, and those with a white one.
-pub(crate) fn rows_of(cells: &[Cell], size: Size, black: &mut [u64], white: &mut [u64])
-    requires cells { length cells.now ≡ size * size }
-    requires black { length black.old ≡ size }
-    requires white { length white.old ≡ size }
-    ensures black { AreRowsOf size
-        (λ p. same_cell (cell_at (record { side = size; cells = cells.now }) p) Black) black.new }
-    ensures white { AreRowsOf size
-        (λ p. same_cell (cell_at (record { side = size; cells = cells.now }) p) White) white.new }
-{
-    let side = usize::from(size.side());
-    for row in 0..side {
-        let start = row * side;
-        let (black_row, white_row) = row_of(&cells[start..start + side]);
-        black[row] = black_row;
-        white[row] = white_row;
-    }
-}
-
-/// The columns of a row of so many that aren't in a set.
-pub(crate) fn other_columns(word: u64, side: usize) -> u64
-    requires { side < 64 }
-    ensures within { (col : ℕ) → col < side → has_bit result col ≡ not (has_bit word col) }
-    ensures off { (col : ℕ) → IsTrue (has_bit result col) → col < side }
-{
-    ((1 << side) - 1) & !word
-}
-
-/// The points of a board that aren't in a set.
-fn other_points(rows: &[u64], others: &mut [u64])
-    requires few { length rows.now < 64 }
-    requires same { length others.old ≡ length rows.now }
-    ensures { AreRowsOf (length rows.now) (λ p. not (is_set rows.now p)) others.new }
-{
-    let side = rows.len();
-    for row in 0..side {
-        others[row] = other_columns(rows[row], side);
-    }
-}
-
-/// So many rows, with no bit set.
-pub(crate) fn no_rows<const N: usize>() -> [u64; N]
-    requires { N ≤ MAX_ROWS }
-    ensures { result ≡ replicate N 0 }
-{
-    [0; N]
-}
-
-/// How many points are set in the one and not in the other.
-pub(crate) fn count_apart(rows: &[u64], others: &[u64]) -> u32
-    requires few { length rows.now ≤ MAX_ROWS }
-    requires same { length others.now ≡ length rows.now }
-    requires on_board { (p : Point) → IsTrue (is_set rows.now p) → IsOn (length rows.now) p }
-    ensures { result ≡ count_apart (length rows.now) rows.now others.now }
-{
-    let mut count = 0;
-    for (row, word) in rows.iter().enumerate() {
-        count += (word & !others[row]).count_ones();
-    }
-    count
-}
-
-/// The points of a set that aren't in another one.
-fn difference(rows: &[u64], others: &[u64], left: &mut [u64])
-    requires others { length others.now ≡ length rows.now }
-    requires left { length left.old ≡ length rows.now }
-    ensures { IsLeft rows.now others.now left.new }
-{
-    for row in 0..rows.len() {
-        left[row] = rows[row] & !others[row];
-    }
-}
-
-/// The points of a set that are beside one of another set.
-fn points_beside(rows: &[u64], others: &[u64], beside: &mut [u64])
-    requires others { length others.now ≡ length rows.now }
-    requires beside { length beside.old ≡ length rows.now }
-    ensures { AreBeside rows.now others.now beside.new }
-{
-    for row in 0..rows.len() {
-        let around = columns_beside(row_above(others, row), others[row], row_below(others, row));
-        beside[row] = rows[row] & around;
-    }
-}
-
-/// Whether a set has no point.
-fn is_none(rows: &[u64]) -> bool
-    ensures { IsTrue result ↔ ((p : Point) → is_set rows.now p ≡ false) }
-{
-    for row in rows {
-        if *row != 0 {
-            return false;
-        }
-    }
-    true
-}
 
 impl Board {
     /// The black points with the empty ones that reach black, and the white points with the empty ones that reach white.
@@ -238,6 +117,7 @@ impl Board {
         ensures shut { AreRowsOf self.now.side (is_shut self.now colour) shut.new }
         ensures rows { length shut.new ≡ self.now.side }
     {
+        // the contract alone needs the colour
         let _ = colour;
         let (mut room_words, mut empty_words) = (no_rows::<N>(), no_rows::<N>());
         let mut reached_words = no_rows::<N>();
@@ -256,4 +136,125 @@ impl Board {
         fill(reached, rows);
         difference(rows, reached, shut);
     }
+}
+
+/// How many points are set in the one and not in the other.
+pub(crate) fn count_apart(rows: &[u64], others: &[u64]) -> u32
+    requires few { length rows.now ≤ MAX_ROWS }
+    requires same { length others.now ≡ length rows.now }
+    requires on_board { (p : Point) → IsTrue (is_set rows.now p) → IsOn (length rows.now) p }
+    ensures { result ≡ count_apart (length rows.now) rows.now others.now }
+{
+    let mut count = 0;
+    for (row, word) in rows.iter().enumerate() {
+        count += (word & !others[row]).count_ones();
+    }
+    count
+}
+
+/// So many rows, with no bit set.
+pub(crate) fn no_rows<const N: usize>() -> [u64; N]
+    requires { N ≤ MAX_ROWS }
+    ensures { result ≡ replicate N 0 }
+{
+    [0; N]
+}
+
+/// The points of a board that aren't in a set.
+fn other_points(rows: &[u64], others: &mut [u64])
+    requires few { length rows.now < 64 }
+    requires same { length others.old ≡ length rows.now }
+    ensures { AreRowsOf (length rows.now) (λ p. not (is_set rows.now p)) others.new }
+{
+    let side = rows.len();
+    for row in 0..side {
+        others[row] = other_columns(rows[row], side);
+    }
+}
+
+/// The columns of a row of so many that aren't in a set.
+pub(crate) fn other_columns(word: u64, side: usize) -> u64
+    requires { side < 64 }
+    ensures within { (col : ℕ) → col < side → has_bit result col ≡ not (has_bit word col) }
+    ensures off { (col : ℕ) → IsTrue (has_bit result col) → col < side }
+{
+    ((1 << side) - 1) & !word
+}
+
+/// The points of a board with a black stone, and those with a white one.
+pub(crate) fn rows_of(cells: &[Cell], size: Size, black: &mut [u64], white: &mut [u64])
+    requires cells { length cells.now ≡ size * size }
+    requires black { length black.old ≡ size }
+    requires white { length white.old ≡ size }
+    ensures black { AreRowsOf size
+        (λ p. same_cell (cell_at (record { side = size; cells = cells.now }) p) Black) black.new }
+    ensures white { AreRowsOf size
+        (λ p. same_cell (cell_at (record { side = size; cells = cells.now }) p) White) white.new }
+{
+    let side = usize::from(size.side());
+    for row in 0..side {
+        let start = row * side;
+        let (black_row, white_row) = row_of(&cells[start..start + side]);
+        black[row] = black_row;
+        white[row] = white_row;
+    }
+}
+
+/// The columns of a row with a black stone, and those with a white one.
+pub(crate) fn row_of(cells: &[Cell]) -> (u64, u64)
+    requires { length cells.now ≤ 64 }
+    ensures black { (col : ℕ) → has_bit result.0 col ≡ is_there (slice_get cells.now col) Black }
+    ensures white { (col : ℕ) → has_bit result.1 col ≡ is_there (slice_get cells.now col) White }
+{
+    let mut black = 0;
+    let mut white = 0;
+    for (col, cell) in cells.iter().enumerate() {
+        black = with_column(black, col, *cell == Cell::Black);
+        white = with_column(white, col, *cell == Cell::White);
+    }
+    (black, white)
+}
+
+/// The word with the bit of a column set, if it is to be.
+pub(crate) fn with_column(word: u64, col: usize, set: bool) -> u64
+    requires { col < 64 }
+    ensures there { has_bit result col ≡ (has_bit word col || set) }
+    ensures elsewhere { (k : ℕ) → k ≢ col → has_bit result k ≡ has_bit word k }
+{
+    if set { word | 1 << col } else { word }
+}
+
+/// The points of a set that aren't in another one.
+fn difference(rows: &[u64], others: &[u64], left: &mut [u64])
+    requires others { length others.now ≡ length rows.now }
+    requires left { length left.old ≡ length rows.now }
+    ensures { IsDifference rows.now others.now left.new }
+{
+    for row in 0..rows.len() {
+        left[row] = rows[row] & !others[row];
+    }
+}
+
+/// The points of a set that are beside one of another set.
+fn points_beside(rows: &[u64], others: &[u64], beside: &mut [u64])
+    requires others { length others.now ≡ length rows.now }
+    requires beside { length beside.old ≡ length rows.now }
+    ensures { AreBeside rows.now others.now beside.new }
+{
+    for row in 0..rows.len() {
+        let around = columns_beside(row_above(others, row), others[row], row_below(others, row));
+        beside[row] = rows[row] & around;
+    }
+}
+
+/// Whether a set has no point.
+fn is_none(rows: &[u64]) -> bool
+    ensures { IsTrue result ↔ ((p : Point) → is_set rows.now p ≡ false) }
+{
+    for row in rows {
+        if *row != 0 {
+            return false;
+        }
+    }
+    true
 }

@@ -7,7 +7,7 @@ ghost use Rattle.go_board.specs.Point.{IsOn};
 ghost use Rattle.go_board.specs.Colour.{same_cell};
 ghost use Rattle.go_board.specs.Grid.{Grid, with_cell, empty_grid};
 ghost use Rattle.go_board.specs.inner.Rows.{has_bit};
-ghost use Rattle.go_board.specs.inner.StoneRows.{AreRowsKept};
+ghost use Rattle.go_board.specs.inner.Regions.{AreRowsKept};
 
 use crate::board::regions::{no_rows, row_of, with_column};
 use crate::points::Point;

@@ -4,7 +4,7 @@ ghost use Rattle.std.specs.Prelude.{◌≡◌, ◌<◌, ℕ, IsTrue, length};
 ghost use Rattle.go_board.specs.declared.points.Point.{Point};
 ghost use Rattle.go_board.specs.Point.{IsOn};
 ghost use Rattle.go_board.specs.inner.Rows.{has_bit, is_set};
-ghost use Rattle.go_board.specs.inner.Sweep.{IsWithout};
+ghost use Rattle.go_board.specs.inner.Groups.{IsWithout};
 
 use crate::board::Board;
 use crate::board::stone_rows::without_column;

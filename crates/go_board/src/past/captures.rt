@@ -10,9 +10,8 @@ ghost use Rattle.go_board.specs.Point.{IsOn};
 ghost use Rattle.go_board.specs.Grid.{Grid, cell_at, with_cell};
 ghost use Rattle.go_board.specs.Clearing.{play, has_unreaching};
 ghost use Rattle.go_board.specs.inner.Changes.{after_changes, AreOn, LeadBackwards};
-ghost use Rattle.go_board.specs.inner.Groups.{LosesDead, ReachBeside, ReachesIfStone};
+ghost use Rattle.go_board.specs.inner.Groups.{LosesShut, ReachBeside, ReachesIfStone, IsWithout};
 ghost use Rattle.go_board.specs.inner.Rows.{has_bit, is_set};
-ghost use Rattle.go_board.specs.inner.Sweep.{IsWithout};
 
 use crate::board::Board;
 use crate::board::regions::no_rows;
@@ -76,6 +75,7 @@ fn place_and_keep(
     ensures played { IsTrue result → board.new ≡ play board.old colour point }
     ensures few { IsTrue result → length changes.new.items - length changes.old.items < 2 ^ 16 }
 {
+    // what `cells` promises tells the proof that every point has a cell
     let _ = board.cells();
     let start = changes.len();
     let stone = Change {
@@ -112,11 +112,16 @@ fn put_back(board: &mut Board, start: usize, changes: &mut Vec<Change>)
 
 /// Takes off the groups of a colour beside a point that have no liberty, and adds changes that lead back. Tells whether
 /// there was room for the changes.
-fn capture_around(board: &mut Board, colour: Colour, point: Point, changes: &mut Vec<Change>) -> bool
+fn capture_around(
+    board: &mut Board,
+    colour: Colour,
+    point: Point,
+    changes: &mut Vec<Change>,
+) -> bool
     requires { IsOn board.old.side point }
     ensures logged { (start : ℕ) (h : Grid) (front : List Change) → LeadBackwards start h front board.old changes.old.items
         → LeadBackwards start h front board.new changes.new.items }
-    ensures taken { IsTrue result → LosesDead board.old board.new colour }
+    ensures taken { IsTrue result → LosesShut board.old board.new colour }
     ensures beside { IsTrue result → ReachBeside board.new colour point }
 {
     let size = board.size();
@@ -142,7 +147,7 @@ fn capture_group(
     requires { ForSome at (IsOn board.old.side) }
     ensures logged { (start : ℕ) (h : Grid) (front : List Change) → LeadBackwards start h front board.old changes.old.items
         → LeadBackwards start h front board.new changes.new.items }
-    ensures taken { IsTrue result → LosesDead board.old board.new colour }
+    ensures taken { IsTrue result → LosesShut board.old board.new colour }
     ensures settled { IsTrue result → ForSome at (ReachesIfStone board.new colour) }
 {
     match at {
@@ -156,7 +161,7 @@ fn capture_stone(board: &mut Board, colour: Colour, from: Point, changes: &mut V
     requires { IsOn board.old.side from }
     ensures logged { (start : ℕ) (h : Grid) (front : List Change) → LeadBackwards start h front board.old changes.old.items
         → LeadBackwards start h front board.new changes.new.items }
-    ensures taken { IsTrue result → LosesDead board.old board.new colour }
+    ensures taken { IsTrue result → LosesShut board.old board.new colour }
     ensures settled { IsTrue result → ReachesIfStone board.new colour from }
 {
     if board.at(from) != colour.stone() {
@@ -185,7 +190,7 @@ fn capture_searched<const N: usize>(
     requires stone { cell_at board.old from ≡ stone_of colour }
     ensures logged { (start : ℕ) (h : Grid) (front : List Change) → LeadBackwards start h front board.old changes.old.items
         → LeadBackwards start h front board.new changes.new.items }
-    ensures taken { IsTrue result → LosesDead board.old board.new colour }
+    ensures taken { IsTrue result → LosesShut board.old board.new colour }
     ensures settled { IsTrue result → ReachesIfStone board.new colour from }
 {
     let mut words = no_rows::<N>();

@@ -2,7 +2,7 @@
 
 ghost use Rattle.std.specs.Prelude.{◌≡◌, ◌*◌, suc, length};
 ghost use Rattle.go_board.specs.Point.{index_of};
-ghost use Rattle.go_board.specs.inner.Changes.{after_changes, painted, AreOn, IsRunOn};
+ghost use Rattle.go_board.specs.inner.Changes.{after_changes, painted, AreOn, IsChangeOn};
 
 use crate::past::changes::Change;
 use crate::size::Size;
@@ -22,7 +22,7 @@ pub(crate) fn take_cells_back(cells: &mut [Cell], size: Size, changes: &[Change]
 /// Colours the points of a change as they were before it.
 fn colour_cells(cells: &mut [Cell], size: Size, change: &Change)
     requires all { length cells.old ≡ size * size }
-    requires on { IsRunOn size change.now }
+    requires on { IsChangeOn size change.now }
     ensures { cells.new ≡ painted cells.old change.now.cell (index_of size change.now.point) (suc change.now.more) }
 {
     let first = change.point.index(size);

@@ -4,7 +4,7 @@ ghost use Rattle.std.specs.Prelude.{◌≡◌, ◌+◌, ◌-◌, ◌*◌, ◌<�
 ghost use Rattle.go_board.specs.declared.stones.Cell.TheVariants.{Black};
 ghost use Rattle.go_board.specs.Point.{IsOn, index_of};
 ghost use Rattle.go_board.specs.Grid.{cell_at, with_cell};
-ghost use Rattle.go_board.specs.inner.Changes.{after_changes, with_run, AreOn, IsRunOn, IsRunOf, LeadsBack};
+ghost use Rattle.go_board.specs.inner.Changes.{after_changes, with_change, AreOn, IsChangeOn, AreAllOf, LeadsBack};
 
 use crate::board::Board;
 use crate::fault::MemoryFault;
@@ -27,7 +27,7 @@ pub(crate) struct Change {
 #[derive(Clone, Copy)]
 pub(crate) struct Older {
     /// How many older colourings its stretch has: none, where it begins one.
-    pub since: u32,
+    pub older_in_stretch: u32,
     /// How many changes lead back to it from the colouring after it.
     pub changes: u16,
     /// Whether it is known that every stone reaches empty.
@@ -46,8 +46,8 @@ pub(crate) fn take_back(board: &mut Board, changes: &[Change])
 
 /// Colours the points of a change as they were before it.
 fn colour(board: &mut Board, change: &Change)
-    requires { IsRunOn board.old.side change.now }
-    ensures { board.new ≡ with_run board.old change.now }
+    requires { IsChangeOn board.old.side change.now }
+    ensures { board.new ≡ with_change board.old change.now }
 {
     let size = board.size();
     let mut point = change.point;
@@ -143,7 +143,7 @@ fn run_after(old: &[Cell], new: &[Cell], index: usize) -> u8
     requires lengths { length new.now ≡ length old.now }
     requires within { index < length old.now }
     ensures within { index + result < length old.now }
-    ensures same { IsRunOf (slice_index_or old.now index Black) old.now index (result + 1) }
+    ensures same { AreAllOf (slice_index_or old.now index Black) old.now index (result + 1) }
 {
     let cell = old[index];
     let mut more: u8 = 0;

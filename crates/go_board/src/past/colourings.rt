@@ -31,7 +31,7 @@ const FIRST_OLDER: usize = 64;
 pub(crate) struct Colourings {
     newest: Board,
     /// How many older colourings the newest one's stretch has.
-    since: u32,
+    older_in_stretch: u32,
     /// What is kept of the older colourings, oldest first.
     older: Vec<Older>,
     /// Their changes, oldest first.
@@ -46,10 +46,10 @@ impl Model for Colourings {
 
     ghost use Rattle.go_board.specs.inner.Changes.{held_before, IsPast};
 
-    ghost view = { λ p. record { colouring = p.newest; begins = p.since == 0 }
+    ghost view = { λ p. record { colouring = p.newest; begins = p.older_in_stretch == 0 }
         ∷ held_before p.newest (reverse p.older.items) p.changes.items };
 
-    ghost invariant = { λ p. IsPast p.newest p.since p.older.items p.changes.items };
+    ghost invariant = { λ p. IsPast p.newest p.older_in_stretch p.older.items p.changes.items };
 }
 
 impl Colourings {
@@ -59,7 +59,7 @@ impl Colourings {
     {
         Ok(Colourings {
             newest: board.copy(),
-            since: 0,
+            older_in_stretch: 0,
             older: Vec::with_capacity(alloc, FIRST_OLDER)?,
             changes: Vec::with_capacity(alloc, FIRST_OLDER)?,
         })
@@ -78,7 +78,7 @@ impl Colourings {
         ensures stretch { present_stretch self.now
             ≡ map (λ (h : Held). h.colouring) (take (length self.now - result) self.now) }
     {
-        self.older.len() - self.since as usize
+        self.older.len() - self.older_in_stretch as usize
     }
 
     /// Whether that is the colouring of that number.
@@ -133,17 +133,17 @@ impl Colourings {
             ≡ record { colouring = board.now; begins = begins } ∷ self.old) }
         ensures err { OnErr result (self.new ≡ self.old) }
     {
-        let since = next_since(self.since, begins)?;
+        let older_in_stretch = next_older_in_stretch(self.older_in_stretch, begins)?;
         self.older.reserve(1)?;
         let settled = self.newest.is_settled();
         let changes = follow(&mut self.newest, board, &mut self.changes)?;
         let kept = Older {
-            since: self.since,
+            older_in_stretch: self.older_in_stretch,
             changes,
             settled,
         };
         self.older.push(kept).unwrap();
-        self.since = since;
+        self.older_in_stretch = older_in_stretch;
         Ok(())
     }
 
@@ -166,11 +166,11 @@ impl Colourings {
         } ∷ self.old) }
         ensures err { OnErr result (self.new ≡ self.old) }
     {
-        let since = next_since(self.since, false)?;
+        let older_in_stretch = next_older_in_stretch(self.older_in_stretch, false)?;
         self.older.reserve(1)?;
         self.changes.reserve(1)?;
         let kept = Older {
-            since: self.since,
+            older_in_stretch: self.older_in_stretch,
             changes: 1,
             settled: self.newest.is_settled(),
         };
@@ -182,7 +182,7 @@ impl Colourings {
         };
         self.changes.push(change).unwrap();
         self.older.push(kept).unwrap();
-        self.since = since;
+        self.older_in_stretch = older_in_stretch;
         Ok(())
     }
 
@@ -198,7 +198,7 @@ impl Colourings {
         } ∷ self.old }
         ensures unchanged { IsFalse result → self.new ≡ self.old }
     {
-        let Ok(since) = next_since(self.since, false) else {
+        let Ok(older_in_stretch) = next_older_in_stretch(self.older_in_stretch, false) else {
             return false;
         };
         if self.older.len() >= self.older.capacity() {
@@ -210,12 +210,12 @@ impl Colourings {
             return false;
         };
         let kept = Older {
-            since: self.since,
+            older_in_stretch: self.older_in_stretch,
             changes,
             settled,
         };
         self.older.push(kept).unwrap();
-        self.since = since;
+        self.older_in_stretch = older_in_stretch;
         true
     }
 
@@ -236,13 +236,13 @@ impl Colourings {
         self.changes.reserve(ops.len())?;
         let settled = self.newest.is_settled();
         let kept = Older {
-            since: self.since,
+            older_in_stretch: self.older_in_stretch,
             changes: set_points(&mut self.newest, ops, &mut self.changes),
             settled,
         };
         self.newest.prepare();
         self.older.push(kept).unwrap();
-        self.since = 0;
+        self.older_in_stretch = 0;
         Ok(true)
     }
 
@@ -257,7 +257,7 @@ impl Colourings {
         take_back(&mut self.newest, &self.changes[start..]);
         self.newest.restore(kept.settled, print);
         self.changes.truncate(start);
-        self.since = kept.since;
+        self.older_in_stretch = kept.older_in_stretch;
     }
 
     /// Forgets all colourings, and has that of the empty board of a size alone, which begins a stretch.
@@ -266,18 +266,18 @@ impl Colourings {
         ensures value { self.new ≡ record { colouring = empty_grid size; begins = true } ∷ [] }
     {
         self.newest.reset(size);
-        self.since = 0;
+        self.older_in_stretch = 0;
         self.older.clear();
         self.changes.clear();
     }
 }
 
 /// How many older colourings the stretch of a colouring has that comes after one with so many.
-fn next_since(since: u32, begins: bool) -> Result<u32, MemoryFault>
-    ensures { IfOk result (λ next. next ≡ (if begins then 0 else since + 1)) }
+fn next_older_in_stretch(older_in_stretch: u32, begins: bool) -> Result<u32, MemoryFault>
+    ensures { IfOk result (λ next. next ≡ (if begins then 0 else older_in_stretch + 1)) }
 {
     if begins {
         return Ok(0);
     }
-    since.checked_add(1).ok_or(MemoryFault)
+    older_in_stretch.checked_add(1).ok_or(MemoryFault)
 }

@@ -52,7 +52,12 @@ impl Past for ListPast {
     fn holds(&self, board: &Board) -> bool {
         self.newest.same(board)
             || (!self.begins
-                && stretch_has(self.newest.size(), &self.cells, &self.begin_flags, board.cells()))
+                && stretch_has(
+                    self.newest.size(),
+                    &self.cells,
+                    &self.begin_flags,
+                    board.cells(),
+                ))
     }
 
     fn newest(&self) -> &Board {

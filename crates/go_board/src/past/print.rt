@@ -15,17 +15,6 @@ use crate::stones::Cell;
 /// What each point's code is a digit of.
 const BASE: u64 = 31;
 
-/// What a point adds to a print.
-fn code_of(cell: Cell) -> u64
-    ensures { result ≡ code_of cell }
-{
-    match cell {
-        Cell::Empty => 0,
-        Cell::Black => 1,
-        Cell::White => 2,
-    }
-}
-
 /// The print of a board's points, row by row from the top, from left to right: from 0, 31 times the number and the
 /// point's code (empty 0, black 1, white 2), modulo 2^64.
 pub(crate) fn print_of(cells: &[Cell]) -> u64
@@ -48,4 +37,15 @@ pub(crate) fn print_with(print: u64, cells: &[Cell], index: usize, new: Cell) ->
     print
         .wrapping_add(code_of(new).wrapping_mul(weight))
         .wrapping_sub(code_of(cells[index]).wrapping_mul(weight))
+}
+
+/// What a point adds to a print.
+fn code_of(cell: Cell) -> u64
+    ensures { result ≡ code_of cell }
+{
+    match cell {
+        Cell::Empty => 0,
+        Cell::Black => 1,
+        Cell::White => 2,
+    }
 }

@@ -19,7 +19,8 @@ use std::marker::Model;
 const EMPTY_PRINT: u64 = 0;
 
 /// A past that keeps the newest colouring whole, and of each older one the changes that lead back to it. A colouring is
-/// looked up by its print, and only in the present stretch; where the prints are the same, all points are compared.
+/// looked up by its print, a number of 64 bits made of what stands on all its points, and only in the present stretch;
+/// where the prints are the same, all points are compared.
 ///
 /// A colouring with one stone more than the one before it takes some 30 bytes. No past is given memory for more than
 /// 4,294,967,295 colourings: a call that would add one more is refused as if there were none.
@@ -119,15 +120,19 @@ impl PrintPast {
     ghost use Rattle.go_board.specs.Past.{HaveSide, newest_grid};
     ghost use Rattle.go_board.specs.inner.Print.{print_of};
 
-    /// Whether a colouring of the present stretch has that print.
-    fn has_print(&self, print: u64) -> bool
-        ensures { (g : Grid) → IsFalse result → print ≡ print_of g.cells
-            → ¬ Contains (present_stretch self.now) g }
+    /// Adds a colouring, which begins a stretch or goes on in the present one.
+    fn add(&mut self, board: &Board, begins: bool) -> Result<(), MemoryFault>
+        requires { HaveSide board.now.side self.old }
+        ensures ok { OnOk result (self.new
+            ≡ record { colouring = board.now; begins = begins } ∷ self.old) }
+        ensures err { OnErr result (self.new ≡ self.old) }
     {
-        let start = self.colourings.stretch_start();
-        self.prints
-            .last_between(print, start, self.prints.len())
-            .is_some()
+        self.prints.push(board.print())?;
+        if self.colourings.add(board, begins).is_err() {
+            self.prints.pop();
+            return Err(MemoryFault);
+        }
+        Ok(())
     }
 
     /// Tries a stone that captures nothing, whose print is worked out before it is placed.
@@ -156,6 +161,17 @@ impl PrintPast {
             return Err(MemoryFault);
         }
         Ok(true)
+    }
+
+    /// Whether a colouring of the present stretch has that print.
+    fn has_print(&self, print: u64) -> bool
+        ensures { (g : Grid) → IsFalse result → print ≡ print_of g.cells
+            → ¬ Contains (present_stretch self.now) g }
+    {
+        let start = self.colourings.stretch_start();
+        self.prints
+            .last_between(print, start, self.prints.len())
+            .is_some()
     }
 
     /// Tries a stone that may capture: the colouring that it makes is made in place, and taken back where the present stretch
@@ -193,20 +209,5 @@ impl PrintPast {
             return Err(MemoryFault);
         }
         Ok(true)
-    }
-
-    /// Adds a colouring, which begins a stretch or goes on in the present one.
-    fn add(&mut self, board: &Board, begins: bool) -> Result<(), MemoryFault>
-        requires { HaveSide board.now.side self.old }
-        ensures ok { OnOk result (self.new
-            ≡ record { colouring = board.now; begins = begins } ∷ self.old) }
-        ensures err { OnErr result (self.new ≡ self.old) }
-    {
-        self.prints.push(board.print())?;
-        if self.colourings.add(board, begins).is_err() {
-            self.prints.pop();
-            return Err(MemoryFault);
-        }
-        Ok(())
     }
 }

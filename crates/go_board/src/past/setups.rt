@@ -42,6 +42,7 @@ pub(crate) fn set_points(board: &mut Board, ops: &[SetupOp], changes: &mut Vec<C
     ensures front { take (length changes.new.items - result) changes.new.items ≡ changes.old.items }
     ensures on_grid { AreOn board.old.side changes.new.items }
 {
+    // what `cells` promises tells the proof that every point has a cell
     let _ = board.cells();
     let start = changes.len();
     for op in ops {

@@ -1,6 +1,6 @@
 use Rattle.std.proofs.Common.{sym, ◌∙◌}
 use Rattle.go_board.proofs.LinkedLemmas.{none_in_front}
-use Rattle.go_board.proofs.StoneGroupLemmas.{LosesDead-without}
+use Rattle.go_board.proofs.StoneGroupLemmas.{LosesShut-without}
 use Rattle.go_board.proofs.GroupLemmas.{stone_of≢Empty}
 use Rattle.go_board.proofs.board.Board.capture_group.Goals as goal
 
@@ -11,5 +11,5 @@ pub returns-then-not-group_has_liberty-clause-taken : goal.returns-then-not-grou
 returns-then-not-group_has_liberty-clause-taken n c =
     let g = c.args.self.now in
     let k = c.args.colour in
-    let dead = c.group_has_liberty.ensures.dead (λ free. stone_of≢Empty k (sym c.requires.stone ∙ free)) c.if-not-group_has_liberty.true in
-    LosesDead-without g c.empty_set.new.self k c.group_has_liberty.new.group dead c.empty_set.ensures
+    let shut = c.group_has_liberty.ensures.shut (λ free. stone_of≢Empty k (sym c.requires.stone ∙ free)) c.if-not-group_has_liberty.true in
+    LosesShut-without g c.empty_set.new.self k c.group_has_liberty.new.group shut c.empty_set.ensures

@@ -2,7 +2,7 @@ use Rattle.std.proofs.Common.{◌≡◌, sym, ap, ◌∙◌, subst}
 use Rattle.go_board.specs.Grid.{Grid}
 use Rattle.go_board.specs.Clearing.{has_unreaching}
 use Rattle.go_board.specs.inner.Print.{print_of}
-use Rattle.go_board.specs.inner.StoneRows.{AreRowsKept}
+use Rattle.go_board.specs.inner.Regions.{AreRowsKept}
 use Rattle.go_board.proofs.FrontLemmas.{grid_in}
 use Rattle.go_board.proofs.board.Board.copy_from.Goals as goal
 

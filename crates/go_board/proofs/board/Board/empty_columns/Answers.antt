@@ -1,7 +1,7 @@
 use Rattle.std.proofs.Common.{w64, refl, sym, subst, arith}
 use Rattle.std.specs.Int.{trailing_zeros}
 use Rattle.go_board.specs.declared.points.Point.{Point}
-use Rattle.go_board.specs.inner.Sweep.{IsWithout}
+use Rattle.go_board.specs.inner.Groups.{IsWithout}
 use Rattle.go_board.proofs.SweepLemmas.{InTaken, lowest_left, next_part, next_smaller, taken_more}
 use Rattle.go_board.proofs.board.Board.empty_columns.Goals as goal
 

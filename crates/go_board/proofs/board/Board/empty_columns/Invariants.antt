@@ -1,5 +1,5 @@
 use Rattle.go_board.specs.inner.Rows.{has_bit, IsPart}
-use Rattle.go_board.specs.inner.Sweep.{IsWithout}
+use Rattle.go_board.specs.inner.Groups.{IsWithout}
 use Rattle.go_board.proofs.SweepLemmas.{InTaken}
 use Rattle.go_board.proofs.board.Board.empty_columns.Given as goal
 

@@ -1,4 +1,4 @@
-use Rattle.go_board.specs.inner.Sweep.{IsWithout}
+use Rattle.go_board.specs.inner.Groups.{IsWithout}
 use Rattle.go_board.proofs.SweepLemmas.{InRowsBefore}
 use Rattle.go_board.proofs.board.Board.empty_set.Given as goal
 

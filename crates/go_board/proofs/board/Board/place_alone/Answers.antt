@@ -4,7 +4,7 @@ use Rattle.go_board.specs.Point.{IsOn}
 use Rattle.go_board.specs.Grid.{Grid, with_cell}
 use Rattle.go_board.specs.Clearing.{has_unreaching}
 use Rattle.go_board.specs.inner.Print.{print_of}
-use Rattle.go_board.specs.inner.StoneRows.{AreRowsKept}
+use Rattle.go_board.specs.inner.Regions.{AreRowsKept}
 use Rattle.go_board.proofs.FrontLemmas.{grid_in, grid_in-set}
 use Rattle.go_board.proofs.SettledLemmas.{settled_by_play}
 use Rattle.go_board.proofs.board.Board.place_alone.Goals as goal

@@ -1,7 +1,7 @@
 use Rattle.std.proofs.Common.{arith, ap, subst, refl, ◌∙◌}
 use Rattle.go_board.specs.Colour.{stone_of}
 use Rattle.go_board.specs.Grid.{with_cell}
-use Rattle.go_board.specs.inner.Groups.{LosesDead, ReachBeside}
+use Rattle.go_board.specs.inner.Groups.{LosesShut, ReachBeside}
 use Rattle.go_board.proofs.FrontLemmas.{length-grid_in}
 use Rattle.go_board.proofs.MoveLemmas.{captured_is_play}
 use Rattle.go_board.proofs.board.Board.place_settled.Goals as goal
@@ -16,8 +16,8 @@ returns c =
     let here = c.set.ensures ∙ ap (with_cell g p) c.stone.ensures in
     let around = c.capture_around in
     captured_is_play g around.new.self c.capture.new.self p k c.requires.on_board all c.requires.settled
-    (subst (λ o. LosesDead (with_cell g p (stone_of k)) around.new.self o) c.opponent.ensures
-    (subst (λ h. LosesDead h around.new.self c.opponent.result) here around.ensures.taken))
+    (subst (λ o. LosesShut (with_cell g p (stone_of k)) around.new.self o) c.opponent.ensures
+    (subst (λ h. LosesShut h around.new.self c.opponent.result) here around.ensures.taken))
     (subst (λ o. ReachBeside around.new.self o p) c.opponent.ensures around.ensures.beside)
     c.capture.ensures.taken
     (c.capture.ensures.settled p refl)

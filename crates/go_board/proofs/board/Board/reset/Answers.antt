@@ -3,7 +3,7 @@ use Rattle.go_board.specs.declared.stones.Cell.TheVariants.{Empty}
 use Rattle.go_board.specs.Grid.{Grid}
 use Rattle.go_board.specs.Clearing.{has_unreaching}
 use Rattle.go_board.specs.inner.Print.{print_of}
-use Rattle.go_board.specs.inner.StoneRows.{AreRowsKept}
+use Rattle.go_board.specs.inner.Regions.{AreRowsKept}
 use Rattle.go_board.proofs.PrintSetLemmas.{print-empty}
 use Rattle.go_board.proofs.FrontLemmas.{grid_in-emptied, length-rewritten}
 use Rattle.go_board.proofs.SettledLemmas.{settled-empty_grid}

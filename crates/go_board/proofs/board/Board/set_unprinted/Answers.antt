@@ -2,7 +2,7 @@ use Rattle.std.proofs.Common.{◌<◌, ◌≤◌, ◌≡◌, ◌*◌, length, sy
 use Rattle.std.proofs.lemmas.List.{length-set, length-take-le}
 use Rattle.go_board.specs.Point.{IsOn}
 use Rattle.go_board.specs.Grid.{Grid}
-use Rattle.go_board.specs.inner.StoneRows.{AreRowsKept}
+use Rattle.go_board.specs.inner.Regions.{AreRowsKept}
 use Rattle.go_board.proofs.FrontLemmas.{grid_in, grid_in-set}
 use Rattle.go_board.proofs.board.Board.set_unprinted.Goals as goal
 

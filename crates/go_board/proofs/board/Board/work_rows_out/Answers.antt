@@ -1,5 +1,5 @@
 use Rattle.std.proofs.Common.{take, subst}
-use Rattle.go_board.specs.inner.StoneRows.{AreRowsKept}
+use Rattle.go_board.specs.inner.Regions.{AreRowsKept}
 use Rattle.go_board.proofs.board.Board.work_rows_out.Goals as goal
 
 pub invariant_of-self : goal.invariant_of-self

@@ -1,5 +1,5 @@
 use Rattle.std.proofs.Common.{◌<◌, ◌^◌, ◌∙◌, get_or, arith, rules}
-use Rattle.go_board.proofs.RegionLemmas.{left_more, IsLeft-all}
+use Rattle.go_board.proofs.RegionLemmas.{left_more, IsDifference-all}
 use Rattle.go_board.proofs.board.regions.difference.Goals as goal
 
 pub loop-row-preserved : goal.loop-row-preserved
@@ -12,5 +12,5 @@ loop-row-preserved c =
 pub returns : goal.returns
 returns c =
     let l = c.loop-row in
-    IsLeft-all c.args.rows.now c.args.others.now l.left (l.auto.left ∙ c.requires.left)
+    IsDifference-all c.args.rows.now c.args.others.now l.left (l.auto.left ∙ c.requires.left)
     (λ r below. l.invariant r (omega (arith, below, c.loop-row-test.false)))

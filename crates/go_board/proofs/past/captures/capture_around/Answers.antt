@@ -2,7 +2,7 @@ use Rattle.std.proofs.Common.{ap, ◌∙◌, subst}
 use Rattle.std.specs.Option.{ForSome}
 use Rattle.go_board.specs.inner.Neighbour.{right_of, below}
 use Rattle.go_board.specs.inner.Groups.{ReachesIfStone}
-use Rattle.go_board.proofs.MoveLemmas.{LosesDead-twice, ReachBeside-four}
+use Rattle.go_board.proofs.MoveLemmas.{LosesShut-twice, ReachBeside-four}
 use Rattle.go_board.proofs.past.captures.capture_around.Goals as goal
 
 pub returns-clause-beside : goal.returns-clause-beside
@@ -45,8 +45,8 @@ returns-clause-taken c = λ done.
     let two = c.capture_group-2 in
     let three = c.capture_group-3 in
     let four = c.capture_group-4 in
-    LosesDead-twice a three.new.board four.new.board k
-    (LosesDead-twice a two.new.board three.new.board k
-    (LosesDead-twice a one.new.board two.new.board k (one.ensures.taken c.if-not-capture_group.false) (two.ensures.taken c.if-not-capture_group-2.false))
+    LosesShut-twice a three.new.board four.new.board k
+    (LosesShut-twice a two.new.board three.new.board k
+    (LosesShut-twice a one.new.board two.new.board k (one.ensures.taken c.if-not-capture_group.false) (two.ensures.taken c.if-not-capture_group-2.false))
     (three.ensures.taken c.if-not-capture_group-3.false))
     (four.ensures.taken done)

@@ -6,7 +6,7 @@ use Rattle.go_board.specs.declared.points.Point.{Point}
 use Rattle.go_board.specs.Colour.{stone_of}
 use Rattle.go_board.specs.Point.{IsOn}
 use Rattle.go_board.specs.Grid.{cell_at}
-use Rattle.go_board.specs.inner.Sweep.{IsWithout}
+use Rattle.go_board.specs.inner.Groups.{IsWithout}
 use Rattle.go_board.specs.inner.Changes.{LeadBackwards}
 use Rattle.go_board.proofs.SweepLemmas.{InTaken, lowest_left, next_part, next_smaller, taken_more}
 use Rattle.go_board.proofs.BackwardsLemmas.{backwards-put}

@@ -1,6 +1,6 @@
 use Rattle.std.proofs.Common.{slice_index, sym, true, ◌≡◌, ap, ◌∙◌, subst, arith, IsTrue}
 use Rattle.go_board.specs.inner.Rows.{has_bit, is_set}
-use Rattle.go_board.specs.inner.Sweep.{IsWithout}
+use Rattle.go_board.specs.inner.Groups.{IsWithout}
 use Rattle.go_board.proofs.SweepLemmas.{rows_more}
 use Rattle.go_board.proofs.past.captures.capture_rows.Goals as goal
 

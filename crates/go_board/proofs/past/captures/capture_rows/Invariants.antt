@@ -1,7 +1,7 @@
 use Rattle.std.proofs.Common.{ℕ, List}
 use Rattle.go_board.specs.declared.past.changes.Change.{Change}
 use Rattle.go_board.specs.Grid.{Grid}
-use Rattle.go_board.specs.inner.Sweep.{IsWithout}
+use Rattle.go_board.specs.inner.Groups.{IsWithout}
 use Rattle.go_board.specs.inner.Changes.{LeadBackwards}
 use Rattle.go_board.proofs.SweepLemmas.{InRowsBefore}
 use Rattle.go_board.proofs.past.captures.capture_rows.Given as goal

@@ -1,6 +1,6 @@
 use Rattle.std.proofs.Common.{sym, ◌∙◌}
 use Rattle.go_board.proofs.LinkedLemmas.{none_in_front}
-use Rattle.go_board.proofs.StoneGroupLemmas.{LosesDead-without}
+use Rattle.go_board.proofs.StoneGroupLemmas.{LosesShut-without}
 use Rattle.go_board.proofs.GroupLemmas.{stone_of≢Empty}
 use Rattle.go_board.proofs.past.captures.capture_searched.Goals as goal
 
@@ -11,5 +11,5 @@ pub returns-clause-taken : goal.returns-clause-taken
 returns-clause-taken n c = λ done.
     let g = c.args.board.now in
     let k = c.args.colour in
-    let dead = c.group_has_liberty.ensures.dead (λ free. stone_of≢Empty k (sym c.requires.stone ∙ free)) c.if-group_has_liberty.false in
-    LosesDead-without g c.capture_rows.new.board k c.group_has_liberty.new.group dead (c.capture_rows.ensures.gone done)
+    let shut = c.group_has_liberty.ensures.shut (λ free. stone_of≢Empty k (sym c.requires.stone ∙ free)) c.if-group_has_liberty.false in
+    LosesShut-without g c.capture_rows.new.board k c.group_has_liberty.new.group shut (c.capture_rows.ensures.gone done)

@@ -1,7 +1,7 @@
 use Rattle.std.proofs.Common.{◌≡◌, length, rules, sym, ap, ◌∙◌, subst, arith}
 use Rattle.go_board.specs.Colour.{opponent, stone_of}
 use Rattle.go_board.specs.Grid.{with_cell}
-use Rattle.go_board.specs.inner.Groups.{LosesDead, ReachBeside}
+use Rattle.go_board.specs.inner.Groups.{LosesShut, ReachBeside}
 use Rattle.go_board.proofs.MoveLemmas.{captured_is_play}
 use Rattle.go_board.proofs.BackwardsLemmas.{backwards-stone}
 use Rattle.go_board.proofs.past.captures.place_and_keep.Goals as goal
@@ -47,7 +47,7 @@ returns-clause-played c = λ done.
     let is : c.set.new.self ≡ with_cell g c.args.point (stone_of k) = c.set.ensures ∙ ap (with_cell g c.args.point) c.stone.ensures in
     let all = ap length (sym c.cells.ensures.cells) ∙ c.cells.ensures.all in
     captured_is_play g h c.capture_stone.new.board c.args.point k c.requires.on_board all c.requires.settled
-    (subst (λ x. LosesDead x h (opponent k)) is (subst (λ o. LosesDead c.set.new.self h o) c.opponent.ensures (c.capture_around.ensures.taken taken)))
+    (subst (λ x. LosesShut x h (opponent k)) is (subst (λ o. LosesShut c.set.new.self h o) c.opponent.ensures (c.capture_around.ensures.taken taken)))
     (subst (λ o. ReachBeside h o c.args.point) c.opponent.ensures (c.capture_around.ensures.beside taken))
     (c.capture_stone.ensures.taken own)
     (c.capture_stone.ensures.settled own)

@@ -5,7 +5,7 @@ use Rattle.go_board.specs.declared.stones.Cell.{Cell}
 use Rattle.go_board.specs.declared.stones.Cell.TheVariants.{Black}
 use Rattle.go_board.specs.declared.past.changes.Change.{Change}
 use Rattle.go_board.specs.Grid.{Grid}
-use Rattle.go_board.specs.inner.Changes.{after_changes, with_run, IsRunOn}
+use Rattle.go_board.specs.inner.Changes.{after_changes, with_change, IsChangeOn}
 use Rattle.go_board.proofs.ChangesLemmas.{after-push, after-length}
 use Rattle.go_board.proofs.past.cells.take_cells_back.Goals as goal
 
@@ -18,7 +18,7 @@ colour_cells-requires c =
     let first : Grid = record { side = c.args.size; cells = c.args.cells.now } in
     record {
       all = ap (λ (g : Grid). length g.cells) l.invariant ∙ after-length first (take l.change-index c.args.changes.now) ∙ c.requires.all;
-      on = All-get_or (IsRunOn c.args.size) c.args.changes.now l.change-index any c.loop-change-test.true c.requires.on;
+      on = All-get_or (IsChangeOn c.args.size) c.args.changes.now l.change-index any c.loop-change-test.true c.requires.on;
     }
 
 pub loop-change-preserved : goal.loop-change-preserved
@@ -27,6 +27,6 @@ loop-change-preserved c =
     let change = get_or c.args.changes.now l.change-index any in
     let first : Grid = record { side = c.args.size; cells = c.args.cells.now } in
     ap (λ (cells : List Cell). record { side = c.args.size; cells = cells }) c.colour_cells.ensures
-    ∙ ap (λ (g : Grid). with_run g change) l.invariant
+    ∙ ap (λ (g : Grid). with_change g change) l.invariant
     ∙ sym (after-push first (take l.change-index c.args.changes.now) change)
     ∙ ap (after_changes first) (sym (take_more c.args.changes.now l.change-index any c.loop-change-test.true))

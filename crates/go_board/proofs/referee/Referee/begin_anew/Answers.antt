@@ -2,7 +2,7 @@ use Rattle.std.proofs.Common.{◌≡◌, ◌++◌, [], ◌∷◌, true, fold, Is
 use Rattle.go_board.specs.Past.{newest_grid}
 use Rattle.go_board.specs.State.{States, with_area}
 use Rattle.go_board.proofs.AreaLemmas.{side-with_areas}
-use Rattle.go_board.proofs.EarlierLemmas.{IsKept-grown}
+use Rattle.go_board.proofs.EarlierLemmas.{IsRefereeKept-grown}
 use Rattle.go_board.proofs.referee.Referee.begin_anew.Goals as goal
 
 pub invariant_of-self-2 : goal.invariant_of-self-2
@@ -13,6 +13,6 @@ invariant_of-self-2 g c =
     let made = fold with_area (newest_grid held) c.args.ops.now in
     let now : g.P.Past.held c.try_setup.new.self ≡ record { colouring = made; begins = true } ∷ held = rw c.if-not-branch.false at c.in_ok-try_setup.ensures.ok in
     let items : c.push.new.self.items ≡ was.earlier.items ++ kept.result ∷ [] = search rules in
-    IsKept-grown held was.spare (IsTrue was.spare_is_current) was.player was.passes was.turns was.earlier.items c.self.invariant
+    IsRefereeKept-grown held was.spare (IsTrue was.spare_is_current) was.player was.passes was.turns was.earlier.items c.self.invariant
     kept.result (kept.ensures.turns ∙ sym (ap (λ (states : States). states.present.turns) c.self.view_is)) (kept.ensures.player ∙ sym (ap (λ (states : States). states.present.player) c.self.view_is)) (kept.ensures.passes ∙ sym (ap (λ (states : States). states.present.passes) c.self.view_is)) kept.ensures.grew
     (g.P.Past.held c.try_setup.new.self) made true c.args.player was.turns c.push.new.self.items now (side-with_areas (newest_grid held) c.args.ops.now) items (omega arith)

@@ -2,7 +2,7 @@ use Rattle.std.proofs.Common.{◌≡◌, ◌+◌, ◌++◌, [], ◌∷◌, false
 use Rattle.go_board.specs.Clearing.{play}
 use Rattle.go_board.specs.Past.{newest_grid}
 use Rattle.go_board.specs.State.{States}
-use Rattle.go_board.proofs.EarlierLemmas.{IsKept-grown}
+use Rattle.go_board.proofs.EarlierLemmas.{IsRefereeKept-grown}
 use Rattle.go_board.proofs.SettledLemmas.{side_play}
 use Rattle.go_board.proofs.TurnLemmas.{reason_of-new, on_err}
 use Rattle.go_board.proofs.referee.Referee.take_stone.Goals as goal
@@ -33,6 +33,6 @@ invariant_of-self-2 g c =
     let made = play (newest_grid held) c.args.colour c.args.point in
     let now : g.P.Past.held c.try_stone.new.self ≡ record { colouring = made; begins = false } ∷ held = rw c.if-not-branch.false at c.in_ok-try_stone.ensures.ok in
     let items : c.push.new.self.items ≡ was.earlier.items ++ kept.result ∷ [] = search rules in
-    IsKept-grown held was.spare (IsTrue was.spare_is_current) was.player was.passes was.turns was.earlier.items c.self.invariant
+    IsRefereeKept-grown held was.spare (IsTrue was.spare_is_current) was.player was.passes was.turns was.earlier.items c.self.invariant
     kept.result (kept.ensures.turns ∙ sym (ap (λ (states : States). states.present.turns) c.self.view_is)) (kept.ensures.player ∙ sym (ap (λ (states : States). states.present.player) c.self.view_is)) (kept.ensures.passes ∙ sym (ap (λ (states : States). states.present.passes) c.self.view_is)) kept.ensures.grew
     (g.P.Past.held c.try_stone.new.self) made false (Some c.opponent.result) (was.turns + 1) c.push.new.self.items now (side_play (newest_grid held) c.args.colour c.args.point) items (omega arith)

@@ -12,10 +12,10 @@ invariant_of-self-2 c =
     let h = c.place_on-placed.new.board in
     let new = c.place_on-placed.new.changes.items in
     let done = c.in-Some.ensures in
-    let kept : Older = record { since = was.since; changes = c.in-Some.changes; settled = c.is_settled-settled.result } in
+    let kept : Older = record { older_in_stretch = was.older_in_stretch; changes = c.in-Some.changes; settled = c.is_settled-settled.result } in
     let older : c.push.new.self.items ≡ was.older.items ++ kept ∷ [] = search rules in
-    let next : c.in-Ok.since ≡ was.since + 1 = c.in-Ok.ensures in
+    let next : c.in-Ok.older_in_stretch ≡ was.older_in_stretch + 1 = c.in-Ok.ensures in
     let side : h.side ≡ was.newest.side = ap (λ (g : Grid). g.side) done.there ∙ side_play was.newest c.args.colour c.args.point in
-    subst (λ os. IsPast h c.in-Ok.since os new) (sym older)
-    (past-more was.newest h was.since c.in-Ok.since was.older.items kept was.changes.items new (λ _. next) refl done.count done.back done.front c.self.invariant c.is_settled-settled.ensures
+    subst (λ os. IsPast h c.in-Ok.older_in_stretch os new) (sym older)
+    (past-more was.newest h was.older_in_stretch c.in-Ok.older_in_stretch was.older.items kept was.changes.items new (λ _. next) refl done.count done.back done.front c.self.invariant c.is_settled-settled.ensures
     (subst (λ n. AreOn n new) (sym side) done.on_grid))

@@ -12,10 +12,10 @@ invariant_of-self-2 c =
     let h = c.set_points.new.board in
     let new = c.set_points.new.changes.items in
     let done = c.set_points.ensures in
-    let kept : Older = record { since = was.since; changes = c.set_points.result; settled = c.is_settled-settled.result } in
+    let kept : Older = record { older_in_stretch = was.older_in_stretch; changes = c.set_points.result; settled = c.is_settled-settled.result } in
     let older : c.push.new.self.items ≡ was.older.items ++ kept ∷ [] = search rules in
     let side : h.side ≡ was.newest.side = ap (λ (g : Grid). g.side) done.there ∙ side-with_areas was.newest c.args.ops.now in
     subst (λ os. IsPast c.prepare.new.self 0 os new) (sym older)
     (subst (λ g. IsPast g 0 (was.older.items ++ kept ∷ []) new) (sym c.prepare.ensures)
-    (past-more was.newest h was.since 0 was.older.items kept was.changes.items new (λ more. absurd (omega (arith, more))) refl done.count done.back (done.front ∙ c.in_ok-reserve-2.ensures.items) c.self.invariant c.is_settled-settled.ensures
+    (past-more was.newest h was.older_in_stretch 0 was.older.items kept was.changes.items new (λ more. absurd (omega (arith, more))) refl done.count done.back (done.front ∙ c.in_ok-reserve-2.ensures.items) c.self.invariant c.is_settled-settled.ensures
     (subst (λ n. AreOn n new) (sym side) done.on_grid)))
