@@ -3,7 +3,6 @@ use Rattle.std.proofs.Common.{◌≡◌, ℕ, ◌+◌, ◌-◌, ◌≤◌, List,
 use Rattle.std.proofs.lemmas.List.{drop-drop}
 use Rattle.std.proofs.lemmas.List.Elements.{All-push}
 use Rattle.sgf_tree.specs.RawValue.{IsValue}
-use Rattle.sgf_tree.specs.inner.NodeText.{ArePropertiesIn, IsNodeIn}
 use Rattle.sgf_tree.specs.inner.KeptEnds.{IsRawValueAt, IsKeptEnd, AreKeptEnds}
 use Rattle.sgf_tree.specs.declared.layout.LongValue.{LongValue}
 
@@ -28,10 +27,6 @@ module _ (t : List ℕ) (from : ℕ) where
   pub kept-drop : (ls : List LongValue) → from ≤ length t → AreKeptEnds t ls → AreKeptEnds (drop from t) ls
   kept-drop ls within kept i d lt at e =
       ends-drop at _ (kept i d lt (from + at) (omega (arith, e, length-drop from t)))
-
--- the properties of a node, and what is kept of them
-pub kept-properties : (s : List ℕ) (ls : List LongValue) → IsNodeIn s × AreKeptEnds s ls → ArePropertiesIn (drop 1 s) × AreKeptEnds (drop 1 s) ls
-kept-properties s ls (held, kept) = (held.properties, kept-drop s 1 ls (omega (arith, ap length held.begins)) kept)
 
 -- one more value
 pub kept-push : (t : List ℕ) (ls : List LongValue) (at end : ℕ) → AreKeptEnds t ls → at ≤ length t → IsRawValueAt t at end

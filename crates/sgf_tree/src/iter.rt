@@ -5,7 +5,7 @@ ghost use Rattle.std.specs.Prelude.{◌≡◌, ◌↔◌, ◌≤◌, ◌<◌, fa
 ghost use Rattle.sgf_tree.specs.Written.{IsWrittenFront};
 ghost use Rattle.sgf_tree.specs.Spelling.{is_white_space, is_upper};
 ghost use Rattle.sgf_tree.specs.inner.Progress.{IsSpan};
-ghost use Rattle.sgf_tree.specs.inner.NodeText.{properties_in, ArePropertiesIn, AreValuesWritten, IsPropertyWritten, ArePropertiesWritten, IsValueAt, IsValuesEnd, IsNoPropValue};
+ghost use Rattle.sgf_tree.specs.inner.NodeText.{properties_in, ArePropertiesIn, values_in, AreValuesIn, AreValuesWritten, IsPropertyWritten, ArePropertiesWritten, IsValueAt, IsValuesEnd, IsNoPropValue};
 ghost use Rattle.sgf_tree.specs.inner.KeptEnds.{AreKeptEnds};
 
 use crate::layout::LongValue;
@@ -42,6 +42,18 @@ impl<'a> Model for Properties<'a> {
 }
 
 impl<'a> Properties<'a> {
+    /// The properties that begin at `at` in a text, of whose long values that was kept.
+    #[inline(always)]
+    pub(crate) fn new(text: &'a [u8], at: usize, long: &'a Vec<LongValue>) -> Properties<'a>
+        requires within { at ≤ length text.now }
+        requires held { ArePropertiesIn (drop at text.now) }
+        requires kept { AreKeptEnds text.now long.now.items }
+        ensures { result ≡ properties_in (drop at text.now) }
+    {
+        let rest = rest_from(text, at);
+        Properties { rest, long }
+    }
+
     /// Whether none is left.
     pub(crate) fn is_empty(&self) -> bool
         ensures { IsTrue result ↔ self.now ≡ [] }
@@ -238,6 +250,18 @@ impl<'a> Model for Values<'a> {
 }
 
 impl<'a> Values<'a> {
+    /// The first raw value of a property, and those at the front of the text after it.
+    #[inline(always)]
+    pub(crate) fn new(first: &'a [u8], more: &'a [u8]) -> Values<'a>
+        requires { AreValuesIn more.now }
+        ensures { result ≡ first.now ∷ values_in more.now }
+    {
+        Values {
+            first: Some(first),
+            rest: more,
+        }
+    }
+
     /// Takes off the next raw value: the bytes between its `[` and its `]`, which are a part of the text that was read.
     /// None after the last one, again and again.
     pub fn next(&mut self) -> Option<&'a [u8]>
