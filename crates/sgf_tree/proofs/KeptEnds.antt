@@ -12,14 +12,14 @@ module _ (t : List ℕ) (from : ℕ) where
       let same : from + (at + bytes) ≡ from + at + bytes = omega arith in
       let count : from + at + bytes - (from + at) ≡ at + bytes - at = omega arith in
       let start = sym (drop-drop at from t) in
-      let left_after : drop (from + at + bytes) t ≡ drop (at + bytes) (drop from t) = ap (λ i. drop i t) (sym same) ∙ sym (drop-drop (at + bytes) from t) in
+      let rest : drop (from + at + bytes) t ≡ drop (at + bytes) (drop from t) = ap (λ i. drop i t) (sym same) ∙ sym (drop-drop (at + bytes) from t) in
       record {
         rises = omega arith;
         within = omega (arith, h.within, length-drop from t);
         bracket = get_or-drop from t (at + bytes) 0 ∙ ap (λ i. get_or t i 0) same ∙ h.bracket;
         spelled =
             subst (λ u. IsValue (take (at + bytes - at) u) u (drop (at + bytes) (drop from t))) start
-            (subst (IsValue (take (at + bytes - at) (drop (from + at) t)) (drop (from + at) t)) left_after
+            (subst (IsValue (take (at + bytes - at) (drop (from + at) t)) (drop (from + at) t)) rest
             (subst (λ n. IsValue (take n (drop (from + at) t)) (drop (from + at) t) (drop (from + at + bytes) t)) count h.spelled));
       }
 

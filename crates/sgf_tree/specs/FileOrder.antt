@@ -14,7 +14,7 @@ abbrev pub further_nodes : ℕ → List Node → List OrderedNode
 further_nodes last [] = []
 further_nodes last (node ∷ rest) = record { node = node; parent = Some last; opens = false } ∷ further_nodes (last + 1) rest
 
--- the nodes of games whose first node has that number and follows `parent`: a game's own nodes, those of the
+-- the nodes of games whose first node has the number `number` and follows `parent`: a game's own nodes, those of the
 -- games below its last own node, and those of the games after it
 abbrev pub nodes_from : ℕ → Option ℕ → Games → List OrderedNode
 nodes_from number parent no_games = []
@@ -38,27 +38,27 @@ place_at games number = option_map (λ ordered. ordered.node.place) (slice_get (
 abbrev pub parent_at : Games → ℕ → Option (Option ℕ)
 parent_at games number = option_map (λ ordered. ordered.parent) (slice_get (ordered_nodes games) number)
 
--- no node follows the node of that number on a line
+-- no node follows that node on a line
 abbrev pub IsLeaf : Games → ℕ → Type 0
 IsLeaf games number = (other : ℕ) → parent_at games other ≢ Some (Some number)
 
--- the number of the game, from 1, that has the node of that number
+-- the number of the game that has that node, from 1
 abbrev pub game_of : Games → ℕ → ℕ
 game_of no_games number = 0
 game_of (game first more below after) number =
     let size = 1 + length more + node_count below in
     if nat_lt number size then 1 else 1 + game_of after (number - size)
 
--- a number is this one, or that of a node below the node of this one
+-- a number is that of the node `number`, or of a node below it
 pub data IsAtOrBelow (games : Games) (number : ℕ) : ℕ → Type 0 where
   itself : IsAtOrBelow games number number
   below : {parent child : ℕ} → parent_at games child ≡ Some (Some parent) → IsAtOrBelow games number parent → IsAtOrBelow games number child
 
--- the greatest number among this one and those of the nodes below its node
+-- the greatest number of the node `number` and the nodes below it
 pub record IsLastBelow (games : Games) (number last : ℕ) : Type 0 where
   pub under : IsAtOrBelow games number last
   pub greatest : (other : ℕ) → IsAtOrBelow games number other → other ≤ last
 
 -- the places rise strictly in file order
 abbrev pub PlacesRise : Games → Type 0
-PlacesRise games = (i j p q : ℕ) → i < j → place_at games i ≡ Some p → place_at games j ≡ Some q → p < q
+PlacesRise games = (first second p q : ℕ) → first < second → place_at games first ≡ Some p → place_at games second ≡ Some q → p < q

@@ -33,7 +33,7 @@ abbrev pub open_nodes : Games → List OpenGame → List OrderedNode
 open_nodes closed [] = nodes_from 0 None closed
 open_nodes closed (g ∷ gs) = open_nodes closed gs ++ own_nodes (open_count closed gs) (tip closed gs) g
 
--- of each node in file order the last one below it, where the first one has that number
+-- of each node in file order the last one below it, where the first one has the number `number`
 abbrev pub lasts : ℕ → Games → List ℕ
 lasts number no_games = []
 lasts number (game first more below after) =
