@@ -42,7 +42,7 @@ impl<'a> Model for Properties<'a> {
 }
 
 impl<'a> Properties<'a> {
-    /// The properties that begin at `at` in a text, of whose long values that was kept.
+    /// The properties of a node, which begin at `at` in a text. `long` is what was kept of its long values.
     #[inline(always)]
     pub(crate) fn new(text: &'a [u8], at: usize, long: &'a Vec<LongValue>) -> Properties<'a>
         requires within { at ≤ length text.now }
