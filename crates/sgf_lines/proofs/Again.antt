@@ -3,7 +3,7 @@ use Rattle.std.proofs.Common.{◌≡◌, ◌≢◌, ℕ, ◌+◌, List, [], ◌�
 use Rattle.std.specs.List.{flat_map}
 use Rattle.sgf_tree.specs.Tree.{Property, Node, Games, no_games, game}
 use Rattle.sgf_tree.specs.RawValue.{IsValue, no_unit, plain, escaped}
-use Rattle.sgf_tree.specs.Spelling.{White, no_white, white, Letters, no_letter, upper, lower, IsPropValue, prop_value, ArePropValues, no_value, value, IsProperty, property, AreProperties, no_property, properties, IsNode, node, AreNodes, no_node, nodes, AreGames, no_game, games, no_mark, Spells, spells}
+use Rattle.sgf_tree.specs.Spelling.{WhiteSpace, no_white_space, white_space, Letters, no_letter, upper, lower, IsPropValue, prop_value, ArePropValues, no_value, value, IsProperty, property, AreProperties, no_property, properties, IsNode, node, AreNodes, no_node, nodes, AreGames, no_game, games, no_byte_order_mark, Spells, spells}
 use Rattle.sgf_lines.specs.Lines.{Line, through, node_lines, lines_of_game, lines_from, lines}
 use Rattle.sgf_lines.specs.Record.{value_text, property_text, node_text, sgf_record}
 use Rattle.sgf_lines.proofs.Lists.{Each, each_append, each_through}
@@ -22,7 +22,7 @@ value_again (escaped v) u = escaped (value_again v u)
 
 prop_value_again : {v s r : List ℕ} → IsPropValue v s r → (u : List ℕ) → IsPropValue v (value_text v ++ u) u
 prop_value_again {v} (prop_value w h) u =
-    let one : IsPropValue v (91 ∷ (v ++ (93 ∷ u))) u = prop_value no_white (value_again h (93 ∷ u)) in
+    let one : IsPropValue v (91 ∷ (v ++ (93 ∷ u))) u = prop_value no_white_space (value_again h (93 ∷ u)) in
     rw (append_assoc v (93 ∷ []) u) one
 
 prop_values_again : {vs : List (List ℕ)} {s r : List ℕ} → ArePropValues vs s r → (u : List ℕ) → ArePropValues vs (flat_map value_text vs ++ u) u
@@ -34,7 +34,7 @@ property_again : {p : Property} {s r : List ℕ} → IsProperty p s r → (u : L
 property_again (property {b = b} {name = name} {v = v} {vs = vs} w h l first more) u =
     let rest = flat_map value_text vs ++ u in
     let all : IsProperty (record { name = b ∷ name; first = v; more = vs }) (b ∷ (name ++ (value_text v ++ rest))) u =
-    property no_white h (letters_again l (value_text v ++ rest)) (prop_value_again first rest) (prop_values_again more u) in
+    property no_white_space h (letters_again l (value_text v ++ rest)) (prop_value_again first rest) (prop_values_again more u) in
     let inner : (value_text v ++ flat_map value_text vs) ++ u ≡ value_text v ++ rest = append_assoc (value_text v) (flat_map value_text vs) u in
     let outer : (name ++ (value_text v ++ flat_map value_text vs)) ++ u ≡ name ++ (value_text v ++ rest) =
     append_assoc name (value_text v ++ flat_map value_text vs) u ∙ ap (λ t. name ++ t) inner in
@@ -86,7 +86,7 @@ single_games at ((n ∷ ns) ∷ ls) =
 
 node_again : {whole : ℕ} (at : ℕ) (n : Node) (u : List ℕ) → IsSpelled n → at + length (node_text n ++ u) ≡ whole
     → IsNode whole (record { place = at; properties = n.properties }) (node_text n ++ u) u
-node_again at n u h e = node no_white e (properties_again h.2 u)
+node_again at n u h e = node no_white_space e (properties_again h.2 u)
 
 nodes_again : {whole : ℕ} (at : ℕ) (ns : List Node) (u : List ℕ) → Each IsSpelled ns → at + length (flat_map node_text ns ++ u) ≡ whole
     → AreNodes whole (all_moved at ns) (flat_map node_text ns ++ u) u
@@ -99,7 +99,7 @@ nodes_again {whole} at (n ∷ ns) u h e =
     rw joined (nodes (node_again at n rest h.0 here) (nodes_again (at + length (node_text n)) ns u h.1 (omega arith)))
 
 line_again : {whole : ℕ} (at : ℕ) (n : Node) (ns : List Node) (ls : List (List Node)) (u w : List ℕ) → Each IsSpelled (n ∷ ns)
-    → White w (sgf_record (n ∷ ns) ++ u) → at + length (sgf_record (n ∷ ns) ++ u) ≡ whole
+    → WhiteSpace w (sgf_record (n ∷ ns) ++ u) → at + length (sgf_record (n ∷ ns) ++ u) ≡ whole
     → AreGames whole (single_games (at + length (sgf_record (n ∷ ns))) ls) (10 ∷ u) (10 ∷ [])
     → AreGames whole (single_games at ((n ∷ ns) ∷ ls)) w (10 ∷ [])
 line_again {whole} at n ns ls u w h opens e others =
@@ -107,11 +107,11 @@ line_again {whole} at n ns ls u w h opens e others =
     let texts = flat_map node_text ns in
     let split : sgf_record (n ∷ ns) ++ u ≡ 40 ∷ (node_text n ++ (texts ++ tail)) =
     ap (λ t. 40 ∷ t) (append_assoc (node_text n ++ texts) (41 ∷ 10 ∷ []) u ∙ append_assoc (node_text n) texts tail) in
-    let game_kind : White w (40 ∷ (node_text n ++ (texts ++ tail))) = rw split at opens in
+    let game_kind : WhiteSpace w (40 ∷ (node_text n ++ (texts ++ tail))) = rw split at opens in
     let sizes : at + length (40 ∷ (node_text n ++ (texts ++ tail))) ≡ whole = ap (λ t. at + length t) (sym split) ∙ e in
     let sums = length-append (node_text n) (texts ++ tail) in
     games game_kind (node_again (at + 1) n (texts ++ tail) h.0 (omega arith))
-    (nodes_again (at + 1 + length (node_text n)) ns tail h.1 (omega arith)) no_game no_white others
+    (nodes_again (at + 1 + length (node_text n)) ns tail h.1 (omega arith)) no_game no_white_space others
 
 -- after a line feed, or at the beginning, records of lines spell their games
 lines_again : {whole : ℕ} (at : ℕ) (ls : List (List Node)) → Each IsSpelledLine ls → at + length (flat_map sgf_record ls) ≡ whole
@@ -121,7 +121,7 @@ lines_again at ([] ∷ ls) h e = absurd (h.0.0 refl)
 lines_again at ((n ∷ ns) ∷ ls) h e =
     let u = flat_map sgf_record ls in
     let sums = length-append (sgf_record (n ∷ ns)) u in
-    line_again at n ns ls u (10 ∷ (sgf_record (n ∷ ns) ++ u)) h.0.1 (white refl no_white) e
+    line_again at n ns ls u (10 ∷ (sgf_record (n ∷ ns) ++ u)) h.0.1 (white_space refl no_white_space) e
     (lines_again (at + length (sgf_record (n ∷ ns))) ls h.1 (omega arith))
 
 spells_again : (n : Node) (ns : List Node) (ls : List (List Node)) → Each IsSpelledLine ((n ∷ ns) ∷ ls)
@@ -129,8 +129,8 @@ spells_again : (n : Node) (ns : List Node) (ls : List (List Node)) → Each IsSp
 spells_again n ns ls h =
     let u = flat_map sgf_record ls in
     let sums = length-append (sgf_record (n ∷ ns)) u in
-    spells no_mark (line_again 0 n ns ls u (sgf_record (n ∷ ns) ++ u) h.0.1 no_white (omega arith)
-    (lines_again (0 + length (sgf_record (n ∷ ns))) ls h.1 (omega arith))) (white refl no_white)
+    spells no_byte_order_mark (line_again 0 n ns ls u (sgf_record (n ∷ ns) ++ u) h.0.1 no_white_space (omega arith)
+    (lines_again (0 + length (sgf_record (n ∷ ns))) ls h.1 (omega arith))) (white_space refl no_white_space)
 
 -- ---- Its records are the same.
 

@@ -3,7 +3,7 @@ use Rattle.std.proofs.Common.{◌≡◌, ◌≢◌, ℕ, ◌+◌, ◌<◌, ◌�
 use Rattle.std.proofs.lemmas.Bool.{cases_lt}
 use Rattle.std.proofs.lemmas.Option.{slice_get_within}
 use Rattle.sgf_tree.specs.Tree.{Games, node_count}
-use Rattle.sgf_tree.specs.FileOrder.{OrderedNode, ordered_nodes, place_at, IsLeaf, IsUnder, itself, below, IsLastBelow, PlacesRise}
+use Rattle.sgf_tree.specs.FileOrder.{OrderedNode, ordered_nodes, place_at, IsLeaf, IsAtOrBelow, itself, below, IsLastBelow, PlacesRise}
 use Rattle.sgf_lines.specs.inner.Seeking.{AllBefore, GoesOnFrom}
 use Rattle.sgf_lines.proofs.Parents.{node_within}
 use Rattle.sgf_lines.proofs.Standing.{length-nodes_from}
@@ -11,9 +11,9 @@ use Rattle.sgf_lines.proofs.Standing.{length-nodes_from}
 pub last_within : (c : Games) (node last : ℕ) → node < node_count c → IsLastBelow c node last → last < node_count c
 last_within c node last lt h = under h.under
   where
-    under : {j : ℕ} → IsUnder c node j → j < node_count c
+    under : {j : ℕ} → IsAtOrBelow c node j → j < node_count c
     under itself = lt
-    under (below {j = j} {k = k} e u) = node_within c k (Some j) e
+    under (below {parent = j} {child = k} e u) = node_within c k (Some j) e
 
 pub place_within : (c : Games) (i here : ℕ) → place_at c i ≡ Some here → i < node_count c
 place_within c i here e = omega (arith, ordered (slice_get (ordered_nodes c) i) i refl e, length-nodes_from 0 None c)

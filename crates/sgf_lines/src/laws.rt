@@ -3,7 +3,7 @@
 ghost use Rattle.std.specs.Prelude.{◌≡◌, ◌≤◌, ◌∷◌, ◌++◌, ◌+◌, ◌⊎◌, ℕ, Err, false, List, [], Some, map, length};
 ghost use Rattle.std.specs.List.{AllZip, flat_map};
 ghost use Rattle.std.specs.List.Sorted.{IsStrictlyIncreasing};
-ghost use Rattle.sgf_tree.specs.Appending.{raised, BeginsWithMark};
+ghost use Rattle.sgf_tree.specs.Appending.{raised, BeginsWithByteOrderMark};
 ghost use Rattle.sgf_tree.specs.Tree.{Games, game_count, node_count, joined};
 ghost use Rattle.sgf_tree.specs.Spelling.{Spells};
 ghost use Rattle.sgf_lines.specs.Lines.{Line, lines, place_of};
@@ -50,9 +50,9 @@ pub fn again()
 /// the length of t, and the numbers of its games by the number of t's.
 /// So a database that grows at its end leaves all earlier rows as they were.
 pub fn append()
-    ensures spelled { (c d : Games) (t u : List ℕ) → Spells c t → Spells d u → ¬ BeginsWithMark u
+    ensures spelled { (c d : Games) (t u : List ℕ) → Spells c t → Spells d u → ¬ BeginsWithByteOrderMark u
         → Spells (joined c (raised (length t) d)) (t ++ u) }
-    ensures rows { (c d : Games) (t u : List ℕ) → Spells c t → Spells d u → ¬ BeginsWithMark u
+    ensures rows { (c d : Games) (t u : List ℕ) → Spells c t → Spells d u → ¬ BeginsWithByteOrderMark u
         → flat_map (record_of list_form) (lines (joined c (raised (length t) d)))
         ≡ flat_map (record_of list_form) (lines c) ++ flat_map (raised_record (length t) (game_count c)) (lines d) }
 {

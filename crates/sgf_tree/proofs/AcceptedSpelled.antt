@@ -2,7 +2,7 @@
 use Rattle.std.proofs.Common.{◌≡◌, ℕ, ◌+◌, List, [], ◌∷◌, ◌++◌, length, Some, sym, subst, append-nil, arith}
 use Rattle.std.proofs.lemmas.Option.{none-some, same_Some, option_and_then_some}
 use Rattle.sgf_tree.specs.Tree.{Games, no_games, game}
-use Rattle.sgf_tree.specs.Spelling.{no_white, no_game, Spells, spells}
+use Rattle.sgf_tree.specs.Spelling.{no_white_space, no_game, Spells, spells}
 use Rattle.sgf_tree.specs.inner.Machine.{OpenGame, MachineState, start, after_game, whole_games, next_state, run, accepted, collection_of}
 use Rattle.sgf_tree.proofs.Transitions.{transition}
 use Rattle.sgf_tree.proofs.Completion.{followed-none, Rest, ends, Completes}
@@ -21,7 +21,7 @@ module _ (whole : ℕ) (c : Games) where
   -- no byte completes a state where a text may end
   whole-rest : (closed : Games) (unclosed : List OpenGame) → whole_games closed unclosed ≡ Some c → Rest whole c closed unclosed []
   whole-rest no_games unclosed e = absurd (none-some c e)
-  whole-rest (game f m b h) [] e = ends no_game no_white (rw (followed-none h) e)
+  whole-rest (game f m b h) [] e = ends no_game no_white_space (rw (followed-none h) e)
   whole-rest (game f m b h) (g ∷ gs) e = absurd (none-some c e)
 
   accepted-completes : (z : MachineState) → accepted z ≡ Some c → Completes whole c z []

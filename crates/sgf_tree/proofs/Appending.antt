@@ -2,14 +2,14 @@
 use Rattle.std.proofs.Common.{◌≡◌, ℕ, ◌+◌, List, ◌++◌, length, map, refl, sym, subst, arith, length-append}
 use Rattle.sgf_tree.specs.Tree.{Property, Node, Games, game, joined}
 use Rattle.sgf_tree.specs.RawValue.{IsValue, no_unit, plain, escaped}
-use Rattle.sgf_tree.specs.Spelling.{White, no_white, white, Letters, no_letter, upper, lower, IsPropValue, prop_value, ArePropValues, no_value, value, IsProperty, property, AreProperties, no_property, properties, IsNode, node, AreNodes, no_node, nodes, AreGames, no_game, games, Mark, no_mark, mark, Spells, spells}
-use Rattle.sgf_tree.specs.Appending.{raised_node, raised, BeginsWithMark}
+use Rattle.sgf_tree.specs.Spelling.{WhiteSpace, no_white_space, white_space, Letters, no_letter, upper, lower, IsPropValue, prop_value, ArePropValues, no_value, value, IsProperty, property, AreProperties, no_property, properties, IsNode, node, AreNodes, no_node, nodes, AreGames, no_game, games, ByteOrderMark, no_byte_order_mark, byte_order_mark, Spells, spells}
+use Rattle.sgf_tree.specs.Appending.{raised_node, raised, BeginsWithByteOrderMark}
 
 -- ---- with u after the text
 
-White-before : {s r : List ℕ} (u : List ℕ) → White s r → White (s ++ u) (r ++ u)
-White-before u no_white = no_white
-White-before u (white h w) = white h (White-before u w)
+WhiteSpace-before : {s r : List ℕ} (u : List ℕ) → WhiteSpace s r → WhiteSpace (s ++ u) (r ++ u)
+WhiteSpace-before u no_white_space = no_white_space
+WhiteSpace-before u (white_space h w) = white_space h (WhiteSpace-before u w)
 
 Letters-before : {name s r : List ℕ} (u : List ℕ) → Letters name s r → Letters name (s ++ u) (r ++ u)
 Letters-before u no_letter = no_letter
@@ -22,7 +22,7 @@ IsValue-before u (plain h k v) = plain h k (IsValue-before u v)
 IsValue-before u (escaped v) = escaped (IsValue-before u v)
 
 IsPropValue-before : {v s r : List ℕ} (u : List ℕ) → IsPropValue v s r → IsPropValue v (s ++ u) (r ++ u)
-IsPropValue-before u (prop_value w v) = prop_value (White-before u w) (IsValue-before u v)
+IsPropValue-before u (prop_value w v) = prop_value (WhiteSpace-before u w) (IsValue-before u v)
 
 ArePropValues-before : {vs : List (List ℕ)} {s r : List ℕ} (u : List ℕ) → ArePropValues vs s r → ArePropValues vs (s ++ u) (r ++ u)
 ArePropValues-before u no_value = no_value
@@ -30,7 +30,7 @@ ArePropValues-before u (value v vs) = value (IsPropValue-before u v) (ArePropVal
 
 IsProperty-before : {p : Property} {s r : List ℕ} (u : List ℕ) → IsProperty p s r → IsProperty p (s ++ u) (r ++ u)
 IsProperty-before u (property w h l v vs) =
-    property (White-before u w) h (Letters-before u l) (IsPropValue-before u v) (ArePropValues-before u vs)
+    property (WhiteSpace-before u w) h (Letters-before u l) (IsPropValue-before u v) (ArePropValues-before u vs)
 
 AreProperties-before : {ps : List Property} {s r : List ℕ} (u : List ℕ) → AreProperties ps s r → AreProperties ps (s ++ u) (r ++ u)
 AreProperties-before u no_property = no_property
@@ -38,7 +38,7 @@ AreProperties-before u (properties p ps) = properties (IsProperty-before u p) (A
 
 IsNode-before : {whole : ℕ} {n : Node} {s r : List ℕ} (u : List ℕ) → IsNode whole n s r → IsNode (whole + length u) n (s ++ u) (r ++ u)
 IsNode-before u (node {t = t} w e ps) =
-    node (White-before u w) (omega (arith, length-append t u)) (AreProperties-before u ps)
+    node (WhiteSpace-before u w) (omega (arith, length-append t u)) (AreProperties-before u ps)
 
 AreNodes-before : {whole : ℕ} {ns : List Node} {s r : List ℕ} (u : List ℕ) → AreNodes whole ns s r → AreNodes (whole + length u) ns (s ++ u) (r ++ u)
 AreNodes-before u no_node = no_node
@@ -47,11 +47,11 @@ AreNodes-before u (nodes n ns) = nodes (IsNode-before u n) (AreNodes-before u ns
 AreGames-before : {whole : ℕ} {g : Games} {s r : List ℕ} (u : List ℕ) → AreGames whole g s r → AreGames (whole + length u) g (s ++ u) (r ++ u)
 AreGames-before u no_game = no_game
 AreGames-before u (games w n ns g v h) =
-    games (White-before u w) (IsNode-before u n) (AreNodes-before u ns) (AreGames-before u g) (White-before u v) (AreGames-before u h)
+    games (WhiteSpace-before u w) (IsNode-before u n) (AreNodes-before u ns) (AreGames-before u g) (WhiteSpace-before u v) (AreGames-before u h)
 
-Mark-before : {s r : List ℕ} (u : List ℕ) → Mark s r → Mark (s ++ u) (r ++ u)
-Mark-before u no_mark = no_mark
-Mark-before u mark = mark
+ByteOrderMark-before : {s r : List ℕ} (u : List ℕ) → ByteOrderMark s r → ByteOrderMark (s ++ u) (r ++ u)
+ByteOrderMark-before u no_byte_order_mark = no_byte_order_mark
+ByteOrderMark-before u byte_order_mark = byte_order_mark
 
 -- ---- `by` bytes further on
 
@@ -69,24 +69,24 @@ AreGames-raised by (games w n ns g v h) =
 
 -- ---- one after the other
 
-White-joined : {s t r : List ℕ} → White s t → White t r → White s r
-White-joined no_white v = v
-White-joined (white h w) v = white h (White-joined w v)
+WhiteSpace-joined : {s t r : List ℕ} → WhiteSpace s t → WhiteSpace t r → WhiteSpace s r
+WhiteSpace-joined no_white_space v = v
+WhiteSpace-joined (white_space h w) v = white_space h (WhiteSpace-joined w v)
 
 AreGames-joined : {whole : ℕ} {g h : Games} {s t r : List ℕ} → AreGames whole g s t → AreGames whole h t r → AreGames whole (joined g h) s r
 AreGames-joined no_game k = k
 AreGames-joined (games w n ns g v h) k = games w n ns g v (AreGames-joined h k)
 
 -- white space may stand before a game
-AreGames-after_white : {whole : ℕ} {first : Node} {more : List Node} {below after : Games} {s t r : List ℕ} → White s t
+AreGames-after_white : {whole : ℕ} {first : Node} {more : List Node} {below after : Games} {s t r : List ℕ} → WhiteSpace s t
     → AreGames whole (game first more below after) t r
     → AreGames whole (game first more below after) s r
-AreGames-after_white w (games v n ns g x h) = games (White-joined w v) n ns g x h
+AreGames-after_white w (games v n ns g x h) = games (WhiteSpace-joined w v) n ns g x h
 
-pub Spells-append : (c d : Games) (t u : List ℕ) → Spells c t → Spells d u → ¬ BeginsWithMark u → Spells (joined c (raised (length t) d)) (t ++ u)
-Spells-append c d t u (spells m g w) (spells mark h v) unmarked = absurd (unmarked refl)
-Spells-append c d t u (spells {first} {more} {below} {after} {s = s} {r = r} m g w) (spells {first = first'} {more = more'} {below = below'} {after = after'} {r = r'} no_mark h v) unmarked =
+pub Spells-append : (c d : Games) (t u : List ℕ) → Spells c t → Spells d u → ¬ BeginsWithByteOrderMark u → Spells (joined c (raised (length t) d)) (t ++ u)
+Spells-append c d t u (spells m g w) (spells byte_order_mark h v) unmarked = absurd (unmarked refl)
+Spells-append c d t u (spells {first} {more} {below} {after} {s = s} {r = r} m g w) (spells {first = first'} {more = more'} {below = below'} {after = after'} {r = r'} no_byte_order_mark h v) unmarked =
     let whole : length t + length u ≡ length (t ++ u) = sym (length-append t u) in
-    let later = AreGames-after_white (White-before u w) (AreGames-raised (length t) h) in
+    let later = AreGames-after_white (WhiteSpace-before u w) (AreGames-raised (length t) h) in
     let both = AreGames-joined (AreGames-before u g) later in
-    spells (Mark-before u m) (subst (λ n. AreGames n (joined c (raised (length t) d)) (s ++ u) r') whole both) v
+    spells (ByteOrderMark-before u m) (subst (λ n. AreGames n (joined c (raised (length t) d)) (s ++ u) r') whole both) v

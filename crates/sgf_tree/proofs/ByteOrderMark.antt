@@ -2,7 +2,7 @@
 use Rattle.std.proofs.Common.{◌≡◌, ◌≢◌, ℕ, ◌+◌, ◌<◌, ◌≤◌, inl, inr, true, List, [], length, get_or, Some, None, refl, sym, subst, ◌∙◌, arith, ne_eqb}
 use Rattle.std.proofs.lemmas.Bool.{cases_lt}
 use Rattle.sgf_tree.specs.Tree.{no_games}
-use Rattle.sgf_tree.specs.Spelling.{is_white}
+use Rattle.sgf_tree.specs.Spelling.{is_white_space}
 use Rattle.sgf_tree.specs.inner.Machine.{Stack, MachineState, start, first_of_mark, second_of_mark, after_game, between_games, next_state, accepted}
 use Rattle.sgf_tree.specs.Refusal.{IsFaultyAt}
 use Rattle.sgf_tree.specs.inner.Progress.{ComesTo, IsSpan}
@@ -53,7 +53,7 @@ second-unaccepted : accepted second_of_mark ≡ None
 unfolding accepted
 second-unaccepted = refl
 
-between-white : (b : ℕ) → is_white b ≡ true → between_games nothing b ≡ Some (after_game nothing)
+between-white : (b : ℕ) → is_white_space b ≡ true → between_games nothing b ≡ Some (after_game nothing)
 between-white b h = rw h
 
 module _ (t : List ℕ) where
@@ -105,7 +105,7 @@ module _ (t : List ℕ) where
       part-faulty 2 second_of_mark (omega arith) (second-reached lt e f) second-unaccepted (λ h. second-refused 2 (get_or t 2 0) (other h))
 
   -- the white space before the first game
-  pub games-begin : (mark at : ℕ) → IsMarkRead t mark → IsSpan is_white t mark at → StandsBetween t at nothing
+  pub games-begin : (mark at : ℕ) → IsMarkRead t mark → IsSpan is_white_space t mark at → StandsBetween t at nothing
   games-begin mark at read white =
       let low : mark ≤ at = white.rises in
       elim (cases_lt mark at) [
@@ -118,7 +118,7 @@ module _ (t : List ℕ) where
               reached = run-white t (mark + 1) at (after_game nothing) (stays-after_game nothing) (omega arith) white.within (λ i lo hi. white.passing i (omega arith) hi) first;
               next = λ _. game-next at nothing (get_or t at 0);
               end = refl;
-              not_white = white.stops;
+              not_white_space = white.stops;
             }
         | inr ge ↦
             let same : mark ≡ at = omega arith in
@@ -128,6 +128,6 @@ module _ (t : List ℕ) where
               next =
                   subst (λ i. i < length t → next_state i read.state (get_or t i 0) ≡ between_games nothing (get_or t i 0)) same read.next;
               end = read.end;
-              not_white = white.stops;
+              not_white_space = white.stops;
             }
       ]

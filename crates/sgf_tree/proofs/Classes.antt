@@ -2,9 +2,9 @@
 use Rattle.std.proofs.Common.{◌≡◌, ◌≢◌, ℕ, ◌≤◌, Bool, true, false, ◌==◌, nat_le, ◌<◌, IsTrue, arith, refl, leb-true, eqb-true}
 use Rattle.std.proofs.lemmas.Bool.{and_parts, or_cases}
 use Rattle.std.proofs.lemmas.Bool.Decides.{nat_tests}
-use Rattle.sgf_tree.specs.Spelling.{is_white, is_upper, is_lower}
+use Rattle.sgf_tree.specs.Spelling.{is_white_space, is_upper, is_lower}
 
-pub white-range : (b : ℕ) → IsTrue (is_white b) → b ≤ 32
+pub white-range : (b : ℕ) → IsTrue (is_white_space b) → b ≤ 32
 white-range b h = grind (arith, nat_tests, or_cases)
 
 pub upper-range : (b : ℕ) → IsTrue (is_upper b) → (65 ≤ b) × (b ≤ 90)
@@ -17,13 +17,13 @@ pub fails : (x : Bool) → (x ≡ true → ⊥) → x ≡ false
 fails true h = absurd (h refl)
 fails false h = refl
 
-pub upper-not_white : (b : ℕ) → IsTrue (is_upper b) → is_white b ≡ false
-upper-not_white b h = fails (is_white b) (λ w. let u = upper-range b h in let v = white-range b w in omega arith)
+pub upper-not_white_space : (b : ℕ) → IsTrue (is_upper b) → is_white_space b ≡ false
+upper-not_white_space b h = fails (is_white_space b) (λ w. let u = upper-range b h in let v = white-range b w in omega arith)
 
-pub white-not_upper : (b : ℕ) → IsTrue (is_white b) → is_upper b ≡ false
+pub white-not_upper : (b : ℕ) → IsTrue (is_white_space b) → is_upper b ≡ false
 white-not_upper b h = fails (is_upper b) (λ w. let u = upper-range b w in let v = white-range b h in omega arith)
 
-pub white-not_lower : (b : ℕ) → IsTrue (is_white b) → is_lower b ≡ false
+pub white-not_lower : (b : ℕ) → IsTrue (is_white_space b) → is_lower b ≡ false
 white-not_lower b h = fails (is_lower b) (λ w. let u = lower-range b w in let v = white-range b h in omega arith)
 
 pub lower-not_upper : (b : ℕ) → IsTrue (is_lower b) → is_upper b ≡ false
@@ -33,14 +33,14 @@ pub upper-not_bracket : (b : ℕ) → IsTrue (is_upper b) → b == 91 ≡ false
 upper-not_bracket b h = fails (b == 91) (λ e. let u = upper-range b h in let v = eqb-true b 91 e in omega arith)
 
 -- the bytes between a space and the capitals
-pub between-not_white : (b : ℕ) → 32 < b → is_white b ≡ false
-between-not_white b above = fails (is_white b) (λ w. let v = white-range b w in omega arith)
+pub between-not_white_space : (b : ℕ) → 32 < b → is_white_space b ≡ false
+between-not_white_space b above = fails (is_white_space b) (λ w. let v = white-range b w in omega arith)
 
 pub between-not_upper : (b : ℕ) → b < 65 → is_upper b ≡ false
 between-not_upper b below = fails (is_upper b) (λ w. let u = upper-range b w in omega arith)
 
-pub white-not_mark : (b : ℕ) → IsTrue (is_white b) → b == 239 ≡ false
+pub white-not_mark : (b : ℕ) → IsTrue (is_white_space b) → b == 239 ≡ false
 white-not_mark b h = fails (b == 239) (λ e. let u = white-range b h in let v = eqb-true b 239 e in omega arith)
 
-pub white-not_bracket : (b : ℕ) → IsTrue (is_white b) → b ≢ 91
+pub white-not_bracket : (b : ℕ) → IsTrue (is_white_space b) → b ≢ 91
 white-not_bracket b h e = let u = white-range b h in omega arith

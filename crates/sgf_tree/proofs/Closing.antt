@@ -4,7 +4,7 @@ use Rattle.std.proofs.lemmas.Bool.{cases_lt}
 use Rattle.std.proofs.lemmas.List.{length-map, length-take-le, map-set, set-get_or, set_at, take_more}
 use Rattle.std.proofs.lemmas.Option.{slice_get-get_or}
 use Rattle.sgf_tree.specs.inner.Layout.{parent_by, opens_by}
-use Rattle.sgf_tree.specs.inner.GamesRead.{opens_at, IsOwnRun, without_last, ClosesRun}
+use Rattle.sgf_tree.specs.inner.GamesRead.{opens_at, AreOwnNodes, without_last, ClosesGame}
 use Rattle.sgf_tree.specs.declared.layout.Link.{Link}
 use Rattle.sgf_tree.specs.declared.layout.NodeEntry.{NodeEntry}
 
@@ -57,7 +57,7 @@ module _ (old new : List NodeEntry) (tip : ℕ) where
       }
 
   -- the own nodes begin at a node that a `(` opens
-  pub run-begins : (first at : ℕ) → IsOwnRun old first tip → first ≤ at → at ≤ tip → opens_at old at ≡ Some true → first ≡ at
+  pub run-begins : (first at : ℕ) → AreOwnNodes old first tip → first ≤ at → at ≤ tip → opens_at old at ≡ Some true → first ≡ at
   run-begins first at run low high opens =
       elim (cases_lt first at) [
         | inl lt ↦ let h : Some false ≡ Some true = sym (run.goes_on at lt high) ∙ opens in absurd (cc)
@@ -65,7 +65,7 @@ module _ (old new : List NodeEntry) (tip : ℕ) where
       ]
 
   -- and not at another
-  pub run-before : (first at : ℕ) → IsOwnRun old first tip → first ≤ at → opens_at old at ≡ Some false → first < at
+  pub run-before : (first at : ℕ) → AreOwnNodes old first tip → first ≤ at → opens_at old at ≡ Some false → first < at
   run-before first at run low opens =
       elim (cases_lt first at) [
         | inl lt ↦ lt
@@ -87,8 +87,8 @@ parent-link old new tip from at x l m lt e f =
     ∙ ap (λ k. Some (parent_by k at)) (sym (lasts-link old new tip from at x m) ∙ ap (λ (n : NodeEntry). n.link) (sym e) ∙ f)
 
 -- the game is closed once its first node got it
-pub lasts-closed : (old new : List NodeEntry) (tip first at : ℕ) (parent : Option ℕ) → IsOwnRun old first tip → first ≤ at → at ≤ tip → opens_at old at ≡ Some true
-    → GetLasts old new tip at → option_map (λ (n : NodeEntry). parent_by n.link at) (slice_get old at) ≡ Some parent → ClosesRun old new first tip parent
+pub lasts-closed : (old new : List NodeEntry) (tip first at : ℕ) (parent : Option ℕ) → AreOwnNodes old first tip → first ≤ at → at ≤ tip → opens_at old at ≡ Some true
+    → GetLasts old new tip at → option_map (λ (n : NodeEntry). parent_by n.link at) (slice_get old at) ≡ Some parent → ClosesGame old new first tip parent
 lasts-closed old new tip first at parent run low high opens m p =
     let same : first ≡ at = run-begins old new tip first at run low high opens in
-    subst (λ i. ClosesRun old new i tip parent) (sym same) (record { same = m.same; lasts_are = m.lasts_are; parent_is = p })
+    subst (λ i. ClosesGame old new i tip parent) (sym same) (record { same = m.same; lasts_are = m.lasts_are; parent_is = p })

@@ -3,7 +3,7 @@ use Rattle.std.proofs.Common.{◌≡◌, ℕ, ◌+◌, ◌<◌, Bool, false, tru
 use Rattle.std.proofs.lemmas.List.Elements.{All-nil, All-cons}
 use Rattle.std.proofs.lemmas.Option.{none-some, same_Some, option_and_then_some}
 use Rattle.sgf_tree.specs.Tree.{Property, Node, Games, no_games, game}
-use Rattle.sgf_tree.specs.Spelling.{no_white, no_game}
+use Rattle.sgf_tree.specs.Spelling.{no_white_space, no_game}
 use Rattle.sgf_tree.specs.inner.Machine.{OpenGame, Stack, Started, MachineState, start, first_of_mark, second_of_mark, opened, in_node, in_name, after_name, in_value, after_escape, after_value, after_game, joined, property_of, with_property, add_node, new_game, ended, close_in, whole_games, next_state, run}
 use Rattle.sgf_tree.proofs.Transitions.{Between, white_between, opens_game, closes_game, AfterNode, next_node, opens_below, closes_nodes, no_stack, IsTransition, mark_first, mark_second, mark_third, at_start, at_game, white_opened, first_node, white_node, first_name, ends_bare, upper_name, lower_name, white_name, first_value, white_after_name, later_value, ends_value, escapes, plain_byte, escaped_byte, white_value, next_value, next_name, ends_node, transition}
 use Rattle.sgf_tree.proofs.Completion.{followed-none, closed-in, Rest, ends, closes, In_node, Completes}
@@ -114,7 +114,7 @@ whole-some (game f n i h) g m b = refl
 no-more : (whole : ℕ) (closed : Games) (f : Node) (m : List Node) (b : Games)
     → Rest whole (joined closed (game f m b no_games)) (joined closed (game f m b no_games)) [] []
 no-more whole closed f m b =
-    ends no_game no_white (rw (followed-none (joined closed (game f m b no_games))) (whole-some closed f m b))
+    ends no_game no_white_space (rw (followed-none (joined closed (game f m b no_games))) (whole-some closed f m b))
 
 close-all : (whole : ℕ) (gs : List OpenGame) (closed : Games) (g : OpenGame)
     → (c : Games) × Rest whole c closed (g ∷ gs) (41 ∷ brackets gs)
@@ -122,12 +122,12 @@ unfolding brackets
 close-all whole [] closed g =
     let below : Games = joined g.below no_games in (
       joined closed (game g.first g.more below no_games),
-      closes no_game no_white (no-more whole closed g.first g.more below),
+      closes no_game no_white_space (no-more whole closed g.first g.more below),
     )
 close-all whole (h ∷ gs) closed g =
     let below : Games = joined h.below (game g.first g.more (joined g.below no_games) no_games) in
     let (c, r) = close-all whole gs closed (record { first = h.first; more = h.more; below = below }) in
-    (c, closes no_game no_white r)
+    (c, closes no_game no_white_space r)
 
 -- where a game is open, the brackets that close it and those around it complete a node
 close-node : (whole : ℕ) (n : Started) (g : OpenGame) (gs : List OpenGame) → (ended n).unclosed ≡ g ∷ gs
@@ -166,14 +166,14 @@ complete-opened k =
       λ whole at e.
           let n : Started = record { stack = k; opens = true; place = at; properties = [] } in
           let (c, h) = close-node whole n (new_game (record { place = at; properties = [] })) k.unclosed refl in
-          (c, (at, t, no_white, e, h)),
+          (c, (at, t, no_white_space, e, h)),
     )
 
 complete-game : (closed : Games) (gs : List OpenGame) → Completable (after_game (record { closed = closed; unclosed = gs }))
 complete-game no_games [] =
     via (after_game no_stack) 40 (opened no_stack) (lit< tt) (λ at. at_game opens_game) (complete-opened no_stack)
 complete-game (game f m b h) [] =
-    ([], All-nil (λ b. b < 256), λ whole at _. (game f m b h, ends no_game no_white (rw (followed-none h) refl)))
+    ([], All-nil (λ b. b < 256), λ whole at _. (game f m b h, ends no_game no_white_space (rw (followed-none h) refl)))
 complete-game closed (g ∷ gs) = (
   41 ∷ brackets gs,
   All-cons (λ b. b < 256) 41 (brackets gs) (lit< tt) (brackets-bytes gs),

@@ -2,7 +2,7 @@
 use Rattle.std.proofs.Common.{◌≡◌, ℕ, ◌+◌, true, List, [], ◌∷◌, ◌++◌, length, Some, refl, ap, append_assoc, append-nil}
 use Rattle.sgf_tree.specs.Tree.{Property, Node, Games, no_games, game}
 use Rattle.sgf_tree.specs.RawValue.{IsValue}
-use Rattle.sgf_tree.specs.Spelling.{White, Letters, ArePropValues, AreProperties, AreNodes, AreGames, Mark}
+use Rattle.sgf_tree.specs.Spelling.{WhiteSpace, Letters, ArePropValues, AreProperties, AreNodes, AreGames, ByteOrderMark}
 use Rattle.sgf_tree.specs.inner.Machine.{OpenGame, Stack, Started, MachineState, start, first_of_mark, second_of_mark, opened, in_node, in_name, after_name, in_value, after_escape, after_value, after_game, joined, property_of, with_property, add_node, ended, whole_game, close_in, whole_games}
 
 -- games at the end of the innermost open game, or of all
@@ -47,9 +47,9 @@ with_properties n ps = record { stack = n.stack; opens = n.opens; place = n.plac
 
 -- after a game, or after the nodes of one: games, and the ends of the open ones
 pub data Rest (whole : ℕ) (c : Games) : Games → List OpenGame → List ℕ → Type 0 where
-  ends : {closed others : Games} {t r : List ℕ} → AreGames whole others t r → White r []
+  ends : {closed others : Games} {t r : List ℕ} → AreGames whole others t r → WhiteSpace r []
       → whole_games (joined closed others) [] ≡ Some c → Rest whole c closed [] t
-  closes : {closed below : Games} {g : OpenGame} {gs : List OpenGame} {t r x : List ℕ} → AreGames whole below t r → White r (41 ∷ x)
+  closes : {closed below : Games} {g : OpenGame} {gs : List OpenGame} {t r x : List ℕ} → AreGames whole below t r → WhiteSpace r (41 ∷ x)
       → Rest whole c (add_games closed gs (game g.first g.more (joined g.below below) no_games)).closed
       (add_games closed gs (game g.first g.more (joined g.below below) no_games)).unclosed x
       → Rest whole c closed (g ∷ gs) t
@@ -67,7 +67,7 @@ module _ (whole : ℕ) (c : Games) where
 
   abbrev pub Opened : Stack → List ℕ → Type 0
   Opened k t =
-      (place : ℕ) × (u : List ℕ) × White t (59 ∷ u) × (place + length (59 ∷ u) ≡ whole)
+      (place : ℕ) × (u : List ℕ) × WhiteSpace t (59 ∷ u) × (place + length (59 ∷ u) ≡ whole)
       × In_node (record { stack = k; opens = true; place = place; properties = [] }) u
 
   abbrev pub After_value : Started → Property → List ℕ → Type 0
@@ -78,14 +78,14 @@ module _ (whole : ℕ) (c : Games) where
       (v u : List ℕ) × IsValue v t (93 ∷ u) × After_value n (property_of name before (value ++ v)) u
 
   abbrev pub After_name : Started → List ℕ → List ℕ → Type 0
-  After_name n name t = (u : List ℕ) × White t (91 ∷ u) × In_value n name [] [] u
+  After_name n name t = (u : List ℕ) × WhiteSpace t (91 ∷ u) × In_value n name [] [] u
 
   abbrev pub In_name : Started → List ℕ → List ℕ → Type 0
   In_name n name t = (more u : List ℕ) × Letters more t u × After_name n (name ++ more) u
 
   -- the text completes the state
   abbrev pub Completes : MachineState → List ℕ → Type 0
-  Completes start t = (s : List ℕ) × Mark t s × Rest whole c no_games [] s
+  Completes start t = (s : List ℕ) × ByteOrderMark t s × Rest whole c no_games [] s
   Completes first_of_mark t = (s : List ℕ) × (t ≡ 187 ∷ 191 ∷ s) × Rest whole c no_games [] s
   Completes second_of_mark t = (s : List ℕ) × (t ≡ 191 ∷ s) × Rest whole c no_games [] s
   Completes (opened k) t = Opened k t

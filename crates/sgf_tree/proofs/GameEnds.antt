@@ -7,7 +7,7 @@ use Rattle.sgf_tree.specs.Tree.{Games, no_games, game, joined, game_count, node_
 use Rattle.sgf_tree.specs.FileOrder.{game_of}
 use Rattle.sgf_tree.specs.inner.Machine.{OpenGame, whole_game}
 use Rattle.sgf_tree.specs.inner.Layout.{outline, outline_by, outlines_by}
-use Rattle.sgf_tree.specs.inner.GamesRead.{open_count, lasts, open_lasts, IsRootOf, HoldStack, without_last, ClosesRun}
+use Rattle.sgf_tree.specs.inner.GamesRead.{open_count, lasts, open_lasts, IsRootOf, HoldStack, without_last, ClosesGame}
 use Rattle.sgf_tree.specs.declared.layout.NodeEntry.{NodeEntry}
 use Rattle.sgf_tree.proofs.Completion.{add_games}
 use Rattle.sgf_tree.proofs.Closing.{last_of, get_or-map}
@@ -74,7 +74,7 @@ lasts-got closed g gs numbers count is counts =
 module _ (t : List ℕ) (closed : Games) (g : OpenGame) (gs : List OpenGame) where
   -- the vectors hold the stack in which the game has ended
   pub game-closed : (ns ns' : List NodeEntry) (parent : Option ℕ)
-      → HoldStack t (record { closed = closed; unclosed = g ∷ gs }) ns → ClosesRun ns ns' (open_count closed gs) (open_count closed gs + length g.more) parent
+      → HoldStack t (record { closed = closed; unclosed = g ∷ gs }) ns → ClosesGame ns ns' (open_count closed gs) (open_count closed gs + length g.more) parent
       → HoldStack t (add_games closed gs (whole_game g)) ns'
   game-closed ns ns' parent held closes =
       record {

@@ -3,11 +3,11 @@ use Rattle.std.proofs.Common.{◌≡◌, ◌≢◌, ℕ, ◌+◌, ◌-◌, ◌<�
 use Rattle.std.proofs.lemmas.Bool.{false≢true, true≢false}
 use Rattle.std.proofs.lemmas.List.{length-map}
 use Rattle.sgf_tree.specs.Tree.{Games, no_games, game, game_count, node_count}
-use Rattle.sgf_tree.specs.Spelling.{is_white}
+use Rattle.sgf_tree.specs.Spelling.{is_white_space}
 use Rattle.sgf_tree.specs.inner.Machine.{OpenGame, Stack, opened, after_game, between_games, close_in, whole_game, next_state, accepted}
 use Rattle.sgf_tree.specs.Refusal.{IsFaultyAt}
 use Rattle.sgf_tree.specs.inner.Progress.{ComesTo, IsSpan}
-use Rattle.sgf_tree.specs.inner.GamesRead.{open_count, tip, HoldStack, IsOpening, StandsBetween, IsSequenceRead, IsOwnRun, without_last, ClosesRun, IsRead}
+use Rattle.sgf_tree.specs.inner.GamesRead.{open_count, tip, HoldStack, IsOpening, StandsBetween, IsSequenceRead, AreOwnNodes, without_last, ClosesGame, IsRead}
 use Rattle.sgf_tree.specs.declared.layout.Link.TheVariants.{Root}
 use Rattle.sgf_tree.specs.declared.layout.NodeEntry.{NodeEntry}
 use Rattle.sgf_tree.proofs.Completion.{add_games, closed-in}
@@ -35,7 +35,7 @@ some-accepted no_games h = absurd (omega arith)
 some-accepted (game first more below after) h = refl
 
 -- a byte that is no `(` and no `)`
-between-refused : (k : Stack) (b : ℕ) → is_white b ≡ false → b ≢ 40 → b ≢ 41 → between_games k b ≡ None
+between-refused : (k : Stack) (b : ℕ) → is_white_space b ≡ false → b ≢ 40 → b ≢ 41 → between_games k b ≡ None
 between-refused k b white ne40 ne41 = rw (white, ne_eqb b 40 ne40, ne_eqb b 41 ne41)
 
 -- a `)` with no game open
@@ -92,7 +92,7 @@ module _ (t : List ℕ) where
     -- another byte
     pub games-faulty : at < length t → get_or t at 0 ≢ 40 → get_or t at 0 ≢ 41 → IsFaultyAt t at
     games-faulty lt ne40 ne41 =
-        refused-faulty t at so_far.stands.state lt so_far.stands.reached (so_far.stands.next lt ∙ between-refused so_far.stack (get_or t at 0) (so_far.stands.not_white lt) ne40 ne41)
+        refused-faulty t at so_far.stands.state lt so_far.stands.reached (so_far.stands.next lt ∙ between-refused so_far.stack (get_or t at 0) (so_far.stands.not_white_space lt) ne40 ne41)
 
     pub close-faulty : at < length t → get_or t at 0 ≡ 41 → last ≡ None → IsFaultyAt t at
     close-faulty lt e none =
@@ -148,20 +148,20 @@ module _ (t : List ℕ) where
         subst (λ gs. HoldStack t (record { closed = so_far.stack.closed; unclosed = gs }) ns) inmost.is so_far.held
 
     -- the own nodes of the innermost open game
-    pub close-own : IsOwnRun ns (open_count so_far.stack.closed inmost.outer) last
+    pub close-own : AreOwnNodes ns (open_count so_far.stack.closed inmost.outer) last
     close-own =
-        subst (IsOwnRun ns (open_count so_far.stack.closed inmost.outer)) inmost.last_is
+        subst (AreOwnNodes ns (open_count so_far.stack.closed inmost.outer)) inmost.last_is
         (own-run so_far.stack.closed inmost.inner inmost.outer ns held-inner.same_order)
 
     pub close-within : last < length ns
     close-within = omega (arith, inmost.last_is, nodes-held t at_inner ns held-inner)
 
-    closes : (ns' : List NodeEntry) (parent : Option ℕ) → ((first : ℕ) → IsOwnRun ns first last → ClosesRun ns ns' first last parent) → ClosesRun ns ns' (open_count so_far.stack.closed inmost.outer) (open_count so_far.stack.closed inmost.outer + length inmost.inner.more) parent
+    closes : (ns' : List NodeEntry) (parent : Option ℕ) → ((first : ℕ) → AreOwnNodes ns first last → ClosesGame ns ns' first last parent) → ClosesGame ns ns' (open_count so_far.stack.closed inmost.outer) (open_count so_far.stack.closed inmost.outer + length inmost.inner.more) parent
     closes ns' parent h =
-        subst (λ l. ClosesRun ns ns' (open_count so_far.stack.closed inmost.outer) l parent) (sym inmost.last_is) (h (open_count so_far.stack.closed inmost.outer) close-own)
+        subst (λ l. ClosesGame ns ns' (open_count so_far.stack.closed inmost.outer) l parent) (sym inmost.last_is) (h (open_count so_far.stack.closed inmost.outer) close-own)
 
     -- as many nodes as before
-    pub close-count : (ns' : List NodeEntry) (parent : Option ℕ) → ((first : ℕ) → IsOwnRun ns first last → ClosesRun ns ns' first last parent) → length ns' ≡ length ns
+    pub close-count : (ns' : List NodeEntry) (parent : Option ℕ) → ((first : ℕ) → AreOwnNodes ns first last → ClosesGame ns ns' first last parent) → length ns' ≡ length ns
     close-count ns' parent h =
         sym (length-map ns' without_last) ∙ ap length (closes ns' parent h).same ∙ length-map ns without_last
 
@@ -169,7 +169,7 @@ module _ (t : List ℕ) where
     closed_stack = add_games so_far.stack.closed inmost.outer (whole_game inmost.inner)
 
     pub games-close : (next games' : ℕ) (ns' : List NodeEntry) (parent : Option ℕ) → at < length t → get_or t at 0 ≡ 41
-        → ((first : ℕ) → IsOwnRun ns first last → ClosesRun ns ns' first last parent) → IsSpan is_white t (at + 1) next
+        → ((first : ℕ) → AreOwnNodes ns first last → ClosesGame ns ns' first last parent) → IsSpan is_white_space t (at + 1) next
         → (is_some parent ≡ false → games' ≡ games + 1) → (is_some parent ≡ true → games' ≡ games)
         → GamesSoFar next games' parent ns'
     games-close next games' ns' parent lt e h white if_none if_some =
@@ -185,7 +185,7 @@ module _ (t : List ℕ) where
             reached = run-white t (at + 1) next (after_game closed_stack) (stays-after_game closed_stack) white.rises white.within white.passing (run-take-step t at so_far.stands.state (after_game closed_stack) so_far.stands.reached lt step_is);
             next = λ _. game-next next closed_stack (get_or t next 0);
             end = refl;
-            not_white = white.stops;
+            not_white_space = white.stops;
           };
           held = game-closed t so_far.stack.closed inmost.inner inmost.outer ns ns' parent held-inner done;
           tip_is = tip-closed so_far.stack.closed inmost.inner inmost.outer ∙ up;

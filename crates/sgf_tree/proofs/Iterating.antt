@@ -5,10 +5,10 @@ use Rattle.std.proofs.Math.Seq.{drop-cons}
 use Rattle.std.proofs.lemmas.List.{drop-drop, drop_all}
 use Rattle.sgf_tree.specs.Tree.{Property}
 use Rattle.sgf_tree.specs.RawValue.{IsValue}
-use Rattle.sgf_tree.specs.Spelling.{is_white, is_upper, White, no_white, white, IsPropValue, prop_value, ArePropValues, no_value, value, property, AreProperties, no_property, properties}
-use Rattle.sgf_tree.specs.inner.NodeText.{is_letter, left_after, front, values_in, property_from, name_in, properties_in, EndsValues, EndsNode, AreValuesIn, ArePropertiesIn, IsNoPropValue, IsPastValues, IsPropertyHeld}
+use Rattle.sgf_tree.specs.Spelling.{is_white_space, is_upper, WhiteSpace, no_white_space, white_space, IsPropValue, prop_value, ArePropValues, no_value, value, property, AreProperties, no_property, properties}
+use Rattle.sgf_tree.specs.inner.NodeText.{is_letter, left_after, front, values_in, property_from, name_in, properties_in, NoValueFollows, NoPropertyFollows, AreValuesIn, ArePropertiesIn, IsNoPropValue, IsPastValues}
 use Rattle.sgf_tree.specs.inner.Progress.{IsSpan, SpellsValue, SpellsNoValue}
-use Rattle.sgf_tree.proofs.Classes.{upper-not_white}
+use Rattle.sgf_tree.proofs.Classes.{upper-not_white_space}
 use Rattle.sgf_tree.proofs.NodeTexts.{white-same, white-none, prop-same, ends-value, past-same, white-left, values-in, ends-values, property-is, properties-in, count-values, count-properties}
 
 module _ (test : ℕ → Bool) where
@@ -47,43 +47,43 @@ module _ (test : ℕ → Bool) where
             ap test (get_or-drop k s (e - k) 0 ∙ ap (λ i. get_or s i 0) at) ∙ run.stops (omega (arith, run.within));
       }
 
-white-join : {s t u : List ℕ} → White s t → White t u → White s u
-white-join no_white v = v
-white-join (white h w) v = white h (white-join w v)
+white-join : {s t u : List ℕ} → WhiteSpace s t → WhiteSpace t u → WhiteSpace s u
+white-join no_white_space v = v
+white-join (white_space h w) v = white_space h (white-join w v)
 
 -- the byte at an offset, and what is after it
 pub byte-at : (s : List ℕ) (k : ℕ) → k < length s → drop k s ≡ get_or s k 0 ∷ drop (k + 1) s
 byte-at s k lt = rw (add-one, drop-cons s k 0)
 
-module _ (s : List ℕ) (k : ℕ) (run : IsSpan is_white s 0 k) where
-  white-run : White s (drop k s)
-  white-run = subst (White s) (run-front is_white s k run).1 (white-left s)
+module _ (s : List ℕ) (k : ℕ) (run : IsSpan is_white_space s 0 k) where
+  white-run : WhiteSpace s (drop k s)
+  white-run = subst (WhiteSpace s) (run-front is_white_space s k run).1 (white-left s)
 
-  pub white-to : k < length s → White s (get_or s k 0 ∷ drop (k + 1) s)
-  white-to lt = subst (White s) (byte-at s k lt) white-run
+  pub white-to : k < length s → WhiteSpace s (get_or s k 0 ∷ drop (k + 1) s)
+  white-to lt = subst (WhiteSpace s) (byte-at s k lt) white-run
 
-  pub white-all : length s ≤ k → White s []
-  white-all le = subst (White s) (drop_all k s le) white-run
+  pub white-all : length s ≤ k → WhiteSpace s []
+  white-all le = subst (WhiteSpace s) (drop_all k s le) white-run
 
   -- no property there
   pub no-property : ArePropertiesIn s → (k < length s → is_upper (get_or s k 0) ≡ false) → properties_in s ≡ []
   no-property held other = none held.properties held.rest held.spelled held.ends
     where
-      none : (ps : List Property) (r : List ℕ) → AreProperties ps s r → EndsNode r → properties_in s ≡ []
+      none : (ps : List Property) (r : List ℕ) → AreProperties ps s r → NoPropertyFollows r → properties_in s ≡ []
       none [] r are ends = properties-in are ends
       none (p ∷ ps) r (properties (property {b} {t = t} w h l v vs) are) ends =
           elim (cases_lt k (length s)) [
             | inl lt ↦
-                let same : get_or s k 0 ≡ b = (white-same (white-to lt) w (run.stops lt) (upper-not_white b h)).0 in
+                let same : get_or s k 0 ≡ b = (white-same (white-to lt) w (run.stops lt) (upper-not_white_space b h)).0 in
                 absurd (false≢true (sym (other lt) ∙ ap is_upper same ∙ h))
-            | inr le ↦ absurd (white-none (white-all le) w (upper-not_white b h))
+            | inr le ↦ absurd (white-none (white-all le) w (upper-not_white_space b h))
           ]
 
   -- a property there
   pub some-property : ArePropertiesIn s → k < length s → IsTrue (is_upper (get_or s k 0)) → properties_in s ≢ []
   some-property held lt capital none = some held.properties held.rest held.spelled held.ends
     where
-      some : (ps : List Property) (r : List ℕ) → AreProperties ps s r → EndsNode r → ⊥
+      some : (ps : List Property) (r : List ℕ) → AreProperties ps s r → NoPropertyFollows r → ⊥
       some [] r no_property ends =
           false≢true (sym (ends (get_or s k 0) (drop (k + 1) s) (white-to lt)).1 ∙ capital)
       some (p ∷ ps) r are ends = let is = sym none ∙ properties-in are ends in absurd (cc)
@@ -92,23 +92,31 @@ module _ (s : List ℕ) (k : ℕ) (run : IsSpan is_white s 0 k) where
   pub past-white : ArePropertiesIn s → (properties_in s ≡ properties_in (drop k s)) × ArePropertiesIn (drop k s)
   past-white held = past held.properties held.rest held.spelled held.ends
     where
-      both : (ps : List Property) (r : List ℕ) → AreProperties ps s r → EndsNode r → AreProperties ps (drop k s) r → EndsNode r → (properties_in s ≡ properties_in (drop k s)) × ArePropertiesIn (drop k s)
+      both : (ps : List Property) (r : List ℕ) → AreProperties ps s r → NoPropertyFollows r → AreProperties ps (drop k s) r → NoPropertyFollows r → (properties_in s ≡ properties_in (drop k s)) × ArePropertiesIn (drop k s)
       both ps r are ends after ends_after =
           (properties-in are ends ∙ sym (properties-in after ends_after), record { properties = ps; rest = r; spelled = after; ends = ends_after })
 
-      past : (ps : List Property) (r : List ℕ) → AreProperties ps s r → EndsNode r → (properties_in s ≡ properties_in (drop k s)) × ArePropertiesIn (drop k s)
+      past : (ps : List Property) (r : List ℕ) → AreProperties ps s r → NoPropertyFollows r → (properties_in s ≡ properties_in (drop k s)) × ArePropertiesIn (drop k s)
       past [] r no_property ends =
-          let ends_after : EndsNode (drop k s) = λ b t w. ends b t (white-join white-run w) in
+          let ends_after : NoPropertyFollows (drop k s) = λ b t w. ends b t (white-join white-run w) in
           (properties-in no_property ends ∙ sym (properties-in no_property ends_after), record { properties = []; rest = drop k s; spelled = no_property; ends = ends_after })
       past (p ∷ ps) r (properties {t = m} (property {b} {t = t} w h l v vs) are) ends =
           elim (cases_lt k (length s)) [
             | inl lt ↦
-                let same = white-same (white-to lt) w (run.stops lt) (upper-not_white b h) in
+                let same = white-same (white-to lt) w (run.stops lt) (upper-not_white_space b h) in
                 let here : drop k s ≡ b ∷ t = byte-at s k lt ∙ ap (λ c. c ∷ drop (k + 1) s) same.0 ∙ ap (λ x. b ∷ x) same.1 in
-                let starts : White (drop k s) (b ∷ t) = subst (λ x. White x (b ∷ t)) (sym here) no_white in
+                let starts : WhiteSpace (drop k s) (b ∷ t) = subst (λ x. WhiteSpace x (b ∷ t)) (sym here) no_white_space in
                 both (p ∷ ps) r (properties (property w h l v vs) are) ends (properties (property starts h l v vs) are) ends
-            | inr le ↦ absurd (white-none (white-all le) w (upper-not_white b h))
+            | inr le ↦ absurd (white-none (white-all le) w (upper-not_white_space b h))
           ]
+
+  -- whole values stand in front, one at least
+  record IsPropertyHeld (u : List ℕ) : Type 0 where
+    pub first : List ℕ
+    pub more : List (List ℕ)
+    pub rest : List ℕ
+    pub spelled : ArePropValues (first ∷ more) u rest
+    pub ends : NoValueFollows rest
 
   -- a property there, whose identifier ends at `end`, and whose values r is left after
   record IsPropertyAt (end : ℕ) (r : List ℕ) : Type 0 where
@@ -120,11 +128,11 @@ module _ (s : List ℕ) (k : ℕ) (run : IsSpan is_white s 0 k) where
       → IsPropertyAt end r
   property-at end r held lt capital letters past = next held.properties held.rest held.spelled held.ends
     where
-      next : (ps : List Property) (q : List ℕ) → AreProperties ps s q → EndsNode q → IsPropertyAt end r
+      next : (ps : List Property) (q : List ℕ) → AreProperties ps s q → NoPropertyFollows q → IsPropertyAt end r
       next [] q no_property ends =
           absurd (false≢true (sym (ends (get_or s k 0) (drop (k + 1) s) (white-to lt)).1 ∙ capital))
       next (p ∷ ps) q (properties {t = m} (property {b} {name} {v} {t = t} {u} {vs = vs} w h l first more) are) ends =
-          let same = white-same (white-to lt) w (run.stops lt) (upper-not_white b h) in
+          let same = white-same (white-to lt) w (run.stops lt) (upper-not_white_space b h) in
           let here : drop k s ≡ b ∷ t = byte-at s k lt ∙ ap (λ c. c ∷ drop (k + 1) s) same.0 ∙ ap (λ x. b ∷ x) same.1 in
           let identifier = run-front is_letter (drop k s) (end - k) (run-drop is_letter s k end letters) in
           let parts = property-is {b = b} h l first more (ends-values are ends) in
@@ -149,22 +157,22 @@ module _ (s : List ℕ) (k : ℕ) (run : IsSpan is_white s 0 k) where
           }
 
 -- a value further on, after white space from one offset to another
-module _ (t : List ℕ) (from k : ℕ) (run : IsSpan is_white t from k) where
-  white-between : White (drop from t) (drop k t)
+module _ (t : List ℕ) (from k : ℕ) (run : IsSpan is_white_space t from k) where
+  white-between : WhiteSpace (drop from t) (drop k t)
   white-between =
       let rises : from ≤ k = run.rises in
       let e : from + (k - from) ≡ k = omega arith in
-      subst (White (drop from t)) (drop-drop (k - from) from t ∙ ap (λ i. drop i t) e) (white-run (drop from t) (k - from) (run-drop is_white t from k run))
+      subst (WhiteSpace (drop from t)) (drop-drop (k - from) from t ∙ ap (λ i. drop i t) e) (white-run (drop from t) (k - from) (run-drop is_white_space t from k run))
 
-  white-up-to : k < length t → White (drop from t) (get_or t k 0 ∷ drop (k + 1) t)
-  white-up-to lt = subst (White (drop from t)) (byte-at t k lt) white-between
+  white-up-to : k < length t → WhiteSpace (drop from t) (get_or t k 0 ∷ drop (k + 1) t)
+  white-up-to lt = subst (WhiteSpace (drop from t)) (byte-at t k lt) white-between
 
   -- no `[` there
   pub no-bracket : (k < length t → get_or t k 0 ≢ 91) → IsNoPropValue (drop from t)
   no-bracket other v r (prop_value {t = u} w h) =
       elim (cases_lt k (length t)) [
         | inl lt ↦ other lt (white-same (white-up-to lt) w (run.stops lt) refl).0
-        | inr le ↦ white-none (subst (White (drop from t)) (drop_all k t le) white-between) w refl
+        | inr le ↦ white-none (subst (WhiteSpace (drop from t)) (drop_all k t le) white-between) w refl
       ]
 
   pub no-end : k < length t → get_or t k 0 ≡ 91 → SpellsNoValue t (k + 1) → IsNoPropValue (drop from t)
@@ -175,7 +183,7 @@ module _ (t : List ℕ) (from k : ℕ) (run : IsSpan is_white t from k) where
   pub first-value : (end : ℕ) → k < length t → get_or t k 0 ≡ 91 → end < length t → get_or t end 0 ≡ 93 → SpellsValue t (k + 1) end
       → IsPropValue (slice_range t (k + 1) end) (drop from t) (drop (end + 1) t)
   first-value end lt e inside close spelled =
-      prop_value (subst (λ b. White (drop from t) (b ∷ drop (k + 1) t)) e (white-up-to lt))
+      prop_value (subst (λ b. WhiteSpace (drop from t) (b ∷ drop (k + 1) t)) e (white-up-to lt))
       (subst (λ b. IsValue (slice_range t (k + 1) end) (drop (k + 1) t) (b ∷ drop (end + 1) t)) close
       (subst (IsValue (slice_range t (k + 1) end) (drop (k + 1) t)) (byte-at t end inside) spelled))
 
@@ -187,14 +195,14 @@ values-more (value u us) h = value u (values-more us h)
 pub no-value : {s : List ℕ} → AreValuesIn s → IsNoPropValue s → values_in s ≡ []
 no-value {s} held none = no held.values held.rest held.spelled held.ends
   where
-    no : (vs : List (List ℕ)) (r : List ℕ) → ArePropValues vs s r → EndsValues r → values_in s ≡ []
+    no : (vs : List (List ℕ)) (r : List ℕ) → ArePropValues vs s r → NoValueFollows r → values_in s ≡ []
     no [] r are ends = values-in are ends
     no (v ∷ vs) r (value {t} first more) ends = absurd (none v t first)
 
 pub next-value : {v s r : List ℕ} → AreValuesIn s → IsPropValue v s r → (values_in s ≡ v ∷ values_in r) × AreValuesIn r
 next-value {v} {s} {r} held h = next held.values held.rest held.spelled held.ends
   where
-    next : (vs : List (List ℕ)) (q : List ℕ) → ArePropValues vs s q → EndsValues q → (values_in s ≡ v ∷ values_in r) × AreValuesIn r
+    next : (vs : List (List ℕ)) (q : List ℕ) → ArePropValues vs s q → NoValueFollows q → (values_in s ≡ v ∷ values_in r) × AreValuesIn r
     next [] q no_value ends = absurd (ends-value ends h)
     next (u ∷ us) q (value {t} first more) ends =
         let same = prop-same first h in
@@ -210,7 +218,7 @@ pub record IsNextProperty (s : List ℕ) (k end : ℕ) (v m r : List ℕ) : Type
   pub left : ArePropertiesIn r
   pub is : properties_in s ≡ record { name = name_in (slice_range s k end); first = v; more = values_in m } ∷ properties_in r
 
-module _ (s : List ℕ) (k : ℕ) (run : IsSpan is_white s 0 k) (held : ArePropertiesIn s) (lt : k < length s) (capital : IsTrue (is_upper (get_or s k 0))) (end : ℕ) (letters : IsSpan is_letter s k end) where
+module _ (s : List ℕ) (k : ℕ) (run : IsSpan is_white_space s 0 k) (held : ArePropertiesIn s) (lt : k < length s) (capital : IsTrue (is_upper (get_or s k 0))) (end : ℕ) (letters : IsSpan is_letter s k end) where
   -- it has one
   pub value-there : ¬ IsNoPropValue (drop end s)
   value-there none = there (property-at s k run end (drop end s) held lt capital letters (record { values = []; spelled = no_value; none_left = none })).held.spelled

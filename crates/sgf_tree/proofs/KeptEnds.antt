@@ -3,24 +3,23 @@ use Rattle.std.proofs.Common.{◌≡◌, ℕ, ◌+◌, ◌-◌, ◌≤◌, List,
 use Rattle.std.proofs.lemmas.List.{drop-drop}
 use Rattle.std.proofs.lemmas.List.Elements.{All-push}
 use Rattle.sgf_tree.specs.RawValue.{IsValue}
-use Rattle.sgf_tree.specs.inner.NodeText.{ArePropertiesIn, IsNodeIn}
-use Rattle.sgf_tree.specs.inner.KeptEnds.{EndsValue, IsKeptEnd, AreKeptEnds}
+use Rattle.sgf_tree.specs.inner.KeptEnds.{IsRawValueAt, IsKeptEnd, AreKeptEnds}
 use Rattle.sgf_tree.specs.declared.layout.LongValue.{LongValue}
 
 module _ (t : List ℕ) (from : ℕ) where
-  ends-drop : (at bytes : ℕ) → EndsValue t (from + at) (from + at + bytes) → EndsValue (drop from t) at (at + bytes)
+  ends-drop : (at bytes : ℕ) → IsRawValueAt t (from + at) (from + at + bytes) → IsRawValueAt (drop from t) at (at + bytes)
   ends-drop at bytes h =
       let same : from + (at + bytes) ≡ from + at + bytes = omega arith in
       let count : from + at + bytes - (from + at) ≡ at + bytes - at = omega arith in
       let start = sym (drop-drop at from t) in
-      let behind : drop (from + at + bytes) t ≡ drop (at + bytes) (drop from t) = ap (λ i. drop i t) (sym same) ∙ sym (drop-drop (at + bytes) from t) in
+      let rest : drop (from + at + bytes) t ≡ drop (at + bytes) (drop from t) = ap (λ i. drop i t) (sym same) ∙ sym (drop-drop (at + bytes) from t) in
       record {
         rises = omega arith;
         within = omega (arith, h.within, length-drop from t);
         bracket = get_or-drop from t (at + bytes) 0 ∙ ap (λ i. get_or t i 0) same ∙ h.bracket;
         spelled =
             subst (λ u. IsValue (take (at + bytes - at) u) u (drop (at + bytes) (drop from t))) start
-            (subst (IsValue (take (at + bytes - at) (drop (from + at) t)) (drop (from + at) t)) behind
+            (subst (IsValue (take (at + bytes - at) (drop (from + at) t)) (drop (from + at) t)) rest
             (subst (λ n. IsValue (take n (drop (from + at) t)) (drop (from + at) t) (drop (from + at + bytes) t)) count h.spelled));
       }
 
@@ -29,16 +28,12 @@ module _ (t : List ℕ) (from : ℕ) where
   kept-drop ls within kept i d lt at e =
       ends-drop at _ (kept i d lt (from + at) (omega (arith, e, length-drop from t)))
 
--- the properties of a node, and what is kept of them
-pub kept-properties : (s : List ℕ) (ls : List LongValue) → IsNodeIn s × AreKeptEnds s ls → ArePropertiesIn (drop 1 s) × AreKeptEnds (drop 1 s) ls
-kept-properties s ls (held, kept) = (held.properties, kept-drop s 1 ls (omega (arith, ap length held.begins)) kept)
-
 -- one more value
-pub kept-push : (t : List ℕ) (ls : List LongValue) (at end : ℕ) → AreKeptEnds t ls → at ≤ length t → EndsValue t at end
+pub kept-push : (t : List ℕ) (ls : List LongValue) (at end : ℕ) → AreKeptEnds t ls → at ≤ length t → IsRawValueAt t at end
     → AreKeptEnds t (ls ++ record { left = length t - at; bytes = end - at } ∷ [])
 kept-push t ls at end kept within h =
     All-push (IsKeptEnd t) ls (record { left = length t - at; bytes = end - at }) kept
     (λ other e.
     let same : at ≡ other = omega (arith, e) in
     let to : end ≡ other + (end - at) = omega (arith, h.rises, same) in
-    subst (λ i. EndsValue t i (other + (end - at))) same (subst (EndsValue t at) to h))
+    subst (λ i. IsRawValueAt t i (other + (end - at))) same (subst (IsRawValueAt t at) to h))

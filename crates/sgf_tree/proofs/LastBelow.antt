@@ -3,7 +3,7 @@ use Rattle.std.proofs.Common.{◌≡◌, ℕ, zero, suc, ◌+◌, ◌-◌, ◌<�
 use Rattle.std.proofs.lemmas.Bool.{cases_lt}
 use Rattle.std.proofs.lemmas.List.{length-replicate}
 use Rattle.sgf_tree.specs.Tree.{Node, Games, no_games, game, node_count}
-use Rattle.sgf_tree.specs.FileOrder.{OrderedNode, further_nodes, nodes_from, ordered_nodes, IsUnder, itself, below, IsLastBelow}
+use Rattle.sgf_tree.specs.FileOrder.{OrderedNode, further_nodes, nodes_from, ordered_nodes, IsAtOrBelow, itself, below, IsLastBelow}
 use Rattle.sgf_tree.specs.inner.GamesRead.{lasts}
 use Rattle.sgf_tree.proofs.OrderedNodes.{slice_get-left, slice_get-right, parent_in, parent_in-left, parent_in-right, parent_in-further, length-further_nodes, length-nodes_from, length-ordered_nodes, parent-within, parent_at-lt, parent_at-within}
 use Rattle.sgf_tree.proofs.Stacks.{length-lasts}
@@ -201,20 +201,20 @@ module _ (flat : List OrderedNode) where
       ]
 
 -- the nodes of a span are under the first one
-span-under : (c : Games) (n last : ℕ) → IsSpanBelow (ordered_nodes c) n last → (steps j : ℕ) → j ≤ n + steps → n ≤ j → j ≤ last → IsUnder c n j
-span-under c n last span zero j few lo hi = let same : n ≡ j = omega arith in subst (IsUnder c n) same itself
+span-under : (c : Games) (n last : ℕ) → IsSpanBelow (ordered_nodes c) n last → (steps j : ℕ) → j ≤ n + steps → n ≤ j → j ≤ last → IsAtOrBelow c n j
+span-under c n last span zero j few lo hi = let same : n ≡ j = omega arith in subst (IsAtOrBelow c n) same itself
 span-under c n last span (suc steps) j few lo hi =
     elim (cases_lt n j) [
       | inl lt ↦
           let up = span.inside j lt hi in
           below up.1 (span-under c n last span steps up.0 (omega (arith, up.3)) up.2 (omega (arith, up.3)))
-      | inr le ↦ let same : n ≡ j = omega arith in subst (IsUnder c n) same itself
+      | inr le ↦ let same : n ≡ j = omega arith in subst (IsAtOrBelow c n) same itself
     ]
 
 -- and no others are
-span-greatest : (c : Games) (n last j : ℕ) → IsSpanBelow (ordered_nodes c) n last → IsUnder c n j → (n ≤ j) × (j ≤ last)
+span-greatest : (c : Games) (n last j : ℕ) → IsSpanBelow (ordered_nodes c) n last → IsAtOrBelow c n j → (n ≤ j) × (j ≤ last)
 span-greatest c n last j span itself = (omega arith, span.rises)
-span-greatest c n last j span (below {j = q} h under) =
+span-greatest c n last j span (below {parent = q} h under) =
     let up = span-greatest c n last q span under in
     let lt : q < j = parent_at-lt c j q h in
     elim (cases_lt last j) [

@@ -1,13 +1,13 @@
 -- A leaf is the last node below itself.
 use Rattle.std.proofs.Common.{◌≡◌, ℕ, Some, refl, subst, arith}
 use Rattle.sgf_tree.specs.Tree.{Games}
-use Rattle.sgf_tree.specs.FileOrder.{parent_at, IsLeaf, IsUnder, itself, below, IsLastBelow}
+use Rattle.sgf_tree.specs.FileOrder.{parent_at, IsLeaf, IsAtOrBelow, itself, below, IsLastBelow}
 use Rattle.sgf_tree.proofs.OrderedNodes.{parent_at-lt}
 
 -- nothing is below a leaf
-under-leaf : (g : Games) (i k : ℕ) → IsLeaf g i → IsUnder g i k → k ≡ i
+under-leaf : (g : Games) (i k : ℕ) → IsLeaf g i → IsAtOrBelow g i k → k ≡ i
 under-leaf g i k leaf itself = refl
-under-leaf g i k leaf (below {j} p under) =
+under-leaf g i k leaf (below {parent = j} p under) =
     absurd (leaf k (subst (λ m. parent_at g k ≡ Some (Some m)) (under-leaf g i j leaf under) p))
 
 pub leaf-last : (g : Games) (i last : ℕ) → IsLastBelow g i last → IsLeaf g i → last ≡ i

@@ -4,27 +4,27 @@ use Rattle.std.specs.List.{flat_map}
 use Rattle.std.proofs.lemmas.Bool.{false≢true}
 use Rattle.sgf_tree.specs.Tree.{Property, lone_property}
 use Rattle.sgf_tree.specs.RawValue.{no_unit, plain}
-use Rattle.sgf_tree.specs.Spelling.{is_white, is_upper, no_white, no_letter, IsPropValue, prop_value, no_value, AreProperties, property, no_property, properties}
+use Rattle.sgf_tree.specs.Spelling.{is_white_space, is_upper, no_white_space, no_letter, IsPropValue, prop_value, no_value, AreProperties, property, no_property, properties}
 use Rattle.sgf_tree.specs.Written.{property_text}
-use Rattle.sgf_tree.specs.inner.NodeText.{is_letter, properties_in, EndsNode, ArePropertiesIn, IsPastValues}
+use Rattle.sgf_tree.specs.inner.NodeText.{is_letter, properties_in, NoPropertyFollows, ArePropertiesIn, IsPastValues}
 use Rattle.sgf_tree.specs.inner.Progress.{IsSpan, is_plain, IsNodeEnd, IsShortFront, IsLoneNode, IsFrontOfMore}
-use Rattle.sgf_tree.proofs.Classes.{fails, upper-range, upper-not_white, upper-not_bracket, white-not_bracket, white-not_upper}
+use Rattle.sgf_tree.proofs.Classes.{fails, upper-range, upper-not_white_space, upper-not_bracket, white-not_bracket, white-not_upper}
 use Rattle.sgf_tree.proofs.NodeTexts.{white-same, properties-in}
 use Rattle.sgf_tree.proofs.Iterating.{byte-at, run-drop, white-to, no-bracket, next-property}
 use Rattle.sgf_tree.proofs.ValueEnds.{plain-other}
 
 -- a node ends where a byte before the letters follows white space
-ends-node : (s : List ℕ) (k : ℕ) → IsNodeEnd s k → EndsNode (drop k s)
-ends-node s k end b t w = by_white (is_white b) refl
+ends-node : (s : List ℕ) (k : ℕ) → IsNodeEnd s k → NoPropertyFollows (drop k s)
+ends-node s k end b t w = by_white (is_white_space b) refl
   where
     e : ℕ
     e = end.next
 
-    run : IsSpan is_white s k e
-    run = end.white
+    run : IsSpan is_white_space s k e
+    run = end.white_space
 
-    run' : IsSpan is_white (drop k s) 0 (e - k)
-    run' = run-drop is_white s k e run
+    run' : IsSpan is_white_space (drop k s) 0 (e - k)
+    run' = run-drop is_white_space s k e run
 
     there : get_or (drop k s) (e - k) 0 ≡ get_or s e 0
     there =
@@ -35,7 +35,7 @@ ends-node s k end b t w = by_white (is_white b) refl
     inside : e - k < length (drop k s)
     inside = let rises : k ≤ e = run.rises in omega (arith, end.inside, length-drop k s)
 
-    by_white : (c : Bool) → is_white b ≡ c → (b ≢ 91) × (is_upper b ≡ false)
+    by_white : (c : Bool) → is_white_space b ≡ c → (b ≢ 91) × (is_upper b ≡ false)
     by_white true h = (white-not_bracket b h, white-not_upper b h)
     by_white false h =
         let same : b ≡ get_or (drop k s) (e - k) 0 = (white-same w (white-to (drop k s) (e - k) run' inside) h (run'.stops inside)).0 in
@@ -46,24 +46,24 @@ two-plain : (x y : ℕ) (r : List ℕ) → IsTrue (is_plain x) → IsTrue (is_pl
 two-plain x y r h k =
     let (p, q) = plain-other x h in
     let (u, v) = plain-other y k in
-    prop_value no_white (plain p q (plain u v no_unit))
+    prop_value no_white_space (plain p q (plain u v no_unit))
 
 -- the property in front, byte by byte
 module _ (b x y : ℕ) (upper : IsTrue (is_upper b)) (h : IsTrue (is_plain x)) (k : IsTrue (is_plain y)) where
   front-spelled : (ps : List Property) (t r : List ℕ) → AreProperties ps t r → AreProperties (lone_property b (x ∷ y ∷ []) ∷ ps) (b ∷ 91 ∷ x ∷ y ∷ 93 ∷ t) r
-  front-spelled ps t r are = properties (property no_white upper no_letter (two-plain x y t h k) no_value) are
+  front-spelled ps t r are = properties (property no_white_space upper no_letter (two-plain x y t h k) no_value) are
 
   -- another one after it
   front-left : (c : ℕ) (t : List ℕ) → IsTrue (is_upper c) → ArePropertiesIn (b ∷ 91 ∷ x ∷ y ∷ 93 ∷ c ∷ t) → ArePropertiesIn (c ∷ t)
   front-left c t next held =
       (next-property (b ∷ 91 ∷ x ∷ y ∷ 93 ∷ c ∷ t) 0 (no-span b (91 ∷ x ∷ y ∷ 93 ∷ c ∷ t) upper) held (omega arith) upper 1 letters (x ∷ y ∷ []) (c ∷ t) (c ∷ t) (two-plain x y (c ∷ t) h k) past).left
     where
-      no-span : (b : ℕ) (t : List ℕ) → IsTrue (is_upper b) → IsSpan is_white (b ∷ t) 0 0
+      no-span : (b : ℕ) (t : List ℕ) → IsTrue (is_upper b) → IsSpan is_white_space (b ∷ t) 0 0
       no-span b t upper = record {
         rises = omega arith;
         within = omega arith;
         passing = λ i low lt. absurd (omega arith);
-        stops = λ _. upper-not_white b upper;
+        stops = λ _. upper-not_white_space b upper;
       }
 
       letters : IsSpan is_letter (b ∷ 91 ∷ x ∷ y ∷ 93 ∷ c ∷ t) 0 1
@@ -113,7 +113,7 @@ module _ (s : List ℕ) (is : IsShortFront s) where
   second-plain = is.value.plain.passing 4 (omega arith) (omega arith)
 
   -- the properties of the node are that one, and those after it
-  front-of : (ps : List Property) (r : List ℕ) → AreProperties ps rest r → EndsNode r → properties_in (drop 1 s) ≡ lone_property letter value-of ∷ ps
+  front-of : (ps : List Property) (r : List ℕ) → AreProperties ps rest r → NoPropertyFollows r → properties_in (drop 1 s) ≡ lone_property letter value-of ∷ ps
   front-of ps r are ends =
       ap properties_in here ∙ properties-in (front-spelled letter (get_or s 3 0) (get_or s 4 0) is.capital first-plain second-plain ps rest r are) ends
 

@@ -3,7 +3,7 @@ use Rattle.std.proofs.Common.{◌≡◌, ◌≢◌, ℕ, ◌+◌, ◌-◌, ◌<�
 use Rattle.std.proofs.lemmas.Bool.{cases_lt, or_cases, or_parts, or_left, false≢true}
 use Rattle.std.proofs.lemmas.List.{take_more}
 use Rattle.std.proofs.lemmas.List.Elements.{filter-append}
-use Rattle.sgf_tree.specs.Spelling.{is_white, is_upper, is_lower}
+use Rattle.sgf_tree.specs.Spelling.{is_white_space, is_upper, is_lower}
 use Rattle.sgf_tree.specs.inner.Machine.{Started, MachineState, in_name, after_name, in_value, next_state, accepted}
 use Rattle.sgf_tree.specs.Refusal.{IsFaultyAt}
 use Rattle.sgf_tree.specs.inner.NodeText.{is_letter, name_in}
@@ -56,7 +56,7 @@ pub record StandsAfterName (t : List ℕ) (at : ℕ) (n : Started) (name : List 
   pub refused : at < length t → get_or t at 0 ≢ 91 → next_state at state (get_or t at 0) ≡ None
   pub unaccepted : accepted state ≡ None
 
-name-white : (at : ℕ) (n : Started) (name : List ℕ) (b : ℕ) → IsTrue (is_white b) → next_state at (in_name n name) b ≡ Some (after_name n name)
+name-white : (at : ℕ) (n : Started) (name : List ℕ) (b : ℕ) → IsTrue (is_white_space b) → next_state at (in_name n name) b ≡ Some (after_name n name)
 unfolding next_state
 name-white at n name b h = rw (white-not_upper b h, white-not_lower b h, h)
 
@@ -64,7 +64,7 @@ name-bracket : (at : ℕ) (n : Started) (name : List ℕ) → next_state at (in_
 unfolding next_state
 name-bracket at n name = refl
 
-name-refused : (at : ℕ) (n : Started) (name : List ℕ) (b : ℕ) → is_letter b ≡ false → is_white b ≡ false → b ≢ 91 → next_state at (in_name n name) b ≡ None
+name-refused : (at : ℕ) (n : Started) (name : List ℕ) (b : ℕ) → is_letter b ≡ false → is_white_space b ≡ false → b ≢ 91 → next_state at (in_name n name) b ≡ None
 unfolding next_state
 name-refused at n name b letter white ne =
     let parts = or_parts (is_upper b) (is_lower b) letter in rw (parts.0, parts.1, white, ne_eqb b 91 ne)
@@ -77,7 +77,7 @@ after-bracket : (at : ℕ) (n : Started) (name : List ℕ) → next_state at (af
 unfolding next_state
 after-bracket at n name = refl
 
-after-refused : (at : ℕ) (n : Started) (name : List ℕ) (b : ℕ) → is_white b ≡ false → b ≢ 91 → next_state at (after_name n name) b ≡ None
+after-refused : (at : ℕ) (n : Started) (name : List ℕ) (b : ℕ) → is_white_space b ≡ false → b ≢ 91 → next_state at (after_name n name) b ≡ None
 unfolding next_state
 after-refused at n name b white ne = rw (white, ne_eqb b 91 ne)
 
@@ -85,7 +85,7 @@ after-unaccepted : (n : Started) (name : List ℕ) → accepted (after_name n na
 unfolding accepted
 after-unaccepted n name = refl
 
-pub name-after : (t : List ℕ) (start end at : ℕ) (n : Started) (name : List ℕ) → IsSpan is_letter t start end → IsSpan is_white t end at
+pub name-after : (t : List ℕ) (start end at : ℕ) (n : Started) (name : List ℕ) → IsSpan is_letter t start end → IsSpan is_white_space t end at
     → ComesTo t end (in_name n name) → StandsAfterName t at n name
 name-after t start end at n name letters white h =
     let low : end ≤ at = white.rises in

@@ -1,11 +1,11 @@
 -- How the properties of a node are read, one after another.
 use Rattle.std.proofs.Common.{◌≡◌, ◌≢◌, ℕ, ◌+◌, ◌<◌, ◌≤◌, false, IsTrue, List, [], ◌∷◌, ◌++◌, length, get_or, Option, Some, None, refl, ap, subst, ◌∙◌, arith, ne_eqb}
 use Rattle.sgf_tree.specs.Tree.{Property}
-use Rattle.sgf_tree.specs.Spelling.{is_white, is_upper}
+use Rattle.sgf_tree.specs.Spelling.{is_white_space, is_upper}
 use Rattle.sgf_tree.specs.inner.Machine.{Started, MachineState, in_node, in_name, after_value, after_node, with_property, ended, next_state, accepted}
 use Rattle.sgf_tree.specs.inner.Progress.{ComesTo, IsSpan}
 use Rattle.sgf_tree.specs.inner.PropertiesRead.{IsPropertyRead, StandsAfterNode, with_properties, ArePropertiesRead}
-use Rattle.sgf_tree.proofs.Classes.{between-not_white, between-not_upper, upper-not_white, upper-not_bracket}
+use Rattle.sgf_tree.proofs.Classes.{between-not_white_space, between-not_upper, upper-not_white_space, upper-not_bracket}
 use Rattle.sgf_tree.proofs.Run.{run-take-step}
 use Rattle.sgf_tree.proofs.Skipping.{stays-in_node}
 use Rattle.sgf_tree.proofs.Spans.{run-white}
@@ -28,11 +28,11 @@ NoBracket (Some p) b = b ≢ 91
 -- an upper-case letter begins the next property
 name-begins : (at : ℕ) (done : Started) (last : Option Property) (b : ℕ) → IsTrue (is_upper b) → next_state at (state_of done last) b ≡ Some (in_name (finished done last) (b ∷ []))
 unfolding next_state
-name-begins at done None b h = rw (upper-not_white b h, h)
-name-begins at done (Some p) b h = rw (upper-not_white b h, upper-not_bracket b h, h)
+name-begins at done None b h = rw (upper-not_white_space b h, h)
+name-begins at done (Some p) b h = rw (upper-not_white_space b h, upper-not_bracket b h, h)
 
 -- another byte ends the node
-node-ends : (at : ℕ) (done : Started) (last : Option Property) (b : ℕ) → is_white b ≡ false → is_upper b ≡ false → NoBracket last b → next_state at (state_of done last) b ≡ after_node at (ended (finished done last)) b
+node-ends : (at : ℕ) (done : Started) (last : Option Property) (b : ℕ) → is_white_space b ≡ false → is_upper b ≡ false → NoBracket last b → next_state at (state_of done last) b ≡ after_node at (ended (finished done last)) b
 unfolding next_state
 node-ends at done None b white upper other = rw (white, upper)
 node-ends at done (Some p) b white upper other = rw (white, ne_eqb b 91 other, upper)
@@ -51,7 +51,7 @@ module _ (t : List ℕ) where
     pub whole_is : finished done last ≡ whole
     pub other : at < length t → NoBracket last (get_or t at 0)
 
-  pub node-done : (at : ℕ) (whole : Started) → StandsInNode at whole → (at < length t → is_white (get_or t at 0) ≡ false) → (at < length t → is_upper (get_or t at 0) ≡ false) → StandsAfterNode t at whole
+  pub node-done : (at : ℕ) (whole : Started) → StandsInNode at whole → (at < length t → is_white_space (get_or t at 0) ≡ false) → (at < length t → is_upper (get_or t at 0) ≡ false) → StandsAfterNode t at whole
   node-done at whole stands white upper =
       record {
         state = state_of stands.done stands.last;
@@ -69,15 +69,15 @@ module _ (t : List ℕ) where
   pub record PropertiesSoFar (at end : ℕ) : Type 0 where
     pub rises : at ≤ end
     pub within : end ≤ length t
-    pub not_white : end < length t → is_white (get_or t end 0) ≡ false
+    pub not_white_space : end < length t → is_white_space (get_or t end 0) ≡ false
     pub reached : (n : Started) → n.properties ≡ [] → ComesTo t at (in_node n) → (ps : List Property) × StandsInNode end (with_properties n ps)
 
-  pub properties-begin : (at end : ℕ) → IsSpan is_white t at end → PropertiesSoFar at end
+  pub properties-begin : (at end : ℕ) → IsSpan is_white_space t at end → PropertiesSoFar at end
   properties-begin at end white =
       record {
         rises = white.rises;
         within = white.within;
-        not_white = white.stops;
+        not_white_space = white.stops;
         reached = λ n none h. (
           [],
           record {
@@ -96,7 +96,7 @@ module _ (t : List ℕ) where
       record {
         rises = omega (arith, so_far.rises, read.rises);
         within = read.within;
-        not_white = λ lt'. (read.stops lt').0;
+        not_white_space = λ lt'. (read.stops lt').0;
         reached = λ n none h.
             let before = so_far.reached n none h in
             let whole : Started = with_properties n before.0 in
@@ -117,17 +117,17 @@ module _ (t : List ℕ) where
       record {
         rises = so_far.rises;
         within = so_far.within;
-        not_white = so_far.not_white;
-        reached = λ n none h. let before = so_far.reached n none h in (before.0, node-done end (with_properties n before.0) before.1 so_far.not_white upper);
+        not_white_space = so_far.not_white_space;
+        reached = λ n none h. let before = so_far.reached n none h in (before.0, node-done end (with_properties n before.0) before.1 so_far.not_white_space upper);
       }
 
   -- a byte that is neither white space nor a capital ends a node at once
   pub properties-none : (at : ℕ) → at < length t → 32 < get_or t at 0 → get_or t at 0 < 65 → ArePropertiesRead t at at
   properties-none at lt above below =
-      let nothing : IsSpan is_white t at at = record {
+      let nothing : IsSpan is_white_space t at at = record {
         rises = omega arith;
         within = omega arith;
         passing = λ i low high. absurd (omega arith);
-        stops = λ lt'. between-not_white (get_or t at 0) above;
+        stops = λ lt'. between-not_white_space (get_or t at 0) above;
       } in
       properties-done at at (properties-begin at at nothing) (λ lt'. between-not_upper (get_or t at 0) below)

@@ -3,24 +3,24 @@ use Rattle.std.proofs.Common.{◌≡◌, ℕ, zero, suc, ◌+◌, ◌<◌, ◌�
 use Rattle.std.proofs.lemmas.Bool.{false≢true}
 use Rattle.sgf_tree.specs.Tree.{Property}
 use Rattle.sgf_tree.specs.RawValue.{IsValue, no_unit, plain, escaped}
-use Rattle.sgf_tree.specs.Spelling.{is_white, is_upper, is_lower, White, no_white, white, Letters, no_letter, upper, lower, IsPropValue, prop_value, ArePropValues, no_value, value, IsProperty, property, AreProperties, no_property, properties}
-use Rattle.sgf_tree.specs.inner.NodeText.{is_letter, left_after, front, raw_value, after_value, by_front, values_up_to, after_values_up_to, values_in, property_from, name_in, properties_up_to, properties_in, EndsValues, EndsNode, IsNoPropValue}
-use Rattle.sgf_tree.proofs.Classes.{upper-not_white, upper-not_bracket, white-not_upper, white-not_lower, lower-not_upper}
+use Rattle.sgf_tree.specs.Spelling.{is_white_space, is_upper, is_lower, WhiteSpace, no_white_space, white_space, Letters, no_letter, upper, lower, IsPropValue, prop_value, ArePropValues, no_value, value, IsProperty, property, AreProperties, no_property, properties}
+use Rattle.sgf_tree.specs.inner.NodeText.{is_letter, left_after, front, raw_value, after_raw_value, by_front, values_up_to, after_values_up_to, values_in, property_from, name_in, properties_up_to, properties_in, NoValueFollows, NoPropertyFollows, IsNoPropValue}
+use Rattle.sgf_tree.proofs.Classes.{upper-not_white_space, upper-not_bracket, white-not_upper, white-not_lower, lower-not_upper}
 use Rattle.sgf_tree.proofs.NodesSpelled.{white-byte}
-use Rattle.sgf_tree.proofs.Shrinks.{shrinks-White, shrinks-Letters, shrinks-IsValue, shrinks-ArePropValues}
+use Rattle.sgf_tree.proofs.Shrinks.{shrinks-WhiteSpace, shrinks-Letters, shrinks-IsValue, shrinks-ArePropValues}
 use Rattle.sgf_tree.proofs.ValueSpelled.{value-same}
 
 -- white space ends before one byte
-pub white-same : {s t u : List ℕ} {b c : ℕ} → White s (b ∷ t) → White s (c ∷ u) → is_white b ≡ false → is_white c ≡ false → (b ≡ c) × (t ≡ u)
-white-same no_white no_white h k = (refl, refl)
-white-same no_white (white l w) h k = absurd (false≢true (sym h ∙ l))
-white-same (white l w) no_white h k = absurd (false≢true (sym k ∙ l))
-white-same (white l w) (white m v) h k = white-same w v h k
+pub white-same : {s t u : List ℕ} {b c : ℕ} → WhiteSpace s (b ∷ t) → WhiteSpace s (c ∷ u) → is_white_space b ≡ false → is_white_space c ≡ false → (b ≡ c) × (t ≡ u)
+white-same no_white_space no_white_space h k = (refl, refl)
+white-same no_white_space (white_space l w) h k = absurd (false≢true (sym h ∙ l))
+white-same (white_space l w) no_white_space h k = absurd (false≢true (sym k ∙ l))
+white-same (white_space l w) (white_space m v) h k = white-same w v h k
 
-pub white-none : {s t : List ℕ} {b : ℕ} → White s [] → White s (b ∷ t) → is_white b ≡ false → ⊥
-white-none no_white v h = elim v [ ]
-white-none (white l w) no_white h = false≢true (sym h ∙ l)
-white-none (white l w) (white m v) h = white-none w v h
+pub white-none : {s t : List ℕ} {b : ℕ} → WhiteSpace s [] → WhiteSpace s (b ∷ t) → is_white_space b ≡ false → ⊥
+white-none no_white_space v h = elim v [ ]
+white-none (white_space l w) no_white_space h = false≢true (sym h ∙ l)
+white-none (white_space l w) (white_space m v) h = white-none w v h
 
 -- a value in front has one form and one end
 pub prop-same : {u v s q r : List ℕ} → IsPropValue u s q → IsPropValue v s r → (u ≡ v) × (q ≡ r)
@@ -28,42 +28,42 @@ prop-same {u} {v} {s} {q} {r} (prop_value {t = x} w h) (prop_value {t = y} z k) 
     let e : x ≡ y = (white-same w z refl refl).1 in
     value-same h (subst (λ t. IsValue v t (93 ∷ r)) (sym e) k)
 
-pub ends-value : {v s r : List ℕ} → EndsValues s → ¬ IsPropValue v s r
+pub ends-value : {v s r : List ℕ} → NoValueFollows s → ¬ IsPropValue v s r
 ends-value ends (prop_value {t} w h) = ends 91 t w refl
 
 -- the values in front end where no value follows
-pub past-same : {us vs : List (List ℕ)} {s q r : List ℕ} → ArePropValues us s q → EndsValues q → ArePropValues vs s r → IsNoPropValue r → q ≡ r
+pub past-same : {us vs : List (List ℕ)} {s q r : List ℕ} → ArePropValues us s q → NoValueFollows q → ArePropValues vs s r → IsNoPropValue r → q ≡ r
 past-same no_value ends no_value none = refl
 past-same no_value ends (value v vs) none = absurd (ends-value ends v)
 past-same (value {v} {t} u us) ends no_value none = absurd (none v t u)
 past-same {r = r} (value u us) ends (value {t} {vs} v are) none =
     let e = (prop-same u v).1 in past-same us ends (subst (λ x. ArePropValues vs x r) (sym e) are) none
 
-left-white : {s t : List ℕ} {b : ℕ} → White s (b ∷ t) → is_white b ≡ false → left_after is_white s ≡ b ∷ t
+left-white : {s t : List ℕ} {b : ℕ} → WhiteSpace s (b ∷ t) → is_white_space b ≡ false → left_after is_white_space s ≡ b ∷ t
 unfolding left_after
-left-white no_white h = rw h
-left-white (white k w) h = rw k (left-white w h)
+left-white no_white_space h = rw h
+left-white (white_space k w) h = rw k (left-white w h)
 
-white-step : (b : ℕ) (s l : List ℕ) (w : Bool) → White s l → is_white b ≡ w → White (b ∷ s) (if w then l else b ∷ s)
-white-step b s l true h e = white e h
-white-step b s l false h e = no_white
+white-step : (b : ℕ) (s l : List ℕ) (w : Bool) → WhiteSpace s l → is_white_space b ≡ w → WhiteSpace (b ∷ s) (if w then l else b ∷ s)
+white-step b s l true h e = white_space e h
+white-step b s l false h e = no_white_space
 
-pub white-left : (s : List ℕ) → White s (left_after is_white s)
+pub white-left : (s : List ℕ) → WhiteSpace s (left_after is_white_space s)
 unfolding left_after
-white-left [] = no_white
-white-left (b ∷ s) = white-step b s (left_after is_white s) (is_white b) (white-left s) refl
+white-left [] = no_white_space
+white-left (b ∷ s) = white-step b s (left_after is_white_space s) (is_white_space b) (white-left s) refl
 
 -- letters end before white space and a `[`
-stop-letters : {u x : List ℕ} → White u (91 ∷ x) → (left_after is_letter u ≡ u) × (front is_letter u ≡ [])
+stop-letters : {u x : List ℕ} → WhiteSpace u (91 ∷ x) → (left_after is_letter u ≡ u) × (front is_letter u ≡ [])
 unfolding left_after front
-stop-letters no_white = (refl, refl)
-stop-letters (white {b} h w) = (rw (white-not_upper b h, white-not_lower b h), rw (white-not_upper b h, white-not_lower b h))
+stop-letters no_white_space = (refl, refl)
+stop-letters (white_space {b} h w) = (rw (white-not_upper b h, white-not_lower b h), rw (white-not_upper b h, white-not_lower b h))
 
 or-true : (x y : Bool) → y ≡ true → (x || y) ≡ true
 or-true true y h = refl
 or-true false y h = h
 
-over-letters : {name s u x : List ℕ} → Letters name s u → White u (91 ∷ x) → (left_after is_letter s ≡ u) × (filter is_upper (front is_letter s) ≡ name)
+over-letters : {name s u x : List ℕ} → Letters name s u → WhiteSpace u (91 ∷ x) → (left_after is_letter s ≡ u) × (filter is_upper (front is_letter s) ≡ name)
 unfolding left_after front
 over-letters no_letter w = let h = stop-letters w in (h.0, ap (filter is_upper) h.1)
 over-letters (upper {b} h l) w =
@@ -73,8 +73,8 @@ over-letters (lower {b} h l) w =
     let letter : is_letter b ≡ true = or-true (is_upper b) (is_lower b) h in
     (rw letter k.0, rw (letter, lower-not_upper b h) k.1)
 
-value-parts : {v s r : List ℕ} → IsValue v s (93 ∷ r) → (raw_value s ≡ v) × (after_value s ≡ r)
-unfolding raw_value after_value
+value-parts : {v s r : List ℕ} → IsValue v s (93 ∷ r) → (raw_value s ≡ v) × (after_raw_value s ≡ r)
+unfolding raw_value after_raw_value
 value-parts {r = []} no_unit = (refl, refl)
 value-parts {r = b ∷ r} no_unit = (refl, refl)
 value-parts {s = b ∷ []} (plain x y h) = elim h [ ]
@@ -84,17 +84,17 @@ value-parts {s = b ∷ c ∷ s} (plain x y h) =
 value-parts (escaped {b} h) = let k = value-parts h in (ap (λ u. 92 ∷ b ∷ u) k.0, k.1)
 
 -- no value in front
-none-front : {A : Type 0} (f : ℕ → List ℕ → A) (none : A) (s l : List ℕ) → White s l → EndsValues s → by_front (λ b t. if b == 91 then f b t else none) none l ≡ none
+none-front : {A : Type 0} (f : ℕ → List ℕ → A) (none : A) (s l : List ℕ) → WhiteSpace s l → NoValueFollows s → by_front (λ b t. if b == 91 then f b t else none) none l ≡ none
 none-front f none s [] w ends = refl
 none-front f none s (b ∷ t) w ends = rw (ne_eqb b 91 (ends b t w))
 
-values-are : {vs : List (List ℕ)} {s r : List ℕ} (n : ℕ) → ArePropValues vs s r → EndsValues r → length vs ≤ n → (values_up_to n s ≡ vs) × (after_values_up_to n s ≡ r)
+values-are : {vs : List (List ℕ)} {s r : List ℕ} (n : ℕ) → ArePropValues vs s r → NoValueFollows r → length vs ≤ n → (values_up_to n s ≡ vs) × (after_values_up_to n s ≡ r)
 unfolding values_up_to after_values_up_to
 values-are zero no_value ends le = (refl, refl)
 values-are zero (value v vs) ends le = absurd (omega arith)
 values-are {s = s} (suc n) no_value ends le = (
-  none-front (λ b t. raw_value t ∷ values_up_to n (after_value t)) [] s (left_after is_white s) (white-left s) ends,
-  none-front (λ b t. after_values_up_to n (after_value t)) s s (left_after is_white s) (white-left s) ends,
+  none-front (λ b t. raw_value t ∷ values_up_to n (after_raw_value t)) [] s (left_after is_white_space s) (white-left s) ends,
+  none-front (λ b t. after_values_up_to n (after_raw_value t)) s s (left_after is_white_space s) (white-left s) ends,
 )
 values-are (suc n) (value (prop_value {value = v} {t} w h) vs) ends le =
     let parts = value-parts h in
@@ -102,31 +102,31 @@ values-are (suc n) (value (prop_value {value = v} {t} w h) vs) ends le =
     (rw (left-white w refl, parts.0, parts.1) (ap (λ us. v ∷ us) rest.0), rw (left-white w refl, parts.1) rest.1)
 
 pub shorter-value : {v s r : List ℕ} → IsPropValue v s r → length r < length s
-shorter-value (prop_value w h) = let a = shrinks-White w in let b = shrinks-IsValue h in omega arith
+shorter-value (prop_value w h) = let a = shrinks-WhiteSpace w in let b = shrinks-IsValue h in omega arith
 
 pub count-values : {vs : List (List ℕ)} {s r : List ℕ} → ArePropValues vs s r → length vs + length r ≤ length s
 count-values no_value = omega arith
 count-values (value v vs) = let a = shorter-value v in let b = count-values vs in omega arith
 
-pub values-in : {vs : List (List ℕ)} {s r : List ℕ} → ArePropValues vs s r → EndsValues r → values_in s ≡ vs
+pub values-in : {vs : List (List ℕ)} {s r : List ℕ} → ArePropValues vs s r → NoValueFollows r → values_in s ≡ vs
 unfolding values_in
 values-in {s = s} h ends = (values-are (length s) h ends (omega (arith, count-values h))).0
 
 -- no value follows where a node ends, or a property begins
-pub ends-values : {ps : List Property} {s r : List ℕ} → AreProperties ps s r → EndsNode r → EndsValues s
+pub ends-values : {ps : List Property} {s r : List ℕ} → AreProperties ps s r → NoPropertyFollows r → NoValueFollows s
 ends-values no_property ends = λ c u v. (ends c u v).0
 ends-values {s = s} (properties (property {b} w h l first vs) ps) ends = λ c u v e.
-    elim (white-byte w (subst (λ x. White s (x ∷ u)) e v) (upper-not_white b h)) [
+    elim (white-byte w (subst (λ x. WhiteSpace s (x ∷ u)) e v) (upper-not_white_space b h)) [
       | inl k ↦ false≢true k
       | inr k ↦ false≢true (sym (upper-not_bracket b h) ∙ ap (λ x. x == 91) (sym k))
     ]
 
-none-upper : {A : Type 0} (f : ℕ → List ℕ → A) (none : A) (s l : List ℕ) → White s l → EndsNode s → by_front (λ b t. if is_upper b then f b t else none) none l ≡ none
+none-upper : {A : Type 0} (f : ℕ → List ℕ → A) (none : A) (s l : List ℕ) → WhiteSpace s l → NoPropertyFollows s → by_front (λ b t. if is_upper b then f b t else none) none l ≡ none
 none-upper f none s [] w ends = refl
 none-upper f none s (b ∷ t) w ends = rw (ends b t w).1
 
 -- the first property
-pub property-is : {b : ℕ} {name t u : List ℕ} {v : List ℕ} {vs : List (List ℕ)} {w r : List ℕ} → IsTrue (is_upper b) → Letters name t u → IsPropValue v u w → ArePropValues vs w r → EndsValues r
+pub property-is : {b : ℕ} {name t u : List ℕ} {v : List ℕ} {vs : List (List ℕ)} {w r : List ℕ} → IsTrue (is_upper b) → Letters name t u → IsPropValue v u w → ArePropValues vs w r → NoValueFollows r
     → (left_after is_letter (b ∷ t) ≡ u) × (name_in (front is_letter (b ∷ t)) ≡ b ∷ name) × (values_in u ≡ v ∷ vs) × (after_values_up_to (length t) u ≡ r)
 unfolding left_after front
 property-is {b} h l (prop_value x k) vs ends =
@@ -138,20 +138,20 @@ property-is {b} h l (prop_value x k) vs ends =
       (values-are _ all ends (omega (arith, count-values all, shrinks-Letters l))).1,
     )
 
-properties-are : {ps : List Property} {s r : List ℕ} (n : ℕ) → AreProperties ps s r → EndsNode r → length ps ≤ n → properties_up_to n s ≡ ps
+properties-are : {ps : List Property} {s r : List ℕ} (n : ℕ) → AreProperties ps s r → NoPropertyFollows r → length ps ≤ n → properties_up_to n s ≡ ps
 unfolding properties_up_to
 properties-are zero no_property ends le = refl
 properties-are zero (properties p ps) ends le = absurd (omega arith)
 properties-are {s = s} (suc n) no_property ends le =
-    none-upper (λ b t. property_from (name_in (front is_letter (b ∷ t))) (values_in (left_after is_letter (b ∷ t))) ∷ properties_up_to n (after_values_up_to (length t) (left_after is_letter (b ∷ t)))) [] s (left_after is_white s) (white-left s) ends
+    none-upper (λ b t. property_from (name_in (front is_letter (b ∷ t))) (values_in (left_after is_letter (b ∷ t))) ∷ properties_up_to n (after_values_up_to (length t) (left_after is_letter (b ∷ t)))) [] s (left_after is_white_space s) (white-left s) ends
 properties-are (suc n) (properties (property {b} {name} {v} {vs = vs} w h l first more) ps) ends le =
     let is = property-is {b = b} h l first more (ends-values ps ends) in
     let p : Property = record { name = b ∷ name; first = v; more = vs } in
-    rw (left-white w (upper-not_white b h), h, is.0, is.1, is.2, is.3) (ap (λ qs. p ∷ qs) (properties-are n ps ends (omega arith)))
+    rw (left-white w (upper-not_white_space b h), h, is.0, is.1, is.2, is.3) (ap (λ qs. p ∷ qs) (properties-are n ps ends (omega arith)))
 
 shorter-property : {p : Property} {s r : List ℕ} → IsProperty p s r → length r < length s
 shorter-property (property w h l v vs) =
-    let a = shrinks-White w in
+    let a = shrinks-WhiteSpace w in
     let b = shrinks-Letters l in
     let c = shorter-value v in
     let d = shrinks-ArePropValues vs in
@@ -161,6 +161,6 @@ pub count-properties : {ps : List Property} {s r : List ℕ} → AreProperties p
 count-properties no_property = omega arith
 count-properties (properties p ps) = let a = shorter-property p in let b = count-properties ps in omega arith
 
-pub properties-in : {ps : List Property} {s r : List ℕ} → AreProperties ps s r → EndsNode r → properties_in s ≡ ps
+pub properties-in : {ps : List Property} {s r : List ℕ} → AreProperties ps s r → NoPropertyFollows r → properties_in s ≡ ps
 unfolding properties_in
 properties-in {s = s} h ends = properties-are (length s) h ends (omega (arith, count-properties h))

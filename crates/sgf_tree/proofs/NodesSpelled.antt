@@ -5,8 +5,8 @@ use Rattle.std.proofs.lemmas.Bool.{false≢true}
 use Rattle.sgf_tree.specs.Tree.{Property, Node, Games, node_count}
 use Rattle.sgf_tree.specs.FileOrder.{OrderedNode, further_nodes, nodes_from, ordered_nodes}
 use Rattle.sgf_tree.specs.RawValue.{IsValue, no_unit, plain, escaped}
-use Rattle.sgf_tree.specs.Spelling.{is_white, is_upper, White, no_white, white, Letters, no_letter, upper, lower, IsPropValue, prop_value, ArePropValues, no_value, value, IsProperty, property, AreProperties, no_property, properties, IsNode, node, AreNodes, no_node, nodes, AreGames, no_game, games, Mark, no_mark, mark, Spells, spells}
-use Rattle.sgf_tree.specs.inner.NodeText.{EndsNode}
+use Rattle.sgf_tree.specs.Spelling.{is_white_space, is_upper, WhiteSpace, no_white_space, white_space, Letters, no_letter, upper, lower, IsPropValue, prop_value, ArePropValues, no_value, value, IsProperty, property, AreProperties, no_property, properties, IsNode, node, AreNodes, no_node, nodes, AreGames, no_game, games, ByteOrderMark, no_byte_order_mark, byte_order_mark, Spells, spells}
+use Rattle.sgf_tree.specs.inner.NodeText.{NoPropertyFollows}
 use Rattle.sgf_tree.proofs.Classes.{white-not_upper, white-not_bracket}
 
 -- s is the end of t
@@ -28,9 +28,9 @@ module _ {t : List ℕ} where
       dropped (x ∷ u) zero q = cc
       dropped (x ∷ u) (suc k) q = dropped u k q
 
-  end-White : {s r : List ℕ} → White s r → IsEnd t s → IsEnd t r
-  end-White no_white e = e
-  end-White (white h w) e = end-White w (tail e)
+  end-WhiteSpace : {s r : List ℕ} → WhiteSpace s r → IsEnd t s → IsEnd t r
+  end-WhiteSpace no_white_space e = e
+  end-WhiteSpace (white_space h w) e = end-WhiteSpace w (tail e)
 
   end-Letters : {name s r : List ℕ} → Letters name s r → IsEnd t s → IsEnd t r
   end-Letters no_letter e = e
@@ -43,7 +43,7 @@ module _ {t : List ℕ} where
   end-IsValue (escaped v) e = end-IsValue v (tail (tail e))
 
   end-IsPropValue : {v s r : List ℕ} → IsPropValue v s r → IsEnd t s → IsEnd t r
-  end-IsPropValue (prop_value w v) e = tail (end-IsValue v (tail (end-White w e)))
+  end-IsPropValue (prop_value w v) e = tail (end-IsValue v (tail (end-WhiteSpace w e)))
 
   end-ArePropValues : {vs : List (List ℕ)} {s r : List ℕ} → ArePropValues vs s r → IsEnd t s → IsEnd t r
   end-ArePropValues no_value e = e
@@ -51,14 +51,14 @@ module _ {t : List ℕ} where
 
   end-IsProperty : {p : Property} {s r : List ℕ} → IsProperty p s r → IsEnd t s → IsEnd t r
   end-IsProperty (property w h l v vs) e =
-      end-ArePropValues vs (end-IsPropValue v (end-Letters l (tail (end-White w e))))
+      end-ArePropValues vs (end-IsPropValue v (end-Letters l (tail (end-WhiteSpace w e))))
 
   end-AreProperties : {ps : List Property} {s r : List ℕ} → AreProperties ps s r → IsEnd t s → IsEnd t r
   end-AreProperties no_property e = e
   end-AreProperties (properties p ps) e = end-AreProperties ps (end-IsProperty p e)
 
   end-IsNode : {whole : ℕ} {n : Node} {s r : List ℕ} → IsNode whole n s r → IsEnd t s → IsEnd t r
-  end-IsNode (node w h ps) e = end-AreProperties ps (tail (end-White w e))
+  end-IsNode (node w h ps) e = end-AreProperties ps (tail (end-WhiteSpace w e))
 
   end-AreNodes : {whole : ℕ} {ns : List Node} {s r : List ℕ} → AreNodes whole ns s r → IsEnd t s → IsEnd t r
   end-AreNodes no_node e = e
@@ -67,29 +67,29 @@ module _ {t : List ℕ} where
   end-AreGames : {whole : ℕ} {g : Games} {s r : List ℕ} → AreGames whole g s r → IsEnd t s → IsEnd t r
   end-AreGames no_game e = e
   end-AreGames (games w n ns below v after) e =
-      end-AreGames after (tail (end-White v (end-AreGames below (end-AreNodes ns (end-IsNode n (tail (end-White w e)))))))
+      end-AreGames after (tail (end-WhiteSpace v (end-AreGames below (end-AreNodes ns (end-IsNode n (tail (end-WhiteSpace w e)))))))
 
-  end-Mark : {s r : List ℕ} → Mark s r → IsEnd t s → IsEnd t r
-  end-Mark no_mark e = e
-  end-Mark mark e = tail (tail (tail e))
+  end-ByteOrderMark : {s r : List ℕ} → ByteOrderMark s r → IsEnd t s → IsEnd t r
+  end-ByteOrderMark no_byte_order_mark e = e
+  end-ByteOrderMark byte_order_mark e = tail (tail (tail e))
 
 -- the byte after white space is the one after all of it, or white itself
-pub white-byte : {s t u : List ℕ} {b c : ℕ} → White s (b ∷ t) → White s (c ∷ u) → is_white b ≡ false → IsTrue (is_white c) ⊎ (c ≡ b)
-white-byte no_white no_white h = inr refl
-white-byte no_white (white k w) h = absurd (false≢true (sym h ∙ k))
-white-byte (white k w) no_white h = inl k
-white-byte (white k w) (white l v) h = white-byte w v h
+pub white-byte : {s t u : List ℕ} {b c : ℕ} → WhiteSpace s (b ∷ t) → WhiteSpace s (c ∷ u) → is_white_space b ≡ false → IsTrue (is_white_space c) ⊎ (c ≡ b)
+white-byte no_white_space no_white_space h = inr refl
+white-byte no_white_space (white_space k w) h = absurd (false≢true (sym h ∙ k))
+white-byte (white_space k w) no_white_space h = inl k
+white-byte (white_space k w) (white_space l v) h = white-byte w v h
 
 -- a byte that is neither ends a node
-module _ (b : ℕ) (not_white : is_white b ≡ false) (not_bracket : b ≢ 91) (not_upper : is_upper b ≡ false) where
-  ends-at : {r t : List ℕ} → White r (b ∷ t) → EndsNode r
+module _ (b : ℕ) (not_white_space : is_white_space b ≡ false) (not_bracket : b ≢ 91) (not_upper : is_upper b ≡ false) where
+  ends-at : {r t : List ℕ} → WhiteSpace r (b ∷ t) → NoPropertyFollows r
   ends-at w c u v =
-      elim (white-byte w v not_white) [
+      elim (white-byte w v not_white_space) [
         | inl h ↦ (white-not_bracket c h, white-not_upper c h)
         | inr e ↦ (λ f. not_bracket (sym e ∙ f), ap is_upper e ∙ not_upper)
       ]
 
-ends-nodes : {whole : ℕ} {ns : List Node} {below : Games} {s r v x : List ℕ} → AreNodes whole ns s r → AreGames whole below r v → White v (41 ∷ x) → EndsNode s
+ends-nodes : {whole : ℕ} {ns : List Node} {below : Games} {s r v x : List ℕ} → AreNodes whole ns s r → AreGames whole below r v → WhiteSpace v (41 ∷ x) → NoPropertyFollows s
 ends-nodes no_node no_game w = ends-at 41 refl (λ e. absurd (omega arith)) refl w
 ends-nodes no_node (games w n ns below v after) x = ends-at 40 refl (λ e. absurd (omega arith)) refl w
 ends-nodes (nodes (node w h ps) ns) below x = ends-at 59 refl (λ e. absurd (omega arith)) refl w
@@ -100,17 +100,17 @@ module _ (t : List ℕ) where
     pub begins : drop n.place t ≡ 59 ∷ drop (n.place + 1) t
     pub rest : List ℕ
     pub spelled : AreProperties n.properties (drop (n.place + 1) t) rest
-    pub ends : EndsNode rest
+    pub ends : NoPropertyFollows rest
 
-  node-spelled : {n : Node} {s r : List ℕ} → IsNode (length t) n s r → IsEnd t s → EndsNode r → IsNodeSpelled n
+  node-spelled : {n : Node} {s r : List ℕ} → IsNode (length t) n s r → IsEnd t s → NoPropertyFollows r → IsNodeSpelled n
   node-spelled {n} {s} {r} (node {place} {ps} {t = u} w e ps_spelled) end ends =
-      let after : IsEnd t u = tail (end-White w end) in
+      let after : IsEnd t u = tail (end-WhiteSpace w end) in
       let dropped = end-drop after in
       let at : place + 1 ≡ length t - length u = omega (arith, e) in
       let here : place ≡ length t - length (59 ∷ u) = omega (arith, e) in
       record {
         begins =
-            ap (λ k. drop k t) here ∙ (end-drop (end-White w end)).1
+            ap (λ k. drop k t) here ∙ (end-drop (end-WhiteSpace w end)).1
             ∙ ap (λ x. 59 ∷ x) (sym dropped.1 ∙ ap (λ k. drop k t) (sym at));
         rest = r;
         spelled = subst (λ k. AreProperties ps (drop k t) r) (sym at) (subst (λ x. AreProperties ps x r) (sym dropped.1) ps_spelled);
@@ -124,7 +124,7 @@ module _ (t : List ℕ) where
   one-spelled r h zero d lt = h
   one-spelled r h (suc k) d lt = absurd (omega arith)
 
-  further-spelled : {ns : List Node} {below : Games} {s r v x : List ℕ} (last : ℕ) → AreNodes (length t) ns s r → AreGames (length t) below r v → White v (41 ∷ x) → IsEnd t s → All Spelled (further_nodes last ns)
+  further-spelled : {ns : List Node} {below : Games} {s r v x : List ℕ} (last : ℕ) → AreNodes (length t) ns s r → AreGames (length t) below r v → WhiteSpace v (41 ∷ x) → IsEnd t s → All Spelled (further_nodes last ns)
   further-spelled last no_node below w end = λ k d lt. absurd (omega arith)
   further-spelled last (nodes {n} {ns} n_is ns_are) below w end =
       All-append Spelled (record { node = n; parent = Some last; opens = false } ∷ []) (further_nodes (last + 1) ns)
@@ -135,10 +135,10 @@ module _ (t : List ℕ) where
   games-spelled at parent no_game end = λ k d lt. absurd (omega arith)
   games-spelled at parent (games {first} {more} {below} {after} w n ns low v next) end =
       let last : ℕ = at + length more in
-      let first_end = tail (end-White w end) in
+      let first_end = tail (end-WhiteSpace w end) in
       let more_end = end-IsNode n first_end in
       let low_end = end-AreNodes ns more_end in
-      let next_end = tail (end-White v (end-AreGames low low_end)) in
+      let next_end = tail (end-WhiteSpace v (end-AreGames low low_end)) in
       let head : OrderedNode = record { node = first; parent = parent; opens = true } in
       All-append Spelled (head ∷ further_nodes at more ++ nodes_from (last + 1) (Some last) below) (nodes_from (last + 1 + node_count below) parent after)
       (All-append Spelled (head ∷ further_nodes at more) (nodes_from (last + 1) (Some last) below)
@@ -147,4 +147,4 @@ module _ (t : List ℕ) where
       (games-spelled (last + 1 + node_count below) parent next next_end)
 
   pub ordered-spelled : (c : Games) → Spells c t → All Spelled (ordered_nodes c)
-  ordered-spelled c (spells m are end) = games-spelled 0 None are (end-Mark m all)
+  ordered-spelled c (spells m are end) = games-spelled 0 None are (end-ByteOrderMark m all)

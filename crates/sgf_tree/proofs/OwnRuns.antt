@@ -5,7 +5,7 @@ use Rattle.sgf_tree.specs.Tree.{Node, Games}
 use Rattle.sgf_tree.specs.FileOrder.{OrderedNode, further_nodes, nodes_from}
 use Rattle.sgf_tree.specs.inner.Machine.{OpenGame}
 use Rattle.sgf_tree.specs.inner.Layout.{Outline, outline, outlines_by, parent_by}
-use Rattle.sgf_tree.specs.inner.GamesRead.{open_count, tip, own_nodes, open_nodes, opens_at, IsOwnRun}
+use Rattle.sgf_tree.specs.inner.GamesRead.{open_count, tip, own_nodes, open_nodes, opens_at, AreOwnNodes}
 use Rattle.sgf_tree.specs.declared.layout.NodeEntry.{NodeEntry}
 use Rattle.sgf_tree.proofs.OrderedNodes.{slice_get-left, slice_get-right, length-further_nodes}
 use Rattle.sgf_tree.proofs.Stacks.{length-open_nodes}
@@ -47,7 +47,7 @@ module _ (closed : Games) (g : OpenGame) (gs : List OpenGame) (nodes : List Node
       sym (opens-outlines_by 0 nodes i) ∙ ap (option_map (λ (r : Outline). r.opens)) (ordered_at i k e) ∙ outline-opens (slice_get (own_nodes (open_count closed gs) (tip closed gs) g) k)
 
   -- they begin with the node after the `(`, and go on up to the tip
-  pub own-run : IsOwnRun nodes (open_count closed gs) (open_count closed gs + length g.more)
+  pub own-run : AreOwnNodes nodes (open_count closed gs) (open_count closed gs + length g.more)
   own-run =
       let at : ℕ = open_count closed gs in
       record {

@@ -5,7 +5,7 @@ use Rattle.std.proofs.lemmas.Option.{slice_get-map}
 use Rattle.sgf_tree.specs.Tree.{Node, Games, no_games, game, node_count}
 use Rattle.sgf_tree.specs.Spelling.{IsNode, node, AreNodes, no_node, nodes, AreGames, no_game, games, Spells, spells}
 use Rattle.sgf_tree.specs.FileOrder.{OrderedNode, further_nodes, nodes_from, ordered_nodes, place_at, PlacesRise}
-use Rattle.sgf_tree.proofs.Shrinks.{shrinks-White, shrinks-AreProperties, shrinks-Mark}
+use Rattle.sgf_tree.proofs.Shrinks.{shrinks-WhiteSpace, shrinks-AreProperties, shrinks-ByteOrderMark}
 
 -- the numbers rise strictly, from low on and below high
 abbrev Rises : ℕ → List ℕ → ℕ → Type 0
@@ -72,11 +72,11 @@ ordered-places at parent (game first more below after) =
 rises-node : {whole : ℕ} {n : Node} {s r : List ℕ} (a b : ℕ) → IsNode whole n s r → a + length s ≤ whole → whole ≤ b + length r
     → (a ≤ n.place) × (n.place < b)
 rises-node a b (node w e ps) h k =
-    let x = shrinks-White w in let y = shrinks-AreProperties ps in (omega arith, omega arith)
+    let x = shrinks-WhiteSpace w in let y = shrinks-AreProperties ps in (omega arith, omega arith)
 
 shrinks-IsNode : {whole : ℕ} {n : Node} {s r : List ℕ} → IsNode whole n s r → length r ≤ length s
 shrinks-IsNode (node w e ps) =
-    let x = shrinks-White w in let y = shrinks-AreProperties ps in omega arith
+    let x = shrinks-WhiteSpace w in let y = shrinks-AreProperties ps in omega arith
 
 shrinks-AreNodes : {whole : ℕ} {ns : List Node} {s r : List ℕ} → AreNodes whole ns s r → length r ≤ length s
 shrinks-AreNodes no_node = omega arith
@@ -86,11 +86,11 @@ shrinks-AreNodes (nodes n ns) =
 shrinks-AreGames : {whole : ℕ} {g : Games} {s r : List ℕ} → AreGames whole g s r → length r ≤ length s
 shrinks-AreGames no_game = omega arith
 shrinks-AreGames (games w n ns g v h) =
-    let a = shrinks-White w in
+    let a = shrinks-WhiteSpace w in
     let b = shrinks-IsNode n in
     let c = shrinks-AreNodes ns in
     let d = shrinks-AreGames g in
-    let e = shrinks-White v in
+    let e = shrinks-WhiteSpace v in
     let f = shrinks-AreGames h in
     omega arith
 
@@ -106,12 +106,12 @@ rises-nodes {whole} a b (nodes {n = m} {t = t} n ns) h k =
 rises-games : {whole : ℕ} {g : Games} {s r : List ℕ} (a b : ℕ) → AreGames whole g s r → a + length s ≤ whole → whole ≤ b + length r
     → Rises a (places g) b
 rises-games a b no_game h k = omega arith
-rises-games {whole} a b (games {first} {more} {below} {after} {t = t} {u = u} {v = v} {w = w} {x = x} d n ns g e f) h k =
-    let dl = shrinks-White d in
+rises-games {whole} a b (games {first} {more} {below} {after} {inside = t} {further = u} {children = v} {end = w} {outside = x} d n ns g e f) h k =
+    let dl = shrinks-WhiteSpace d in
     let nl = shrinks-IsNode n in
     let nsl = shrinks-AreNodes ns in
     let gl = shrinks-AreGames g in
-    let el = shrinks-White e in
+    let el = shrinks-WhiteSpace e in
     let own = rises-node a (whole - length u) n (omega arith) (omega arith) in
     let rest : Rises (whole - length u) (map node_place more) (whole - length v) =
     rises-nodes (whole - length u) (whole - length v) ns (omega arith) (omega arith)
@@ -130,7 +130,7 @@ rises-games {whole} a b (games {first} {more} {below} {after} {t = t} {u = u} {v
 
 rises-spelled : (c : Games) (t : List ℕ) → Spells c t → Rises 0 (places c) (length t)
 rises-spelled c t (spells m g w) =
-    let a = shrinks-Mark m in rises-games 0 (length t) g (omega arith) (omega arith)
+    let a = shrinks-ByteOrderMark m in rises-games 0 (length t) g (omega arith) (omega arith)
 
 place_at-places : (c : Games) (i : ℕ) → place_at c i ≡ slice_get (places c) i
 place_at-places c i =

@@ -3,31 +3,31 @@ use Rattle.std.proofs.Common.{◌≡◌, ◌≢◌, ℕ, ◌+◌, IsTrue, List, 
 use Rattle.std.proofs.lemmas.Option.{none-some, same_Some}
 use Rattle.sgf_tree.specs.Tree.{Property, Node, Games, no_games, game, values}
 use Rattle.sgf_tree.specs.RawValue.{no_unit, plain, escaped}
-use Rattle.sgf_tree.specs.Spelling.{is_white, is_upper, White, no_white, white, no_letter, upper, lower, prop_value, no_value, value, property, no_property, properties, IsNode, node, AreNodes, no_node, nodes, AreGames, no_game, games, no_mark, mark}
+use Rattle.sgf_tree.specs.Spelling.{is_white_space, is_upper, WhiteSpace, no_white_space, white_space, no_letter, upper, lower, prop_value, no_value, value, property, no_property, properties, IsNode, node, AreNodes, no_node, nodes, AreGames, no_game, games, no_byte_order_mark, byte_order_mark}
 use Rattle.sgf_tree.specs.inner.Machine.{OpenGame, Stack, Started, MachineState, after_escape, after_game, property_of, with_property, ended, whole_game, close_in}
 use Rattle.sgf_tree.proofs.Transitions.{Between, white_between, opens_game, closes_game, AfterNode, next_node, opens_below, closes_nodes, no_stack, IsTransition, mark_first, mark_second, mark_third, at_start, at_game, white_opened, first_node, white_node, first_name, ends_bare, upper_name, lower_name, white_name, first_value, white_after_name, later_value, ends_value, escapes, plain_byte, escaped_byte, white_value, next_value, next_name, ends_node}
 use Rattle.sgf_tree.proofs.Completion.{followed-none, followed_assoc, closed-in, nodes-none, nodes-more, add_games, with_values, with_properties, Rest, ends, closes, After_node, In_node, Opened, After_value, In_value, After_name, In_name, Completes}
 
 module _ (whole : ℕ) (c : Games) where
-  rest-white : {closed : Games} {unclosed : List OpenGame} {b : ℕ} {t : List ℕ} → IsTrue (is_white b)
+  rest-white : {closed : Games} {unclosed : List OpenGame} {b : ℕ} {t : List ℕ} → IsTrue (is_white_space b)
       → Rest whole c closed unclosed t → Rest whole c closed unclosed (b ∷ t)
-  rest-white h (ends no_game w e) = ends no_game (white h w) e
-  rest-white h (ends (games v first more below last after) w e) = ends (games (white h v) first more below last after) w e
-  rest-white h (closes no_game w r) = closes no_game (white h w) r
-  rest-white h (closes (games v first more below last after) w r) = closes (games (white h v) first more below last after) w r
+  rest-white h (ends no_game w e) = ends no_game (white_space h w) e
+  rest-white h (ends (games v first more below last after) w e) = ends (games (white_space h v) first more below last after) w e
+  rest-white h (closes no_game w r) = closes no_game (white_space h w) r
+  rest-white h (closes (games v first more below last after) w r) = closes (games (white_space h v) first more below last after) w r
 
-  after_node-white : (k : Stack) (b : ℕ) (t : List ℕ) → IsTrue (is_white b) → After_node whole c k t → After_node whole c k (b ∷ t)
+  after_node-white : (k : Stack) (b : ℕ) (t : List ℕ) → IsTrue (is_white_space b) → After_node whole c k t → After_node whole c k (b ∷ t)
   after_node-white k b t h (ns, u, no_node, r) = ([], b ∷ u, no_node, rest-white h r)
-  after_node-white k b t h (ns, u, nodes (node w e ps) more, r) = (ns, u, nodes (node (white h w) e ps) more, r)
+  after_node-white k b t h (ns, u, nodes (node w e ps) more, r) = (ns, u, nodes (node (white_space h w) e ps) more, r)
 
-  in_node-white : (n : Started) (b : ℕ) (t : List ℕ) → IsTrue (is_white b) → In_node whole c n t → In_node whole c n (b ∷ t)
+  in_node-white : (n : Started) (b : ℕ) (t : List ℕ) → IsTrue (is_white_space b) → In_node whole c n t → In_node whole c n (b ∷ t)
   in_node-white n b t h (ps, u, no_property, r) = ([], b ∷ u, no_property, after_node-white (ended (with_properties n [])) b u h r)
   in_node-white n b t h (ps, u, properties (property w up l v vs) more, r) =
-      (ps, u, properties (property (white h w) up l v vs) more, r)
+      (ps, u, properties (property (white_space h w) up l v vs) more, r)
 
   -- a game before the rest
   join : (closed : Games) (unclosed : List OpenGame) {f : Node} {m : List Node} {b : Games} {s t u v w x : List ℕ}
-      → White s (40 ∷ t) → IsNode whole f t u → AreNodes whole m u v → AreGames whole b v w → White w (41 ∷ x)
+      → WhiteSpace s (40 ∷ t) → IsNode whole f t u → AreNodes whole m u v → AreGames whole b v w → WhiteSpace w (41 ∷ x)
       → Rest whole c (add_games closed unclosed (game f m b no_games)).closed (add_games closed unclosed (game f m b no_games)).unclosed x
       → Rest whole c closed unclosed s
   join closed [] w n ns below last (ends more r e) = ends (games w n ns below last more) r (rw followed_assoc at e)
@@ -35,7 +35,7 @@ module _ (whole : ℕ) (c : Games) where
 
   opened-rest : (k : Stack) (t : List ℕ) → Opened whole c k t → Rest whole c k.closed k.unclosed (40 ∷ t)
   opened-rest k t (place, u, w, e, (ps, v, are, (ns, x, more, closes below last r))) =
-      join k.closed k.unclosed no_white (node w e are) more below last r
+      join k.closed k.unclosed no_white_space (node w e are) more below last r
 
   close-rest : (closed : Games) (unclosed : List OpenGame) (t : List ℕ) (y : MachineState) → close_in closed unclosed ≡ Some y
       → Completes whole c y t → Rest whole c closed unclosed (41 ∷ t)
@@ -43,7 +43,7 @@ module _ (whole : ℕ) (c : Games) where
   close-rest closed (g ∷ gs) t y e h =
       let r : Completes whole c (after_game (add_games closed gs (whole_game g))) t =
       subst (λ z. Completes whole c z t) (same_Some y _ (sym e ∙ closed-in closed g gs)) h in
-      closes no_game no_white (rw followed-none r)
+      closes no_game no_white_space (rw followed-none r)
 
   between : (k : Stack) {b : ℕ} {y : MachineState} (t : List ℕ) → Between k b y → Completes whole c y t → Rest whole c k.closed k.unclosed (b ∷ t)
   between k t (white_between h) r = rest-white h r
@@ -56,7 +56,7 @@ module _ (whole : ℕ) (c : Games) where
   after : (at : ℕ) (k : Stack) {b : ℕ} {y : MachineState} (t : List ℕ) → at + length (b ∷ t) ≡ whole → AfterNode at k b y → Completes whole c y t
       → After_node whole c k (b ∷ t)
   after at k t e next_node (ps, u, are, (ns, v, more, r)) =
-      (record { place = at; properties = ps } ∷ ns, v, nodes (node no_white e are) more, rw nodes-more at r)
+      (record { place = at; properties = ps } ∷ ns, v, nodes (node no_white_space e are) more, rw nodes-more at r)
   after at k t e opens_below r = bare k (40 ∷ t) (opened-rest k t r)
   after at k t e (closes_nodes {y} h) r = bare k (41 ∷ t) (close-rest k.closed k.unclosed t y h r)
 
@@ -67,7 +67,7 @@ module _ (whole : ℕ) (c : Games) where
   named n b t h (more, u, letters, (v, w, (first, x, units, (vs, y, are, (ps, z, others, r))))) = (
     record { name = b ∷ more; first = first; more = vs } ∷ ps,
     z,
-    properties (property no_white h letters (prop_value w units) are) others,
+    properties (property no_white_space h letters (prop_value w units) are) others,
     rw append_assoc at r,
   )
 
@@ -77,13 +77,13 @@ module _ (whole : ℕ) (c : Games) where
   name-bare : (n : Started) (name : List ℕ) (t : List ℕ) → After_name whole c n name t → In_name whole c n name t
   name-bare n name t r = ([], t, no_letter, rw append-nil r)
 
-  white-value : (n : Started) (p : Property) (b : ℕ) (t : List ℕ) → IsTrue (is_white b)
+  white-value : (n : Started) (p : Property) (b : ℕ) (t : List ℕ) → IsTrue (is_white_space b)
       → After_value whole c n p t → After_value whole c n p (b ∷ t)
   white-value n p b t h (vs, u, no_value, r) = ([], b ∷ u, no_value, in_node-white (with_property n (with_values p [])) b u h r)
-  white-value n p b t h (vs, u, value (prop_value w units) are, r) = (vs, u, value (prop_value (white h w) units) are, r)
+  white-value n p b t h (vs, u, value (prop_value w units) are, r) = (vs, u, value (prop_value (white_space h w) units) are, r)
 
   next-value : (n : Started) (p : Property) (t : List ℕ) → In_value whole c n p.name (values p) [] t → After_value whole c n p (91 ∷ t)
-  next-value n p t (v, u, units, (vs, w, are, r)) = (v ∷ vs, w, value (prop_value no_white units) are, rw append_assoc at r)
+  next-value n p t (v, u, units, (vs, w, are, r)) = (v ∷ vs, w, value (prop_value no_white_space units) are, rw append_assoc at r)
 
   in-value : (n : Started) (name : List ℕ) (before : List (List ℕ)) (so_far : List ℕ) (t : List ℕ)
       → After_value whole c n (property_of name before so_far) t → In_value whole c n name before so_far (93 ∷ t)
@@ -101,22 +101,22 @@ module _ (whole : ℕ) (c : Games) where
   -- a byte before a text that completes the state after it
   pub prepend : (at : ℕ) (z : MachineState) (b : ℕ) (y : MachineState) (t : List ℕ) → IsTransition at z b y → at + length (b ∷ t) ≡ whole
       → Completes whole c y t → Completes whole c z (b ∷ t)
-  prepend at z b y t mark_first e (s, f, r) = (s, rw f mark, r)
+  prepend at z b y t mark_first e (s, f, r) = (s, rw f byte_order_mark, r)
   prepend at z b y t mark_second e (s, f, r) = (s, ap (◌∷◌ 187) f, r)
   prepend at z b y t mark_third e r = (t, refl, r)
-  prepend at z b y t (at_start h) e r = (b ∷ t, no_mark, between no_stack t h r)
+  prepend at z b y t (at_start h) e r = (b ∷ t, no_byte_order_mark, between no_stack t h r)
   prepend at z b y t (at_game {k} h) e r = between k t h r
-  prepend at z b y t (white_opened h) e (place, u, w, f, r) = (place, u, white h w, f, r)
-  prepend at z b y t first_node e r = (at, t, no_white, e, r)
+  prepend at z b y t (white_opened h) e (place, u, w, f, r) = (place, u, white_space h w, f, r)
+  prepend at z b y t first_node e r = (at, t, no_white_space, e, r)
   prepend at z b y t (white_node {n} h) e r = in_node-white n b t h r
   prepend at z b y t (first_name {n} h) e r = named n b t h r
   prepend at z b y t (ends_bare {n} h) e r = after-bare n (b ∷ t) (after at (ended n) t e h r)
   prepend at z b y t (upper_name h) e (more, u, l, r) = (b ∷ more, u, upper h l, rw append_assoc at r)
   prepend at z b y t (lower_name h) e (more, u, l, r) = (more, u, lower h l, r)
-  prepend at z b y t (white_name {n} {name} h) e (u, w, r) = name-bare n name (b ∷ t) (u, white h w, r)
-  prepend at z b y t (first_value {n} {name}) e r = name-bare n name (91 ∷ t) (t, no_white, r)
-  prepend at z b y t (white_after_name h) e (u, w, r) = (u, white h w, r)
-  prepend at z b y t later_value e r = (t, no_white, r)
+  prepend at z b y t (white_name {n} {name} h) e (u, w, r) = name-bare n name (b ∷ t) (u, white_space h w, r)
+  prepend at z b y t (first_value {n} {name}) e r = name-bare n name (91 ∷ t) (t, no_white_space, r)
+  prepend at z b y t (white_after_name h) e (u, w, r) = (u, white_space h w, r)
+  prepend at z b y t later_value e r = (t, no_white_space, r)
   prepend at z b y t (ends_value {n} {name} {before} {value = so_far}) e r = in-value n name before so_far t r
   prepend at z b y t (escapes {n} {name} {before} {value = so_far}) e r = escaped-value n name before so_far t r
   prepend at z b y t (plain_byte {n} {name} {before} {value = so_far} f g) e r = plain-value n name before so_far b t f g r

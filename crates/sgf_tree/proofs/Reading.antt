@@ -2,7 +2,7 @@
 use Rattle.std.proofs.Common.{◌≡◌, ℕ, ◌+◌, ◌-◌, Bool, List, [], ◌∷◌, ◌++◌, length, Option, Some, None, option_and_then, refl, ap, ◌∙◌, append_assoc, append-nil, arith, ne_eqb}
 use Rattle.sgf_tree.specs.Tree.{Property, values}
 use Rattle.sgf_tree.specs.RawValue.{IsValue, no_unit, plain, escaped}
-use Rattle.sgf_tree.specs.Spelling.{White, no_white, white, Letters, no_letter, upper, lower, prop_value, ArePropValues, no_value, value}
+use Rattle.sgf_tree.specs.Spelling.{WhiteSpace, no_white_space, white_space, Letters, no_letter, upper, lower, prop_value, ArePropValues, no_value, value}
 use Rattle.sgf_tree.specs.inner.Machine.{Stack, Started, MachineState, start, in_name, after_name, in_value, after_escape, after_value, property_of, new_node, next_state, run}
 use Rattle.sgf_tree.proofs.Classes.{white-not_upper, white-not_lower, lower-not_upper}
 use Rattle.sgf_tree.proofs.Skipping.{Stays, stays-after_name, stays-after_value}
@@ -44,9 +44,9 @@ module _ (whole : ℕ) where
       rw g (ap (option_and_then (λ x. read whole x t)) (e place))
 
   -- white space, where the state stays
-  pub over-white : {s r : List ℕ} (z : MachineState) → Stays z → White s r → read whole z s ≡ read whole z r
-  over-white z h no_white = refl
-  over-white z h (white {b} {s} i w) = one-byte z z b s (λ at. h b at i) ∙ over-white z h w
+  pub over-white : {s r : List ℕ} (z : MachineState) → Stays z → WhiteSpace s r → read whole z s ≡ read whole z r
+  over-white z h no_white_space = refl
+  over-white z h (white_space {b} {s} i w) = one-byte z z b s (λ at. h b at i) ∙ over-white z h w
 
   over-units : {v t r : List ℕ} (n : Started) (name : List ℕ) (before : List (List ℕ)) (so_far : List ℕ) → IsValue v t r
       → read whole (in_value n name before so_far) t ≡ read whole (in_value n name before (so_far ++ v)) r
@@ -90,11 +90,11 @@ module _ (whole : ℕ) where
       one-byte (in_name n name) (in_name n name) b s (λ at. rw (lower-not_upper b h, h)) ∙ over-letters n name l
 
   -- after a name, up to the first value
-  pub to-value : {s t : List ℕ} (n : Started) (name : List ℕ) → White s (91 ∷ t)
+  pub to-value : {s t : List ℕ} (n : Started) (name : List ℕ) → WhiteSpace s (91 ∷ t)
       → read whole (in_name n name) s ≡ read whole (in_value n name [] []) t
   unfolding next_state
-  to-value {s} {t} n name no_white = one-byte (in_name n name) (in_value n name [] []) 91 t (λ at. refl)
-  to-value {s} {t} n name (white {b} {s = u} h w) =
+  to-value {s} {t} n name no_white_space = one-byte (in_name n name) (in_value n name [] []) 91 t (λ at. refl)
+  to-value {s} {t} n name (white_space {b} {s = u} h w) =
       one-byte (in_name n name) (after_name n name) b u (λ at. rw (white-not_upper b h, white-not_lower b h, h))
       ∙ over-white (after_name n name) (stays-after_name n name) w
       ∙ one-byte (after_name n name) (in_value n name [] []) 91 t (λ at. refl)

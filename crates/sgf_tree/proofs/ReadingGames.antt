@@ -1,9 +1,9 @@
 -- How the machine reads properties, nodes and games.
 use Rattle.std.proofs.Common.{◌≡◌, ℕ, Bool, false, true, IsTrue, List, [], ◌∷◌, Some, refl, sym, ap, ◌∙◌, append_assoc, append-nil}
 use Rattle.sgf_tree.specs.Tree.{Property, Node, Games, no_games, game}
-use Rattle.sgf_tree.specs.Spelling.{is_upper, White, prop_value, IsProperty, property, AreProperties, no_property, properties, IsNode, node, AreNodes, no_node, nodes, AreGames, no_game, games}
+use Rattle.sgf_tree.specs.Spelling.{is_upper, WhiteSpace, prop_value, IsProperty, property, AreProperties, no_property, properties, IsNode, node, AreNodes, no_node, nodes, AreGames, no_game, games}
 use Rattle.sgf_tree.specs.inner.Machine.{OpenGame, Stack, Started, MachineState, opened, in_node, in_name, after_value, after_game, joined, property_of, with_property, add_node, new_game, ended, whole_game, close, new_node, next_state}
-use Rattle.sgf_tree.proofs.Classes.{upper-not_white, upper-not_bracket}
+use Rattle.sgf_tree.proofs.Classes.{upper-not_white_space, upper-not_bracket}
 use Rattle.sgf_tree.proofs.Completion.{followed-none, followed_assoc, nodes-none, nodes-more, closed-in, add_games, add_nodes, with_properties}
 use Rattle.sgf_tree.proofs.Skipping.{Stays, stays-opened, stays-after_game}
 use Rattle.sgf_tree.proofs.Reading.{read, one-byte, one-node, over-white, over-value, over-values, over-letters, to-value}
@@ -34,8 +34,8 @@ module _ (whole : ℕ) where
 
   end-name : {n : Started} {z : MachineState} → AtEnd n z → (b at : ℕ) → IsTrue (is_upper b) → next_state at z b ≡ Some (in_name n (b ∷ []))
   unfolding next_state
-  end-name bare_end b at h = rw (upper-not_white b h, h)
-  end-name value_end b at h = rw (upper-not_white b h, upper-not_bracket b h, h)
+  end-name bare_end b at h = rw (upper-not_white_space b h, h)
+  end-name value_end b at h = rw (upper-not_white_space b h, upper-not_bracket b h, h)
 
   end-node : {n : Started} {z : MachineState} → AtEnd n z → (at : ℕ) → next_state at z 59 ≡ Some (new_node (ended n) false at)
   unfolding next_state
@@ -89,19 +89,19 @@ module _ (whole : ℕ) where
       (y, rw nodes-more at h, g ∙ i)
 
   -- a `(` after a game
-  to-opened : {s t : List ℕ} (k : Stack) → White s (40 ∷ t) → read whole (after_game k) s ≡ read whole (opened k) t
+  to-opened : {s t : List ℕ} (k : Stack) → WhiteSpace s (40 ∷ t) → read whole (after_game k) s ≡ read whole (opened k) t
   unfolding next_state
   to-opened {s} {t} k w = over-white whole (after_game k) (stays-after_game k) w ∙ one-byte whole (after_game k) (opened k) 40 t (λ at. refl)
 
   -- where a `(` follows, the end of a node is like that of a game
-  to-game : {s t : List ℕ} (k : Stack) (z : MachineState) → EndsAs k z → White s (40 ∷ t) → read whole z s ≡ read whole (after_game k) s
+  to-game : {s t : List ℕ} (k : Stack) (z : MachineState) → EndsAs k z → WhiteSpace s (40 ∷ t) → read whole z s ≡ read whole (after_game k) s
   to-game {s} {t} k z (n, a, e) w =
       over-white whole z (stays-end a) w
       ∙ one-byte whole z (opened k) 40 t (λ at. end-opens a at ∙ ap (λ l. Some (opened l)) e)
       ∙ sym (to-opened k w)
 
   -- a `)` after a game, or after a node
-  to-closed : {s t : List ℕ} (closed : Games) (g : OpenGame) (gs : List OpenGame) → White s (41 ∷ t)
+  to-closed : {s t : List ℕ} (closed : Games) (g : OpenGame) (gs : List OpenGame) → WhiteSpace s (41 ∷ t)
       → read whole (after_game (record { closed = closed; unclosed = g ∷ gs })) s
       ≡ read whole (after_game (add_games closed gs (whole_game g))) t
   unfolding next_state
@@ -111,7 +111,7 @@ module _ (whole : ℕ) where
       ∙ one-byte whole (after_game k) (after_game (add_games closed gs (whole_game g))) 41 t (λ at. closed-in closed g gs)
 
   end-closed : {s t : List ℕ} (closed : Games) (g : OpenGame) (gs : List OpenGame) (z : MachineState)
-      → EndsAs (record { closed = closed; unclosed = g ∷ gs }) z → White s (41 ∷ t)
+      → EndsAs (record { closed = closed; unclosed = g ∷ gs }) z → WhiteSpace s (41 ∷ t)
       → read whole z s ≡ read whole (after_game (add_games closed gs (whole_game g))) t
   end-closed {s} {t} closed g gs z (n, a, e) w =
       over-white whole z (stays-end a) w
@@ -123,7 +123,7 @@ module _ (whole : ℕ) where
       → EndsAs (record { closed = closed; unclosed = g ∷ gs }) z → AreGames whole below s r
       → read whole (after_game (record { closed = closed; unclosed = g ∷ gs })) s
       ≡ read whole (after_game (add_games closed (g ∷ gs) below)) r
-      → White r (41 ∷ t)
+      → WhiteSpace r (41 ∷ t)
       → read whole z s ≡ read whole (after_game (add_games closed gs (game g.first g.more (joined g.below below) no_games))) t
   over-below closed g gs z h no_game ih last = rw followed-none (end-closed closed g gs z h last)
   over-below {below} closed g gs z h (games w n ns bs l hs) ih last =

@@ -2,7 +2,7 @@
 use Rattle.std.proofs.Common.{◌≡◌, ◌≢◌, ℕ, ◌+◌, ◌<◌, ◌≤◌, true, false, inl, inr, List, [], ◌∷◌, ◌++◌, length, get_or, Some, None, refl, sym, ap, subst, ◌∙◌, arith, length-append, ne_eqb}
 use Rattle.std.proofs.lemmas.Bool.{cases_lt}
 use Rattle.sgf_tree.specs.Tree.{Games, no_games, game}
-use Rattle.sgf_tree.specs.Spelling.{is_white}
+use Rattle.sgf_tree.specs.Spelling.{is_white_space}
 use Rattle.sgf_tree.specs.inner.Machine.{OpenGame, Stack, Started, opened, in_node, after_game, after_node, between_games, ended, new_game, new_node, next_state, accepted}
 use Rattle.sgf_tree.specs.Refusal.{IsFaultyAt}
 use Rattle.sgf_tree.specs.inner.Progress.{ComesTo, IsSpan}
@@ -21,7 +21,7 @@ opened-node : (at : ℕ) (k : Stack) → next_state at (opened k) 59 ≡ Some (n
 unfolding next_state
 opened-node at k = refl
 
-opened-refused : (at : ℕ) (k : Stack) (b : ℕ) → is_white b ≡ false → b ≢ 59 → next_state at (opened k) b ≡ None
+opened-refused : (at : ℕ) (k : Stack) (b : ℕ) → is_white_space b ≡ false → b ≢ 59 → next_state at (opened k) b ≡ None
 unfolding next_state
 opened-refused at k b white ne = rw (white, ne_eqb b 59 ne)
 
@@ -36,11 +36,11 @@ open-unaccepted no_games g gs = refl
 open-unaccepted (game first more below after) g gs = refl
 
 -- after a node that no `;` follows the machine goes on as between games
-node-between : (at : ℕ) (k : Stack) (b : ℕ) → is_white b ≡ false → b ≢ 59 → after_node at k b ≡ between_games k b
+node-between : (at : ℕ) (k : Stack) (b : ℕ) → is_white_space b ≡ false → b ≢ 59 → after_node at k b ≡ between_games k b
 node-between at k b white ne = rw (white, ne_eqb b 59 ne)
 
 module _ (t : List ℕ) where
-  module _ (at place : ℕ) (k : Stack) (white : IsSpan is_white t at place) (after : ComesTo t at (opened k)) where
+  module _ (at place : ℕ) (k : Stack) (white : IsSpan is_white_space t at place) (after : ComesTo t at (opened k)) where
     pub place-reached : ComesTo t place (opened k)
     place-reached = run-white t at place (opened k) (stays-opened k) white.rises white.within white.passing after
 
@@ -72,10 +72,10 @@ module _ (t : List ℕ) where
     pub stack_is : ended whole ≡ record { closed = k.closed; unclosed = last ∷ k.unclosed }
     pub held : HoldStack t (record { closed = k.closed; unclosed = last ∷ k.unclosed }) ns
     pub nothing_below : last.below ≡ no_games
-    pub not_white : end < length t → is_white (get_or t end 0) ≡ false
+    pub not_white_space : end < length t → is_white_space (get_or t end 0) ≡ false
 
   pub sequence-first : (at place end : ℕ) (k : Stack) (link : Link) (ns ns' : List NodeEntry)
-      → IsSpan is_white t at place → ComesTo t at (opened k) → HoldStack t k ns → IsOpening k link → place < length t → get_or t place 0 ≡ 59
+      → IsSpan is_white_space t at place → ComesTo t at (opened k) → HoldStack t k ns → IsOpening k link → place < length t → get_or t place 0 ≡ 59
       → IsNodeRead t place end link ns ns' → SequenceSoFar end k ns'
   sequence-first at place end k link ns ns' white after held opening lt e read =
       let n : Started = record { stack = k; opens = true; place = place; properties = [] } in
@@ -87,7 +87,7 @@ module _ (t : List ℕ) where
         stack_is = refl;
         held = first-held t k place end own.0 link ns ns' held opening read lt;
         nothing_below = refl;
-        not_white = read.properties.not_white;
+        not_white_space = read.properties.not_white_space;
       }
 
   pub sequence-next : (place end : ℕ) (k : Stack) (ns ns' : List NodeEntry)
@@ -105,7 +105,7 @@ module _ (t : List ℕ) where
         stack_is = refl;
         held = next-held t k.closed so_far.last k.unclosed place end own.0 ns ns' so_far.held so_far.nothing_below read lt;
         nothing_below = so_far.nothing_below;
-        not_white = read.properties.not_white;
+        not_white_space = read.properties.not_white_space;
       }
 
   -- no further node follows
@@ -117,9 +117,9 @@ module _ (t : List ℕ) where
         stands = record {
           state = so_far.stands.state;
           reached = so_far.stands.reached;
-          next = λ lt. so_far.stands.next lt ∙ ap (λ s. after_node end s (get_or t end 0)) so_far.stack_is ∙ node-between end k' (get_or t end 0) (so_far.not_white lt) (other lt);
+          next = λ lt. so_far.stands.next lt ∙ ap (λ s. after_node end s (get_or t end 0)) so_far.stack_is ∙ node-between end k' (get_or t end 0) (so_far.not_white_space lt) (other lt);
           end = so_far.stands.unaccepted ∙ sym (open-unaccepted k.closed so_far.last k.unclosed);
-          not_white = so_far.not_white;
+          not_white_space = so_far.not_white_space;
         };
         held = so_far.held;
         nothing_below = so_far.nothing_below;

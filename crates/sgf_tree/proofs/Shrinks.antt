@@ -2,11 +2,11 @@
 use Rattle.std.proofs.Common.{ℕ, ◌≤◌, List, length, arith}
 use Rattle.sgf_tree.specs.Tree.{Property}
 use Rattle.sgf_tree.specs.RawValue.{IsValue, no_unit, plain, escaped}
-use Rattle.sgf_tree.specs.Spelling.{White, no_white, white, Letters, no_letter, upper, lower, IsPropValue, prop_value, ArePropValues, no_value, value, IsProperty, property, AreProperties, no_property, properties, Mark, no_mark, mark}
+use Rattle.sgf_tree.specs.Spelling.{WhiteSpace, no_white_space, white_space, Letters, no_letter, upper, lower, IsPropValue, prop_value, ArePropValues, no_value, value, IsProperty, property, AreProperties, no_property, properties, ByteOrderMark, no_byte_order_mark, byte_order_mark}
 
-pub shrinks-White : {s r : List ℕ} → White s r → length r ≤ length s
-shrinks-White no_white = omega arith
-shrinks-White (white h w) = let k = shrinks-White w in omega arith
+pub shrinks-WhiteSpace : {s r : List ℕ} → WhiteSpace s r → length r ≤ length s
+shrinks-WhiteSpace no_white_space = omega arith
+shrinks-WhiteSpace (white_space h w) = let k = shrinks-WhiteSpace w in omega arith
 
 pub shrinks-Letters : {name s r : List ℕ} → Letters name s r → length r ≤ length s
 shrinks-Letters no_letter = omega arith
@@ -20,7 +20,7 @@ shrinks-IsValue (escaped v) = let m = shrinks-IsValue v in omega arith
 
 pub shrinks-IsPropValue : {v s r : List ℕ} → IsPropValue v s r → length r ≤ length s
 shrinks-IsPropValue (prop_value w v) =
-    let k = shrinks-White w in let m = shrinks-IsValue v in omega arith
+    let k = shrinks-WhiteSpace w in let m = shrinks-IsValue v in omega arith
 
 pub shrinks-ArePropValues : {vs : List (List ℕ)} {s r : List ℕ} → ArePropValues vs s r → length r ≤ length s
 shrinks-ArePropValues no_value = omega arith
@@ -29,7 +29,7 @@ shrinks-ArePropValues (value v vs) =
 
 pub shrinks-IsProperty : {p : Property} {s r : List ℕ} → IsProperty p s r → length r ≤ length s
 shrinks-IsProperty (property w h l v vs) =
-    let a = shrinks-White w in
+    let a = shrinks-WhiteSpace w in
     let b = shrinks-Letters l in
     let c = shrinks-IsPropValue v in
     let d = shrinks-ArePropValues vs in
@@ -40,6 +40,6 @@ shrinks-AreProperties no_property = omega arith
 shrinks-AreProperties (properties p ps) =
     let k = shrinks-IsProperty p in let m = shrinks-AreProperties ps in omega arith
 
-pub shrinks-Mark : {s r : List ℕ} → Mark s r → length r ≤ length s
-shrinks-Mark no_mark = omega arith
-shrinks-Mark mark = omega arith
+pub shrinks-ByteOrderMark : {s r : List ℕ} → ByteOrderMark s r → length r ≤ length s
+shrinks-ByteOrderMark no_byte_order_mark = omega arith
+shrinks-ByteOrderMark byte_order_mark = omega arith

@@ -2,7 +2,7 @@
 use Rattle.std.proofs.Common.{◌≡◌, ◌≢◌, ℕ, zero, suc, ◌+◌, ◌-◌, ◌<◌, ◌≤◌, ◌⊎◌, IsTrue, if◌then◌else◌, List, [], ◌∷◌, ◌++◌, length, get_or, take, drop, slice_range, filter, Some, refl, sym, ap, ◌∙◌, subst, inl, inr, add-zero, append_assoc, append-nil, get_or-drop, length-drop, ne_eqb, arith}
 use Rattle.std.proofs.lemmas.List.{take_more}
 use Rattle.std.proofs.lemmas.List.Elements.{filter-append}
-use Rattle.sgf_tree.specs.Spelling.{is_white, is_upper, is_lower}
+use Rattle.sgf_tree.specs.Spelling.{is_white_space, is_upper, is_lower}
 use Rattle.sgf_tree.specs.inner.Machine.{Started, MachineState, start, in_name, in_value, after_escape, next_state, run}
 use Rattle.sgf_tree.proofs.Classes.{lower-not_upper}
 use Rattle.sgf_tree.proofs.Run.{run-take-step}
@@ -44,7 +44,7 @@ module _ (t : List ℕ) where
 
   -- white space, where the state stays
   pub run-white : (at to : ℕ) (z : MachineState) → Stays z → at ≤ to → to ≤ length t
-      → ((i : ℕ) → at ≤ i → i < to → IsTrue (is_white (get_or t i 0)))
+      → ((i : ℕ) → at ≤ i → i < to → IsTrue (is_white_space (get_or t i 0)))
       → run 0 start (take at t) ≡ Some z → run 0 start (take to t) ≡ Some z
   run-white at to z stays le within white h =
       run-span at to (λ i. z) le within (λ i low high. stays (get_or t i 0) i (white i low high)) h

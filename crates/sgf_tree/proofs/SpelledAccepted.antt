@@ -2,7 +2,7 @@
 use Rattle.std.proofs.Common.{◌≡◌, ℕ, List, [], ◌∷◌, length, Some, option_and_then, refl, sym, ap, ◌∙◌}
 use Rattle.std.proofs.lemmas.Option.{same_Some}
 use Rattle.sgf_tree.specs.Tree.{Games, no_games, game}
-use Rattle.sgf_tree.specs.Spelling.{White, no_white, white, games, Mark, no_mark, mark, Spells, spells}
+use Rattle.sgf_tree.specs.Spelling.{WhiteSpace, no_white_space, white_space, games, ByteOrderMark, no_byte_order_mark, byte_order_mark, Spells, spells}
 use Rattle.sgf_tree.specs.inner.Machine.{start, first_of_mark, second_of_mark, opened, after_game, next_state, accepted, collection_of}
 use Rattle.sgf_tree.proofs.Classes.{white-not_mark}
 use Rattle.sgf_tree.proofs.Transitions.{no_stack}
@@ -11,18 +11,18 @@ use Rattle.sgf_tree.proofs.ReadingGames.{over-games}
 use Rattle.sgf_tree.proofs.Skipping.{stays-after_game}
 
 -- where no byte order mark stands, the start is like the end of a game
-from-start : (whole : ℕ) {s t : List ℕ} → White s (40 ∷ t) → read whole start s ≡ read whole (after_game no_stack) s
+from-start : (whole : ℕ) {s t : List ℕ} → WhiteSpace s (40 ∷ t) → read whole start s ≡ read whole (after_game no_stack) s
 unfolding next_state
-from-start whole {s} {t} no_white =
+from-start whole {s} {t} no_white_space =
     one-byte whole start (opened no_stack) 40 t (λ at. refl) ∙ sym (one-byte whole (after_game no_stack) (opened no_stack) 40 t (λ at. refl))
-from-start whole (white {b} {s} h w) =
+from-start whole (white_space {b} {s} h w) =
     one-byte whole start (after_game no_stack) b s (λ at. rw (white-not_mark b h, h))
     ∙ sym (one-byte whole (after_game no_stack) (after_game no_stack) b s (λ at. rw h))
 
-over-mark : (whole : ℕ) {s t u : List ℕ} → Mark t s → White s (40 ∷ u) → read whole start t ≡ read whole (after_game no_stack) s
+over-mark : (whole : ℕ) {s t u : List ℕ} → ByteOrderMark t s → WhiteSpace s (40 ∷ u) → read whole start t ≡ read whole (after_game no_stack) s
 unfolding next_state
-over-mark whole no_mark w = from-start whole w
-over-mark whole {s} mark w =
+over-mark whole no_byte_order_mark w = from-start whole w
+over-mark whole {s} byte_order_mark w =
     one-byte whole start first_of_mark 239 (187 ∷ 191 ∷ s) (λ at. refl)
     ∙ one-byte whole first_of_mark second_of_mark 187 (191 ∷ s) (λ at. refl)
     ∙ one-byte whole second_of_mark (after_game no_stack) 191 s (λ at. refl)

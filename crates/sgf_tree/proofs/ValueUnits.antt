@@ -1,7 +1,7 @@
 -- Which `]` ends a raw value: the first one with an even number of `\` directly before it.
 use Rattle.std.proofs.Common.{◌≡◌, ◌≢◌, ℕ, zero, suc, ◌+◌, ◌-◌, ◌*◌, ◌/◌, ◌%◌, ◌<◌, ◌≤◌, ◌⊎◌, inl, inr, List, length, get_or, true, sym, ap, subst, ◌∙◌, arith}
 use Rattle.std.proofs.lemmas.Bool.{cases_eq}
-use Rattle.sgf_tree.specs.inner.Progress.{is_plain, ArePlain, HasNoBracket, IsBareBracket, IsEscapeRun, AreEscapes, SpellsValue, SpellsNoValue, IsUnended}
+use Rattle.sgf_tree.specs.inner.Progress.{is_plain, ArePlain, HasNoBracket, IsBareBracket, AreBackslashesBefore, AreEscapes, SpellsValue, SpellsNoValue, IsUnended}
 use Rattle.sgf_tree.proofs.ValueEnds.{AreUnits, other-plain, units-none, units-plain, units-escape, units-end, escape-end}
 use Rattle.sgf_tree.proofs.ValueSpelled.{spelled-none, spelled-plain, spelled-escape, none-ended, none-cut}
 
@@ -11,7 +11,7 @@ pub record AreValueUnits (t : List ℕ) (at end : ℕ) : Type 0 where
   pub read : AreUnits t at end
   pub spelled : SpellsValue t at end
 
--- and behind these a `\` as the last byte before `end`
+-- and after these a `\` as the last byte before `end`
 record AreCutUnits (t : List ℕ) (at start end : ℕ) : Type 0 where
   last : ℕ
   rises : start ≤ last
@@ -85,7 +85,7 @@ module _ (t : List ℕ) (at : ℕ) where
   escapes-units a b escapes units =
       subst (AreValueUnits t at) (sym escapes.bytes) (side-by-side escapes.count a (omega (arith, escapes.bytes, escapes.within)) escapes.each units)
 
-  module _ (start first end : ℕ) (within : end ≤ length t) (none : HasNoBracket t start end) (run : IsEscapeRun t start first end) (units : AreValueUnits t at start) where
+  module _ (start first end : ℕ) (within : end ≤ length t) (none : HasNoBracket t start end) (run : AreBackslashesBefore t start first end) (units : AreValueUnits t at start) where
     -- the run of `\` begins between units
     run-units : AreValueUnits t at first
     run-units =

@@ -1,7 +1,7 @@
 -- How the values of a property are read, one after another.
 use Rattle.std.proofs.Common.{◌≡◌, ◌≢◌, ℕ, ◌+◌, ◌<◌, ◌≤◌, false, List, [], length, get_or, slice_range, Some, refl, arith}
 use Rattle.sgf_tree.specs.Tree.{Property, values}
-use Rattle.sgf_tree.specs.Spelling.{is_white}
+use Rattle.sgf_tree.specs.Spelling.{is_white_space}
 use Rattle.sgf_tree.specs.inner.Machine.{Started, in_value, after_value, property_of, next_state}
 use Rattle.sgf_tree.specs.inner.Progress.{ComesTo, IsSpan, IsValueEnd}
 use Rattle.sgf_tree.specs.inner.PropertiesRead.{AreValuesRead}
@@ -31,16 +31,16 @@ module _ (t : List ℕ) where
   pub record ValuesBefore (bracket at : ℕ) : Type 0 where
     pub rises : bracket < at
     pub within : at ≤ length t
-    pub not_white : at < length t → is_white (get_or t at 0) ≡ false
+    pub not_white_space : at < length t → is_white_space (get_or t at 0) ≡ false
     pub reached : (n : Started) (name : List ℕ) → ComesTo t (bracket + 1) (in_value n name [] [])
         → (p : Property) × ComesTo t at (after_value n p)
 
-  pub values-step : (bracket at end next : ℕ) → ValuesSoFar bracket at → IsValueEnd t (at + 1) end → IsSpan is_white t (end + 1) next → ValuesBefore bracket next
+  pub values-step : (bracket at end next : ℕ) → ValuesSoFar bracket at → IsValueEnd t (at + 1) end → IsSpan is_white_space t (end + 1) next → ValuesBefore bracket next
   values-step bracket at end next so_far is_end white =
       record {
         rises = omega (arith, so_far.rises, is_end.rises, white.rises);
         within = white.within;
-        not_white = white.stops;
+        not_white_space = white.stops;
         reached = λ n name h.
             let before = so_far.reached n name h in
             let raw : List ℕ = slice_range t (at + 1) end in
@@ -67,6 +67,6 @@ module _ (t : List ℕ) where
       record {
         rises = before.rises;
         within = before.within;
-        stops = λ lt. (before.not_white lt, other lt);
+        stops = λ lt. (before.not_white_space lt, other lt);
         reached = before.reached;
       }

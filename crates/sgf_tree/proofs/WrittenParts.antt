@@ -6,11 +6,11 @@ use Rattle.std.proofs.lemmas.List.{drop-drop}
 use Rattle.std.specs.List.{flat_map}
 use Rattle.sgf_tree.specs.Tree.{Property}
 use Rattle.sgf_tree.specs.RawValue.{IsValue}
-use Rattle.sgf_tree.specs.Spelling.{is_white, is_upper, White, no_white, Letters, no_letter, upper, IsPropValue, prop_value, ArePropValues, no_value, value, IsProperty, property, AreProperties, no_property, properties}
+use Rattle.sgf_tree.specs.Spelling.{is_white_space, is_upper, WhiteSpace, no_white_space, Letters, no_letter, upper, IsPropValue, prop_value, ArePropValues, no_value, value, IsProperty, property, AreProperties, no_property, properties}
 use Rattle.sgf_tree.specs.Written.{value_text, property_text}
-use Rattle.sgf_tree.specs.inner.NodeText.{is_letter, left_after, front, values_in, property_from, name_in, after_values_up_to, properties_in, EndsValues, EndsNode, ArePropertiesIn, AreValuesWritten, IsPropertyWritten, ArePropertiesWritten}
+use Rattle.sgf_tree.specs.inner.NodeText.{is_letter, left_after, front, values_in, property_from, name_in, after_values_up_to, properties_in, NoValueFollows, NoPropertyFollows, ArePropertiesIn, AreValuesWritten, IsPropertyWritten, ArePropertiesWritten}
 use Rattle.sgf_tree.specs.inner.Progress.{IsSpan, SpellsValue}
-use Rattle.sgf_tree.proofs.Classes.{upper-not_white}
+use Rattle.sgf_tree.proofs.Classes.{upper-not_white_space}
 use Rattle.sgf_tree.proofs.NameEnds.{span-one}
 use Rattle.sgf_tree.proofs.NodesSpelled.{white-byte}
 use Rattle.sgf_tree.proofs.NodeTexts.{white-same, white-none, ends-values, property-is, properties-in}
@@ -24,25 +24,25 @@ capitals (suc n) [] le h = absurd (omega arith)
 capitals (suc n) (b ∷ s) le h = upper (h 0 (omega arith)) (capitals n s (omega arith) (λ i lt. h (suc i) (omega arith)))
 
 -- no value follows a run of white space before another byte
-ends-run : (s : List ℕ) (k : ℕ) → IsSpan is_white s 0 k → (k < length s → get_or s k 0 ≢ 91) → EndsValues s
+ends-run : (s : List ℕ) (k : ℕ) → IsSpan is_white_space s 0 k → (k < length s → get_or s k 0 ≢ 91) → NoValueFollows s
 ends-run s k run other b u w e =
     elim (cases_lt k (length s)) [
       | inl lt ↦
           elim (white-byte (white-to s k run lt) w (run.stops lt)) [
-            | inl white ↦ false≢true (subst (λ c. is_white c ≡ true) e white)
+            | inl white ↦ false≢true (subst (λ c. is_white_space c ≡ true) e white)
             | inr same ↦ other lt (sym same ∙ e)
           ]
-      | inr le ↦ nothing (white-all s k run le) (subst (λ c. White s (c ∷ u)) e w)
+      | inr le ↦ nothing (white-all s k run le) (subst (λ c. WhiteSpace s (c ∷ u)) e w)
     ]
   where
-    nothing : {r x : List ℕ} → White r [] → ¬ White r (91 ∷ x)
+    nothing : {r x : List ℕ} → WhiteSpace r [] → ¬ WhiteSpace r (91 ∷ x)
     nothing v z = white-none v z refl
 
 -- the first property has one form
-head-same : {p q : Property} {qs : List Property} {s r m : List ℕ} → IsProperty p s r → EndsValues r → AreProperties (q ∷ qs) s m → EndsNode m
+head-same : {p q : Property} {qs : List Property} {s r m : List ℕ} → IsProperty p s r → NoValueFollows r → AreProperties (q ∷ qs) s m → NoPropertyFollows m
     → (q ≡ p) × AreProperties qs r m
 head-same {qs = qs} {m = m} (property {b} {name} {v} {t = t} {u} {r = r} {vs = vs} w h l first more) ends (properties (property {b = c} {name = other} {v = x} {t = k} {u = z} {r = j} {vs = xs} w2 h2 l2 first2 more2) are) done =
-    let same = white-same w w2 (upper-not_white b h) (upper-not_white c h2) in
+    let same = white-same w w2 (upper-not_white_space b h) (upper-not_white_space c h2) in
     let e : b ∷ t ≡ c ∷ k = ap (λ a. a ∷ t) same.0 ∙ ap (λ a. c ∷ a) same.1 in
     let i = property-is {b = b} h l first more ends in
     let o = property-is {b = c} h2 l2 first2 more2 (ends-values are done) in
@@ -55,13 +55,13 @@ head-same {qs = qs} {m = m} (property {b} {name} {v} {t = t} {u} {r = r} {vs = v
     )
 
 -- a node doesn't end before a property
-upper-first : {p : Property} {s r : List ℕ} → IsProperty p s r → ¬ EndsNode s
+upper-first : {p : Property} {s r : List ℕ} → IsProperty p s r → ¬ NoPropertyFollows s
 upper-first (property {b} {t = t} w h l first more) done = false≢true (sym (done b t w).1 ∙ h)
 
-left-after : {p : Property} {s r : List ℕ} → ArePropertiesIn s → IsProperty p s r → EndsValues r → (properties_in s ≡ p ∷ properties_in r) × ArePropertiesIn r
+left-after : {p : Property} {s r : List ℕ} → ArePropertiesIn s → IsProperty p s r → NoValueFollows r → (properties_in s ≡ p ∷ properties_in r) × ArePropertiesIn r
 left-after {p} {s} {r} held is ends = after held.properties held.rest held.spelled held.ends
   where
-    after : (ps : List Property) (m : List ℕ) → AreProperties ps s m → EndsNode m → (properties_in s ≡ p ∷ properties_in r) × ArePropertiesIn r
+    after : (ps : List Property) (m : List ℕ) → AreProperties ps s m → NoPropertyFollows m → (properties_in s ≡ p ∷ properties_in r) × ArePropertiesIn r
     after [] m no_property done = absurd (upper-first is done)
     after (q ∷ qs) m are done =
         let both = head-same is ends are done in (
@@ -83,7 +83,7 @@ module _ (t : List ℕ) where
       let open_at : drop at t ≡ 91 ∷ drop (at + 1) t = byte-at t at lt ∙ ap (λ b. b ∷ drop (at + 1) t) e in
       let close_at : drop close t ≡ 93 ∷ drop (close + 1) t = byte-at t close inside ∙ ap (λ b. b ∷ drop (close + 1) t) f in
       let one : IsPropValue v (drop at t) (drop (close + 1) t) =
-      prop_value (subst (λ s. White s (91 ∷ drop (at + 1) t)) (sym open_at) no_white) (subst (IsValue v (drop (at + 1) t)) close_at spelled) in
+      prop_value (subst (λ s. WhiteSpace s (91 ∷ drop (at + 1) t)) (sym open_at) no_white_space) (subst (IsValue v (drop (at + 1) t)) close_at spelled) in
       let first : slice_range t at (at + 1) ≡ 91 ∷ [] = span-one t at lt ∙ ap (λ b. b ∷ []) e in
       let last : slice_range t close (close + 1) ≡ 93 ∷ [] = span-one t close inside ∙ ap (λ b. b ∷ []) f in
       let whole : slice_range t at (close + 1) ≡ value_text v =
@@ -102,7 +102,7 @@ module _ (t : List ℕ) where
       }
 
   pub property-one : (at name_end end next : ℕ) → IsSpan is_upper t at name_end → AreValuesWritten t name_end end → name_end ≢ at → end ≢ name_end
-      → IsSpan is_white t end next → (next < length t → get_or t next 0 ≢ 91) → IsPropertyWritten t at end
+      → IsSpan is_white_space t end next → (next < length t → get_or t next 0 ≢ 91) → IsPropertyWritten t at end
   property-one at name_end end next run written named some white other =
       whole written.values written.spelled written.text
     where
@@ -123,7 +123,7 @@ module _ (t : List ℕ) where
           subst (Letters name (drop (at + 1) t)) there
           (capitals (name_end - (at + 1)) (drop (at + 1) t) (omega (arith, run.within, length-drop (at + 1) t))
           (λ i small. subst (λ c. IsTrue (is_upper c)) (sym (get_or-drop (at + 1) t i 0)) (run.passing (at + 1 + i) (omega arith) (omega arith)))) in
-          let starts : White (drop at t) (b ∷ drop (at + 1) t) = subst (λ s. White s (b ∷ drop (at + 1) t)) (sym (byte-at t at (omega (arith, run.within)))) no_white in
+          let starts : WhiteSpace (drop at t) (b ∷ drop (at + 1) t) = subst (λ s. WhiteSpace s (b ∷ drop (at + 1) t)) (sym (byte-at t at (omega (arith, run.within)))) no_white_space in
           let head : slice_range t at name_end ≡ b ∷ name =
           sym (span-join t at (at + 1) name_end (omega arith) (omega arith)) ∙ ap (λ s. s ++ name) (span-one t at (omega (arith, run.within))) in
           record {
@@ -131,7 +131,7 @@ module _ (t : List ℕ) where
             within = written.within;
             property = record { name = b ∷ name; first = v; more = vs };
             spelled = property starts capital letters first more;
-            ends = ends-run (drop end t) (next - end) (run-drop is_white t end next white) (λ small e. other (omega (arith, white.rises, length-drop end t)) (sym (here small) ∙ e));
+            ends = ends-run (drop end t) (next - end) (run-drop is_white_space t end next white) (λ small e. other (omega (arith, white.rises, length-drop end t)) (sym (here small) ∙ e));
             text =
                 sym (span-join t at name_end end low written.rises) ∙ ap (λ s. s ++ slice_range t name_end end) head
                 ∙ ap (λ s. (b ∷ name) ++ s) text;

@@ -14,5 +14,5 @@ raised by (game first more below after) =
     game (raised_node by first) (map (raised_node by) more) (raised by below) (raised by after)
 
 -- the first bytes are the UTF-8 byte order mark
-abbrev pub BeginsWithMark : List ℕ → Type 0
-BeginsWithMark t = take 3 t ≡ byte_ef ∷ byte_bb ∷ byte_bf ∷ []
+abbrev pub BeginsWithByteOrderMark : List ℕ → Type 0
+BeginsWithByteOrderMark t = take 3 t ≡ byte_ef ∷ byte_bb ∷ byte_bf ∷ []

@@ -12,53 +12,53 @@ pub record OrderedNode : Type 0 where
 -- the further nodes of a game, where `last` is the number of the node before them
 abbrev pub further_nodes : ℕ → List Node → List OrderedNode
 further_nodes last [] = []
-further_nodes last (n ∷ ns) = record { node = n; parent = Some last; opens = false } ∷ further_nodes (last + 1) ns
+further_nodes last (node ∷ rest) = record { node = node; parent = Some last; opens = false } ∷ further_nodes (last + 1) rest
 
--- the nodes of games whose first node has the number `at` and follows `parent`: a game's own nodes, those of the
+-- the nodes of games whose first node has the number `number` and follows `parent`: a game's own nodes, those of the
 -- games below its last own node, and those of the games after it
 abbrev pub nodes_from : ℕ → Option ℕ → Games → List OrderedNode
-nodes_from at parent no_games = []
-nodes_from at parent (game first more below after) =
-    let last = at + length more in
-    record { node = first; parent = parent; opens = true } ∷ further_nodes at more
+nodes_from number parent no_games = []
+nodes_from number parent (game first more below after) =
+    let last = number + length more in
+    record { node = first; parent = parent; opens = true } ∷ further_nodes number more
     ++ nodes_from (last + 1) (Some last) below
     ++ nodes_from (last + 1 + node_count below) parent after
 
 -- the nodes of a collection in file order
 abbrev pub ordered_nodes : Games → List OrderedNode
-ordered_nodes c = nodes_from 0 None c
+ordered_nodes games = nodes_from 0 None games
 
 -- the node of a number, and the number of the node before it on its line
 abbrev pub node_at : Games → ℕ → Option Node
-node_at c i = option_map (λ r. r.node) (slice_get (ordered_nodes c) i)
+node_at games number = option_map (λ ordered. ordered.node) (slice_get (ordered_nodes games) number)
 
 abbrev pub place_at : Games → ℕ → Option ℕ
-place_at c i = option_map (λ r. r.node.place) (slice_get (ordered_nodes c) i)
+place_at games number = option_map (λ ordered. ordered.node.place) (slice_get (ordered_nodes games) number)
 
 abbrev pub parent_at : Games → ℕ → Option (Option ℕ)
-parent_at c i = option_map (λ r. r.parent) (slice_get (ordered_nodes c) i)
+parent_at games number = option_map (λ ordered. ordered.parent) (slice_get (ordered_nodes games) number)
 
--- no node follows node i on a line
+-- no node follows that node on a line
 abbrev pub IsLeaf : Games → ℕ → Type 0
-IsLeaf c i = (j : ℕ) → parent_at c j ≢ Some (Some i)
+IsLeaf games number = (other : ℕ) → parent_at games other ≢ Some (Some number)
 
--- the number of the game that has node i, from 1
+-- the number of the game that has that node, from 1
 abbrev pub game_of : Games → ℕ → ℕ
-game_of no_games i = 0
-game_of (game first more below after) i =
+game_of no_games number = 0
+game_of (game first more below after) number =
     let size = 1 + length more + node_count below in
-    if nat_lt i size then 1 else 1 + game_of after (i - size)
+    if nat_lt number size then 1 else 1 + game_of after (number - size)
 
--- j is i, or a node below i
-pub data IsUnder (c : Games) (i : ℕ) : ℕ → Type 0 where
-  itself : IsUnder c i i
-  below : {j k : ℕ} → parent_at c k ≡ Some (Some j) → IsUnder c i j → IsUnder c i k
+-- a number is that of the node `number`, or of a node below it
+pub data IsAtOrBelow (games : Games) (number : ℕ) : ℕ → Type 0 where
+  itself : IsAtOrBelow games number number
+  below : {parent child : ℕ} → parent_at games child ≡ Some (Some parent) → IsAtOrBelow games number parent → IsAtOrBelow games number child
 
--- the greatest number among i and the nodes below it
-pub record IsLastBelow (c : Games) (i last : ℕ) : Type 0 where
-  pub under : IsUnder c i last
-  pub greatest : (j : ℕ) → IsUnder c i j → j ≤ last
+-- the greatest number of the node `number` and the nodes below it
+pub record IsLastBelow (games : Games) (number last : ℕ) : Type 0 where
+  pub under : IsAtOrBelow games number last
+  pub greatest : (other : ℕ) → IsAtOrBelow games number other → other ≤ last
 
 -- the places rise strictly in file order
 abbrev pub PlacesRise : Games → Type 0
-PlacesRise c = (i j p q : ℕ) → i < j → place_at c i ≡ Some p → place_at c j ≡ Some q → p < q
+PlacesRise games = (first second p q : ℕ) → first < second → place_at games first ≡ Some p → place_at games second ≡ Some q → p < q

@@ -7,9 +7,9 @@ use Rattle.sgf_tree.specs.Spelling.{Spells}
 abbrev pub Begins : List ℕ → Type 0
 Begins front = (more : List ℕ) × (c : Games) × All (λ b. b < 256) more × Spells c (front ++ more)
 
--- at is the greatest n for which the first n bytes of t begin some text of the grammar; for a text of the grammar that is
+-- at is the greatest n for which the first n bytes of the text begin some text of the grammar; for a text of the grammar that is
 -- its length
-pub record IsFirstFault (t : List ℕ) (at : ℕ) : Type 0 where
-  pub within : at ≤ length t
-  pub begins : Begins (take at t)
-  pub greatest : (n : ℕ) → n ≤ length t → Begins (take n t) → n ≤ at
+pub record IsFirstFault (text : List ℕ) (at : ℕ) : Type 0 where
+  pub within : at ≤ length text
+  pub begins : Begins (take at text)
+  pub greatest : (n : ℕ) → n ≤ length text → Begins (take n text) → n ≤ at

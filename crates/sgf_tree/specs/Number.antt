@@ -22,7 +22,7 @@ magnitude_of ds = if are_digits ds then Some (decimal_value ds) else None
 -- `+` or `-` or no sign, and digits
 abbrev pub number_of : List ℕ → Option ℤ
 number_of [] = None
-number_of (b ∷ rest) =
-    if b == plus then option_map pos (magnitude_of rest)
-    else (if b == minus then option_map (λ n. neg_ℤ (pos n)) (magnitude_of rest)
-    else option_map pos (magnitude_of (b ∷ rest)))
+number_of (first ∷ rest) =
+    if first == plus then option_map pos (magnitude_of rest)
+    else (if first == minus then option_map (λ n. neg_ℤ (pos n)) (magnitude_of rest)
+    else option_map pos (magnitude_of (first ∷ rest)))

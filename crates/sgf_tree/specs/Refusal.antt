@@ -7,12 +7,12 @@ use Rattle.sgf_tree.specs.declared.fault.ReadFault.{ReadFault}
 use Rattle.sgf_tree.specs.declared.fault.ReadFault.TheVariants.{TooLong, NotSgf, Memory}
 
 -- no collection is spelled by it, and its first fault is at that offset
-pub record IsFaultyAt (t : List ℕ) (at : ℕ) : Type 0 where
-  pub unspelled : (c : Games) → ¬ Spells c t
-  pub first_fault : IsFirstFault t at
+pub record IsFaultyAt (text : List ℕ) (at : ℕ) : Type 0 where
+  pub unspelled : (c : Games) → ¬ Spells c text
+  pub first_fault : IsFirstFault text at
 
 -- that the text is not of the grammar is said only where it isn't
 abbrev pub IsFaultyWhereNotSgf : List ℕ → ReadFault → Type 0
-IsFaultyWhereNotSgf t TooLong = Unit {0}
-IsFaultyWhereNotSgf t (NotSgf at) = IsFaultyAt t at
-IsFaultyWhereNotSgf t Memory = Unit {0}
+IsFaultyWhereNotSgf text TooLong = Unit {0}
+IsFaultyWhereNotSgf text (NotSgf at) = IsFaultyAt text at
+IsFaultyWhereNotSgf text Memory = Unit {0}

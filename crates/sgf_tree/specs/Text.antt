@@ -8,7 +8,7 @@ is_break b = b == line_feed || b == carriage_return
 
 -- CR LF or LF CR, which side by side are one line break (this project's choice, taken from the left)
 abbrev pub is_pair : ℕ → ℕ → Bool
-is_pair a b = a == carriage_return && b == line_feed || a == line_feed && b == carriage_return
+is_pair byte next = byte == carriage_return && next == line_feed || byte == line_feed && next == carriage_return
 
 -- tab, vertical tab and form feed give a space, every other byte itself
 abbrev pub spaced : ℕ → ℕ
@@ -30,12 +30,12 @@ after_backslash b = if is_break b then [] else spaced b ∷ []
 --   a byte: `spaced` of that byte, and the text of the rest.
 abbrev pub text_of : List ℕ → List ℕ
 text_of [] = []
-text_of (a ∷ []) = if a == backslash then [] else unescaped a ∷ []
-text_of (a ∷ b ∷ []) =
-    if a == backslash then after_backslash b
-    else (if is_pair a b then line_feed ∷ []
-    else unescaped a ∷ text_of (b ∷ []))
-text_of (a ∷ b ∷ c ∷ rest) =
-    if a == backslash then (if is_pair b c then text_of rest else after_backslash b ++ text_of (c ∷ rest))
-    else (if is_pair a b then line_feed ∷ text_of (c ∷ rest)
-    else unescaped a ∷ text_of (b ∷ c ∷ rest))
+text_of (byte ∷ []) = if byte == backslash then [] else unescaped byte ∷ []
+text_of (byte ∷ next ∷ []) =
+    if byte == backslash then after_backslash next
+    else (if is_pair byte next then line_feed ∷ []
+    else unescaped byte ∷ text_of (next ∷ []))
+text_of (byte ∷ next ∷ third ∷ rest) =
+    if byte == backslash then (if is_pair next third then text_of rest else after_backslash next ++ text_of (third ∷ rest))
+    else (if is_pair byte next then line_feed ∷ text_of (third ∷ rest)
+    else unescaped byte ∷ text_of (next ∷ third ∷ rest))

@@ -3,16 +3,16 @@
 
 ghost use Rattle.std.specs.Prelude.{◌≡◌, ◌↔◌, ◌≤◌, ◌<◌, false, [], ◌∷◌, length, drop, slice_index, IsTrue, IfSome, MatchOption};
 ghost use Rattle.sgf_tree.specs.Written.{IsWrittenFront};
-ghost use Rattle.sgf_tree.specs.Spelling.{is_white, is_upper};
+ghost use Rattle.sgf_tree.specs.Spelling.{is_white_space, is_upper};
 ghost use Rattle.sgf_tree.specs.inner.Progress.{IsSpan};
-ghost use Rattle.sgf_tree.specs.inner.NodeText.{properties_in, ArePropertiesIn, AreValuesWritten, IsPropertyWritten, ArePropertiesWritten, IsValueAt, IsValuesEnd, IsNoPropValue};
+ghost use Rattle.sgf_tree.specs.inner.NodeText.{properties_in, ArePropertiesIn, values_in, AreValuesIn, AreValuesWritten, IsPropertyWritten, ArePropertiesWritten, IsValueAt, IsValuesEnd, IsNoPropValue};
 ghost use Rattle.sgf_tree.specs.inner.KeptEnds.{AreKeptEnds};
 
 use crate::layout::LongValue;
 use crate::property::PropRef;
 use crate::reader::long::value_end;
 use crate::reader::scan::{
-    capitals_end, identifier_end, part, rest_from, skip_to_bracket, skip_white,
+    capitals_end, identifier_end, part, rest_from, skip_to_bracket, skip_white_space,
 };
 use std::marker::Model;
 
@@ -42,12 +42,24 @@ impl<'a> Model for Properties<'a> {
 }
 
 impl<'a> Properties<'a> {
+    /// The properties of a node, which begin at `at` in a text. `long` is what was kept of its long values.
+    #[inline(always)]
+    pub(crate) fn new(text: &'a [u8], at: usize, long: &'a Vec<LongValue>) -> Properties<'a>
+        requires within { at ≤ length text.now }
+        requires held { ArePropertiesIn (drop at text.now) }
+        requires kept { AreKeptEnds text.now long.now.items }
+        ensures { result ≡ properties_in (drop at text.now) }
+    {
+        let rest = rest_from(text, at);
+        Properties { rest, long }
+    }
+
     /// Whether none is left.
     pub(crate) fn is_empty(&self) -> bool
         ensures { IsTrue result ↔ self.now ≡ [] }
     {
         let text = self.rest;
-        let start = skip_white(text, 0);
+        let start = skip_white_space(text, 0);
         start == text.len() || !text[start].is_ascii_uppercase()
     }
 
@@ -58,7 +70,7 @@ impl<'a> Properties<'a> {
         ensures { MatchOption result ((self.old ≡ []) × (self.new ≡ [])) (λ p. self.old ≡ p ∷ self.new) }
     {
         let text = self.rest;
-        let start = skip_white(text, 0);
+        let start = skip_white_space(text, 0);
         if start == text.len() || !text[start].is_ascii_uppercase() {
             return None;
         }
@@ -74,7 +86,7 @@ impl<'a> Properties<'a> {
         ensures { IsWrittenFront self.old self.new result.now }
     {
         let text = self.rest;
-        let start = skip_white(text, 0);
+        let start = skip_white_space(text, 0);
         let end = written_properties_end(text, start, self.long);
         self.rest = rest_from(text, end);
         part(text, start, end)
@@ -87,7 +99,7 @@ impl<'a> Properties<'a> {
 fn property_at<'a>(text: &'a [u8], start: usize, long: &Vec<LongValue>) -> (PropRef<'a>, usize)
     requires held { ArePropertiesIn text.now }
     requires kept { AreKeptEnds text.now long.now.items }
-    requires white { IsSpan is_white text.now 0 start }
+    requires white_space { IsSpan is_white_space text.now 0 start }
     requires within { start < length text.now }
     requires capital { IsTrue (is_upper (slice_index text.now start)) }
     ensures within { result.1 ≤ length text.now }
@@ -126,12 +138,25 @@ fn value_at(text: &[u8], at: usize, long: Option<&Vec<LongValue>>) -> Option<(us
     Some((bracket + 1, close))
 }
 
+/// The end of the values at `at`. After the first value of a property there are mostly none.
+fn values_end(text: &[u8], at: usize, long: &Vec<LongValue>) -> usize
+    requires within { at ≤ length text.now }
+    requires kept { AreKeptEnds text.now long.now.items }
+    ensures { IsValuesEnd text.now at result }
+{
+    if begins_value(text, at) {
+        far_values_end(text, at, long)
+    } else {
+        at
+    }
+}
+
 /// Whether a value may be at `at`: white space there, or none, and a `[`.
 fn begins_value(text: &[u8], at: usize) -> bool
     requires { at ≤ length text.now }
     ensures { result ≡ false → IsNoPropValue (drop at text.now) }
 {
-    let bracket = skip_white(text, at);
+    let bracket = skip_white_space(text, at);
     bracket < text.len() && text[bracket] == b'['
 }
 
@@ -149,19 +174,6 @@ fn far_values_end(text: &[u8], at: usize, long: &Vec<LongValue>) -> usize
     end
 }
 
-/// The end of the values at `at`. After the first value of a property there are mostly none.
-fn values_end(text: &[u8], at: usize, long: &Vec<LongValue>) -> usize
-    requires within { at ≤ length text.now }
-    requires kept { AreKeptEnds text.now long.now.items }
-    ensures { IsValuesEnd text.now at result }
-{
-    if begins_value(text, at) {
-        far_values_end(text, at, long)
-    } else {
-        at
-    }
-}
-
 /// The end of the properties at `at`, as far as they stand as the sgf form writes them.
 pub(crate) fn written_properties_end(text: &[u8], at: usize, long: &Vec<LongValue>) -> usize
     requires within { at ≤ length text.now }
@@ -174,22 +186,6 @@ pub(crate) fn written_properties_end(text: &[u8], at: usize, long: &Vec<LongValu
         end = next;
     }
     end
-}
-
-/// The end of the values at `at`, as far as they stand as the sgf form writes them, with nothing between them.
-fn written_values_end(text: &[u8], at: usize, long: &Vec<LongValue>) -> Option<usize>
-    requires within { at ≤ length text.now }
-    requires kept { AreKeptEnds text.now long.now.items }
-    ensures { IfSome result (AreValuesWritten text.now at) }
-{
-    let mut end = at;
-    'values: while end < text.len() && text[end] == b'[' {
-        let Some(close) = value_end(text, end + 1, Some(long)) else {
-            return None;
-        };
-        end = close + 1;
-    }
-    Some(end)
 }
 
 /// The end of the property at `at`.
@@ -206,9 +202,25 @@ fn written_end(text: &[u8], at: usize, long: &Vec<LongValue>) -> Option<usize>
     if name_end == at || end == name_end {
         return None;
     }
-    let next = skip_white(text, end);
+    let next = skip_white_space(text, end);
     if next < text.len() && text[next] == b'[' {
         return None;
+    }
+    Some(end)
+}
+
+/// The end of the values at `at`, as far as they stand as the sgf form writes them, with nothing between them.
+fn written_values_end(text: &[u8], at: usize, long: &Vec<LongValue>) -> Option<usize>
+    requires within { at ≤ length text.now }
+    requires kept { AreKeptEnds text.now long.now.items }
+    ensures { IfSome result (AreValuesWritten text.now at) }
+{
+    let mut end = at;
+    'values: while end < text.len() && text[end] == b'[' {
+        let Some(close) = value_end(text, end + 1, Some(long)) else {
+            return None;
+        };
+        end = close + 1;
     }
     Some(end)
 }
@@ -238,6 +250,18 @@ impl<'a> Model for Values<'a> {
 }
 
 impl<'a> Values<'a> {
+    /// The first raw value of a property, and those at the front of the text after it.
+    #[inline(always)]
+    pub(crate) fn new(first: &'a [u8], more: &'a [u8]) -> Values<'a>
+        requires { AreValuesIn more.now }
+        ensures { result ≡ first.now ∷ values_in more.now }
+    {
+        Values {
+            first: Some(first),
+            rest: more,
+        }
+    }
+
     /// Takes off the next raw value: the bytes between its `[` and its `]`, which are a part of the text that was read.
     /// None after the last one, again and again.
     pub fn next(&mut self) -> Option<&'a [u8]>

@@ -2,14 +2,14 @@
 
 ghost use Rattle.std.specs.Prelude.{◌≡◌, ℕ, List, ◌++◌, length};
 ghost use Rattle.sgf_tree.specs.FileOrder.{PlacesRise};
-ghost use Rattle.sgf_tree.specs.Appending.{raised, BeginsWithMark};
+ghost use Rattle.sgf_tree.specs.Appending.{raised, BeginsWithByteOrderMark};
 ghost use Rattle.sgf_tree.specs.Spelling.{Spells};
 ghost use Rattle.sgf_tree.specs.Tree.{Games, joined};
 
 /// One text after another: where t spells c, and u, which doesn't begin with a byte order mark, spells d, the two
 /// joined spell the games of c followed by those of d, with the places of d raised by the length of t.
 pub fn append()
-    ensures { (c d : Games) (t u : List ℕ) → Spells c t → Spells d u → ¬ BeginsWithMark u
+    ensures { (c d : Games) (t u : List ℕ) → Spells c t → Spells d u → ¬ BeginsWithByteOrderMark u
         → Spells (joined c (raised (length t) d)) (t ++ u) }
 {}
 

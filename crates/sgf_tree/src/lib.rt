@@ -17,13 +17,18 @@
 //! }
 //! ```
 //!
-//! - `fault` has the ways in which a call may fail.
-//! - `layout` has the entries of the flat vectors that hold a collection.
-//! - `collection`, `node` and `property` look into a collection that was read.
-//! - `iter` steps forward over the properties of a node and the values of a property.
-//! - `reader` reads a text, and keeps where its long values end.
-//! - `text` decodes the text of a value, and `numbers` has the value of a number.
-//! - `laws` has what holds of all texts.
+//! | Module | What it has |
+//! |---|---|
+//! | `reader` | reading a text, and the first fault |
+//! | `reader/games`, `reader/properties` | reading nodes and games; reading the properties of a node |
+//! | `reader/long` | where raw values end, and keeping where the long ones do |
+//! | `reader/mark`, `reader/scan`, `reader/fault` | the byte order mark; where spans of a text end; why a text is not read on |
+//! | `collection`, `node`, `property` | looking into a collection that was read |
+//! | `iter` | steps forward over the properties of a node and the values of a property |
+//! | `layout` | the entries of the flat vectors that hold a collection |
+//! | `text`, `numbers` | the decoded text of a value; the value of a number |
+//! | `fault` | the ways in which a call may fail |
+//! | `laws` | what holds of all texts |
 #![tactic(auto)]
 
 mod collection;

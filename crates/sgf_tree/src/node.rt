@@ -8,7 +8,7 @@ ghost use Rattle.sgf_tree.specs.Written.{node_text, IsWrittenNode};
 use crate::iter::{Properties, written_properties_end};
 use crate::layout::LongValue;
 use crate::property::PropRef;
-use crate::reader::scan::{is_front_of_more, is_lone_node, part, rest_from};
+use crate::reader::scan::{is_front_of_more, is_lone_node, part};
 use std::marker::Model;
 
 /// A node, seen as its place and its properties.
@@ -45,9 +45,8 @@ impl<'a> NodeRef<'a> {
     pub fn iter(&self) -> Properties<'a>
         ensures { result ≡ self.now.properties }
     {
-        let text = rest_from(self.text, 1);
-        let long = self.long;
-        Properties { rest: text, long }
+        let text = self.text;
+        Properties::new(text, 1, self.long)
     }
 
     /// Its text from its `;` on, as far as it stands as the sgf form writes it, with no white space and no small letter
@@ -63,10 +62,7 @@ impl<'a> NodeRef<'a> {
         let long = self.long;
         let end = written_properties_end(text, 1, long);
         let text = part(self.text, 0, end);
-        let left = Properties {
-            rest: rest_from(self.text, end),
-            long,
-        };
+        let left = Properties::new(self.text, end, long);
         if left.is_empty() {
             (text, None)
         } else {
@@ -96,10 +92,7 @@ impl<'a> NodeRef<'a> {
     {
         let text = self.text;
         if is_front_of_more(text) {
-            let left = Properties {
-                rest: rest_from(text, 6),
-                long: self.long,
-            };
+            let left = Properties::new(text, 6, self.long);
             Some((text[1], part(text, 3, 5), left))
         } else {
             None
@@ -111,9 +104,7 @@ impl<'a> NodeRef<'a> {
     pub fn props(&self) -> usize
         ensures { result ≡ length self.now.properties }
     {
-        let rest = rest_from(self.text, 1);
-        let long = self.long;
-        let mut left = Properties { rest, long };
+        let mut left = Properties::new(self.text, 1, self.long);
         let mut count = 0;
         while let Some(_property) = left.next() {
             count += 1;

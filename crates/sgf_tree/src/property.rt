@@ -84,10 +84,7 @@ impl<'a> PropRef<'a> {
     pub fn iter(&self) -> Values<'a>
         ensures { result ≡ values self.now }
     {
-        Values {
-            first: Some(self.first),
-            rest: self.more,
-        }
+        Values::new(self.first, self.more)
     }
 
     /// The number of its values, at least 1.
@@ -95,12 +92,8 @@ impl<'a> PropRef<'a> {
     pub fn values(&self) -> usize
         ensures { result ≡ length (values self.now) }
     {
-        let more = self.more;
-        let mut left = Values {
-            first: None,
-            rest: more,
-        };
-        let mut count = 1;
+        let mut left = Values::new(self.first, self.more);
+        let mut count = 0;
         while let Some(_value) = left.next() {
             count += 1;
         }

@@ -23,7 +23,7 @@ use crate::layout::{LongValue, NodeEntry};
 use crate::reader::fault::PartFault;
 use crate::reader::games::read_games;
 use crate::reader::mark::mark_end;
-use crate::reader::scan::skip_white;
+use crate::reader::scan::skip_white_space;
 use std::alloc::Global;
 
 /// The collection that a text spells (SGF FF[4], EBNF).
@@ -63,7 +63,7 @@ fn read_whole(
     ensures kept { OnOk result (AreKeptEnds text.now long.new.items) }
 {
     let mark = mark_end(text)?;
-    read_games(text, skip_white(text, mark), nodes, long)
+    read_games(text, skip_white_space(text, mark), nodes, long)
 }
 
 #[cfg(test)]

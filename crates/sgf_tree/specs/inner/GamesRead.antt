@@ -1,7 +1,7 @@
 -- How the nodes and games of a text were read: the words of the contracts in `reader::games`.
 use Rattle.std.specs.Prelude.{◌≡◌, ℕ, ◌+◌, ◌-◌, ◌<◌, ◌≤◌, ◌⊎◌, Bool, true, false, List, [], ◌∷◌, ◌++◌, length, map, take, drop, replicate, All, slice_get, slice_index, Option, Some, None, option_map}
 use Rattle.sgf_tree.specs.Tree.{Games, no_games, game, game_count, node_count}
-use Rattle.sgf_tree.specs.Spelling.{is_white}
+use Rattle.sgf_tree.specs.Spelling.{is_white_space}
 use Rattle.sgf_tree.specs.FileOrder.{OrderedNode, further_nodes, nodes_from, game_of}
 use Rattle.sgf_tree.specs.inner.Machine.{OpenGame, Stack, MachineState, opened, after_game, between_games, next_state, accepted}
 use Rattle.sgf_tree.specs.inner.Layout.{parent_by, opens_by, outline, outlines_by}
@@ -24,21 +24,21 @@ tip closed (g ∷ gs) = Some (open_count closed gs + length g.more)
 
 -- the ordered nodes of an open game
 abbrev pub own_nodes : ℕ → Option ℕ → OpenGame → List OrderedNode
-own_nodes at parent g =
-    let last = at + length g.more in
-    record { node = g.first; parent = parent; opens = true } ∷ further_nodes at g.more ++ nodes_from (last + 1) (Some last) g.below
+own_nodes number parent g =
+    let last = number + length g.more in
+    record { node = g.first; parent = parent; opens = true } ∷ further_nodes number g.more ++ nodes_from (last + 1) (Some last) g.below
 
 -- the ordered nodes of whole and open games
 abbrev pub open_nodes : Games → List OpenGame → List OrderedNode
 open_nodes closed [] = nodes_from 0 None closed
 open_nodes closed (g ∷ gs) = open_nodes closed gs ++ own_nodes (open_count closed gs) (tip closed gs) g
 
--- of each node in file order the last one below it, where the first one has the number `at`
+-- of each node in file order the last one below it, where the first one has the number `number`
 abbrev pub lasts : ℕ → Games → List ℕ
-lasts at no_games = []
-lasts at (game first more below after) =
-    let next = at + 1 + length more in
-    replicate (1 + length more) (at + length more + node_count below) ++ lasts next below ++ lasts (next + node_count below) after
+lasts number no_games = []
+lasts number (game first more below after) =
+    let next = number + 1 + length more in
+    replicate (1 + length more) (number + length more + node_count below) ++ lasts next below ++ lasts (next + node_count below) after
 
 -- the same for whole and open games, with 0 for an open game's own nodes
 abbrev pub open_lasts : Games → List OpenGame → List ℕ
@@ -70,7 +70,7 @@ pub record StandsBetween (t : List ℕ) (at : ℕ) (k : Stack) : Type 0 where
   pub reached : ComesTo t at state
   pub next : at < length t → next_state at state (slice_index t at) ≡ between_games k (slice_index t at)
   pub end : accepted state ≡ accepted (after_game k)
-  pub not_white : at < length t → is_white (slice_index t at) ≡ false
+  pub not_white_space : at < length t → is_white_space (slice_index t at) ≡ false
 
 -- the node whose `;` stands at `place` was read up to `end`
 pub record IsNodeRead (t : List ℕ) (place end : ℕ) (link : Link) (ns ns' : List NodeEntry) : Type 0 where
@@ -89,7 +89,7 @@ abbrev pub opens_at : List NodeEntry → ℕ → Option Bool
 opens_at nodes i = option_map (λ (n : NodeEntry). opens_by n.link) (slice_get nodes i)
 
 -- the own nodes of a game
-pub record IsOwnRun (nodes : List NodeEntry) (first last : ℕ) : Type 0 where
+pub record AreOwnNodes (nodes : List NodeEntry) (first last : ℕ) : Type 0 where
   pub rises : first ≤ last
   pub begins : opens_at nodes first ≡ Some true
   pub goes_on : (i : ℕ) → first < i → i ≤ last → opens_at nodes i ≡ Some false
@@ -99,7 +99,7 @@ abbrev pub without_last : NodeEntry → NodeEntry
 without_last n = record { place = n.place; link = n.link; last_below = 0 }
 
 -- the nodes from first to last got the number of the last node, and nothing else changed; the parent is that of the first
-pub record ClosesRun (old new : List NodeEntry) (first last : ℕ) (parent : Option ℕ) : Type 0 where
+pub record ClosesGame (old new : List NodeEntry) (first last : ℕ) (parent : Option ℕ) : Type 0 where
   pub same : map without_last new ≡ map without_last old
   pub lasts_are : map (λ (n : NodeEntry). n.last_below) new
       ≡ take first (map (λ (n : NodeEntry). n.last_below) old) ++ replicate (last + 1 - first) (length old - 1) ++ drop (last + 1) (map (λ (n : NodeEntry). n.last_below) old)

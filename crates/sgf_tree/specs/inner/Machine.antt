@@ -4,7 +4,7 @@ use Rattle.std.specs.Prelude.{ℕ, ◌+◌, Bool, true, false, if◌then◌else�
 use Rattle.sgf_tree.specs.Tree.{Property, Node, Games, no_games, game, values}
 pub use Rattle.sgf_tree.specs.Tree.{joined}
 use Rattle.sgf_tree.specs.Bytes.{open_parenthesis, close_parenthesis, semicolon, open_bracket, backslash, close_bracket, byte_ef, byte_bb, byte_bf}
-use Rattle.sgf_tree.specs.Spelling.{is_white, is_upper, is_lower}
+use Rattle.sgf_tree.specs.Spelling.{is_white_space, is_upper, is_lower}
 
 -- a game whose `)` has not come: its nodes so far, and the games below them so far
 pub record OpenGame : Type 0 where
@@ -98,7 +98,7 @@ after_node at k b =
 -- white space, a `(` or a `)` after a game, or before the first one
 abbrev pub between_games : Stack → ℕ → Option MachineState
 between_games k b =
-    if is_white b then Some (after_game k)
+    if is_white_space b then Some (after_game k)
     else (if b == open_parenthesis then Some (opened k)
     else (if b == close_parenthesis then close k
     else None))
@@ -109,21 +109,21 @@ next_state at start b = if b == byte_ef then Some first_of_mark else between_gam
 next_state at first_of_mark b = if b == byte_bb then Some second_of_mark else None
 next_state at second_of_mark b = if b == byte_bf then Some (after_game (record { closed = no_games; unclosed = [] })) else None
 next_state at (opened k) b =
-    if is_white b then Some (opened k)
+    if is_white_space b then Some (opened k)
     else (if b == semicolon then Some (new_node k true at)
     else None)
 next_state at (in_node n) b =
-    if is_white b then Some (in_node n)
+    if is_white_space b then Some (in_node n)
     else (if is_upper b then Some (in_name n (b ∷ []))
     else after_node at (ended n) b)
 next_state at (in_name n name) b =
     if is_upper b then Some (in_name n (name ++ b ∷ []))
     else (if is_lower b then Some (in_name n name)
-    else (if is_white b then Some (after_name n name)
+    else (if is_white_space b then Some (after_name n name)
     else (if b == open_bracket then Some (in_value n name [] [])
     else None)))
 next_state at (after_name n name) b =
-    if is_white b then Some (after_name n name)
+    if is_white_space b then Some (after_name n name)
     else (if b == open_bracket then Some (in_value n name [] [])
     else None)
 next_state at (in_value n name before value) b =
@@ -132,7 +132,7 @@ next_state at (in_value n name before value) b =
     else Some (in_value n name before (value ++ b ∷ [])))
 next_state at (after_escape n name before value) b = Some (in_value n name before (value ++ backslash ∷ b ∷ []))
 next_state at (after_value n p) b =
-    if is_white b then Some (after_value n p)
+    if is_white_space b then Some (after_value n p)
     else (if b == open_bracket then Some (in_value n p.name (values p) [])
     else (if is_upper b then Some (in_name (with_property n p) (b ∷ []))
     else after_node at (ended (with_property n p)) b))

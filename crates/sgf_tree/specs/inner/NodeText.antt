@@ -4,7 +4,7 @@ use Rattle.std.specs.Prelude.{◌≡◌, ◌≢◌, ℕ, zero, suc, ◌+◌, ◌
 use Rattle.std.specs.List.{flat_map}
 use Rattle.sgf_tree.specs.Bytes.{semicolon, open_bracket, backslash, close_bracket}
 use Rattle.sgf_tree.specs.Tree.{Property}
-use Rattle.sgf_tree.specs.Spelling.{White, is_white, is_upper, is_lower, IsPropValue, ArePropValues, IsProperty, AreProperties}
+use Rattle.sgf_tree.specs.Spelling.{WhiteSpace, is_white_space, is_upper, is_lower, IsPropValue, ArePropValues, IsProperty, AreProperties}
 use Rattle.sgf_tree.specs.Written.{value_text, property_text, IsWrittenFront}
 
 -- a letter of an identifier
@@ -31,13 +31,13 @@ raw_value (a ∷ b ∷ t) =
     else a ∷ raw_value (b ∷ t))
 
 -- what is left after that `]`
-unfoldable pub after_value : List ℕ → List ℕ
-after_value [] = []
-after_value (a ∷ []) = []
-after_value (a ∷ b ∷ t) =
+unfoldable pub after_raw_value : List ℕ → List ℕ
+after_raw_value [] = []
+after_raw_value (a ∷ []) = []
+after_raw_value (a ∷ b ∷ t) =
     if a == close_bracket then b ∷ t
-    else (if a == backslash then after_value t
-    else after_value (b ∷ t))
+    else (if a == backslash then after_raw_value t
+    else after_raw_value (b ∷ t))
 
 -- what f gives of a first byte and the bytes after it, and `none` where there is no byte
 abbrev pub by_front : {A : Type 0} → (ℕ → List ℕ → A) → A → List ℕ → A
@@ -48,13 +48,13 @@ by_front f none (b ∷ t) = f b t
 unfoldable pub values_up_to : ℕ → List ℕ → List (List ℕ)
 values_up_to zero s = []
 values_up_to (suc n) s =
-    by_front (λ b t. if b == open_bracket then raw_value t ∷ values_up_to n (after_value t) else []) [] (left_after is_white s)
+    by_front (λ b t. if b == open_bracket then raw_value t ∷ values_up_to n (after_raw_value t) else []) [] (left_after is_white_space s)
 
 -- what is left after them
 unfoldable pub after_values_up_to : ℕ → List ℕ → List ℕ
 after_values_up_to zero s = s
 after_values_up_to (suc n) s =
-    by_front (λ b t. if b == open_bracket then after_values_up_to n (after_value t) else s) s (left_after is_white s)
+    by_front (λ b t. if b == open_bracket then after_values_up_to n (after_raw_value t) else s) s (left_after is_white_space s)
 
 -- all values in front
 unfoldable pub values_in : List ℕ → List (List ℕ)
@@ -85,33 +85,33 @@ properties_up_to (suc n) s =
     then property_from (name_in (front is_letter (b ∷ t))) (values_in values) ∷ properties_up_to n (after_values_up_to (length t) values)
     else [])
     []
-    (left_after is_white s)
+    (left_after is_white_space s)
 
 -- all properties in front
 unfoldable pub properties_in : List ℕ → List Property
 properties_in s = properties_up_to (length s) s
 
 -- no value follows
-abbrev pub EndsValues : List ℕ → Type 0
-EndsValues r = (b : ℕ) (t : List ℕ) → White r (b ∷ t) → b ≢ open_bracket
+abbrev pub NoValueFollows : List ℕ → Type 0
+NoValueFollows r = (b : ℕ) (t : List ℕ) → WhiteSpace r (b ∷ t) → b ≢ open_bracket
 
 -- no value and no property follows
-abbrev pub EndsNode : List ℕ → Type 0
-EndsNode r = (b : ℕ) (t : List ℕ) → White r (b ∷ t) → (b ≢ open_bracket) × (is_upper b ≡ false)
+abbrev pub NoPropertyFollows : List ℕ → Type 0
+NoPropertyFollows r = (b : ℕ) (t : List ℕ) → WhiteSpace r (b ∷ t) → (b ≢ open_bracket) × (is_upper b ≡ false)
 
 -- whole values stand in front
 pub record AreValuesIn (s : List ℕ) : Type 0 where
   pub values : List (List ℕ)
   pub rest : List ℕ
   pub spelled : ArePropValues values s rest
-  pub ends : EndsValues rest
+  pub ends : NoValueFollows rest
 
 -- whole properties, up to the end of a node
 pub record ArePropertiesIn (s : List ℕ) : Type 0 where
   pub properties : List Property
   pub rest : List ℕ
   pub spelled : AreProperties properties s rest
-  pub ends : EndsNode rest
+  pub ends : NoPropertyFollows rest
 
 -- a `;` and the properties of a node
 pub record IsNodeIn (s : List ℕ) : Type 0 where
@@ -122,7 +122,7 @@ pub record IsNodeIn (s : List ℕ) : Type 0 where
 abbrev pub IsNoPropValue : List ℕ → Type 0
 IsNoPropValue s = (v r : List ℕ) → ¬ IsPropValue v s r
 
--- a value stands between two offsets, after white space and a `[`, and a `]` behind it
+-- a value stands between two offsets, after white space and a `[`, and a `]` after it
 pub record IsValueAt (t : List ℕ) (from start close : ℕ) : Type 0 where
   pub begins : from < start
   pub rises : start ≤ close
@@ -140,14 +140,6 @@ pub record IsValuesEnd (t : List ℕ) (from end : ℕ) : Type 0 where
   pub within : end ≤ length t
   pub past : IsPastValues (drop from t) (drop end t)
 
--- whole values stand in front, one at least
-pub record IsPropertyHeld (s : List ℕ) : Type 0 where
-  pub first : List ℕ
-  pub more : List (List ℕ)
-  pub rest : List ℕ
-  pub spelled : ArePropValues (first ∷ more) s rest
-  pub ends : EndsValues rest
-
 -- values stand from one offset to another as the sgf form writes them
 pub record AreValuesWritten (t : List ℕ) (from end : ℕ) : Type 0 where
   pub rises : from ≤ end
@@ -162,7 +154,7 @@ pub record IsPropertyWritten (t : List ℕ) (at end : ℕ) : Type 0 where
   pub within : end ≤ length t
   pub property : Property
   pub spelled : IsProperty property (drop at t) (drop end t)
-  pub ends : EndsValues (drop end t)
+  pub ends : NoValueFollows (drop end t)
   pub text : slice_range t at end ≡ property_text property
 
 -- and so do the properties up to an offset, after which the others stand

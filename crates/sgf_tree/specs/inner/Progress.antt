@@ -2,7 +2,7 @@
 use Rattle.std.specs.Prelude.{◌≡◌, ◌≢◌, ℕ, ◌+◌, ◌-◌, ◌*◌, ◌<◌, ◌≤◌, Bool, false, not, ◌&&◌, ◌==◌, List, [], ◌∷◌, length, slice_index, slice_range, take, drop, Some, IsTrue}
 use Rattle.sgf_tree.specs.Bytes.{capital_a, open_bracket, backslash, close_bracket}
 use Rattle.sgf_tree.specs.RawValue.{IsValue}
-use Rattle.sgf_tree.specs.Spelling.{is_white, is_upper}
+use Rattle.sgf_tree.specs.Spelling.{is_white_space, is_upper}
 use Rattle.sgf_tree.specs.inner.Machine.{Started, MachineState, start, in_value, run}
 use Rattle.sgf_tree.specs.Refusal.{IsFaultyAt}
 use Rattle.sgf_tree.specs.declared.reader.fault.PartFault.{PartFault}
@@ -51,7 +51,7 @@ pub record IsBareBracket (t : List ℕ) (at end : ℕ) : Type 0 where
   pub bare : at < end → slice_index t (end - 1) ≢ backslash
 
 -- as many `\` as stand directly before `end`, from `at` on, are those from `first` to `end`
-pub record IsEscapeRun (t : List ℕ) (at first end : ℕ) : Type 0 where
+pub record AreBackslashesBefore (t : List ℕ) (at first end : ℕ) : Type 0 where
   pub low : at ≤ first
   pub rises : first ≤ end
   pub escapes : (i : ℕ) → first ≤ i → i < end → slice_index t i ≡ backslash
@@ -85,7 +85,7 @@ pub record IsTwoPlain (t : List ℕ) (at : ℕ) : Type 0 where
 -- white space begins at `at`, or none, and a byte that is less than each letter and each bracket follows
 pub record IsNodeEnd (t : List ℕ) (at : ℕ) : Type 0 where
   pub next : ℕ
-  pub white : IsSpan is_white t at next
+  pub white_space : IsSpan is_white_space t at next
   pub inside : next < length t
   pub below : slice_index t next < capital_a
 

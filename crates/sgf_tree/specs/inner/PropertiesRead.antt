@@ -2,14 +2,14 @@
 use Rattle.std.specs.Prelude.{◌≡◌, ◌≢◌, ℕ, ◌+◌, ◌<◌, ◌≤◌, false, List, [], ◌∷◌, length, slice_index, None}
 use Rattle.sgf_tree.specs.Bytes.{open_bracket}
 use Rattle.sgf_tree.specs.Tree.{Property}
-use Rattle.sgf_tree.specs.Spelling.{is_white}
+use Rattle.sgf_tree.specs.Spelling.{is_white_space}
 use Rattle.sgf_tree.specs.inner.Machine.{Started, MachineState, in_node, in_name, in_value, after_value, after_node, ended, next_state, accepted}
 use Rattle.sgf_tree.specs.inner.Progress.{ComesTo, IsTrueFault}
 use Rattle.sgf_tree.specs.declared.reader.fault.PartFault.{PartFault}
 
 -- the byte at `end`, if there is one, is neither white space nor `[`
 abbrev pub StopsValues : List ℕ → ℕ → Type 0
-StopsValues t end = end < length t → (is_white (slice_index t end) ≡ false) × (slice_index t end ≢ open_bracket)
+StopsValues t end = end < length t → (is_white_space (slice_index t end) ≡ false) × (slice_index t end ≢ open_bracket)
 
 -- the values of a property, of which the first `[` stands at `bracket`, were read up to `end`
 pub record AreValuesRead (t : List ℕ) (bracket end : ℕ) : Type 0 where
@@ -42,7 +42,7 @@ with_properties n ps = record { stack = n.stack; opens = n.opens; place = n.plac
 pub record ArePropertiesRead (t : List ℕ) (at end : ℕ) : Type 0 where
   pub rises : at ≤ end
   pub within : end ≤ length t
-  pub not_white : end < length t → is_white (slice_index t end) ≡ false
+  pub not_white_space : end < length t → is_white_space (slice_index t end) ≡ false
   pub reached : (n : Started) → n.properties ≡ [] → ComesTo t at (in_node n)
       → (ps : List Property) × StandsAfterNode t end (with_properties n ps)
 

@@ -6,106 +6,14 @@ ghost use Rattle.sgf_tree.specs.inner.Machine.{Stack};
 ghost use Rattle.sgf_tree.specs.inner.Progress.{IsTrueFault};
 ghost use Rattle.sgf_tree.specs.inner.KeptEnds.{AreKeptEnds};
 ghost use Rattle.sgf_tree.specs.inner.PropertiesRead.{IsFaultInNode};
-ghost use Rattle.sgf_tree.specs.inner.GamesRead.{tip, IsOpening, IsOwnRun, ClosesRun};
+ghost use Rattle.sgf_tree.specs.inner.GamesRead.{tip, IsOpening, AreOwnNodes, ClosesGame};
 ghost use Rattle.sgf_tree.specs.inner.GamesRead.{StandsBetween, IsNodeRead, ReadsSequence, ReadsWhole, IsFaultInSequence};
 
 use crate::fault::MAX_LENGTH;
 use crate::layout::{Link, LongValue, NodeEntry};
 use crate::reader::fault::PartFault;
 use crate::reader::properties::read_properties;
-use crate::reader::scan::skip_white;
-
-/// Reads the node whose `;` stands at `place`.
-/// The result is the offset of the byte after it and the white space there.
-#[inline(always)]
-fn read_node(
-    text: &[u8],
-    place: usize,
-    link: Link,
-    nodes: &mut Vec<NodeEntry>,
-    long: &mut Vec<LongValue>,
-) -> Result<usize, PartFault>
-    requires short { length text.now ≤ MAX_LENGTH }
-    requires within { place < length text.now }
-    requires room { length nodes.old.items ≤ place }
-    requires kept { AreKeptEnds text.now long.old.items }
-    ensures read { IfOk result (λ end. IsNodeRead text.now place end link nodes.old.items nodes.new.items) }
-    ensures fault { IfErr result (IsFaultInNode text.now (place + 1)) }
-    ensures kept { OnOk result (AreKeptEnds text.now long.new.items) }
-{
-    let end = read_properties(text, place + 1, long)?;
-    nodes.push(NodeEntry {
-        place: place as u32,
-        link,
-        last_below: 0,
-    })?;
-    Ok(end)
-}
-
-/// Reads the own nodes of the game whose `(` stands before `at`. The first one gets that link.
-/// The result is the offset of the byte after them and the white space there.
-fn read_sequence(
-    text: &[u8],
-    at: usize,
-    link: Link,
-    nodes: &mut Vec<NodeEntry>,
-    long: &mut Vec<LongValue>,
-) -> Result<usize, PartFault>
-    requires short { length text.now ≤ MAX_LENGTH }
-    requires within { at ≤ length text.now }
-    requires room { length nodes.old.items ≤ at }
-    requires kept { AreKeptEnds text.now long.old.items }
-    ensures read { IfOk result (λ end. ReadsSequence text.now at end link nodes.old.items nodes.new.items) }
-    ensures room { IfOk result (λ end. length nodes.new.items ≤ end) }
-    ensures rises { IfOk result (λ end. at ≤ end) }
-    ensures within { IfOk result (λ end. end ≤ length text.now) }
-    ensures fault { IfErr result (IsFaultInSequence text.now at link nodes.old.items) }
-    ensures kept { OnOk result (AreKeptEnds text.now long.new.items) }
-{
-    let place = skip_white(text, at);
-    if place == text.len() || text[place] != b';' {
-        return Err(PartFault::NotSgf(place));
-    }
-    let mut end = read_node(text, place, link, nodes, long)?;
-    'nodes: while end < text.len() && text[end] == b';' {
-        end = read_node(text, end, Link::Next, nodes, long)?;
-    }
-    Ok(end)
-}
-
-/// Notes in the own nodes of a game that the last node of all is the last one below them.
-/// `tip` is the last own node. The result is the parent of the first one.
-fn close_game(nodes: &mut Vec<NodeEntry>, tip: u32) -> Option<u32>
-    requires few { length nodes.old.items ≤ MAX_LENGTH }
-    requires within { tip < length nodes.old.items }
-    requires own { (first : ℕ) × IsOwnRun nodes.old.items first tip }
-    ensures { (first : ℕ) → IsOwnRun nodes.old.items first tip
-        → ClosesRun nodes.old.items nodes.new.items first tip result }
-{
-    let last = (nodes.len() - 1) as u32;
-    let mut at = tip as usize;
-    'own: loop {
-        let node = &mut nodes[at];
-        node.last_below = last;
-        match node.link {
-            Link::Root(_) => return None,
-            Link::Variation(parent) => return Some(parent),
-            Link::Next => at -= 1,
-        }
-    }
-}
-
-/// The link of a game's first node, where that many games are whole and the innermost open one has that last node.
-fn opening_link(games: u32, innermost: Option<u32>) -> Link
-    requires { games < MAX_LENGTH }
-    ensures { (k : Stack) → tip k.closed k.unclosed ≡ innermost → game_count k.closed ≡ games
-        → IsOpening k result }
-{
-    match innermost {
-        None => Link::Root(games + 1),
-        Some(parent) => Link::Variation(parent),
-    }
-}
+use crate::reader::scan::skip_white_space;
 
 /// Reads all games, of which the first `(` may stand at `at`.
 /// The result is their number.
@@ -141,7 +49,7 @@ pub(crate) fn read_games(
                 if tip.is_none() {
                     games += 1;
                 }
-                at = skip_white(text, at + 1);
+                at = skip_white_space(text, at + 1);
             }
             _ => return Err(PartFault::NotSgf(at)),
         }
@@ -150,4 +58,96 @@ pub(crate) fn read_games(
         return Err(PartFault::NotSgf(text.len()));
     }
     Ok(games)
+}
+
+/// The link of a game's first node, where that many games are whole and the innermost open one has that last node.
+fn opening_link(games: u32, innermost: Option<u32>) -> Link
+    requires { games < MAX_LENGTH }
+    ensures { (k : Stack) → tip k.closed k.unclosed ≡ innermost → game_count k.closed ≡ games
+        → IsOpening k result }
+{
+    match innermost {
+        None => Link::Root(games + 1),
+        Some(parent) => Link::Variation(parent),
+    }
+}
+
+/// Reads the own nodes of the game whose `(` stands before `at`. The first one gets that link.
+/// The result is the offset of the byte after them and the white space there.
+fn read_sequence(
+    text: &[u8],
+    at: usize,
+    link: Link,
+    nodes: &mut Vec<NodeEntry>,
+    long: &mut Vec<LongValue>,
+) -> Result<usize, PartFault>
+    requires short { length text.now ≤ MAX_LENGTH }
+    requires within { at ≤ length text.now }
+    requires room { length nodes.old.items ≤ at }
+    requires kept { AreKeptEnds text.now long.old.items }
+    ensures read { IfOk result (λ end. ReadsSequence text.now at end link nodes.old.items nodes.new.items) }
+    ensures room { IfOk result (λ end. length nodes.new.items ≤ end) }
+    ensures rises { IfOk result (λ end. at ≤ end) }
+    ensures within { IfOk result (λ end. end ≤ length text.now) }
+    ensures fault { IfErr result (IsFaultInSequence text.now at link nodes.old.items) }
+    ensures kept { OnOk result (AreKeptEnds text.now long.new.items) }
+{
+    let place = skip_white_space(text, at);
+    if place == text.len() || text[place] != b';' {
+        return Err(PartFault::NotSgf(place));
+    }
+    let mut end = read_node(text, place, link, nodes, long)?;
+    'nodes: while end < text.len() && text[end] == b';' {
+        end = read_node(text, end, Link::Next, nodes, long)?;
+    }
+    Ok(end)
+}
+
+/// Reads the node whose `;` stands at `place`.
+/// The result is the offset of the byte after it and the white space there.
+#[inline(always)]
+fn read_node(
+    text: &[u8],
+    place: usize,
+    link: Link,
+    nodes: &mut Vec<NodeEntry>,
+    long: &mut Vec<LongValue>,
+) -> Result<usize, PartFault>
+    requires short { length text.now ≤ MAX_LENGTH }
+    requires within { place < length text.now }
+    requires room { length nodes.old.items ≤ place }
+    requires kept { AreKeptEnds text.now long.old.items }
+    ensures read { IfOk result (λ end. IsNodeRead text.now place end link nodes.old.items nodes.new.items) }
+    ensures fault { IfErr result (IsFaultInNode text.now (place + 1)) }
+    ensures kept { OnOk result (AreKeptEnds text.now long.new.items) }
+{
+    let end = read_properties(text, place + 1, long)?;
+    nodes.push(NodeEntry {
+        place: place as u32,
+        link,
+        last_below: 0,
+    })?;
+    Ok(end)
+}
+
+/// Notes in the own nodes of a game that the last node of all is the last one below them.
+/// `tip` is the last own node. The result is the parent of the first one.
+fn close_game(nodes: &mut Vec<NodeEntry>, tip: u32) -> Option<u32>
+    requires few { length nodes.old.items ≤ MAX_LENGTH }
+    requires within { tip < length nodes.old.items }
+    requires own { (first : ℕ) × AreOwnNodes nodes.old.items first tip }
+    ensures { (first : ℕ) → AreOwnNodes nodes.old.items first tip
+        → ClosesGame nodes.old.items nodes.new.items first tip result }
+{
+    let last = (nodes.len() - 1) as u32;
+    let mut at = tip as usize;
+    'own: loop {
+        let node = &mut nodes[at];
+        node.last_below = last;
+        match node.link {
+            Link::Root(_) => return None,
+            Link::Variation(parent) => return Some(parent),
+            Link::Next => at -= 1,
+        }
+    }
 }

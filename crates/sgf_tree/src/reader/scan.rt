@@ -1,9 +1,9 @@
 //! Where spans of a text end.
 
 ghost use Rattle.std.specs.Prelude.{◌≡◌, ◌+◌, ◌≤◌, ◌<◌, length, drop, slice_index, slice_range, IsTrue, IfSome, MatchOption};
-ghost use Rattle.sgf_tree.specs.Spelling.{is_white, is_upper};
+ghost use Rattle.sgf_tree.specs.Spelling.{is_white_space, is_upper};
 ghost use Rattle.sgf_tree.specs.inner.NodeText.{is_letter};
-ghost use Rattle.sgf_tree.specs.inner.Progress.{IsSpan, IsValueEnd, IsUnended, SpellsValue, SpellsNoValue, HasNoBracket, IsNextBracket, IsBareBracket, IsEscapeRun, AreEscapes, IsTwoPlain, IsNodeEnd, IsShortFront, IsLoneNode, IsFrontOfMore};
+ghost use Rattle.sgf_tree.specs.inner.Progress.{IsSpan, IsValueEnd, IsUnended, SpellsValue, SpellsNoValue, HasNoBracket, IsNextBracket, IsBareBracket, AreBackslashesBefore, AreEscapes, IsTwoPlain, IsNodeEnd, IsShortFront, IsLoneNode, IsFrontOfMore};
 
 use memchr::memchr;
 use std::simd::prelude::*;
@@ -28,35 +28,67 @@ pub(crate) fn part(text: &[u8], start: usize, end: usize) -> &[u8]
     &text[start..end]
 }
 
-/// Space, tab, line feed, carriage return, vertical tab, form feed.
-fn is_white_space(byte: u8) -> bool
-    ensures { result ≡ is_white byte }
-{
-    byte <= b' ' && matches!(byte, b' ' | b'\t'..=b'\r')
-}
-
 /// The end of the white space that stands at `at`.
-pub(crate) fn skip_white(text: &[u8], at: usize) -> usize
+pub(crate) fn skip_white_space(text: &[u8], at: usize) -> usize
     requires { at ≤ length text.now }
-    ensures { IsSpan is_white text.now at result }
+    ensures { IsSpan is_white_space text.now at result }
 {
     let mut end = at;
-    'white: while end < text.len() && is_white_space(text[end]) {
+    'white_space: while end < text.len() && is_white_space(text[end]) {
         end += 1;
     }
     end
 }
 
-/// The same, where a value may begin: mostly there is no white space, but a `[` at once.
+/// Space, tab, line feed, carriage return, vertical tab, form feed.
+fn is_white_space(byte: u8) -> bool
+    ensures { result ≡ is_white_space byte }
+{
+    byte <= b' ' && matches!(byte, b' ' | b'\t'..=b'\r')
+}
+
+/// The end of the white space that stands at `at`, where a value may begin: mostly there is none, but a `[` at once.
 #[inline(always)]
 pub(crate) fn skip_to_bracket(text: &[u8], at: usize) -> usize
     requires { at ≤ length text.now }
-    ensures { IsSpan is_white text.now at result }
+    ensures { IsSpan is_white_space text.now at result }
 {
     if at < text.len() && text[at] == b'[' {
         return at;
     }
-    skip_white(text, at)
+    skip_white_space(text, at)
+}
+
+/// The end of the letters of an identifier that begins with the capital at `at`.
+pub(crate) fn identifier_end(text: &[u8], at: usize) -> usize
+    requires within { at < length text.now }
+    requires capital { IsTrue (is_upper (slice_index text.now at)) }
+    ensures { IsSpan is_letter text.now at result }
+{
+    match short_name_end(text, at) {
+        Some(end) => end,
+        None => letters_end(text, at),
+    }
+}
+
+/// The end of the name whose first capital stands at `at`, where it has one letter or two, as nearly all have, and a `[` follows.
+/// Where it answers None, nothing is known.
+#[inline(always)]
+fn short_name_end(text: &[u8], at: usize) -> Option<usize>
+    requires within { at < length text.now }
+    requires capital { IsTrue (is_upper (slice_index text.now at)) }
+    ensures letters { IfSome result (IsSpan is_letter text.now at) }
+    ensures capitals { IfSome result (IsSpan is_upper text.now at) }
+{
+    if text.len() - at > 2 {
+        if text[at + 1] == b'[' {
+            return Some(at + 1);
+        }
+        if text[at + 2] == b'[' && text[at + 1].is_ascii_uppercase() {
+            return Some(at + 2);
+        }
+    }
+    None
 }
 
 /// The end of the letters that stand at `at`.
@@ -71,24 +103,7 @@ fn letters_end(text: &[u8], at: usize) -> usize
     end
 }
 
-/// The end of the letters of an identifier that begins with the capital at `at`. Nearly all have one letter or two.
-pub(crate) fn identifier_end(text: &[u8], at: usize) -> usize
-    requires within { at < length text.now }
-    requires capital { IsTrue (is_upper (slice_index text.now at)) }
-    ensures { IsSpan is_letter text.now at result }
-{
-    if text.len() - at > 2 {
-        if text[at + 1] == b'[' {
-            return at + 1;
-        }
-        if text[at + 2] == b'[' && text[at + 1].is_ascii_uppercase() {
-            return at + 2;
-        }
-    }
-    letters_end(text, at)
-}
-
-/// The end of the capitals that stand at `at`. Where a name stands there, nearly all have one or two.
+/// The end of the capitals that stand at `at`.
 pub(crate) fn capitals_end(text: &[u8], at: usize) -> usize
     requires { at ≤ length text.now }
     ensures { IsSpan is_upper text.now at result }
@@ -96,15 +111,10 @@ pub(crate) fn capitals_end(text: &[u8], at: usize) -> usize
     if at == text.len() || !text[at].is_ascii_uppercase() {
         return at;
     }
-    if text.len() - at > 2 {
-        if text[at + 1] == b'[' {
-            return at + 1;
-        }
-        if text[at + 2] == b'[' && text[at + 1].is_ascii_uppercase() {
-            return at + 2;
-        }
+    match short_name_end(text, at) {
+        Some(end) => end,
+        None => far_capitals_end(text, at),
     }
-    far_capitals_end(text, at)
 }
 
 /// The same, one by one.
@@ -117,87 +127,6 @@ fn far_capitals_end(text: &[u8], at: usize) -> usize
         end += 1;
     }
     end
-}
-
-/// The first `]` among the `NEAR` bytes at `at`, all compared at once.
-fn near_bracket(text: &[u8], at: usize) -> Option<usize>
-    requires { at + NEAR ≤ length text.now }
-    ensures { MatchOption result (HasNoBracket text.now at (at + NEAR)) (λ end. IsNextBracket text.now at end) }
-{
-    let found = u8x16::from_slice(&text[at..])
-        .simd_eq(u8x16::splat(b']'))
-        .to_bitmask();
-    if found == 0 {
-        None
-    } else {
-        Some(at + found.trailing_zeros() as usize)
-    }
-}
-
-/// The first `]` from `at` on, by a search that costs something to begin.
-#[inline(never)]
-fn far_bracket(text: &[u8], at: usize) -> Option<usize>
-    requires { at ≤ length text.now }
-    ensures { MatchOption result (HasNoBracket text.now at (length text.now)) (λ end. IsNextBracket text.now at end) }
-{
-    match memchr(b']', &text[at..]) {
-        Some(further) => Some(at + further),
-        None => None,
-    }
-}
-
-/// The first of the `\` that stand directly before `end`, from `at` on, or `end` where none does.
-fn first_escape(text: &[u8], at: usize, end: usize) -> usize
-    requires rises { at ≤ end }
-    requires within { end ≤ length text.now }
-    ensures { IsEscapeRun text.now at result end }
-{
-    let mut first = end;
-    'escapes: while first != at && text[first - 1] == b'\\' {
-        first -= 1;
-    }
-    first
-}
-
-/// The end of the escapes that stand side by side at `at`.
-fn escapes_end(text: &[u8], at: usize) -> usize
-    requires { at ≤ length text.now }
-    ensures { AreEscapes text.now at result }
-{
-    let mut end = at;
-    'escapes: while text.len() - end > 1 && text[end] == b'\\' {
-        end += 2;
-    }
-    end
-}
-
-/// Whether the raw value at `at` is two bytes, as a point is, that stand for themselves.
-fn is_two_plain(text: &[u8], at: usize) -> bool
-    requires { at ≤ length text.now }
-    ensures { IsTrue result → IsTwoPlain text.now at }
-{
-    text.len() - at > 2
-        && text[at + 2] == b']'
-        && text[at] != b']'
-        && text[at] != b'\\'
-        && text[at + 1] != b']'
-        && text[at + 1] != b'\\'
-}
-
-/// Whether a node ends at `at`, or after white space there. Where it answers no, nothing is known.
-fn ends_node(text: &[u8], at: usize) -> bool
-    requires { at ≤ length text.now }
-    ensures { IsTrue result → IsNodeEnd text.now at }
-{
-    let end = skip_white(text, at);
-    end < text.len() && text[end] < b'A'
-}
-
-/// Whether the text begins with a `;` and a property that is written as `B[pd]` is, and goes on.
-fn is_short_front(text: &[u8]) -> bool
-    ensures { IsTrue result → IsShortFront text.now }
-{
-    text.len() > 6 && text[1].is_ascii_uppercase() && text[2] == b'[' && is_two_plain(text, 3)
 }
 
 /// Whether the text begins with a node that is written as `;B[pd]` is.
@@ -214,6 +143,50 @@ pub(crate) fn is_front_of_more(text: &[u8]) -> bool
     is_short_front(text) && text[6].is_ascii_uppercase()
 }
 
+/// Whether the text begins with a `;` and a property that is written as `B[pd]` is, and goes on.
+fn is_short_front(text: &[u8]) -> bool
+    ensures { IsTrue result → IsShortFront text.now }
+{
+    text.len() > 6 && text[1].is_ascii_uppercase() && text[2] == b'[' && is_two_plain(text, 3)
+}
+
+/// Whether a node ends at `at`, or after white space there. Where it answers no, nothing is known.
+fn ends_node(text: &[u8], at: usize) -> bool
+    requires { at ≤ length text.now }
+    ensures { IsTrue result → IsNodeEnd text.now at }
+{
+    let end = skip_white_space(text, at);
+    end < text.len() && text[end] < b'A'
+}
+
+/// The `]` that ends the raw value at `at`, where it is short, as most are.
+/// Where it answers None, nothing is known.
+#[inline(always)]
+pub(crate) fn short_value_end(text: &[u8], at: usize) -> Option<usize>
+    requires { at ≤ length text.now }
+    ensures read { IfSome result (IsValueEnd text.now at) }
+    ensures spelled { IfSome result (SpellsValue text.now at) }
+{
+    if is_two_plain(text, at) {
+        return Some(at + 2);
+    }
+    let near = near_value_end(text, at)?;
+    Some(near)
+}
+
+/// Whether the raw value at `at` is two bytes, as a point is, that stand for themselves.
+fn is_two_plain(text: &[u8], at: usize) -> bool
+    requires { at ≤ length text.now }
+    ensures { IsTrue result → IsTwoPlain text.now at }
+{
+    text.len() - at > 2
+        && text[at + 2] == b']'
+        && text[at] != b']'
+        && text[at] != b'\\'
+        && text[at + 1] != b']'
+        && text[at + 1] != b'\\'
+}
+
 /// The `]` that ends the raw value at `at`, where it is the first one, among the `NEAR` bytes there.
 /// Where it answers None, nothing is known.
 fn near_value_end(text: &[u8], at: usize) -> Option<usize>
@@ -228,6 +201,21 @@ fn near_value_end(text: &[u8], at: usize) -> Option<usize>
         return None;
     }
     Some(bracket)
+}
+
+/// The first `]` among the `NEAR` bytes at `at`, all compared at once.
+fn near_bracket(text: &[u8], at: usize) -> Option<usize>
+    requires { at + NEAR ≤ length text.now }
+    ensures { MatchOption result (HasNoBracket text.now at (at + NEAR)) (λ end. IsNextBracket text.now at end) }
+{
+    let found = u8x16::from_slice(&text[at..])
+        .simd_eq(u8x16::splat(b']'))
+        .to_bitmask();
+    if found == 0 {
+        None
+    } else {
+        Some(at + found.trailing_zeros() as usize)
+    }
 }
 
 /// The `]` that ends the raw value at `at`, by searches.
@@ -252,17 +240,39 @@ pub(crate) fn far_value_end(text: &[u8], at: usize) -> Option<usize>
     None
 }
 
-/// The `]` that ends the raw value at `at`, where it is short, as most are.
-/// Where it answers None, nothing is known.
-#[inline(always)]
-pub(crate) fn short_value_end(text: &[u8], at: usize) -> Option<usize>
+/// The first `]` from `at` on, by a search that costs something to begin.
+#[inline(never)]
+fn far_bracket(text: &[u8], at: usize) -> Option<usize>
     requires { at ≤ length text.now }
-    ensures read { IfSome result (IsValueEnd text.now at) }
-    ensures spelled { IfSome result (SpellsValue text.now at) }
+    ensures { MatchOption result (HasNoBracket text.now at (length text.now)) (λ end. IsNextBracket text.now at end) }
 {
-    if is_two_plain(text, at) {
-        return Some(at + 2);
+    match memchr(b']', &text[at..]) {
+        Some(further) => Some(at + further),
+        None => None,
     }
-    let near = near_value_end(text, at)?;
-    Some(near)
+}
+
+/// The first of the `\` that stand directly before `end`, from `at` on, or `end` where none does.
+fn first_escape(text: &[u8], at: usize, end: usize) -> usize
+    requires rises { at ≤ end }
+    requires within { end ≤ length text.now }
+    ensures { AreBackslashesBefore text.now at result end }
+{
+    let mut first = end;
+    'escapes: while first != at && text[first - 1] == b'\\' {
+        first -= 1;
+    }
+    first
+}
+
+/// The end of the escapes that stand side by side at `at`.
+fn escapes_end(text: &[u8], at: usize) -> usize
+    requires { at ≤ length text.now }
+    ensures { AreEscapes text.now at result }
+{
+    let mut end = at;
+    'escapes: while text.len() - end > 1 && text[end] == b'\\' {
+        end += 2;
+    }
+    end
 }

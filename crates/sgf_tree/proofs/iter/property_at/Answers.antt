@@ -13,7 +13,7 @@ pub unwrap-from-requires : goal.unwrap-from-requires
 unwrap-from-requires c =
     let s = c.args.text.now in
     some c.value_at.result (drop c.identifier_end-end.result s) (λ v. IsValueAt s c.identifier_end-end.result v.0 v.1) c.value_at.ensures
-    (value-there s c.args.start c.requires.white c.requires.held c.requires.within c.requires.capital c.identifier_end-end.result c.identifier_end-end.ensures)
+    (value-there s c.args.start c.requires.white_space c.requires.held c.requires.within c.requires.capital c.identifier_end-end.result c.identifier_end-end.ensures)
 
 -- a property was found
 found : (c : After-values_end-next) → IsNextProperty c.args.text.now c.args.start c.identifier_end-end.result
@@ -25,7 +25,7 @@ found c =
     let end = c.identifier_end-end.result in
     let value : IsValueAt s end c.unwrap-from.result.0 c.unwrap-from.result.1 =
     subst (λ o. MatchOption o (IsNoPropValue (drop end s)) (λ v. IsValueAt s end v.0 v.1)) c.unwrap-from.ensures c.value_at.ensures in
-    next-property s c.args.start c.requires.white c.requires.held c.requires.within c.requires.capital end c.identifier_end-end.ensures
+    next-property s c.args.start c.requires.white_space c.requires.held c.requires.within c.requires.capital end c.identifier_end-end.ensures
     (slice_range s c.unwrap-from.result.0 c.unwrap-from.result.1) (drop (c.unwrap-from.result.1 + 1) s) (drop c.values_end-next.result s)
     value.spelled c.values_end-next.ensures.past
 

@@ -3,4 +3,4 @@ use Rattle.sgf_tree.proofs.reader.read_whole.Goals as goal
 
 pub read_games-requires-clause-begins : goal.read_games-requires-clause-begins
 read_games-requires-clause-begins c =
-    games-begin c.args.text.now c.in_ok-mark.mark c.skip_white.result c.in_ok-mark.ensures.read c.skip_white.ensures
+    games-begin c.args.text.now c.in_ok-mark.mark c.skip_white_space.result c.in_ok-mark.ensures.read c.skip_white_space.ensures

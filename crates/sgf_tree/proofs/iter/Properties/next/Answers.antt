@@ -8,19 +8,19 @@ use Rattle.sgf_tree.proofs.iter.Properties.next.Goals.{then-start-text-via-then-
 pub returns-then-start-text : goal.returns-then-start-text
 returns-then-start-text c =
     let s = c.self.inside.rest.now in
-    let at = c.skip_white-start.result in
+    let at = c.skip_white_space-start.result in
     let other : at < length s → is_upper (get_or s at 0) ≡ false = elim c.then-start-text.branch [
       | then-start-text-via-then-start-text w ↦ λ lt. absurd (omega (arith, w.if-start-text.true))
       | then-start-text-via-else-start-text+then-not-is_ascii_uppercase w ↦ λ _. sym w.is_ascii_uppercase.ensures.value ∙ w.if-not-is_ascii_uppercase.true
     ] in
-    let none = sym c.self.view_is ∙ no-property s at c.skip_white-start.ensures c.self.invariant.0 other in (none, none)
+    let none = sym c.self.view_is ∙ no-property s at c.skip_white_space-start.ensures c.self.invariant.0 other in (none, none)
 
 pub property_at-property-requires : goal.property_at-property-requires
 property_at-property-requires c = record {
   held = c.self.invariant.0;
   kept = c.self.invariant.1;
-  white = c.skip_white-start.ensures;
-  within = omega (arith, c.skip_white-start.ensures.within);
+  white_space = c.skip_white_space-start.ensures;
+  within = omega (arith, c.skip_white_space-start.ensures.within);
   capital = sym c.is_ascii_uppercase.ensures.value ∙ c.if-not-is_ascii_uppercase.false;
 }
 

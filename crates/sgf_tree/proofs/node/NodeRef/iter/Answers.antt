@@ -1,5 +1,9 @@
-use Rattle.sgf_tree.proofs.KeptEnds.{kept-properties}
+use Rattle.std.proofs.Common.{ap, length, arith}
 use Rattle.sgf_tree.proofs.node.NodeRef.iter.Goals as goal
 
-pub invariant_of-result : goal.invariant_of-result
-invariant_of-result c = rw c.rest_from-text.ensures (kept-properties c.self.inside.text.now _ c.self.invariant)
+pub new-requires : goal.new-requires
+new-requires c = record {
+  within = omega (arith, ap length c.self.invariant.0.begins);
+  held = c.self.invariant.0.properties;
+  kept = c.self.invariant.1;
+}

@@ -1,11 +1,14 @@
 use Rattle.std.proofs.Common.{ap, length, length-drop, arith}
 use Rattle.sgf_tree.specs.Tree.{Node}
-use Rattle.sgf_tree.proofs.KeptEnds.{kept-properties}
 use Rattle.sgf_tree.proofs.Iterating.{count-properties-held}
 use Rattle.sgf_tree.proofs.node.NodeRef.props.Goals as goal
 
-pub invariant_of-left : goal.invariant_of-left
-invariant_of-left c = rw c.rest_from-rest.ensures (kept-properties c.self.inside.text.now _ c.self.invariant)
+pub new-left-requires : goal.new-left-requires
+new-left-requires c = record {
+  within = omega (arith, ap length c.self.invariant.0.begins);
+  held = c.self.invariant.0.properties;
+  kept = c.self.invariant.1;
+}
 
 pub overflow_add-count : goal.overflow_add-count
 overflow_add-count c =

@@ -1,6 +1,5 @@
 use Rattle.std.proofs.Common.{◌∙◌, ap}
 use Rattle.sgf_tree.specs.Written.{node_text}
-use Rattle.sgf_tree.proofs.KeptEnds.{kept-drop}
 use Rattle.sgf_tree.proofs.LoneNodes.{lone-text}
 use Rattle.sgf_tree.proofs.node.NodeRef.written.Goals as goal
 
@@ -9,7 +8,9 @@ returns-then-is_lone_node c =
     let s = c.self.inside.text.now in
     rw c.part.ensures (lone-text s (c.is_lone_node.ensures c.if-is_lone_node.true) c.self.invariant.0.begins ∙ ap node_text c.self.view_is)
 
-pub invariant_of-left : goal.invariant_of-left
-invariant_of-left c =
-    let end = c.written_properties_end-end.ensures in
-    rw c.rest_from.ensures (end.left, kept-drop _ _ _ end.within c.self.invariant.1)
+pub new-left-requires : goal.new-left-requires
+new-left-requires c = record {
+  within = c.written_properties_end-end.ensures.within;
+  held = c.written_properties_end-end.ensures.left;
+  kept = c.self.invariant.1;
+}

@@ -1,7 +1,7 @@
 use Rattle.std.proofs.Common.{◌≡◌, ℕ, ◌+◌, ◌-◌, ◌<◌, ◌≤◌, length, set, subst, arith}
 use Rattle.sgf_tree.specs.declared.layout.NodeEntry.{NodeEntry}
 use Rattle.sgf_tree.specs.declared.layout.Link.TheVariants.{Next}
-use Rattle.sgf_tree.specs.inner.GamesRead.{IsOwnRun}
+use Rattle.sgf_tree.specs.inner.GamesRead.{AreOwnNodes}
 use Rattle.sgf_tree.proofs.Closing.{GetLasts, lasts-more, run-before, opens-link, parent-link, lasts-closed}
 use Rattle.sgf_tree.proofs.reader.games.close_game.Goals as goal
 use Rattle.sgf_tree.proofs.reader.games.close_game.Goals.{After-index_mut-node}
@@ -58,7 +58,7 @@ own-preserved c =
     let old = c.args.nodes.now.items in
     let at = c.own.at in
     let lt : at < length old = omega arith in
-    let before = λ (first : ℕ) (run : IsOwnRun old first c.args.tip). run-before old c.own.nodes.items c.args.tip first at run (c.own.invariant.begins first run) (opens-link old c.own.nodes.items c.args.tip (at + 1) at c.index_mut-node.result.now _ c.own.invariant.lasts lt c.index_mut-node.ensures.value c.in-Next.is) in
+    let before = λ (first : ℕ) (run : AreOwnNodes old first c.args.tip). run-before old c.own.nodes.items c.args.tip first at run (c.own.invariant.begins first run) (opens-link old c.own.nodes.items c.args.tip (at + 1) at c.index_mut-node.result.now _ c.own.invariant.lasts lt c.index_mut-node.ensures.value c.in-Next.is) in
     let up : at ≡ at - 1 + 1 = omega (arith, before c.requires.own.0 c.requires.own.1) in
     record {
       low = omega arith;

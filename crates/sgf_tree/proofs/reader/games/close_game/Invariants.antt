@@ -1,5 +1,5 @@
 use Rattle.std.proofs.Common.{ℕ, ◌≤◌, ◌+◌}
-use Rattle.sgf_tree.specs.inner.GamesRead.{IsOwnRun}
+use Rattle.sgf_tree.specs.inner.GamesRead.{AreOwnNodes}
 use Rattle.sgf_tree.proofs.Closing.{GetLasts}
 use Rattle.sgf_tree.proofs.reader.games.close_game.Given as goal
 
@@ -7,7 +7,7 @@ abbrev pub invariant-own : goal.invariant-own
 invariant-own l = record {
   low : l.at ≤ l.tip;
   lasts : GetLasts l.fn.nodes.items l.nodes.items l.tip (l.at + 1);
-  begins : (first : ℕ) → IsOwnRun l.fn.nodes.items first l.tip → first ≤ l.at;
+  begins : (first : ℕ) → AreOwnNodes l.fn.nodes.items first l.tip → first ≤ l.at;
 }
 
 abbrev pub decreases-own : goal.decreases-own

@@ -52,7 +52,7 @@ close_game-tip-requires-clause-own c = (_, close-own c.args.text.now c.games.at 
 pub games-preserved : goal.games-preserved
 games-preserved c =
     let so_far = rw c.in-Some.is at c.games.invariant.so_far in
-    let next = c.skip_white-at.result in
+    let next = c.skip_white_space-at.result in
     let if_none : is_some c.close_game-tip.result ≡ false → c.if-is_none.games ≡ c.games.games + 1 = elim c.if-is_none.branch [
       | then-is_none w ↦ λ e. w.games-is
       | else-is_none w ↦ λ e. absurd (false≢true (sym e ∙ c.is_none.ensures ∙ ap not w.if-is_none.false))
@@ -67,10 +67,10 @@ games-preserved c =
     ] in
     let same : length c.close_game-tip.new.nodes.items ≡ length c.games.nodes.items = close-count c.args.text.now c.games.at c.games.games c.in-Some.last _ so_far _ _ c.close_game-tip.ensures in
     record {
-      within = c.skip_white-at.ensures.within;
-      few = omega (arith, at_most, c.games.invariant.few, c.skip_white-at.ensures.rises);
-      room = omega (arith, c.games.invariant.room, c.skip_white-at.ensures.rises, same);
-      so_far = games-close c.args.text.now c.games.at c.games.games c.in-Some.last _ so_far next c.if-is_none.games _ _ c.games-test.true c.in-41.is c.close_game-tip.ensures c.skip_white-at.ensures if_none if_some;
+      within = c.skip_white_space-at.ensures.within;
+      few = omega (arith, at_most, c.games.invariant.few, c.skip_white_space-at.ensures.rises);
+      room = omega (arith, c.games.invariant.room, c.skip_white_space-at.ensures.rises, same);
+      so_far = games-close c.args.text.now c.games.at c.games.games c.in-Some.last _ so_far next c.if-is_none.games _ _ c.games-test.true c.in-41.is c.close_game-tip.ensures c.skip_white_space-at.ensures if_none if_some;
       kept = c.games.invariant.kept;
     }
 

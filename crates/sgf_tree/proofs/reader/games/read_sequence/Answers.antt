@@ -7,35 +7,35 @@ use Rattle.sgf_tree.proofs.reader.games.read_sequence.Goals.{then-place-text-via
 pub returns-then-place-text-clause-fault : goal.returns-then-place-text-clause-fault
 returns-then-place-text-clause-fault c k after held opening =
     let t = c.args.text.now in
-    let place = c.skip_white-place.result in
+    let place = c.skip_white_space-place.result in
     let other : place < length t → get_or t place 0 ≢ 59 = elim c.then-place-text.branch [
       | then-place-text-via-then-place-text w ↦ λ lt. absurd (omega (arith, w.if-place-text.true))
       | then-place-text-via-else-place-text+then-text-place-ne59 w ↦ λ _. w.if-text-place-ne59.true
     ] in
-    place-faulty t c.args.at place k c.skip_white-place.ensures after other
+    place-faulty t c.args.at place k c.skip_white_space-place.ensures after other
 
 pub returns-in_err-end-clause-fault : goal.returns-in_err-end-clause-fault
 returns-in_err-end-clause-fault c =
     let p = err_from_is_err_and c.from_residual.result c.from_residual.ensures.1 in
     let t = c.args.text.now in
-    let place = c.skip_white-place.result in
-    let lt : place < length t = omega (arith, c.skip_white-place.ensures.within) in
+    let place = c.skip_white_space-place.result in
+    let lt : place < length t = omega (arith, c.skip_white_space-place.ensures.within) in
     rw (p.1, p.2)
     (λ k after held opening.
-    c.in_err-end.ensures.fault _ refl (place-node t c.args.at place k c.skip_white-place.ensures after lt c.if-text-place-ne59.false))
+    c.in_err-end.ensures.fault _ refl (place-node t c.args.at place k c.skip_white_space-place.ensures after lt c.if-text-place-ne59.false))
 
 pub nodes-init : goal.nodes-init
 nodes-init c =
     let t = c.args.text.now in
-    let place = c.skip_white-place.result in
-    let lt : place < length t = omega (arith, c.skip_white-place.ensures.within) in
+    let place = c.skip_white_space-place.result in
+    let lt : place < length t = omega (arith, c.skip_white_space-place.ensures.within) in
     let read = c.in_ok-end.ensures.read in
     record {
-      rises = omega (arith, c.skip_white-place.ensures.rises, read.properties.rises);
+      rises = omega (arith, c.skip_white_space-place.ensures.rises, read.properties.rises);
       within = read.properties.within;
-      room = node-room t place c.in_ok-end.end c.args.link _ _ (omega (arith, c.requires.room, c.skip_white-place.ensures.rises)) read;
+      room = node-room t place c.in_ok-end.end c.args.link _ _ (omega (arith, c.requires.room, c.skip_white_space-place.ensures.rises)) read;
       so_far = λ k after held opening.
-          sequence-first t c.args.at place c.in_ok-end.end k c.args.link _ _ c.skip_white-place.ensures after held opening lt c.if-text-place-ne59.false read;
+          sequence-first t c.args.at place c.in_ok-end.end k c.args.link _ _ c.skip_white_space-place.ensures after held opening lt c.if-text-place-ne59.false read;
       kept = c.in_ok-end.ensures.kept;
     }
 

@@ -5,7 +5,7 @@ use Rattle.sgf_tree.proofs.reader.properties.read_some_properties.Goals as goal
 
 pub properties-init : goal.properties-init
 properties-init c = record {
-  so_far = properties-begin c.args.text.now c.args.at c.skip_white-end.result c.skip_white-end.ensures;
+  so_far = properties-begin c.args.text.now c.args.at c.skip_white_space-end.result c.skip_white_space-end.ensures;
   kept = c.requires.kept;
 }
 
