@@ -1,4 +1,4 @@
--- What the doing of a job comes to: the bytes read and written, the status, and the row on standard error.
+-- What doing a job comes to: the bytes read and written, the status, and the row on standard error.
 use Rattle.std.specs.Prelude.{◌≡◌, ◌⊎◌, ℕ, ◌+◌, List, [], ◌++◌, Option, Some, None, Result, Ok, Err, String}
 use Rattle.std.specs.declared.alloc.Global.{Global}
 use Rattle.std.specs.Result.{result_err}
@@ -65,6 +65,6 @@ pub record IsAct (job : Job) (source new_source : SourceState) (output new_outpu
   pub tells : TellsEnd fault faults new_faults status
 
 -- the file that a job names
-abbrev pub file_named : Job → Option (String Global)
-file_named (Split options file) = file
-file_named (Count file) = file
+abbrev pub job_file : Job → Option (String Global)
+job_file (Split options file) = file
+job_file (Count file) = file
