@@ -8,7 +8,7 @@ use Rattle.sgf_lines.specs.Answer.{IsRun, reads_failed, writes_failed}
 use Rattle.sgf_lines.specs.Counts.{IsCount, IsRow, counts_row}
 use Rattle.sgf_lines.specs.declared.counting.Counts.{Counts}
 use Rattle.sgf_lines.specs.declared.fault.RunFault.{RunFault}
-use Rattle.sgf_lines.specs.declared.fault.RunFault.TheVariants.{Read, Write, Memory}
+use Rattle.sgf_lines.specs.declared.fault.RunFault.TheVariants.{Memory}
 use Rattle.sgfsplit.specs.Fault.{fault_row, status_of}
 use Rattle.sgfsplit.specs.declared.fault.Fault.{Fault}
 use Rattle.sgfsplit.specs.declared.fault.Fault.TheVariants.{Run}
