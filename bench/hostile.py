@@ -31,9 +31,9 @@ def point(col, row):
     return LETTERS[col] + LETTERS[row]
 
 
-def repeated(size, front, unit, behind):
-    """As many units between the front and what is behind as there is room for."""
-    return front + unit * ((size - len(front) - len(behind)) // len(unit)) + behind
+def repeated(size, front, unit, rest):
+    """As many units between the front and the rest as there is room for."""
+    return front + unit * ((size - len(front) - len(rest)) // len(unit)) + rest
 
 
 def nested(size, units):

@@ -85,7 +85,7 @@ unset SHORT_READS
 check 'each byte is a read' 32 "$(cat bytes.runs)"
 
 # Under a limit on memory, in steps of 64 KiB and then wider: the answer, or want of memory after whole records. The last line is much
-# longer than the others, so that memory runs out behind some records, too.
+# longer than the others, so that memory runs out after some records, too.
 {
     printf '(;SZ[19]'
     for at in $(seq 1000); do printf '(;B[%c%c];W[ss]C[%d])' "$(printf "\\$(printf %o $((97 + at % 18)))")" c "$at"; done

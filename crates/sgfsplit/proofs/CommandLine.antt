@@ -21,6 +21,11 @@ pub app_simple : (names : FormNames) → is_simple (program_app names) ≡ true
 unfolding clap_on_literals
 app_simple names = refl
 
+-- the command is of the kind whose faults clap tells
+pub app_free : (names : FormNames) → is_simple_and_free (program_app names) ≡ true
+unfolding clap_on_literals
+app_free names = refl
+
 abbrev pub accepts_form : FormNames → Text → Bool
 accepts_form names word = list_any (λ name. same_text false name.now word) names.now
 

@@ -3,7 +3,6 @@ use Rattle.std.proofs.Common.{◌≡◌, ◌∙◌, ◌<◌, ◌≤◌, ◌^◌,
 use Rattle.std.specs.Prelude.{IfSome, option_map, unwrap_or}
 use Rattle.std.specs.Borrow.{Bor}
 use Rattle.std.specs.List.{list_any}
-use Rattle.std.specs.Str.{bytes_eq}
 use Rattle.std.specs.Str.Parse.{IsNumeral, ParsesUnsigned, digits_value, without_leading_plus}
 use Rattle.std.proofs.lemmas.Bool.{ne_eqb}
 use Rattle.std.proofs.lemmas.Str.Parse.{digit_from_value, numerals_by_value, tells_digits, digits_value_short}
@@ -23,18 +22,18 @@ use Rattle.clap.proofs.ValueTestLemmas.{Accepts-accepts}
 use Rattle.sgf_lines.specs.declared.options.Form.{Form}
 use Rattle.sgf_lines.specs.declared.options.Form.TheVariants as form
 use Rattle.sgfsplit.specs.CommandLine.{FormNames, forms, names_of, program_app}
-use Rattle.sgfsplit.specs.PlainWords.{ArePlainWords, IsFileWord, IsNameWord, IsNumberWord, SplitWords, Word, count_words, file_words, split_words, form_word}
+use Rattle.sgfsplit.specs.PlainWords.{ArePlainWords, IsFileWord, IsNameWord, IsNumberWord, SplitWords, Word, count_words, file_words, split_words, form_word, hyphen}
 use Rattle.sgfsplit.specs.inner.Found.{HoldSplitWords, form_named, rows_found}
 use Rattle.sgfsplit.proofs.CommandLine.{AreAccepted, IsNoOption, accepts_form, accepts_number, after_row, count_entered, count_level, count_row, count_rules, count_taken, file_row, form_row, limit_row, split_entered, split_level, split_rows_are, split_rules, split_taken, words_after}
 
 -- ---- names
 
-two_is_none : (xs : List ℕ) (x : ℕ) → (x == 45) ≡ false → IsNoOption (x ∷ xs)
+two_is_none : (xs : List ℕ) (x : ℕ) → (x == hyphen) ≡ false → IsNoOption (x ∷ xs)
 two_is_none xs x e = record { two = rw e refl; long = rw e refl; short = rw e refl }
 
 pub name_plain : (word : Word) → IsNameWord word → IsNoOption word
 name_plain [] h = absurd h
-name_plain (x ∷ xs) h = two_is_none xs x (ne_eqb x 45 h)
+name_plain (x ∷ xs) h = two_is_none xs x (ne_eqb x hyphen h)
 
 pub file_plain : (word : Word) → IsFileWord word → IsNoOption word
 file_plain word (inl h) = name_plain word h
@@ -160,7 +159,7 @@ module _ (names : FormNames) (are : names_of names ≡ forms) where
 
 -- ---- what a getter gave
 
--- the word behind what was given
+-- the word after what was given
 pub given_word : (o : Option (Bor (List ℕ))) (x : Bor (List ℕ)) (w : Word) → option_map (λ s. s.now) o ≡ Some w → o ≡ Some x → x.now ≡ w
 given_word None x w e is = cc
 given_word (Some y) x w e is = cc

@@ -1,4 +1,4 @@
--- What the doing of a job comes to: the bytes read and written, the status, and the row on standard error.
+-- What doing a job comes to: the bytes read and written, the status, and the row on standard error.
 use Rattle.std.specs.Prelude.{◌≡◌, ◌⊎◌, ℕ, ◌+◌, List, [], ◌++◌, Option, Some, None, Result, Ok, Err, String}
 use Rattle.std.specs.declared.alloc.Global.{Global}
 use Rattle.std.specs.Result.{result_err}
@@ -8,7 +8,7 @@ use Rattle.sgf_lines.specs.Answer.{IsRun, reads_failed, writes_failed}
 use Rattle.sgf_lines.specs.Counts.{IsCount, IsWriting, counts_row}
 use Rattle.sgf_lines.specs.declared.counting.Counts.{Counts}
 use Rattle.sgf_lines.specs.declared.fault.RunFault.{RunFault}
-use Rattle.sgf_lines.specs.declared.fault.RunFault.TheVariants.{Read, Write, Memory}
+use Rattle.sgf_lines.specs.declared.fault.RunFault.TheVariants.{Memory}
 use Rattle.sgfsplit.specs.Fault.{fault_row, status_of}
 use Rattle.sgfsplit.specs.declared.fault.Fault.{Fault}
 use Rattle.sgfsplit.specs.declared.fault.Fault.TheVariants.{Run}
@@ -65,6 +65,6 @@ pub record IsAct (job : Job) (source new_source : SourceState) (output new_outpu
   pub tells : TellsEnd fault faults new_faults status
 
 -- the file that a job names
-abbrev pub file_named : Job → Option (String Global)
-file_named (Split options file) = file
-file_named (Count file) = file
+abbrev pub job_file : Job → Option (String Global)
+job_file (Split options file) = file
+job_file (Count file) = file

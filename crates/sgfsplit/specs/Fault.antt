@@ -5,7 +5,8 @@ use Rattle.sgf_lines.specs.declared.fault.RunFault.TheVariants.{Read, TooLong, N
 use Rattle.sgfsplit.specs.declared.fault.Fault.{Fault}
 use Rattle.sgfsplit.specs.declared.fault.Fault.TheVariants.{Open, Run}
 
--- 1 for a fault of the input, 3 where FILE can't be opened or a read, a write or the flush failed, 4 for want of memory
+-- 1 where the input is refused or no line has the place that is asked for, 3 where FILE can't be opened or a read, a write or
+-- the flush failed, 4 for want of memory
 abbrev pub status_of : Fault → ℕ
 status_of Open = 3
 status_of (Run Read) = 3

@@ -1,4 +1,4 @@
--- What the public contracts cite; the words of private contracts, and of views, are in inner.
+-- What the public contracts cite; the words of private contracts, views and invariants are in inner.
 pub mod CommandLine
 pub mod PlainWords
 pub mod Fault

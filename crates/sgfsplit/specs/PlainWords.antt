@@ -22,10 +22,14 @@ form_word form.Gtp = codes "gtp"
 abbrev pub IsNumberWord : Word → Type 0
 IsNumberWord word = (0 < length word) × (length word ≤ 18) × AllDigits 10 word
 
--- a name that isn't empty and doesn't begin with a hyphen (45)
+-- `-`
+abbrev pub hyphen : ℕ
+hyphen = 45
+
+-- a name that isn't empty and doesn't begin with a hyphen
 abbrev pub IsNameWord : Word → Type 0
 IsNameWord [] = ⊥
-IsNameWord (first ∷ rest) = first ≢ 45
+IsNameWord (first ∷ rest) = first ≢ hyphen
 
 -- FILE: such a name, or `-`
 abbrev pub IsFileWord : Word → Type 0

@@ -23,10 +23,11 @@ Example:
 
 writes each line of play of joseki.sgf, from the root of its game to a leaf, as
 a game of its own. FILE is a Smart Game Format collection (FF[4]), at most
-67108864 bytes; without FILE, or where it is -, standard input is read.
+64 MiB; without FILE, or where it is -, standard input is read.
 
-Exit status: 0 all is written, 1 the input is refused, 2 the words are wrong,
-3 a file could not be opened, read or written, 4 out of memory.";
+Exit status: 0 all is written, 1 the input or the place of --after is refused,
+2 the words are wrong, 3 a file could not be opened, read or written, 4 out of
+memory.";
 
 /// What stands after the options in the help of `split`.
 const SPLIT_EXAMPLE: &str = "\
@@ -50,39 +51,18 @@ Example:
 
 writes three numbers: games, nodes, lines of play.";
 
-/// The option `--form`, which takes one of `FORMS`.
-fn form_option<'a>(alloc: Global) -> Arg<'a>
-    ensures rule { (names : FormNames) × (names_of names ≡ forms) × (rule_of result ≡ form_rule names) }
-    ensures local { result.global ≡ false }
+/// The whole command line.
+pub fn command<'a>(alloc: Global) -> Result<Command<'a>, AllocError>
+    ensures { IfOk result (λ c. (names : FormNames)
+        × (names_of names ≡ forms) × (app_of c ≡ program_app names)) }
 {
-    Arg::new(alloc, "form")
-        .long("form")
-        .value_name("FORM")
-        .help("How each line of play is written")
-        .default_value("list")
-        .value_parser(FORMS.as_slice())
-}
-
-/// An option that takes a number of 64 bits.
-fn number_option<'a>(alloc: Global, name: &'a str, value_name: &'a str, help: &'a str) -> Arg<'a>
-    ensures rule { rule_of result ≡ number_rule name.entry.now }
-    ensures local { result.global ≡ false }
-{
-    Arg::new(alloc, name)
-        .long(name)
-        .value_name(value_name)
-        .help(help)
-        .value_parser(value_parser!(u64))
-}
-
-/// The argument FILE.
-fn file_argument<'a>(alloc: Global) -> Arg<'a>
-    ensures rule { rule_of result ≡ file_rule }
-    ensures local { result.global ≡ false }
-{
-    Arg::new(alloc, "file")
-        .value_name("FILE")
-        .help("The collection to read; none or -: standard input")
+    let program = Command::new(alloc, "sgfsplit")
+        .about("Splits Go game records with variations into their single lines of play")
+        .after_help(EXAMPLE)
+        .subcommand_required(true)
+        .subcommand(split_command(alloc)?)?
+        .subcommand(count_command(alloc)?)?;
+    Ok(program)
 }
 
 /// The command `split`.
@@ -118,16 +98,37 @@ fn count_command<'a>(alloc: Global) -> Result<Command<'a>, AllocError>
     Ok(count)
 }
 
-/// The whole command line.
-pub fn command<'a>(alloc: Global) -> Result<Command<'a>, AllocError>
-    ensures { IfOk result (λ c. (names : FormNames)
-        × (names_of names ≡ forms) × (app_of c ≡ program_app names)) }
+/// The option `--form`, which takes one of `FORMS`.
+fn form_option<'a>(alloc: Global) -> Arg<'a>
+    ensures rule { (names : FormNames) × (names_of names ≡ forms) × (rule_of result ≡ form_rule names) }
+    ensures local { result.global ≡ false }
 {
-    let program = Command::new(alloc, "sgfsplit")
-        .about("Splits Go game records with variations into their single lines of play")
-        .after_help(EXAMPLE)
-        .subcommand_required(true)
-        .subcommand(split_command(alloc)?)?
-        .subcommand(count_command(alloc)?)?;
-    Ok(program)
+    Arg::new(alloc, "form")
+        .long("form")
+        .value_name("FORM")
+        .help("How each line of play is written")
+        .default_value("list")
+        .value_parser(FORMS.as_slice())
+}
+
+/// An option that takes a number of 64 bits.
+fn number_option<'a>(alloc: Global, name: &'a str, value_name: &'a str, help: &'a str) -> Arg<'a>
+    ensures rule { rule_of result ≡ number_rule name.entry.now }
+    ensures local { result.global ≡ false }
+{
+    Arg::new(alloc, name)
+        .long(name)
+        .value_name(value_name)
+        .help(help)
+        .value_parser(value_parser!(u64))
+}
+
+/// The argument FILE.
+fn file_argument<'a>(alloc: Global) -> Arg<'a>
+    ensures rule { rule_of result ≡ file_rule }
+    ensures local { result.global ≡ false }
+{
+    Arg::new(alloc, "file")
+        .value_name("FILE")
+        .help("The collection to read; none or -: standard input")
 }

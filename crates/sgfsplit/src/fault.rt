@@ -18,8 +18,8 @@ impl Fault {
     ghost use Rattle.sgfsplit.specs.Fault.{status_of, message_of, fault_row};
     ghost use Rattle.sgfsplit.specs.inner.ShortText.{short_text, number_text};
 
-    /// The exit status: 1 for an input that is refused, 3 where FILE can't be opened or a read, a write or the flush
-    /// failed, 4 for want of memory.
+    /// The exit status: 1 where the input is refused or no line has the place that is asked for, 3 where FILE can't be
+    /// opened or a read, a write or the flush failed, 4 for want of memory.
     pub fn status(&self) -> u8
         ensures { result ≡ status_of self.now }
     {
@@ -32,6 +32,20 @@ impl Fault {
             Fault::Run(RunFault::NotSgf { .. }) => 1,
             Fault::Run(RunFault::NoSuchLine { .. }) => 1,
         }
+    }
+
+    /// The row on standard error, with its line feed.
+    pub(crate) fn row(&self) -> ShortText
+        ensures { short_text result ≡ fault_row self.now }
+    {
+        let (before, number, after) = self.message();
+        let mut text = ShortText::new();
+        text.push("sgfsplit: ");
+        text.push(before);
+        text.push_number(number);
+        text.push(after);
+        text.push("\n");
+        text
     }
 
     /// The message in three parts: words, a number or none, more words.
@@ -55,19 +69,5 @@ impl Fault {
             Fault::Run(RunFault::Write { .. }) => ("write failed", None, ""),
             Fault::Run(RunFault::Memory { .. }) => ("out of memory", None, ""),
         }
-    }
-
-    /// The row on standard error, with its line feed.
-    pub(crate) fn row(&self) -> ShortText
-        ensures { short_text result ≡ fault_row self.now }
-    {
-        let (before, number, after) = self.message();
-        let mut text = ShortText::new();
-        text.push("sgfsplit: ");
-        text.push(before);
-        text.push_number(number);
-        text.push(after);
-        text.push("\n");
-        text
     }
 }

@@ -1,7 +1,12 @@
 //! What the words of the command line ask for.
 
+ghost use Rattle.std.specs.Prelude.{◌≡◌, option_map, string_bytes};
+ghost use Rattle.sgfsplit.specs.Act.{job_file};
+ghost use Rattle.sgfsplit.specs.declared.request.JobFault.TheVariants.{Memory};
+
 use clap::Error;
 use sgf_lines::Options;
+use std::alloc::AllocError;
 
 /// What the words ask for. A file is named by its path, and none is standard input.
 #[derive(Debug, Drop)]
@@ -18,12 +23,9 @@ pub enum Job {
 }
 
 impl Job {
-    ghost use Rattle.std.specs.Prelude.{◌≡◌, option_map, string_bytes};
-    ghost use Rattle.sgfsplit.specs.Act.{file_named};
-
     /// The name of the file; none for standard input.
     pub fn file(&self) -> Option<&str>
-        ensures { option_map (λ name. name.now) result ≡ option_map string_bytes (file_named self.now) }
+        ensures { option_map (λ name. name.now) result ≡ option_map string_bytes (job_file self.now) }
     {
         let file = match self {
             Job::Split { file, .. } => file,
@@ -41,6 +43,14 @@ impl Job {
 pub enum JobFault {
     /// The words are none of the program's, or ask for help: clap's text and status.
     Words(Error),
-    /// A growth was refused.
+    /// More memory was wanted and refused.
     Memory,
+}
+
+impl From<AllocError> for JobFault {
+    ghost from_gives = { λ _ fault. fault ≡ Memory };
+
+    fn from(_refused: AllocError) -> JobFault {
+        JobFault::Memory
+    }
 }

@@ -13,4 +13,4 @@ returns-in-None c =
 pub returns-in-Some : goal.returns-in-Some
 returns-in-Some c =
     let word = word_given _ _ _ (c.get_str.ensures ∙ first_value-rows (found_of c.args.found.now) (codes "file")) c.in-Some.is in
-    IfOk-weaker c.file_named.result _ _ (λ file h. h ∙ ap file_of (sym word)) c.file_named.ensures
+    IfOk-weaker c.file_of.result _ _ (λ file h. h ∙ ap file_of (sym word)) c.file_of.ensures

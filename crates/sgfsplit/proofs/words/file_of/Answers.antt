@@ -1,6 +1,6 @@
 use Rattle.std.proofs.Common.{◌≡◌, ◌∙◌, ap, sym, refl, true, false, codes, Some}
 use Rattle.std.specs.Str.{bytes_eq}
-use Rattle.sgfsplit.proofs.words.file_named.Goals as goal
+use Rattle.sgfsplit.proofs.words.file_of.Goals as goal
 
 pub returns-then-eq : goal.returns-then-eq
 returns-then-eq c =
