@@ -1,4 +1,4 @@
--- Words of private contracts, and of views.
+-- Words of private contracts, views and invariants.
 pub mod Neighbour
 pub mod Rows
 pub mod Edge

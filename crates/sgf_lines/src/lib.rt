@@ -1,30 +1,31 @@
 //! The lines of play of a Smart Game Format (SGF FF[4]) collection, from the root of a game to a leaf.
-//! A cursor gives them one by one, in file order, over a collection that was read once.
-//! `judge` tells of a line its first illegal turn, or the area score at its end (Tromp-Taylor).
-//! A run writes each line as a record, a text of its own.
 //!
-//!     let collection = sgf_tree::read(alloc, text)?;
-//!     let mut cursor = Cursor::new(alloc, &collection);
-//!     while let Some(line) = cursor.next()? {
-//!         // line.path(), line.game(), line.place()
-//!     }
+//! A [`Cursor`] gives the lines one by one, in file order, over a collection that was read once. [`judge`] tells of a line
+//! its first illegal turn, or the area score at its end (Tromp-Taylor). [`split`] writes each line as a record, a text of
+//! its own.
 //!
-//! - `line` has what is shown of a line.
-//! - `cursor` goes over the lines of a collection.
-//! - `seek` looks for the line with a place.
-//! - `options` has what a run is asked for.
-//! - `verdict` has what a referee says of a line.
-//! - `judging` judges a line: `game_kind` reads its root, `without_setup`, `contents` and `node_values` a node, and `step` plays it.
-//! - `record` writes the text of a line's nodes, `list_row` its row, and `script` the `commands` of a node, out of pieces of `text`;
-//!   what lines share of them is `kept`.
-//! - `laws` has laws of the definitions.
-//! - `source` and `sink` are the ends of a run.
-//! - `run` splits what a source gives into the records of its lines, which a sink takes; `writing` writes them, and a `writer`
-//!   keeps what lines share.
-//! - `followed` follows lines one after the other, over a `game` that is played on from the nodes that they share; `plays`
-//!   counts the nodes that are played.
-//! - `counting` counts the games, nodes and lines of what a source gives.
-//! - `fault` has the ways in which a run may fail.
+//! ```text
+//! let collection = sgf_tree::read(alloc, text)?;
+//! let mut cursor = Cursor::new(alloc, &collection);
+//! while let Some(line) = cursor.next()? {
+//!     // line.path(), line.game(), line.place()
+//! }
+//! ```
+//!
+//! | Module | What it has |
+//! |---|---|
+//! | `line`, `cursor`, `seek` | what is shown of a line; going over the lines of a collection; looking for the line with a place |
+//! | `options`, `fault` | what a run is asked for; the ways in which it may fail |
+//! | `verdict`, `judging` | what a referee says of a line; judging one line |
+//! | `game_kind`, `contents`, `without_setup`, `node_values` | what a root says of its game; what a node holds, and what its values say |
+//! | `step` | playing a node |
+//! | `record`, `row`, `list_row`, `script` | the text of a line's nodes; its row; the commands of a node |
+//! | `text`, `kept`, `commands` | pieces of text; what lines share of a text, and of a script |
+//! | `source`, `sink` | the ends of a run |
+//! | `run`, `writing`, `writer` | splitting what a source gives into records, which a sink takes; what is kept from line to line |
+//! | `followed`, `game`, `plays` | lines followed one after the other, over a game that is played on; the count of nodes played |
+//! | `counting` | the games, nodes and lines of what a source gives |
+//! | `laws` | what follows from the definitions |
 #![tactic(auto)]
 
 mod commands;

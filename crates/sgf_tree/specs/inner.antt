@@ -1,3 +1,4 @@
+-- Words of private contracts, views and invariants.
 pub mod TreeCode
 pub mod Machine
 pub mod Layout
