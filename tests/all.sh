@@ -1,5 +1,6 @@
 #!/usr/bin/env bash
-# The test command: builds the programs, runs the merge gate (`rt ci`), and then every other script of this folder over the program.
+# The test command: runs the merge gate (`rt ci`), which proves and builds all, and then every other script of this folder over the
+# programs that it built.
 # `tests/all.sh --scripts` leaves the gate out, `tests/all.sh NAME..` runs only the scripts named.
 # The last line is `N passed, N failed, N skipped`, summed over all.
 set -uo pipefail
@@ -8,14 +9,18 @@ passed=0 failed=0 skipped=0
 log=$(mktemp)
 trap 'rm -f "$log"' EXIT
 
+programs=(crates/sgfsplit/out/sgfsplit crates/failing_calls/out/failing_calls)
+
+# Builds what the gate didn't, as where it failed.
 build() {
-    local name
-    for name in program failing_calls; do
-        make --no-print-directory "$name" || { echo "FAILED: make $name"; failed=$((failed + 1)); }
+    local program
+    for program in "${programs[@]}"; do
+        make --no-print-directory "$program" || { echo "FAILED: make $program"; failed=$((failed + 1)); }
     done
 }
 
 gate() {
+    rm -f "${programs[@]}"
     rt ci < /dev/null 2>&1 | tee "$log"
     local counts
     counts=$(tail -n 1 "$log" | sed -n 's/^\([0-9][0-9]*\) passed, \([0-9][0-9]*\) failed$/\1 \2/p')
@@ -47,7 +52,7 @@ script() {
 
 names=()
 case ${1-} in
-    '') build; gate ;;
+    '') gate; build ;;
     --scripts) ;;
     *) names=("$@") ;;
 esac
