@@ -23,7 +23,7 @@ last-way {i = i} (step {above = above} e u same) = ap last_number same ∙ last_
 
 pub one_way : {c : Games} {at : Option ℕ} {ns ms : List ℕ} → IsPathTo c at ns → IsPathTo c at ms → ns ≡ ms
 one_way top top = refl
-one_way {c = c} (step {i = i} {parent = p} {above = a} e u is) (step {parent = q} {above = b} f v same) =
+one_way {c = c} (step {number = i} {parent = p} {above = a} e u is) (step {parent = q} {above = b} f v same) =
     let parents : p ≡ q = cc in
     let above : a ≡ b = one_way u (rw (← parents) at v) in
     is ∙ ap (λ l. l ++ i ∷ []) above ∙ sym same

@@ -26,7 +26,7 @@ use Rattle.sgf_lines.proofs.Sought.{stands_after}
 -- a front of a way is the way to its last node
 front_way : {c : Games} {at : Option ℕ} {ns : List ℕ} → IsPathTo c at ns → (r x : ℕ) → slice_get ns r ≡ Some x → IsPathTo c (Some x) (take (r + 1) ns)
 front_way top r x e = absurd cc
-front_way {c = c} {ns = ns} (step {i = i} {parent = p} {above = above} e up is) r x got =
+front_way {c = c} {ns = ns} (step {number = i} {parent = p} {above = above} e up is) r x got =
     elim (split_get above (i ∷ []) r x (rw is at got)) [
       | inl h ↦
           let within = slice_get_within above r x h in
@@ -59,8 +59,8 @@ up_from {n = n} front way e =
 -- a way has no more nodes than stand before its last one, and that one
 pub path_length : {c : Games} {at : Option ℕ} {ns : List ℕ} → IsPathTo c at ns → (i : ℕ) → at ≡ Some i → length ns ≤ i + 1
 path_length top i e = absurd cc
-path_length {c = c} (step {i = j} {parent = None} {above = above} e top is) i f = omega (arith, ap length is)
-path_length {c = c} (step {i = j} {parent = Some p} {above = above} e up is) i f =
+path_length {c = c} (step {number = j} {parent = None} {above = above} e top is) i f = omega (arith, ap length is)
+path_length {c = c} (step {number = j} {parent = Some p} {above = above} e up is) i f =
     let same : j ≡ i = cc in
     omega (arith, ap length is, length-append above (j ∷ []), path_length up p refl, parent_before c j p e)
 

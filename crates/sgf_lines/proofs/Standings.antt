@@ -19,7 +19,7 @@ use Rattle.sgf_lines.proofs.CursorStates.{before_none, next_line, no_line_left, 
 -- each node on a way is one of the collection
 pub within_way : {c : Games} {at : Option ℕ} {way : List ℕ} → IsPathTo c at way → Each (λ n. n < node_count c) way
 within_way top = tt
-within_way {c = c} (step {i = i} {parent = p} {above = above} e up is) =
+within_way {c = c} (step {number = i} {parent = p} {above = above} e up is) =
     subst (Each (λ n. n < node_count c)) (sym is) (each_append (λ n. n < node_count c) above (i ∷ []) (within_way up) (node_within c i p e, tt))
 
 longer : {c : Games} {i : ℕ} {way : List ℕ} → IsPathTo c (Some i) way → 0 < length way

@@ -19,7 +19,7 @@
 //! | `verdict`, `judging` | what a referee says of a line; judging one line |
 //! | `game_kind`, `contents`, `without_setup`, `node_values` | what a root says of its game; what a node holds, and what its values say |
 //! | `step` | playing a node |
-//! | `record`, `row`, `list_row`, `script` | the text of a line's nodes; its row; the commands of a node |
+//! | `record`, `list_row`, `script` | the text of a line's nodes; its row; the commands of a node |
 //! | `text`, `kept`, `commands` | pieces of text; what lines share of a text, and of a script |
 //! | `source`, `sink` | the ends of a run |
 //! | `run`, `writing`, `writer` | splitting what a source gives into records, which a sink takes; what is kept from line to line |
@@ -45,7 +45,6 @@ mod node_values;
 mod options;
 mod plays;
 mod record;
-mod row;
 mod run;
 mod script;
 mod seek;

@@ -13,7 +13,7 @@ use crate::cursor::Cursor;
 use crate::followed::Followed;
 use crate::kept::KeptText;
 use crate::line::LineRef;
-use crate::list_row::{push_list, push_list_comment};
+use crate::list_row::{push_list_row, push_list_row_comment};
 use crate::options::Form;
 use crate::plays::Plays;
 use crate::record::follow_nodes;
@@ -124,14 +124,14 @@ impl Writer {
                 self.followed
                     .follow(alloc, collection, line.path, shared, false, plays)?;
                 let verdict = self.followed.verdict();
-                push_list(line, verdict, &mut self.head)
+                push_list_row(line, verdict, &mut self.head)
             }
             Form::Sgf => follow_nodes(collection, line.path, shared, &mut self.nodes),
             Form::Gtp => {
                 self.followed
                     .follow(alloc, collection, line.path, shared, true, plays)?;
                 let verdict = self.followed.verdict();
-                push_list_comment(line, verdict, &mut self.head)
+                push_list_row_comment(line, verdict, &mut self.head)
             }
         }
     }

@@ -25,7 +25,8 @@ abbrev pub empty_lists : Lists
 empty_lists = record { moves = []; stones = []; players = [] }
 
 abbrev pub combined : Lists → Lists → Lists
-combined a b = record { moves = a.moves ++ b.moves; stones = a.stones ++ b.stones; players = a.players ++ b.players }
+combined front more =
+    record { moves = front.moves ++ more.moves; stones = front.stones ++ more.stones; players = front.players ++ more.players }
 
 -- what the values of a property of that name are
 abbrev pub kind_named : List ℕ → Option Kind
@@ -43,7 +44,7 @@ kind_of p = kind_named p.name
 
 -- values of that kind
 abbrev pub lists_of_kind : Kind → List (List ℕ) → Lists
-lists_of_kind (move_kind k) raws = record empty_lists { moves = map (λ raw. record { player = k; raw = raw }) raws }
+lists_of_kind (move_kind colour) raws = record empty_lists { moves = map (λ raw. record { player = colour; raw = raw }) raws }
 lists_of_kind (stones_kind cell) raws = record empty_lists { stones = map (λ raw. record { cell = cell; raw = raw }) raws }
 lists_of_kind player_kind raws = record empty_lists { players = raws }
 lists_of_kind comment_kind raws = empty_lists
@@ -54,9 +55,9 @@ lists_in ps = record { moves = flat_map moves_in ps; stones = flat_map stones_in
 
 -- the moves, as far as they are told
 abbrev pub AreMoves : Moves → List Move → Type 0
-AreMoves Nothing ms = ms ≡ []
-AreMoves (One k raw) ms = ms ≡ record { player = k; raw = raw.now } ∷ []
-AreMoves Several ms = (m l : Move) × (more : List Move) × (ms ≡ m ∷ l ∷ more)
+AreMoves Nothing moves = moves ≡ []
+AreMoves (One colour raw) moves = moves ≡ record { player = colour; raw = raw.now } ∷ []
+AreMoves Several moves = (first second : Move) × (more : List Move) × (moves ≡ first ∷ second ∷ more)
 
 -- moves, operations, a player, and whether some value is faulty, tell of the lists what a step asks for
 pub record AreTold (side : ℕ) (moves : Moves) (ops : List SetupOp) (player : Option Colour) (faulty : Bool) (lists : Lists) : Type 0 where
@@ -67,9 +68,9 @@ pub record AreTold (side : ℕ) (moves : Moves) (ops : List SetupOp) (player : O
   pub on_board : All (λ op. IsRectOn side op.area) ops
 
 abbrev pub IsContents : ℕ → Contents → Lists → Type 0
-IsContents side c lists = AreTold side c.moves c.operations.items c.player c.faulty lists
+IsContents side contents lists = AreTold side contents.moves contents.operations.items contents.player contents.faulty lists
 
 -- the contents tell what properties hold
-pub record IsGathered (side : ℕ) (ps : List Property) (c : Contents) : Type 0 where
-  pub told : IsContents side c (lists_in ps)
-  pub comment_is : option_copied c.comment ≡ first_value (codes "C") ps
+pub record IsGathered (side : ℕ) (properties : List Property) (contents : Contents) : Type 0 where
+  pub told : IsContents side contents (lists_in properties)
+  pub comment_is : option_copied contents.comment ≡ first_value (codes "C") properties

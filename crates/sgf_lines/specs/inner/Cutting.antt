@@ -10,11 +10,12 @@ use Rattle.sgf_lines.specs.Script.{colour_letter, vertex_text, play_command}
 
 -- the command of a point, if it has that colour
 abbrev pub commands_at : Grid → Colour → Point → List ℕ
-commands_at g k p = if same_cell (cell_at g p) (stone_of k) then play_command g.side k (Stone p) else []
+commands_at grid colour point =
+    if same_cell (cell_at grid point) (stone_of colour) then play_command grid.side colour (Stone point) else []
 
 -- the command of a pass, and that of a stone by its vertex
 abbrev pub pass_command : Colour → List ℕ
-pass_command k = codes "play " ++ colour_letter k ++ codes " " ++ codes "pass" ++ codes "\n"
+pass_command colour = codes "play " ++ colour_letter colour ++ codes " " ++ codes "pass" ++ codes "\n"
 
 abbrev pub stone_command : Colour → Vertex → List ℕ
-stone_command k v = codes "play " ++ colour_letter k ++ codes " " ++ vertex_text v ++ codes "\n"
+stone_command colour vertex = codes "play " ++ colour_letter colour ++ codes " " ++ vertex_text vertex ++ codes "\n"

@@ -9,7 +9,7 @@ use Rattle.sgf_lines.specs.Cursor.{CursorState}
 -- the first node after the nodes of a line in file order; before the first line it is the first node of all
 abbrev pub first_after : List ℕ → ℕ
 first_after [] = 0
-first_after (n ∷ ns) = last_number (n ∷ ns) + 1
+first_after (number ∷ numbers) = last_number (number ∷ numbers) + 1
 
 -- The new path keeps a front of the old one, and then has the nodes from the first one after it down to its leaf.
 pub record Continues (old : List ℕ) (kept : ℕ) (new : List ℕ) : Type 0 where
@@ -23,7 +23,7 @@ numbers_of (Some path) = path.numbers
 
 abbrev pub numbers_before : Games → ℕ → List ℕ
 numbers_before games zero = []
-numbers_before games (suc k) = numbers_of (slice_get (paths games) k)
+numbers_before games (suc index) = numbers_of (slice_get (paths games) index)
 
 -- the nodes of the line before a cursor's next one; none before the first line
 abbrev pub path_before : CursorState → List ℕ

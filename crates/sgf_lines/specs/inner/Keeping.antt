@@ -14,35 +14,35 @@ use Rattle.sgf_lines.specs.inner.Following.{Continues, first_after, path_before}
 
 -- the record that was made last
 abbrev pub record_by : Form → Writer → List ℕ
-record_by list_form w = w.head.items
-record_by sgf_form w = w.nodes.text.items
-record_by gtp_form w = w.head.items ++ (followed_commands w.followed ++ codes "\n")
+record_by list_form writer = writer.head.items
+record_by sgf_form writer = writer.nodes.text.items
+record_by gtp_form writer = writer.head.items ++ (followed_commands writer.followed ++ codes "\n")
 
 abbrev pub record_in : Writer → List ℕ
-record_in w = record_by w.form w
+record_in writer = record_by writer.form writer
 
 -- what is kept of the nodes of a line: where it is judged, the game played along them; else their text
 abbrev pub KeepsBy : Form → List Node → Writer → Type 0
-KeepsBy list_form nodes w = IsFollowed false nodes w.followed
-KeepsBy sgf_form nodes w = IsKeptRecord nodes w.nodes
-KeepsBy gtp_form nodes w = IsFollowed true nodes w.followed
+KeepsBy list_form nodes writer = IsFollowed false nodes writer.followed
+KeepsBy sgf_form nodes writer = IsKeptRecord nodes writer.nodes
+KeepsBy gtp_form nodes writer = IsFollowed true nodes writer.followed
 
 abbrev pub Keeps : List Node → Writer → Type 0
-Keeps nodes w = KeepsBy w.form nodes w
+Keeps nodes writer = KeepsBy writer.form nodes writer
 
 -- it is kept of the line before a cursor's next one
-pub record KeepsAt (at : CursorState) (w : Writer) : Type 0 where
+pub record KeepsAt (at : CursorState) (writer : Writer) : Type 0 where
   pub nodes : List Node
   pub named : map Some nodes ≡ map (node_at at.games) (path_before at)
-  pub keeps : Keeps nodes w
+  pub keeps : Keeps nodes writer
 
 -- once a run has written a line
 abbrev pub KeepsOnce : Bool → CursorState → Writer → Type 0
-KeepsOnce true at w = KeepsAt at w
-KeepsOnce false at w = Unit {0}
+KeepsOnce true at writer = KeepsAt at writer
+KeepsOnce false at writer = Unit {0}
 
 abbrev pub KeepsBefore : CursorState → Writer → Type 0
-KeepsBefore at w = KeepsOnce w.wrote at w
+KeepsBefore at writer = KeepsOnce writer.wrote at writer
 
 -- plays went from `old` to `new` for the line of these nodes, of which the first `shared` are played already
 abbrev pub PlaysIn : {A E : Type 0} → Form → ℕ → ℕ → List Node → ℕ → Result A E → Type 0
@@ -66,9 +66,9 @@ pub record HasPlays (form : Form) (wrote : Bool) (at : CursorState) (count : ℕ
 -- plays went from `old` to `new` where a cursor's next line was to be written: those of that line, if there is one; none or some
 -- of them where memory was refused
 abbrev pub PlaysLine : {E : Type 0} → Form → Bool → CursorState → ℕ → ℕ → Result Bool E → Type 0
-PlaysLine form wrote at old new (Ok true) = (n : ℕ) × HasPlays form wrote at n × (new ≡ old + n)
+PlaysLine form wrote at old new (Ok true) = (count : ℕ) × HasPlays form wrote at count × (new ≡ old + count)
 PlaysLine form wrote at old new (Ok false) = new ≡ old
-PlaysLine form wrote at old new (Err fault) = (new ≡ old) ⊎ ((n : ℕ) × HasPlays form wrote at n × (old ≤ new) × (new ≤ old + n))
+PlaysLine form wrote at old new (Err fault) = (new ≡ old) ⊎ ((count : ℕ) × HasPlays form wrote at count × (old ≤ new) × (new ≤ old + count))
 
 -- how many nodes a run can still play: those after the line before a cursor's next one, or all before its first line
 abbrev pub left : Bool → CursorState → ℕ

@@ -15,7 +15,7 @@ abbrev pub if_lettered : ℕ → List ℕ → List ℕ
 if_lettered side text = if nat_lt MAX_VERTEX_SIDE side then [] else text
 
 abbrev pub lettered_script : ℕ → State → Node → List ℕ
-lettered_script side after n = if_lettered side (node_script after n)
+lettered_script side after node = if_lettered side (node_script after node)
 
 -- the commands of nodes, whether or not each stone of a setup has a liberty
 abbrev pub commands_text : ℕ → List Node → List ℕ
@@ -28,8 +28,8 @@ some_unreaching side nodes = list_any leaves_unreaching (walk side nodes).taken
 -- the index of the first such node
 abbrev pub IsFirstUnreaching : ℕ → List Node → Option ℕ → Type 0
 IsFirstUnreaching side nodes None = some_unreaching side nodes ≡ false
-IsFirstUnreaching side nodes (Some i) =
-    (i < length nodes) × (some_unreaching side (take i nodes) ≡ false) × (some_unreaching side (take (i + 1) nodes) ≡ true)
+IsFirstUnreaching side nodes (Some index) =
+    (index < length nodes) × (some_unreaching side (take index nodes) ≡ false) × (some_unreaching side (take (index + 1) nodes) ≡ true)
 
 pub record AreCommands (side : ℕ) (nodes : List Node) (commands : Commands) : Type 0 where
   pub kept : IsKeptText (commands_text side) nodes commands.kept
@@ -37,25 +37,26 @@ pub record AreCommands (side : ℕ) (nodes : List Node) (commands : Commands) : 
 
 -- what playing a node more did: its step was taken, and led to this board; or it wasn't
 abbrev pub HasChanged : {A : Type 0} → ℕ → List Node → Node → Grid → Option A → Type 0
-HasChanged side nodes n board (Some _) =
-    (after : State) × (after.colouring ≡ board) × ((walk side (nodes ++ n ∷ [])).taken ≡ (walk side nodes).taken ++ record { node = n; after = after } ∷ [])
-HasChanged side nodes n board None = (walk side (nodes ++ n ∷ [])).taken ≡ (walk side nodes).taken
+HasChanged side nodes node board (Some _) =
+    (after : State) × (after.colouring ≡ board)
+    × ((walk side (nodes ++ node ∷ [])).taken ≡ (walk side nodes).taken ++ record { node = node; after = after } ∷ [])
+HasChanged side nodes node board None = (walk side (nodes ++ node ∷ [])).taken ≡ (walk side nodes).taken
 
 -- the first index, once one more is looked at
 abbrev pub first_unreaching : Option ℕ → ℕ → Bool → Option ℕ
-first_unreaching (Some i) index unreaching = Some i
+first_unreaching (Some first) index unreaching = Some first
 first_unreaching None index true = Some index
 first_unreaching None index false = None
 
 -- the first index among the first ones
 abbrev pub unreaching_before : Option ℕ → ℕ → Option ℕ
-unreaching_before (Some i) count = if nat_lt i count then Some i else None
+unreaching_before (Some first) count = if nat_lt first count then Some first else None
 unreaching_before None count = None
 
 -- what is kept of commands, where they can be said
 abbrev pub kept_unless : Option ℕ → List ℕ → List ℕ
 kept_unless None text = text
-kept_unless (Some i) text = []
+kept_unless (Some first) text = []
 
 abbrev pub commands_kept : Commands → List ℕ
 commands_kept commands = kept_unless commands.unreaching commands.kept.text.items

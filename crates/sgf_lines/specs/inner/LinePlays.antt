@@ -12,30 +12,30 @@ use Rattle.sgf_lines.specs.declared.fault.RunFault.TheVariants.{Read, TooLong, N
 
 -- what writing lines says of the number of nodes that were played
 abbrev pub AnswersPlaysFor : Form → List Line → ℕ → Result ℕ RunFault → Type 0
-AnswersPlaysFor form ls plays (Ok k) = plays ≡ plays_of form ls
-AnswersPlaysFor form ls plays (Err Read) = ⊥
-AnswersPlaysFor form ls plays (Err TooLong) = ⊥
-AnswersPlaysFor form ls plays (Err (NotSgf at len)) = ⊥
-AnswersPlaysFor form ls plays (Err (NoSuchLine place)) = ⊥
-AnswersPlaysFor form ls plays (Err (Write k)) = ArePlaysFor form ls k plays
-AnswersPlaysFor form ls plays (Err (Memory k)) = ArePlaysFor form ls k plays
+AnswersPlaysFor form page plays (Ok count) = plays ≡ plays_of form page
+AnswersPlaysFor form page plays (Err Read) = ⊥
+AnswersPlaysFor form page plays (Err TooLong) = ⊥
+AnswersPlaysFor form page plays (Err (NotSgf at len)) = ⊥
+AnswersPlaysFor form page plays (Err (NoSuchLine place)) = ⊥
+AnswersPlaysFor form page plays (Err (Write count)) = ArePlaysFor form page count plays
+AnswersPlaysFor form page plays (Err (Memory count)) = ArePlaysFor form page count plays
 
 -- plays went from `old` to `new` where lines were written
-pub record PlaysLines (form : Form) (ls : List Line) (old new : ℕ) (result : Result ℕ RunFault) : Type 0 where
+pub record PlaysLines (form : Form) (page : List Line) (old new : ℕ) (result : Result ℕ RunFault) : Type 0 where
   pub plays : ℕ
   pub rises : new ≡ old + plays
-  pub answers : AnswersPlaysFor form ls plays result
+  pub answers : AnswersPlaysFor form page plays result
 
 -- plays went from `old` to `new` in a run whose source gave this text
-pub record PlaysText (o : Options) (text : List ℕ) (to_come : Option (List ℕ)) (old new : ℕ) (result : Result ℕ RunFault) : Type 0 where
+pub record PlaysText (options : Options) (text : List ℕ) (to_come : Option (List ℕ)) (old new : ℕ) (result : Result ℕ RunFault) : Type 0 where
   pub plays : ℕ
   pub rises : new ≡ old + plays
-  pub answers : AnswersPlays o text to_come plays result
+  pub answers : AnswersPlays options text to_come plays result
 
 -- so they went, where the source is at its end
 abbrev pub PlaysSplit : Options → List ℕ → ℕ → ℕ → Result ℕ RunFault → Type 0
-PlaysSplit o text old new result = (to_come : Option (List ℕ)) → IsWhole text to_come → PlaysText o text to_come old new result
+PlaysSplit options text old new result = (to_come : Option (List ℕ)) → IsWhole text to_come → PlaysText options text to_come old new result
 
 -- so they went, for each text that spells the collection
 abbrev pub PlaysSplitOf : Options → Games → ℕ → ℕ → Result ℕ RunFault → Type 0
-PlaysSplitOf o c old new result = (text : List ℕ) → Spells c text → PlaysSplit o text old new result
+PlaysSplitOf options games old new result = (text : List ℕ) → Spells games text → PlaysSplit options text old new result

@@ -4,22 +4,22 @@ use Rattle.sgf_tree.specs.Tree.{Games, node_count}
 use Rattle.sgf_tree.specs.FileOrder.{parent_at, IsLeaf}
 
 -- the numbers of the nodes from the root to a node, each the parent of the next; above a root there is none
-pub data IsPathTo (c : Games) : Option ℕ → List ℕ → Type 0 where
-  top : IsPathTo c None []
-  step : {i : ℕ} {parent : Option ℕ} {above numbers : List ℕ} → parent_at c i ≡ Some parent → IsPathTo c parent above → numbers ≡ above ++ i ∷ []
-      → IsPathTo c (Some i) numbers
+pub data IsPathTo (games : Games) : Option ℕ → List ℕ → Type 0 where
+  top : IsPathTo games None []
+  step : {number : ℕ} {parent : Option ℕ} {above numbers : List ℕ} → parent_at games number ≡ Some parent → IsPathTo games parent above
+      → numbers ≡ above ++ number ∷ [] → IsPathTo games (Some number) numbers
 
 -- no leaf stands from node `from` on and before node `to`
 abbrev pub HasNoLeaf : Games → ℕ → ℕ → Type 0
-HasNoLeaf c from to = (j : ℕ) → from ≤ j → j < to → IsLeaf c j → ⊥
+HasNoLeaf games from to = (number : ℕ) → from ≤ number → number < to → IsLeaf games number → ⊥
 
--- node i is the first leaf from node `from` on
-pub record IsNextLeaf (c : Games) (from i : ℕ) : Type 0 where
-  pub from_there : from ≤ i
-  pub within : i < node_count c
-  pub is_leaf : IsLeaf c i
-  pub first : HasNoLeaf c from i
+-- the node of this number is the first leaf from node `from` on
+pub record IsNextLeaf (games : Games) (from number : ℕ) : Type 0 where
+  pub from_there : from ≤ number
+  pub within : number < node_count games
+  pub is_leaf : IsLeaf games number
+  pub first : HasNoLeaf games from number
 
 -- the next leaf, or none where there is none
 abbrev pub IsLeafSearch : Games → ℕ → Option ℕ → Type 0
-IsLeafSearch c from found = MatchOption found (HasNoLeaf c from (node_count c)) (IsNextLeaf c from)
+IsLeafSearch games from found = MatchOption found (HasNoLeaf games from (node_count games)) (IsNextLeaf games from)

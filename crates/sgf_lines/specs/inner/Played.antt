@@ -10,8 +10,10 @@ use Rattle.sgf_lines.specs.inner.KeptCommands.{AreCommands, commands_kept}
 
 -- the states of a referee when it had accepted at most so many setups and turns
 abbrev pub back_from : State → List State → ℕ → States
-back_from s [] depth = record { present = s; earlier = [] }
-back_from s (e ∷ es) depth = if nat_le (length (e ∷ es)) depth then record { present = s; earlier = e ∷ es } else back_from e es depth
+back_from present [] depth = record { present = present; earlier = [] }
+back_from present (earlier ∷ others) depth =
+    if nat_le (length (earlier ∷ others)) depth then record { present = present; earlier = earlier ∷ others }
+    else back_from earlier others depth
 
 abbrev pub back_to : States → ℕ → States
 back_to states depth = back_from states.present states.earlier depth
@@ -28,10 +30,10 @@ abbrev pub met_before : Option MetIllegal → ℕ → Option MetIllegal
 met_before (Some met) count = if nat_lt met.index count then Some met else None
 met_before None count = None
 
--- a depth leads back to where the walk along the first i nodes leads
-pub record IsDepthBefore (side : ℕ) (nodes : List Node) (states : States) (i depth : ℕ) : Type 0 where
+-- a depth leads back to where the walk along the first `count` nodes leads
+pub record IsDepthBefore (side : ℕ) (nodes : List Node) (states : States) (count depth : ℕ) : Type 0 where
   pub within : depth ≤ length states.earlier
-  pub state : (back_to states depth).present ≡ (walk side (take i nodes)).state
+  pub state : (back_to states depth).present ≡ (walk side (take count nodes)).state
 
 -- the game was played along the nodes, and each of its depths leads back to before its node
 pub record IsPlayed (side : ℕ) (nodes : List Node) (game : Game) : Type 0 where

@@ -24,8 +24,8 @@ AnswersReading given to_come text (Err Read) = length given ≤ MAX_LENGTH
 AnswersReading given to_come text (Err TooLong) = MAX_LENGTH < length given
 AnswersReading given to_come text (Err (NotSgf at len)) = ⊥
 AnswersReading given to_come text (Err (NoSuchLine place)) = ⊥
-AnswersReading given to_come text (Err (Write k)) = ⊥
-AnswersReading given to_come text (Err (Memory k)) = k ≡ 0
+AnswersReading given to_come text (Err (Write count)) = ⊥
+AnswersReading given to_come text (Err (Memory count)) = count ≡ 0
 
 pub record IsReading {A : Type 0} (source new_source : SourceState) (text : List ℕ) (result : Result A RunFault) : Type 0 where
   pub given : List ℕ
@@ -40,43 +40,44 @@ unread (TextNotSgf at) len = NotSgf at len
 unread TextMemory len = Memory 0
 
 -- the answer of a run whose source gave this text
-pub record Finishes (o : Options) (text : List ℕ) (to_come : Option (List ℕ)) (sink new_sink : SinkState) (result : Result ℕ RunFault) : Type 0 where
+pub record Finishes (options : Options) (text : List ℕ) (to_come : Option (List ℕ)) (sink new_sink : SinkState) (result : Result ℕ RunFault) : Type 0 where
   pub taken : List ℕ
   pub takes : Appends sink.taken new_sink.taken taken
-  pub answers : Answers o text to_come taken result
+  pub answers : Answers options text to_come taken result
 
 -- that answer, where the source is at its end
 abbrev pub IsSplit : Options → List ℕ → SinkState → SinkState → Result ℕ RunFault → Type 0
-IsSplit o text sink new_sink result = (to_come : Option (List ℕ)) → IsWhole text to_come → Finishes o text to_come sink new_sink result
+IsSplit options text sink new_sink result =
+    (to_come : Option (List ℕ)) → IsWhole text to_come → Finishes options text to_come sink new_sink result
 
 -- that answer, for each text that spells the collection
 abbrev pub IsSplitOf : Options → Games → SinkState → SinkState → Result ℕ RunFault → Type 0
-IsSplitOf o c sink new_sink result = (text : List ℕ) → Spells c text → IsSplit o text sink new_sink result
+IsSplitOf options games sink new_sink result = (text : List ℕ) → Spells games text → IsSplit options text sink new_sink result
 
 -- where a cursor stands before the page, or why there is none
 abbrev pub IsStart : Games → Option ℕ → Result CursorState RunFault → Type 0
-IsStart c after (Ok at) = lines_asked (lines c) after ≡ Some (drop at.index (lines c))
-IsStart c after (Err Read) = ⊥
-IsStart c after (Err TooLong) = ⊥
-IsStart c after (Err (NotSgf at len)) = ⊥
-IsStart c after (Err (NoSuchLine place)) = (after ≡ Some place) × (lines_after (lines c) place ≡ None)
-IsStart c after (Err (Write k)) = ⊥
-IsStart c after (Err (Memory k)) = k ≡ 0
+IsStart games after (Ok cursor) = lines_asked (lines games) after ≡ Some (drop cursor.index (lines games))
+IsStart games after (Err Read) = ⊥
+IsStart games after (Err TooLong) = ⊥
+IsStart games after (Err (NotSgf at len)) = ⊥
+IsStart games after (Err (NoSuchLine place)) = (after ≡ Some place) × (lines_after (lines games) place ≡ None)
+IsStart games after (Err (Write count)) = ⊥
+IsStart games after (Err (Memory count)) = count ≡ 0
 
 -- what writing lines says of the bytes that the sink took
 abbrev pub AnswersLines : Form → List Line → List ℕ → Result ℕ RunFault → Type 0
-AnswersLines form ls taken (Ok k) = (taken ≡ output form ls) × (k ≡ length ls)
-AnswersLines form ls taken (Err Read) = ⊥
-AnswersLines form ls taken (Err TooLong) = ⊥
-AnswersLines form ls taken (Err (NotSgf at len)) = ⊥
-AnswersLines form ls taken (Err (NoSuchLine place)) = ⊥
-AnswersLines form ls taken (Err (Write k)) = IsCutShort form ls k taken
-AnswersLines form ls taken (Err (Memory k)) = IsCutBetween form ls k taken
+AnswersLines form page taken (Ok count) = (taken ≡ output form page) × (count ≡ length page)
+AnswersLines form page taken (Err Read) = ⊥
+AnswersLines form page taken (Err TooLong) = ⊥
+AnswersLines form page taken (Err (NotSgf at len)) = ⊥
+AnswersLines form page taken (Err (NoSuchLine place)) = ⊥
+AnswersLines form page taken (Err (Write count)) = IsCutShort form page count taken
+AnswersLines form page taken (Err (Memory count)) = IsCutBetween form page count taken
 
-pub record WritesLines (form : Form) (ls : List Line) (sink new_sink : SinkState) (result : Result ℕ RunFault) : Type 0 where
+pub record WritesLines (form : Form) (page : List Line) (sink new_sink : SinkState) (result : Result ℕ RunFault) : Type 0 where
   pub taken : List ℕ
   pub takes : Appends sink.taken new_sink.taken taken
-  pub answers : AnswersLines form ls taken result
+  pub answers : AnswersLines form page taken result
 
 -- the record of the line at the cursor, which went on by one line
 pub record HasRecord (form : Form) (old new : CursorState) (bytes : List ℕ) : Type 0 where
@@ -88,4 +89,4 @@ pub record HasRecord (form : Form) (old new : CursorState) (bytes : List ℕ) : 
 -- a sink took all of these bytes, or failed after less than all of them
 abbrev pub PutsAll : {A E : Type 0} → SinkState → SinkState → List ℕ → Result A E → Type 0
 PutsAll old new bytes (Ok _) = Appends old.taken new.taken bytes × (new.failures ≡ old.failures)
-PutsAll old new bytes (Err _) = (n : ℕ) × (n < length bytes) × Appends old.taken new.taken (take n bytes) × (new.failures ≡ old.failures + 1)
+PutsAll old new bytes (Err _) = (count : ℕ) × (count < length bytes) × Appends old.taken new.taken (take count bytes) × (new.failures ≡ old.failures + 1)

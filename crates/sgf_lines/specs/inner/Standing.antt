@@ -9,16 +9,16 @@ use Rattle.sgf_lines.specs.Paths.{paths, leaf_of}
 use Rattle.sgf_lines.specs.Cursor.{CursorState}
 use Rattle.sgf_lines.specs.inner.PathTo.{IsPathTo}
 
--- how many lines end before node n
+-- how many lines end before the node of this number
 abbrev pub lines_before : Games → ℕ → ℕ
-lines_before c n = prefix_len (λ path. nat_lt (leaf_of path) n) (paths c)
+lines_before games number = prefix_len (λ path. nat_lt (leaf_of path) number) (paths games)
 
 -- Where a cursor stands. It goes on from the node `next`; the node before that one is the last leaf, and `numbers` the path to it.
-pub record IsAfterLeaf (c : Games) (next : ℕ) (numbers : List ℕ) : Type 0 where
-  pub within : next ≤ node_count c
+pub record IsAfterLeaf (games : Games) (next : ℕ) (numbers : List ℕ) : Type 0 where
+  pub within : next ≤ node_count games
   pub start : next ≡ 0 → numbers ≡ []
-  pub leaf : (i : ℕ) → next ≡ i + 1 → IsLeaf c i
-  pub path : (i : ℕ) → next ≡ i + 1 → IsPathTo c (Some i) numbers
+  pub leaf : (last : ℕ) → next ≡ last + 1 → IsLeaf games last
+  pub path : (last : ℕ) → next ≡ last + 1 → IsPathTo games (Some last) numbers
 
 -- a cursor's state is stored as the pair of its parts
 abbrev pub cursor_state_code : Coded CursorState

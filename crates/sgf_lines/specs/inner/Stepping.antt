@@ -34,17 +34,17 @@ IsStepped step old new (Err Memory) = new ≡ old
 
 -- the effect of moves and stones
 abbrev pub IsEffectBy : List Move → List Stones → Effect → Type 0
-IsEffectBy ms ts Nothing = (ms ≡ []) × (ts ≡ [])
-IsEffectBy ms ts stones_set = (ms ≡ []) × (0 < length ts)
-IsEffectBy ms ts (one_move colour raw) = (ms ≡ record { player = colour; raw = raw.now } ∷ []) × (ts ≡ [])
+IsEffectBy moves stones Nothing = (moves ≡ []) × (stones ≡ [])
+IsEffectBy moves stones stones_set = (moves ≡ []) × (0 < length stones)
+IsEffectBy moves stones (one_move colour raw) = (moves ≡ record { player = colour; raw = raw.now } ∷ []) × (stones ≡ [])
 
 abbrev pub IsEffect : Node → Effect → Type 0
-IsEffect n effect = IsEffectBy (moves n) (stones n) effect
+IsEffect node effect = IsEffectBy (moves node) (stones node) effect
 
 -- the step of a node has that effect, and the node has that comment
-pub record IsStepOf (n : Node) (taken : TakenStep) : Type 0 where
-  pub effect_is : IsEffect n taken.effect
-  pub comment_is : option_copied taken.comment ≡ first_value (codes "C") n.properties
+pub record IsStepOf (node : Node) (taken : TakenStep) : Type 0 where
+  pub effect_is : IsEffect node taken.effect
+  pub comment_is : option_copied taken.comment ≡ first_value (codes "C") node.properties
 
 -- a move of that player with that value
 abbrev pub IsMoveOf : Colour → List ℕ → Effect → Type 0

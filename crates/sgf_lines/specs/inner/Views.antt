@@ -5,7 +5,7 @@ use Rattle.sgf_tree.specs.FileOrder.{node_at}
 use Rattle.sgf_lines.specs.declared.game_kind.GameKind.{GameKind as KindInMemory}
 use Rattle.sgf_lines.specs.declared.game_kind.GameKind.TheVariants.{NotGo, BadSize, Board}
 use Rattle.sgf_lines.specs.declared.line.LineRef.{LineRef}
-use Rattle.sgf_lines.specs.declared.row.Row.{Row}
+use Rattle.sgf_lines.specs.declared.list_row.Row.{Row}
 use Rattle.sgf_lines.specs.Lines.{Line, place_of}
 use Rattle.sgf_lines.specs.JudgedGames.{GameKind, not_go, bad_size, board}
 
@@ -15,10 +15,10 @@ shown_game_kind BadSize = bad_size
 shown_game_kind (Board side) = board side
 
 -- a line's game, its place, and the numbers of its nodes
-pub record IsShownAs (c : Games) (l : Line) (line : LineRef) : Type 0 where
-  pub game_number : l.game_number ≡ line.game
-  pub place : place_of l ≡ line.place
-  pub nodes : map Some l.nodes ≡ map (node_at c) line.path.now
+pub record IsShownAs (games : Games) (line : Line) (shown : LineRef) : Type 0 where
+  pub game_number : line.game_number ≡ shown.game
+  pub place : place_of line ≡ shown.place
+  pub nodes : map Some line.nodes ≡ map (node_at games) shown.path.now
 
 -- the text that is built so far
 abbrev pub built_text : Row → List ℕ

@@ -13,14 +13,14 @@ first_comment (Some met) first = Some met
 first_comment None first = Some first
 
 -- properties set nothing up, and hold these moves and that comment
-pub record IsWithoutSetup (ps : List Property) (contents : WithoutSetup) : Type 0 where
-  pub moves_are : AreMoves contents.moves (flat_map moves_in ps)
-  pub no_stones : flat_map stones_in ps ≡ []
-  pub no_players : flat_map players_in ps ≡ []
-  pub comment_is : option_copied contents.comment ≡ first_value (codes "C") ps
+pub record IsWithoutSetup (properties : List Property) (contents : WithoutSetup) : Type 0 where
+  pub moves_are : AreMoves contents.moves (flat_map moves_in properties)
+  pub no_stones : flat_map stones_in properties ≡ []
+  pub no_players : flat_map players_in properties ≡ []
+  pub comment_is : option_copied contents.comment ≡ first_value (codes "C") properties
 
 -- the node has these moves, and sets nothing up
-pub record HasMovesAlone (n : Node) (ms : Moves) : Type 0 where
-  pub moves_are : AreMoves ms (moves n)
-  pub no_stones : stones n ≡ []
-  pub no_players : players n ≡ []
+pub record HasMovesAlone (node : Node) (told : Moves) : Type 0 where
+  pub moves_are : AreMoves told (moves node)
+  pub no_stones : stones node ≡ []
+  pub no_players : players node ≡ []

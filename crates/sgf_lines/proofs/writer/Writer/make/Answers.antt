@@ -11,21 +11,21 @@ use Rattle.sgf_lines.proofs.writer.Writer.make.Goals as goal
 pub returns-in_ok-follow-in-List-clause-keeps : goal.returns-in_ok-follow-in-List-clause-keeps
 returns-in_ok-follow-in-List-clause-keeps c = λ old l h held le same.
     let was : 0 < c.args.shared → IsFollowed false old c.args.self.now.followed = rw c.in-List.is at held in
-    on_any c.push_list.result (rw c.in-List.is (c.in_ok-follow-in-List.ensures.followed old l.nodes was le h.nodes same))
+    on_any c.push_list_row.result (rw c.in-List.is (c.in_ok-follow-in-List.ensures.followed old l.nodes was le h.nodes same))
 
 pub returns-in_ok-follow-in-Gtp-clause-keeps : goal.returns-in_ok-follow-in-Gtp-clause-keeps
 returns-in_ok-follow-in-Gtp-clause-keeps c = λ old l h held le same.
     let was : 0 < c.args.shared → IsFollowed true old c.args.self.now.followed = rw c.in-Gtp.is at held in
-    on_any c.push_list_comment.result (rw c.in-Gtp.is (c.in_ok-follow-in-Gtp.ensures.followed old l.nodes was le h.nodes same))
+    on_any c.push_list_row_comment.result (rw c.in-Gtp.is (c.in_ok-follow-in-Gtp.ensures.followed old l.nodes was le h.nodes same))
 
 pub returns-in_ok-follow-in-Gtp-clause-made : goal.returns-in_ok-follow-in-Gtp-clause-made
 returns-in_ok-follow-in-Gtp-clause-made c = λ old l h held le same.
     let was : 0 < c.args.shared → IsFollowed true old c.args.self.now.followed = rw c.in-Gtp.is at held in
     let is : IsFollowed true l.nodes c.follow-in-Gtp.new.self = c.in_ok-follow-in-Gtp.ensures.followed old l.nodes was le h.nodes same in
     let verdict = c.verdict-verdict-in-Gtp.ensures true l.nodes is in
-    on_ok_weaker c.push_list_comment.result
-    (λ pushed. rw c.in-Gtp.is (script_followed c.args.collection.now l c.args.line.now c.verdict-verdict-in-Gtp.result c.follow-in-Gtp.new.self c.push_list_comment.new.output.items h verdict is (rw c.clear.ensures.items at pushed)))
-    c.push_list_comment.ensures
+    on_ok_weaker c.push_list_row_comment.result
+    (λ pushed. rw c.in-Gtp.is (script_followed c.args.collection.now l c.args.line.now c.verdict-verdict-in-Gtp.result c.follow-in-Gtp.new.self c.push_list_row_comment.new.output.items h verdict is (rw c.clear.ensures.items at pushed)))
+    c.push_list_row_comment.ensures
 
 pub returns-in-Sgf-clause-keeps : goal.returns-in-Sgf-clause-keeps
 returns-in-Sgf-clause-keeps c = λ old l h held le same.
@@ -42,6 +42,6 @@ returns-in_ok-follow-in-List-clause-made c = λ old l h held le same.
     let was : 0 < c.args.shared → IsFollowed false old c.args.self.now.followed = rw c.in-List.is at held in
     let is : IsFollowed false l.nodes c.follow.new.self = c.in_ok-follow-in-List.ensures.followed old l.nodes was le h.nodes same in
     let verdict = c.verdict-verdict.ensures false l.nodes is in
-    on_ok_weaker c.push_list.result
-    (λ pushed. rw c.in-List.is (row_followed c.args.collection.now l c.args.line.now c.verdict-verdict.result c.push_list.new.output.items h verdict (rw c.clear.ensures.items at pushed)))
-    c.push_list.ensures
+    on_ok_weaker c.push_list_row.result
+    (λ pushed. rw c.in-List.is (row_followed c.args.collection.now l c.args.line.now c.verdict-verdict.result c.push_list_row.new.output.items h verdict (rw c.clear.ensures.items at pushed)))
+    c.push_list_row.ensures
