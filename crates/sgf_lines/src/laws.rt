@@ -28,33 +28,35 @@ ghost use Rattle.sgf_lines.specs.Replay.{replayed};
 /// The places of the lines of a collection that some text spells rise strictly.
 /// So no line comes twice, and each is known by its place.
 pub fn rise()
-    ensures { (c : Games) (t : List ℕ) → Spells c t → IsStrictlyIncreasing (map place_of (lines c)) }
+    ensures { (games : Games) (text : List ℕ) → Spells games text → IsStrictlyIncreasing (map place_of (lines games)) }
 {
     sgf_tree::laws::places_rise();
 }
 
 /// The paths of a collection name the nodes of its lines, one path for each line, in the same order.
 pub fn named()
-    ensures { (c : Games) → AllZip (IsPathOf c) (lines c) (paths c) }
+    ensures { (games : Games) → AllZip (IsPathOf games) (lines games) (paths games) }
 {}
 
 /// The sgf output of a collection that some text spells is a text of the grammar, and its sgf output is the same bytes.
 /// So splitting an output again gives it again, where it is not longer than `MAX_LENGTH`.
 pub fn again()
-    ensures { (c : Games) (t : List ℕ) → Spells c t
-        → (d : Games) × Spells d (sgf_output c) × (sgf_output d ≡ sgf_output c) }
+    ensures { (games : Games) (text : List ℕ) → Spells games text
+        → (again : Games) × Spells again (sgf_output games) × (sgf_output again ≡ sgf_output games) }
 {}
 
-/// One text after another, in list form: where t spells c, and u, which doesn't begin with a byte order mark, spells d,
-/// the two joined spell the games of both, and their rows are those of t, and then those of u with its places raised by
-/// the length of t, and the numbers of its games by the number of t's.
+/// One text after another, in list form: where each spells games, and the second doesn't begin with a byte order mark, the two
+/// joined spell the games of both, and their rows are those of the first text, and then those of the second with its places
+/// raised by the first text's length, and the numbers of its games by the number of the first text's.
 /// So a database that grows at its end leaves all earlier rows as they were.
 pub fn append()
-    ensures spelled { (c d : Games) (t u : List ℕ) → Spells c t → Spells d u → ¬ BeginsWithByteOrderMark u
-        → Spells (joined c (raised (length t) d)) (t ++ u) }
-    ensures rows { (c d : Games) (t u : List ℕ) → Spells c t → Spells d u → ¬ BeginsWithByteOrderMark u
-        → flat_map (record_of list_form) (lines (joined c (raised (length t) d)))
-        ≡ flat_map (record_of list_form) (lines c) ++ flat_map (raised_record (length t) (game_count c)) (lines d) }
+    ensures spelled { (games others : Games) (text later : List ℕ) → Spells games text → Spells others later
+        → ¬ BeginsWithByteOrderMark later → Spells (joined games (raised (length text) others)) (text ++ later) }
+    ensures rows { (games others : Games) (text later : List ℕ) → Spells games text → Spells others later
+        → ¬ BeginsWithByteOrderMark later
+        → flat_map (record_of list_form) (lines (joined games (raised (length text) others)))
+        ≡ flat_map (record_of list_form) (lines games)
+        ++ flat_map (raised_record (length text) (game_count games)) (lines others) }
 {
     sgf_tree::laws::append();
 }
@@ -62,9 +64,10 @@ pub fn append()
 /// The places that the lines of a collection touch are the places of all its nodes, in file order.
 /// On no page are more nodes judged than there are, so no run plays more.
 pub fn touched()
-    ensures places { (c : Games) (t : List ℕ) → Spells c t → touched_places (lines c) ≡ node_places c }
-    ensures plays { (c : Games) (t : List ℕ) → Spells c t → (o : Options) (ls : List Line) → page o c ≡ Some ls
-        → length (all_judged_places ls) ≤ node_count c }
+    ensures places { (games : Games) (text : List ℕ) → Spells games text
+        → touched_places (lines games) ≡ node_places games }
+    ensures plays { (games : Games) (text : List ℕ) → Spells games text → (options : Options) (asked : List Line)
+        → page options games ≡ Some asked → length (all_judged_places asked) ≤ node_count games }
 {
     sgf_tree::laws::places_rise();
 }
@@ -73,10 +76,10 @@ pub fn touched()
 /// that some text spells.
 /// So runs of one line or more, each begun after the last place of the one before, give the whole output.
 pub fn pages()
-    ensures { (c : Games) (t : List ℕ) → Spells c t → (o : Options) (front : List Line) (last : Line)
-        → page o c ≡ Some (front ++ last ∷ []) → (rest : List Line)
-        × (page (record o { after = Some (place_of last); limit = None }) c ≡ Some rest)
-        × (page (record o { limit = None }) c ≡ Some (front ++ last ∷ rest)) }
+    ensures { (games : Games) (text : List ℕ) → Spells games text → (options : Options) (front : List Line) (last : Line)
+        → page options games ≡ Some (front ++ last ∷ []) → (rest : List Line)
+        × (page (record options { after = Some (place_of last); limit = None }) games ≡ Some rest)
+        × (page (record options { limit = None }) games ≡ Some (front ++ last ∷ rest)) }
 {
     sgf_tree::laws::places_rise();
 }
@@ -103,13 +106,13 @@ pub fn replay()
 /// Else it names the first node whose step is refused, in the state after the nodes before it: with that node's place,
 /// its reason, and the turns made before it plus 1. Each list of nodes is of one of these two kinds.
 pub fn judged()
-    ensures scored { (side : ℕ) (nodes : List Node) (s : State) → IsAfter (starting side) nodes s
-        → verdict_by (board side) nodes ≡ score_in s }
-    ensures illegal { (side : ℕ) (before after : List Node) (n : Node) (s : State) (reason : Reason)
-        → IsAfter (starting side) before s → step s n ≡ Err reason
-        → verdict_by (board side) (before ++ n ∷ after) ≡ Illegal (s.turns + 1) n.place reason }
+    ensures scored { (side : ℕ) (nodes : List Node) (state : State) → IsAfter (starting side) nodes state
+        → verdict_by (board side) nodes ≡ score_in state }
+    ensures illegal { (side : ℕ) (before after : List Node) (node : Node) (state : State) (reason : Reason)
+        → IsAfter (starting side) before state → step state node ≡ Err reason
+        → verdict_by (board side) (before ++ node ∷ after) ≡ Illegal (state.turns + 1) node.place reason }
     ensures one_of_two { (side : ℕ) (nodes : List Node)
-        → ((s : State) × IsAfter (starting side) nodes s) ⊎ HasIllegal (starting side) nodes }
+        → ((state : State) × IsAfter (starting side) nodes state) ⊎ HasIllegal (starting side) nodes }
 {}
 
 #[cfg(test)]

@@ -106,15 +106,15 @@ impl Writer {
         requires some_node { 0 < length line.now.path.now }
         requires within { All (λ i. i < node_count collection.now) line.now.path.now }
         requires countable { plays.old + (length line.now.path.now - shared) ≤ u64.MAX }
-        ensures made { (old : List Node) (l : Line) → IsShownAs collection.now l line.now
+        ensures made { (old : List Node) (written : Line) → IsShownAs collection.now written line.now
             → (0 < shared → Keeps old self.old) → shared ≤ length old
-            → take shared old ≡ take shared l.nodes → OnOk result (record_in self.new ≡ record_of self.old.form l) }
-        ensures keeps { (old : List Node) (l : Line) → IsShownAs collection.now l line.now
+            → take shared old ≡ take shared written.nodes → OnOk result (record_in self.new ≡ record_of self.old.form written) }
+        ensures keeps { (old : List Node) (written : Line) → IsShownAs collection.now written line.now
             → (0 < shared → Keeps old self.old) → shared ≤ length old
-            → take shared old ≡ take shared l.nodes → OnOk result (Keeps l.nodes self.new) }
-        ensures plays { (old : List Node) (l : Line) → IsShownAs collection.now l line.now
+            → take shared old ≡ take shared written.nodes → OnOk result (Keeps written.nodes self.new) }
+        ensures plays { (old : List Node) (written : Line) → IsShownAs collection.now written line.now
             → (0 < shared → Keeps old self.old) → shared ≤ length old
-            → take shared old ≡ take shared l.nodes → PlaysIn self.old.form plays.old plays.new l.nodes shared result }
+            → take shared old ≡ take shared written.nodes → PlaysIn self.old.form plays.old plays.new written.nodes shared result }
         ensures form { self.new.form ≡ self.old.form }
         ensures wrote { self.new.wrote ≡ self.old.wrote }
     {

@@ -6,20 +6,20 @@ ghost use Rattle.sgf_tree.specs.Appending.{raised, BeginsWithByteOrderMark};
 ghost use Rattle.sgf_tree.specs.Spelling.{Spells};
 ghost use Rattle.sgf_tree.specs.Tree.{Games, joined};
 
-/// One text after another: where t spells c, and u, which doesn't begin with a byte order mark, spells d, the two
-/// joined spell the games of c followed by those of d, with the places of d raised by the length of t.
+/// One text after another: where each spells games, and the second doesn't begin with a byte order mark, the two joined
+/// spell the games of the first followed by those of the second, with the second's places raised by the first text's length.
 pub fn append()
-    ensures { (c d : Games) (t u : List ℕ) → Spells c t → Spells d u → ¬ BeginsWithByteOrderMark u
-        → Spells (joined c (raised (length t) d)) (t ++ u) }
+    ensures { (games others : Games) (text later : List ℕ) → Spells games text → Spells others later
+        → ¬ BeginsWithByteOrderMark later → Spells (joined games (raised (length text) others)) (text ++ later) }
 {}
 
 /// A text spells one collection at most (SGF FF\[4\], EBNF, with this project's choices): the grammar is unambiguous,
 /// also in the place of each node, in its properties and in their raw values.
 pub fn one()
-    ensures { (c d : Games) (t : List ℕ) → Spells c t → Spells d t → c ≡ d }
+    ensures { (games others : Games) (text : List ℕ) → Spells games text → Spells others text → games ≡ others }
 {}
 
 /// The places of the nodes of a collection that some text spells rise strictly in file order.
 pub fn places_rise()
-    ensures { (c : Games) (t : List ℕ) → Spells c t → PlacesRise c }
+    ensures { (games : Games) (text : List ℕ) → Spells games text → PlacesRise games }
 {}
