@@ -10,7 +10,7 @@ abbrev pub property_code : Coded Property
 property_code =
     code_by (List ℕ × (List ℕ × List (List ℕ))) (coded× (coded_list coded_ℕ) (coded× (coded_list coded_ℕ) (coded_list (coded_list coded_ℕ))))
     (λ p. (p.name, (p.first, p.more)))
-    (λ t. record { name = t.0; first = t.1.0; more = t.1.1 })
+    (λ parts. record { name = parts.0; first = parts.1.0; more = parts.1.1 })
     (λ _. refl)
 
 abbrev pub properties_code : Coded (List Property)
@@ -22,7 +22,7 @@ values_code = coded_list (coded_list coded_ℕ)
 -- a node is stored as its place and its properties
 abbrev pub node_code : Coded Node
 node_code =
-    code_by (ℕ × List Property) (coded× coded_ℕ (coded_list property_code)) (λ n. (n.place, n.properties)) (λ t. record { place = t.0; properties = t.1 }) (λ _. refl)
+    code_by (ℕ × List Property) (coded× coded_ℕ (coded_list property_code)) (λ n. (n.place, n.properties)) (λ parts. record { place = parts.0; properties = parts.1 }) (λ _. refl)
 
 -- a game's own nodes, or that there is no game
 abbrev pub Token : Type 0
