@@ -57,21 +57,21 @@ module _ (old new : List NodeEntry) (tip : ℕ) where
       }
 
   -- the own nodes begin at a node that a `(` opens
-  pub run-begins : (first at : ℕ) → AreOwnNodes old first tip → first ≤ at → at ≤ tip → opens_at old at ≡ Some true → first ≡ at
-  run-begins first at run low high opens =
+  pub nodes-begin : (first at : ℕ) → AreOwnNodes old first tip → first ≤ at → at ≤ tip → opens_at old at ≡ Some true → first ≡ at
+  nodes-begin first at own low high opens =
       elim (cases_lt first at) [
-        | inl lt ↦ let h : Some false ≡ Some true = sym (run.goes_on at lt high) ∙ opens in absurd (cc)
+        | inl lt ↦ let h : Some false ≡ Some true = sym (own.goes_on at lt high) ∙ opens in absurd (cc)
         | inr le ↦ omega arith
       ]
 
   -- and not at another
-  pub run-before : (first at : ℕ) → AreOwnNodes old first tip → first ≤ at → opens_at old at ≡ Some false → first < at
-  run-before first at run low opens =
+  pub nodes-before : (first at : ℕ) → AreOwnNodes old first tip → first ≤ at → opens_at old at ≡ Some false → first < at
+  nodes-before first at own low opens =
       elim (cases_lt first at) [
         | inl lt ↦ lt
         | inr le ↦
             let same : first ≡ at = omega arith in
-            let h : Some true ≡ Some false = sym run.begins ∙ ap (opens_at old) same ∙ opens in absurd (cc)
+            let h : Some true ≡ Some false = sym own.begins ∙ ap (opens_at old) same ∙ opens in absurd (cc)
       ]
 
 -- whether a node opens a game, by its link
@@ -89,6 +89,6 @@ parent-link old new tip from at x l m lt e f =
 -- the game is closed once its first node got it
 pub lasts-closed : (old new : List NodeEntry) (tip first at : ℕ) (parent : Option ℕ) → AreOwnNodes old first tip → first ≤ at → at ≤ tip → opens_at old at ≡ Some true
     → GetLasts old new tip at → option_map (λ (n : NodeEntry). parent_by n.link at) (slice_get old at) ≡ Some parent → ClosesGame old new first tip parent
-lasts-closed old new tip first at parent run low high opens m p =
-    let same : first ≡ at = run-begins old new tip first at run low high opens in
+lasts-closed old new tip first at parent own low high opens m p =
+    let same : first ≡ at = nodes-begin old new tip first at own low high opens in
     subst (λ i. ClosesGame old new i tip parent) (sym same) (record { same = m.same; lasts_are = m.lasts_are; parent_is = p })

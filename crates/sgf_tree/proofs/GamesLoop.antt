@@ -13,7 +13,7 @@ use Rattle.sgf_tree.specs.declared.layout.NodeEntry.{NodeEntry}
 use Rattle.sgf_tree.proofs.Completion.{add_games, closed-in}
 use Rattle.sgf_tree.proofs.GameEnds.{game-closed}
 use Rattle.sgf_tree.proofs.NodesRead.{nodes-held}
-use Rattle.sgf_tree.proofs.OwnRuns.{own-run, own-parent}
+use Rattle.sgf_tree.proofs.OwnNodes.{own-nodes, own-parent}
 use Rattle.sgf_tree.proofs.Run.{run-take-step}
 use Rattle.sgf_tree.proofs.SequencesRead.{open-unaccepted}
 use Rattle.sgf_tree.proofs.Skipping.{stays-after_game}
@@ -151,7 +151,7 @@ module _ (t : List ℕ) where
     pub close-own : AreOwnNodes ns (open_count so_far.stack.closed inmost.outer) last
     close-own =
         subst (AreOwnNodes ns (open_count so_far.stack.closed inmost.outer)) inmost.last_is
-        (own-run so_far.stack.closed inmost.inner inmost.outer ns held-inner.same_order)
+        (own-nodes so_far.stack.closed inmost.inner inmost.outer ns held-inner.same_order)
 
     pub close-within : last < length ns
     close-within = omega (arith, inmost.last_is, nodes-held t at_inner ns held-inner)

@@ -14,7 +14,7 @@ pub mod ValuesRead
 pub mod NameEnds
 pub mod NodeEnds
 pub mod Stacks
-pub mod OwnRuns
+pub mod OwnNodes
 pub mod Closing
 pub mod NodesRead
 pub mod SequencesRead

@@ -5,7 +5,7 @@ use Rattle.sgf_tree.specs.Tree.{Node, Games, no_games, game}
 
 -- a node `by` bytes further on
 abbrev pub raised_node : ℕ → Node → Node
-raised_node by n = record { place = by + n.place; properties = n.properties }
+raised_node by node = record { place = by + node.place; properties = node.properties }
 
 -- games `by` bytes further on
 abbrev pub raised : ℕ → Games → Games
@@ -15,4 +15,4 @@ raised by (game first more below after) =
 
 -- the first bytes are the UTF-8 byte order mark
 abbrev pub BeginsWithByteOrderMark : List ℕ → Type 0
-BeginsWithByteOrderMark t = take 3 t ≡ byte_ef ∷ byte_bb ∷ byte_bf ∷ []
+BeginsWithByteOrderMark text = take 3 text ≡ byte_ef ∷ byte_bb ∷ byte_bf ∷ []

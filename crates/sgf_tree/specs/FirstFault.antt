@@ -5,7 +5,7 @@ use Rattle.sgf_tree.specs.Spelling.{Spells}
 
 -- some bytes after it make it a text that spells a collection
 abbrev pub Begins : List ℕ → Type 0
-Begins front = (more : List ℕ) × (c : Games) × All (λ b. b < 256) more × Spells c (front ++ more)
+Begins front = (more : List ℕ) × (games : Games) × All (λ b. b < 256) more × Spells games (front ++ more)
 
 -- at is the greatest n for which the first n bytes of the text begin some text of the grammar; for a text of the grammar that is
 -- its length

@@ -10,7 +10,7 @@ is_digit b = nat_le digit_zero b && nat_le b digit_nine
 -- the sum of the digits, each times its power of ten
 abbrev pub decimal_value : List ℕ → ℕ
 decimal_value [] = 0
-decimal_value (d ∷ ds) = (d - digit_zero) * 10 ^ length ds + decimal_value ds
+decimal_value (digit ∷ rest) = (digit - digit_zero) * 10 ^ length rest + decimal_value rest
 
 -- 1 to 18 digits and nothing else
 abbrev pub are_digits : List ℕ → Bool

@@ -8,7 +8,7 @@ use Rattle.sgf_tree.specs.declared.fault.ReadFault.TheVariants.{TooLong, NotSgf,
 
 -- no collection is spelled by it, and its first fault is at that offset
 pub record IsFaultyAt (text : List ℕ) (at : ℕ) : Type 0 where
-  pub unspelled : (c : Games) → ¬ Spells c text
+  pub unspelled : (games : Games) → ¬ Spells games text
   pub first_fault : IsFirstFault text at
 
 -- that the text is not of the grammar is said only where it isn't

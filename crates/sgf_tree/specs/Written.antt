@@ -22,8 +22,8 @@ pub record IsWrittenFront (old new : List Property) (text : List ℕ) : Type 0 w
   pub written : text ≡ flat_map property_text taken
 
 -- the front of a node's text, up to the properties that are left, of which there is one at least
-pub record IsWrittenNode (n : Node) (left : List Property) (text : List ℕ) : Type 0 where
+pub record IsWrittenNode (node : Node) (left : List Property) (text : List ℕ) : Type 0 where
   pub properties : List ℕ
-  pub front : IsWrittenFront n.properties left properties
+  pub front : IsWrittenFront node.properties left properties
   pub written : text ≡ codes ";" ++ properties
   pub some_left : left ≢ []

@@ -15,23 +15,23 @@ use Rattle.sgf_tree.specs.declared.reader.fault.PartFault.{PartFault}
 -- how many nodes whole and open games have
 abbrev pub open_count : Games → List OpenGame → ℕ
 open_count closed [] = node_count closed
-open_count closed (g ∷ gs) = open_count closed gs + 1 + length g.more + node_count g.below
+open_count closed (inmost ∷ outer) = open_count closed outer + 1 + length inmost.more + node_count inmost.below
 
 -- the last own node of the innermost open game
 abbrev pub tip : Games → List OpenGame → Option ℕ
 tip closed [] = None
-tip closed (g ∷ gs) = Some (open_count closed gs + length g.more)
+tip closed (inmost ∷ outer) = Some (open_count closed outer + length inmost.more)
 
 -- the ordered nodes of an open game
 abbrev pub own_nodes : ℕ → Option ℕ → OpenGame → List OrderedNode
-own_nodes number parent g =
-    let last = number + length g.more in
-    record { node = g.first; parent = parent; opens = true } ∷ further_nodes number g.more ++ nodes_from (last + 1) (Some last) g.below
+own_nodes number parent open_game =
+    let last = number + length open_game.more in
+    record { node = open_game.first; parent = parent; opens = true } ∷ further_nodes number open_game.more ++ nodes_from (last + 1) (Some last) open_game.below
 
 -- the ordered nodes of whole and open games
 abbrev pub open_nodes : Games → List OpenGame → List OrderedNode
 open_nodes closed [] = nodes_from 0 None closed
-open_nodes closed (g ∷ gs) = open_nodes closed gs ++ own_nodes (open_count closed gs) (tip closed gs) g
+open_nodes closed (inmost ∷ outer) = open_nodes closed outer ++ own_nodes (open_count closed outer) (tip closed outer) inmost
 
 -- of each node in file order the last one below it, where the first one has the number `number`
 abbrev pub lasts : ℕ → Games → List ℕ
@@ -43,60 +43,60 @@ lasts number (game first more below after) =
 -- the same for whole and open games, with 0 for an open game's own nodes
 abbrev pub open_lasts : Games → List OpenGame → List ℕ
 open_lasts closed [] = lasts 0 closed
-open_lasts closed (g ∷ gs) =
-    open_lasts closed gs ++ replicate (1 + length g.more) 0 ++ lasts (open_count closed gs + 1 + length g.more) g.below
+open_lasts closed (inmost ∷ outer) =
+    open_lasts closed outer ++ replicate (1 + length inmost.more) 0 ++ lasts (open_count closed outer + 1 + length inmost.more) inmost.below
 
--- node i is a root, and g is the number of its game, which is one of the closed games or the next one
+-- a node is a root, and that is the number of its game, which is one of the closed games or the next one
 abbrev pub IsRootOf : Games → ℕ → ℕ → Type 0
-IsRootOf closed i g =
-    ((i < node_count closed) × (game_of closed i ≡ g)) ⊎ ((i ≡ node_count closed) × (g ≡ game_count closed + 1))
+IsRootOf closed node_number game_number =
+    ((node_number < node_count closed) × (game_of closed node_number ≡ game_number)) ⊎ ((node_number ≡ node_count closed) × (game_number ≡ game_count closed + 1))
 
--- the entries hold the games of the stack k
-pub record HoldStack (t : List ℕ) (k : Stack) (nodes : List NodeEntry) : Type 0 where
-  pub same_order : map outline (open_nodes k.closed k.unclosed) ≡ outlines_by 0 nodes
-  pub same_lasts : open_lasts k.closed k.unclosed ≡ map (λ (n : NodeEntry). n.last_below) nodes
-  pub places_within : All (λ (n : NodeEntry). n.place < length t) nodes
-  pub roots : (i : ℕ) (n : NodeEntry) (g : ℕ) → slice_get nodes i ≡ Some n → n.link ≡ Root g → IsRootOf k.closed i g
+-- the entries hold the games of the stack
+pub record HoldStack (text : List ℕ) (stack : Stack) (nodes : List NodeEntry) : Type 0 where
+  pub same_order : map outline (open_nodes stack.closed stack.unclosed) ≡ outlines_by 0 nodes
+  pub same_lasts : open_lasts stack.closed stack.unclosed ≡ map (λ (n : NodeEntry). n.last_below) nodes
+  pub places_within : All (λ (n : NodeEntry). n.place < length text) nodes
+  pub roots : (node_number : ℕ) (entry : NodeEntry) (game_number : ℕ) → slice_get nodes node_number ≡ Some entry → entry.link ≡ Root game_number → IsRootOf stack.closed node_number game_number
 
--- the link of the first node of a game that begins at the stack k
+-- the link of the first node of a game that begins at the stack
 abbrev pub IsOpening : Stack → Link → Type 0
-IsOpening k (Root g) = (k.unclosed ≡ []) × (g ≡ game_count k.closed + 1)
-IsOpening k (Variation p) = tip k.closed k.unclosed ≡ Some p
-IsOpening k Next = ⊥
+IsOpening stack (Root game_number) = (stack.unclosed ≡ []) × (game_number ≡ game_count stack.closed + 1)
+IsOpening stack (Variation parent) = tip stack.closed stack.unclosed ≡ Some parent
+IsOpening stack Next = ⊥
 
--- the machine has the games of the stack k, and a `(`, a `)` or the end of the text may come
-pub record StandsBetween (t : List ℕ) (at : ℕ) (k : Stack) : Type 0 where
+-- the machine has the games of the stack, and a `(`, a `)` or the end of the text may come
+pub record StandsBetween (text : List ℕ) (at : ℕ) (stack : Stack) : Type 0 where
   pub state : MachineState
-  pub reached : ComesTo t at state
-  pub next : at < length t → next_state at state (slice_index t at) ≡ between_games k (slice_index t at)
-  pub end : accepted state ≡ accepted (after_game k)
-  pub not_white_space : at < length t → is_white_space (slice_index t at) ≡ false
+  pub reached : ComesTo text at state
+  pub next : at < length text → next_state at state (slice_index text at) ≡ between_games stack (slice_index text at)
+  pub end : accepted state ≡ accepted (after_game stack)
+  pub not_white_space : at < length text → is_white_space (slice_index text at) ≡ false
 
 -- the node whose `;` stands at `place` was read up to `end`
-pub record IsNodeRead (t : List ℕ) (place end : ℕ) (link : Link) (ns ns' : List NodeEntry) : Type 0 where
-  pub properties : ArePropertiesRead t (place + 1) end
-  pub pushed : ns' ≡ ns ++ record { place = place; link = link; last_below = 0 } ∷ []
+pub record IsNodeRead (text : List ℕ) (place end : ℕ) (link : Link) (old new : List NodeEntry) : Type 0 where
+  pub properties : ArePropertiesRead text (place + 1) end
+  pub pushed : new ≡ old ++ record { place = place; link = link; last_below = 0 } ∷ []
 
--- the nodes of a game that began at the stack k were read up to `end`
-pub record IsSequenceRead (t : List ℕ) (end : ℕ) (k : Stack) (ns : List NodeEntry) : Type 0 where
+-- the nodes of a game that began at the stack were read up to `end`
+pub record IsSequenceRead (text : List ℕ) (end : ℕ) (stack : Stack) (nodes : List NodeEntry) : Type 0 where
   pub last : OpenGame
-  pub stands : StandsBetween t end (record { closed = k.closed; unclosed = last ∷ k.unclosed })
-  pub held : HoldStack t (record { closed = k.closed; unclosed = last ∷ k.unclosed }) ns
+  pub stands : StandsBetween text end (record { closed = stack.closed; unclosed = last ∷ stack.unclosed })
+  pub held : HoldStack text (record { closed = stack.closed; unclosed = last ∷ stack.unclosed }) nodes
   pub nothing_below : last.below ≡ no_games
 
 -- whether the node of an entry is the first after a `(`
 abbrev pub opens_at : List NodeEntry → ℕ → Option Bool
-opens_at nodes i = option_map (λ (n : NodeEntry). opens_by n.link) (slice_get nodes i)
+opens_at nodes number = option_map (λ (n : NodeEntry). opens_by n.link) (slice_get nodes number)
 
 -- the own nodes of a game
 pub record AreOwnNodes (nodes : List NodeEntry) (first last : ℕ) : Type 0 where
   pub rises : first ≤ last
   pub begins : opens_at nodes first ≡ Some true
-  pub goes_on : (i : ℕ) → first < i → i ≤ last → opens_at nodes i ≡ Some false
+  pub goes_on : (number : ℕ) → first < number → number ≤ last → opens_at nodes number ≡ Some false
 
 -- the node without the number of the last one below it
 abbrev pub without_last : NodeEntry → NodeEntry
-without_last n = record { place = n.place; link = n.link; last_below = 0 }
+without_last entry = record { place = entry.place; link = entry.link; last_below = 0 }
 
 -- the nodes from first to last got the number of the last node, and nothing else changed; the parent is that of the first
 pub record ClosesGame (old new : List NodeEntry) (first last : ℕ) (parent : Option ℕ) : Type 0 where
@@ -105,32 +105,32 @@ pub record ClosesGame (old new : List NodeEntry) (first last : ℕ) (parent : Op
       ≡ take first (map (λ (n : NodeEntry). n.last_below) old) ++ replicate (last + 1 - first) (length old - 1) ++ drop (last + 1) (map (λ (n : NodeEntry). n.last_below) old)
   pub parent_is : option_map (λ (n : NodeEntry). parent_by n.link first) (slice_get old first) ≡ Some parent
 
--- a text that spells the collection c was read, which the entries hold
-pub record IsRead (t : List ℕ) (c : Games) (ns : List NodeEntry) : Type 0 where
+-- a text that spells the collection `games` was read, which the entries hold
+pub record IsRead (text : List ℕ) (games : Games) (nodes : List NodeEntry) : Type 0 where
   pub reached : MachineState
-  pub whole : ComesTo t (length t) reached
-  pub accepts : accepted reached ≡ Some c
-  pub held : HoldStack t (record { closed = c; unclosed = [] }) ns
+  pub whole : ComesTo text (length text) reached
+  pub accepts : accepted reached ≡ Some games
+  pub held : HoldStack text (record { closed = games; unclosed = [] }) nodes
 
 -- what may stand before the first game was read: the byte order mark, or nothing
-pub record IsMarkRead (t : List ℕ) (at : ℕ) : Type 0 where
-  pub within : at ≤ length t
+pub record IsMarkRead (text : List ℕ) (at : ℕ) : Type 0 where
+  pub within : at ≤ length text
   pub state : MachineState
-  pub reached : ComesTo t at state
-  pub next : at < length t
-      → next_state at state (slice_index t at) ≡ between_games (record { closed = no_games; unclosed = [] }) (slice_index t at)
+  pub reached : ComesTo text at state
+  pub next : at < length text
+      → next_state at state (slice_index text at) ≡ between_games (record { closed = no_games; unclosed = [] }) (slice_index text at)
   pub end : accepted state ≡ accepted (after_game (record { closed = no_games; unclosed = [] }))
 
 -- where the machine has the games of a stack and stands after a `(` at `at`, the game's own nodes were read up to `end`
 abbrev pub ReadsSequence : List ℕ → ℕ → ℕ → Link → List NodeEntry → List NodeEntry → Type 0
-ReadsSequence t at end link old new =
-    (k : Stack) → ComesTo t at (opened k) → HoldStack t k old → IsOpening k link → IsSequenceRead t end k new
+ReadsSequence text at end link old new =
+    (stack : Stack) → ComesTo text at (opened stack) → HoldStack text stack old → IsOpening stack link → IsSequenceRead text end stack new
 
 -- there a fault is the first one of the text
 abbrev pub IsFaultInSequence : List ℕ → ℕ → Link → List NodeEntry → PartFault → Type 0
-IsFaultInSequence t at link old fault =
-    (k : Stack) → ComesTo t at (opened k) → HoldStack t k old → IsOpening k link → IsTrueFault t fault
+IsFaultInSequence text at link old fault =
+    (stack : Stack) → ComesTo text at (opened stack) → HoldStack text stack old → IsOpening stack link → IsTrueFault text fault
 
 -- a whole text was read, and has so many games
 abbrev pub ReadsWhole : List ℕ → List NodeEntry → ℕ → Type 0
-ReadsWhole t new games = (c : Games) × (games ≡ game_count c) × IsRead t c new
+ReadsWhole text new count = (games : Games) × (count ≡ game_count games) × IsRead text games new

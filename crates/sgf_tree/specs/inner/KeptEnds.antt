@@ -5,16 +5,16 @@ use Rattle.sgf_tree.specs.inner.Progress.{SpellsValue}
 use Rattle.sgf_tree.specs.declared.layout.LongValue.{LongValue}
 
 -- a raw value stands from `at` to `end`, where its `]` stands
-pub record IsRawValueAt (t : List ℕ) (at end : ℕ) : Type 0 where
+pub record IsRawValueAt (text : List ℕ) (at end : ℕ) : Type 0 where
   pub rises : at ≤ end
-  pub within : end < length t
-  pub bracket : slice_index t end ≡ close_bracket
-  pub spelled : SpellsValue t at end
+  pub within : end < length text
+  pub bracket : slice_index text end ≡ close_bracket
+  pub spelled : SpellsValue text at end
 
 -- where as many bytes are left as the entry says, a raw value of as many bytes begins
 abbrev pub IsKeptEnd : List ℕ → LongValue → Type 0
-IsKeptEnd t l = (at : ℕ) → at + l.left ≡ length t → IsRawValueAt t at (at + l.bytes)
+IsKeptEnd text long = (at : ℕ) → at + long.left ≡ length text → IsRawValueAt text at (at + long.bytes)
 
 -- so it is for each of them
 abbrev pub AreKeptEnds : List ℕ → List LongValue → Type 0
-AreKeptEnds t ls = All (IsKeptEnd t) ls
+AreKeptEnds text entries = All (IsKeptEnd text) entries

@@ -13,11 +13,11 @@ use Rattle.sgf_tree.specs.declared.layout.NodeEntry.{NodeEntry}
 abbrev pub games_in : List ℕ → Games
 games_in text = unwrap_or (collection_of text) no_games
 
--- the parent that a link gives to node i
+-- the parent that a link gives to the node of a number
 abbrev pub parent_by : Link → ℕ → Option ℕ
-parent_by (Root game) i = None
-parent_by (Variation parent) i = Some parent
-parent_by Next i = Some (i - 1)
+parent_by (Root game) number = None
+parent_by (Variation parent) number = Some parent
+parent_by Next number = Some (number - 1)
 
 -- whether a link is that of the first node after a `(`
 abbrev pub opens_by : Link → Bool
@@ -32,16 +32,16 @@ pub record Outline : Type 0 where
   pub opens : Bool
 
 abbrev pub outline : OrderedNode → Outline
-outline r = record { place = r.node.place; parent = r.parent; opens = r.opens }
+outline ordered = record { place = ordered.node.place; parent = ordered.parent; opens = ordered.opens }
 
--- what entry n says of node i
+-- what an entry says of the node of a number
 abbrev pub outline_by : ℕ → NodeEntry → Outline
-outline_by i n = record { place = n.place; parent = parent_by n.link i; opens = opens_by n.link }
+outline_by number entry = record { place = entry.place; parent = parent_by entry.link number; opens = opens_by entry.link }
 
--- what entries say of the nodes from i on
+-- what entries say of the nodes from a number on
 abbrev pub outlines_by : ℕ → List NodeEntry → List Outline
-outlines_by i [] = []
-outlines_by i (n ∷ ns) = outline_by i n ∷ outlines_by (i + 1) ns
+outlines_by number [] = []
+outlines_by number (entry ∷ rest) = outline_by number entry ∷ outlines_by (number + 1) rest
 
 -- the entries hold the collection that the text spells
 pub record IsLaidOut (text : List ℕ) (games : ℕ) (nodes : List NodeEntry) : Type 0 where
@@ -49,6 +49,6 @@ pub record IsLaidOut (text : List ℕ) (games : ℕ) (nodes : List NodeEntry) : 
   pub spelled : Spells (games_in text) text
   pub games_counted : games ≡ game_count (games_in text)
   pub same_order : map outline (ordered_nodes (games_in text)) ≡ outlines_by 0 nodes
-  pub games_numbered : (i : ℕ) (n : NodeEntry) (k : ℕ) → slice_get nodes i ≡ Some n → n.link ≡ Root k → game_of (games_in text) i ≡ k
-  pub last_known : (i : ℕ) (n : NodeEntry) → slice_get nodes i ≡ Some n → IsLastBelow (games_in text) i n.last_below
+  pub games_numbered : (number : ℕ) (entry : NodeEntry) (game_number : ℕ) → slice_get nodes number ≡ Some entry → entry.link ≡ Root game_number → game_of (games_in text) number ≡ game_number
+  pub last_known : (number : ℕ) (entry : NodeEntry) → slice_get nodes number ≡ Some entry → IsLastBelow (games_in text) number entry.last_below
   pub places_within : All (λ (n : NodeEntry). n.place < length text) nodes

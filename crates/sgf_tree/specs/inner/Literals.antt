@@ -5,11 +5,11 @@ use Rattle.sgf_tree.specs.Bytes.{tab, carriage_return, backslash}
 
 -- neither a `\` nor one of tab, LF, vertical tab, form feed and CR
 abbrev pub is_literal : ℕ → Bool
-is_literal b = not (b == backslash || nat_le tab b && nat_le b carriage_return)
+is_literal byte = not (byte == backslash || nat_le tab byte && nat_le byte carriage_return)
 
 -- the bytes from `at` to `end` are such
 abbrev pub AreLiterals : List ℕ → ℕ → ℕ → Type 0
-AreLiterals t at end = (i : ℕ) → at ≤ i → i < end → IsTrue (is_literal (slice_index t i))
+AreLiterals text at end = (index : ℕ) → at ≤ index → index < end → IsTrue (is_literal (slice_index text index))
 
 -- the index of the lowest bit that is set, of sixteen; or sixteen, where none is
 abbrev pub lowest_bit : ℕ → ℕ

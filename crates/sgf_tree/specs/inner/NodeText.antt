@@ -9,157 +9,157 @@ use Rattle.sgf_tree.specs.Written.{value_text, property_text, IsWrittenFront}
 
 -- a letter of an identifier
 abbrev pub is_letter : ℕ → Bool
-is_letter b = is_upper b || is_lower b
+is_letter byte = is_upper byte || is_lower byte
 
 -- what is left after the elements in front that pass a test
 unfoldable pub left_after : (ℕ → Bool) → List ℕ → List ℕ
 left_after test [] = []
-left_after test (b ∷ t) = if test b then left_after test t else b ∷ t
+left_after test (byte ∷ rest) = if test byte then left_after test rest else byte ∷ rest
 
 -- those elements
 unfoldable pub front : (ℕ → Bool) → List ℕ → List ℕ
 front test [] = []
-front test (b ∷ t) = if test b then b ∷ front test t else []
+front test (byte ∷ rest) = if test byte then byte ∷ front test rest else []
 
 -- the raw value in front of the `]` that ends it
 unfoldable pub raw_value : List ℕ → List ℕ
 raw_value [] = []
-raw_value (a ∷ []) = []
-raw_value (a ∷ b ∷ t) =
-    if a == close_bracket then []
-    else (if a == backslash then a ∷ b ∷ raw_value t
-    else a ∷ raw_value (b ∷ t))
+raw_value (byte ∷ []) = []
+raw_value (byte ∷ next ∷ rest) =
+    if byte == close_bracket then []
+    else (if byte == backslash then byte ∷ next ∷ raw_value rest
+    else byte ∷ raw_value (next ∷ rest))
 
 -- what is left after that `]`
 unfoldable pub after_raw_value : List ℕ → List ℕ
 after_raw_value [] = []
-after_raw_value (a ∷ []) = []
-after_raw_value (a ∷ b ∷ t) =
-    if a == close_bracket then b ∷ t
-    else (if a == backslash then after_raw_value t
-    else after_raw_value (b ∷ t))
+after_raw_value (byte ∷ []) = []
+after_raw_value (byte ∷ next ∷ rest) =
+    if byte == close_bracket then next ∷ rest
+    else (if byte == backslash then after_raw_value rest
+    else after_raw_value (next ∷ rest))
 
--- what f gives of a first byte and the bytes after it, and `none` where there is no byte
+-- what a function gives of a first byte and the bytes after it, and `none` where there is no byte
 abbrev pub by_front : {A : Type 0} → (ℕ → List ℕ → A) → A → List ℕ → A
-by_front f none [] = none
-by_front f none (b ∷ t) = f b t
+by_front function none [] = none
+by_front function none (byte ∷ rest) = function byte rest
 
--- up to n values, each after white space and a `[`
+-- up to so many values, each after white space and a `[`
 unfoldable pub values_up_to : ℕ → List ℕ → List (List ℕ)
-values_up_to zero s = []
-values_up_to (suc n) s =
-    by_front (λ b t. if b == open_bracket then raw_value t ∷ values_up_to n (after_raw_value t) else []) [] (left_after is_white_space s)
+values_up_to zero text = []
+values_up_to (suc count) text =
+    by_front (λ byte rest. if byte == open_bracket then raw_value rest ∷ values_up_to count (after_raw_value rest) else []) [] (left_after is_white_space text)
 
 -- what is left after them
 unfoldable pub after_values_up_to : ℕ → List ℕ → List ℕ
-after_values_up_to zero s = s
-after_values_up_to (suc n) s =
-    by_front (λ b t. if b == open_bracket then after_values_up_to n (after_raw_value t) else s) s (left_after is_white_space s)
+after_values_up_to zero text = text
+after_values_up_to (suc count) text =
+    by_front (λ byte rest. if byte == open_bracket then after_values_up_to count (after_raw_value rest) else text) text (left_after is_white_space text)
 
 -- all values in front
 unfoldable pub values_in : List ℕ → List (List ℕ)
-values_in s = values_up_to (length s) s
+values_in text = values_up_to (length text) text
 
 -- the values that are left, of which the first may be known
 abbrev pub values_left : Option (List ℕ) → List (List ℕ) → List (List ℕ)
-values_left None vs = vs
-values_left (Some v) vs = v ∷ vs
+values_left None values = values
+values_left (Some first) values = first ∷ values
 
 -- the property of a name and raw values, of which there is one at least
 abbrev pub property_from : List ℕ → List (List ℕ) → Property
 property_from name [] = record { name = name; first = []; more = [] }
-property_from name (v ∷ vs) = record { name = name; first = v; more = vs }
+property_from name (first ∷ more) = record { name = name; first = first; more = more }
 
 -- the name that an identifier spells
 abbrev pub name_in : List ℕ → List ℕ
 name_in identifier = filter is_upper identifier
 
--- up to n properties, each after white space
+-- up to so many properties, each after white space
 unfoldable pub properties_up_to : ℕ → List ℕ → List Property
-properties_up_to zero s = []
-properties_up_to (suc n) s =
+properties_up_to zero text = []
+properties_up_to (suc count) text =
     by_front
-    (λ b t.
-    let values = left_after is_letter (b ∷ t) in
-    if is_upper b
-    then property_from (name_in (front is_letter (b ∷ t))) (values_in values) ∷ properties_up_to n (after_values_up_to (length t) values)
+    (λ byte rest.
+    let values = left_after is_letter (byte ∷ rest) in
+    if is_upper byte
+    then property_from (name_in (front is_letter (byte ∷ rest))) (values_in values) ∷ properties_up_to count (after_values_up_to (length rest) values)
     else [])
     []
-    (left_after is_white_space s)
+    (left_after is_white_space text)
 
 -- all properties in front
 unfoldable pub properties_in : List ℕ → List Property
-properties_in s = properties_up_to (length s) s
+properties_in text = properties_up_to (length text) text
 
 -- no value follows
 abbrev pub NoValueFollows : List ℕ → Type 0
-NoValueFollows r = (b : ℕ) (t : List ℕ) → WhiteSpace r (b ∷ t) → b ≢ open_bracket
+NoValueFollows text = (byte : ℕ) (rest : List ℕ) → WhiteSpace text (byte ∷ rest) → byte ≢ open_bracket
 
 -- no value and no property follows
 abbrev pub NoPropertyFollows : List ℕ → Type 0
-NoPropertyFollows r = (b : ℕ) (t : List ℕ) → WhiteSpace r (b ∷ t) → (b ≢ open_bracket) × (is_upper b ≡ false)
+NoPropertyFollows text = (byte : ℕ) (rest : List ℕ) → WhiteSpace text (byte ∷ rest) → (byte ≢ open_bracket) × (is_upper byte ≡ false)
 
 -- whole values stand in front
-pub record AreValuesIn (s : List ℕ) : Type 0 where
+pub record AreValuesIn (text : List ℕ) : Type 0 where
   pub values : List (List ℕ)
   pub rest : List ℕ
-  pub spelled : ArePropValues values s rest
+  pub spelled : ArePropValues values text rest
   pub ends : NoValueFollows rest
 
 -- whole properties, up to the end of a node
-pub record ArePropertiesIn (s : List ℕ) : Type 0 where
+pub record ArePropertiesIn (text : List ℕ) : Type 0 where
   pub properties : List Property
   pub rest : List ℕ
-  pub spelled : AreProperties properties s rest
+  pub spelled : AreProperties properties text rest
   pub ends : NoPropertyFollows rest
 
 -- a `;` and the properties of a node
-pub record IsNodeIn (s : List ℕ) : Type 0 where
-  pub begins : s ≡ semicolon ∷ drop 1 s
-  pub properties : ArePropertiesIn (drop 1 s)
+pub record IsNodeIn (text : List ℕ) : Type 0 where
+  pub begins : text ≡ semicolon ∷ drop 1 text
+  pub properties : ArePropertiesIn (drop 1 text)
 
 -- no value is in front
 abbrev pub IsNoPropValue : List ℕ → Type 0
-IsNoPropValue s = (v r : List ℕ) → ¬ IsPropValue v s r
+IsNoPropValue text = (value rest : List ℕ) → ¬ IsPropValue value text rest
 
 -- a value stands between two offsets, after white space and a `[`, and a `]` after it
-pub record IsValueAt (t : List ℕ) (from start close : ℕ) : Type 0 where
+pub record IsValueAt (text : List ℕ) (from start close : ℕ) : Type 0 where
   pub begins : from < start
   pub rises : start ≤ close
-  pub within : close < length t
-  pub spelled : IsPropValue (slice_range t start close) (drop from t) (drop (close + 1) t)
+  pub within : close < length text
+  pub spelled : IsPropValue (slice_range text start close) (drop from text) (drop (close + 1) text)
 
 -- what is left after as many values as there are in front
-pub record IsPastValues (s r : List ℕ) : Type 0 where
+pub record IsPastValues (text rest : List ℕ) : Type 0 where
   pub values : List (List ℕ)
-  pub spelled : ArePropValues values s r
-  pub none_left : IsNoPropValue r
+  pub spelled : ArePropValues values text rest
+  pub none_left : IsNoPropValue rest
 
 -- the same, by the offset where it begins
-pub record IsValuesEnd (t : List ℕ) (from end : ℕ) : Type 0 where
-  pub within : end ≤ length t
-  pub past : IsPastValues (drop from t) (drop end t)
+pub record IsValuesEnd (text : List ℕ) (from end : ℕ) : Type 0 where
+  pub within : end ≤ length text
+  pub past : IsPastValues (drop from text) (drop end text)
 
 -- values stand from one offset to another as the sgf form writes them
-pub record AreValuesWritten (t : List ℕ) (from end : ℕ) : Type 0 where
+pub record AreValuesWritten (whole_text : List ℕ) (from end : ℕ) : Type 0 where
   pub rises : from ≤ end
-  pub within : end ≤ length t
+  pub within : end ≤ length whole_text
   pub values : List (List ℕ)
-  pub spelled : ArePropValues values (drop from t) (drop end t)
-  pub text : slice_range t from end ≡ flat_map value_text values
+  pub spelled : ArePropValues values (drop from whole_text) (drop end whole_text)
+  pub text : slice_range whole_text from end ≡ flat_map value_text values
 
 -- and so does a whole property
-pub record IsPropertyWritten (t : List ℕ) (at end : ℕ) : Type 0 where
+pub record IsPropertyWritten (whole_text : List ℕ) (at end : ℕ) : Type 0 where
   pub rises : at < end
-  pub within : end ≤ length t
+  pub within : end ≤ length whole_text
   pub property : Property
-  pub spelled : IsProperty property (drop at t) (drop end t)
-  pub ends : NoValueFollows (drop end t)
-  pub text : slice_range t at end ≡ property_text property
+  pub spelled : IsProperty property (drop at whole_text) (drop end whole_text)
+  pub ends : NoValueFollows (drop end whole_text)
+  pub text : slice_range whole_text at end ≡ property_text property
 
 -- and so do the properties up to an offset, after which the others stand
-pub record ArePropertiesWritten (t : List ℕ) (from end : ℕ) : Type 0 where
+pub record ArePropertiesWritten (whole_text : List ℕ) (from end : ℕ) : Type 0 where
   pub rises : from ≤ end
-  pub within : end ≤ length t
-  pub left : ArePropertiesIn (drop end t)
-  pub front : IsWrittenFront (properties_in (drop from t)) (properties_in (drop end t)) (slice_range t from end)
+  pub within : end ≤ length whole_text
+  pub left : ArePropertiesIn (drop end whole_text)
+  pub front : IsWrittenFront (properties_in (drop from whole_text)) (properties_in (drop end whole_text)) (slice_range whole_text from end)

@@ -8,109 +8,109 @@ use Rattle.sgf_tree.specs.Refusal.{IsFaultyAt}
 use Rattle.sgf_tree.specs.declared.reader.fault.PartFault.{PartFault}
 use Rattle.sgf_tree.specs.declared.reader.fault.PartFault.TheVariants.{NotSgf, Memory}
 
--- the first `at` bytes take the machine to the state z
+-- the first `at` bytes take the machine to that state
 abbrev pub ComesTo : List ℕ → ℕ → MachineState → Type 0
-ComesTo t at z = run 0 start (take at t) ≡ Some z
+ComesTo text at state = run 0 start (take at text) ≡ Some state
 
 -- a fault is at the first one of the text
 abbrev pub IsTrueFault : List ℕ → PartFault → Type 0
-IsTrueFault t (NotSgf at) = IsFaultyAt t at
-IsTrueFault t Memory = Unit {0}
+IsTrueFault text (NotSgf at) = IsFaultyAt text at
+IsTrueFault text Memory = Unit {0}
 
 -- the bytes from `at` to `end` pass the test, and the byte after them doesn't
-pub record IsSpan (test : ℕ → Bool) (t : List ℕ) (at end : ℕ) : Type 0 where
+pub record IsSpan (test : ℕ → Bool) (text : List ℕ) (at end : ℕ) : Type 0 where
   pub rises : at ≤ end
-  pub within : end ≤ length t
-  pub passing : (i : ℕ) → at ≤ i → i < end → IsTrue (test (slice_index t i))
-  pub stops : end < length t → test (slice_index t end) ≡ false
+  pub within : end ≤ length text
+  pub passing : (index : ℕ) → at ≤ index → index < end → IsTrue (test (slice_index text index))
+  pub stops : end < length text → test (slice_index text end) ≡ false
 
 -- a byte of a value that neither ends it nor begins an escape
 abbrev pub is_plain : ℕ → Bool
-is_plain b = not (b == close_bracket) && not (b == backslash)
+is_plain byte = not (byte == close_bracket) && not (byte == backslash)
 
 -- the bytes from `at` to `end` are such
-pub record ArePlain (t : List ℕ) (at end : ℕ) : Type 0 where
+pub record ArePlain (text : List ℕ) (at end : ℕ) : Type 0 where
   pub rises : at ≤ end
-  pub within : end ≤ length t
-  pub passing : (i : ℕ) → at ≤ i → i < end → IsTrue (is_plain (slice_index t i))
+  pub within : end ≤ length text
+  pub passing : (index : ℕ) → at ≤ index → index < end → IsTrue (is_plain (slice_index text index))
 
 -- no `]` stands from `at` to `end`
 abbrev pub HasNoBracket : List ℕ → ℕ → ℕ → Type 0
-HasNoBracket t at end = (i : ℕ) → at ≤ i → i < end → slice_index t i ≢ close_bracket
+HasNoBracket text at end = (index : ℕ) → at ≤ index → index < end → slice_index text index ≢ close_bracket
 
 -- the first `]` from `at` on stands at `end`
-pub record IsNextBracket (t : List ℕ) (at end : ℕ) : Type 0 where
+pub record IsNextBracket (text : List ℕ) (at end : ℕ) : Type 0 where
   pub rises : at ≤ end
-  pub within : end < length t
-  pub bracket : slice_index t end ≡ close_bracket
-  pub before : HasNoBracket t at end
+  pub within : end < length text
+  pub bracket : slice_index text end ≡ close_bracket
+  pub before : HasNoBracket text at end
 
 -- and no `\` stands directly before it
-pub record IsBareBracket (t : List ℕ) (at end : ℕ) : Type 0 where
-  pub next : IsNextBracket t at end
-  pub bare : at < end → slice_index t (end - 1) ≢ backslash
+pub record IsBareBracket (text : List ℕ) (at end : ℕ) : Type 0 where
+  pub next : IsNextBracket text at end
+  pub bare : at < end → slice_index text (end - 1) ≢ backslash
 
 -- as many `\` as stand directly before `end`, from `at` on, are those from `first` to `end`
-pub record AreBackslashesBefore (t : List ℕ) (at first end : ℕ) : Type 0 where
+pub record AreBackslashesBefore (text : List ℕ) (at first end : ℕ) : Type 0 where
   pub low : at ≤ first
   pub rises : first ≤ end
-  pub escapes : (i : ℕ) → first ≤ i → i < end → slice_index t i ≡ backslash
-  pub begins : at < first → slice_index t (first - 1) ≢ backslash
+  pub escapes : (index : ℕ) → first ≤ index → index < end → slice_index text index ≡ backslash
+  pub begins : at < first → slice_index text (first - 1) ≢ backslash
 
 -- escapes, a `\` and a byte each, stand side by side from `at` to `end`
-pub record AreEscapes (t : List ℕ) (at end : ℕ) : Type 0 where
-  pub within : end ≤ length t
+pub record AreEscapes (text : List ℕ) (at end : ℕ) : Type 0 where
+  pub within : end ≤ length text
   pub count : ℕ
   pub bytes : end ≡ at + 2 * count
-  pub each : (k : ℕ) → k < count → slice_index t (at + 2 * k) ≡ backslash
+  pub each : (index : ℕ) → index < count → slice_index text (at + 2 * index) ≡ backslash
 
 -- the raw value that begins at `at` ends at `end`, where its `]` stands
-pub record IsValueEnd (t : List ℕ) (at end : ℕ) : Type 0 where
+pub record IsValueEnd (text : List ℕ) (at end : ℕ) : Type 0 where
   pub rises : at ≤ end
-  pub within : end < length t
-  pub bracket : slice_index t end ≡ close_bracket
-  pub value : (n : Started) (name : List ℕ) (before : List (List ℕ)) → ComesTo t at (in_value n name before [])
-      → ComesTo t end (in_value n name before (slice_range t at end))
+  pub within : end < length text
+  pub bracket : slice_index text end ≡ close_bracket
+  pub value : (node : Started) (name : List ℕ) (before : List (List ℕ)) → ComesTo text at (in_value node name before [])
+      → ComesTo text end (in_value node name before (slice_range text at end))
 
 -- its bytes are units of a value, up to the `]`
 abbrev pub SpellsValue : List ℕ → ℕ → ℕ → Type 0
-SpellsValue t at end = IsValue (slice_range t at end) (drop at t) (drop end t)
+SpellsValue text at end = IsValue (slice_range text at end) (drop at text) (drop end text)
 
 -- two plain bytes and a `]`
-pub record IsTwoPlain (t : List ℕ) (at : ℕ) : Type 0 where
-  pub within : at + 2 < length t
-  pub plain : ArePlain t at (at + 2)
-  pub bracket : slice_index t (at + 2) ≡ close_bracket
+pub record IsTwoPlain (text : List ℕ) (at : ℕ) : Type 0 where
+  pub within : at + 2 < length text
+  pub plain : ArePlain text at (at + 2)
+  pub bracket : slice_index text (at + 2) ≡ close_bracket
 
 -- white space begins at `at`, or none, and a byte that is less than each letter and each bracket follows
-pub record IsNodeEnd (t : List ℕ) (at : ℕ) : Type 0 where
+pub record IsNodeEnd (text : List ℕ) (at : ℕ) : Type 0 where
   pub next : ℕ
-  pub white_space : IsSpan is_white_space t at next
-  pub inside : next < length t
-  pub below : slice_index t next < capital_a
+  pub white_space : IsSpan is_white_space text at next
+  pub inside : next < length text
+  pub below : slice_index text next < capital_a
 
 -- a `;`, one capital and two plain bytes between brackets, with nothing between them, and one byte more
-pub record IsShortFront (t : List ℕ) : Type 0 where
-  pub within : 6 < length t
-  pub capital : IsTrue (is_upper (slice_index t 1))
-  pub bracket : slice_index t 2 ≡ open_bracket
-  pub value : IsTwoPlain t 3
+pub record IsShortFront (text : List ℕ) : Type 0 where
+  pub within : 6 < length text
+  pub capital : IsTrue (is_upper (slice_index text 1))
+  pub bracket : slice_index text 2 ≡ open_bracket
+  pub value : IsTwoPlain text 3
 
 -- and then the end of the node
-pub record IsLoneNode (t : List ℕ) : Type 0 where
-  pub front : IsShortFront t
-  pub ends : IsNodeEnd t 6
+pub record IsLoneNode (text : List ℕ) : Type 0 where
+  pub front : IsShortFront text
+  pub ends : IsNodeEnd text 6
 
 -- and then the name of another property
-pub record IsFrontOfMore (t : List ℕ) : Type 0 where
-  pub front : IsShortFront t
-  pub next : IsTrue (is_upper (slice_index t 6))
+pub record IsFrontOfMore (text : List ℕ) : Type 0 where
+  pub front : IsShortFront text
+  pub next : IsTrue (is_upper (slice_index text 6))
 
 -- no raw value begins at `at`
 abbrev pub SpellsNoValue : List ℕ → ℕ → Type 0
-SpellsNoValue t at = (v r : List ℕ) → ¬ IsValue v (drop at t) (close_bracket ∷ r)
+SpellsNoValue text at = (value rest : List ℕ) → ¬ IsValue value (drop at text) (close_bracket ∷ rest)
 
 -- it doesn't end in the text
 abbrev pub IsUnended : List ℕ → ℕ → Type 0
-IsUnended t at =
-    (n : Started) (name : List ℕ) (before : List (List ℕ)) → ComesTo t at (in_value n name before []) → IsFaultyAt t (length t)
+IsUnended text at =
+    (node : Started) (name : List ℕ) (before : List (List ℕ)) → ComesTo text at (in_value node name before []) → IsFaultyAt text (length text)

@@ -9,58 +9,58 @@ use Rattle.sgf_tree.specs.declared.reader.fault.PartFault.{PartFault}
 
 -- the byte at `end`, if there is one, is neither white space nor `[`
 abbrev pub StopsValues : List ℕ → ℕ → Type 0
-StopsValues t end = end < length t → (is_white_space (slice_index t end) ≡ false) × (slice_index t end ≢ open_bracket)
+StopsValues text end = end < length text → (is_white_space (slice_index text end) ≡ false) × (slice_index text end ≢ open_bracket)
 
 -- the values of a property, of which the first `[` stands at `bracket`, were read up to `end`
-pub record AreValuesRead (t : List ℕ) (bracket end : ℕ) : Type 0 where
+pub record AreValuesRead (text : List ℕ) (bracket end : ℕ) : Type 0 where
   pub rises : bracket < end
-  pub within : end ≤ length t
-  pub stops : StopsValues t end
-  pub reached : (n : Started) (name : List ℕ) → ComesTo t (bracket + 1) (in_value n name [] [])
-      → (p : Property) × ComesTo t end (after_value n p)
+  pub within : end ≤ length text
+  pub stops : StopsValues text end
+  pub reached : (node : Started) (name : List ℕ) → ComesTo text (bracket + 1) (in_value node name [] [])
+      → (property : Property) × ComesTo text end (after_value node property)
 
 -- the property whose identifier begins at `start` was read up to `end`
-pub record IsPropertyRead (t : List ℕ) (start end : ℕ) : Type 0 where
+pub record IsPropertyRead (text : List ℕ) (start end : ℕ) : Type 0 where
   pub rises : start < end
-  pub within : end ≤ length t
-  pub stops : StopsValues t end
-  pub reached : (n : Started) → ComesTo t (start + 1) (in_name n (slice_index t start ∷ []))
-      → (p : Property) × ComesTo t end (after_value n p)
+  pub within : end ≤ length text
+  pub stops : StopsValues text end
+  pub reached : (node : Started) → ComesTo text (start + 1) (in_name node (slice_index text start ∷ []))
+      → (property : Property) × ComesTo text end (after_value node property)
 
 -- a node, to which nothing is added but what may stand after a node, is read up to `end`
-pub record StandsAfterNode (t : List ℕ) (end : ℕ) (whole : Started) : Type 0 where
+pub record StandsAfterNode (text : List ℕ) (end : ℕ) (whole : Started) : Type 0 where
   pub state : MachineState
-  pub reached : ComesTo t end state
-  pub next : end < length t → next_state end state (slice_index t end) ≡ after_node end (ended whole) (slice_index t end)
+  pub reached : ComesTo text end state
+  pub next : end < length text → next_state end state (slice_index text end) ≡ after_node end (ended whole) (slice_index text end)
   pub unaccepted : accepted state ≡ None
 
 -- the node with these properties
 abbrev pub with_properties : Started → List Property → Started
-with_properties n ps = record { stack = n.stack; opens = n.opens; place = n.place; properties = ps }
+with_properties node properties = record { stack = node.stack; opens = node.opens; place = node.place; properties = properties }
 
 -- the properties of a node, which may begin at `at`, were read up to `end`
-pub record ArePropertiesRead (t : List ℕ) (at end : ℕ) : Type 0 where
+pub record ArePropertiesRead (text : List ℕ) (at end : ℕ) : Type 0 where
   pub rises : at ≤ end
-  pub within : end ≤ length t
-  pub not_white_space : end < length t → is_white_space (slice_index t end) ≡ false
-  pub reached : (n : Started) → n.properties ≡ [] → ComesTo t at (in_node n)
-      → (ps : List Property) × StandsAfterNode t end (with_properties n ps)
+  pub within : end ≤ length text
+  pub not_white_space : end < length text → is_white_space (slice_index text end) ≡ false
+  pub reached : (node : Started) → node.properties ≡ [] → ComesTo text at (in_node node)
+      → (properties : List Property) × StandsAfterNode text end (with_properties node properties)
 
 -- a fault is the first one of the text, if the machine stood at `at`, after a `[`
 abbrev pub IsFaultInValue : List ℕ → ℕ → PartFault → Type 0
-IsFaultInValue t at fault =
-    (n : Started) (name : List ℕ) (before : List (List ℕ)) → ComesTo t at (in_value n name before []) → IsTrueFault t fault
+IsFaultInValue text at fault =
+    (node : Started) (name : List ℕ) (before : List (List ℕ)) → ComesTo text at (in_value node name before []) → IsTrueFault text fault
 
 -- or after the `[` at `bracket`, which is that of a property's first value
 abbrev pub IsFaultInValues : List ℕ → ℕ → PartFault → Type 0
-IsFaultInValues t bracket fault =
-    (n : Started) (name : List ℕ) → ComesTo t (bracket + 1) (in_value n name [] []) → IsTrueFault t fault
+IsFaultInValues text bracket fault =
+    (node : Started) (name : List ℕ) → ComesTo text (bracket + 1) (in_value node name [] []) → IsTrueFault text fault
 
 -- or after the letter at `start`, which began a name
 abbrev pub IsFaultInProperty : List ℕ → ℕ → PartFault → Type 0
-IsFaultInProperty t start fault =
-    (n : Started) → ComesTo t (start + 1) (in_name n (slice_index t start ∷ [])) → IsTrueFault t fault
+IsFaultInProperty text start fault =
+    (node : Started) → ComesTo text (start + 1) (in_name node (slice_index text start ∷ [])) → IsTrueFault text fault
 
 -- or in a node without properties at `at`
 abbrev pub IsFaultInNode : List ℕ → ℕ → PartFault → Type 0
-IsFaultInNode t at fault = (n : Started) → n.properties ≡ [] → ComesTo t at (in_node n) → IsTrueFault t fault
+IsFaultInNode text at fault = (node : Started) → node.properties ≡ [] → ComesTo text at (in_node node) → IsTrueFault text fault

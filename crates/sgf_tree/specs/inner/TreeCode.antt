@@ -10,7 +10,7 @@ abbrev pub property_code : Coded Property
 property_code =
     code_by (List ℕ × (List ℕ × List (List ℕ))) (coded× (coded_list coded_ℕ) (coded× (coded_list coded_ℕ) (coded_list (coded_list coded_ℕ))))
     (λ p. (p.name, (p.first, p.more)))
-    (λ t. record { name = t.0; first = t.1.0; more = t.1.1 })
+    (λ parts. record { name = parts.0; first = parts.1.0; more = parts.1.1 })
     (λ _. refl)
 
 abbrev pub properties_code : Coded (List Property)
@@ -22,7 +22,7 @@ values_code = coded_list (coded_list coded_ℕ)
 -- a node is stored as its place and its properties
 abbrev pub node_code : Coded Node
 node_code =
-    code_by (ℕ × List Property) (coded× coded_ℕ (coded_list property_code)) (λ n. (n.place, n.properties)) (λ t. record { place = t.0; properties = t.1 }) (λ _. refl)
+    code_by (ℕ × List Property) (coded× coded_ℕ (coded_list property_code)) (λ n. (n.place, n.properties)) (λ parts. record { place = parts.0; properties = parts.1 }) (λ _. refl)
 
 -- a game's own nodes, or that there is no game
 abbrev pub Token : Type 0
@@ -41,24 +41,24 @@ over_next first more [] = []
 -- the games of a list of tokens, read from its right end
 abbrev pub games_of : List Token → List Games
 games_of [] = []
-games_of (None ∷ ts) = no_games ∷ games_of ts
-games_of (Some n ∷ ts) = over_next n.0 n.1 (games_of ts)
+games_of (None ∷ rest) = no_games ∷ games_of rest
+games_of (Some own ∷ rest) = over_next own.0 own.1 (games_of rest)
 
 -- the first of them
 abbrev pub first_games : List Games → Games
 first_games [] = no_games
-first_games (g ∷ gs) = g
+first_games (games ∷ rest) = games
 
-pub games_of-tokens : (g : Games) (rest : List Token) → games_of (tokens g ++ rest) ≡ g ∷ games_of rest
+pub games_of-tokens : (games : Games) (rest : List Token) → games_of (tokens games ++ rest) ≡ games ∷ games_of rest
 games_of-tokens no_games rest = refl
 games_of-tokens (game first more below after) rest =
     ap (λ ts. over_next first more (games_of ts)) (append_assoc (tokens below) (tokens after) rest)
     ∙ ap (over_next first more) (games_of-tokens below (tokens after ++ rest))
     ∙ ap (λ gs. over_next first more (below ∷ gs)) (games_of-tokens after rest)
 
-pub first_games-tokens : (g : Games) → first_games (games_of (tokens g)) ≡ g
-first_games-tokens g =
-    ap (λ ts. first_games (games_of ts)) (sym (append-nil (tokens g))) ∙ ap first_games (games_of-tokens g [])
+pub first_games-tokens : (games : Games) → first_games (games_of (tokens games)) ≡ games
+first_games-tokens games =
+    ap (λ ts. first_games (games_of ts)) (sym (append-nil (tokens games))) ∙ ap first_games (games_of-tokens games [])
 
 abbrev pub games_code : Coded Games
 games_code =

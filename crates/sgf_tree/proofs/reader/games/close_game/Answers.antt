@@ -2,7 +2,7 @@ use Rattle.std.proofs.Common.{◌≡◌, ℕ, ◌+◌, ◌-◌, ◌<◌, ◌≤�
 use Rattle.sgf_tree.specs.declared.layout.NodeEntry.{NodeEntry}
 use Rattle.sgf_tree.specs.declared.layout.Link.TheVariants.{Next}
 use Rattle.sgf_tree.specs.inner.GamesRead.{AreOwnNodes}
-use Rattle.sgf_tree.proofs.Closing.{GetLasts, lasts-more, run-before, opens-link, parent-link, lasts-closed}
+use Rattle.sgf_tree.proofs.Closing.{GetLasts, lasts-more, nodes-before, opens-link, parent-link, lasts-closed}
 use Rattle.sgf_tree.proofs.reader.games.close_game.Goals as goal
 use Rattle.sgf_tree.proofs.reader.games.close_game.Goals.{After-index_mut-node}
 
@@ -16,21 +16,21 @@ got c =
     (lasts-more c.args.nodes.now.items c.own.nodes.items c.args.tip c.own.at x c.own.invariant.low c.requires.within c.index_mut-node.ensures.value c.own.invariant.lasts)
 
 pub returns-in-Root : goal.returns-in-Root
-returns-in-Root c first run =
+returns-in-Root c first own =
     let old = c.args.nodes.now.items in
     let at = c.own.at in
     let lt : at < length old = omega arith in
-    lasts-closed old _ c.args.tip first at _ run (c.own.invariant.begins first run) c.own.invariant.low
+    lasts-closed old _ c.args.tip first at _ own (c.own.invariant.begins first own) c.own.invariant.low
     (opens-link old c.own.nodes.items c.args.tip (at + 1) at c.index_mut-node.result.now _ c.own.invariant.lasts lt c.index_mut-node.ensures.value c.in-Root.is)
     (got (goal.at.returns-in-Root c).After-index_mut-node)
     (parent-link old c.own.nodes.items c.args.tip (at + 1) at c.index_mut-node.result.now _ c.own.invariant.lasts lt c.index_mut-node.ensures.value c.in-Root.is)
 
 pub returns-in-Variation : goal.returns-in-Variation
-returns-in-Variation c first run =
+returns-in-Variation c first own =
     let old = c.args.nodes.now.items in
     let at = c.own.at in
     let lt : at < length old = omega arith in
-    lasts-closed old _ c.args.tip first at _ run (c.own.invariant.begins first run) c.own.invariant.low
+    lasts-closed old _ c.args.tip first at _ own (c.own.invariant.begins first own) c.own.invariant.low
     (opens-link old c.own.nodes.items c.args.tip (at + 1) at c.index_mut-node.result.now _ c.own.invariant.lasts lt c.index_mut-node.ensures.value c.in-Variation.is)
     (got (goal.at.returns-in-Variation c).After-index_mut-node)
     (parent-link old c.own.nodes.items c.args.tip (at + 1) at c.index_mut-node.result.now _ c.own.invariant.lasts lt c.index_mut-node.ensures.value c.in-Variation.is)
@@ -41,9 +41,9 @@ after-another c is =
     let old = c.args.nodes.now.items in
     let at = c.own.at in
     let first = c.requires.own.0 in
-    let run = c.requires.own.1 in
+    let own = c.requires.own.1 in
     let lt : at < length old = omega (arith, c.requires.within, c.own.invariant.low) in
-    let before = run-before old c.own.nodes.items c.args.tip first at run (c.own.invariant.begins first run) (opens-link old c.own.nodes.items c.args.tip (at + 1) at c.index_mut-node.result.now _ c.own.invariant.lasts lt c.index_mut-node.ensures.value is) in
+    let before = nodes-before old c.own.nodes.items c.args.tip first at own (c.own.invariant.begins first own) (opens-link old c.own.nodes.items c.args.tip (at + 1) at c.index_mut-node.result.now _ c.own.invariant.lasts lt c.index_mut-node.ensures.value is) in
     omega (arith, before)
 
 pub overflow_sub-at : goal.overflow_sub-at
@@ -58,10 +58,10 @@ own-preserved c =
     let old = c.args.nodes.now.items in
     let at = c.own.at in
     let lt : at < length old = omega arith in
-    let before = λ (first : ℕ) (run : AreOwnNodes old first c.args.tip). run-before old c.own.nodes.items c.args.tip first at run (c.own.invariant.begins first run) (opens-link old c.own.nodes.items c.args.tip (at + 1) at c.index_mut-node.result.now _ c.own.invariant.lasts lt c.index_mut-node.ensures.value c.in-Next.is) in
+    let before = λ (first : ℕ) (own : AreOwnNodes old first c.args.tip). nodes-before old c.own.nodes.items c.args.tip first at own (c.own.invariant.begins first own) (opens-link old c.own.nodes.items c.args.tip (at + 1) at c.index_mut-node.result.now _ c.own.invariant.lasts lt c.index_mut-node.ensures.value c.in-Next.is) in
     let up : at ≡ at - 1 + 1 = omega (arith, before c.requires.own.0 c.requires.own.1) in
     record {
       low = omega arith;
       lasts = subst (GetLasts old _ c.args.tip) up (got (goal.at.own-preserved c).After-index_mut-node);
-      begins = λ first run. omega (arith, before first run);
+      begins = λ first own. omega (arith, before first own);
     }

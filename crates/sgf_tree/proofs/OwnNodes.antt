@@ -47,8 +47,8 @@ module _ (closed : Games) (g : OpenGame) (gs : List OpenGame) (nodes : List Node
       sym (opens-outlines_by 0 nodes i) ∙ ap (option_map (λ (r : Outline). r.opens)) (ordered_at i k e) ∙ outline-opens (slice_get (own_nodes (open_count closed gs) (tip closed gs) g) k)
 
   -- they begin with the node after the `(`, and go on up to the tip
-  pub own-run : AreOwnNodes nodes (open_count closed gs) (open_count closed gs + length g.more)
-  own-run =
+  pub own-nodes : AreOwnNodes nodes (open_count closed gs) (open_count closed gs + length g.more)
+  own-nodes =
       let at : ℕ = open_count closed gs in
       record {
         rises = omega arith;
