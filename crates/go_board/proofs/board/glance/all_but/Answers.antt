@@ -2,7 +2,7 @@ use Rattle.std.proofs.Common.{inl, inr, sym, ap, ◌∙◌}
 use Rattle.std.proofs.lemmas.Bool.{cases_eq, false≢true}
 use Rattle.go_board.specs.inner.Rows.{has_bit}
 use Rattle.go_board.proofs.GlanceLemmas.{row_besides}
-use Rattle.go_board.proofs.board.glance.besides.Goals as goal
+use Rattle.go_board.proofs.board.glance.all_but.Goals as goal
 
 pub returns-clause-still : goal.returns-clause-still
 returns-clause-still c =
