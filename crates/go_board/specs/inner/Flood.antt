@@ -8,7 +8,7 @@ use Rattle.go_board.specs.Grid.{Grid, cell_at}
 use Rattle.go_board.specs.inner.Neighbour.{left_of, right_of, above, below}
 use Rattle.go_board.specs.inner.Search.{Searched, nothing_found, with_found}
 
--- whether a neighbour of a point that reaches the wanted colour reaches it through the point: the point has that colour,
+-- whether a neighbour of a point reaches the wanted colour through the point, which reaches it: the point has that colour,
 -- or the neighbour has the point's
 abbrev pub reaches_through : Grid → Cell → Point → Point → Bool
 reaches_through grid wanted point neighbour =

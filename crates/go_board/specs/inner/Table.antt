@@ -21,8 +21,8 @@ pub record IsNewest (size : ℕ) (prints : List ℕ) (count key number : ℕ) : 
   pub there : 0 < number → key_of size (slice_index prints (number - 1)) ≡ key
   pub newest : (index : ℕ) → number ≤ index → index < count → key_of size (slice_index prints index) ≢ key
 
--- the first `count` prints are linked: each head has the newest of its key, and each link the newest before it of the same
--- key
+-- the first `count` prints are linked: each head has the newest of its key, and each link the newest before it of the
+-- same key
 pub record AreLinked (prints : List ℕ) (count : ℕ) (heads links : List ℕ) : Type 0 where
   pub by_head : (key : ℕ) → key < length heads → IsNewest (length heads) prints count key (slice_index heads key)
   pub by_link : (index : ℕ) → index < count
