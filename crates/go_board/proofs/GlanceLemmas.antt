@@ -101,9 +101,9 @@ row_inside own others middle i r free at below within off = record {
   has_others = λ p there is. ap (λ n. has_bit (get_or others n 0) p.col) (omega (arith, there, at)) ∙ is;
 }
 
-pub row_besides : (own others : List ℕ) (middle i free : ℕ) (row : RowStones) → ((col : ℕ) → has_bit free col ≡ true → has_bit row.free col ≡ true)
+pub row_all_but : (own others : List ℕ) (middle i free : ℕ) (row : RowStones) → ((col : ℕ) → has_bit free col ≡ true → has_bit row.free col ≡ true)
     → IsRowAt own others middle i row → IsRowAt own others middle i (record { own = row.own; others = row.others; free = free })
-row_besides own others middle i free row part is = record {
+row_all_but own others middle i free row part is = record {
   are_free = λ col there. is.are_free col (part col there);
   are_own = is.are_own;
   has_others = is.has_others;

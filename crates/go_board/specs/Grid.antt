@@ -12,7 +12,7 @@ pub record Grid : Type 0 where
 
 -- what stands on a point
 abbrev pub cell_at : Grid → Point → Cell
-cell_at g p = slice_index_or g.cells (index_of g.side p) Empty
+cell_at grid point = slice_index_or grid.cells (index_of grid.side point) Empty
 
 -- the grid of that side on which nothing stands
 abbrev pub empty_grid : ℕ → Grid
@@ -20,7 +20,7 @@ empty_grid side = record { side = side; cells = replicate (side * side) Empty }
 
 -- the grid with that one point coloured anew
 abbrev pub with_cell : Grid → Point → Cell → Grid
-with_cell g p c = record g { cells = slice_set g.cells (index_of g.side p) c }
+with_cell grid point cell = record grid { cells = slice_set grid.cells (index_of grid.side point) cell }
 
 -- the grid of that side whose points are coloured by a function
 abbrev pub grid_of : ℕ → (Point → Cell) → Grid

@@ -10,11 +10,11 @@ pub record Marking : Type 0 where
 
 -- whether a point is marked
 abbrev pub is_marked : Marking → Point → Bool
-is_marked m p = slice_index_or m.marks (index_of m.side p) false
+is_marked marking point = slice_index_or marking.marks (index_of marking.side point) false
 
 -- how many points are marked
 abbrev pub marked_count : Marking → ℕ
-marked_count m = count_by (λ b. b) m.marks
+marked_count marking = count_by (λ mark. mark) marking.marks
 
 -- the marking of the points that pass a test
 abbrev pub marking_of : ℕ → (Point → Bool) → Marking

@@ -11,7 +11,7 @@ pub record Held : Type 0 where
 -- the newest of the past colourings
 abbrev pub newest : List Held → Option Grid
 newest [] = None
-newest (h ∷ hs) = Some h.colouring
+newest (first ∷ others) = Some first.colouring
 
 -- the same, where there is one
 abbrev pub newest_grid : List Held → Grid
@@ -20,9 +20,9 @@ newest_grid held = unwrap_or (newest held) (empty_grid 0)
 -- the colourings of the present stretch: the newest one that begins a stretch, and all after it
 abbrev pub present_stretch : List Held → List Grid
 present_stretch [] = []
-present_stretch (h ∷ hs) = h.colouring ∷ (if h.begins then [] else present_stretch hs)
+present_stretch (first ∷ others) = first.colouring ∷ (if first.begins then [] else present_stretch others)
 
 -- each of the colourings has that side
 abbrev pub HaveSide : ℕ → List Held → Type 0
 HaveSide side [] = Unit {0}
-HaveSide side (h ∷ hs) = (h.colouring.side ≡ side) × HaveSide side hs
+HaveSide side (first ∷ others) = (first.colouring.side ≡ side) × HaveSide side others

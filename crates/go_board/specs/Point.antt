@@ -6,7 +6,7 @@ use Rattle.go_board.specs.declared.points.Rect.{Rect}
 
 -- the point is on the grid of that side
 abbrev pub IsOn : ℕ → Point → Type 0
-IsOn side p = (p.col < side) × (p.row < side)
+IsOn side point = (point.col < side) × (point.row < side)
 
 -- one of the two numbers is the other and one more
 abbrev pub DifferByOne : ℕ → ℕ → Type 0
@@ -14,23 +14,24 @@ DifferByOne a b = (a + 1 ≡ b) ⊎ (b + 1 ≡ a)
 
 -- side by side in a column or in a row
 abbrev pub AreAdjacent : Point → Point → Type 0
-AreAdjacent p q =
-    ((p.col ≡ q.col) × DifferByOne p.row q.row) ⊎ ((p.row ≡ q.row) × DifferByOne p.col q.col)
+AreAdjacent point other =
+    ((point.col ≡ other.col) × DifferByOne point.row other.row)
+    ⊎ ((point.row ≡ other.row) × DifferByOne point.col other.col)
 
 -- the same, as a test
 abbrev pub are_adjacent : Point → Point → Bool
-are_adjacent p q =
-    ((p.col == q.col) && ((p.row + 1 == q.row) || (q.row + 1 == p.row)))
-    || ((p.row == q.row) && ((p.col + 1 == q.col) || (q.col + 1 == p.col)))
+are_adjacent point other =
+    ((point.col == other.col) && ((point.row + 1 == other.row) || (other.row + 1 == point.row)))
+    || ((point.row == other.row) && ((point.col + 1 == other.col) || (other.col + 1 == point.col)))
 
 -- both corners are on the grid, and the first is the upper left one
 abbrev pub IsRectOn : ℕ → Rect → Type 0
-IsRectOn side r =
-    IsOn side r.first × IsOn side r.last × (r.first.col ≤ r.last.col) × (r.first.row ≤ r.last.row)
+IsRectOn side rect =
+    IsOn side rect.first × IsOn side rect.last × (rect.first.col ≤ rect.last.col) × (rect.first.row ≤ rect.last.row)
 
 -- the index of a point in a list that goes row by row from the top, from left to right
 abbrev pub index_of : ℕ → Point → ℕ
-index_of side p = p.row * side + p.col
+index_of side point = point.row * side + point.col
 
 -- the point at an index
 abbrev pub point_at : ℕ → ℕ → Point

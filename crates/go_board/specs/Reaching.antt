@@ -36,10 +36,10 @@ spread grid wanted marking =
     marking_of grid.side
     (λ point. is_marked marking point || list_any (leads_on grid wanted marking point) (points grid.side))
 
--- the points that reach the wanted colour in at most n steps
+-- the points that reach the wanted colour in at most so many steps
 unfoldable pub reaching_within : Grid → Cell → ℕ → Marking
 reaching_within grid wanted zero = marking_of grid.side (λ point. same_cell (cell_at grid point) wanted)
-reaching_within grid wanted (suc n) = spread grid wanted (reaching_within grid wanted n)
+reaching_within grid wanted (suc steps) = spread grid wanted (reaching_within grid wanted steps)
 
 -- the point reaches the wanted colour: a path need not have more steps than the grid has points
 unfoldable pub reaches : Grid → Cell → Point → Bool

@@ -5,13 +5,13 @@ use Rattle.go_board.specs.Past.{Held}
 
 -- the colouring at an index of the list, counted from 0
 abbrev pub entry : ℕ → List Cell → List Bool → ℕ → Held
-entry side cells flags n =
+entry side cells flags index =
     record {
-      colouring = record { side = side; cells = slice_range cells (n * (side * side)) ((n + 1) * (side * side)) };
-      begins = slice_index_or flags n false;
+      colouring = record { side = side; cells = slice_range cells (index * (side * side)) ((index + 1) * (side * side)) };
+      begins = slice_index_or flags index false;
     }
 
--- the first n of them, newest first
+-- the first `count` of them, newest first
 abbrev pub entries : ℕ → List Cell → List Bool → ℕ → List Held
 entries side cells flags zero = []
-entries side cells flags (suc n) = entry side cells flags n ∷ entries side cells flags n
+entries side cells flags (suc count) = entry side cells flags count ∷ entries side cells flags count

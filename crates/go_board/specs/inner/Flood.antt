@@ -8,26 +8,32 @@ use Rattle.go_board.specs.Grid.{Grid, cell_at}
 use Rattle.go_board.specs.inner.Neighbour.{left_of, right_of, above, below}
 use Rattle.go_board.specs.inner.Search.{Searched, nothing_found, with_found}
 
--- whether q, beside a point p that reaches the colour k, reaches it through p: p has that colour, or q has p's
+-- whether a neighbour of a point reaches the wanted colour through the point, which reaches it: the point has that colour,
+-- or the neighbour has the point's
 abbrev pub reaches_through : Grid → Cell → Point → Point → Bool
-reaches_through g k p q = same_cell (cell_at g p) k || same_cell (cell_at g q) (cell_at g p)
+reaches_through grid wanted point neighbour =
+    same_cell (cell_at grid point) wanted || same_cell (cell_at grid neighbour) (cell_at grid point)
 
--- a neighbour of p is found, if there is one and it reaches the colour through p
+-- a neighbour of a point is found, if there is one and it reaches the wanted colour through the point
 unfoldable pub with_neighbour : Grid → Cell → Point → Option Point → Searched → Searched
-with_neighbour g k p None s = s
-with_neighbour g k p (Some q) s = if reaches_through g k p q then with_found s q else s
+with_neighbour grid wanted point None search = search
+with_neighbour grid wanted point (Some neighbour) search =
+    if reaches_through grid wanted point neighbour then with_found search neighbour else search
 
--- all four neighbours of p are dealt with
+-- all four neighbours of a point are dealt with
 unfoldable pub with_neighbours : Grid → Cell → Point → Searched → Searched
-with_neighbours g k p s =
-    with_neighbour g k p (below g.side p)
-    (with_neighbour g k p (above p) (with_neighbour g k p (right_of g.side p) (with_neighbour g k p (left_of p) s)))
+with_neighbours grid wanted point search =
+    with_neighbour grid wanted point (below grid.side point)
+    (with_neighbour grid wanted point (above point)
+    (with_neighbour grid wanted point (right_of grid.side point)
+    (with_neighbour grid wanted point (left_of point) search)))
 
 -- the points found at first: those of a list that have the colour, in its order
 unfoldable pub with_points : Grid → Cell → List Point → Searched → Searched
-with_points g k [] s = s
-with_points g k (p ∷ ps) s = with_points g k ps (if same_cell (cell_at g p) k then with_found s p else s)
+with_points grid wanted [] search = search
+with_points grid wanted (point ∷ others) search =
+    with_points grid wanted others (if same_cell (cell_at grid point) wanted then with_found search point else search)
 
 -- the search that found the points of the colour and took none
 unfoldable pub with_colour : Grid → Cell → Searched
-with_colour g k = with_points g k (points g.side) (nothing_found g.side)
+with_colour grid wanted = with_points grid wanted (points grid.side) (nothing_found grid.side)

@@ -8,11 +8,14 @@ use Rattle.go_board.specs.inner.Rows.{has_bit, is_set}
 
 -- the point is in that column of a row around a row of the board
 abbrev pub IsInRowAround : ℕ → ℕ → ℕ → Point → Type 0
-IsInRowAround middle i col p = (p.col ≡ col) × (p.row + 2 ≡ middle + i)
+IsInRowAround middle index col point = (point.col ≡ col) × (point.row + 2 ≡ middle + index)
 
 -- what is known of the columns of a row around a row of the board
-pub record IsRowAt (own others : List ℕ) (middle i : ℕ) (row : RowStones) : Type 0 where
+pub record IsRowAt (own others : List ℕ) (middle index : ℕ) (row : RowStones) : Type 0 where
   pub are_free : (col : ℕ) → IsTrue (has_bit row.free col)
-      → (p : Point) × IsInRowAround middle i col p × IsOn (length own) p × (is_set own p ≡ false) × (is_set others p ≡ false)
-  pub are_own : (col : ℕ) → IsTrue (has_bit row.own col) → (p : Point) × IsInRowAround middle i col p × IsTrue (is_set own p)
-  pub has_others : (p : Point) → p.row + 2 ≡ middle + i → IsTrue (is_set others p) → IsTrue (has_bit row.others p.col)
+      → (point : Point) × IsInRowAround middle index col point × IsOn (length own) point
+      × (is_set own point ≡ false) × (is_set others point ≡ false)
+  pub are_own : (col : ℕ) → IsTrue (has_bit row.own col)
+      → (point : Point) × IsInRowAround middle index col point × IsTrue (is_set own point)
+  pub has_others : (point : Point) → point.row + 2 ≡ middle + index → IsTrue (is_set others point)
+      → IsTrue (has_bit row.others point.col)

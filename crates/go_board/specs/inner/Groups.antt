@@ -12,60 +12,66 @@ use Rattle.go_board.specs.inner.Neighbour.{left_of, right_of, above, below}
 
 -- the points that pass the test are stones of one colour, with each stone of that colour beside one of them, and no point
 -- beside them is empty
-pub record IsWithoutLiberty (g : Grid) (k : Colour) (test : Point → Bool) : Type 0 where
-  pub stones : (p : Point) → IsOn g.side p → IsTrue (test p) → cell_at g p ≡ stone_of k
-  pub shut : (p q : Point) → IsOn g.side p → IsOn g.side q → AreAdjacent p q → IsTrue (test p)
-      → cell_at g q ≢ Empty
-  pub whole : (p q : Point) → IsOn g.side p → IsOn g.side q → AreAdjacent p q → IsTrue (test p)
-      → cell_at g q ≡ stone_of k → IsTrue (test q)
+pub record IsWithoutLiberty (grid : Grid) (colour : Colour) (test : Point → Bool) : Type 0 where
+  pub stones : (point : Point) → IsOn grid.side point → IsTrue (test point) → cell_at grid point ≡ stone_of colour
+  pub shut : (point neighbour : Point) → IsOn grid.side point → IsOn grid.side neighbour → AreAdjacent point neighbour
+      → IsTrue (test point) → cell_at grid neighbour ≢ Empty
+  pub whole : (point neighbour : Point) → IsOn grid.side point → IsOn grid.side neighbour → AreAdjacent point neighbour
+      → IsTrue (test point) → cell_at grid neighbour ≡ stone_of colour → IsTrue (test neighbour)
 
 -- all stones of a colour reach empty
 abbrev pub AllReach : Grid → Colour → Type 0
-AllReach g k = (p : Point) → IsOn g.side p → cell_at g p ≡ stone_of k → Reaches g Empty p
+AllReach grid colour =
+    (point : Point) → IsOn grid.side point → cell_at grid point ≡ stone_of colour → Reaches grid Empty point
 
 -- a stone of the colour that doesn't reach empty
 abbrev pub is_shut : Grid → Colour → Point → Bool
-is_shut g k p = same_cell (cell_at g p) (stone_of k) && not (reaches g Empty p)
+is_shut grid colour point = same_cell (cell_at grid point) (stone_of colour) && not (reaches grid Empty point)
 
 -- whether a neighbour is there and empty
 abbrev pub is_free : Grid → Option Point → Bool
-is_free g None = false
-is_free g (Some q) = same_cell (cell_at g q) Empty
+is_free grid None = false
+is_free grid (Some neighbour) = same_cell (cell_at grid neighbour) Empty
 
 -- whether one of the four neighbours of a point is empty
 unfoldable pub has_free_neighbour : Grid → Point → Bool
-has_free_neighbour g p =
-    (is_free g (left_of p) || is_free g (right_of g.side p)) || (is_free g (above p) || is_free g (below g.side p))
+has_free_neighbour grid point =
+    (is_free grid (left_of point) || is_free grid (right_of grid.side point))
+    || (is_free grid (above point) || is_free grid (below grid.side point))
 
--- a stone of the colour on p reaches empty
+-- a stone of the colour on a point reaches empty
 abbrev pub ReachesIfStone : Grid → Colour → Point → Type 0
-ReachesIfStone g k p = cell_at g p ≡ stone_of k → Reaches g Empty p
+ReachesIfStone grid colour point = cell_at grid point ≡ stone_of colour → Reaches grid Empty point
 
 -- there is a point with a stone of the colour that reaches empty
 abbrev pub LivesAt : Grid → Colour → Option Point → Type 0
-LivesAt g k None = ⊥
-LivesAt g k (Some q) = (cell_at g q ≡ stone_of k) × Reaches g Empty q
+LivesAt grid colour None = ⊥
+LivesAt grid colour (Some neighbour) = (cell_at grid neighbour ≡ stone_of colour) × Reaches grid Empty neighbour
 
--- the stones of a colour beside p reach empty
+-- the stones of a colour beside a point reach empty
 abbrev pub ReachBeside : Grid → Colour → Point → Type 0
-ReachBeside g k p = (q : Point) → IsOn g.side q → AreAdjacent p q → ReachesIfStone g k q
+ReachBeside grid colour point =
+    (neighbour : Point) → IsOn grid.side neighbour → AreAdjacent point neighbour → ReachesIfStone grid colour neighbour
 
--- once a stone of a colour is on p, it reaches empty, and so do the opponent's stones beside it: then nothing is captured
+-- once a stone of a colour is on a point, it reaches empty, and so do the opponent's stones beside it: then nothing is
+-- captured
 abbrev pub AllLive : Grid → Colour → Point → Type 0
-AllLive g k p = ReachesIfStone g k p × ReachBeside g (opponent k) p
+AllLive grid colour point = ReachesIfStone grid colour point × ReachBeside grid (opponent colour) point
 
--- h is g with the points that are meant emptied
-pub record IsWithout (g h : Grid) (Gone : Point → Type 0) : Type 0 where
-  pub same_side : h.side ≡ g.side
-  pub all : length h.cells ≡ length g.cells
-  pub emptied : (p : Point) → IsOn g.side p → Gone p → cell_at h p ≡ Empty
-  pub kept : (p : Point) → IsOn g.side p → (¬ Gone p) → cell_at h p ≡ cell_at g p
+-- the grid after is the one before with the points that are meant emptied
+pub record IsWithout (before after : Grid) (Gone : Point → Type 0) : Type 0 where
+  pub same_side : after.side ≡ before.side
+  pub all : length after.cells ≡ length before.cells
+  pub emptied : (point : Point) → IsOn before.side point → Gone point → cell_at after point ≡ Empty
+  pub kept : (point : Point) → IsOn before.side point → (¬ Gone point) → cell_at after point ≡ cell_at before point
 
--- h is g without some stones of a colour: what reached empty still does, and clearing the colour gives the same grid
-pub record LosesShut (g h : Grid) (k : Colour) : Type 0 where
-  pub same_side : h.side ≡ g.side
-  pub all : length h.cells ≡ length g.cells
-  pub taken : (p : Point) → IsOn g.side p
-      → (cell_at h p ≡ cell_at g p) ⊎ ((cell_at h p ≡ Empty) × (cell_at g p ≡ stone_of k))
-  pub still : (p : Point) → IsOn g.side p → Reaches g Empty p → Reaches h Empty p
-  pub cleared : clear h k ≡ clear g k
+-- the grid after is the one before without some stones of a colour: what reached empty still does, and clearing the
+-- colour gives the same grid
+pub record LosesShut (before after : Grid) (colour : Colour) : Type 0 where
+  pub same_side : after.side ≡ before.side
+  pub all : length after.cells ≡ length before.cells
+  pub taken : (point : Point) → IsOn before.side point
+      → (cell_at after point ≡ cell_at before point)
+      ⊎ ((cell_at after point ≡ Empty) × (cell_at before point ≡ stone_of colour))
+  pub still : (point : Point) → IsOn before.side point → Reaches before Empty point → Reaches after Empty point
+  pub cleared : clear after colour ≡ clear before colour

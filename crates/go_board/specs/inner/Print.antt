@@ -9,10 +9,10 @@ code_of Empty = 0
 code_of Black = 1
 code_of White = 2
 
--- the codes as the digits of a number in base 31, after the digits of n
+-- the codes as the digits of a number in base 31, after the digits of another one
 abbrev pub digits_after : ℕ → List Cell → ℕ
-digits_after n [] = n
-digits_after n (c ∷ cs) = digits_after (31 * n + code_of c) cs
+digits_after number [] = number
+digits_after number (cell ∷ cells) = digits_after (31 * number + code_of cell) cells
 
 -- the print, of 64 bits
 abbrev pub print_of : List Cell → ℕ
@@ -20,4 +20,4 @@ print_of cells = digits_after 0 cells % 2 ^ 64
 
 -- the prints of past colourings
 abbrev pub prints_of : List Held → List ℕ
-prints_of held = map (λ (h : Held). print_of h.colouring.cells) held
+prints_of held = map (λ (one : Held). print_of one.colouring.cells) held

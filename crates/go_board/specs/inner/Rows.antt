@@ -10,7 +10,7 @@ has_bit word col = bit_at word col == 1
 
 -- the bit of a point is set
 abbrev pub is_set : List ℕ → Point → Bool
-is_set rows p = has_bit (slice_index rows p.row) p.col
+is_set rows point = has_bit (slice_index rows point.row) point.col
 
 -- the row above one, with no bit above the first
 abbrev pub row_above : List ℕ → ℕ → ℕ
@@ -51,10 +51,10 @@ abbrev pub AreWide : List ℕ → List ℕ → Type 0
 AreWide room rows =
     (row : ℕ) → row < length rows → HasBeside (has_bit (slice_index room row)) (has_bit (slice_index rows row))
 
--- each of the first n rows has the columns of the row above it that there is room for
+-- each of the first `count` rows has the columns of the row above it that there is room for
 abbrev pub TakeAbove : List ℕ → List ℕ → ℕ → Type 0
-TakeAbove room rows n =
-    (row : ℕ) → row < n → IsTaken room rows row (row_above rows row)
+TakeAbove room rows count =
+    (row : ℕ) → row < count → IsTaken room rows row (row_above rows row)
 
 -- each row from the one on has the columns of the row below it that there is room for
 abbrev pub TakeBelow : List ℕ → List ℕ → ℕ → Type 0
@@ -71,17 +71,18 @@ IsInOrBeside above here below col =
 
 -- each point of the one set is in the other
 abbrev pub IsAmong : (Point → Bool) → (Point → Bool) → Type 0
-IsAmong some all = (p : Point) → IsTrue (some p) → IsTrue (all p)
+IsAmong some all = (point : Point) → IsTrue (some point) → IsTrue (all point)
 
 -- with a point the set has each adjacent point that there is room for
 abbrev pub IsClosed : (Point → Bool) → (Point → Bool) → Type 0
 IsClosed room set =
-    (p q : Point) → AreAdjacent p q → IsTrue (room p) → IsTrue (set q) → IsTrue (set p)
+    (point other : Point) → AreAdjacent point other → IsTrue (room point) → IsTrue (set other) → IsTrue (set point)
 
 -- the same for the points of one row alone
 abbrev pub IsRowClosed : (Point → Bool) → (Point → Bool) → ℕ → Type 0
 IsRowClosed room set row =
-    (p q : Point) → p.row ≡ row → AreAdjacent p q → IsTrue (room p) → IsTrue (set q) → IsTrue (set p)
+    (point other : Point) → point.row ≡ row → AreAdjacent point other
+    → IsTrue (room point) → IsTrue (set other) → IsTrue (set point)
 
 -- new is old and points that each closed set with old has, too, all of them within the room
 pub record Grows (room old new : Point → Bool) : Type 0 where

@@ -16,7 +16,7 @@ no_marks side = record { side = side; marks = replicate (side * side) false }
 
 -- one more point is marked
 abbrev pub with_mark : Marking → Point → Marking
-with_mark m p = record m { marks = slice_set m.marks (index_of m.side p) true }
+with_mark marking point = record marking { marks = slice_set marking.marks (index_of marking.side point) true }
 
 -- nothing was found yet
 abbrev pub nothing_found : ℕ → Searched
@@ -24,18 +24,18 @@ nothing_found side = record { marking = no_marks side; found = []; taken = 0 }
 
 -- a point was found, perhaps not for the first time
 abbrev pub with_found : Searched → Point → Searched
-with_found s p =
-    if is_marked s.marking p then s
-    else record { marking = with_mark s.marking p; found = s.found ++ p ∷ []; taken = s.taken }
+with_found search point =
+    if is_marked search.marking point then search
+    else record { marking = with_mark search.marking point; found = search.found ++ point ∷ []; taken = search.taken }
 
 -- what every search keeps: as many marks as points found, and these are on the grid and marked
-pub record IsSound (s : Searched) : Type 0 where
-  pub all_marks : length s.marking.marks ≡ s.marking.side * s.marking.side
-  pub counted : marked_count s.marking ≡ length s.found
-  pub in_turn : s.taken ≤ length s.found
-  pub on_grid : All (IsOn s.marking.side) s.found
-  pub marked : All (λ p. IsTrue (is_marked s.marking p)) s.found
+pub record IsSound (search : Searched) : Type 0 where
+  pub all_marks : length search.marking.marks ≡ search.marking.side * search.marking.side
+  pub counted : marked_count search.marking ≡ length search.found
+  pub in_turn : search.taken ≤ length search.found
+  pub on_grid : All (IsOn search.marking.side) search.found
+  pub marked : All (λ point. IsTrue (is_marked search.marking point)) search.found
 
 -- a search with so much room can find so many points more; with room for all points of the grid, always
 abbrev pub HasRoom : ℕ → ℕ → Searched → Type 0
-HasRoom room more s = (s.marking.side * s.marking.side ≤ room) ⊎ (length s.found + more ≤ room)
+HasRoom room more search = (search.marking.side * search.marking.side ≤ room) ⊎ (length search.found + more ≤ room)

@@ -4,7 +4,7 @@ use Rattle.std.specs.Prelude.{◌≡◌, ◌≢◌, ℕ, ◌-◌, ◌*◌, ◌/�
 
 -- a number of 64 bits whose low half hangs on all bits of another one
 abbrev pub folded : ℕ → ℕ
-folded n = bit_xor n (n / 2 ^ 32)
+folded word = bit_xor word (word / 2 ^ 32)
 
 -- A print is linear in the cells, so that moves can be chosen whose prints have the same low bits. Its key hangs on all bits of it, and
 -- isn't linear.
@@ -15,16 +15,18 @@ scattered print = folded (folded print * 15485907386658061715 % 2 ^ 64)
 abbrev pub key_of : ℕ → ℕ → ℕ
 key_of size print = bit_and (scattered print) (size - 1)
 
--- the number of the newest of the first n prints that has the key
-pub record IsNewest (size : ℕ) (prints : List ℕ) (n key number : ℕ) : Type 0 where
-  pub within : number ≤ n
+-- the number of the newest of the first `count` prints that has the key
+pub record IsNewest (size : ℕ) (prints : List ℕ) (count key number : ℕ) : Type 0 where
+  pub within : number ≤ count
   pub there : 0 < number → key_of size (slice_index prints (number - 1)) ≡ key
-  pub newest : (y : ℕ) → number ≤ y → y < n → key_of size (slice_index prints y) ≢ key
+  pub newest : (index : ℕ) → number ≤ index → index < count → key_of size (slice_index prints index) ≢ key
 
--- the first n prints are linked: each head has the newest of its key, and each link the newest before it of the same key
-pub record AreLinked (prints : List ℕ) (n : ℕ) (heads links : List ℕ) : Type 0 where
-  pub by_head : (k : ℕ) → k < length heads → IsNewest (length heads) prints n k (slice_index heads k)
-  pub by_link : (x : ℕ) → x < n → IsNewest (length heads) prints x (key_of (length heads) (slice_index prints x)) (slice_index links x)
+-- the first `count` prints are linked: each head has the newest of its key, and each link the newest before it of the
+-- same key
+pub record AreLinked (prints : List ℕ) (count : ℕ) (heads links : List ℕ) : Type 0 where
+  pub by_head : (key : ℕ) → key < length heads → IsNewest (length heads) prints count key (slice_index heads key)
+  pub by_link : (index : ℕ) → index < count
+      → IsNewest (length heads) prints index (key_of (length heads) (slice_index prints index)) (slice_index links index)
 
 -- a table of those prints
 pub record IsTable (heads prints links : List ℕ) : Type 0 where
@@ -34,7 +36,7 @@ pub record IsTable (heads prints links : List ℕ) : Type 0 where
 
 -- the index of the last print of a range that is that one, none where the range doesn't have it
 abbrev pub IsLastOf : List ℕ → ℕ → ℕ → ℕ → Option ℕ → Type 0
-IsLastOf prints print start end None = (y : ℕ) → start ≤ y → y < end → slice_index prints y ≢ print
-IsLastOf prints print start end (Some x) =
-    (start ≤ x) × (x < end) × (slice_index prints x ≡ print)
-    × ((y : ℕ) → x < y → y < end → slice_index prints y ≢ print)
+IsLastOf prints print start end None = (index : ℕ) → start ≤ index → index < end → slice_index prints index ≢ print
+IsLastOf prints print start end (Some last) =
+    (start ≤ last) × (last < end) × (slice_index prints last ≡ print)
+    × ((index : ℕ) → last < index → index < end → slice_index prints index ≢ print)

@@ -113,8 +113,8 @@ impl Board {
         requires on_board { IsOn self.now.side from }
         requires stone { IsOn self.now.side stone }
         requires empty { cell_at self.now stone ≡ Empty }
-        ensures { (k : Colour) → IsTrue result
-            → ReachesIfStone (with_cell self.now stone (stone_of k)) colour from }
+        ensures { (player : Colour) → IsTrue result
+            → ReachesIfStone (with_cell self.now stone (stone_of player)) colour from }
     {
         if self.has_other_liberty(from, stone) {
             return true;
@@ -137,8 +137,8 @@ impl Board {
         requires other { ForSome other (IsOn self.now.side) }
         requires besides { IsOn self.now.side besides }
         requires empty { cell_at self.now besides ≡ Empty }
-        ensures { (k : Colour) → IsTrue result → LivesAt (with_cell self.now besides (stone_of k)) colour one
-            ⊎ LivesAt (with_cell self.now besides (stone_of k)) colour other }
+        ensures { (player : Colour) → IsTrue result → LivesAt (with_cell self.now besides (stone_of player)) colour one
+            ⊎ LivesAt (with_cell self.now besides (stone_of player)) colour other }
     {
         self.neighbour_lives(colour, one, besides) || self.neighbour_lives(colour, other, besides)
     }
@@ -148,7 +148,7 @@ impl Board {
         requires at { ForSome at (IsOn self.now.side) }
         requires besides { IsOn self.now.side besides }
         requires empty { cell_at self.now besides ≡ Empty }
-        ensures { (k : Colour) → IsTrue result → LivesAt (with_cell self.now besides (stone_of k)) colour at }
+        ensures { (player : Colour) → IsTrue result → LivesAt (with_cell self.now besides (stone_of player)) colour at }
     {
         match at {
             Some(point) => {
@@ -164,7 +164,7 @@ impl Board {
         requires stone { cell_at self.now from ≡ stone_of colour }
         requires besides { IsOn self.now.side besides }
         requires empty { cell_at self.now besides ≡ Empty }
-        ensures { (k : Colour) → IsTrue result → Reaches (with_cell self.now besides (stone_of k)) Empty from }
+        ensures { (player : Colour) → IsTrue result → Reaches (with_cell self.now besides (stone_of player)) Empty from }
     {
         if self.has_other_liberty(from, besides) {
             return true;
@@ -189,7 +189,7 @@ impl Board {
         requires stone { cell_at self.now from ≡ stone_of colour }
         requires besides { IsOn self.now.side besides }
         requires empty { cell_at self.now besides ≡ Empty }
-        ensures { (k : Colour) → IsTrue result → Reaches (with_cell self.now besides (stone_of k)) Empty from }
+        ensures { (player : Colour) → IsTrue result → Reaches (with_cell self.now besides (stone_of player)) Empty from }
     {
         let mut words = no_rows::<N>();
         let group = &mut words[..usize::from(self.size.side())];
@@ -201,7 +201,7 @@ impl Board {
     fn has_other_liberty(&self, point: Point, besides: Point) -> bool
         requires on_board { IsOn self.now.side point }
         requires besides { IsOn self.now.side besides }
-        ensures { (k : Colour) → result ≡ has_free_neighbour (with_cell self.now besides (stone_of k)) point }
+        ensures { (player : Colour) → result ≡ has_free_neighbour (with_cell self.now besides (stone_of player)) point }
     {
         let size = self.size();
         self.one_is_other_free(point.left(), point.right(size), besides)
@@ -213,8 +213,8 @@ impl Board {
         requires one { ForSome one (IsOn self.now.side) }
         requires other { ForSome other (IsOn self.now.side) }
         requires besides { IsOn self.now.side besides }
-        ensures { (k : Colour) → result ≡ (is_free (with_cell self.now besides (stone_of k)) one
-            || is_free (with_cell self.now besides (stone_of k)) other) }
+        ensures { (player : Colour) → result ≡ (is_free (with_cell self.now besides (stone_of player)) one
+            || is_free (with_cell self.now besides (stone_of player)) other) }
     {
         self.is_other_free(one, besides) || self.is_other_free(other, besides)
     }
@@ -223,7 +223,7 @@ impl Board {
     fn is_other_free(&self, at: Option<Point>, besides: Point) -> bool
         requires at { ForSome at (IsOn self.now.side) }
         requires besides { IsOn self.now.side besides }
-        ensures { (k : Colour) → result ≡ is_free (with_cell self.now besides (stone_of k)) at }
+        ensures { (player : Colour) → result ≡ is_free (with_cell self.now besides (stone_of player)) at }
     {
         // a field is read, so that the proof can use the invariant: every point has a cell
         let _ = &self.size;

@@ -98,7 +98,7 @@ impl Board {
         requires besides { IsOn self.now.side besides }
         requires rows { length group.old ≡ self.now.side }
         requires none { (p : Point) → is_set group.old p ≡ false }
-        ensures lives { (h : Grid) → IsSameBut self.now h colour besides → IsTrue result → Reaches h Empty from }
+        ensures lives { (grid : Grid) → IsSameBut self.now grid colour besides → IsTrue result → Reaches grid Empty from }
         ensures shut { cell_at self.now besides ≢ Empty → IsFalse result → IsWithoutLiberty self.now colour (λ p. is_set group.new p) }
         ensures start { IsFalse result → IsTrue (is_set group.new from) }
         ensures on_grid { IsFalse result → (p : Point) → IsTrue (is_set group.new p) → IsOn self.now.side p }
@@ -136,7 +136,7 @@ impl Board {
         requires white_rows { length white.now ≡ self.now.side }
         requires black { AreRowsOf self.now.side (λ p. same_cell (cell_at self.now p) Black) black.now }
         requires white { AreRowsOf self.now.side (λ p. same_cell (cell_at self.now p) White) white.now }
-        ensures lives { (h : Grid) → IsSameBut self.now h colour besides → IsTrue result → Reaches h Empty from }
+        ensures lives { (grid : Grid) → IsSameBut self.now grid colour besides → IsTrue result → Reaches grid Empty from }
         ensures shut { cell_at self.now besides ≢ Empty → IsFalse result → IsWithoutLiberty self.now colour (λ p. is_set group.new p) }
         ensures start { IsFalse result → IsTrue (is_set group.new from) }
         ensures on_grid { IsFalse result → (p : Point) → IsTrue (is_set group.new p) → IsOn self.now.side p }

@@ -23,8 +23,8 @@ impl Board {
     pub fn reaching(&self, target: Cell, steps: &mut Steps) -> Marks
         requires { steps.old + self.now.side * self.now.side ≤ u64.MAX }
         ensures side { result.side ≡ self.now.side }
-        ensures marks { (p : Point) → IsOn self.now.side p
-            → (IsTrue (is_marked result p) ↔ Reaches self.now target p) }
+        ensures marks { (point : Point) → IsOn self.now.side point
+            → (IsTrue (is_marked result point) ↔ Reaches self.now target point) }
         ensures all { length result.marks ≡ self.now.side * self.now.side }
         ensures steps { steps.new ≡ steps.old + marked_count result }
     {
@@ -44,8 +44,8 @@ impl Board {
         requires room { self.now.side * self.now.side ≤ N }
         requires at_most { N ≤ MAX_POINTS }
         ensures side { result.side ≡ self.now.side }
-        ensures marks { (p : Point) → IsOn self.now.side p
-            → (IsTrue (is_marked result p) ↔ Reaches self.now target p) }
+        ensures marks { (point : Point) → IsOn self.now.side point
+            → (IsTrue (is_marked result point) ↔ Reaches self.now target point) }
         ensures all { length result.marks ≡ self.now.side * self.now.side }
         ensures steps { steps.new ≡ steps.old + marked_count result }
     {

@@ -38,16 +38,16 @@ pub(crate) fn leaves_all_alive(own: &[u64], others: &[u64], point: Point) -> boo
     requires same { length others.now ≡ length own.now }
     requires few { length own.now < 64 }
     requires on_board { IsOn (length own.now) point }
-    ensures { (g : Grid) (k : Colour) → g.side ≡ length own.now
-        → AreRowsOf g.side (λ p. same_cell (cell_at g p) (stone_of k)) own.now
-        → AreRowsOf g.side (λ p. same_cell (cell_at g p) (stone_of (opponent k))) others.now
-        → IsTrue result → AllLive (with_cell g point (stone_of k)) k point }
+    ensures { (grid : Grid) (colour : Colour) → grid.side ≡ length own.now
+        → AreRowsOf grid.side (λ p. same_cell (cell_at grid p) (stone_of colour)) own.now
+        → AreRowsOf grid.side (λ p. same_cell (cell_at grid p) (stone_of (opponent colour))) others.now
+        → IsTrue result → AllLive (with_cell grid point (stone_of colour)) colour point }
 {
     let col = usize::from(point.col);
     let middle = usize::from(point.row);
     let first = row_at(own, others, middle, 0);
     let above = row_at(own, others, middle, 1);
-    let here = besides(row_at(own, others, middle, 2), col);
+    let here = all_but(row_at(own, others, middle, 2), col);
     let below = row_at(own, others, middle, 3);
     let last = row_at(own, others, middle, 4);
     let stone = with_column(0, col, true);
@@ -81,11 +81,11 @@ fn row_at(own: &[u64], others: &[u64], middle: usize, i: usize) -> RowStones
 }
 
 /// The row with one column that isn't free.
-fn besides(row: RowStones, col: usize) -> RowStones
+fn all_but(row: RowStones, col: usize) -> RowStones
     requires { col < 64 }
     ensures there { has_bit result.free col ≡ false }
-    ensures still { (own others : List ℕ) (middle i : ℕ) → IsRowAt own others middle i row
-        → IsRowAt own others middle i result }
+    ensures still { (own others : List ℕ) (middle index : ℕ) → IsRowAt own others middle index row
+        → IsRowAt own others middle index result }
 {
     RowStones {
         own: row.own,
@@ -118,8 +118,8 @@ fn open_columns(above: u64, here: u64, below: u64) -> u64
 /// The columns beside those of a set.
 fn beside(columns: u64) -> u64
     ensures from { (col : ℕ) → IsTrue (has_bit result col)
-        → (d : ℕ) × DifferByOne col d × IsTrue (has_bit columns d) }
-    ensures to { (col d : ℕ) → col < 64 → DifferByOne col d → IsTrue (has_bit columns d)
+        → (next : ℕ) × DifferByOne col next × IsTrue (has_bit columns next) }
+    ensures to { (col next : ℕ) → col < 64 → DifferByOne col next → IsTrue (has_bit columns next)
         → IsTrue (has_bit result col) }
 {
     columns << 1 | columns >> 1

@@ -73,10 +73,11 @@ fn row_has_liberty(own: &[u64], others: &[u64], group: &[u64], besides: Point, r
     requires few { length group.now < 64 }
     requires row { row < length group.now }
     requires besides { besides.col < 64 }
-    ensures some { IsTrue result → (p q : Point) × IsOn (length group.now) p × AreAdjacent p q
-        × IsTrue (is_set group.now q) × (is_set own.now p ≡ false) × (is_set others.now p ≡ false) × (p ≢ besides) }
-    ensures none { IsFalse result → (p q : Point) → p.row ≡ row → IsOn (length group.now) p → AreAdjacent p q
-        → IsTrue (is_set group.now q) → IsFilled own.now others.now besides p }
+    ensures some { IsTrue result → (point stone : Point) × IsOn (length group.now) point × AreAdjacent point stone
+        × IsTrue (is_set group.now stone) × (is_set own.now point ≡ false) × (is_set others.now point ≡ false)
+        × (point ≢ besides) }
+    ensures none { IsFalse result → (point stone : Point) → point.row ≡ row → IsOn (length group.now) point
+        → AreAdjacent point stone → IsTrue (is_set group.now stone) → IsFilled own.now others.now besides point }
 {
     let beside = columns_beside(row_above(group, row), group[row], row_below(group, row));
     let free = free_columns(own[row], others[row], own.len());

@@ -219,7 +219,7 @@ pub(crate) fn row_of(cells: &[Cell]) -> (u64, u64)
 pub(crate) fn with_column(word: u64, col: usize, set: bool) -> u64
     requires { col < 64 }
     ensures there { has_bit result col ≡ (has_bit word col || set) }
-    ensures elsewhere { (k : ℕ) → k ≢ col → has_bit result k ≡ has_bit word k }
+    ensures elsewhere { (other : ℕ) → other ≢ col → has_bit result other ≡ has_bit word other }
 {
     if set { word | 1 << col } else { word }
 }

@@ -36,7 +36,7 @@ impl StoneRows {
 
     /// Those of a board of that size on which nothing stands, in place of what they were.
     pub(crate) fn reset(&mut self, size: Size)
-        ensures { (g : Grid) → AreRowsKept g self.old → AreRowsKept (empty_grid size) self.new }
+        ensures { (grid : Grid) → AreRowsKept grid self.old → AreRowsKept (empty_grid size) self.new }
     {
         let side = usize::from(size.side());
         self.black[..side].fill(0);
@@ -46,7 +46,8 @@ impl StoneRows {
 
     /// Those of another board of that size, in place of what they were.
     pub(crate) fn copy_from(&mut self, other: &StoneRows, size: Size)
-        ensures { (g h : Grid) → AreRowsKept g self.old → AreRowsKept h other.now → h.side ≡ size → AreRowsKept h self.new }
+        ensures { (before after : Grid) → AreRowsKept before self.old → AreRowsKept after other.now
+            → after.side ≡ size → AreRowsKept after self.new }
     {
         let side = usize::from(size.side());
         self.black[..side].copy_from_slice(&other.black[..side]);
@@ -57,7 +58,7 @@ impl StoneRows {
     /// Those of a colouring of a board of that size, in place of what they were.
     pub(crate) fn work_out(&mut self, cells: &[Cell], size: Size)
         requires { length cells.now ≡ size * size }
-        ensures { (g : Grid) → AreRowsKept g self.old
+        ensures { (grid : Grid) → AreRowsKept grid self.old
             → AreRowsKept (record { side = size; cells = cells.now }) self.new }
     {
         let side = usize::from(size.side());
@@ -84,8 +85,8 @@ impl StoneRows {
     /// Goes on to the colouring in which a point has that cell.
     pub(crate) fn set(&mut self, point: Point, cell: Cell)
         requires small { IsOn MAX_ROWS point }
-        ensures { (g : Grid) → IsOn g.side point → length g.cells ≡ g.side * g.side → g.side ≤ MAX_ROWS
-            → AreRowsKept g self.old → AreRowsKept (with_cell g point cell) self.new }
+        ensures { (grid : Grid) → IsOn grid.side point → length grid.cells ≡ grid.side * grid.side → grid.side ≤ MAX_ROWS
+            → AreRowsKept grid self.old → AreRowsKept (with_cell grid point cell) self.new }
     {
         if !self.known {
             return;
@@ -108,7 +109,7 @@ fn is_same(cell: Cell, other: Cell) -> bool
 fn with_bit(word: u64, col: usize, set: bool) -> u64
     requires { col < 64 }
     ensures there { has_bit result col ≡ set }
-    ensures elsewhere { (k : ℕ) → k ≢ col → has_bit result k ≡ has_bit word k }
+    ensures elsewhere { (other : ℕ) → other ≢ col → has_bit result other ≡ has_bit word other }
 {
     with_column(without_column(word, col), col, set)
 }
@@ -117,7 +118,7 @@ fn with_bit(word: u64, col: usize, set: bool) -> u64
 pub(crate) fn without_column(word: u64, col: usize) -> u64
     requires { col < 64 }
     ensures there { has_bit result col ≡ false }
-    ensures elsewhere { (k : ℕ) → k ≢ col → has_bit result k ≡ has_bit word k }
+    ensures elsewhere { (other : ℕ) → other ≢ col → has_bit result other ≡ has_bit word other }
 {
     word & !(1 << col)
 }

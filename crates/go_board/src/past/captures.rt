@@ -100,9 +100,9 @@ fn place_and_keep(
 fn put_back(board: &mut Board, start: usize, changes: &mut Vec<Change>)
     requires start { start ≤ length changes.old.items }
     requires on_grid { AreOn board.old.side changes.old.items }
-    ensures board { (g : Grid) (front : List Change) → LeadBackwards start g front board.old changes.old.items
-        → board.new ≡ g }
-    ensures changes { (g : Grid) (front : List Change) → LeadBackwards start g front board.old changes.old.items
+    ensures board { (grid : Grid) (front : List Change) → LeadBackwards start grid front board.old changes.old.items
+        → board.new ≡ grid }
+    ensures changes { (grid : Grid) (front : List Change) → LeadBackwards start grid front board.old changes.old.items
         → changes.new.items ≡ front }
 {
     turn_round(changes, start);
@@ -119,8 +119,9 @@ fn capture_around(
     changes: &mut Vec<Change>,
 ) -> bool
     requires { IsOn board.old.side point }
-    ensures logged { (start : ℕ) (h : Grid) (front : List Change) → LeadBackwards start h front board.old changes.old.items
-        → LeadBackwards start h front board.new changes.new.items }
+    ensures logged { (start : ℕ) (grid : Grid) (front : List Change)
+        → LeadBackwards start grid front board.old changes.old.items
+        → LeadBackwards start grid front board.new changes.new.items }
     ensures taken { IsTrue result → LosesShut board.old board.new colour }
     ensures beside { IsTrue result → ReachBeside board.new colour point }
 {
@@ -145,8 +146,9 @@ fn capture_group(
     changes: &mut Vec<Change>,
 ) -> bool
     requires { ForSome at (IsOn board.old.side) }
-    ensures logged { (start : ℕ) (h : Grid) (front : List Change) → LeadBackwards start h front board.old changes.old.items
-        → LeadBackwards start h front board.new changes.new.items }
+    ensures logged { (start : ℕ) (grid : Grid) (front : List Change)
+        → LeadBackwards start grid front board.old changes.old.items
+        → LeadBackwards start grid front board.new changes.new.items }
     ensures taken { IsTrue result → LosesShut board.old board.new colour }
     ensures settled { IsTrue result → ForSome at (ReachesIfStone board.new colour) }
 {
@@ -159,8 +161,9 @@ fn capture_group(
 /// The same for the group of the stone on a point, if it has that colour.
 fn capture_stone(board: &mut Board, colour: Colour, from: Point, changes: &mut Vec<Change>) -> bool
     requires { IsOn board.old.side from }
-    ensures logged { (start : ℕ) (h : Grid) (front : List Change) → LeadBackwards start h front board.old changes.old.items
-        → LeadBackwards start h front board.new changes.new.items }
+    ensures logged { (start : ℕ) (grid : Grid) (front : List Change)
+        → LeadBackwards start grid front board.old changes.old.items
+        → LeadBackwards start grid front board.new changes.new.items }
     ensures taken { IsTrue result → LosesShut board.old board.new colour }
     ensures settled { IsTrue result → ReachesIfStone board.new colour from }
 {
@@ -188,8 +191,9 @@ fn capture_searched<const N: usize>(
     requires at_most { N ≤ MAX_ROWS }
     requires on_board { IsOn board.old.side from }
     requires stone { cell_at board.old from ≡ stone_of colour }
-    ensures logged { (start : ℕ) (h : Grid) (front : List Change) → LeadBackwards start h front board.old changes.old.items
-        → LeadBackwards start h front board.new changes.new.items }
+    ensures logged { (start : ℕ) (grid : Grid) (front : List Change)
+        → LeadBackwards start grid front board.old changes.old.items
+        → LeadBackwards start grid front board.new changes.new.items }
     ensures taken { IsTrue result → LosesShut board.old board.new colour }
     ensures settled { IsTrue result → ReachesIfStone board.new colour from }
 {
@@ -207,8 +211,9 @@ fn capture_rows(board: &mut Board, rows: &[u64], colour: Colour, changes: &mut V
     requires all { length rows.now ≡ board.old.side }
     requires on_board { (p : Point) → IsTrue (is_set rows.now p) → IsOn board.old.side p }
     requires stones { (p : Point) → IsTrue (is_set rows.now p) → cell_at board.old p ≡ stone_of colour }
-    ensures logged { (start : ℕ) (h : Grid) (front : List Change) → LeadBackwards start h front board.old changes.old.items
-        → LeadBackwards start h front board.new changes.new.items }
+    ensures logged { (start : ℕ) (grid : Grid) (front : List Change)
+        → LeadBackwards start grid front board.old changes.old.items
+        → LeadBackwards start grid front board.new changes.new.items }
     ensures gone { IsTrue result → IsWithout board.old board.new (λ p. IsTrue (is_set rows.now p)) }
 {
     'rows: for row in 0..board.size().side() {
@@ -230,8 +235,9 @@ fn capture_columns(
     requires row { row < board.old.side }
     requires columns { (col : ℕ) → IsTrue (has_bit columns col) → col < board.old.side }
     requires stones { (p : Point) → p.row ≡ row → IsTrue (has_bit columns p.col) → cell_at board.old p ≡ stone_of colour }
-    ensures logged { (start : ℕ) (h : Grid) (front : List Change) → LeadBackwards start h front board.old changes.old.items
-        → LeadBackwards start h front board.new changes.new.items }
+    ensures logged { (start : ℕ) (grid : Grid) (front : List Change)
+        → LeadBackwards start grid front board.old changes.old.items
+        → LeadBackwards start grid front board.new changes.new.items }
     ensures gone { IsTrue result → IsWithout board.old board.new (λ p. (p.row ≡ row) × IsTrue (has_bit columns p.col)) }
 {
     let mut left = columns;

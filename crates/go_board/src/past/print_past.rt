@@ -165,8 +165,8 @@ impl PrintPast {
 
     /// Whether a colouring of the present stretch has that print.
     fn has_print(&self, print: u64) -> bool
-        ensures { (g : Grid) → IsFalse result → print ≡ print_of g.cells
-            → ¬ Contains (present_stretch self.now) g }
+        ensures { (grid : Grid) → IsFalse result → print ≡ print_of grid.cells
+            → ¬ Contains (present_stretch self.now) grid }
     {
         let start = self.colourings.stretch_start();
         self.prints

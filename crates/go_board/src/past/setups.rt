@@ -57,8 +57,9 @@ fn set_point(board: &mut Board, point: Point, cell: Cell, changes: &mut Vec<Chan
     requires on_board { IsOn board.old.side point }
     requires room { vec_len changes.old < vec_capacity changes.old }
     ensures there { board.new ≡ with_cell board.old point cell }
-    ensures kept { (start : ℕ) (h : Grid) (front : List Change) → LeadBackwards start h front board.old changes.old.items
-        → LeadBackwards start h front board.new changes.new.items }
+    ensures kept { (start : ℕ) (grid : Grid) (front : List Change)
+        → LeadBackwards start grid front board.old changes.old.items
+        → LeadBackwards start grid front board.new changes.new.items }
     ensures one { vec_len changes.new ≤ vec_len changes.old + 1 }
     ensures capacity { vec_capacity changes.old ≤ vec_capacity changes.new }
 {
