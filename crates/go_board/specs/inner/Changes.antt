@@ -21,7 +21,7 @@ with_change grid change =
 
 -- so many cells from an index on are that one
 abbrev pub AreAllOf : Cell → List Cell → ℕ → ℕ → Type 0
-AreAllOf cell cells index count = (past : ℕ) → past < count → slice_index_or cells (index + past) Black ≡ cell
+AreAllOf cell cells index count = (offset : ℕ) → offset < count → slice_index_or cells (index + offset) Black ≡ cell
 
 -- the points of a change are on the grid
 abbrev pub IsChangeOn : ℕ → Change → Type 0
