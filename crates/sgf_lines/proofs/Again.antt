@@ -1,5 +1,6 @@
 -- The sgf output of a collection is itself a text of the grammar, whose sgf output is the same bytes.
 use Rattle.std.proofs.Common.{◌≡◌, ◌≢◌, ℕ, ◌+◌, List, [], ◌∷◌, ◌++◌, length, refl, sym, ap, ◌∙◌, subst, arith, append_assoc, length-append}
+use Rattle.std.proofs.lemmas.Grind.{flat_map-append}
 use Rattle.std.specs.List.{flat_map}
 use Rattle.sgf_tree.specs.Tree.{Property, Node, Games, no_games, game}
 use Rattle.sgf_tree.specs.RawValue.{IsValue, no_unit, plain, escaped}
@@ -146,10 +147,6 @@ records_same at ((n ∷ ns) ∷ ls) h =
     let rest = records_same (at + length (sgf_record (n ∷ ns))) ls h.1 in
     ap (λ t. (40 ∷ ((node_text n ++ t) ++ (41 ∷ 10 ∷ []))) ++ flat_map sgf_record (node_lines (single_games (at + length (sgf_record (n ∷ ns))) ls))) one
     ∙ ap (λ t. sgf_record (n ∷ ns) ++ t) rest
-
-pub flat_map-append : {A : Type 0} (f : A → List ℕ) (xs ys : List A) → flat_map f (xs ++ ys) ≡ flat_map f xs ++ flat_map f ys
-flat_map-append f [] ys = refl
-flat_map-append f (x ∷ xs) ys = ap (λ t. f x ++ t) (flat_map-append f xs ys) ∙ sym (append_assoc (f x) (flat_map f xs) (flat_map f ys))
 
 records_of_game : (number : ℕ) (variations : List (List Node)) → flat_map (λ line. sgf_record line.nodes) (lines_of_game number variations) ≡ flat_map sgf_record variations
 records_of_game number [] = refl

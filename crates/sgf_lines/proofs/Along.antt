@@ -6,16 +6,8 @@ use Rattle.sgf_tree.specs.FileOrder.{node_at}
 use Rattle.sgf_lines.specs.JudgedGames.{root_properties}
 use Rattle.sgf_lines.specs.declared.game.Game.{Game}
 use Rattle.sgf_lines.specs.inner.Played.{IsPlayedAs}
+use Rattle.sgf_lines.proofs.Lists.{front_more}
 use Rattle.sgf_lines.proofs.Joins.{as_many}
-
--- one node more of a front
-pub front_more : (nodes : List Node) (i : ℕ) (n : Node) → slice_get nodes i ≡ Some n → take (i + 1) nodes ≡ take i nodes ++ n ∷ []
-front_more nodes i n e = rw add-one (at_end nodes i e)
-  where
-    at_end : (ns : List Node) (i : ℕ) → slice_get ns i ≡ Some n → take (suc i) ns ≡ take i ns ++ n ∷ []
-    at_end [] i e = absurd cc
-    at_end (m ∷ ms) zero e = let same : m ≡ n = cc in ap (λ k. k ∷ []) same
-    at_end (m ∷ ms) (suc i) e = ap (λ ks. m ∷ ks) (at_end ms i e)
 
 -- the node that a path names at an index
 pub named_at : (f : ℕ → Option Node) (nodes : List Node) (path : List ℕ) (i d : ℕ) → map Some nodes ≡ map f path → i < length path

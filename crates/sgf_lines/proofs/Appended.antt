@@ -1,5 +1,6 @@
 -- The lines of games after others are those of the others and then theirs, and what stands further on is judged alike.
 use Rattle.std.proofs.Common.{◌≡◌, ◌≢◌, ℕ, ◌+◌, List, [], ◌∷◌, ◌++◌, length, map, fold, Option, Some, None, option_map, Result, Ok, Err, codes, decimal, refl, sym, ap, ◌∙◌, arith, append_assoc}
+use Rattle.std.proofs.lemmas.Grind.{flat_map-append}
 use Rattle.std.specs.List.{flat_map}
 use Rattle.std.proofs.lemmas.List.{map-append, length-map}
 use Rattle.sgf_tree.specs.Tree.{Node, Games, no_games, game, game_count, joined}
@@ -18,7 +19,6 @@ use Rattle.sgf_lines.specs.Record.{record_of}
 use Rattle.sgf_lines.specs.Appending.{raised_verdict, raised_record}
 use Rattle.sgf_lines.proofs.Lists.{Each, each_append, each_through}
 use Rattle.sgf_lines.proofs.Named.{map-through}
-use Rattle.sgf_lines.proofs.Again.{flat_map-append}
 
 -- ---- games after others
 

@@ -14,23 +14,10 @@ use Rattle.go_board.specs.Reason.{reason_of}
 use Rattle.sgf_lines.specs.NodeContents.{Move, Stones, moves, stones, players}
 use Rattle.sgf_lines.specs.NodeValues.{move_value, operations, last_player}
 use Rattle.sgf_lines.specs.Step.{side_in, turn_step, move_step, setup_step, step_by, step}
+use Rattle.go_board.proofs.TurnLemmas.{side-set_up, side-turned}
 use Rattle.sgf_lines.specs.Walk.{TakenNode, IllegalNode, Walk, stepped, next_by, next}
 
 -- a step leaves the side of the board
-side-areas : (g : Grid) (ops : List SetupOp) → (fold with_area g ops).side ≡ g.side
-unfolding with_area
-side-areas g [] = refl
-side-areas g (op ∷ ops) = side-areas (with_area g op) ops
-
-side-set_up : (s : State) (ops : List SetupOp) (player : Option Colour) → side_in (set_up s ops player) ≡ side_in s
-side-set_up s [] player = refl
-side-set_up s (op ∷ ops) player = side-areas s.colouring (op ∷ ops)
-
-side-turned : (s : State) (k : Colour) (x : Play) → side_in (turned s k x) ≡ side_in s
-unfolding play clear
-side-turned s k Pass = refl
-side-turned s k (Stone p) = refl
-
 side-same : (s t : State) (u : State) → side_in u ≡ side_in s → (let r : Result State Reason = Ok u in r ≡ Ok t) → side_in t ≡ side_in s
 side-same s t u side e = let same : u ≡ t = cc in ap side_in (sym same) ∙ side
 
@@ -77,6 +64,3 @@ extends w (n ∷ ns) =
     let one = next_extends w n in
     let rest = extends (next w n) ns in
     (one.0 ++ rest.0, rest.1 ∙ ap (λ ps. ps ++ rest.0) one.1 ∙ append_assoc w.taken one.0 rest.0)
-
-pub or_true : (a b : Bool) → a ≡ true → (a || b) ≡ true
-or_true a b e = ap (λ x. x || b) e

@@ -2,7 +2,7 @@
 use Rattle.std.proofs.Common.{◌≡◌, ℕ, ◌+◌, ◌≤◌, List, [], ◌++◌, length, take, drop, Option, Some, None, Result, Ok, Err, refl, sym, ap, ◌∙◌, arith, append_assoc, append-nil, length-append}
 use Rattle.std.specs.Prelude.{codes}
 use Rattle.std.specs.Io.KnownBytes.{Keeps, Appends}
-use Rattle.std.proofs.KnownBytes.{Appends-trans}
+use Rattle.std.proofs.KnownBytes.{Appends-kept, Appends-trans}
 use Rattle.std.proofs.lemmas.List.{take-append-drop}
 use Rattle.std.proofs.Math.Seq.{take-append-add}
 use Rattle.sgf_tree.specs.Tree.{Games}
@@ -66,15 +66,9 @@ row_flushed row old now new u h f = record {
 pub row_not_flushed : {A : Type 0} (row : List ℕ) (old now new : SinkState) → Appends old.taken now.taken row → TakesNothing now new → IsWriting {A = A} row old new (Err (Write 0))
 row_not_flushed row old now new h f = record {
   taken = row;
-  takes = kept old.taken now.taken new.taken row h f.taken;
+  takes = Appends-kept old.taken now.taken new.taken row h f.taken;
   answers = (refl, ([], sym (append-nil row)));
 }
-  where
-    kept : (a b c : Option (List ℕ)) (bs : List ℕ) → Appends a b bs → Keeps b c → Appends a c bs
-    kept None b c bs p q = tt
-    kept (Some x) None c bs p q = absurd p
-    kept (Some x) (Some y) None bs p q = absurd q
-    kept (Some x) (Some y) (Some z) bs p q = q ∙ p
 
 -- two pieces are put as one
 pub both_put : {B F : Type 0} (old now new : SinkState) (first second : List ℕ) (result : Result B F) → Appends old.taken now.taken first → now.failures ≡ old.failures

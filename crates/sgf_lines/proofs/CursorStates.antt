@@ -10,11 +10,12 @@ use Rattle.sgf_tree.specs.FileOrder.{IsLeaf}
 use Rattle.sgf_lines.specs.Paths.{Path, paths, leaf_of}
 use Rattle.sgf_lines.specs.inner.PathTo.{IsPathTo, top}
 use Rattle.sgf_lines.specs.inner.Standing.{lines_before}
+use Rattle.sgf_tree.proofs.Rises.{Rises, rises-get, rises-pair}
 use Rattle.sgf_lines.proofs.Lists.{each_get}
 use Rattle.sgf_lines.proofs.Standing.{stands_whole}
 use Rattle.sgf_lines.proofs.Climbing.{one_way}
 use Rattle.sgf_lines.proofs.PathsTo.{IsDescent, each_path}
-use Rattle.sgf_lines.proofs.Leaves.{Rises, leaves, leaves_rise, leaves_of_paths, covered}
+use Rattle.sgf_lines.proofs.Leaves.{leaves, leaves_rise, leaves_of_paths, covered}
 
 -- how many numbers at the front are below n
 abbrev count_below : ℕ → List ℕ → ℕ
@@ -27,32 +28,13 @@ below_first n low high (m ∷ ms) r le = rw (le-ltb m n (omega (arith, r.0))) re
 below_next : (n low high : ℕ) (m : ℕ) (ms : List ℕ) → m < n → count_below n (m ∷ ms) ≡ 1 + count_below n ms
 below_next n low high m ms lt = rw (lt-ltb m n lt) refl
 
-rises_above : (low high : ℕ) (ms : List ℕ) (k i : ℕ) → Rises low ms high → slice_get ms k ≡ Some i → low ≤ i
-rises_above low high [] k i r e = absurd cc
-rises_above low high (m ∷ ms) zero i r e = let same : m ≡ i = cc in omega (arith, r.0)
-rises_above low high (m ∷ ms) (suc k) i r e = omega (arith, r.0, rises_above (m + 1) high ms k i r.1 e)
-
-rises_under : (low high : ℕ) (ms : List ℕ) (k i : ℕ) → Rises low ms high → slice_get ms k ≡ Some i → i < high
-rises_under low high [] k i r e = absurd cc
-rises_under low high (m ∷ ms) zero i r e = let same : m ≡ i = cc in omega (arith, rises_ends (m + 1) high ms r.1)
-  where
-    rises_ends : (low high : ℕ) (ms : List ℕ) → Rises low ms high → low ≤ high
-    rises_ends low high [] r = r
-    rises_ends low high (m ∷ ms) r = omega (arith, r.0, rises_ends (m + 1) high ms r.1)
-rises_under low high (m ∷ ms) (suc k) i r e = rises_under (m + 1) high ms k i r.1 e
-
-rises_pair : (low high : ℕ) (ms : List ℕ) (k i j : ℕ) → Rises low ms high → slice_get ms k ≡ Some i → slice_get ms (suc k) ≡ Some j → i < j
-rises_pair low high [] k i j r e f = absurd cc
-rises_pair low high (m ∷ ms) zero i j r e f = let same : m ≡ i = cc in omega (arith, rises_above (m + 1) high ms 0 j r.1 f)
-rises_pair low high (m ∷ ms) (suc k) i j r e f = rises_pair (m + 1) high ms k i j r.1 e f
-
 -- the numbers below n are those before the first one from n on
 below_at : (n low high : ℕ) (ms : List ℕ) (k i : ℕ) → Rises low ms high → slice_get ms k ≡ Some i → n ≤ i
     → ((j x : ℕ) → slice_get ms j ≡ Some x → n ≤ x → i ≤ x) → count_below n ms ≡ k
 below_at n low high [] k i r e le first = absurd cc
 below_at n low high (m ∷ ms) zero i r e le first = let same : m ≡ i = cc in rw (le-ltb m n (omega arith)) refl
 below_at n low high (m ∷ ms) (suc k) i r e le first =
-    let above = rises_above (m + 1) high ms k i r.1 e in
+    let above = (rises-get (m + 1) high ms k i r.1 e).0 in
     elim (cases_lt m n) [
       | inl lt ↦
           let rest = below_at n (m + 1) high ms k i r.1 e le (λ j x got ge. first (suc j) x got ge) in
@@ -66,7 +48,7 @@ below_after low high (m ∷ ms) zero i r e =
     let same : m ≡ i = cc in
     below_next (i + 1) low high m ms (omega arith) ∙ ap (λ n. 1 + n) (below_first (i + 1) (m + 1) high ms r.1 (omega arith)) ∙ omega arith
 below_after low high (m ∷ ms) (suc k) i r e =
-    let above = rises_above (m + 1) high ms k i r.1 e in
+    let above = (rises-get (m + 1) high ms k i r.1 e).0 in
     let rest = below_after (m + 1) high ms k i r.1 e in
     below_next (i + 1) low high m ms (omega arith) ∙ omega arith
 
@@ -128,7 +110,7 @@ next_line c n i le lt leaf none =
 pub no_line_left : (c : Games) (n : ℕ) → ((j : ℕ) → n ≤ j → j < node_count c → IsLeaf c j → ⊥) → slice_get (paths c) (lines_before c n) ≡ None
 no_line_left c n none =
     let before : (j x : ℕ) → slice_get (leaves 0 c) j ≡ Some x → x < n = λ j x got.
-    let within = rises_under 0 (0 + node_count c) (leaves 0 c) j x (leaves_rise 0 c) got in
+    let within = (rises-get 0 (0 + node_count c) (leaves 0 c) j x (leaves_rise 0 c) got).1 in
     elim (cases_lt x n) [ inl lt ↦ lt | inr ge ↦ absurd (none x ge (omega arith) (each_is_leaf c j x got)) ] in
     let same : length (leaves 0 c) ≡ length (paths c) = ap length (sym (leaves_of_paths 1 0 c)) ∙ length-map (paths c) leaf_of in
     let count : lines_before c n ≡ length (paths c) = before_is c n ∙ below_all n (leaves 0 c) before ∙ same in
@@ -146,5 +128,5 @@ given_line c i numbers lt leaf up =
 -- a later line ends at a greater number
 pub leaf_rises : (c : Games) (k : ℕ) (p q : Path) → slice_get (paths c) k ≡ Some p → slice_get (paths c) (suc k) ≡ Some q → leaf_of p < leaf_of q
 leaf_rises c k p q at next =
-    rises_pair 0 (0 + node_count c) (leaves 0 c) k (leaf_of p) (leaf_of q) (leaves_rise 0 c) (leaf_at c k ∙ ap (λ o. option_map leaf_of o) at)
+    rises-pair 0 (0 + node_count c) (leaves 0 c) k (suc k) (leaf_of p) (leaf_of q) (leaves_rise 0 c) (omega arith) (leaf_at c k ∙ ap (λ o. option_map leaf_of o) at)
     (leaf_at c (suc k) ∙ ap (λ o. option_map leaf_of o) next)

@@ -14,6 +14,7 @@ use Rattle.go_board.specs.Point.{points, point_at}
 use Rattle.go_board.specs.Grid.{Grid, cell_at}
 use Rattle.sgf_tree.specs.Tree.{Node}
 use Rattle.go_board.specs.State.{State}
+use Rattle.go_board.proofs.PointLemmas.{IsOn-point_at, index_of-point_at, slice_get-points}
 use Rattle.sgf_lines.specs.NodeContents.{Stones, moves, stones}
 use Rattle.sgf_lines.specs.Script.{comment_rows, play_command, stone_commands, colouring_commands, setup_commands, move_commands, node_script}
 use Rattle.sgf_lines.specs.inner.Cutting.{commands_at}
@@ -34,22 +35,9 @@ lines_of_points g k (p ∷ ps) =
 pub stones-by_point : (g : Grid) (k : Colour) → flat_map (commands_at g k) (points g.side) ≡ stone_commands g k
 stones-by_point g k = sym (lines_of_points g k (points g.side))
 
-range-get : (a n i : ℕ) → i < n → slice_get (range_with_len a n) i ≡ Some (a + i)
-range-get a zero i lt = absurd (omega arith)
-range-get a (suc n) zero lt = ap Some (omega arith)
-range-get a (suc n) (suc i) lt = let more : a + 1 + i ≡ a + suc i = omega arith in range-get (a + 1) n i (omega arith) ∙ ap Some more
-
-nothing_more : (i : ℕ) → 0 + i ≡ i
-nothing_more i = omega arith
-
 -- the points in their order
 pub points-get : (side i : ℕ) → i < side * side → slice_get (points side) i ≡ Some (point_at side i)
-unfolding points
-points-get side i lt = slice_get-map (point_at side) (range_with_len 0 (side * side)) i ∙ ap (option_map (point_at side)) (range-get 0 (side * side) i lt) ∙ ap (λ n. Some (point_at side n)) (nothing_more i)
-
-pub length-points : (side : ℕ) → length (points side) ≡ side * side
-unfolding points
-length-points side = length-map (range_with_len 0 (side * side)) (point_at side) ∙ length-range_with_len 0 (side * side)
+points-get side i lt = (slice_get-points side i (point_at side i)).1 (IsOn-point_at side i lt, sym (index_of-point_at side i lt))
 
 -- two and three texts, appended one after another
 pub joins_two : {E : Type 0} (r : Result (Unit {0}) E) (old mid new a b : List ℕ) → mid ≡ old ++ a → OnOk r (new ≡ mid ++ b) → OnOk r (new ≡ old ++ (a ++ b))

@@ -13,13 +13,14 @@ use Rattle.sgf_lines.specs.Cursor.{CursorState}
 use Rattle.sgf_lines.specs.inner.PathTo.{IsPathTo, top, step, IsNextLeaf}
 use Rattle.sgf_lines.specs.inner.Standing.{lines_before, IsAfterLeaf}
 use Rattle.sgf_lines.specs.inner.Following.{first_after, Continues, numbers_before, path_before, IsCutBack}
-use Rattle.sgf_lines.proofs.Lists.{split_get, get_left, get_right}
-use Rattle.sgf_lines.proofs.Parents.{parent_before}
+use Rattle.sgf_tree.proofs.Lists.{slice_get-right}
+use Rattle.sgf_lines.proofs.Lists.{split_get, get_left}
+use Rattle.sgf_tree.proofs.OrderedNodes.{parent_at-lt}
 use Rattle.sgf_lines.proofs.Climbing.{one_way, last-way, last_number-append}
 use Rattle.sgf_lines.proofs.PathsTo.{last_number-range}
-use Rattle.sgf_lines.proofs.Loops.{above_of}
+use Rattle.sgf_lines.proofs.Loops.{above_of, none_above}
 use Rattle.sgf_lines.proofs.CursorStates.{before_none, next_line, given_line}
-use Rattle.sgf_lines.proofs.Following.{paths_follow, head_continues, next_continues}
+use Rattle.sgf_lines.proofs.Following.{paths_follow, head_continues, next_continues, own_range}
 use Rattle.sgf_lines.proofs.Shows.{before}
 use Rattle.sgf_lines.proofs.Sought.{stands_after}
 
@@ -62,10 +63,7 @@ path_length top i e = absurd cc
 path_length {c = c} (step {number = j} {parent = None} {above = above} e top is) i f = omega (arith, ap length is)
 path_length {c = c} (step {number = j} {parent = Some p} {above = above} e up is) i f =
     let same : j ≡ i = cc in
-    omega (arith, ap length is, length-append above (j ∷ []), path_length up p refl, parent_before c j p e)
-
-none_above : {c : Games} {way : List ℕ} → IsPathTo c None way → way ≡ []
-none_above top = refl
+    omega (arith, ap length is, length-append above (j ∷ []), path_length up p refl, parent_at-lt c j p e)
 
 last_node : {c : Games} {x : ℕ} {way : List ℕ} → IsPathTo c (Some x) way → (above : List ℕ) × (way ≡ above ++ x ∷ [])
 last_node (step {above = above} e up is) = (above, is)
@@ -136,7 +134,7 @@ module _ (c : Games) (next : ℕ) (path : List ℕ) (stands : IsAfterLeaf c next
   same_cut (Some x) r k le way cut =
       let f = last_node way in
       let length_is : length f.0 + 1 ≡ k = omega (arith, ap length f.1, length-append f.0 (x ∷ []), length-take-le k path le) in
-      let front : slice_get (take k path) (length f.0) ≡ Some x = ap (λ ns. slice_get ns (length f.0)) f.1 ∙ get_right f.0 (x ∷ []) (length f.0) 0 (omega arith) in
+      let front : slice_get (take k path) (length f.0) ≡ Some x = ap (λ ns. slice_get ns (length f.0)) f.1 ∙ slice_get-right f.0 (x ∷ []) (length f.0) 0 (omega arith) in
       let here : slice_get path (length f.0) ≡ Some x = subst (λ ns. slice_get ns (length f.0) ≡ Some x) (take-append-drop k path) (get_left (take k path) (drop k path) (length f.0) x front) in
       let past : length f.0 < r = elim (cases_lt (length f.0) r) [ inl lt ↦ lt | inr ge ↦ absurd (cut.1 (length f.0) ge (omega arith) here) ] in
       let whole = some_way next refl (omega arith) in
@@ -173,7 +171,7 @@ module _ (c : Games) (next : ℕ) (path : List ℕ) (stands : IsAfterLeaf c next
       let front_length = length-take-le k path le in
       let own : range_with_len next (more + 1) ≡ next ∷ range_with_len (next + 1) more = own_range next more in
       let is : q.numbers ≡ front ++ next ∷ range_with_len (next + 1) more = q.continues.new_is ∙ ap (λ n. front ++ range_with_len n (more + 1)) first_is ∙ ap (λ ns. front ++ ns) own in
-      let here : slice_get q.numbers k ≡ Some next = ap (λ ns. slice_get ns k) is ∙ get_right front (next ∷ range_with_len (next + 1) more) k 0 (omega (arith, front_length)) in
+      let here : slice_get q.numbers k ≡ Some next = ap (λ ns. slice_get ns k) is ∙ slice_get-right front (next ∷ range_with_len (next + 1) more) k 0 (omega (arith, front_length)) in
       let cut_is : take (k + 1) q.numbers ≡ front ++ next ∷ [] =
       ap (λ ns. take (k + 1) ns) is ∙ ap (λ n. take (n + 1) (front ++ next ∷ range_with_len (next + 1) more)) (sym front_length)
       ∙ take-append-add front (next ∷ range_with_len (next + 1) more) 1 in
@@ -189,9 +187,6 @@ module _ (c : Games) (next : ℕ) (path : List ℕ) (stands : IsAfterLeaf c next
         continues = λ new e. rw same (subst (Continues path k) (sym (new_is new e)) q.continues);
         up = λ new e. subst (IsPathTo c (Some leaf)) (sym (new_is new e)) q.up;
       }
-    where
-      own_range : (at more : ℕ) → range_with_len at (more + 1) ≡ at ∷ range_with_len (at + 1) more
-      own_range at more = let one : more + 1 ≡ suc more = omega arith in rw one refl
 
   pub stands_next : (leaf r : ℕ) → IsNextLeaf c next leaf → IsMade leaf r → (new : List ℕ) → new ≡ take r path ++ range_with_len next (leaf + 1 - next) → IsAfterLeaf c (leaf + 1) new
   stands_next leaf r h m new e = stands_after c leaf new h.within h.is_leaf (m.up new e)

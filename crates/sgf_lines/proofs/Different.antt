@@ -2,15 +2,12 @@
 use Rattle.std.proofs.Common.{◌≡◌, ℕ, ◌+◌, ◌<◌, ◌≤◌, Bool, true, false, cond, List, [], ◌∷◌, ◌++◌, ◌⊎◌, inl, inr, refl, sym, ap, ◌∙◌, arith}
 use Rattle.std.specs.Prelude.{filter, ◌==◌, ◌||◌, if◌then◌else◌}
 use Rattle.std.specs.List.{list_any}
-use Rattle.std.proofs.lemmas.Bool.{ne_eqb, eqb-true, eq-eqb}
+use Rattle.std.proofs.Math.Bool.{or-true}
+use Rattle.std.proofs.lemmas.Bool.{ne_eqb, eqb-true, eq-eqb, cases_Bool}
 use Rattle.std.proofs.lemmas.List.Folds.{list_any-append}
 use Rattle.std.proofs.lemmas.List.Elements.{filter-append}
 use Rattle.sgf_lines.specs.Plays.{differ, different}
 use Rattle.sgf_lines.proofs.Lists.{Each, each_weaker}
-
-bool_cases : (b : Bool) → (b ≡ true) ⊎ (b ≡ false)
-bool_cases true = inl refl
-bool_cases false = inr refl
 
 -- whether a number stands in a list
 abbrev pub has : List ℕ → ℕ → Bool
@@ -24,7 +21,7 @@ filter_both : (p q r : ℕ → Bool) → ((n : ℕ) → r n ≡ cond (q n) (p n)
 filter_both p q r h [] = refl
 filter_both p q r h (n ∷ l) =
     let rest = filter_both p q r h l in
-    elim (bool_cases (q n)) [
+    elim (cases_Bool (q n)) [
       | inl holds ↦
           let same : r n ≡ p n = h n ∙ ap (λ b. cond b (p n) false) holds in
           rw (holds, same) (ap (λ ns. cond (p n) (n ∷ ns) ns) rest)
@@ -45,7 +42,7 @@ each_filter : (P : ℕ → Type 0) (p : ℕ → Bool) (l : List ℕ) → Each P 
 each_filter P p [] h = tt
 each_filter P p (n ∷ l) h =
     let rest = each_filter P p l h.1 in
-    elim (bool_cases (p n)) [ inl holds ↦ rw holds (h.0, rest) | inr fails ↦ rw fails rest ]
+    elim (cases_Bool (p n)) [ inl holds ↦ rw holds (h.0, rest) | inr fails ↦ rw fails rest ]
 
 each_different : (P : ℕ → Type 0) (l : List ℕ) → Each P l → Each P (different l)
 each_different P [] h = tt
@@ -116,7 +113,7 @@ more_different xs old fresh low there below rise =
   where
     below_of : (ys : List ℕ) (n : ℕ) → Each (λ x. x < low) ys → has ys n ≡ true → n < low
     below_of [] n h e = absurd cc
-    below_of (y ∷ ys) n h e = elim (bool_cases (y == n)) [
+    below_of (y ∷ ys) n h e = elim (cases_Bool (y == n)) [
       | inl holds ↦ let same : y ≡ n = eqb-true y n holds in rw same at h.0
       | inr fails ↦ below_of ys n h.1 (rw fails at e)
     ]
@@ -132,11 +129,7 @@ pub has_left : (xs ys : List ℕ) (n : ℕ) → has xs n ≡ true → has (xs ++
 has_left xs ys n h = has-append xs ys n ∙ ap (λ b. b || has ys n) h
 
 pub has_right : (xs ys : List ℕ) (n : ℕ) → has ys n ≡ true → has (xs ++ ys) n ≡ true
-has_right xs ys n h = has-append xs ys n ∙ ap (λ b. has xs n || b) h ∙ or_true (has xs n)
-  where
-    or_true : (b : Bool) → (b || true) ≡ true
-    or_true true = refl
-    or_true false = refl
+has_right xs ys n h = has-append xs ys n ∙ ap (λ b. has xs n || b) h ∙ or-true (has xs n)
 
 pub each_has : (xs : List ℕ) → Each (λ n. has xs n ≡ true) xs
 each_has [] = tt

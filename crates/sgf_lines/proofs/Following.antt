@@ -33,7 +33,7 @@ range_more first node le =
     let count : node - first + 1 ≡ node + 1 - first = omega arith in
     ap (λ n. range_with_len first (node - first) ++ n ∷ []) (sym here) ∙ range_append first (node - first) 1 ∙ ap (range_with_len first) count
 
-own_range : (at more : ℕ) → range_with_len at (more + 1) ≡ at ∷ range_with_len (at + 1) more
+pub own_range : (at more : ℕ) → range_with_len at (more + 1) ≡ at ∷ range_with_len (at + 1) more
 own_range at more = let one : more + 1 ≡ suc more = omega arith in rw one refl
 
 prefix_each : (above own : List ℕ) (ls : List (List ℕ)) → map (λ l. above ++ l) (map (λ l. own ++ l) ls) ≡ map (λ l. (above ++ own) ++ l) ls

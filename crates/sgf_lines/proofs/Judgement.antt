@@ -9,7 +9,7 @@ use Rattle.sgf_lines.specs.declared.verdict.Verdict.TheVariants.{Illegal}
 use Rattle.sgf_lines.specs.Step.{step}
 use Rattle.sgf_lines.specs.Walk.{Walk, before_root, next, walk, IsAfter, no_node, one_node, HasIllegal}
 use Rattle.sgf_lines.specs.Verdict.{verdict_at, score_in}
-use Rattle.sgf_lines.proofs.Walking.{StandsAfter, goes_on, next_is, ends_at, after_illegal}
+use Rattle.sgf_lines.proofs.Walking.{StandsAfter, scores_there, goes_on, next_is, ends_at, after_illegal}
 
 goes_along : {s u : State} {ns : List Node} → IsAfter s ns u → (w : Walk) → StandsAfter w s → StandsAfter (fold next w ns) u
 goes_along no_node w h = h
@@ -19,10 +19,7 @@ at_beginning : (side : ℕ) → StandsAfter (before_root side) (starting side)
 at_beginning side = record { no_illegal = refl; state = refl }
 
 pub scores : (side : ℕ) (nodes : List Node) (s : State) → IsAfter (starting side) nodes s → verdict_at (walk side nodes) ≡ score_in s
-scores side nodes s h = by (walk side nodes) (goes_along h (before_root side) (at_beginning side))
-  where
-    by : (w : Walk) → StandsAfter w s → verdict_at w ≡ score_in s
-    by w g = rw (g.no_illegal, g.state)
+scores side nodes s h = scores_there (walk side nodes) s (goes_along h (before_root side) (at_beginning side))
 
 pub refuses : (side : ℕ) (before after : List Node) (n : Node) (s : State) (reason : Reason) → IsAfter (starting side) before s → step s n ≡ Err reason
     → verdict_at (walk side (before ++ n ∷ after)) ≡ Illegal (s.turns + 1) n.place reason

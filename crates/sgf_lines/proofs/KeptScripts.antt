@@ -3,8 +3,8 @@ use Rattle.std.proofs.Common.{◌≡◌, ◌⊎◌, ℕ, ◌+◌, ◌<◌, ◌�
 use Rattle.std.specs.Prelude.{fold, nat_lt}
 use Rattle.std.specs.List.{flat_map, list_any}
 use Rattle.std.proofs.Math.Seq.{take-append_seam}
-use Rattle.std.proofs.lemmas.Bool.{cases_lt, lt-ltb, le-ltb}
-use Rattle.std.proofs.lemmas.List.{take-append-le, take-append-drop, take_all, length-take-le}
+use Rattle.std.proofs.lemmas.Bool.{cases_lt, lt-ltb, le-ltb, or_left, or_parts}
+use Rattle.std.proofs.lemmas.List.{take-take, take-append-le, take-append-drop, take_all, length-take-le}
 use Rattle.std.proofs.lemmas.List.Folds.{list_any-append}
 use Rattle.std.proofs.lemmas.List.Sums.{fold-append}
 use Rattle.std.proofs.lemmas.Grind.{flat_map-append}
@@ -20,11 +20,7 @@ use Rattle.sgf_lines.specs.declared.commands.Commands.{Commands}
 use Rattle.sgf_lines.specs.inner.Kept.{IsKeptText}
 use Rattle.sgf_lines.specs.inner.KeptCommands.{if_lettered, lettered_script, commands_text, some_unreaching, IsFirstUnreaching, AreCommands, first_unreaching, unreaching_before, commands_kept}
 use Rattle.sgf_lines.proofs.KeptTexts.{kept_on}
-use Rattle.sgf_lines.proofs.Commanding.{extends, or_true}
-
-or_false : (a b : Bool) → (a || b) ≡ false → a ≡ false
-or_false true b e = absurd cc
-or_false false b e = refl
+use Rattle.sgf_lines.proofs.Commanding.{extends}
 
 -- where each stone of the setups reaches empty, so it does in a front
 whole_is : (side k : ℕ) (nodes : List Node) → walk side nodes ≡ fold next (walk side (take k nodes)) (drop k nodes)
@@ -37,14 +33,10 @@ any_is side k nodes =
     (more.0, ap (λ (w : Walk). list_any leaves_unreaching w.taken) (whole_is side k nodes) ∙ ap (list_any leaves_unreaching) more.1 ∙ list_any-append leaves_unreaching front.taken more.0)
 
 front_reaching : (side k : ℕ) (nodes : List Node) → some_unreaching side nodes ≡ false → some_unreaching side (take k nodes) ≡ false
-front_reaching side k nodes e = let any = any_is side k nodes in or_false (some_unreaching side (take k nodes)) (list_any leaves_unreaching any.0) (sym any.1 ∙ e)
+front_reaching side k nodes e = let any = any_is side k nodes in (or_parts (some_unreaching side (take k nodes)) (list_any leaves_unreaching any.0) (sym any.1 ∙ e)).0
 
 whole_unreaching : (side k : ℕ) (nodes : List Node) → some_unreaching side (take k nodes) ≡ true → some_unreaching side nodes ≡ true
-whole_unreaching side k nodes e = let any = any_is side k nodes in any.1 ∙ or_true (some_unreaching side (take k nodes)) (list_any leaves_unreaching any.0) e
-
-shorter : (nodes : List Node) (i k : ℕ) → i ≤ k → k ≤ length nodes → take i (take k nodes) ≡ take i nodes
-shorter nodes i k le within =
-    sym (ap (take i) (sym (take-append-drop k nodes)) ∙ take-append-le i (take k nodes) (drop k nodes) (omega (arith, length-take-le k nodes within)))
+whole_unreaching side k nodes e = let any = any_is side k nodes in any.1 ∙ or_left (some_unreaching side (take k nodes)) (list_any leaves_unreaching any.0) e
 
 -- back to the first `kept` nodes
 pub commands_back : (side : ℕ) (nodes : List Node) (old : Commands) (kept : ℕ) (new : KeptText) → AreCommands side nodes old → kept ≤ length nodes → IsKeptText (commands_text side) (take kept nodes) new
@@ -53,13 +45,13 @@ commands_back side nodes old kept new h le texts = record { kept = texts; unreac
   where
     by_order : (i : ℕ) → IsFirstUnreaching side nodes (Some i) → (i < kept) ⊎ (kept ≤ i) → IsFirstUnreaching side (take kept nodes) (unreaching_before (Some i) kept)
     by_order i first (inl lt) =
-        let early : take i (take kept nodes) ≡ take i nodes = shorter nodes i kept (omega arith) le in
-        let late : take (i + 1) (take kept nodes) ≡ take (i + 1) nodes = shorter nodes (i + 1) kept (omega arith) le in
+        let early : take i (take kept nodes) ≡ take i nodes = take-take i kept nodes (omega arith) in
+        let late : take (i + 1) (take kept nodes) ≡ take (i + 1) nodes = take-take (i + 1) kept nodes (omega arith) in
         let there : IsFirstUnreaching side (take kept nodes) (Some i) =
         (omega (arith, length-take-le kept nodes le), ap (some_unreaching side) early ∙ first.1, ap (some_unreaching side) late ∙ first.2) in
         subst (λ b. IsFirstUnreaching side (take kept nodes) (cond b (Some i) None)) (sym (lt-ltb i kept lt)) there
     by_order i first (inr ge) =
-        let early : take kept (take i nodes) ≡ take kept nodes = shorter nodes kept i ge (omega (arith, first.0)) in
+        let early : take kept (take i nodes) ≡ take kept nodes = take-take kept i nodes ge in
         let there : some_unreaching side (take kept nodes) ≡ false = ap (some_unreaching side) (sym early) ∙ front_reaching side kept (take i nodes) first.1 in
         subst (λ b. IsFirstUnreaching side (take kept nodes) (cond b (Some i) None)) (sym (le-ltb i kept ge)) there
 

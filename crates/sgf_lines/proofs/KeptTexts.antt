@@ -9,7 +9,7 @@ use Rattle.sgf_tree.specs.Tree.{Node}
 use Rattle.sgf_lines.specs.Record.{node_text, sgf_record}
 use Rattle.sgf_lines.specs.declared.kept.KeptText.{KeptText}
 use Rattle.sgf_lines.specs.inner.Kept.{IsKeptText, IsKeptRecord, open_game}
-use Rattle.sgf_lines.proofs.Played.{pushed}
+use Rattle.sgf_tree.proofs.Lists.{slice_get-pushed}
 
 module _ (text_of : List Node → List ℕ) (nodes : List Node) (old new : KeptText) (h : IsKeptText text_of nodes old) where
   -- one node more
@@ -42,9 +42,9 @@ module _ (text_of : List Node → List ℕ) (nodes : List Node) (old new : KeptT
     kept_on = record {
       text = text ∙ ap (λ t. t ++ more) h.text ∙ sym is;
       count = omega (arith, ap length starts, length-append old.starts.items (length old.text.items ∷ []), h.count, length-append nodes (n ∷ []));
-      within = λ i start e. omega (arith, long, stays_within i start (pushed old.starts.items (length old.text.items) start i (rw starts at e)));
-      starts = λ i start e. leads_back i start (pushed old.starts.items (length old.text.items) start i (rw starts at e));
-      order = λ i j early late le e f. in_order i j early late le (pushed old.starts.items (length old.text.items) early i (rw starts at e)) (pushed old.starts.items (length old.text.items) late j (rw starts at f));
+      within = λ i start e. omega (arith, long, stays_within i start (slice_get-pushed old.starts.items (length old.text.items) start i (rw starts at e)));
+      starts = λ i start e. leads_back i start (slice_get-pushed old.starts.items (length old.text.items) start i (rw starts at e));
+      order = λ i j early late le e f. in_order i j early late le (slice_get-pushed old.starts.items (length old.text.items) early i (rw starts at e)) (slice_get-pushed old.starts.items (length old.text.items) late j (rw starts at f));
     }
 
 -- the text of one node more

@@ -7,7 +7,9 @@ use Rattle.sgf_tree.specs.Tree.{Node, Games, no_games, game, node_count}
 use Rattle.sgf_tree.specs.FileOrder.{OrderedNode, further_nodes, IsLeaf}
 use Rattle.sgf_lines.specs.Lines.{through, last_number}
 use Rattle.sgf_lines.specs.Paths.{number_lines, paths_of_game, paths_from, leaf_of}
-use Rattle.sgf_lines.proofs.Lists.{Each, each_append, each_through, get_left, get_right}
+use Rattle.sgf_tree.proofs.Lists.{slice_get-right}
+use Rattle.sgf_tree.proofs.Rises.{Rises, rises-low, rises-append}
+use Rattle.sgf_lines.proofs.Lists.{Each, each_append, each_through, get_left}
 use Rattle.sgf_lines.proofs.Standing.{StandsAt, Stands, stands_get, stands_own, stands_below, stands_after, first_ordered}
 use Rattle.sgf_lines.proofs.Climbing.{last_number-append}
 use Rattle.sgf_lines.proofs.PathsTo.{last_number-range}
@@ -24,22 +26,9 @@ leaves at (game first more below after) =
     let last = at + length more in
     leaves_or last (leaves (last + 1) below) ++ leaves (last + 1 + node_count below) after
 
--- the numbers rise strictly, from low on and below high
-abbrev pub Rises : ℕ → List ℕ → ℕ → Type 0
-Rises low [] high = low ≤ high
-Rises low (n ∷ ns) high = (low ≤ n) × Rises (n + 1) ns high
-
-pub rises_lower : (a b : ℕ) (ns : List ℕ) (c : ℕ) → a ≤ b → Rises b ns c → Rises a ns c
-rises_lower a b [] c le r = omega arith
-rises_lower a b (n ∷ ns) c le r = (omega arith, r.1)
-
-rises_append : (a b c : ℕ) (ns ms : List ℕ) → Rises a ns b → Rises b ms c → Rises a (ns ++ ms) c
-rises_append a b c [] ms r s = rises_lower a b ms c r s
-rises_append a b c (n ∷ ns) ms r s = (r.0, rises_append (n + 1) b c ns ms r.1 s)
-
 rises_or : (at last end : ℕ) (ns : List ℕ) → at ≤ last → Rises (last + 1) ns end → Rises at (leaves_or last ns) end
 rises_or at last end [] le r = (le, r)
-rises_or at last end (n ∷ ns) le r = rises_lower at (last + 1) (n ∷ ns) end (omega arith) r
+rises_or at last end (n ∷ ns) le r = rises-low at (last + 1) (n ∷ ns) end (omega arith) r
 
 pub leaves_rise : (at : ℕ) (g : Games) → Rises at (leaves at g) (at + node_count g)
 leaves_rise at no_games = omega arith
@@ -48,7 +37,7 @@ leaves_rise at (game first more below after) =
     let next = last + 1 + node_count below in
     let sums : next + node_count after ≡ at + node_count (game first more below after) = omega arith in
     let all : Rises at (leaves_or last (leaves (last + 1) below) ++ leaves next after) (next + node_count after) =
-    rises_append at next (next + node_count after) (leaves_or last (leaves (last + 1) below)) (leaves next after)
+    rises-append at next (next + node_count after) (leaves_or last (leaves (last + 1) below)) (leaves next after)
     (rises_or at last next (leaves (last + 1) below) (omega arith) (leaves_rise (last + 1) below)) (leaves_rise next after) in
     rw sums at all
 
@@ -157,7 +146,7 @@ covered c (game first more below after) at parent h i le lt leaf =
               in_front (f.0, get_or_leaves last (leaves (last + 1) below) f.0 i f.1)
           | inr past ↦
               let f = covered c after next parent (stands_after c at parent first more below after h) i past (omega arith) leaf in
-              (length front + f.0, get_right front back (length front + f.0) f.0 refl ∙ f.1)
+              (length front + f.0, slice_get-right front back (length front + f.0) f.0 refl ∙ f.1)
         ]
       ]
     ]

@@ -12,7 +12,8 @@ use Rattle.sgf_lines.specs.Paths.{Path, paths, leaf_of}
 use Rattle.sgf_lines.specs.inner.Standing.{lines_before}
 use Rattle.sgf_lines.proofs.Lists.{each_get}
 use Rattle.sgf_lines.proofs.PathsTo.{IsDescent, each_path}
-use Rattle.sgf_lines.proofs.Leaves.{Rises, leaves, leaves_rise, leaves_of_paths}
+use Rattle.sgf_tree.proofs.Rises.{Rises}
+use Rattle.sgf_lines.proofs.Leaves.{leaves, leaves_rise, leaves_of_paths}
 use Rattle.sgf_lines.proofs.Named.{length-paths}
 use Rattle.sgf_lines.proofs.CursorStates.{next_line, no_line_left}
 use Rattle.sgf_lines.proofs.Pages.{get_none}

@@ -1,6 +1,9 @@
 -- Lists: an element of two lists joined, and facts of each element by recursion.
-use Rattle.std.proofs.Common.{◌≡◌, ℕ, zero, suc, ◌+◌, ◌<◌, List, [], ◌∷◌, ◌++◌, length, map, slice_get, Some, ◌⊎◌, inl, inr, refl, ap, arith}
-use Rattle.std.specs.List.{AllByRecursion}
+use Rattle.std.proofs.Common.{◌≡◌, ℕ, zero, suc, ◌+◌, ◌<◌, ◌≤◌, List, [], ◌∷◌, ◌++◌, length, map, take, slice_get, Some, ◌⊎◌, inl, inr, refl, ap, ◌∙◌, arith}
+use Rattle.std.specs.List.{AllByRecursion, range_with_len}
+use Rattle.std.proofs.lemmas.List.{take_more}
+use Rattle.std.proofs.lemmas.Option.{slice_get_within, get_or_from_slice_get}
+use Rattle.sgf_tree.proofs.Lists.{slice_get-left}
 use Rattle.sgf_lines.specs.Lines.{through}
 
 -- an element of two lists joined stands in the first or in the second
@@ -12,14 +15,11 @@ split_get (x ∷ xs) ys (suc k) y e =
     elim (split_get xs ys k y e) [ inl h ↦ inl h | inr h ↦ inr (h.0, omega arith, h.2) ]
 
 pub get_left : {A : Type 0} (xs ys : List A) (k : ℕ) (y : A) → slice_get xs k ≡ Some y → slice_get (xs ++ ys) k ≡ Some y
-get_left [] ys k y e = absurd cc
-get_left (x ∷ xs) ys zero y e = e
-get_left (x ∷ xs) ys (suc k) y e = get_left xs ys k y e
+get_left xs ys k y e = slice_get-left xs ys k (slice_get_within xs k y e) ∙ e
 
-pub get_right : {A : Type 0} (xs ys : List A) (k j : ℕ) → k ≡ length xs + j → slice_get (xs ++ ys) k ≡ slice_get ys j
-get_right [] ys k j e = let same : k ≡ j = omega arith in ap (λ i. slice_get ys i) same
-get_right (x ∷ xs) ys zero j e = absurd (omega arith)
-get_right (x ∷ xs) ys (suc k) j e = get_right xs ys k j (omega arith)
+-- one element more of a front
+pub front_more : {A : Type 0} (xs : List A) (i : ℕ) (x : A) → slice_get xs i ≡ Some x → take (i + 1) xs ≡ take i xs ++ x ∷ []
+front_more xs i x e = take_more xs i x (slice_get_within xs i x e) ∙ ap (λ y. take i xs ++ y ∷ []) (get_or_from_slice_get xs i x x e)
 
 -- each element has the property, by recursion on the list
 abbrev pub Each : {A : Type 0} → (A → Type 0) → List A → Type 0
@@ -52,3 +52,8 @@ pub element : {A : Type 0} (xs : List A) (k : ℕ) → k < length xs → (x : A)
 element [] k lt = absurd (omega arith)
 element (x ∷ xs) zero lt = (x, refl)
 element (x ∷ xs) (suc k) lt = element xs k (omega arith)
+
+-- each number of a range is below its end
+pub range_below : (next n end : ℕ) → next + n ≤ end → Each (λ i. i < end) (range_with_len next n)
+range_below next zero end le = tt
+range_below next (suc n) end le = (omega arith, range_below (next + 1) n end (omega arith))

@@ -5,7 +5,7 @@ use Rattle.std.proofs.lemmas.Grind.{drop-set_at}
 use Rattle.sgf_tree.specs.Tree.{Games, node_count}
 use Rattle.sgf_tree.specs.FileOrder.{parent_at, IsLeaf}
 use Rattle.sgf_lines.specs.inner.PathTo.{IsPathTo, top, step}
-use Rattle.sgf_lines.proofs.Parents.{parent_before}
+use Rattle.sgf_tree.proofs.OrderedNodes.{parent_at-lt}
 use Rattle.sgf_lines.proofs.Climbing.{one_way}
 use Rattle.sgf_lines.proofs.CursorStates.{next_line}
 
@@ -34,7 +34,7 @@ above_of {parent = q} (step {parent = p} {above = above} e up is) f = let same :
 
 pub lower : (c : Games) (n : ℕ) (parent : Option ℕ) → parent_at c n ≡ Some parent → height parent < n + 1
 lower c n None e = omega arith
-lower c n (Some m) e = omega (arith, parent_before c n m e)
+lower c n (Some m) e = omega (arith, parent_at-lt c n m e)
 
 module _ (c : Games) (leaf n : ℕ) (parent : Option ℕ) (h : IsClimb c leaf (Some n)) (e : parent_at c n ≡ Some parent) where
   abbrev pub climbs : IsClimb c leaf parent
@@ -78,7 +78,7 @@ pub height_goes_down : (c : Games) (n : ℕ) (current parent : Option ℕ) → c
 height_goes_down c n current parent is e = rw is (lower c n parent e)
 
 -- above the root no node of the way is left
-none_above : {c : Games} {way : List ℕ} → IsPathTo c None way → way ≡ []
+pub none_above : {c : Games} {way : List ℕ} → IsPathTo c None way → way ≡ []
 none_above top = refl
 
 pub counted_all : (c : Games) (leaf count : ℕ) (current : Option ℕ) → IsCounted c leaf current count → current ≡ None → (numbers : List ℕ) → IsPathTo c (Some leaf) numbers → count ≡ length numbers

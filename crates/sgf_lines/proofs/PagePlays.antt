@@ -8,7 +8,8 @@ use Rattle.sgf_lines.specs.Lines.{Line, lines}
 use Rattle.sgf_lines.specs.Page.{page, limited, lines_asked}
 use Rattle.sgf_lines.specs.Plays.{all_judged_places}
 use Rattle.sgf_lines.specs.declared.options.Options.{Options}
-use Rattle.sgf_lines.proofs.Lists.{get_left, get_right}
+use Rattle.sgf_tree.proofs.Lists.{slice_get-right}
+use Rattle.sgf_lines.proofs.Lists.{get_left}
 use Rattle.sgf_lines.proofs.PagesJoin.{tail_of, front_of}
 use Rattle.sgf_lines.proofs.PlayCounts.{plays_within}
 
@@ -24,5 +25,5 @@ page_plays c rise o ls e = by (lines_asked (lines c) o.after) refl e
         let whole : take (length ls) ls ≡ ls = take_all (length ls) ls (omega arith) in
         let stands : (k : ℕ) (line : Line) → slice_get ls k ≡ Some line → slice_get (lines c) (length b.0 + k) ≡ Some line =
         λ k line there. ap (λ xs. slice_get xs (length b.0 + k)) (b.1 ∙ ap (λ xs. b.0 ++ xs) f.1)
-        ∙ get_right b.0 (ls ++ f.0) (length b.0 + k) k refl ∙ get_left ls f.0 k line there in
+        ∙ slice_get-right b.0 (ls ++ f.0) (length b.0 + k) k refl ∙ get_left ls f.0 k line there in
         rw whole at (plays_within c rise (length b.0) ls stands (length ls) (omega arith))

@@ -46,11 +46,6 @@ get_none [] k e = omega arith
 get_none (x ∷ xs) zero e = absurd cc
 get_none (x ∷ xs) (suc k) e = omega (arith, get_none xs k e)
 
-pub get_some : {X : Type 0} (xs : List X) (k : ℕ) (x : X) → slice_get xs k ≡ Some x → k < length xs
-get_some [] k x e = absurd cc
-get_some (y ∷ xs) zero x e = omega arith
-get_some (y ∷ xs) (suc k) x e = omega (arith, get_some xs k x e)
-
 -- a limit that is not below the number of lines is none
 pub limited_is : (limit : Option ℕ) (most : ℕ) (ls : List Line) → length ls ≤ most → limited limit ls ≡ take (unwrap_or limit most) ls
 limited_is None most ls le = sym (take_all most ls le)

@@ -1,5 +1,6 @@
 -- The loop that writes the lines of a page, one record after the other.
 use Rattle.std.proofs.Common.{◌≡◌, ℕ, ◌+◌, ◌<◌, ◌≤◌, List, [], ◌++◌, length, take, drop, slice_get, Option, Some, None, Result, Ok, Err, refl, sym, ap, ◌∙◌, arith, append-nil}
+use Rattle.std.proofs.lemmas.Option.{slice_get_within}
 use Rattle.std.specs.Prelude.{unwrap_or}
 use Rattle.std.specs.Io.KnownBytes.{Appends}
 use Rattle.std.proofs.KnownBytes.{Appends-trans}
@@ -14,7 +15,7 @@ use Rattle.sgf_lines.specs.inner.Running.{WritesLines, HasRecord}
 use Rattle.sgf_lines.specs.declared.options.Form.{Form}
 use Rattle.sgf_lines.specs.declared.fault.RunFault.{RunFault}
 use Rattle.sgf_lines.specs.declared.fault.RunFault.TheVariants.{Write, Memory}
-use Rattle.sgf_lines.proofs.Pages.{get_dropped, get_taken, get_none, get_some, limited_is}
+use Rattle.sgf_lines.proofs.Pages.{get_dropped, get_taken, get_none, limited_is}
 use Rattle.sgf_lines.proofs.LineCounts.{lines_within}
 use Rattle.sgf_lines.proofs.Running.{one_more, cut_in}
 
@@ -46,7 +47,7 @@ module _ (form : Form) (c : Games) (first limit : ℕ) (old : SinkState) (k : �
       record {
         same = ap (λ p. p.games) r.goes_on ∙ h.same;
         index = ap (λ p. p.index) r.goes_on ∙ omega (arith, h.index);
-        within = omega (arith, get_some (page_from c first limit) k r.line there);
+        within = omega (arith, slice_get_within (page_from c first limit) k r.line there);
         takes = rw text (Appends-trans old.taken now.taken sink.taken (output form (take k (page_from c first limit))) bytes h.takes more);
         failures = failures ∙ h.failures;
       }

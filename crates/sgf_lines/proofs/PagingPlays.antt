@@ -1,5 +1,6 @@
 -- The loop that writes the lines of a page counts the nodes that are judged on them.
 use Rattle.std.proofs.Common.{◌≡◌, ℕ, zero, suc, ◌+◌, ◌-◌, ◌<◌, ◌≤◌, Bool, true, false, List, ◌++◌, length, take, drop, slice_get, Option, Some, Result, Ok, Err, inl, inr, refl, sym, ap, ◌∙◌, arith, add-one, length-append}
+use Rattle.std.proofs.lemmas.Option.{slice_get_within}
 use Rattle.std.specs.Prelude.{unwrap_or, filter}
 use Rattle.std.specs.List.{flat_map}
 use Rattle.std.proofs.Math.Seq.{take-add}
@@ -22,7 +23,7 @@ use Rattle.sgf_lines.specs.declared.fault.RunFault.TheVariants.{Write, Memory}
 use Rattle.sgf_lines.specs.inner.Following.{Continues, numbers_before}
 use Rattle.sgf_lines.specs.inner.Keeping.{IsShared, HasPlays, PlaysLine}
 use Rattle.sgf_lines.specs.inner.LinePlays.{PlaysLines}
-use Rattle.sgf_lines.proofs.Pages.{get_dropped, get_taken, get_some, limited_is}
+use Rattle.sgf_lines.proofs.Pages.{get_dropped, get_taken, limited_is}
 use Rattle.sgf_lines.proofs.LineCounts.{lines_within}
 use Rattle.sgf_lines.proofs.Different.{is_new, different-append}
 use Rattle.sgf_lines.proofs.PlayCounts.{first_plays, next_plays}
@@ -56,7 +57,7 @@ all_plays form ls k le = ap (plays_of form) (take_all k ls le)
 module _ (c : Games) (rise : PlacesRise c) (first limit : ℕ) where
   stands : (k : ℕ) (line : Line) → slice_get (page_from c first limit) k ≡ Some line → slice_get (lines c) (first + k) ≡ Some line
   stands k line e =
-      let lt : k < limit = omega (arith, get_some (page_from c first limit) k line e, length-take limit (drop first (lines c))) in
+      let lt : k < limit = omega (arith, slice_get_within (page_from c first limit) k line e, length-take limit (drop first (lines c))) in
       sym (get_taken (drop first (lines c)) limit k lt ∙ get_dropped (lines c) first k) ∙ e
 
   -- how many nodes a line shares with the one before it on the page

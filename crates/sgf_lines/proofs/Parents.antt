@@ -4,8 +4,10 @@ use Rattle.std.proofs.lemmas.Bool.{cases_lt}
 use Rattle.std.proofs.lemmas.Option.{slice_get_within}
 use Rattle.sgf_tree.specs.Tree.{Node, Games, no_games, game, node_count}
 use Rattle.sgf_tree.specs.FileOrder.{OrderedNode, further_nodes, nodes_from, ordered_nodes, parent_at, IsLeaf}
-use Rattle.sgf_lines.proofs.Lists.{split_get, get_right}
-use Rattle.sgf_lines.proofs.Standing.{Stands, stands_whole, stands_below, stands_after, first_ordered, length-further_nodes, length-nodes_from}
+use Rattle.sgf_tree.proofs.Lists.{slice_get-right}
+use Rattle.sgf_tree.proofs.OrderedNodes.{length-further_nodes, length-nodes_from, parent_at-lt}
+use Rattle.sgf_lines.proofs.Lists.{split_get}
+use Rattle.sgf_lines.proofs.Standing.{Stands, stands_whole, stands_below, stands_after, first_ordered}
 
 -- the parent of a node at the index k among games that begin at the index `at` and follow `parent`
 abbrev pub IsParentIn : ℕ → Option ℕ → ℕ → Option ℕ → Type 0
@@ -78,7 +80,7 @@ parent_in c at parent g h j p le lt e =
     let k = j - at in
     let sums : at + k ≡ j = omega arith in
     let here : slice_get (xs ++ h.after) k ≡ Some found.0 =
-    sym (get_right h.before (xs ++ h.after) j k (omega (arith, h.length_is))) ∙ ap (λ zs. slice_get zs j) (sym h.is) ∙ found.1 in
+    sym (slice_get-right h.before (xs ++ h.after) j k (omega (arith, h.length_is))) ∙ ap (λ zs. slice_get zs j) (sym h.is) ∙ found.1 in
     elim (split_get xs h.after k found.0 here) [
       | inl inside ↦
           let of_ordered : IsParentIn at parent (at + k) found.0.parent = parent-nodes_from g at parent k found.0 inside in
@@ -90,14 +92,6 @@ pub node_within : (c : Games) (j : ℕ) (p : Option ℕ) → parent_at c j ≡ S
 node_within c j p e =
     let found = ordered_of c j p e in
     omega (arith, slice_get_within (ordered_nodes c) j found.0 found.1, length-nodes_from 0 None c)
-
--- a node's parent comes before it
-pub parent_before : (c : Games) (j i : ℕ) → parent_at c j ≡ Some (Some i) → i < j
-parent_before c j i e =
-    elim (parent_in c 0 None c (stands_whole c) j (Some i) (omega arith) (omega (arith, node_within c j (Some i) e)) e) [
-      | inl none ↦ absurd cc
-      | inr h ↦ let same : i ≡ h.0 = cc in omega (arith, h.3)
-    ]
 
 -- The games stand in the collection from the index `at` on, after their parent, and nodes after them have no parent among them.
 pub record Among (c : Games) (at : ℕ) (parent : Option ℕ) (g : Games) : Type 0 where
@@ -146,5 +140,5 @@ module _ (c : Games) (at : ℕ) (parent : Option ℕ) (first : Node) (more : Lis
   pub last_is_leaf : below ≡ no_games → IsLeaf c (at + length more)
   last_is_leaf none j e =
       let count : node_count below ≡ 0 = ap node_count none in
-      let later : at + length more < j = parent_before c j (at + length more) e in
+      let later : at + length more < j = parent_at-lt c j (at + length more) e in
       absurd (omega (arith, closed_below j (at + length more) (omega arith) e (omega arith)))

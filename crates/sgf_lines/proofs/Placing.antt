@@ -2,7 +2,7 @@
 -- colouring: nothing is captured on the way, since a stone reaches empty sooner where fewer stones stand.
 use Rattle.std.proofs.Common.{◌≡◌, ◌≢◌, ◌↔◌, ℕ, zero, suc, ◌+◌, ◌*◌, ◌<◌, ◌≤◌, List, [], ◌∷◌, ◌++◌, length, map, filter, Some, None, Bool, true, false, IsTrue, slice_get, codes, refl, sym, ap, ◌∙◌, arith, subst, inl, inr, ◌⊎◌, cond, length-set}
 use Rattle.std.specs.List.{flat_map, range_with_len}
-use Rattle.std.proofs.lemmas.Bool.{cases_eq, cases_lt}
+use Rattle.std.proofs.lemmas.Bool.{cases_Bool, cases_eq, cases_lt}
 use Rattle.std.proofs.lemmas.List.{get_or-replicate, length-replicate}
 use Rattle.std.proofs.lemmas.Option.{slice_get_within}
 use Rattle.go_board.specs.declared.stones.Cell.{Cell}
@@ -41,10 +41,6 @@ empty_or : (c : Cell) → (c ≡ Empty) ⊎ (c ≢ Empty)
 empty_or Black = inr (λ e. cc)
 empty_or White = inr (λ e. cc)
 empty_or Empty = inl refl
-
-true_or : (b : Bool) → (b ≡ true) ⊎ (b ≡ false)
-true_or true = inl refl
-true_or false = inr refl
 
 pub is_same : (c d : Cell) → same_cell c d ≡ true → c ≡ d
 is_same Black Black e = refl
@@ -112,7 +108,7 @@ module _ (laws : BoardLaws) where
 
     whole_reaches : (p : Point) → IsOn g.side p → Reaches g Empty p
     whole_reaches p on =
-        elim (true_or (reaches g Empty p)) [
+        elim (cases_Bool (reaches g Empty p)) [
           | inl h ↦ (laws.reaching g Empty p on).0 h
           | inr never ↦ elim (empty_or (cell_at g p)) [
             | inl e ↦ ([], (on, e))

@@ -6,6 +6,7 @@ use Rattle.std.proofs.Math.Seq.{take-append_seam}
 use Rattle.std.proofs.lemmas.Option.{slice_get_within}
 use Rattle.sgf_tree.specs.Tree.{Node, Games, node_count}
 use Rattle.sgf_tree.specs.FileOrder.{PlacesRise, node_at}
+use Rattle.std.proofs.lemmas.List.FromFn.{length-range_with_len}
 use Rattle.sgf_lines.specs.Lines.{Line, lines}
 use Rattle.sgf_lines.specs.Paths.{paths}
 use Rattle.sgf_lines.specs.JudgedGames.{game_kind, root_properties}
@@ -18,7 +19,7 @@ use Rattle.sgf_lines.proofs.Joins.{more_texts, as_many}
 use Rattle.sgf_lines.proofs.Different.{has, RisesFrom, more_different, has_right, each_has}
 use Rattle.sgf_lines.proofs.Touched.{place_number, places_named, places_rise, rises_range}
 use Rattle.sgf_lines.proofs.JudgedFront.{judged_front, judged_alike}
-use Rattle.sgf_lines.proofs.Rising.{each_take, rises_take, length_range, IsRising, rising, continues_there, after_is, after_rises, end_within, numbers_within, places_from}
+use Rattle.sgf_lines.proofs.Rising.{each_take, rises_take, IsRising, rising, continues_there, after_is, after_rises, end_within, numbers_within, places_from}
 
 -- what is left of a front of two lists joined, after the first
 front_after : (xs ys : List ℕ) (m : ℕ) → drop (length xs) (take m (xs ++ ys)) ≡ take (m - length xs) ys
@@ -204,7 +205,7 @@ module _ (c : Games) (rise : PlacesRise c) where
           ap length h.1.new_is,
           length-append (take h.0 before) range,
           length-take-le h.0 before h.1.kept_within,
-          length_range (first_after before) (h.1.more + 1),
+          length-range_with_len (first_after before) (h.1.more + 1),
         ))
 
     pub plays_within : (k : ℕ) → k ≤ length page → length (all_judged_places (take k page)) ≤ node_count c

@@ -2,7 +2,7 @@
 use Rattle.std.proofs.Common.{◌≡◌, ◌⊎◌, ℕ, zero, suc, ◌+◌, ◌<◌, ◌≤◌, cond, List, [], ◌∷◌, ◌++◌, length, take, drop, slice_get, Option, Some, None, Ok, Err, inl, inr, refl, sym, ap, subst, ◌∙◌, arith, length-append}
 use Rattle.std.proofs.lemmas.Bool.{cases_lt, le-leb, lt-leb, le-ltb, lt-ltb}
 use Rattle.std.proofs.Math.Seq.{take-append_seam}
-use Rattle.std.proofs.lemmas.List.{take-append-le, take-append-drop, take_all, length-take-le}
+use Rattle.std.proofs.lemmas.List.{take-take, take-append-le, take-append-drop, take_all, length-take-le}
 use Rattle.std.proofs.lemmas.List.Sums.{fold-append}
 use Rattle.std.proofs.lemmas.Option.{slice_get_within}
 use Rattle.sgf_tree.specs.Tree.{Node}
@@ -15,7 +15,8 @@ use Rattle.sgf_lines.specs.declared.game.MetIllegal.{MetIllegal}
 use Rattle.sgf_lines.specs.declared.game.Game.{Game}
 use Rattle.sgf_lines.specs.inner.Stepping.{GrowsByOne}
 use Rattle.sgf_lines.specs.inner.Played.{back_from, back_to, IsFirstIllegal, met_before, IsDepthBefore, IsPlayed}
-use Rattle.sgf_lines.proofs.Lists.{split_get, get_left}
+use Rattle.sgf_tree.proofs.Lists.{slice_get-pushed}
+use Rattle.sgf_lines.proofs.Lists.{get_left}
 use Rattle.sgf_lines.proofs.Walking.{StandsAfter, next_is, walk-illegal}
 
 -- nothing to take back
@@ -76,27 +77,12 @@ front_clear side k nodes none = by (walk side (take k nodes)).illegal refl
     by None e = e
     by (Some f) e = let bad : None ≡ Some f = sym none ∙ ap (λ (w : Walk). w.illegal) (walk-illegal side nodes k f e) ∙ e in absurd cc
 
--- an element of a list with one more at its end
-pub pushed : {A : Type 0} (xs : List A) (x y : A) (i : ℕ) → slice_get (xs ++ x ∷ []) i ≡ Some y → (slice_get xs i ≡ Some y) ⊎ ((i ≡ length xs) × (x ≡ y))
-pushed xs x y i e = elim (split_get xs (x ∷ []) i y e) [
-  | inl before ↦ inl before
-  | inr last ↦ inr (by last.0 last.1 last.2)
-]
-  where
-    by : (j : ℕ) → i ≡ length xs + j → slice_get (x ∷ []) j ≡ Some y → (i ≡ length xs) × (x ≡ y)
-    by zero is f = (omega (arith, is), cc)
-    by (suc j) is f = absurd cc
-
 -- an element of a front of a list
 in_front : {A : Type 0} (xs : List A) (k i : ℕ) (x : A) → k ≤ length xs → slice_get (take k xs) i ≡ Some x → (i < k) × (slice_get xs i ≡ Some x)
 in_front xs k i x le e = (
   omega (arith, slice_get_within (take k xs) i x e, length-take-le k xs le),
   subst (λ ys. slice_get ys i ≡ Some x) (take-append-drop k xs) (get_left (take k xs) (drop k xs) i x e),
 )
-
-take_take : {A : Type 0} (xs : List A) (i k : ℕ) → i ≤ k → k ≤ length xs → take i (take k xs) ≡ take i xs
-take_take xs i k le within =
-    sym (ap (take i) (sym (take-append-drop k xs)) ∙ take-append-le i (take k xs) (drop k xs) (omega (arith, length-take-le k xs within)))
 
 -- what the game tells of its walk
 pub met_none : (side : ℕ) (nodes : List Node) (game : Game) → IsPlayed side nodes game → game.illegal ≡ None → (walk side nodes).illegal ≡ None
@@ -164,8 +150,8 @@ module _ (side : ℕ) (nodes : List Node) (old new : Game) (h : IsPlayed side no
       state = state ∙ ap (λ (w : Walk). w.state) (sym (walk_more side nodes n));
       illegal = illegal;
       count = omega (arith, ap length depths, length-append old.depths.items (depth_now ∷ []), h.count, length-append nodes (n ∷ []));
-      depths = λ i d e. leads_back i d (pushed old.depths.items depth_now d i (rw depths at e));
-      order = λ i j early late le e f. in_order i j early late le (pushed old.depths.items depth_now early i (rw depths at e)) (pushed old.depths.items depth_now late j (rw depths at f));
+      depths = λ i d e. leads_back i d (slice_get-pushed old.depths.items depth_now d i (rw depths at e));
+      order = λ i j early late le e f. in_order i j early late le (slice_get-pushed old.depths.items depth_now early i (rw depths at e)) (slice_get-pushed old.depths.items depth_now late j (rw depths at f));
     }
 
     -- after a node that wasn't allowed
@@ -213,13 +199,13 @@ module _ (side : ℕ) (nodes : List Node) (old new : Game) (h : IsPlayed side no
       where
         by : (m.index < kept) ⊎ (kept ≤ m.index) → IsFirstIllegal side (take kept nodes) (met_before (Some m) kept)
         by (inl lt) =
-            let early : take m.index (take kept nodes) ≡ take m.index nodes = take_take nodes m.index kept (omega arith) le in
-            let late : take (m.index + 1) (take kept nodes) ≡ take (m.index + 1) nodes = take_take nodes (m.index + 1) kept (omega arith) le in
+            let early : take m.index (take kept nodes) ≡ take m.index nodes = take-take m.index kept nodes (omega arith) in
+            let late : take (m.index + 1) (take kept nodes) ≡ take (m.index + 1) nodes = take-take (m.index + 1) kept nodes (omega arith) in
             let there : IsFirstIllegal side (take kept nodes) (Some m) =
             (omega (arith, length-take-le kept nodes le), rw early is.1, (is.2.0, rw late is.2.1, is.2.2, is.2.3)) in
             subst (λ b. IsFirstIllegal side (take kept nodes) (cond b (Some m) None)) (sym (lt-ltb m.index kept lt)) there
         by (inr ge) =
-            let early : take kept (take m.index nodes) ≡ take kept nodes = take_take nodes kept m.index ge (omega (arith, is.0)) in
+            let early : take kept (take m.index nodes) ≡ take kept nodes = take-take kept m.index nodes ge in
             let there : (walk side (take kept nodes)).illegal ≡ None = subst (λ ns. (walk side ns).illegal ≡ None) early (front_clear side kept (take m.index nodes) is.1) in
             subst (λ b. IsFirstIllegal side (take kept nodes) (cond b (Some m) None)) (sym (le-ltb m.index kept ge)) there
 
@@ -237,7 +223,7 @@ module _ (side : ℕ) (nodes : List Node) (old new : Game) (h : IsPlayed side no
               let f = in_front old.depths.items kept i d within (rw depths at e) in
               let before = h.depths i d f.1 in
               let less : d ≤ depth = h.order i kept d depth (omega (arith, f.0)) f.1 found in
-              let front : take i (take kept nodes) ≡ take i nodes = take_take nodes i kept (omega (arith, f.0)) le in
+              let front : take i (take kept nodes) ≡ take i nodes = take-take i kept nodes (omega (arith, f.0)) in
               rw referee (record { within = omega arith; state = rw (front, back_twice old.referee depth d less) before.state });
           order = λ i j early late le e f.
               let p = in_front old.depths.items kept i early within (rw depths at e) in

@@ -16,7 +16,7 @@ use Rattle.sgf_lines.specs.declared.game.Game.{Game}
 use Rattle.sgf_lines.specs.inner.Played.{IsPlayed, judged_count, RaisesPlays}
 use Rattle.sgf_lines.specs.inner.Followed.{PlaysOn, PlaysFresh, fresh_plays}
 use Rattle.sgf_lines.proofs.Walking.{after_illegal}
-use Rattle.sgf_lines.proofs.Along.{front_more}
+use Rattle.sgf_lines.proofs.Lists.{front_more}
 use Rattle.sgf_lines.proofs.Played.{met_none, met_some}
 
 -- how many nodes of a walk are judged

@@ -1,7 +1,10 @@
 -- A script that has commands leads to the colouring at the end of its line's walk.
 use Rattle.std.proofs.Common.{◌≡◌, ℕ, ◌*◌, ◌<◌, ◌≤◌, List, [], ◌∷◌, ◌++◌, length, map, filter, fold, Option, Some, None, Bool, true, false, not, codes, refl, sym, ap, ◌∙◌, arith, subst, cond, append-nil, append_assoc, decimal, ◌||◌, Result, Ok, Err, option_map, option_and_then, nat_lt}
+use Rattle.std.proofs.lemmas.Grind.{flat_map-append}
+use Rattle.std.proofs.lemmas.List.Folds.{list_any-append}
 use Rattle.std.specs.List.{flat_map, list_any}
 use Rattle.std.proofs.lemmas.List.{length-map, length-replicate}
+use Rattle.std.proofs.lemmas.Bool.{not-false, or_parts}
 use Rattle.std.proofs.lemmas.Bool.Decides.{nat_tests}
 use Rattle.sgf_tree.specs.Tree.{Node}
 use Rattle.go_board.specs.declared.stones.Cell.{Cell}
@@ -32,39 +35,23 @@ use Rattle.sgf_lines.specs.ListRow.{list_row}
 use Rattle.sgf_lines.specs.Script.{comment_row, comment_text, comment_rows, play_command, colouring_commands, setup_commands, move_commands_by, move_commands, node_script, taken_script, leaves_unreaching_by, leaves_unreaching, has_no_commands, board_commands, commands_by, script}
 use Rattle.sgf_lines.specs.NodeContents.{first_value}
 use Rattle.sgf_lines.specs.Replay.{is_word, does_nothing, command_of, after_command, after_row, after_text, replayed}
+use Rattle.sgf_tree.proofs.Names.{not-found}
 use Rattle.sgf_lines.proofs.Lists.{Each}
-use Rattle.sgf_lines.proofs.Again.{flat_map-append}
 use Rattle.sgf_lines.proofs.ScriptRows.{IsWithin, CarriesBoard, takes_row, takes_nothing, takes_both, takes_comment, takes_text_rows, row_within, decimal_within, decimal_solid, within_both}
 use Rattle.sgf_lines.proofs.ScriptWords.{one_word}
 use Rattle.sgf_lines.proofs.Placing.{BoardLaws, is_same, takes_play, takes_board}
 
 -- ---- What the parts of a test tell.
 
-no_reason : (a : Bool) (r : Reason) (o : Option Reason) → cond a (Some r) o ≡ None → (a ≡ false) × (o ≡ None)
-no_reason true r o e = absurd cc
-no_reason false r o e = (refl, e)
-
-not_false : (b : Bool) → not b ≡ false → b ≡ true
-not_false true e = refl
-not_false false e = absurd cc
-
-or_false : (a b : Bool) → (a || b) ≡ false → (a ≡ false) × (b ≡ false)
-or_false true b e = absurd cc
-or_false false b e = (refl, e)
-
 any_append : {A : Type 0} (p : A → Bool) (xs ys : List A) → list_any p (xs ++ ys) ≡ false → (list_any p xs ≡ false) × (list_any p ys ≡ false)
-any_append p [] ys e = (refl, e)
-any_append p (x ∷ xs) ys e =
-    let h = or_false (p x) (list_any p (xs ++ ys)) e in
-    let rest = any_append p xs ys h.1 in
-    (ap (λ b. b || list_any p xs) h.0 ∙ rest.0, rest.1)
+any_append p xs ys e = or_parts (list_any p xs) (list_any p ys) (sym (list_any-append p xs ys) ∙ e)
 
 free_point : (s : State) (k : Colour) (p : Point) → reason_of s k (Stone p) ≡ None → cell_at s.colouring p ≡ Empty
 free_point s k p e =
-    let a = no_reason (is_over s) Over (cond (must_move s.player (opponent k)) (Some Turn) (cond (is_occupied s (Stone p)) (Some Occupied) (cond (is_repeat s k (Stone p)) (Some Repeat) None))) e in
-    let b = no_reason (must_move s.player (opponent k)) Turn (cond (is_occupied s (Stone p)) (Some Occupied) (cond (is_repeat s k (Stone p)) (Some Repeat) None)) a.1 in
-    let c = no_reason (is_occupied s (Stone p)) Occupied (cond (is_repeat s k (Stone p)) (Some Repeat) None) b.1 in
-    is_same (cell_at s.colouring p) Empty (not_false (same_cell (cell_at s.colouring p) Empty) c.0)
+    let a = not-found (is_over s) Over (cond (must_move s.player (opponent k)) (Some Turn) (cond (is_occupied s (Stone p)) (Some Occupied) (cond (is_repeat s k (Stone p)) (Some Repeat) None))) e in
+    let b = not-found (must_move s.player (opponent k)) Turn (cond (is_occupied s (Stone p)) (Some Occupied) (cond (is_repeat s k (Stone p)) (Some Repeat) None)) a.1 in
+    let c = not-found (is_occupied s (Stone p)) Occupied (cond (is_repeat s k (Stone p)) (Some Repeat) None) b.1 in
+    is_same (cell_at s.colouring p) Empty (not-false (same_cell (cell_at s.colouring p) Empty) c.0)
 
 -- ---- The points that values name are on the board.
 
@@ -246,7 +233,7 @@ module _ (laws : BoardLaws) (side : ℕ) (small : side ≤ 25) where
       let p : TakenNode = record { node = n; after = t } in
       let parts = any_append leaves_unreaching w.taken (p ∷ []) settled in
       let before = said parts.0 in
-      let one = node_leads w.state t n before.1 (or_false (leaves_unreaching p) false parts.1).0 e in
+      let one = node_leads w.state t n before.1 (or_parts (leaves_unreaching p) false parts.1).0 e in
       let empty = Some (empty_grid side) in
       let both = takes_both side empty (Some w.state.colouring) (Some t.colouring) (flat_map taken_script w.taken) (node_script t n) before.0 one.0 in
       let texts : flat_map taken_script (w.taken ++ p ∷ []) ≡ flat_map taken_script w.taken ++ node_script t n =
@@ -287,7 +274,7 @@ pub script_replayed : BoardLaws → (line : Line) (side : ℕ) → game_kind (ro
     → has_no_commands side (walk side line.nodes) ≡ false → replayed side (script line) ≡ Some (walk side line.nodes).state.colouring
 script_replayed laws line side opens says =
     let w = walk side line.nodes in
-    let parts = or_false (nat_lt MAX_VERTEX_SIDE side) (list_any leaves_unreaching w.taken) says in
+    let parts = or_parts (nat_lt MAX_VERTEX_SIDE side) (list_any leaves_unreaching w.taken) says in
     let small : side ≤ 25 = grind (arith, nat_tests, parts.0) in
     let empty = Some (empty_grid side) in
     let said = walk_said laws side small (before_root side) line.nodes (begun_said laws side small) parts.1 in

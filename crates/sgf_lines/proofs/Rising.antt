@@ -2,6 +2,7 @@
 use Rattle.std.proofs.Common.{◌≡◌, ℕ, zero, suc, ◌+◌, ◌<◌, ◌≤◌, List, [], ◌∷◌, ◌++◌, length, take, map, slice_get, Some, None, inl, inr, refl, sym, ap, subst, ◌∙◌, arith, length-append}
 use Rattle.std.specs.Prelude.{option_map}
 use Rattle.std.specs.List.{range_with_len}
+use Rattle.std.proofs.lemmas.List.FromFn.{length-range_with_len}
 use Rattle.std.proofs.lemmas.Bool.{cases_lt}
 use Rattle.std.proofs.lemmas.List.{length-take-le}
 use Rattle.std.proofs.lemmas.Option.{slice_get-map, slice_get_within}
@@ -11,7 +12,7 @@ use Rattle.sgf_lines.specs.Lines.{last_number}
 use Rattle.sgf_lines.specs.Paths.{Path, paths}
 use Rattle.sgf_lines.specs.inner.Following.{first_after, Continues, numbers_before}
 use Rattle.sgf_lines.specs.inner.PathTo.{top}
-use Rattle.sgf_lines.proofs.Lists.{Each, each_append, each_weaker, each_get, element}
+use Rattle.sgf_lines.proofs.Lists.{Each, each_append, each_weaker, each_get, element, range_below}
 use Rattle.sgf_lines.proofs.PathsTo.{IsDescent, each_path}
 use Rattle.sgf_lines.proofs.Standings.{within_way}
 use Rattle.sgf_lines.proofs.Following.{paths_follow, after_new, head_continues, next_continues}
@@ -36,14 +37,6 @@ rises_append low next (n ∷ ns) ms h below le r = (h.0, rises_append (n + 1) ne
 range_rises : (next n : ℕ) → RisesFrom next (range_with_len next n)
 range_rises next zero = tt
 range_rises next (suc n) = (omega arith, range_rises (next + 1) n)
-
-range_below : (next n end : ℕ) → next + n ≤ end → Each (λ i. i < end) (range_with_len next n)
-range_below next zero end le = tt
-range_below next (suc n) end le = (omega arith, range_below (next + 1) n end (omega arith))
-
-pub length_range : (next n : ℕ) → length (range_with_len next n) ≡ n
-length_range next zero = refl
-length_range next (suc n) = ap suc (length_range (next + 1) n)
 
 -- the nodes of a path rise, and the first one after it comes after each of them
 pub record IsRising (path : List ℕ) : Type 0 where
@@ -70,7 +63,7 @@ rising_next old new kept old_rises h =
     record {
       rises = subst (RisesFrom 0) (sym h.new_is) rises;
       below = subst (λ end. Each (λ i. i < end) new) (sym after) (subst (Each (λ i. i < next + (h.more + 1))) (sym h.new_is) all_below);
-      short = omega (arith, after, ap length h.new_is, length-append (take kept old) range, length-take-le kept old h.kept_within, length_range next (h.more + 1), old_rises.short, h.kept_within);
+      short = omega (arith, after, ap length h.new_is, length-append (take kept old) range, length-take-le kept old h.kept_within, length-range_with_len next (h.more + 1), old_rises.short, h.kept_within);
     }
 
 module _ (c : Games) where

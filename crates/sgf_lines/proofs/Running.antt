@@ -1,5 +1,6 @@
 -- The answers of a run and of its parts.
 use Rattle.std.proofs.Common.{◌≡◌, ℕ, ◌+◌, ◌<◌, ◌≤◌, inr, List, [], ◌++◌, length, take, drop, slice_get, Option, Some, Result, Ok, Err, refl, sym, ap, subst, ◌∙◌, arith, add-one, append_assoc, append-nil, length-append}
+use Rattle.std.proofs.lemmas.Option.{slice_get_within}
 use Rattle.std.specs.List.{flat_map}
 use Rattle.std.specs.Io.KnownBytes.{Appends}
 use Rattle.std.proofs.KnownBytes.{Appends-nil}
@@ -21,7 +22,6 @@ use Rattle.sgf_lines.specs.declared.options.Options.{Options}
 use Rattle.sgf_lines.specs.declared.fault.RunFault.{RunFault}
 use Rattle.sgf_lines.specs.declared.fault.RunFault.TheVariants.{Read, TooLong, NotSgf, NoSuchLine, Write, Memory}
 use Rattle.sgf_lines.proofs.Joins.{more_texts}
-use Rattle.sgf_lines.proofs.Pages.{get_some}
 
 pub appends_nothing : (a : Option (List ℕ)) → Appends a a []
 appends_nothing a = Appends-nil a
@@ -122,7 +122,7 @@ cut_in form ls k line n e lt =
     let next : length (output form (take (k + 1) ls)) ≡ length front + length text = ap length more ∙ length-append front text in
     record {
       front = (drop n text ++ rest, joined);
-      lines = omega (arith, get_some ls k line e);
+      lines = omega (arith, slice_get_within ls k line e);
       whole = omega (arith, length-append front (take n text));
       no_more = λ lt_k. omega (arith, length-append front (take n text), count, next);
     }

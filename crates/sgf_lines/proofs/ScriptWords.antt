@@ -12,7 +12,7 @@ use Rattle.go_board.specs.Point.{IsOn}
 use Rattle.go_board.specs.Vertex.{column_letters, vertex_of}
 use Rattle.sgf_lines.specs.Script.{colour_letter, vertex_text}
 use Rattle.sgf_lines.specs.Replay.{before_comment, is_word, words, capital, point_there, point_named, plays_stone, play_of, command_of}
-use Rattle.std.proofs.lemmas.Bool.{cases_eq}
+use Rattle.std.proofs.lemmas.Bool.{and_parts, cases_eq}
 use Rattle.std.proofs.lemmas.Bool.Decides.{nat_tests}
 use Rattle.sgf_lines.proofs.Lists.{Each}
 use Rattle.sgf_lines.proofs.ScriptRows.{IsSolid, decimal_solid}
@@ -23,15 +23,11 @@ all_below : (ℕ → Bool) → ℕ → Bool
 all_below p zero = true
 all_below p (suc n) = p n && all_below p n
 
-both : (a b : Bool) → (a && b) ≡ true → (a ≡ true) × (b ≡ true)
-both true b e = (refl, e)
-both false b e = absurd cc
-
 below_each : (p : ℕ → Bool) (n k : ℕ) → all_below p n ≡ true → k < n → p k ≡ true
 unfolding all_below
 below_each p zero k e lt = absurd (omega arith)
 below_each p (suc n) k e lt =
-    let h = both (p n) (all_below p n) e in
+    let h = and_parts (p n) (all_below p n) e in
     elim (cases_eq k n) [ inl same ↦ rw same h.0 | inr other ↦ below_each p n k h.1 (omega arith) ]
 
 is_some : Option ℕ → ℕ → Bool
@@ -52,13 +48,13 @@ letter_reads col =
 pub letter_solid : (col : ℕ) → col < 25 → IsSolid (slice_index column_letters col)
 unfolding letter_reads all_below is_some
 letter_solid col lt =
-    let h = both (nat_le 48 (slice_index column_letters col)) (is_some (position (λ l. l == capital (slice_index column_letters col)) column_letters) col) (below_each letter_reads 25 col refl lt) in
+    let h = and_parts (nat_le 48 (slice_index column_letters col)) (is_some (position (λ l. l == capital (slice_index column_letters col)) column_letters) col) (below_each letter_reads 25 col refl lt) in
     grind (arith, h.0)
 
 letter_names : (col : ℕ) → col < 25 → position (λ l. l == capital (slice_index column_letters col)) column_letters ≡ Some col
 unfolding letter_reads all_below is_some
 letter_names col lt =
-    let h = both (nat_le 48 (slice_index column_letters col)) (is_some (position (λ l. l == capital (slice_index column_letters col)) column_letters) col) (below_each letter_reads 25 col refl lt) in
+    let h = and_parts (nat_le 48 (slice_index column_letters col)) (is_some (position (λ l. l == capital (slice_index column_letters col)) column_letters) col) (below_each letter_reads 25 col refl lt) in
     some_from (position (λ l. l == capital (slice_index column_letters col)) column_letters) col h.1
 
 row_reads : ℕ → Bool

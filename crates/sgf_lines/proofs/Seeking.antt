@@ -5,8 +5,8 @@ use Rattle.std.proofs.lemmas.Option.{slice_get_within}
 use Rattle.sgf_tree.specs.Tree.{Games, node_count}
 use Rattle.sgf_tree.specs.FileOrder.{OrderedNode, ordered_nodes, place_at, IsLeaf, IsAtOrBelow, itself, below, IsLastBelow, PlacesRise}
 use Rattle.sgf_lines.specs.inner.Seeking.{AllBefore, GoesOnFrom}
+use Rattle.sgf_tree.proofs.OrderedNodes.{length-nodes_from}
 use Rattle.sgf_lines.proofs.Parents.{node_within}
-use Rattle.sgf_lines.proofs.Standing.{length-nodes_from}
 
 pub last_within : (c : Games) (node last : ℕ) → node < node_count c → IsLastBelow c node last → last < node_count c
 last_within c node last lt h = under h.under

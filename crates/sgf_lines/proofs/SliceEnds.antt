@@ -4,16 +4,12 @@ use Rattle.std.specs.Prelude.{min}
 use Rattle.std.specs.Io.KnownBytes.{Appends}
 use Rattle.std.proofs.KnownBytes.{Appends-trans}
 use Rattle.std.proofs.Math.Seq.{take-add}
-use Rattle.std.proofs.lemmas.List.{take-append-drop, length-take-le, length-drop, drop-drop, take-append-le, take_all}
+use Rattle.std.proofs.lemmas.List.{nil_from_length, take-append-drop, length-take-le, length-drop, drop-drop, take-append-le, take_all}
 use Rattle.sgf_lines.specs.Ends.{SourceState, SinkState, Gives}
 
 -- how a source over a slice stands that has given g bytes
 abbrev stands : List ℕ → ℕ → SourceState
 stands bytes g = record { failures = 0; given = Some (take g bytes); to_come = Some (drop g bytes) }
-
-empty : (xs : List ℕ) → length xs ≡ 0 → xs ≡ []
-empty [] e = refl
-empty (x ∷ xs) e = absurd (omega arith)
 
 pub slice_gives : (bytes sl rest : List ℕ) (g n m room : ℕ) → g ≤ length bytes → sl ≡ take m (drop g bytes) → m ≡ n → n ≡ min room (length bytes - g) → 0 < room
     → (n ≤ length (sl ++ rest)) × Gives (stands bytes g) (stands bytes (g + n)) (take n (sl ++ rest))
@@ -31,7 +27,7 @@ slice_gives bytes sl rest g n m room le is same count some =
         to_come = sym (take-append-drop n (drop g bytes)) ∙ ap (λ bs. take n (drop g bytes) ++ bs) (drop-drop n g bytes) ∙ ap (λ bs. bs ++ drop (g + n) bytes) (sym front);
         none_at_end = λ none.
             let zero_bytes : n ≡ 0 = sym (length-take-le n (drop g bytes) fits) ∙ ap length (sym front) ∙ ap length none in
-            empty (drop (g + n) bytes) (omega (arith, length-drop (g + n) bytes, count, zero_bytes));
+            nil_from_length (drop (g + n) bytes) (omega (arith, length-drop (g + n) bytes, count, zero_bytes));
       },
     )
 

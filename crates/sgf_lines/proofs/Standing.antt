@@ -2,7 +2,9 @@
 use Rattle.std.proofs.Common.{◌≡◌, ℕ, suc, ◌+◌, List, [], ◌∷◌, ◌++◌, length, slice_get, Option, Some, None, true, refl, sym, ap, ◌∙◌, arith, append_assoc, length-append, append-nil}
 use Rattle.sgf_tree.specs.Tree.{Node, Games, no_games, game, node_count}
 use Rattle.sgf_tree.specs.FileOrder.{OrderedNode, further_nodes, nodes_from, ordered_nodes}
-use Rattle.sgf_lines.proofs.Lists.{get_left, get_right}
+use Rattle.sgf_tree.proofs.Lists.{slice_get-right}
+use Rattle.sgf_tree.proofs.OrderedNodes.{length-further_nodes, length-nodes_from}
+use Rattle.sgf_lines.proofs.Lists.{get_left}
 
 -- xs stand in `all` from the index `at` on
 pub record StandsAt (all : List OrderedNode) (at : ℕ) (xs : List OrderedNode) : Type 0 where
@@ -26,21 +28,8 @@ stands_right {at = at} end xs ys h e =
 
 pub stands_get : {all : List OrderedNode} {at : ℕ} (xs : List OrderedNode) (k j : ℕ) (x : OrderedNode) → StandsAt all at xs → j ≡ at + k → slice_get xs k ≡ Some x → slice_get all j ≡ Some x
 stands_get {at = at} xs k j x h e got =
-    let right = get_right h.before (xs ++ h.after) j k (omega (arith, h.length_is)) in
+    let right = slice_get-right h.before (xs ++ h.after) j k (omega (arith, h.length_is)) in
     ap (λ zs. slice_get zs j) h.is ∙ right ∙ get_left xs h.after k x got
-
-pub length-further_nodes : (last : ℕ) (ns : List Node) → length (further_nodes last ns) ≡ length ns
-length-further_nodes last [] = refl
-length-further_nodes last (n ∷ ns) = ap suc (length-further_nodes (last + 1) ns)
-
-pub length-nodes_from : (at : ℕ) (parent : Option ℕ) (g : Games) → length (nodes_from at parent g) ≡ node_count g
-length-nodes_from at parent no_games = refl
-length-nodes_from at parent (game first more below after) =
-    let last = at + length more in
-    let own = length-further_nodes at more in
-    let down = length-nodes_from (last + 1) (Some last) below in
-    let beside = length-nodes_from (last + 1 + node_count below) parent after in
-    simp (length-append, own, down, beside) (omega arith)
 
 -- the ordered nodes of games, the first of which begins at the index `at`, stand in those of the collection
 abbrev pub Stands : Games → ℕ → Option ℕ → Games → Type 0

@@ -1,5 +1,6 @@
 -- A node's step by what its contents tell.
 use Rattle.std.proofs.Common.{◌≡◌, ◌⊎◌, ◌<◌, ℕ, Bool, true, false, Option, Some, None, List, [], ◌∷◌, not, ◌==◌, length, Result, Ok, Err, refl, sym, ap, ◌∙◌, inl, inr, subst, arith}
+use Rattle.std.proofs.lemmas.List.{nil_from_length}
 use Rattle.std.proofs.lemmas.Bool.{eqb-true, eqb-false}
 use Rattle.std.specs.Prelude.{option_map, option_and_then, is_some, IsSome, IsErrOf, ◌↔◌}
 use Rattle.go_board.specs.declared.stones.Colour.{Colour}
@@ -110,10 +111,6 @@ sets_up s [] (p ∷ ps) ops player e f some =
 sets_up s (t ∷ ts) ps ops player e f some = ap (λ o. setup_step s o (last_player None ps)) e ∙ ap (setup_step s (Some ops)) f
 
 -- what contents tell of a setup
-no_elements : {A : Type 0} (xs : List A) → length xs ≡ 0 → xs ≡ []
-no_elements [] e = refl
-no_elements (x ∷ xs) e = absurd (omega (arith, e))
-
 is_no_player : (o : Option Colour) → is_some o ≡ false → o ≡ None
 is_no_player None e = refl
 is_no_player (Some k) e = absurd cc
@@ -130,7 +127,7 @@ module _ (side : ℕ) (moves : Moves) (ops : List SetupOp) (player : Option Colo
       by (Some k) f e = met_by_player lists k f
 
   no_operations : faulty ≡ false → length ops ≡ 0 → operations lists.stones side ≡ Some []
-  no_operations good e = h.stones good ∙ ap Some (no_elements ops e)
+  no_operations good e = h.stones good ∙ ap Some (nil_from_length ops e)
 
   no_one : faulty ≡ false → is_some player ≡ false → last_player None lists.players ≡ Some None
   no_one good e = h.players good ∙ ap Some (is_no_player player e)

@@ -8,8 +8,9 @@ use Rattle.sgf_tree.specs.FileOrder.{OrderedNode, ordered_nodes, node_at, place_
 use Rattle.sgf_lines.specs.Lines.{Line, lines}
 use Rattle.sgf_lines.specs.Paths.{Path, paths, IsPathOf}
 use Rattle.sgf_lines.specs.Plays.{different, places_of, node_places, touched_places}
-use Rattle.sgf_lines.proofs.Lists.{Each, each_append, each_weaker, element, get_right}
-use Rattle.sgf_lines.proofs.Standing.{length-nodes_from}
+use Rattle.sgf_tree.proofs.Lists.{slice_get-right}
+use Rattle.sgf_tree.proofs.OrderedNodes.{length-nodes_from}
+use Rattle.sgf_lines.proofs.Lists.{Each, each_append, each_weaker, element, range_below}
 use Rattle.sgf_lines.proofs.Named.{place_of_node, each_named}
 use Rattle.sgf_lines.proofs.Following.{Follow, stay, go, paths_follow, range_append}
 use Rattle.sgf_lines.proofs.Different.{has, RisesFrom, more_different, has_left, has_right, each_has}
@@ -48,7 +49,7 @@ module _ (c : Games) where
   places_range : (before rest : List OrderedNode) → ordered_nodes c ≡ before ++ rest → map (place_number c) (range_with_len (length before) (length rest)) ≡ map (λ r. r.node.place) rest
   places_range before [] e = refl
   places_range before (r ∷ rest) e =
-      let here : slice_get (ordered_nodes c) (length before) ≡ Some r = ap (λ rs. slice_get rs (length before)) e ∙ get_right before (r ∷ rest) (length before) 0 (omega arith) in
+      let here : slice_get (ordered_nodes c) (length before) ≡ Some r = ap (λ rs. slice_get rs (length before)) e ∙ slice_get-right before (r ∷ rest) (length before) 0 (omega arith) in
       let place : place_number c (length before) ≡ r.node.place = ap (λ o. unwrap_or (option_map (λ (r : OrderedNode). r.node.place) o) 0) here in
       let next : length (before ++ r ∷ []) ≡ length before + 1 = length-append before (r ∷ []) in
       let others : map (place_number c) (range_with_len (length before + 1) (length rest)) ≡ map (λ r. r.node.place) rest =
@@ -94,10 +95,6 @@ module _ (c : Games) where
     there : (next : ℕ) (xs : List ℕ) → Covers next xs → (is : List ℕ) → Each (λ i. i < next) is → Each (λ n. has xs n ≡ true) (map (place_number c) is)
     there next xs h [] w = tt
     there next xs h (i ∷ is) w = (h.all i w.0, there next xs h is w.1)
-
-    range_below : (next n end : ℕ) → next + n ≤ end → Each (λ i. i < end) (range_with_len next n)
-    range_below next zero end le = tt
-    range_below next (suc n) end le = (omega arith, range_below (next + 1) n end (omega arith))
 
     has_range : (next n i : ℕ) → next ≤ i → i < next + n → has (map (place_number c) (range_with_len next n)) (place_number c i) ≡ true
     has_range next zero i le lt = absurd (omega arith)

@@ -17,23 +17,19 @@ use Rattle.sgf_lines.specs.Walk.{IllegalNode, Walk, before_root, stepped, next_b
 use Rattle.sgf_lines.specs.Verdict.{verdict_at, score_in}
 use Rattle.sgf_lines.specs.declared.step.TakenStep.{TakenStep}
 use Rattle.sgf_lines.specs.inner.Stepping.{IsStepped, ended_with}
+use Rattle.sgf_lines.proofs.Lists.{front_more}
 
 -- the walk has met no illegal node, and leads to that state
 pub record StandsAfter (w : Walk) (s : State) : Type 0 where
   pub no_illegal : w.illegal ≡ None
   pub state : w.state ≡ s
 
+pub scores_there : (w : Walk) (s : State) → StandsAfter w s → verdict_at w ≡ score_in s
+scores_there w s h = rw (h.no_illegal, h.state)
+
 -- one node later
 pub walk-more : (side : ℕ) (nodes : List Node) (i : ℕ) (n : Node) → slice_get nodes i ≡ Some n → walk side (take (i + 1) nodes) ≡ next (walk side (take i nodes)) n
-walk-more side nodes i n e = ap (fold next (before_root side)) (front nodes i e) ∙ fold-append next (before_root side) (take i nodes) (n ∷ [])
-  where
-    front : (ns : List Node) (i : ℕ) → slice_get ns i ≡ Some n → take (i + 1) ns ≡ take i ns ++ n ∷ []
-    front ns i e = rw add-one (at_end ns i e)
-      where
-        at_end : (ns : List Node) (i : ℕ) → slice_get ns i ≡ Some n → take (suc i) ns ≡ take i ns ++ n ∷ []
-        at_end [] i e = absurd cc
-        at_end (m ∷ ms) zero e = let same : m ≡ n = cc in ap (λ k. k ∷ []) same
-        at_end (m ∷ ms) (suc i) e = ap (λ ks. m ∷ ks) (at_end ms i e)
+walk-more side nodes i n e = ap (fold next (before_root side)) (front_more nodes i n e) ∙ fold-append next (before_root side) (take i nodes) (n ∷ [])
 
 module _ (w : Walk) (s : State) (h : StandsAfter w s) (n : Node) where
   pub next_is : (r : Result State Reason) → step s n ≡ r → next w n ≡ stepped w n r
@@ -79,10 +75,7 @@ module _ (side : ℕ) (nodes : List Node) (i : ℕ) (s : State) (h : StandsAfter
   scored le =
       let all : take i nodes ≡ nodes = take_all i nodes le in
       let g : StandsAfter (walk side nodes) s = subst (λ ns. StandsAfter (walk side ns) s) all h in
-      by (walk side nodes) g
-    where
-      by : (w : Walk) → StandsAfter w s → verdict_at w ≡ score_in s
-      by w g = rw (g.no_illegal, g.state)
+      scores_there (walk side nodes) s g
 
 -- a step that was refused ends the line with its verdict
 pub ends_line : (side : ℕ) (nodes : List Node) (i : ℕ) (old new : States) (n : Node) (fault : StepFault) (turns place : ℕ) (r : Result Verdict MemoryFault)

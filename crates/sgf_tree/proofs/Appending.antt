@@ -4,6 +4,7 @@ use Rattle.sgf_tree.specs.Tree.{Property, Node, Games, game, joined}
 use Rattle.sgf_tree.specs.RawValue.{IsValue, no_unit, plain, escaped}
 use Rattle.sgf_tree.specs.Spelling.{WhiteSpace, no_white_space, white_space, Letters, no_letter, upper, lower, IsPropValue, prop_value, ArePropValues, no_value, value, IsProperty, property, AreProperties, no_property, properties, IsNode, node, AreNodes, no_node, nodes, AreGames, no_game, games, ByteOrderMark, no_byte_order_mark, byte_order_mark, Spells, spells}
 use Rattle.sgf_tree.specs.Appending.{raised_node, raised, BeginsWithByteOrderMark}
+use Rattle.sgf_tree.proofs.NodeTexts.{white-join}
 
 -- ---- with u after the text
 
@@ -69,10 +70,6 @@ AreGames-raised by (games w n ns g v h) =
 
 -- ---- one after the other
 
-WhiteSpace-joined : {s t r : List ℕ} → WhiteSpace s t → WhiteSpace t r → WhiteSpace s r
-WhiteSpace-joined no_white_space v = v
-WhiteSpace-joined (white_space h w) v = white_space h (WhiteSpace-joined w v)
-
 AreGames-joined : {whole : ℕ} {g h : Games} {s t r : List ℕ} → AreGames whole g s t → AreGames whole h t r → AreGames whole (joined g h) s r
 AreGames-joined no_game k = k
 AreGames-joined (games w n ns g v h) k = games w n ns g v (AreGames-joined h k)
@@ -81,7 +78,7 @@ AreGames-joined (games w n ns g v h) k = games w n ns g v (AreGames-joined h k)
 AreGames-after_white : {whole : ℕ} {first : Node} {more : List Node} {below after : Games} {s t r : List ℕ} → WhiteSpace s t
     → AreGames whole (game first more below after) t r
     → AreGames whole (game first more below after) s r
-AreGames-after_white w (games v n ns g x h) = games (WhiteSpace-joined w v) n ns g x h
+AreGames-after_white w (games v n ns g x h) = games (white-join w v) n ns g x h
 
 pub Spells-append : (c d : Games) (t u : List ℕ) → Spells c t → Spells d u → ¬ BeginsWithByteOrderMark u → Spells (joined c (raised (length t) d)) (t ++ u)
 Spells-append c d t u (spells m g w) (spells byte_order_mark h v) unmarked = absurd (unmarked refl)

@@ -1,5 +1,6 @@
 -- Closing a game: its own nodes get the number of the last node, from its last one back to its first.
 use Rattle.std.proofs.Common.{◌≡◌, ℕ, zero, suc, ◌+◌, ◌-◌, ◌<◌, ◌≤◌, true, false, inl, inr, List, [], ◌∷◌, ◌++◌, length, get_or, set, take, drop, map, replicate, slice_get, Option, Some, option_map, refl, sym, ap, subst, ◌∙◌, arith, append_assoc}
+use Rattle.std.proofs.Math.ListN.{get_or-map}
 use Rattle.std.proofs.lemmas.Bool.{cases_lt}
 use Rattle.std.proofs.lemmas.List.{length-map, length-take-le, map-set, set-get_or, set_at, take_more}
 use Rattle.std.proofs.lemmas.Option.{slice_get-get_or}
@@ -10,11 +11,6 @@ use Rattle.sgf_tree.specs.declared.layout.NodeEntry.{NodeEntry}
 
 abbrev pub last_of : NodeEntry → ℕ
 last_of n = n.last_below
-
-pub get_or-map : {A B : Type 0} (f : A → B) (xs : List A) (i : ℕ) (d : A) → get_or (map f xs) i (f d) ≡ f (get_or xs i d)
-get_or-map f [] i d = refl
-get_or-map f (x ∷ xs) zero d = refl
-get_or-map f (x ∷ xs) (suc i) d = get_or-map f xs i d
 
 -- one more number in front of those that were written
 last-one : (ls : List ℕ) (at m last : ℕ) (rest : List ℕ) → at < length ls → set (take (at + 1) ls ++ replicate m last ++ rest) at last ≡ take at ls ++ replicate (suc m) last ++ rest

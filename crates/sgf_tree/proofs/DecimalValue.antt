@@ -1,5 +1,6 @@
 -- The value of digits: at one more digit, and how large it is.
 use Rattle.std.proofs.Common.{◌≡◌, ℕ, suc, ◌+◌, ◌-◌, ◌*◌, ◌^◌, ◌<◌, ◌≤◌, Bool, true, false, ◌&&◌, List, [], ◌∷◌, ◌++◌, length, take, get_or, refl, ap, ◌∙◌, arith, length-append}
+use Rattle.std.proofs.Math.Bool.{and-true}
 use Rattle.std.proofs.Math.Nat.{pow-suc, mul-le-mul_right, pow-le-pow_right}
 use Rattle.std.proofs.lemmas.List.{take_more, length-take-le}
 use Rattle.std.proofs.lemmas.List.Folds.{list_all-append}
@@ -19,10 +20,6 @@ decimal_value-append_digit (x ∷ ds) d =
 pub decimal_value-more : (ds : List ℕ) (i : ℕ) → i < length ds → decimal_value (take (i + 1) ds) ≡ 10 * decimal_value (take i ds) + (get_or ds i 0 - 48)
 decimal_value-more ds i h =
     ap decimal_value (take_more ds i 0 h) ∙ decimal_value-append_digit (take i ds) (get_or ds i 0)
-
-and-true : (b : Bool) → (b && true) ≡ b
-and-true true = refl
-and-true false = refl
 
 pub digits-more : (ds : List ℕ) (i : ℕ) → i < length ds → list_all is_digit (take (i + 1) ds) ≡ (list_all is_digit (take i ds) && is_digit (get_or ds i 0))
 digits-more ds i h =

@@ -1,5 +1,6 @@
 -- How the machine goes from game to game.
 use Rattle.std.proofs.Common.{◌≡◌, ◌≢◌, ℕ, ◌+◌, ◌-◌, ◌<◌, ◌⊎◌, true, false, inl, inr, List, [], ◌∷◌, length, get_or, Option, Some, None, is_some, refl, sym, ap, subst, ◌∙◌, arith, ne_eqb}
+use Rattle.std.proofs.lemmas.Option.{same_Some}
 use Rattle.std.proofs.lemmas.Bool.{false≢true, true≢false}
 use Rattle.std.proofs.lemmas.List.{length-map}
 use Rattle.sgf_tree.specs.Tree.{Games, no_games, game, game_count, node_count}
@@ -45,9 +46,6 @@ no-close k h = no-close-in k.closed k.unclosed h
     no-close-in : (closed : Games) (gs : List OpenGame) → tip closed gs ≡ None → close_in closed gs ≡ None
     no-close-in closed [] e = refl
     no-close-in closed (g ∷ gs) e = absurd (cc)
-
-some-same : {A : Type 0} {x y : A} → Some x ≡ Some y → x ≡ y
-some-same h = cc
 
 -- the end of a game leaves the tip of the game around it
 tip-closed : (closed : Games) (g : OpenGame) (gs : List OpenGame) → tip (add_games closed gs (whole_game g)).closed (add_games closed gs (whole_game g)).unclosed ≡ tip closed gs
@@ -175,7 +173,7 @@ module _ (t : List ℕ) where
     games-close next games' ns' parent lt e h white if_none if_some =
         let done = closes ns' parent h in
         let up : tip so_far.stack.closed inmost.outer ≡ parent =
-        some-same (sym (own-parent so_far.stack.closed inmost.inner inmost.outer ns held-inner.same_order) ∙ done.parent_is) in
+        same_Some _ _ (sym (own-parent so_far.stack.closed inmost.inner inmost.outer ns held-inner.same_order) ∙ done.parent_is) in
         let step_is : next_state at so_far.stands.state (get_or t at 0) ≡ Some (after_game closed_stack) =
         so_far.stands.next lt ∙ ap (between_games so_far.stack) e ∙ ap (close_in so_far.stack.closed) inmost.is ∙ closed-in so_far.stack.closed inmost.inner inmost.outer in
         record {

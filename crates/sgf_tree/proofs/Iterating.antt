@@ -9,7 +9,7 @@ use Rattle.sgf_tree.specs.Spelling.{is_white_space, is_upper, WhiteSpace, no_whi
 use Rattle.sgf_tree.specs.inner.NodeText.{is_letter, left_after, front, values_in, property_from, name_in, properties_in, NoValueFollows, NoPropertyFollows, AreValuesIn, ArePropertiesIn, IsNoPropValue, IsPastValues}
 use Rattle.sgf_tree.specs.inner.Progress.{IsSpan, SpellsValue, SpellsNoValue}
 use Rattle.sgf_tree.proofs.Classes.{upper-not_white_space}
-use Rattle.sgf_tree.proofs.NodeTexts.{white-same, white-none, prop-same, ends-value, past-same, white-left, values-in, ends-values, property-is, properties-in, count-values, count-properties}
+use Rattle.sgf_tree.proofs.NodeTexts.{white-same, white-none, white-join, prop-same, ends-value, past-same, white-left, values-in, ends-values, property-is, properties-in, count-values, count-properties}
 
 module _ (test : ℕ → Bool) where
   run-tail : (b : ℕ) (s : List ℕ) (k : ℕ) → IsSpan test (b ∷ s) 0 (suc k) → IsSpan test s 0 k
@@ -46,10 +46,6 @@ module _ (test : ℕ → Bool) where
             let at : k + (e - k) ≡ e = omega arith in
             ap test (get_or-drop k s (e - k) 0 ∙ ap (λ i. get_or s i 0) at) ∙ run.stops (omega (arith, run.within));
       }
-
-white-join : {s t u : List ℕ} → WhiteSpace s t → WhiteSpace t u → WhiteSpace s u
-white-join no_white_space v = v
-white-join (white_space h w) v = white_space h (white-join w v)
 
 -- the byte at an offset, and what is after it
 pub byte-at : (s : List ℕ) (k : ℕ) → k < length s → drop k s ≡ get_or s k 0 ∷ drop (k + 1) s

@@ -5,7 +5,8 @@ use Rattle.std.proofs.lemmas.List.{length-replicate}
 use Rattle.sgf_tree.specs.Tree.{Node, Games, no_games, game, node_count}
 use Rattle.sgf_tree.specs.FileOrder.{OrderedNode, further_nodes, nodes_from, ordered_nodes, IsAtOrBelow, itself, below, IsLastBelow}
 use Rattle.sgf_tree.specs.inner.GamesRead.{lasts}
-use Rattle.sgf_tree.proofs.OrderedNodes.{slice_get-left, slice_get-right, parent_in, parent_in-left, parent_in-right, parent_in-further, length-further_nodes, length-nodes_from, length-ordered_nodes, parent-within, parent_at-lt, parent_at-within}
+use Rattle.sgf_tree.proofs.Lists.{slice_get-left, slice_get-right}
+use Rattle.sgf_tree.proofs.OrderedNodes.{parent_in, parent_in-left, parent_in-right, parent_in-further, length-further_nodes, length-nodes_from, length-ordered_nodes, parent-within, parent_at-lt, parent_at-within}
 use Rattle.sgf_tree.proofs.Stacks.{length-lasts}
 
 slice_get-replicate : {A : Type 0} (n : ℕ) (x : A) (i : ℕ) → i < n → slice_get (replicate n x) i ≡ Some x

@@ -1,6 +1,8 @@
 pub mod Shrinks
+pub mod Rises
 pub mod PlacesRise
 pub mod Flat
+pub mod Lists
 pub mod OrderedNodes
 pub mod Names
 pub mod ValueEnds

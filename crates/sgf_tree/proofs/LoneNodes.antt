@@ -1,14 +1,14 @@
 -- A node that begins with a property of one letter and one value of two bytes.
 use Rattle.std.proofs.Common.{◌≡◌, ◌≢◌, ℕ, ◌+◌, ◌-◌, ◌<◌, ◌≤◌, Bool, true, false, IsTrue, refl, List, [], ◌∷◌, ◌++◌, codes, length, get_or, take, drop, slice_range, ◌∙◌, sym, ap, subst, ◌==◌, arith, get_or-drop, length-drop}
 use Rattle.std.specs.List.{flat_map}
-use Rattle.std.proofs.lemmas.Bool.{false≢true}
+use Rattle.std.proofs.lemmas.Bool.{false≢true, false_from_ne_true}
 use Rattle.sgf_tree.specs.Tree.{Property, lone_property}
 use Rattle.sgf_tree.specs.RawValue.{no_unit, plain}
 use Rattle.sgf_tree.specs.Spelling.{is_white_space, is_upper, no_white_space, no_letter, IsPropValue, prop_value, no_value, AreProperties, property, no_property, properties}
 use Rattle.sgf_tree.specs.Written.{property_text}
 use Rattle.sgf_tree.specs.inner.NodeText.{is_letter, properties_in, NoPropertyFollows, ArePropertiesIn, IsPastValues}
 use Rattle.sgf_tree.specs.inner.Progress.{IsSpan, is_plain, IsNodeEnd, IsShortFront, IsLoneNode, IsFrontOfMore}
-use Rattle.sgf_tree.proofs.Classes.{fails, upper-range, upper-not_white_space, upper-not_bracket, white-not_bracket, white-not_upper}
+use Rattle.sgf_tree.proofs.Classes.{upper-range, upper-not_white_space, upper-not_bracket, white-not_bracket, white-not_upper}
 use Rattle.sgf_tree.proofs.NodeTexts.{white-same, properties-in}
 use Rattle.sgf_tree.proofs.Iterating.{byte-at, run-drop, white-to, no-bracket, next-property}
 use Rattle.sgf_tree.proofs.ValueEnds.{plain-other}
@@ -40,7 +40,7 @@ ends-node s k end b t w = by_white (is_white_space b) refl
     by_white false h =
         let same : b ≡ get_or (drop k s) (e - k) 0 = (white-same w (white-to (drop k s) (e - k) run' inside) h (run'.stops inside)).0 in
         let below : b < 65 = rw (same, there) end.below in
-        ((λ is. omega arith), fails (is_upper b) (λ u. let range = upper-range b u in omega arith))
+        ((λ is. omega arith), false_from_ne_true (is_upper b) (λ u. let range = upper-range b u in omega arith))
 
 two-plain : (x y : ℕ) (r : List ℕ) → IsTrue (is_plain x) → IsTrue (is_plain y) → IsPropValue (x ∷ y ∷ []) (91 ∷ x ∷ y ∷ 93 ∷ r) r
 two-plain x y r h k =

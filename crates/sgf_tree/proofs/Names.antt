@@ -33,7 +33,7 @@ module _ (p : ℕ → Bool) (xs : List ℕ) (i : ℕ) (within : i < length xs) w
       other long here
 
 -- an element that is not found does not pass
-not-found : {A : Type 0} (b : Bool) (y : A) (o : Option A) → cond b (Some y) o ≡ None → (b ≡ false) × (o ≡ None)
+pub not-found : {A : Type 0} (b : Bool) (y : A) (o : Option A) → cond b (Some y) o ≡ None → (b ≡ false) × (o ≡ None)
 not-found true y o h = absurd (cc)
 not-found false y o h = (refl, h)
 

@@ -1,6 +1,6 @@
 -- What stands at the front of a text, by its functions and by the grammar.
 use Rattle.std.proofs.Common.{◌≡◌, ℕ, zero, suc, ◌+◌, ◌<◌, ◌≤◌, Bool, true, false, ◌||◌, ◌==◌, if◌then◌else◌, IsTrue, List, [], ◌∷◌, length, filter, refl, sym, ap, subst, ◌∙◌, inl, inr, arith, ne_eqb}
-use Rattle.std.proofs.lemmas.Bool.{false≢true}
+use Rattle.std.proofs.lemmas.Bool.{false≢true, or_right}
 use Rattle.sgf_tree.specs.Tree.{Property}
 use Rattle.sgf_tree.specs.RawValue.{IsValue, no_unit, plain, escaped}
 use Rattle.sgf_tree.specs.Spelling.{is_white_space, is_upper, is_lower, WhiteSpace, no_white_space, white_space, Letters, no_letter, upper, lower, IsPropValue, prop_value, ArePropValues, no_value, value, IsProperty, property, AreProperties, no_property, properties}
@@ -16,6 +16,10 @@ white-same no_white_space no_white_space h k = (refl, refl)
 white-same no_white_space (white_space l w) h k = absurd (false≢true (sym h ∙ l))
 white-same (white_space l w) no_white_space h k = absurd (false≢true (sym k ∙ l))
 white-same (white_space l w) (white_space m v) h k = white-same w v h k
+
+pub white-join : {s t u : List ℕ} → WhiteSpace s t → WhiteSpace t u → WhiteSpace s u
+white-join no_white_space v = v
+white-join (white_space h w) v = white_space h (white-join w v)
 
 pub white-none : {s t : List ℕ} {b : ℕ} → WhiteSpace s [] → WhiteSpace s (b ∷ t) → is_white_space b ≡ false → ⊥
 white-none no_white_space v h = elim v [ ]
@@ -59,10 +63,6 @@ unfolding left_after front
 stop-letters no_white_space = (refl, refl)
 stop-letters (white_space {b} h w) = (rw (white-not_upper b h, white-not_lower b h), rw (white-not_upper b h, white-not_lower b h))
 
-or-true : (x y : Bool) → y ≡ true → (x || y) ≡ true
-or-true true y h = refl
-or-true false y h = h
-
 over-letters : {name s u x : List ℕ} → Letters name s u → WhiteSpace u (91 ∷ x) → (left_after is_letter s ≡ u) × (filter is_upper (front is_letter s) ≡ name)
 unfolding left_after front
 over-letters no_letter w = let h = stop-letters w in (h.0, ap (filter is_upper) h.1)
@@ -70,7 +70,7 @@ over-letters (upper {b} h l) w =
     let k = over-letters l w in (rw h k.0, rw (h, h) (ap (λ n. b ∷ n) k.1))
 over-letters (lower {b} h l) w =
     let k = over-letters l w in
-    let letter : is_letter b ≡ true = or-true (is_upper b) (is_lower b) h in
+    let letter : is_letter b ≡ true = or_right (is_upper b) (is_lower b) h in
     (rw letter k.0, rw (letter, lower-not_upper b h) k.1)
 
 value-parts : {v s r : List ℕ} → IsValue v s (93 ∷ r) → (raw_value s ≡ v) × (after_raw_value s ≡ r)

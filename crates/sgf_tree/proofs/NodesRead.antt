@@ -10,16 +10,9 @@ use Rattle.sgf_tree.specs.inner.GamesRead.{open_count, tip, open_nodes, open_las
 use Rattle.sgf_tree.specs.declared.layout.Link.{Link}
 use Rattle.sgf_tree.specs.declared.layout.Link.TheVariants.{Root, Variation, Next}
 use Rattle.sgf_tree.specs.declared.layout.NodeEntry.{NodeEntry}
+use Rattle.sgf_tree.proofs.Lists.{slice_get-pushed}
 use Rattle.sgf_tree.proofs.Flat.{length-outlines_by, outlines_by-push}
 use Rattle.sgf_tree.proofs.Stacks.{length-open_nodes, open_lasts-new_game, open_nodes-more, open_lasts-more}
-
--- an element of a list with one more is one of the list, or the last one
-slice_get-pushed : {A : Type 0} (xs : List A) (y x : A) (i : ℕ) → slice_get (xs ++ y ∷ []) i ≡ Some x → (slice_get xs i ≡ Some x) ⊎ ((i ≡ length xs) × (y ≡ x))
-slice_get-pushed [] y x zero h = inr (refl, cc)
-slice_get-pushed [] y x (suc i) h = absurd (cc)
-slice_get-pushed (z ∷ xs) y x zero h = inl h
-slice_get-pushed (z ∷ xs) y x (suc i) h =
-    elim (slice_get-pushed xs y x i h) [ inl k ↦ inl k | inr k ↦ inr (ap suc k.0, k.1) ]
 
 -- what the link of a game's first node says
 opening-link : (k : Stack) (link : Link) (count : ℕ) → count ≡ open_count k.closed k.unclosed → IsOpening k link

@@ -3,18 +3,7 @@ use Rattle.std.proofs.Common.{◌≡◌, ℕ, zero, suc, ◌+◌, ◌-◌, ◌<�
 use Rattle.std.proofs.lemmas.Bool.{cases_lt, lt-ltb, le-ltb}
 use Rattle.sgf_tree.specs.Tree.{Node, Games, no_games, game, node_count}
 use Rattle.sgf_tree.specs.FileOrder.{OrderedNode, further_nodes, nodes_from, ordered_nodes, parent_at, game_of}
-
--- an element of the first of two lists
-pub slice_get-left : {A : Type 0} (xs ys : List A) (i : ℕ) → i < length xs → slice_get (xs ++ ys) i ≡ slice_get xs i
-slice_get-left [] ys i h = absurd (omega arith)
-slice_get-left (x ∷ xs) ys zero h = refl
-slice_get-left (x ∷ xs) ys (suc i) h = slice_get-left xs ys i (omega arith)
-
--- an element of the second one
-pub slice_get-right : {A : Type 0} (xs ys : List A) (i k : ℕ) → i ≡ length xs + k → slice_get (xs ++ ys) i ≡ slice_get ys k
-slice_get-right [] ys i k h = let e : i ≡ k = omega arith in rw e
-slice_get-right (x ∷ xs) ys zero k h = absurd (omega arith)
-slice_get-right (x ∷ xs) ys (suc i) k h = slice_get-right xs ys i k (omega arith)
+use Rattle.sgf_tree.proofs.Lists.{slice_get-left, slice_get-right}
 
 -- the parent of the node of a number
 abbrev pub parent_in : List OrderedNode → ℕ → Option (Option ℕ)

@@ -7,7 +7,8 @@ use Rattle.sgf_tree.specs.inner.Machine.{OpenGame}
 use Rattle.sgf_tree.specs.inner.Layout.{Outline, outline, outlines_by, parent_by}
 use Rattle.sgf_tree.specs.inner.GamesRead.{open_count, tip, own_nodes, open_nodes, opens_at, AreOwnNodes}
 use Rattle.sgf_tree.specs.declared.layout.NodeEntry.{NodeEntry}
-use Rattle.sgf_tree.proofs.OrderedNodes.{slice_get-left, slice_get-right, length-further_nodes}
+use Rattle.sgf_tree.proofs.Lists.{slice_get-left, slice_get-right}
+use Rattle.sgf_tree.proofs.OrderedNodes.{length-further_nodes}
 use Rattle.sgf_tree.proofs.Stacks.{length-open_nodes}
 
 -- what the outline of an entry says of its link

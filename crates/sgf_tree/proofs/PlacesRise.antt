@@ -5,40 +5,8 @@ use Rattle.std.proofs.lemmas.Option.{slice_get-map}
 use Rattle.sgf_tree.specs.Tree.{Node, Games, no_games, game, node_count}
 use Rattle.sgf_tree.specs.Spelling.{IsNode, node, AreNodes, no_node, nodes, AreGames, no_game, games, Spells, spells}
 use Rattle.sgf_tree.specs.FileOrder.{OrderedNode, further_nodes, nodes_from, ordered_nodes, place_at, PlacesRise}
+use Rattle.sgf_tree.proofs.Rises.{Rises, rises-low, rises-append, rises-pair, rises-get}
 use Rattle.sgf_tree.proofs.Shrinks.{shrinks-WhiteSpace, shrinks-AreProperties, shrinks-ByteOrderMark}
-
--- the numbers rise strictly, from low on and below high
-abbrev Rises : ℕ → List ℕ → ℕ → Type 0
-Rises low [] high = low ≤ high
-Rises low (p ∷ ps) high = (low ≤ p) × Rises (p + 1) ps high
-
-rises-low : (a b : ℕ) (ps : List ℕ) (c : ℕ) → a ≤ b → Rises b ps c → Rises a ps c
-rises-low a b [] c h r = omega arith
-rises-low a b (p ∷ ps) c h r = (omega arith, r.1)
-
-rises-append : (a b c : ℕ) (ps qs : List ℕ) → Rises a ps b → Rises b qs c → Rises a (ps ++ qs) c
-rises-append a b c [] qs r s = rises-low a b qs c r s
-rises-append a b c (p ∷ ps) qs r s = (r.0, rises-append (p + 1) b c ps qs r.1 s)
-
-rises-ends : (low high : ℕ) (ps : List ℕ) → Rises low ps high → low ≤ high
-rises-ends low high [] r = r
-rises-ends low high (p ∷ ps) r = let k = rises-ends (p + 1) high ps r.1 in omega arith
-
-rises-get : (low high : ℕ) (ps : List ℕ) (i p : ℕ) → Rises low ps high → slice_get ps i ≡ Some p → (low ≤ p) × (p < high)
-rises-get low high [] i p r e = cc
-rises-get low high (q ∷ ps) zero p r e =
-    let same : q ≡ p = cc in let k = rises-ends (q + 1) high ps r.1 in (omega arith, omega arith)
-rises-get low high (q ∷ ps) (suc i) p r e =
-    let k = rises-get (q + 1) high ps i p r.1 e in (omega arith, omega arith)
-
-rises-pair : (low high : ℕ) (ps : List ℕ) (i j p q : ℕ) → Rises low ps high → i < j → slice_get ps i ≡ Some p → slice_get ps j ≡ Some q → p < q
-rises-pair low high [] i j p q r h e f = cc
-rises-pair low high (x ∷ ps) zero zero p q r h e f = omega arith
-rises-pair low high (x ∷ ps) zero (suc j) p q r h e f =
-    let same : x ≡ p = cc in let k = rises-get (x + 1) high ps j q r.1 f in omega arith
-rises-pair low high (x ∷ ps) (suc i) zero p q r h e f = omega arith
-rises-pair low high (x ∷ ps) (suc i) (suc j) p q r h e f =
-    rises-pair (x + 1) high ps i j p q r.1 (omega arith) e f
 
 abbrev node_place : Node → ℕ
 node_place n = n.place

@@ -1,5 +1,6 @@
 -- The units of a raw value, by the machine, and where the next `]` stands.
 use Rattle.std.proofs.Common.{◌≡◌, ◌≢◌, ℕ, zero, suc, ◌+◌, ◌-◌, ◌<◌, ◌≤◌, true, not, ◌==◌, List, [], ◌∷◌, ◌++◌, length, get_or, take, drop, slice_range, Some, None, refl, sym, ap, subst, ◌∙◌, arith, eqb-true, get_or-take, get_or-drop, ne_eqb}
+use Rattle.std.proofs.Math.Seq.{take-add}
 use Rattle.std.proofs.Common.{length-take, length-drop}
 use Rattle.std.proofs.lemmas.Bool.{and_parts, not-true, eqb-false, eq-eqb}
 use Rattle.memchr.specs.Find.{IsFirstByte, is_byte}
@@ -11,21 +12,12 @@ use Rattle.sgf_tree.proofs.Faults.{ended-fault, refused-fault}
 use Rattle.sgf_tree.proofs.Run.{run-take-step}
 use Rattle.sgf_tree.proofs.Spans.{run-plain, run-escape}
 
-take-nil : {A : Type 0} (n : ℕ) → take {A = A} n [] ≡ []
-take-nil zero = refl
-take-nil (suc n) = refl
-
 -- two spans side by side
-take-both : {A : Type 0} (m n : ℕ) (xs : List A) → take (m + n) xs ≡ take m xs ++ take n (drop m xs)
-take-both zero n xs = let e : 0 + n ≡ n = omega arith in rw e
-take-both (suc m) n [] = take-nil (suc m + n) ∙ sym (take-nil n)
-take-both (suc m) n (x ∷ xs) = let e : suc m + n ≡ suc (m + n) = omega arith in rw e (ap (λ ys. x ∷ ys) (take-both m n xs))
-
 pub span-join : {A : Type 0} (t : List A) (a b c : ℕ) → a ≤ b → b ≤ c → slice_range t a b ++ slice_range t b c ≡ slice_range t a c
 span-join t a b c le le' =
     let e : c - a ≡ (b - a) + (c - b) = omega arith in
     let f : a + (b - a) ≡ b = omega arith in
-    rw e (sym (take-both (b - a) (c - b) (drop a t) ∙ ap (λ xs. take (b - a) (drop a t) ++ take (c - b) xs) (drop-drop (b - a) a t ∙ ap (λ k. drop k t) f)))
+    rw e (sym (take-add (b - a) (c - b) (drop a t) ∙ ap (λ xs. take (b - a) (drop a t) ++ take (c - b) xs) (drop-drop (b - a) a t ∙ ap (λ k. drop k t) f)))
 
 -- the whole text is reached
 pub reaches-all : (t : List ℕ) (z : MachineState) → ComesTo t (length t) z → run 0 start t ≡ Some z

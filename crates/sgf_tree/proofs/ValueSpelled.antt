@@ -1,5 +1,6 @@
 -- Raw values, by the grammar: how one is put together from its units, and that it has one end.
 use Rattle.std.proofs.Common.{◌≡◌, ◌≢◌, ℕ, zero, suc, ◌+◌, ◌-◌, ◌<◌, ◌≤◌, List, [], ◌∷◌, ◌++◌, length, get_or, take, drop, slice_range, refl, sym, ap, subst, ◌∙◌, arith, length-drop, get_or-drop}
+use Rattle.std.proofs.Math.Seq.{drop-length}
 use Rattle.std.proofs.lemmas.List.{drop-drop}
 use Rattle.sgf_tree.specs.RawValue.{IsValue, no_unit, plain, escaped}
 use Rattle.sgf_tree.specs.inner.Progress.{ArePlain, SpellsValue, SpellsNoValue}
@@ -81,11 +82,7 @@ value-cut (escaped h) (plain z w k) = w refl
 value-cut (escaped h) (escaped k) = value-cut h k
 
 pub none-ended : (t : List ℕ) (at : ℕ) → SpellsValue t at (length t) → SpellsNoValue t at
-none-ended t at h v r k = value-unended (subst (IsValue (slice_range t at (length t)) (drop at t)) (all-dropped t) h) k
-  where
-    all-dropped : (s : List ℕ) → drop (length s) s ≡ []
-    all-dropped [] = refl
-    all-dropped (b ∷ s) = all-dropped s
+none-ended t at h v r k = value-unended (subst (IsValue (slice_range t at (length t)) (drop at t)) (drop-length t) h) k
 
 pub none-cut : (t : List ℕ) (at a : ℕ) → a + 1 ≡ length t → get_or t a 0 ≡ 92 → SpellsValue t at a → SpellsNoValue t at
 none-cut t at a e f h v r k = value-cut (subst (IsValue (slice_range t at a) (drop at t)) (last-left t a e f) h) k

@@ -1,5 +1,7 @@
 -- What clap makes of the words that ask for a job.
 use Rattle.std.proofs.Common.{Bool, ◌≡◌, true, List, [], ◌∷◌, ◌++◌, codes, refl, false, ◌&&◌, Option, Some, None, ap, sym, ◌∙◌}
+use Rattle.std.proofs.Math.Bool.{and-false}
+use Rattle.std.proofs.lemmas.Bool.{and_from}
 use Rattle.std.specs.Prelude.{unwrap_or, find, fold, IfSome, is_some}
 use Rattle.std.specs.List.{list_any, list_all}
 use Rattle.clap.specs.Faults.{is_simple_and_free}
@@ -53,10 +55,6 @@ abbrev pub split_rules : FormNames → List Rule
 split_rules names = (split_shape names).rules
 
 -- ---- the options of `split`, one after another
-
-and_false : (b : Bool) → (b && false) ≡ false
-and_false true = refl
-and_false false = refl
 
 abbrev pub Pending : Type 0
 Pending = Option (Text × List Text)
@@ -134,13 +132,13 @@ module _ (names : FormNames) where
       → (walked_on (between rows p) (file_words v)).held ≡ held (rows_with v rows p) (pending_with (codes "file") v p)
   unfolding clap_on_literals
   file_held None n rows p = refl
-  file_held (Some v) n rows p = rw (n.two, n.long, n.short, and_false) refl
+  file_held (Some v) n rows p = rw (n.two, n.long, n.short, and-false) refl
 
   file_passes : (v : Option Text) → IfSome v IsNoOption → (rows : List Row) (p : Pending) → settles rows p
       → passes_on (between rows p) (file_words v) ≡ true
   unfolding clap_on_literals
   file_passes None n rows p ok = refl
-  file_passes (Some v) n rows p ok = rw (n.two, n.long, n.short, and_false, ok) refl
+  file_passes (Some v) n rows p ok = rw (n.two, n.long, n.short, and-false, ok) refl
 
 -- ---- each level of the parse
 
@@ -148,9 +146,6 @@ module _ (names : FormNames) where
 abbrev pub words_after : Option Text → Option Text → Option Text → Option Text → List Text
 words_after form after limit file =
     option_words (codes "--form") form ++ (option_words (codes "--after") after ++ (option_words (codes "--limit") limit ++ file_words file))
-
-both_true : (a b : Bool) → a ≡ true → b ≡ true → (a && b) ≡ true
-both_true a b p q = rw (p, q) refl
 
 module _ (names : FormNames) where
   abbrev pub rows_1 : Option Text → List Row
@@ -319,8 +314,8 @@ module _ (names : FormNames) (form after limit file : Option Text) (a : AreAccep
 
   pub split_level : level_passes (split_shape names) [] nothing_held (words_after form after limit file) false ≡ true
   split_level =
-      both_true _ _ split_passes
-      (both_true _ _
+      and_from _ _ split_passes
+      (and_from _ _
       (ap (settle_passes (split_rules names) false) split_walk
       ∙ settles_4 names form after limit file a.form_accepted a.after_accepted a.limit_accepted)
       (defaults_pass (walk (split_rules names) [] nothing_held (words_after form after limit file)).held))
@@ -377,7 +372,7 @@ module _ (names : FormNames) where
       → takes (program_app names) (name ∷ codes "split" ∷ rest) ≡ true
   unfolding clap_on_literals
   split_taken name rest level =
-      ap (takes_by (codes "split" ∷ rest)) (split_met rest) ∙ both_true _ _ level (both_true _ _ (split_met_passes rest) refl)
+      ap (takes_by (codes "split" ∷ rest)) (split_met rest) ∙ and_from _ _ level (and_from _ _ (split_met_passes rest) refl)
 
   pub split_entered : (name : Text) (rest : List Text) → subcommand_of (program_app names) (name ∷ codes "split" ∷ rest) ≡ Some (codes "split", rows_after (split_rules names) [] rest)
   unfolding clap_on_literals
@@ -395,7 +390,7 @@ module _ (names : FormNames) where
       → takes (program_app names) (name ∷ codes "count" ∷ rest) ≡ true
   unfolding clap_on_literals
   count_taken name rest level =
-      ap (takes_by (codes "count" ∷ rest)) (count_met rest) ∙ both_true _ _ level (both_true _ _ (count_met_passes rest) refl)
+      ap (takes_by (codes "count" ∷ rest)) (count_met rest) ∙ and_from _ _ level (and_from _ _ (count_met_passes rest) refl)
 
   pub count_entered : (name : Text) (rest : List Text) → subcommand_of (program_app names) (name ∷ codes "count" ∷ rest) ≡ Some (codes "count", rows_after (count_rules names) [] rest)
   unfolding clap_on_literals

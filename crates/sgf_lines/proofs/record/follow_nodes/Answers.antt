@@ -7,7 +7,7 @@ use Rattle.sgf_lines.specs.Record.{node_text}
 use Rattle.sgf_lines.specs.declared.kept.KeptText.{KeptText}
 use Rattle.sgf_lines.specs.inner.Kept.{IsKeptText, open_game}
 use Rattle.sgf_lines.proofs.Joins.{node_named, as_many}
-use Rattle.sgf_lines.proofs.Along.{front_more}
+use Rattle.sgf_lines.proofs.Lists.{front_more}
 use Rattle.sgf_lines.proofs.KeptTexts.{kept_on, open_game_more}
 use Rattle.sgf_lines.proofs.record.follow_nodes.Goals as goal
 

@@ -7,7 +7,8 @@ use Rattle.go_board.specs.declared.stones.Cell.TheVariants.{Black, Empty}
 use Rattle.go_board.specs.Point.{points, point_at}
 use Rattle.sgf_lines.specs.inner.Cutting.{commands_at}
 use Rattle.sgf_lines.proofs.Joins.{joins}
-use Rattle.sgf_lines.proofs.Cut.{stones-by_point, points-get, length-points}
+use Rattle.go_board.proofs.PointLemmas.{length-points}
+use Rattle.sgf_lines.proofs.Cut.{stones-by_point, points-get}
 use Rattle.sgf_lines.proofs.script.push_stones.Goals as goal
 
 pub loop-index-preserved : goal.loop-index-preserved
