@@ -1,6 +1,7 @@
 -- The rows of the stones of a board, where one point is set.
-use Rattle.std.proofs.Common.{◌≡◌, ◌≢◌, inl, inr, ℕ, ◌*◌, ◌<◌, ◌≤◌, ◌^◌, ◌%◌, ◌==◌, ◌&&◌, ◌||◌, Bool, true, false, not, List, length, get_or, set, take, replicate, bit_and, w64, refl, sym, ap, ◌∙◌, arith, subst}
+use Rattle.std.proofs.Common.{◌≡◌, ◌≢◌, inl, inr, ℕ, ◌*◌, ◌<◌, ◌≤◌, ◌^◌, ◌%◌, ◌==◌, ◌&&◌, true, false, not, List, length, get_or, set, take, replicate, bit_and, w64, refl, sym, ap, ◌∙◌, arith, subst}
 use Rattle.std.specs.Int.{bit_not}
+use Rattle.std.proofs.Math.Bool.{or-true, and-true, and-false}
 use Rattle.std.proofs.Math.Seq.{take-set-lt}
 use Rattle.std.proofs.lemmas.Bool.{cases_eq, cases_lt, false≢true}
 use Rattle.std.proofs.lemmas.Nat.{mod_below, pow_pos}
@@ -15,11 +16,10 @@ use Rattle.go_board.specs.Grid.{Grid, cell_at, with_cell, empty_grid}
 use Rattle.go_board.specs.inner.Rows.{has_bit, is_set}
 use Rattle.go_board.specs.inner.Regions.{AreRowsOf}
 use Rattle.go_board.proofs.WordLemmas.{has_bit-zero, has_bit-and, has_bit-without}
+use Rattle.go_board.proofs.RowLemmas.{is_set-none}
 use Rattle.go_board.proofs.RegionLemmas.{has_bit-set_there, has_bit-set_elsewhere}
+use Rattle.go_board.proofs.PointLemmas.{one_point}
 use Rattle.go_board.proofs.GridLemmas.{get_or-replicate_default, cell_at-with_cell, cell_at-with_cell_elsewhere}
-
-same_point : (q p : Point) → q.col ≡ p.col → q.row ≡ p.row → q ≡ p
-same_point q p e f = ap (λ c. record { col = c; row = q.row }) e ∙ ap (λ r. record { col = p.col; row = r }) f
 
 module _ (g : Grid) (p : Point) (c wanted : Cell) (rows : List ℕ) (word : ℕ) (on : IsOn g.side p) (all : length g.cells ≡ g.side * g.side) (long : g.side ≤ length rows)
     (there : has_bit word p.col ≡ same_cell c wanted) (elsewhere : (k : ℕ) → k ≢ p.col → has_bit word k ≡ has_bit (get_or rows p.row 0) k)
@@ -52,7 +52,7 @@ module _ (g : Grid) (p : Point) (c wanted : Cell) (rows : List ℕ) (word : ℕ)
           | inl e ↦
               elim (cases_eq q.col p.col) [
                 | inl f ↦
-                    let same : q ≡ p = same_point q p f e in
+                    let same : q ≡ p = one_point q p f e in
                     same_row q e ∙ ap (has_bit word) f ∙ there ∙ ap (λ x. same_cell x wanted) (sym (cell_at-with_cell g p c on all) ∙ ap (cell_at (with_cell g p c)) (sym same))
                 | inr apart ↦ same_row q e ∙ other_column q e apart ∙ unchanged q on_board (λ s. apart (ap (λ (x : Point). x.col) s))
               ]
@@ -72,19 +72,7 @@ module _ (g : Grid) (p : Point) (c wanted : Cell) (rows : List ℕ) (word : ℕ)
   pub rows_set : AreRowsOf g.side (λ q. same_cell (cell_at (with_cell g p c) q) wanted) (take g.side (set rows p.row word))
   rows_set = subst (λ l. AreRowsOf g.side (λ q. same_cell (cell_at (with_cell g p c) q) wanted) l) (sym (take-set-lt g.side rows p.row word on.1)) set_rows
 
-or_true : (x : Bool) → (x || true) ≡ true
-or_true true = refl
-or_true false = refl
-
 -- a word without the bit of a column
-and_no : (x : Bool) → (x && false) ≡ false
-and_no true = refl
-and_no false = refl
-
-and_yes : (x : Bool) → (x && true) ≡ x
-and_yes true = refl
-and_yes false = refl
-
 abbrev bit_of : ℕ → ℕ
 bit_of col = 1 * 2 ^ col % 2 ^ 64
 
@@ -92,20 +80,20 @@ small : (col : ℕ) → bit_of col < 2 ^ 64
 small col = mod_below (1 * 2 ^ col) (2 ^ 64) (pow_pos 64)
 
 bit_there : (col : ℕ) → col < 64 → has_bit (bit_of col) col ≡ true
-bit_there col low = has_bit-set_there 0 col true refl low ∙ or_true (has_bit 0 col)
+bit_there col low = has_bit-set_there 0 col true refl low ∙ or-true (has_bit 0 col)
 
 bit_elsewhere : (col : ℕ) → col < 64 → (k : ℕ) → k ≢ col → has_bit (bit_of col) k ≡ false
 bit_elsewhere col low k other = has_bit-set_elsewhere 0 col low k other ∙ has_bit-zero k
 
 pub without_there : (word col : ℕ) → col < 64 → has_bit (bit_and word (bit_not w64 (bit_of col))) col ≡ false
 without_there word col low =
-    has_bit-without word (bit_of col) col (small col) low ∙ ap (λ x. has_bit word col && not x) (bit_there col low) ∙ and_no (has_bit word col)
+    has_bit-without word (bit_of col) col (small col) low ∙ ap (λ x. has_bit word col && not x) (bit_there col low) ∙ and-false (has_bit word col)
 
 pub without_elsewhere : (word col : ℕ) → word < 2 ^ 64 → col < 64 → (k : ℕ) → k ≢ col → has_bit (bit_and word (bit_not w64 (bit_of col))) k ≡ has_bit word k
 without_elsewhere word col fits low k other =
     elim (cases_lt k 64) [
       | inl inside ↦
-          has_bit-without word (bit_of col) k (small col) inside ∙ ap (λ x. has_bit word k && not x) (bit_elsewhere col low k other) ∙ and_yes (has_bit word k)
+          has_bit-without word (bit_of col) k (small col) inside ∙ ap (λ x. has_bit word k && not x) (bit_elsewhere col low k other) ∙ and-true (has_bit word k)
       | inr past ↦
           let none : has_bit word k ≡ false = ap (λ n. n == 1) (bit_at_above word 64 k fits past) in
           has_bit-and word (bit_not w64 (bit_of col)) k ∙ ap (λ x. x && has_bit (bit_not w64 (bit_of col)) k) none ∙ sym none
@@ -117,7 +105,7 @@ pub none_kept : (side : ℕ) (wanted : Cell) (rows : List ℕ) → same_cell Emp
 none_kept side wanted rows other small is =
     let zeros : take side rows ≡ replicate side 0 = ap (take side) is ∙ take-replicate side 52 0 small in
     let none : (p : Point) → is_set (take side rows) p ≡ false =
-    λ p. ap (λ l. is_set l p) zeros ∙ ap (λ w. has_bit w p.col) (get_or-replicate_default side p.row 0) ∙ has_bit-zero p.col in
+    λ p. ap (λ l. is_set l p) zeros ∙ is_set-none side p in
     record {
       on = λ p on. none p ∙ sym (ap (λ x. same_cell x wanted) (get_or-replicate_default (side * side) (index_of side p) Empty) ∙ other);
       off = λ p there. absurd (false≢true (sym (none p) ∙ there));

@@ -1,7 +1,7 @@
 -- Words as sets of columns: what the operations on words make of their bits.
-use Rattle.std.proofs.Common.{◌≡◌, inl, inr, ℕ, zero, suc, ◌+◌, ◌-◌, ◌*◌, ◌/◌, ◌%◌, ◌^◌, ◌<◌, ◌≤◌, ◌==◌, ◌||◌, ◌&&◌, min, max, true, false, not, bit_and, bit_or, w64, refl, sym, ap, ◌∙◌, arith, subst}
+use Rattle.std.proofs.Common.{◌≡◌, inl, inr, ℕ, zero, suc, ◌+◌, ◌-◌, ◌*◌, ◌/◌, ◌%◌, ◌^◌, ◌<◌, ◌≤◌, ◌==◌, ◌||◌, ◌&&◌, min, max, Bool, true, false, not, bit_and, bit_or, w64, refl, sym, ap, ◌∙◌, arith, subst}
 use Rattle.std.specs.Int.{bit_at, bit_not}
-use Rattle.std.proofs.lemmas.Bool.{false≢true, cases_lt}
+use Rattle.std.proofs.lemmas.Bool.{not-false, false≢true, cases_lt, eqb-true, eqb-false}
 use Rattle.std.proofs.lemmas.Nat.{le_or_l, and_mask, mod_below, pow_pos}
 use Rattle.std.proofs.lemmas.Nat.Bits.{bit_at_and, bit_at_or, bit_at_not, bit_at-lt, bit_at-suc, bit_at-zero, bit_at_above, bit_at_ones, bit_at_cat_high, bit_at_cat_low, same_from_bits}
 use Rattle.go_board.specs.inner.Rows.{has_bit, IsPart}
@@ -54,6 +54,18 @@ has_bit-without word other c low column =
     ap (λ n. n == 1)
     (bit_at_and word (bit_not w64 other) c ∙ ap (λ b. min (bit_at word c) b) (bit_at_not w64 other c low column))
     ∙ test_without (bit_at word c) (bit_at other c) (bit_at-lt word c) (bit_at-lt other c)
+
+-- where nothing of the one is left without the other, what is in the one is in the other
+pub in_the_other : (x y : Bool) → x ≡ true → (x && not y) ≡ false → y ≡ true
+in_the_other true y is none = not-false y none
+in_the_other false y is none = absurd (false≢true is)
+
+-- the bit of a column that is there, and of one that isn't
+pub bit_at-there : (n c : ℕ) → has_bit n c ≡ true → bit_at n c ≡ 1
+bit_at-there n c is = eqb-true (bit_at n c) 1 is
+
+pub bit_at-gone : (n c : ℕ) → has_bit n c ≡ false → bit_at n c ≡ 0
+bit_at-gone n c none = let other = eqb-false (bit_at n c) 1 none in omega (arith, bit_at-lt n c, other)
 
 pub has_bit-zero : (c : ℕ) → has_bit 0 c ≡ false
 has_bit-zero c = ap (λ n. n == 1) (bit_at-zero c)

@@ -1,7 +1,8 @@
 use Rattle.std.proofs.Common.{◌≡◌, true, set, sym, ap, ◌∙◌}
+use Rattle.std.proofs.Math.Bool.{or-true}
 use Rattle.go_board.specs.inner.Rows.{has_bit}
 use Rattle.go_board.proofs.WordLemmas.{has_bit-zero}
-use Rattle.go_board.proofs.LinkedLemmas.{or_true, IsRowGroup-grown}
+use Rattle.go_board.proofs.LinkedLemmas.{IsRowGroup-grown}
 use Rattle.go_board.proofs.board.group.begin.Goals as goal
 
 pub returns : goal.returns
@@ -10,7 +11,7 @@ returns c =
     let from = c.args.from in
     let old = c.args.group.now in
     let word = c.with_column.result in
-    let there : has_bit word from.col ≡ true = ap (has_bit word) (sym c.from.ensures) ∙ c.with_column.ensures.there ∙ or_true (has_bit 0 c.from.result) in
+    let there : has_bit word from.col ≡ true = ap (has_bit word) (sym c.from.ensures) ∙ c.with_column.ensures.there ∙ or-true (has_bit 0 c.from.result) in
     IsRowGroup-grown own own from from old (set old c.from-row.result word) c.grow_row.new.rows word c.requires.none c.requires.on_board.1 there
     (λ k other. c.with_column.ensures.elsewhere k (λ e. other (e ∙ c.from.ensures)) ∙ has_bit-zero k)
     (ap (λ r. set old r word) c.from-row.ensures)
