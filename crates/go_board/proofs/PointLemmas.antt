@@ -1,5 +1,5 @@
 -- Points, their indices in a list that goes row by row, and tests on the points of a grid.
-use Rattle.std.proofs.Common.{◌≡◌, ◌≢◌, ◌↔◌, Some, slice_get, subst, ℕ, zero, suc, ◌*◌, ◌<◌, ◌⊎◌, Bool, true, List, [], map, length, get_or, refl, sym, ap, ◌∙◌, arith, Decides, inl, inr}
+use Rattle.std.proofs.Common.{◌≡◌, ◌≢◌, ◌↔◌, Some, slice_get, subst, ℕ, zero, suc, ◌*◌, ◌<◌, ◌⊎◌, Bool, true, List, map, length, get_or, refl, sym, ap, ◌∙◌, arith, Decides, inl, inr}
 use Rattle.std.specs.List.{list_any}
 use Rattle.std.proofs.lemmas.Nat.{mul-add-lt, mod-mul-add, div-mul-add, rows}
 use Rattle.std.proofs.lemmas.List.{get_or-map, ext_get_or, length-map}

@@ -1,20 +1,22 @@
 -- The rows of the stones of a board, where one point is set.
-use Rattle.std.proofs.Common.{◌≡◌, ◌≢◌, inl, inr, ℕ, ◌*◌, ◌<◌, ◌≤◌, ◌^◌, ◌%◌, ◌==◌, ◌&&◌, true, false, not, List, length, get_or, set, take, replicate, bit_and, w64, refl, sym, ap, ◌∙◌, arith, subst}
+use Rattle.std.proofs.Common.{◌≡◌, ◌≢◌, inl, inr, ℕ, ◌*◌, ◌<◌, ◌≤◌, ◌^◌, ◌%◌, ◌==◌, ◌&&◌, true, false, not, List, length, get_or, set, take, replicate, bit_and, w64, IsTrue, refl, sym, ap, ◌∙◌, arith, subst}
 use Rattle.std.specs.Int.{bit_not}
 use Rattle.std.proofs.Math.Bool.{or-true, and-true, and-false}
 use Rattle.std.proofs.Math.Seq.{take-set-lt}
 use Rattle.std.proofs.lemmas.Bool.{cases_eq, cases_lt, false≢true}
-use Rattle.std.proofs.lemmas.Nat.{mod_below, pow_pos}
+use Rattle.std.proofs.lemmas.Nat.{mod_below, pow_pos, mul-le}
 use Rattle.std.proofs.lemmas.Nat.Bits.{bit_at_above}
 use Rattle.std.proofs.lemmas.List.{get_or-take, get_or-set_same, get_or-set_other, length-take-le, take-replicate}
 use Rattle.go_board.specs.declared.stones.Cell.{Cell}
-use Rattle.go_board.specs.declared.stones.Cell.TheVariants.{Empty}
+use Rattle.go_board.specs.declared.stones.Cell.TheVariants.{Black, White, Empty}
+use Rattle.go_board.specs.declared.board.stone_rows.StoneRows.{StoneRows}
+use Rattle.go_board.specs.declared.size.TheConstants.{MAX_POINTS, MAX_ROWS}
 use Rattle.go_board.specs.declared.points.Point.{Point}
 use Rattle.go_board.specs.Colour.{same_cell}
 use Rattle.go_board.specs.Point.{IsOn, index_of}
 use Rattle.go_board.specs.Grid.{Grid, cell_at, with_cell, empty_grid}
 use Rattle.go_board.specs.inner.Rows.{has_bit, is_set}
-use Rattle.go_board.specs.inner.Regions.{AreRowsOf}
+use Rattle.go_board.specs.inner.Regions.{AreRowsOf, AreRowsKept}
 use Rattle.go_board.proofs.WordLemmas.{has_bit-zero, has_bit-and, has_bit-without}
 use Rattle.go_board.proofs.RowLemmas.{is_set-none}
 use Rattle.go_board.proofs.RegionLemmas.{has_bit-set_there, has_bit-set_elsewhere}
@@ -110,3 +112,30 @@ none_kept side wanted rows other small is =
       on = λ p on. none p ∙ sym (ap (λ x. same_cell x wanted) (get_or-replicate_default (side * side) (index_of side p) Empty) ∙ other);
       off = λ p there. absurd (false≢true (sym (none p) ∙ there));
     }
+
+-- the rows of a grid's stones
+pub record AreStoneRows (g : Grid) (black_words white_words : List ℕ) : Type 0 where
+  pub black_rows : length black_words ≡ g.side
+  pub white_rows : length white_words ≡ g.side
+  pub black : AreRowsOf g.side (λ p. same_cell (cell_at g p) Black) black_words
+  pub white : AreRowsOf g.side (λ p. same_cell (cell_at g p) White) white_words
+
+-- with so few points there are so few rows
+few_rows : (n : ℕ) → n * n ≤ MAX_POINTS → n ≤ MAX_ROWS
+few_rows n fits =
+    elim (cases_lt 52 n) [
+      | inl more ↦ absurd (let square = mul-le 53 53 n n (omega (arith, more)) (omega (arith, more)) in omega (arith, fits, square))
+      | inr few ↦ few
+    ]
+
+-- the rows that are kept of a board, where they are known: as many as it has
+pub AreStoneRows-known : (g h : Grid) (rows : StoneRows) (n : ℕ) → h ≡ g → n ≡ h.side → h.side * h.side ≤ MAX_POINTS → AreRowsKept h rows → IsTrue rows.known → AreStoneRows g (take n rows.black) (take n rows.white)
+AreStoneRows-known g h rows n is all fits kept known =
+    let few = few_rows h.side fits in
+    rw (← is, all)
+    (record {
+      black_rows = length-take-le h.side rows.black (rw kept.black_rows few);
+      white_rows = length-take-le h.side rows.white (rw kept.white_rows few);
+      black = kept.black known;
+      white = kept.white known;
+    })
