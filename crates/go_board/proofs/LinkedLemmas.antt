@@ -141,6 +141,9 @@ module _ (own others : List ℕ) (besides from : Point) where
     from_in_first : is_set first from ≡ true
     from_in_first = ap (λ rows. is_set rows from) first_is ∙ ap (λ w. has_bit w from.col) (get_or-set_same old from.row word 0 within_row) ∙ there
 
+    pub first_within : is_set own from ≡ true → IsAmong (is_set first) (is_set own)
+    first_within stone = λ p is. ap (is_set own) (in_first p is) ∙ stone
+
     pub IsRowGroup-grown : is_set own from ≡ true → Grows (is_set own) (is_set first) (is_set grown) → ((k : ℕ) → k ≢ from.row → slice_index grown k ≡ slice_index first k) → IsRowClosed (is_set own) (is_set grown) from.row → IsRowGroup own from grown
     IsRowGroup-grown stone grows others_same closed = record {
       within = grows.within;
