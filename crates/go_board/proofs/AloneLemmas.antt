@@ -1,6 +1,6 @@
 -- A stone that captures nothing.
 use Rattle.std.proofs.Common.{◌≡◌, ◌≢◌, ◌⊎◌, inl, inr, ◌*◌, ◌==◌, ◌&&◌, not, Decides, false, true, Option, Some, None, length, refl, sym, ap, ◌∙◌}
-use Rattle.std.proofs.lemmas.Bool.{cases_Bool, false≢true}
+use Rattle.std.proofs.lemmas.Bool.{cases_Bool, not-false}
 use Rattle.std.proofs.lemmas.Bool.Decides.{Decides-and, Decides-not, Decides-like, Decides-eqb}
 use Rattle.go_board.specs.declared.stones.Cell.TheVariants.{Empty}
 use Rattle.go_board.specs.declared.stones.Colour.{Colour}
@@ -10,7 +10,7 @@ use Rattle.go_board.specs.Point.{IsOn}
 use Rattle.go_board.specs.Grid.{Grid, cell_at, with_cell}
 use Rattle.go_board.specs.Clearing.{play, has_unreaching}
 use Rattle.go_board.specs.inner.Groups.{ReachesIfStone, LivesAt, LosesShut, AllLive}
-use Rattle.go_board.proofs.PointLemmas.{same_or_not}
+use Rattle.go_board.proofs.PointLemmas.{one_point}
 use Rattle.go_board.proofs.GridLemmas.{Decides-same_cell, cell_at-with_cell, cell_at-with_cell_elsewhere}
 use Rattle.go_board.proofs.GroupLemmas.{stone_of≢Empty}
 use Rattle.go_board.proofs.NeighbourLemmas.{AllNeighbour}
@@ -21,7 +21,7 @@ use Rattle.go_board.proofs.MoveLemmas.{captured_is_play}
 Decides-point_eq : (p q : Point) → Decides ((p.col == q.col) && (p.row == q.row)) (p ≡ q)
 Decides-point_eq p q =
     Decides-like _
-    (λ e. ap (λ a. record { col = a; row = p.row }) e.0 ∙ ap (λ b. record { col = q.col; row = b }) e.1)
+    (λ e. one_point p q e.0 e.1)
     (λ e. (ap (λ (r : Point). r.col) e, ap (λ (r : Point). r.row) e))
     (Decides-and _ _ (Decides-eqb p.col q.col) (Decides-eqb p.row q.row))
 
@@ -29,11 +29,7 @@ pub other_point : (p q : Point) → not ((p.col == q.col) && (p.row == q.row)) �
 other_point p q is = (Decides-not _ (Decides-point_eq p q)).0 is
 
 pub same_point : (p q : Point) → not ((p.col == q.col) && (p.row == q.row)) ≡ false → p ≡ q
-same_point p q is =
-    elim (same_or_not p q) [
-      | inl same ↦ same
-      | inr other ↦ absurd (false≢true (sym is ∙ (Decides-not _ (Decides-point_eq p q)).1 other))
-    ]
+same_point p q is = (Decides-point_eq p q).0 (not-false _ is)
 
 module _ (g : Grid) (b : Point) (k : Colour) (on_b : IsOn g.side b) where
   -- another point is as before

@@ -2,8 +2,8 @@
 use Rattle.std.proofs.Common.{◌≡◌, ◌≢◌, subst, ℕ, ◌+◌, ◌-◌, ◌*◌, ◌<◌, ◌≤◌, inl, inr, nat_le, List, [], ◌∷◌, fold, length, get_or, take, replicate, map, refl, sym, ap, ◌∙◌, arith, rules, cond, Decides}
 use Rattle.std.proofs.lemmas.List.{places, get_or-take, length-take, get_or-replicate, length-replicate, length-set}
 use Rattle.std.proofs.lemmas.List.Sums.{fold_more}
-use Rattle.std.proofs.lemmas.Bool.{cases_order, cases_lt, cases_Bool, cond-true, cond-false, false≢true}
-use Rattle.std.proofs.lemmas.Bool.Decides.{Decides-and, leb_tells, not_from_Decides}
+use Rattle.std.proofs.lemmas.Bool.{cases_order, cases_lt, cases_Bool, cond-true, cond-false, leb-true, le-leb}
+use Rattle.std.proofs.lemmas.Bool.Decides.{Decides-and, not_from_Decides}
 use Rattle.std.proofs.Math.Nat.{mul-le-mul_right}
 use borrow.Rule.Slice.PartMut.{put_mid, mid_of}
 use Rattle.go_board.specs.declared.stones.Cell.{Cell}
@@ -121,11 +121,7 @@ abbrev IsIn : Rect → Point → Type 0
 IsIn r p = ((r.first.col ≤ p.col) × (p.col ≤ r.last.col)) × ((r.first.row ≤ p.row) × (p.row ≤ r.last.row))
 
 Decides-leb : (a b : ℕ) → Decides (nat_le a b) (a ≤ b)
-Decides-leb a b =
-    elim (leb_tells a b) [
-      | inl h ↦ (λ _. h.1, λ _. h.0)
-      | inr h ↦ (λ t. absurd (false≢true (sym h.0 ∙ t)), λ l. absurd (omega (arith, h.1)))
-    ]
+Decides-leb a b = (leb-true a b, le-leb a b)
 
 Decides-is_in : (r : Rect) (p : Point) → Decides (is_in r p) (IsIn r p)
 Decides-is_in r p =

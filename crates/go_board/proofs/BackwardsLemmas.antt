@@ -1,8 +1,8 @@
 -- Points coloured one after another, each kept as a change that leads back.
 use Rattle.std.proofs.Common.{◌≡◌, ℕ, ◌-◌, ◌<◌, List, [], ◌∷◌, ◌++◌, length, take, drop, reverse, refl, sym, ap, subst, ◌∙◌, arith, length-append}
 use Rattle.std.specs.List.{All}
-use Rattle.std.proofs.Math.Seq.{take-length}
-use Rattle.std.proofs.lemmas.List.{drop-append-le, take-append-le, drop_all, length-reverse, get_or-reverse, reverse-append}
+use Rattle.std.proofs.Math.Seq.{take-length, take-append_seam}
+use Rattle.std.proofs.lemmas.List.{drop-append-le, take-append-le, drop_all, length-reverse, get_or-reverse, reverse-append, length-take-le, drop_at}
 use Rattle.std.proofs.lemmas.List.Elements.{All-push, All-append, All-take, All-drop}
 use Rattle.go_board.specs.declared.stones.Cell.{Cell}
 use Rattle.go_board.specs.declared.stones.Cell.TheVariants.{Empty}
@@ -68,3 +68,26 @@ on_grid-round side start changes on =
     All-append (IsChangeOn side) (take start changes) (reverse (drop start changes))
     (All-take (IsChangeOn side) start changes on)
     (All-reverse (IsChangeOn side) (drop start changes) (All-drop (IsChangeOn side) start changes on))
+
+-- once the changes are turned round, the last ones lead back, after those that were there before
+module _ (start : ℕ) (h : Grid) (front : List Change) (g : Grid) (changes items : List Change) (n : ℕ) (was : LeadBackwards start h front g changes) (round : items ≡ take start changes ++ reverse (drop start changes)) (count : n ≡ length items) where
+  long : length (take start changes) ≡ start
+  long = length-take-le start changes was.starts
+
+  before : length items - (n - start) ≡ start
+  before =
+      omega (arith, count, long, ap length round, length-append (take start changes) (reverse (drop start changes)))
+
+  pub front-round : take (length items - (n - start)) items ≡ front
+  front-round =
+      ap (λ k. take k items) (before ∙ sym long)
+      ∙ ap (take (length (take start changes))) round
+      ∙ take-append_seam (take start changes) (reverse (drop start changes))
+      ∙ was.front_is
+
+  pub back-round : after_changes g (drop (length items - (n - start)) items) ≡ h
+  back-round =
+      ap (λ k. after_changes g (drop k items)) before
+      ∙ ap (λ cs. after_changes g (drop start cs)) round
+      ∙ ap (after_changes g) (drop_at (take start changes) (reverse (drop start changes)) start long)
+      ∙ was.back

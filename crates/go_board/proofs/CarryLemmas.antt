@@ -1,46 +1,24 @@
 -- Widening a set of columns: a sum carries from a column on as far as there is room, and steps go back from there.
-use Rattle.std.proofs.Common.{◌≡◌, ◌⊎◌, inl, inr, ℕ, zero, suc, ◌+◌, ◌-◌, ◌*◌, ◌/◌, ◌%◌, ◌^◌, ◌<◌, ◌≤◌, ◌==◌, ◌||◌, ◌&&◌, Bool, true, false, not, bit_and, bit_or, w64, refl, sym, ap, ◌∙◌, arith}
+use Rattle.std.proofs.Common.{◌≡◌, ◌⊎◌, inl, inr, ℕ, zero, suc, ◌+◌, ◌-◌, ◌*◌, ◌/◌, ◌%◌, ◌^◌, ◌<◌, ◌≤◌, ◌&&◌, Bool, true, false, not, bit_and, bit_or, w64, sym, ap, ◌∙◌, arith}
 use Rattle.std.specs.Int.{bit_at, bit_not}
 use Rattle.std.proofs.Math.Nat.{add-mod, add-mod_left, mod-eq_of_lt, two-pow-succ}
-use Rattle.std.proofs.lemmas.Bool.{or_cases, and_parts, and_from, false≢true, cases_lt, cases_Bool}
+use Rattle.std.proofs.lemmas.Bool.{or_cases, or_left, or_right, and_parts, and_from, not_from_false, false≢true, cases_lt, cases_Bool}
 use Rattle.std.proofs.lemmas.Nat.{mod-pow-add, mod_below, pow_pos}
-use Rattle.std.proofs.lemmas.Nat.Bits.{bit_at-lt}
 use Rattle.go_board.specs.inner.Rows.{has_bit, IsPart, HasBeside, HasNext, IsWidened}
-use Rattle.go_board.proofs.WordLemmas.{has_bit-or, has_bit-and, has_bit-without, has_bit-low, has_bit-zero, has_bit-right, column_below}
-
-bit_is_one : (b : ℕ) → b < 2 → (b == 1) ≡ true → b ≡ 1
-bit_is_one zero low is = absurd (false≢true is)
-bit_is_one (suc zero) low is = refl
-bit_is_one (suc (suc b)) low is = absurd (omega arith)
-
-bit_is_zero : (b : ℕ) → b < 2 → (b == 1) ≡ false → b ≡ 0
-bit_is_zero zero low none = refl
-bit_is_zero (suc zero) low none = absurd (false≢true (sym none))
-bit_is_zero (suc (suc b)) low none = absurd (omega arith)
-
-or_left : (x y : Bool) → x ≡ true → (x || y) ≡ true
-or_left x y h = rw h refl
-
-or_right : (x y : Bool) → y ≡ true → (x || y) ≡ true
-or_right true y h = refl
-or_right false y h = h
+use Rattle.go_board.proofs.WordLemmas.{in_the_other, has_bit-or, has_bit-and, has_bit-without, has_bit-low, has_bit-zero, has_bit-right, bit_at-there, bit_at-gone, column_below}
 
 -- a word with one column more of it
+low-more : (n c : ℕ) → n % 2 ^ suc c ≡ bit_at n c * 2 ^ c + n % 2 ^ c
+low-more n c =
+    let width : suc c ≡ 1 + c = omega arith in ap (λ k. n % 2 ^ k) width ∙ mod-pow-add n 1 c
+
 low-set : (n c : ℕ) → has_bit n c ≡ true → n % 2 ^ suc c ≡ 2 ^ c + n % 2 ^ c
 low-set n c is =
-    let width : suc c ≡ 1 + c = omega arith in
-    ap (λ k. n % 2 ^ k) width
-    ∙ mod-pow-add n 1 c
-    ∙ ap (λ b. b * 2 ^ c + n % 2 ^ c) (bit_is_one (bit_at n c) (bit_at-lt n c) is)
-    ∙ omega arith
+    low-more n c ∙ ap (λ b. b * 2 ^ c + n % 2 ^ c) (bit_at-there n c is) ∙ omega arith
 
 low-unset : (n c : ℕ) → has_bit n c ≡ false → n % 2 ^ suc c ≡ n % 2 ^ c
 low-unset n c none =
-    let width : suc c ≡ 1 + c = omega arith in
-    ap (λ k. n % 2 ^ k) width
-    ∙ mod-pow-add n 1 c
-    ∙ ap (λ b. b * 2 ^ c + n % 2 ^ c) (bit_is_zero (bit_at n c) (bit_at-lt n c) none)
-    ∙ omega arith
+    low-more n c ∙ ap (λ b. b * 2 ^ c + n % 2 ^ c) (bit_at-gone n c none) ∙ omega arith
 
 low-below : (n c : ℕ) → n % 2 ^ c < 2 ^ c
 low-below n c = mod_below n (2 ^ c) (pow_pos c)
@@ -255,11 +233,5 @@ module _ (room : ℕ) (low : room < 2 ^ 64) (set : ℕ → Bool) (beside : HasBe
                 ∙ sym (has_bit-without (bit_and room (bit_not w64 (room / 2 ^ 1))) word c fits column)
                 ∙ ap (λ w. has_bit w c) ended
                 ∙ has_bit-zero c in
-                in_set c (last_there _ _ _ both is (has_bit-right room c ∙ last))
+                in_set c (in_the_other _ _ (and_from _ _ is (not_from_false _ (has_bit-right room c ∙ last))) both)
           ]
-        where
-          last_there : (x y z : Bool) → ((x && not y) && not z) ≡ false → x ≡ true → y ≡ false → z ≡ true
-          last_there true false true h p q = refl
-          last_there true false false h p q = absurd (false≢true (sym h))
-          last_there true true z h p q = absurd (false≢true (sym q))
-          last_there false y z h p q = absurd (false≢true p)

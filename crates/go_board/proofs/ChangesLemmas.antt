@@ -73,12 +73,6 @@ spliced-set old new i in_old in_new =
     ∙ sym (append_assoc (take i old) (get_or old i Black ∷ []) (drop (i + 1) new))
     ∙ ap (λ xs. xs ++ drop (i + 1) new) (sym (take_more old i Black in_old))
 
-spliced-same : (old new : List Cell) (i : ℕ) → i < length old → i < length new → get_or old i Black ≡ get_or new i Black → spliced old new i ≡ spliced old new (i + 1)
-spliced-same old new i in_old in_new same =
-    ap (λ xs. take i old ++ xs) (drop_more new i Black in_new ∙ ap (λ x. x ∷ drop (i + 1) new) (sym same))
-    ∙ sym (append_assoc (take i old) (get_or old i Black ∷ []) (drop (i + 1) new))
-    ∙ ap (λ xs. xs ++ drop (i + 1) new) (sym (take_more old i Black in_old))
-
 pub spliced-range : (old new : List Cell) (a b : ℕ) → a ≤ b → slice_range old a b ≡ slice_range new a b → spliced old new a ≡ spliced old new b
 spliced-range old new a b h same =
     ap (λ xs. take a old ++ xs) (back-range new a b h ∙ ap (λ xs. xs ++ drop b new) (sym same))
@@ -111,17 +105,10 @@ module _ (side start : ℕ) (old new : List Cell) where
       }
 
   -- no change, where the next cells are the same
-  leads-on : (i j : ℕ) (changes : List Change) → i ≤ j → spliced old new i ≡ spliced old new j → LeadsBack side old new start i changes → LeadsBack side old new start j changes
-  leads-on i j changes h same leads = record {
+  pub leads-range : (a b : ℕ) (changes : List Change) → a ≤ b → slice_range old a b ≡ slice_range new a b → LeadsBack side old new start a changes → LeadsBack side old new start b changes
+  leads-range a b changes h same leads = record {
     starts = leads.starts;
-    back = leads.back ∙ ap (λ (xs : List Cell). record { side = side; cells = xs }) same;
+    back = leads.back ∙ ap (λ (xs : List Cell). record { side = side; cells = xs }) (spliced-range old new a b h same);
     few = omega (arith, leads.few);
     on_grid = leads.on_grid;
   }
-
-  pub leads-same : (i : ℕ) (changes : List Change) → i < length old → i < length new → get_or old i Black ≡ get_or new i Black → LeadsBack side old new start i changes → LeadsBack side old new start (i + 1) changes
-  leads-same i changes in_old in_new same leads =
-      leads-on i (i + 1) changes (omega arith) (spliced-same old new i in_old in_new same) leads
-
-  pub leads-range : (a b : ℕ) (changes : List Change) → a ≤ b → slice_range old a b ≡ slice_range new a b → LeadsBack side old new start a changes → LeadsBack side old new start b changes
-  leads-range a b changes h same leads = leads-on a b changes h (spliced-range old new a b h same) leads

@@ -3,7 +3,8 @@ use Rattle.std.proofs.Common.{◌≡◌, inl, inr, ℕ, zero, suc, ◌+◌, ◌*
 use Rattle.std.specs.Int.{bit_at, bit_not}
 use Rattle.std.specs.List.{range_with_len}
 use lib.Count.{ones}
-use Rattle.std.proofs.lemmas.Bool.{and_parts, cases_lt}
+use Rattle.std.proofs.lemmas.Bool.{and_parts, cases_lt, false_from_ne_true}
+use Rattle.std.proofs.Math.Nat.{add_assoc}
 use Rattle.std.proofs.lemmas.Nat.{ones_cat, mod-pow-add, mod_below, pow_pos}
 use Rattle.std.proofs.lemmas.Nat.Bits.{bit_at-lt, bit_at_above, same_from_bits}
 use Rattle.std.proofs.lemmas.List.{length-map}
@@ -23,7 +24,7 @@ use Rattle.go_board.specs.Point.{IsOn, point_at, points}
 use Rattle.go_board.specs.inner.Rows.{has_bit, is_set}
 use Rattle.go_board.specs.inner.Regions.{is_either, AreRowsOf, reaches_through_own, count_apart}
 use Rattle.go_board.proofs.PointLemmas.{point_at-index_of, is_map-points, length-points, IsOn-point_at, index_of-point_at, get_or-map-points}
-use Rattle.go_board.proofs.WordLemmas.{has_bit-and, has_bit-without, bit_at-mod}
+use Rattle.go_board.proofs.WordLemmas.{has_bit-and, has_bit-without, bit_at-gone, bit_at-mod}
 
 ones_of_bit : (n : ℕ) → n < 2 → count_ones n ≡ cond (n == 1) 1 0
 unfolding ones
@@ -46,16 +47,8 @@ below_from_bits n k each =
     (λ i.
     elim (cases_lt i k) [
       | inl below ↦ bit_at-mod n k i below
-      | inr above ↦ bit_at_above (n % 2 ^ k) k i (mod_below n (2 ^ k) (pow_pos k)) above ∙ sym (none (bit_at n i) (bit_at-lt n i) (λ is. omega (arith, each i is, above)))
+      | inr above ↦ bit_at_above (n % 2 ^ k) k i (mod_below n (2 ^ k) (pow_pos k)) above ∙ sym (bit_at-gone n i (false_from_ne_true _ (λ is. omega (arith, each i is, above))))
     ])
-  where
-    none : (b : ℕ) → b < 2 → ((b == 1) ≡ true → ⊥) → b ≡ 0
-    none zero low not_one = refl
-    none (suc zero) low not_one = absurd (not_one refl)
-    none (suc (suc b)) low not_one = absurd (omega arith)
-
-sum_at : (a b c : ℕ) → a + b + c ≡ a + (b + c)
-sum_at a b c = omega arith
 
 module _ (side : ℕ) (test : Point → Bool) where
   counted : ℕ → ℕ
@@ -79,7 +72,7 @@ module _ (side : ℕ) (test : Point → Bool) where
       ∙ sum_by-map-range_with_len_more (λ p. cond (test p) 1 0) (point_at side) 0 (row * side + c) (row * side + c) (omega arith)
       ∙ ap (λ b. counted (row * side + c) + cond b 1 0) (ap test at ∙ same c (omega arith))
       ∙ ap (λ m. m + cond (has_bit word c) 1 0) before
-      ∙ sum_at (counted (row * side)) (count_ones (word % 2 ^ c)) (cond (has_bit word c) 1 0)
+      ∙ add_assoc (counted (row * side)) (count_ones (word % 2 ^ c)) (cond (has_bit word c) 1 0)
       ∙ ap (λ m. counted (row * side) + m) (sym more ∙ ap (λ k. count_ones (word % 2 ^ k)) (sym width))
 
 -- how many of the points of the first rows are set in the one and not in the other

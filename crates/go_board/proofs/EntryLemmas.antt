@@ -1,6 +1,7 @@
 -- The stretch of past colourings whose cells stand one after the other in one list.
 use Rattle.std.proofs.Common.{◌≡◌, ◌≢◌, ℕ, zero, suc, ◌+◌, ◌*◌, ◌<◌, ◌⊎◌, ◌↔◌, inl, inr, Bool, true, false, List, [], ◌∷◌, ◌++◌, ◌≤◌, length, drop, slice_range, slice_index_or, Contains, length-append, length-take, length-drop, take, ◌-◌, subst, IsTrue, refl, sym, ap, ◌∙◌, arith, cond}
 use Rattle.std.proofs.lemmas.List.{take-append-le, drop_at, get_or_at, get_or_append_left, take-append-drop}
+use Rattle.std.proofs.lemmas.List.Elements.{Contains-append_right}
 use Rattle.std.proofs.lemmas.Slice.{between_is, between_to_end}
 use Rattle.std.proofs.Math.Nat.{mul-le-mul_right}
 use Rattle.go_board.specs.declared.stones.Cell.{Cell}
@@ -9,19 +10,16 @@ use Rattle.go_board.specs.Past.{Held, present_stretch}
 use Rattle.go_board.specs.inner.Entries.{entry, entries}
 
 -- a list has its first element, what the rest has, and nothing else
-pub Contains-later : {X : Type 0} (x y : X) (xs : List X) → Contains xs y → Contains (x ∷ xs) y
-Contains-later x y xs h = (suc h.0, omega (arith, h.1), h.2)
-
-pub Contains-cases : {X : Type 0} (x y : X) (xs : List X) → Contains (x ∷ xs) y → (x ≡ y) ⊎ Contains xs y
+Contains-cases : {X : Type 0} (x y : X) (xs : List X) → Contains (x ∷ xs) y → (x ≡ y) ⊎ Contains xs y
 Contains-cases x y xs (zero, h, e) = inl e
 Contains-cases x y xs (suc k, h, e) = inr (k, omega (arith, h), e)
 
-pub Contains-none : {X : Type 0} (y : X) → Contains [] y → ⊥
+Contains-none : {X : Type 0} (y : X) → Contains [] y → ⊥
 Contains-none y h = absurd (omega (arith, h.1))
 
 -- a stretch that goes on after its first colouring only where that doesn't begin it
 going_on : {X : Type 0} (x y : X) (b : Bool) (xs : List X) → b ≡ false → Contains xs y → Contains (x ∷ cond b [] xs) y
-going_on x y false xs e h = Contains-later x y xs h
+going_on x y false xs e h = Contains-append_right (x ∷ []) xs y h
 going_on x y true xs e h = absurd (cc)
 
 only_later : {X : Type 0} (x y : X) (b : Bool) (xs : List X) → x ≢ y → Contains (x ∷ cond b [] xs) y → (b ≡ false) × Contains xs y

@@ -1,11 +1,9 @@
 -- What the words of bits around a point tell of a stone on it.
 use Rattle.std.proofs.Common.{◌≡◌, ◌≢◌, ◌⊎◌, inl, inr, ℕ, suc, ◌+◌, ◌*◌, ◌/◌, ◌%◌, ◌^◌, ◌<◌, true, false, not, List, [], length, get_or, bit_and, bit_or, w64, refl, sym, ap, ◌∙◌, arith, subst}
 use Rattle.std.specs.Int.{bit_not}
-use Rattle.std.proofs.lemmas.Bool.{or_cases, or_left, or_right, or_parts, and_parts, and_from, not-true, not_from_false, false≢true, true≢false, cases_Bool, cases_eq}
-use Rattle.go_board.specs.declared.stones.Cell.{Cell}
-use Rattle.go_board.specs.declared.stones.Cell.TheVariants.{Black as BlackStone, White as WhiteStone, Empty}
+use Rattle.std.proofs.lemmas.Bool.{or_cases, or_left, or_right, or_parts, and_parts, and_from, not-true, false≢true, cases_eq}
+use Rattle.go_board.specs.declared.stones.Cell.TheVariants.{Empty}
 use Rattle.go_board.specs.declared.stones.Colour.{Colour}
-use Rattle.go_board.specs.declared.stones.Colour.TheVariants.{Black, White}
 use Rattle.go_board.specs.declared.points.Point.{Point}
 use Rattle.go_board.specs.declared.board.glance.RowStones.{RowStones}
 use Rattle.go_board.specs.Colour.{opponent, stone_of, same_cell}
@@ -17,9 +15,10 @@ use Rattle.go_board.specs.inner.Groups.{ReachesIfStone}
 use Rattle.go_board.specs.inner.Regions.{AreRowsOf}
 use Rattle.go_board.specs.inner.Rows.{has_bit, is_set, IsInOrBeside}
 use Rattle.go_board.proofs.GridLemmas.{Decides-same_cell, cell_at-with_cell_elsewhere}
+use Rattle.go_board.proofs.GroupLemmas.{neither_stone}
 use Rattle.go_board.proofs.ReachingLemmas.{path_by_step}
 use Rattle.go_board.proofs.SweepLemmas.{lowest_left}
-use Rattle.go_board.proofs.WordLemmas.{has_bit-or, has_bit-and, has_bit-without, has_bit-zero, has_bit-left, has_bit-right, from_left, column_below}
+use Rattle.go_board.proofs.WordLemmas.{in_the_other, has_bit-or, has_bit-and, has_bit-without, has_bit-zero, has_bit-left, has_bit-right, from_left, column_below}
 
 -- the columns beside those of a word
 pub beside_from : (w c : ℕ) → has_bit (bit_or (w * 2 ^ 1 % 2 ^ 64) (w / 2 ^ 1)) c ≡ true → (d : ℕ) × DifferByOne c d × (has_bit w d ≡ true)
@@ -52,14 +51,8 @@ either_from columns one other with c is =
 pub without_from : (one other without c : ℕ) → one < 2 ^ 64 → without < 2 ^ 64 → has_bit (bit_and (bit_and one other) (bit_not w64 without)) c ≡ false
     → has_bit one c ≡ true → has_bit other c ≡ true → has_bit without c ≡ true
 without_from one other without c low few none first second =
-    elim (cases_Bool (has_bit without c)) [
-      | inl there ↦ there
-      | inr gone ↦
-          absurd (false≢true
-          (sym none
-          ∙ has_bit-without (bit_and one other) without c few (column_below 64 one c low first)
-          ∙ and_from _ _ (has_bit-and one other c ∙ and_from _ _ first second) (not_from_false _ gone)))
-    ]
+    in_the_other _ _ (has_bit-and one other c ∙ and_from _ _ first second)
+    (sym (has_bit-without (bit_and one other) without c few (column_below 64 one c low first)) ∙ none)
 
 -- a word that isn't 0 has a column
 some_bit : (w : ℕ) → w < 2 ^ 64 → w ≢ 0 → (c : ℕ) × (has_bit w c ≡ true)
@@ -122,24 +115,12 @@ open_from above here below wide c from is =
       | inr along ↦ inr (inr (from c along))
     ]
 
--- a cell with neither stone
-neither : (k : Colour) (c : Cell) → same_cell c (stone_of k) ≡ false → same_cell c (stone_of (opponent k)) ≡ false → c ≡ Empty
-neither Black BlackStone one other = absurd (true≢false one)
-neither Black WhiteStone one other = absurd (true≢false other)
-neither White BlackStone one other = absurd (true≢false other)
-neither White WhiteStone one other = absurd (true≢false one)
-neither k Empty one other = refl
-
 -- the point beside another one is another
 apart : (p q : Point) → AreAdjacent p q → q ≢ p
 apart p q (inl (e, inl d)) same = (let row = ap (λ (x : Point). x.row) same in omega (arith, row, d))
 apart p q (inl (e, inr d)) same = (let row = ap (λ (x : Point). x.row) same in omega (arith, row, d))
 apart p q (inr (e, inl d)) same = (let col = ap (λ (x : Point). x.col) same in omega (arith, col, d))
 apart p q (inr (e, inr d)) same = (let col = ap (λ (x : Point). x.col) same in omega (arith, col, d))
-
-pub swapped : (a b : ℕ) → DifferByOne a b → DifferByOne b a
-swapped a b (inl e) = inr e
-swapped a b (inr e) = inl e
 
 -- the columns of a row that are beside a point
 abbrev pub AreBeside : Point → ℕ → ℕ → Type 0
@@ -176,7 +157,7 @@ module _ (g : Grid) (k : Colour) (p : Point) (own others : List ℕ) (side : g.s
         found.1,
         on_z,
         cell_at-with_cell_elsewhere g p z (stone_of k) on on_z another
-            ∙ neither k (cell_at g z) (sym (is_own.on z on_z) ∙ found.3) (sym (is_others.on z on_z) ∙ found.4),
+            ∙ neither_stone k (cell_at g z) (sym (is_own.on z on_z) ∙ found.3) (sym (is_others.on z on_z) ∙ found.4),
       )
 
   pub free_elsewhere : (i : ℕ) (row : RowStones) → IsRowAt own others p.row i row → i ≢ 2 → AreFree i row.free

@@ -46,13 +46,14 @@ cell_at-index g cells i d p same within at =
 pub same_cell-eq : (a b : Cell) → sameb the_type a b ≡ same_cell a b
 same_cell-eq a b = same_from_decides _ _ (Decides-cell_eq a b) (Decides-same_cell a b)
 
-pub same_grid : (a b : Grid) → a.side ≡ b.side → a.cells ≡ b.cells → a ≡ b
-same_grid a b e f = ap (λ s. record { side = s; cells = a.cells }) e ∙ ap (λ l. record { side = b.side; cells = l }) f
+-- grids with one side and the same cells are one
+pub one_grid : (a b : Grid) → a.side ≡ b.side → a.cells ≡ b.cells → a ≡ b
+one_grid a b e f = ap (λ s. record { side = s; cells = a.cells }) e ∙ ap (λ l. record { side = b.side; cells = l }) f
 
 -- two grids with the same cells are one where a test finds their sides equal
 pub Decides-same_side : (a b : Grid) (m n : ℕ) (r : Bool) → m ≡ a.side → n ≡ b.side → a.cells ≡ b.cells → r ≡ (m == n) → Decides r (a ≡ b)
 Decides-same_side a b m n r is_a is_b cells is = (
-  λ e. same_grid a b (sym is_a ∙ (Decides-eqb m n).0 (sym is ∙ e) ∙ is_b) cells,
+  λ e. one_grid a b (sym is_a ∙ (Decides-eqb m n).0 (sym is ∙ e) ∙ is_b) cells,
   λ e. is ∙ (Decides-eqb m n).1 (is_a ∙ ap (λ g. g.side) e ∙ sym is_b),
 )
 

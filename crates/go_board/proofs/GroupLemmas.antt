@@ -4,11 +4,11 @@ use Rattle.std.proofs.lemmas.Bool.{cases_Bool, true≢false}
 use Rattle.std.proofs.lemmas.Bool.Decides.{same_from_decides, not_from_Decides, Decides-like}
 use Rattle.std.proofs.lemmas.List.{length-map}
 use Rattle.go_board.specs.declared.stones.Cell.{Cell}
-use Rattle.go_board.specs.declared.stones.Cell.TheVariants.{Empty}
+use Rattle.go_board.specs.declared.stones.Cell.TheVariants.{Black as BlackStone, White as WhiteStone, Empty}
 use Rattle.go_board.specs.declared.stones.Colour.{Colour}
 use Rattle.go_board.specs.declared.stones.Colour.TheVariants.{Black, White}
 use Rattle.go_board.specs.declared.points.Point.{Point}
-use Rattle.go_board.specs.Colour.{stone_of, same_cell}
+use Rattle.go_board.specs.Colour.{opponent, stone_of, same_cell}
 use Rattle.go_board.specs.Point.{IsOn, points, point_at}
 use Rattle.go_board.specs.Grid.{Grid, cell_at, grid_of}
 use Rattle.go_board.specs.Reaching.{Leads, Reaches, reaches}
@@ -29,6 +29,14 @@ coloured_or_not a b =
 pub stone_of≢Empty : (k : Colour) → stone_of k ≢ Empty
 stone_of≢Empty Black = λ e. cc
 stone_of≢Empty White = λ e. cc
+
+-- a cell with neither player's stone is empty
+pub neither_stone : (k : Colour) (c : Cell) → same_cell c (stone_of k) ≡ false → same_cell c (stone_of (opponent k)) ≡ false → c ≡ Empty
+neither_stone k Empty own other = refl
+neither_stone Black BlackStone own other = absurd (true≢false own)
+neither_stone Black WhiteStone own other = absurd (true≢false other)
+neither_stone White BlackStone own other = absurd (true≢false other)
+neither_stone White WhiteStone own other = absurd (true≢false own)
 
 -- where a path leads from a point, the point reaches its end
 pub Reaches-Leads : (g : Grid) (own k : Cell) (p : Point) (path : List Point) → Leads g own k p path → Reaches g k p

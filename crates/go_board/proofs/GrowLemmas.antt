@@ -1,7 +1,7 @@
 -- Sets of points as rows of words: one row grown, and the rows grown in turn.
-use Rattle.std.proofs.Common.{◌≡◌, ◌≢◌, inl, inr, ℕ, zero, suc, ◌+◌, ◌-◌, ◌^◌, ◌<◌, ◌≤◌, ◌||◌, Bool, true, false, List, length, get_or, set, bit_and, bit_or, refl, sym, ap, ◌∙◌, arith, subst, slice_index}
-use Rattle.std.proofs.lemmas.Bool.{or_cases, and_parts, and_from, false≢true, cases_lt, cases_eq}
-use Rattle.std.proofs.lemmas.List.{length-set, get_or-set_same, get_or-set_other}
+use Rattle.std.proofs.Common.{◌≡◌, ◌≢◌, inl, inr, ℕ, zero, suc, ◌+◌, ◌-◌, ◌^◌, ◌<◌, ◌≤◌, ◌||◌, Bool, true, List, length, get_or, set, bit_and, bit_or, refl, sym, ap, ◌∙◌, arith, subst, slice_index}
+use Rattle.std.proofs.lemmas.Bool.{or_cases, or_left, or_right, and_parts, and_from, false≢true, cases_lt, cases_eq}
+use Rattle.std.proofs.lemmas.List.{get_or-set_same, get_or-set_other}
 use Rattle.std.proofs.Math.ListN.{get_or-eq_default}
 use Rattle.std.proofs.Math.Numerals.{add-one}
 use Rattle.std.proofs.lemmas.List.Sums.{sum_by-set}
@@ -9,13 +9,6 @@ use Rattle.go_board.specs.declared.points.Point.{Point}
 use Rattle.go_board.specs.Point.{DifferByOne}
 use Rattle.go_board.specs.inner.Rows.{has_bit, is_set, row_above, IsPart, HasBeside, AreWide, IsTaken, TakeAbove, TakeBelow, IsAmong, IsClosed, IsRowClosed, Grows, lacking}
 use Rattle.go_board.proofs.WordLemmas.{has_bit-or, has_bit-and, has_bit-zero, le_from_part}
-
-or_left : (x y : Bool) → x ≡ true → (x || y) ≡ true
-or_left x y h = rw h refl
-
-or_right : (x y : Bool) → y ≡ true → (x || y) ≡ true
-or_right true y h = refl
-or_right false y h = h
 
 -- a point that is set has a row
 pub row_below : (rows : List ℕ) (p : Point) → is_set rows p ≡ true → p.row < length rows
@@ -220,18 +213,6 @@ module _ (rows room : List ℕ) (row beside grown : ℕ) (within_row : row < len
   taken-row =
       λ col there is.
       ap (λ w. has_bit w col) (get_or-set_same rows row grown 0 within_row) ∙ from_seed col (beside_seed col is there)
-
-  pub wide-row : AreWide room rows → AreWide room grown_rows
-  wide-row wide =
-      λ r below.
-      elim (cases_eq r row) [
-        | inl same ↦
-            subst (λ k. HasBeside (has_bit (get_or room k 0)) (has_bit (get_or grown_rows k 0))) (sym same)
-            (subst (λ w. HasBeside (has_bit (get_or room row 0)) (has_bit w)) (sym (get_or-set_same rows row grown 0 within_row)) closed)
-        | inr other ↦
-            subst (λ w. HasBeside (has_bit (get_or room r 0)) (has_bit w)) (sym (get_or-set_other rows row r grown 0 other))
-            (wide r (omega (arith, below, length-set rows row grown)))
-      ]
 
   pub lacking-row : seed_of rows room row beside ≢ get_or rows row 0 → grown < 2 ^ 64 → lacking grown_rows < lacking rows
   lacking-row other low =

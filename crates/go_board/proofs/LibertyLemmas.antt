@@ -1,5 +1,6 @@
 -- Whether all stones of a colour reach empty, by filling rows of words from the empty points.
-use Rattle.std.proofs.Common.{◌≡◌, Decides, inl, inr, ℕ, ◌≤◌, ◌&&◌, ◌||◌, Bool, true, false, not, List, [], ◌∷◌, length, refl, sym, ap, ◌∙◌, arith, subst}
+use Rattle.std.proofs.Common.{◌≡◌, Decides, inl, inr, ℕ, ◌≤◌, ◌&&◌, Bool, true, false, not, List, [], ◌∷◌, length, refl, sym, ap, ◌∙◌, arith, subst}
+use Rattle.std.proofs.Math.Bool.{or_self}
 use Rattle.std.proofs.lemmas.Bool.{and_parts, and_from, false≢true, cases_Bool}
 use Rattle.go_board.specs.declared.stones.Cell.{Cell}
 use Rattle.go_board.specs.declared.stones.Cell.TheVariants.{Black as BlackStone, White as WhiteStone, Empty}
@@ -19,6 +20,7 @@ use Rattle.go_board.proofs.SettledLemmas.{both_reach, AllReach-settled}
 use Rattle.go_board.proofs.ReachingLemmas.{Decides-reaches, path_by_step}
 use Rattle.go_board.proofs.GroupLemmas.{stone_of≢Empty}
 use Rattle.go_board.proofs.GrowLemmas.{Grows-none}
+use Rattle.go_board.proofs.WordLemmas.{in_the_other}
 use Rattle.go_board.proofs.RegionLemmas.{AreRowsOf-same, same_bools, either_first}
 
 -- the cells with neither player's stone
@@ -33,16 +35,6 @@ neither White Empty = refl
 of_own : (own way : Bool) → (own && not (own && way)) ≡ (own && not way)
 of_own true way = refl
 of_own false way = refl
-
-in_the_other : (x y : Bool) → x ≡ true → (x && not y) ≡ false → y ≡ true
-in_the_other true true is none = refl
-in_the_other true false is none = sym none
-in_the_other false y is none = absurd (false≢true is)
-
-in_or_left : (own in_set : Bool) → own ≡ true → (own && not in_set) ≡ false → in_set ≡ true
-in_or_left true true is none = refl
-in_or_left true false is none = sym none
-in_or_left false in_set is none = absurd (false≢true is)
 
 module _ (g : Grid) (k : Colour) (rows others room empty first : List ℕ) (small : g.side ≤ 52) (all : length rows ≡ g.side) (other_all : length others ≡ g.side) (room_all : length room ≡ g.side) (is_own : AreRowsOf g.side (λ p. same_cell (cell_at g p) (stone_of k)) rows) (is_other : AreRowsOf g.side (λ p. same_cell (cell_at g p) (stone_of (opponent k))) others) (is_room : AreRowsOf (length others) (λ p. not (is_set others p)) room) (is_empty : IsDifference room rows empty) (are_first : AreBeside rows empty first) where
   not_other : AreRowsOf g.side (λ p. not (same_cell (cell_at g p) (stone_of (opponent k)))) room
@@ -64,11 +56,7 @@ module _ (g : Grid) (k : Colour) (rows others room empty first : List ℕ) (smal
   own_stone p is = (Decides-same_cell _ _).0 (sym (is_own.on p (is_own.off p is)) ∙ is)
 
   empty_cell : (p : Point) → is_set empty p ≡ true → cell_at g p ≡ Empty
-  empty_cell p is = (Decides-same_cell _ _).0 (twice _ (sym (empty_rows.on p (empty_rows.off p is)) ∙ is))
-    where
-      twice : (b : Bool) → (b || b) ≡ true → b ≡ true
-      twice true h = refl
-      twice false h = h
+  empty_cell p is = (Decides-same_cell _ _).0 (sym (or_self _) ∙ sym (empty_rows.on p (empty_rows.off p is)) ∙ is)
 
   empty_set : (p : Point) → IsOn g.side p → cell_at g p ≡ Empty → is_set empty p ≡ true
   empty_set p on is = empty_rows.on p on ∙ either_first (cell_at g p) Empty Empty is
@@ -142,7 +130,7 @@ module _ (g : Grid) (k : Colour) (rows others room empty first : List ℕ) (smal
     pub IsClosed-full : ((p : Point) → is_set left p ≡ false) → IsClosed (is_set rows) (is_set reached)
     IsClosed-full none p q adjacent there is =
         let on = is_own.off p there in
-        in_or_left _ _ there (sym (is_left.on p (omega (arith, on.1, all)) (omega (arith, on.0, small))) ∙ none p)
+        in_the_other _ _ there (sym (is_left.on p (omega (arith, on.1, all)) (omega (arith, on.0, small))) ∙ none p)
 
 -- where no stone is shut in, all reach empty
 pub reach_where_none_shut : (g : Grid) (k : Colour) (shut : List ℕ) → AreRowsOf g.side (is_shut g k) shut → ((p : Point) → is_set shut p ≡ false) → AllReach g k

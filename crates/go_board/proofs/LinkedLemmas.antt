@@ -1,6 +1,6 @@
 -- Filling the group of a stone row by row.
-use Rattle.std.proofs.Common.{◌≡◌, ◌≢◌, ◌⊎◌, inl, inr, ℕ, zero, suc, ◌+◌, ◌*◌, ◌/◌, ◌%◌, ◌^◌, ◌<◌, ◌||◌, Bool, true, false, not, nat_eq, w64, IsTrue, List, length, get_or, set, take, replicate, bit_and, bit_or, slice_index, refl, sym, ap, ◌∙◌, arith, subst}
-use Rattle.std.proofs.lemmas.Bool.{or_cases, and_parts, and_from, false≢true, true≢false, cases_eq, cases_Bool}
+use Rattle.std.proofs.Common.{◌≡◌, ◌≢◌, ◌⊎◌, inl, inr, ℕ, zero, suc, ◌+◌, ◌*◌, ◌/◌, ◌%◌, ◌^◌, ◌<◌, true, false, not, nat_eq, w64, IsTrue, List, length, get_or, set, take, replicate, bit_and, bit_or, slice_index, refl, sym, ap, ◌∙◌, arith, subst}
+use Rattle.std.proofs.lemmas.Bool.{or_cases, or_left, or_right, or_parts, and_parts, and_from, not-true, not-false, false≢true, true≢false, cases_eq, cases_Bool}
 use Rattle.std.proofs.lemmas.Bool.Decides.{Decides-not, Decides-eqb}
 use Rattle.std.specs.Int.{trailing_zeros}
 use Rattle.std.proofs.lemmas.List.{get_or-set_same, get_or-set_other}
@@ -8,20 +8,10 @@ use Rattle.go_board.specs.declared.points.Point.{Point}
 use Rattle.go_board.specs.Point.{IsOn, AreAdjacent, DifferByOne}
 use Rattle.go_board.specs.inner.Rows.{has_bit, is_set, row_above, IsAmong, IsRowClosed, Grows, IsInOrBeside}
 use Rattle.go_board.specs.inner.Linked.{IsLinked, IsFilled, IsLiberty, IsRowGroup, IsShutIn}
+use Rattle.go_board.proofs.PointLemmas.{one_point}
 use Rattle.go_board.proofs.WordLemmas.{has_bit-or, has_bit-and, has_bit-left, from_left, has_bit-right, has_bit-zero}
 use Rattle.go_board.proofs.GrowLemmas.{row_below}
 use Rattle.go_board.proofs.SweepLemmas.{lowest_left}
-
-pub or_true : (x : Bool) → (x || true) ≡ true
-or_true true = refl
-or_true false = refl
-
-or_left : (x y : Bool) → x ≡ true → (x || y) ≡ true
-or_left x y h = rw h refl
-
-or_right : (x y : Bool) → y ≡ true → (x || y) ≡ true
-or_right true y h = refl
-or_right false y h = h
 
 -- the columns of two rows and those beside the columns of the row between them
 abbrev pub beside_columns : ℕ → ℕ → ℕ → ℕ
@@ -79,20 +69,10 @@ common-none a b none col is =
 
 -- the columns in neither of two sets, and in one of them
 pub in_neither : (a b col : ℕ) → not (has_bit (bit_or a b) col) ≡ true → (has_bit a col ≡ false) × (has_bit b col ≡ false)
-in_neither a b col none = neither_of (has_bit a col) (has_bit b col) (sym (ap not (has_bit-or a b col)) ∙ none)
-  where
-    neither_of : (x y : Bool) → not (x || y) ≡ true → (x ≡ false) × (y ≡ false)
-    neither_of false false h = (refl, refl)
-    neither_of true y h = absurd (false≢true h)
-    neither_of false true h = absurd (false≢true h)
+in_neither a b col none = or_parts _ _ (sym (has_bit-or a b col) ∙ not-true _ none)
 
 pub in_either : (a b col : ℕ) → not (has_bit (bit_or a b) col) ≡ false → (has_bit a col ≡ true) ⊎ (has_bit b col ≡ true)
-in_either a b col some = either_of (has_bit a col) (has_bit b col) (sym (ap not (has_bit-or a b col)) ∙ some)
-  where
-    either_of : (x y : Bool) → not (x || y) ≡ false → (x ≡ true) ⊎ (y ≡ true)
-    either_of true y h = inl refl
-    either_of false true h = inr refl
-    either_of false false h = absurd (true≢false h)
+in_either a b col some = or_cases _ _ (sym (has_bit-or a b col) ∙ not-false _ some)
 
 -- with no row set no point is
 pub none_in_front : (n m : ℕ) (words : List ℕ) (p : Point) → words ≡ replicate m 0 → is_set (take n words) p ≡ false
@@ -147,7 +127,7 @@ module _ (own others : List ℕ) (besides from : Point) where
         elim (cases_eq p.row from.row) [
           | inl row ↦
               elim (cases_eq p.col from.col) [
-                | inl col ↦ ap (λ a. record { col = a; row = p.row }) col ∙ ap (λ b. record { col = from.col; row = b }) row
+                | inl col ↦ one_point p from col row
                 | inr other ↦
                     absurd (false≢true
                     (sym (ap (λ rows. is_set rows p) first_is ∙ ap (λ r. has_bit (get_or (set old from.row word) r 0) p.col) row

@@ -1,49 +1,31 @@
 -- Rows that take what stands above or below them: where none misses what a row beside it had added, all are as they were.
-use Rattle.std.proofs.Common.{◌≡◌, ◌≢◌, ◌⊎◌, inl, inr, ℕ, zero, suc, ◌+◌, ◌^◌, ◌<◌, ◌≤◌, ◌||◌, ◌&&◌, Bool, true, false, not, List, length, nat_eq, bit_and, bit_or, w64, refl, sym, ap, ◌∙◌, arith, slice_index}
+use Rattle.std.proofs.Common.{◌≡◌, ◌≢◌, ◌⊎◌, inl, inr, ℕ, zero, suc, ◌+◌, ◌^◌, ◌<◌, ◌≤◌, ◌&&◌, Bool, true, false, List, length, bit_and, bit_or, w64, refl, sym, ap, ◌∙◌, arith, slice_index}
 use Rattle.std.specs.Int.{bit_not}
-use Rattle.std.proofs.lemmas.Bool.{false≢true, cases_Bool, cases_eq}
-use Rattle.std.proofs.lemmas.Bool.Decides.{Decides-eqb}
+use Rattle.std.proofs.lemmas.Bool.{and_from, or_parts, not_from_false, false≢true, cases_Bool, cases_eq}
 use Rattle.std.proofs.lemmas.Nat.{le_or_l}
 use Rattle.go_board.specs.inner.Rows.{has_bit, row_above, TakeAbove, TakeBelow, lacking}
-use Rattle.go_board.proofs.WordLemmas.{has_bit-or, has_bit-and, has_bit-without, has_bit-zero, column_below}
+use Rattle.go_board.proofs.WordLemmas.{in_the_other, has_bit-or, has_bit-and, has_bit-without, has_bit-zero, column_below}
 use Rattle.go_board.proofs.GrowLemmas.{row_above-next}
 
 or_zero_first : (a b : ℕ) → bit_or a b ≡ 0 → a ≡ 0
 or_zero_first a b none = let more = le_or_l a b in omega (arith, none, more)
 
-none_second : (x y : Bool) → (x || y) ≡ false → y ≡ false
-none_second true y h = absurd (false≢true (sym h))
-none_second false y h = h
-
 not_both : (x y : Bool) → (x && y) ≡ false → x ≡ true → y ≡ false
 not_both true y h is = h
 not_both false y h is = absurd (false≢true is)
-
-last_there : (x y : Bool) → (x && not y) ≡ false → x ≡ true → y ≡ true
-last_there true true h is = refl
-last_there true false h is = absurd (false≢true (sym h))
-last_there false y h is = absurd (false≢true is)
-
-and_not : (x y : Bool) → x ≡ true → y ≡ false → (x && not y) ≡ true
-and_not true false is none = refl
-and_not true true is none = absurd (false≢true (sym none))
-and_not false y is none = absurd (false≢true is)
-
-pub some_from_test : (n : ℕ) → nat_eq n 0 ≡ false → n ≢ 0
-some_from_test n other = λ same. false≢true (sym other ∙ (Decides-eqb n 0).1 same)
 
 -- what a row has that it hadn't
 pub added_or_old : (old new col : ℕ) → old < 2 ^ 64 → new < 2 ^ 64 → has_bit new col ≡ true → (has_bit old col ≡ true) ⊎ (has_bit (bit_and new (bit_not w64 old)) col ≡ true)
 added_or_old old new col old_low new_low is =
     elim (cases_Bool (has_bit old col)) [
       | inl there ↦ inl there
-      | inr none ↦ inr (has_bit-without new old col old_low (column_below 64 new col new_low is) ∙ and_not _ _ is none)
+      | inr none ↦ inr (has_bit-without new old col old_low (column_below 64 new col new_low is) ∙ and_from _ _ is (not_from_false _ none))
     ]
 
 -- what a row lacks of its room
 pub has_unless_lacks : (room word col : ℕ) → room < 2 ^ 64 → word < 2 ^ 64 → has_bit room col ≡ true → has_bit (bit_and room (bit_not w64 word)) col ≡ false → has_bit word col ≡ true
 has_unless_lacks room word col low word_low there full =
-    last_there _ _ (sym (has_bit-without room word col word_low (column_below 64 room col low there)) ∙ full) there
+    in_the_other _ _ there (sym (has_bit-without room word col word_low (column_below 64 room col low there)) ∙ full)
 
 module _ (missed added lacks : ℕ) (none : bit_or missed (bit_and added lacks) ≡ 0) where
   pub none_before : missed ≡ 0
@@ -52,7 +34,7 @@ module _ (missed added lacks : ℕ) (none : bit_or missed (bit_and added lacks) 
   pub not_lacked : (col : ℕ) → has_bit added col ≡ true → has_bit lacks col ≡ false
   not_lacked col is =
       let no : has_bit (bit_or missed (bit_and added lacks)) col ≡ false = ap (λ w. has_bit w col) none ∙ has_bit-zero col in
-      not_both _ _ (sym (has_bit-and added lacks col) ∙ none_second _ _ (sym (has_bit-or missed (bit_and added lacks) col) ∙ no)) is
+      not_both _ _ (sym (has_bit-and added lacks col) ∙ (or_parts _ _ (sym (has_bit-or missed (bit_and added lacks) col) ∙ no)).1) is
 
 -- a pass in which something was missed added something
 pub fuller_by_missed : (initial now next : List ℕ) (missed added lacks : ℕ) → (missed ≢ 0 → lacking now < lacking initial) → lacking now ≤ lacking initial → lacking next ≤ lacking now → (added ≢ 0 → lacking next < lacking now) → bit_or missed (bit_and added lacks) ≢ 0 → lacking next < lacking initial

@@ -16,7 +16,7 @@ use Rattle.go_board.specs.Clearing.{clear, play, has_unreaching}
 use Rattle.go_board.specs.inner.Neighbour.{left_of, right_of, above, below}
 use Rattle.go_board.specs.inner.Groups.{AllReach, ReachBeside, ReachesIfStone, LosesShut}
 use Rattle.go_board.proofs.PointLemmas.{same_or_not}
-use Rattle.go_board.proofs.GridLemmas.{same_grid, cell_at-with_cell, cell_at-with_cell_elsewhere}
+use Rattle.go_board.proofs.GridLemmas.{one_grid, cell_at-with_cell, cell_at-with_cell_elsewhere}
 use Rattle.go_board.proofs.ReachingLemmas.{Leads-on, Leads-next, path_by_step}
 use Rattle.go_board.proofs.NeighbourLemmas.{AreAdjacent-sym, IsNeighbour, IsNeighbour-adjacent}
 use Rattle.go_board.proofs.GroupLemmas.{stone_of≢Empty}
@@ -154,8 +154,8 @@ module _ (g : Grid) (p : Point) (k : Colour) (on : IsOn g.side p) (all : length 
 -- then its own
 pub captured_is_play : (g h i : Grid) (p : Point) (k : Colour) → IsOn g.side p → length g.cells ≡ g.side * g.side → has_unreaching g ≡ false → LosesShut (with_cell g p (stone_of k)) h (opponent k) → ReachBeside h (opponent k) p → LosesShut h i k → ReachesIfStone i k p → i ≡ play g k p
 captured_is_play g h i p k on all settled first around second own =
-    let eh = same_grid (record g { cells = h.cells }) h (sym first.same_side) refl in
-    let ei = same_grid (record g { cells = i.cells }) i (sym (second.same_side ∙ first.same_side)) refl in
+    let eh = one_grid (record g { cells = h.cells }) h (sym first.same_side) refl in
+    let ei = one_grid (record g { cells = i.cells }) i (sym (second.same_side ∙ first.same_side)) refl in
     sym ei
     ∙ is_play g p k on all settled h.cells
     (subst (λ x. LosesShut (with_cell g p (stone_of k)) x (opponent k)) (sym eh) first)

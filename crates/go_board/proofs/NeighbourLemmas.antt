@@ -2,14 +2,16 @@
 use Rattle.std.proofs.Common.{◌≡◌, ◌⊎◌, inl, inr, ℕ, ◌+◌, ◌-◌, ◌<◌, Bool, true, false, cond, nat_lt, Option, Some, None, refl, sym, ap, subst, ◌∙◌, arith}
 use Rattle.std.proofs.lemmas.Bool.Decides.{Decides-ltb}
 use Rattle.go_board.specs.declared.points.Point.{Point}
-use Rattle.go_board.specs.Point.{IsOn, AreAdjacent}
+use Rattle.go_board.specs.Point.{IsOn, AreAdjacent, DifferByOne}
 use Rattle.go_board.specs.inner.Neighbour.{left_of, right_of, above, below}
 
+pub DifferByOne-sym : (a b : ℕ) → DifferByOne a b → DifferByOne b a
+DifferByOne-sym a b (inl e) = inr e
+DifferByOne-sym a b (inr e) = inl e
+
 pub AreAdjacent-sym : (p q : Point) → AreAdjacent p q → AreAdjacent q p
-AreAdjacent-sym p q (inl (e, inl d)) = inl (sym e, inr d)
-AreAdjacent-sym p q (inl (e, inr d)) = inl (sym e, inl d)
-AreAdjacent-sym p q (inr (e, inl d)) = inr (sym e, inr d)
-AreAdjacent-sym p q (inr (e, inr d)) = inr (sym e, inl d)
+AreAdjacent-sym p q (inl (e, d)) = inl (sym e, DifferByOne-sym _ _ d)
+AreAdjacent-sym p q (inr (e, d)) = inr (sym e, DifferByOne-sym _ _ d)
 
 point_is : (a b : ℕ) (q : Point) → a ≡ q.col → b ≡ q.row → ◌≡◌ {A = Option Point} (Some (record { col = a; row = b })) (Some q)
 point_is a b q e f = ap (λ x. Some (record { col = x; row = b })) e ∙ ap (λ y. Some (record { col = q.col; row = y })) f

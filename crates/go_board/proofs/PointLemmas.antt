@@ -1,13 +1,13 @@
 -- Points, their indices in a list that goes row by row, and tests on the points of a grid.
-use Rattle.std.proofs.Common.{◌≡◌, ◌≢◌, ◌↔◌, Some, slice_get, subst, ℕ, zero, suc, ◌*◌, ◌<◌, ◌⊎◌, Bool, true, false, ◌||◌, List, [], ◌∷◌, map, length, get_or, refl, sym, ap, ◌∙◌, arith, Decides, inl, inr}
+use Rattle.std.proofs.Common.{◌≡◌, ◌≢◌, ◌↔◌, Some, slice_get, subst, ℕ, zero, suc, ◌*◌, ◌<◌, ◌⊎◌, Bool, true, List, map, length, get_or, refl, sym, ap, ◌∙◌, arith, Decides, inl, inr}
 use Rattle.std.specs.List.{list_any}
 use Rattle.std.proofs.lemmas.Nat.{mul-add-lt, mod-mul-add, div-mul-add, rows}
 use Rattle.std.proofs.lemmas.List.{get_or-map, ext_get_or, length-map}
 use Rattle.std.proofs.lemmas.Option.{slice_get-get_or, get_or_from_slice_get, slice_get_within}
 use Rattle.std.proofs.lemmas.List.FromFn.{length-map-range_with_len, get_or-map-range_with_len}
 use Rattle.std.proofs.lemmas.List.Folds.{list_any_at}
-use Rattle.std.proofs.lemmas.Bool.{false≢true, cases_eq}
-use Rattle.std.proofs.lemmas.Bool.Decides.{Decides-eqb, Decides-and, Decides-or}
+use Rattle.std.proofs.lemmas.Bool.{cases_eq}
+use Rattle.std.proofs.lemmas.Bool.Decides.{Decides-eqb, Decides-and, Decides-or, Decides-by_or}
 use Rattle.go_board.specs.declared.points.Point.{Point}
 use Rattle.go_board.specs.Point.{IsOn, AreAdjacent, are_adjacent, index_of, point_at, points}
 
@@ -18,13 +18,14 @@ origin = record { col = 0; row = 0 }
 pub index_below : (side : ℕ) (p : Point) → IsOn side p → index_of side p < side * side
 index_below side p h = mul-add-lt p.row side p.col side h.1 h.0
 
-same_point : (a b c d : ℕ) → a ≡ c → b ≡ d → ◌≡◌ {A = Point} (record { col = a; row = b }) (record { col = c; row = d })
-same_point a b c d e f = cc
+-- points in one column and one row are one
+pub one_point : (p q : Point) → p.col ≡ q.col → p.row ≡ q.row → p ≡ q
+one_point p q e f = ap (λ c. record { col = c; row = p.row }) e ∙ ap (λ r. record { col = q.col; row = r }) f
 
 -- the point at a point's index is that point
 pub point_at-index_of : (side : ℕ) (p : Point) → IsOn side p → point_at side (index_of side p) ≡ p
 point_at-index_of side p h =
-    same_point _ _ p.col p.row (mod-mul-add p.row side p.col h.0) (div-mul-add p.row side p.col h.0)
+    one_point _ p (mod-mul-add p.row side p.col h.0) (div-mul-add p.row side p.col h.0)
 
 -- two points of the grid with one index are one
 pub index_of-injective : (side : ℕ) (p q : Point) → IsOn side p → IsOn side q → index_of side p ≡ index_of side q → p ≡ q
@@ -88,28 +89,14 @@ is_map-points f side xs d same each =
     let within : i < length (points side) = rw length-points below in
     each i below ∙ ap f (sym (get_or-points side i below)) ∙ sym (get_or-map f (points side) i origin d within))
 
--- the index of an element that passes a test
-FoundAt : {X : Type 0} → (X → Bool) → X → List X → Type 0
-FoundAt test d xs = (i : ℕ) × (i < length xs) × (test (get_or xs i d) ≡ true)
-
-found_at-cons : {X : Type 0} (test : X → Bool) (d x : X) (xs : List X) (b : Bool) → test x ≡ b → (b || list_any test xs) ≡ true → (list_any test xs ≡ true → FoundAt test d xs) → FoundAt test d (x ∷ xs)
-unfolding FoundAt
-found_at-cons test d x xs true e h rest = (0, omega arith, e)
-found_at-cons test d x xs false e h rest = let r = rest h in (suc r.0, omega (arith, r.1), r.2)
-
-found_at : {X : Type 0} (test : X → Bool) (d : X) (xs : List X) → list_any test xs ≡ true → FoundAt test d xs
-found_at test d [] h = absurd (false≢true h)
-found_at test d (x ∷ xs) h = found_at-cons test d x xs (test x) refl h (found_at test d xs)
-
 -- a test of some point, where the test of each point decides a fact
 pub Decides-some_point : (side : ℕ) (test : Point → Bool) (P : Point → Type 0) → ((q : Point) → IsOn side q → Decides (test q) (P q)) → Decides (list_any test (points side)) ((q : Point) × IsOn side q × P q)
-unfolding FoundAt
 Decides-some_point side test P each = (
   λ h.
-      let found = found_at test origin (points side) h in
+      let found = (Decides-by_or test (λ q. test q ≡ true) (list_any test) (λ q. (λ e. e, λ e. e)) refl (λ _ _. refl) (points side)).0 h in
       let below : found.0 < side * side = rw (← length-points side) found.1 in
       let on = IsOn-point_at side found.0 below in
-      (point_at side found.0, on, (each _ on).0 (ap test (sym (get_or-points side found.0 below)) ∙ found.2)),
+      (point_at side found.0, on, (each _ on).0 (ap test (sym (get_or-points side found.0 below)) ∙ found.2 origin)),
   λ w.
       let below = index_below side w.0 w.1 in
       let within : index_of side w.0 < length (points side) = rw length-points below in
@@ -128,7 +115,7 @@ same_or_not p q =
     elim (cases_eq p.col q.col) [
       | inl col ↦
           elim (cases_eq p.row q.row) [
-            | inl row ↦ inl (ap (λ a. record { col = a; row = p.row }) col ∙ ap (λ b. record { col = q.col; row = b }) row)
+            | inl row ↦ inl (one_point p q col row)
             | inr other ↦ inr (λ e. other (ap (λ r. r.row) e))
           ]
       | inr other ↦ inr (λ e. other (ap (λ r. r.col) e))

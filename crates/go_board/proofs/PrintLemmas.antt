@@ -1,15 +1,9 @@
 -- The print of a colouring.
-use Rattle.std.proofs.Common.{◌≡◌, ℕ, ◌+◌, ◌*◌, ◌%◌, ◌/◌, ◌^◌, List, [], ◌∷◌, ◌++◌, refl, sym, ap, ◌∙◌, arith}
-use Rattle.std.proofs.Math.Nat.{mod-add-div, add-mul-mod_self_left}
+use Rattle.std.proofs.Common.{◌≡◌, ℕ, ◌+◌, ◌*◌, ◌%◌, ◌^◌, List, [], ◌∷◌, ◌++◌, refl, ap, arith}
+use Rattle.std.proofs.Math.Nat.{mod-add-mod}
 use Rattle.std.proofs.lemmas.Nat.{mul-mod_first}
 use Rattle.go_board.specs.declared.stones.Cell.{Cell}
 use Rattle.go_board.specs.inner.Print.{code_of, digits_after, print_of}
-
--- a sum's remainder is that of the remainders
-pub add-mod_first : (a b m : ℕ) → (a % m + b) % m ≡ (a + b) % m
-add-mod_first a b m =
-    let whole : a + b ≡ (a % m + b) + m * (a / m) = omega (arith, mod-add-div a m) in
-    sym (ap (λ n. n % m) whole ∙ add-mul-mod_self_left (a % m + b) m (a / m))
 
 -- digits are read one after another
 pub digits-append : (n : ℕ) (xs ys : List Cell) → digits_after n (xs ++ ys) ≡ digits_after (digits_after n xs) ys
@@ -22,4 +16,4 @@ print-more xs c =
     let n = digits_after 0 xs in
     let product : ((n % 2 ^ 64) * 31) % 2 ^ 64 ≡ (n * 31) % 2 ^ 64 = mul-mod_first n 31 (2 ^ 64) in
     let reads : digits_after 0 (xs ++ c ∷ []) ≡ 31 * n + code_of c = digits-append 0 xs (c ∷ []) in
-    rw (product, reads, add-mod_first (n * 31) (code_of c) (2 ^ 64)) (ap (λ k. (k + code_of c) % 2 ^ 64) (omega arith))
+    rw (product, reads, mod-add-mod (n * 31) (2 ^ 64) (code_of c)) (ap (λ k. (k + code_of c) % 2 ^ 64) (omega arith))

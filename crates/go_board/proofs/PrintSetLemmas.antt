@@ -1,12 +1,11 @@
 -- The print of a colouring once one point was coloured anew.
 use Rattle.std.proofs.Common.{◌≡◌, ℕ, zero, suc, ◌+◌, ◌-◌, ◌*◌, ◌%◌, ◌^◌, ◌<◌, List, [], ◌∷◌, length, get_or, set, replicate, refl, sym, ap, ◌∙◌, arith}
 use Rattle.std.proofs.lemmas.List.{length-set}
-use Rattle.std.proofs.Math.Nat.{add-mul-mod_self_left}
+use Rattle.std.proofs.Math.Nat.{mod-add-mod, add-mod-mod, add-mul-mod_self_left}
 use Rattle.std.proofs.lemmas.Nat.{mod_below, pow_pos, mul-mod_second}
 use Rattle.go_board.specs.declared.stones.Cell.{Cell}
 use Rattle.go_board.specs.declared.stones.Cell.TheVariants.{Empty}
 use Rattle.go_board.specs.inner.Print.{code_of, digits_after, print_of}
-use Rattle.go_board.proofs.PrintLemmas.{add-mod_first}
 
 join : (n k p d q x y : ℕ) → q ≡ 31 * p → x ≡ (31 * n + k) * p + d → y ≡ (31 * 0 + k) * p + d → x ≡ n * q + y
 join n k p d q x y is_q is_x is_y = rw (is_q, is_x, is_y) (omega arith)
@@ -33,23 +32,16 @@ digits-set (c ∷ cs) zero after new fits =
 digits-set (c ∷ cs) (suc index) after new fits =
     later_digit (code_of c) (31 ^ length cs) (31 ^ length (set cs index new)) (digits_after 0 cs) (digits_after 0 (set cs index new)) _ _ _ _ (ap (λ n. 31 ^ n) (length-set cs index new)) (digits-from (31 * 0 + code_of c) (set cs index new)) (digits-from (31 * 0 + code_of c) cs) (digits-set cs index after new (omega arith))
 
-add-mod_second : (a b m : ℕ) → (a + b % m) % m ≡ (a + b) % m
-add-mod_second a b m =
-    ap (λ n. n % m) (turned a (b % m)) ∙ add-mod_first b a m ∙ ap (λ n. n % m) (turned b a)
-  where
-    turned : (x y : ℕ) → x + y ≡ y + x
-    turned x y = omega arith
-
 -- what is taken off again, modulo the same number
 taken_off : (now less more before m : ℕ) → 0 < m → now + less ≡ before + more → ((before % m + more % m) % m + (m - less % m)) % m ≡ now % m
 taken_off now less more before m positive same =
     let left = less % m in
     let small : left < m = mod_below less m positive in
     let sum : (before % m + more % m) % m ≡ (now + left) % m =
-    add-mod_first before (more % m) m ∙ add-mod_second before more m ∙ ap (λ n. n % m) (sym same) ∙ sym (add-mod_second now less m) in
+    mod-add-mod before m (more % m) ∙ add-mod-mod before more m ∙ ap (λ n. n % m) (sym same) ∙ sym (add-mod-mod now less m) in
     let whole : now + left + (m - left) ≡ now + m * 1 = omega arith in
     ap (λ n. (n + (m - left)) % m) sum
-    ∙ add-mod_first (now + left) (m - left) m
+    ∙ mod-add-mod (now + left) m (m - left)
     ∙ ap (λ n. n % m) whole
     ∙ add-mul-mod_self_left now m 1
 

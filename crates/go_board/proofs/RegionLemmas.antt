@@ -1,13 +1,14 @@
 -- Rows of words that have the points of a grid with certain cells, and those that reach a colour through them.
-use Rattle.std.proofs.Common.{◌≡◌, ◌≢◌, ◌⊎◌, inl, inr, ℕ, zero, suc, ◌+◌, ◌-◌, ◌*◌, ◌^◌, ◌%◌, ◌<◌, ◌≤◌, ◌==◌, ◌||◌, ◌&&◌, Bool, true, false, not, Some, None, List, [], ◌∷◌, length, get_or, set, slice_get, slice_range, slice_index, take, bit_and, bit_or, w64, refl, sym, ap, ◌∙◌, arith, subst, rules}
-use Rattle.std.proofs.lemmas.Bool.{or_cases, and_parts, and_from, false≢true, cases_lt, cases_eq}
-use Rattle.std.specs.Int.{bit_at, bit_not}
+use Rattle.std.proofs.Common.{◌≡◌, ◌≢◌, ◌⊎◌, inl, inr, ℕ, ◌+◌, ◌-◌, ◌*◌, ◌^◌, ◌%◌, ◌<◌, ◌≤◌, ◌==◌, ◌||◌, ◌&&◌, Bool, true, false, not, Some, None, List, [], ◌∷◌, length, get_or, set, slice_get, slice_range, slice_index, take, bit_and, bit_or, w64, refl, sym, ap, ◌∙◌, arith, subst, rules}
+use Rattle.std.proofs.lemmas.Bool.{or_cases, or_left, or_right, and_parts, and_from, false≢true, cases_lt, cases_eq}
+use Rattle.std.specs.Int.{bit_not}
+use Rattle.std.proofs.Math.Bool.{or_self}
 use Rattle.std.proofs.Math.ListN.{get_or-eq_default}
 use Rattle.std.proofs.Math.Nat.{mod-eq_of_lt}
 use Rattle.std.proofs.lemmas.Nat.{row_fits, pow_below}
 use Rattle.std.proofs.lemmas.List.{places, get_or-set_same, get_or-set_other, get_or-take, length-take-le}
 use Rattle.std.proofs.lemmas.Option.{slice_get-get_or, slice_get_past}
-use Rattle.std.proofs.lemmas.Nat.Bits.{bit_at-lt, bit_at-zero, same_from_bits, bit_at_set_same, bit_at_set_other, bit_at_mask_inside, bit_at_mask_above}
+use Rattle.std.proofs.lemmas.Nat.Bits.{bit_at-zero, same_from_bits, bit_at_set_same, bit_at_set_other, bit_at_mask_inside, bit_at_mask_above}
 use Rattle.go_board.specs.declared.stones.Cell.{Cell}
 use Rattle.go_board.specs.declared.stones.Cell.TheVariants.{Black, White, Empty}
 use Rattle.go_board.specs.declared.points.Point.{Point}
@@ -19,15 +20,8 @@ use Rattle.go_board.specs.inner.Rows.{has_bit, is_set, IsAmong, IsClosed, Grows}
 use Rattle.go_board.specs.inner.Regions.{is_either, is_there, AreRowsOf, IsDifference, reaches_through_own}
 use Rattle.go_board.proofs.GridLemmas.{Decides-same_cell}
 use Rattle.go_board.proofs.GrowLemmas.{row_below}
-use Rattle.go_board.proofs.WordLemmas.{has_bit-zero, has_bit-and, has_bit-without}
+use Rattle.go_board.proofs.WordLemmas.{has_bit-zero, has_bit-and, has_bit-without, bit_at-gone}
 use Rattle.go_board.proofs.ReachingLemmas.{Decides-reaches}
-
-or_right : (x y : Bool) → y ≡ true → (x || y) ≡ true
-or_right true y h = refl
-or_right false y h = h
-
-or_left : (x y : Bool) → x ≡ true → (x || y) ≡ true
-or_left x y h = rw h refl
 
 -- a word with one bit set
 pub has_bit-set_there : (word col : ℕ) (b : Bool) → b ≡ true → col < 64 → has_bit (bit_or word (1 * 2 ^ col % 2 ^ 64)) col ≡ (has_bit word col || b)
@@ -188,15 +182,10 @@ IsDifference-all rows others left long each = record {
 }
 
 -- a word with no bit set
-zero_bit : (b : ℕ) → b < 2 → (b == 1) ≡ false → b ≡ 0
-zero_bit zero low none = refl
-zero_bit (suc zero) low none = absurd (false≢true (sym none))
-zero_bit (suc (suc b)) low none = absurd (omega arith)
-
 pub row_zero : (rows : List ℕ) (row : ℕ) → ((p : Point) → is_set rows p ≡ false) → slice_index rows row ≡ 0
 row_zero rows row none =
     same_from_bits (slice_index rows row) 0
-    (λ col. zero_bit (bit_at (slice_index rows row) col) (bit_at-lt (slice_index rows row) col) (none (record { col = col; row = row })) ∙ sym (bit_at-zero col))
+    (λ col. bit_at-gone (slice_index rows row) col (none (record { col = col; row = row })) ∙ sym (bit_at-zero col))
 
 pub all_zero : (rows : List ℕ) → ((r : ℕ) → r < length rows → slice_index rows r ≡ 0) → (p : Point) → is_set rows p ≡ false
 all_zero rows zeros p =
@@ -220,10 +209,6 @@ not_black Black = refl
 not_black White = refl
 not_black Empty = refl
 
-one_twice : (b : Bool) → b ≡ (b || b)
-one_twice true = refl
-one_twice false = refl
-
 pub same_bools : (a b : Bool) → (a ≡ true → b ≡ true) → (b ≡ true → a ≡ true) → a ≡ b
 same_bools true b there back = sym (there refl)
 same_bools false true there back = back refl
@@ -243,7 +228,7 @@ either_second c one other is = or_right _ _ ((Decides-same_cell c other).1 is)
 -- a colour's points, and the points that haven't the other colour
 module _ (g : Grid) (wanted other : Cell) (apart : (c : Cell) → not (same_cell c other) ≡ is_either c Empty wanted) (rows others room : List ℕ) (is_wanted : AreRowsOf g.side (λ p. same_cell (cell_at g p) wanted) rows) (is_other : AreRowsOf g.side (λ p. same_cell (cell_at g p) other) others) (all : length others ≡ g.side) (is_room : AreRowsOf (length others) (λ p. not (is_set others p)) room) where
   pub seed_is : AreRowsOf g.side (λ p. is_either (cell_at g p) wanted wanted) rows
-  seed_is = AreRowsOf-same g.side _ _ rows (λ p on. one_twice (same_cell (cell_at g p) wanted)) is_wanted
+  seed_is = AreRowsOf-same g.side _ _ rows (λ p on. sym (or_self (same_cell (cell_at g p) wanted))) is_wanted
 
   pub room_is : AreRowsOf g.side (λ p. is_either (cell_at g p) Empty wanted) room
   room_is =

@@ -9,11 +9,11 @@ use Rattle.go_board.specs.Point.{IsOn, index_of, point_at, points}
 use Rattle.go_board.specs.Marking.{is_marked, marking_of}
 use Rattle.go_board.specs.inner.Rows.{is_set}
 use Rattle.go_board.specs.inner.Search.{no_marks, with_mark}
-use Rattle.go_board.proofs.PointLemmas.{length-points, get_or-map-points, is_map-points, IsOn-point_at, index_of-point_at, point_at-index_of, index_below}
+use Rattle.go_board.proofs.PointLemmas.{one_point, length-points, get_or-map-points, is_map-points, IsOn-point_at, index_of-point_at, point_at-index_of, index_below}
 use Rattle.go_board.proofs.GridLemmas.{get_or-replicate_default, is_marked-marking_of}
 
 -- with no bit set no point is marked
-is_set-none : (n : ℕ) (p : Point) → is_set (replicate n 0) p ≡ false
+pub is_set-none : (n : ℕ) (p : Point) → is_set (replicate n 0) p ≡ false
 is_set-none n p =
     ap (λ w. bit_at w p.col == 1) (get_or-replicate_default n p.row 0) ∙ ap (λ b. b == 1) (bit_at-zero p.col)
 
@@ -37,7 +37,7 @@ is_set-other : (rows : List ℕ) (p q : Point) → p.row < length rows → p.col
 is_set-other rows p q within low other =
     elim (cases_eq q.row p.row) [
       | inl row ↦
-          let col : q.col ≢ p.col = λ e. other (ap (λ a. record { col = a; row = q.row }) e ∙ ap (λ b. record { col = p.col; row = b }) row) in
+          let col : q.col ≢ p.col = λ e. other (one_point q p e row) in
           ap (λ r. bit_at (get_or (with_bit rows p) r 0) q.col == 1) row
           ∙ ap (λ w. bit_at w q.col == 1) (get_or-set_same rows p.row _ 0 within)
           ∙ ap (λ b. b == 1) (bit_at_set_other w64 (get_or rows p.row 0) p.col low q.col col)

@@ -1,5 +1,6 @@
 -- Clearing, stones that don't reach empty, and the points that count for a player, by paths.
 use Rattle.std.proofs.Common.{◌≡◌, ◌≢◌, ◌*◌, Bool, true, false, not, ◌&&◌, cond, length, refl, Decides}
+use Rattle.std.proofs.lemmas.Bool.{false_from_ne_true}
 use Rattle.std.proofs.lemmas.Bool.Decides.{Decides-and, Decides-or, Decides-not, Decides-like}
 use Rattle.go_board.specs.declared.stones.Cell.{Cell}
 use Rattle.go_board.specs.declared.stones.Cell.TheVariants.{Empty}
@@ -40,8 +41,7 @@ kept_by_first a b c e = rw e
 
 -- a test of what does not hold is false
 pub false_from_Decides : {P : Type 0} (b : Bool) → Decides b P → (¬ P) → b ≡ false
-false_from_Decides true d against = absurd (against (d.0 refl))
-false_from_Decides false d against = refl
+false_from_Decides b d against = false_from_ne_true b (λ is. against (d.0 is))
 
 pub emptied : (g : Grid) (k : Colour) (p : Point) → IsOn g.side p → cell_at g p ≡ stone_of k → (¬ (Reaches g Empty p)) → cleared_cell g k p ≡ Empty
 unfolding cleared_cell

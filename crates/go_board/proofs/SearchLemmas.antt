@@ -85,6 +85,13 @@ module _ (m : Marking) (ps : List Point) (filled taken : ℕ) (p : Point) (withi
   IsSound-searched_in next e below =
       subst IsSound (sym (searched_in-set next e below)) (IsSound-with_mark (searched_in m ps filled taken) p sound on not_yet)
 
+-- a search with room for one more point, held by arrays of that size, has a place for it
+pub place_for : (m : Marking) (ps : List Point) (filled taken size : ℕ) (s : Searched) (p : Point) → searched_in m ps filled taken ≡ s → length ps ≡ size → filled ≤ size → IsSound (searched_in m ps filled taken) → IsOn s.marking.side p → is_marked m p ≡ false → HasRoom size 1 s → IsOn m.side p × (filled < length ps)
+place_for m ps filled taken size s p is all within sound on not_yet room =
+    let on_m : IsOn m.side p = subst (λ x. IsOn x.marking.side p) (sym is) on in
+    let space : HasRoom (length ps) 1 (searched_in m ps filled taken) = subst (λ n. HasRoom n 1 (searched_in m ps filled taken)) (sym all) (subst (HasRoom size 1) (sym is) room) in
+    (on_m, room_in m ps filled taken p (omega (arith, within, all)) sound on_m not_yet space)
+
 pub with_found-new : (s : Searched) (p : Point) → is_marked s.marking p ≡ false → with_found s p ≡ record { marking = with_mark s.marking p; found = s.found ++ p ∷ []; taken = s.taken }
 with_found-new s p not_yet = rw not_yet
 

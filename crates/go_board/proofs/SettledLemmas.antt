@@ -131,6 +131,7 @@ settled-empty_grid side =
       | inr none ↦ none
     ]
 
+-- a move leaves the side
 pub side_play : (g : Grid) (k : Colour) (p : Point) → (play g k p).side ≡ g.side
 unfolding play
 side_play g k p = side-clear _ k ∙ side-clear _ (opponent k)

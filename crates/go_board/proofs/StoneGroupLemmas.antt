@@ -1,10 +1,8 @@
 -- What the rows of a stone's group tell of a grid: the stone reaches empty, or its group has no liberty.
 use Rattle.std.proofs.Common.{◌≡◌, ◌≢◌, inl, inr, ℕ, ◌&&◌, ◌||◌, Bool, true, false, not, IsTrue, List, [], length, refl, sym, ap, ◌∙◌, subst}
 use Rattle.std.proofs.lemmas.Bool.{and_parts, and_from, false≢true, true≢false}
-use Rattle.go_board.specs.declared.stones.Cell.{Cell}
-use Rattle.go_board.specs.declared.stones.Cell.TheVariants.{Black as BlackStone, White as WhiteStone, Empty}
+use Rattle.go_board.specs.declared.stones.Cell.TheVariants.{Empty}
 use Rattle.go_board.specs.declared.stones.Colour.{Colour}
-use Rattle.go_board.specs.declared.stones.Colour.TheVariants.{Black, White}
 use Rattle.go_board.specs.declared.points.Point.{Point}
 use Rattle.go_board.specs.Colour.{opponent, stone_of, same_cell}
 use Rattle.go_board.specs.Point.{IsOn}
@@ -15,9 +13,9 @@ use Rattle.go_board.specs.inner.Rows.{is_set, IsClosed}
 use Rattle.go_board.specs.inner.Regions.{AreRowsOf}
 use Rattle.go_board.specs.inner.Linked.{IsLiberty, IsShutIn, IsSameBut}
 use Rattle.go_board.proofs.PointLemmas.{same_or_not}
-use Rattle.go_board.proofs.GridLemmas.{same_grid, Decides-same_cell, cell_at-with_cell_elsewhere}
+use Rattle.go_board.proofs.GridLemmas.{one_grid, Decides-same_cell, cell_at-with_cell_elsewhere}
 use Rattle.go_board.proofs.NeighbourLemmas.{AreAdjacent-sym}
-use Rattle.go_board.proofs.GroupLemmas.{stone_of≢Empty, LosesShut-group}
+use Rattle.go_board.proofs.GroupLemmas.{neither_stone, stone_of≢Empty, LosesShut-group}
 use Rattle.go_board.proofs.ReachingLemmas.{Decides-reaches, path_by_step}
 
 not_true : (x y : Bool) → x ≡ true → (not x || y) ≡ true → y ≡ true
@@ -27,13 +25,6 @@ not_true false y is h = absurd (false≢true is)
 implies : (x y : Bool) → (x ≡ true → y ≡ true) → (not x || y) ≡ true
 implies true y h = h refl
 implies false y h = refl
-
-neither : (k : Colour) (c : Cell) → same_cell c (stone_of k) ≡ false → same_cell c (stone_of (opponent k)) ≡ false → c ≡ Empty
-neither k Empty own other = refl
-neither Black BlackStone own other = absurd (false≢true (sym own))
-neither Black WhiteStone own other = absurd (false≢true (sym other))
-neither White BlackStone own other = absurd (false≢true (sym other))
-neither White WhiteStone own other = absurd (false≢true (sym own))
 
 module _ (g : Grid) (k : Colour) (own others : List ℕ) (besides from : Point) (all : length own ≡ g.side) (is_own : AreRowsOf g.side (λ p. same_cell (cell_at g p) (stone_of k)) own) (is_other : AreRowsOf g.side (λ p. same_cell (cell_at g p) (stone_of (opponent k))) others) where
   own_stone : (p : Point) → is_set own p ≡ true → cell_at g p ≡ stone_of k
@@ -57,9 +48,6 @@ module _ (g : Grid) (k : Colour) (own others : List ℕ) (besides from : Point) 
         ];
     whole = λ p q on at adjacent is stone_q. shut.closed q p (AreAdjacent-sym p q adjacent) (own_set q at stone_q) is;
   }
-
-  pub on_grid-shut : (group : List ℕ) → IsShutIn own others besides from group → (p : Point) → is_set group p ≡ true → IsOn g.side p
-  on_grid-shut group shut p is = is_own.off p (shut.within p is)
 
   -- a liberty is one after a stone was put on another point
   module _ (h : Grid) (same : IsSameBut g h k besides) where
@@ -99,7 +87,7 @@ module _ (g : Grid) (k : Colour) (own others : List ℕ) (besides from : Point) 
         let q = free.stone in
         let on_p = subst (λ n. IsOn n p) all free.on_grid in
         let on_q = is_own.off q free.own_stone in
-        let empty : cell_at g p ≡ Empty = neither k (cell_at g p) (sym (is_own.on p on_p) ∙ free.not_own) (sym (is_other.on p on_p) ∙ free.not_other) in
+        let empty : cell_at g p ≡ Empty = neither_stone k (cell_at g p) (sym (is_own.on p on_p) ∙ free.not_own) (sym (is_other.on p on_p) ∙ free.not_other) in
         let way : Reaches h Empty q = path_by_step h Empty q p (on_h q on_q) (AreAdjacent-sym p q free.adjacent) (on_h p on_p) (inr (same.elsewhere p on_p free.another ∙ empty)) ([], (on_h p on_p, same.elsewhere p on_p free.another ∙ empty)) in
         let both = and_parts _ _ (free.linked carries carries-closed (and_from _ _ stone (implies (reaches h Empty from) (reaches h Empty from) (λ is. is)))) in
         (Decides-reaches h Empty from (on_h from (is_own.off from stone))).0
@@ -112,7 +100,7 @@ rows_of_colour g k d rows is are = subst (λ c. AreRowsOf g.side (λ p. same_cel
 -- a group without a liberty is taken off by emptying its points
 pub LosesShut-without : (g h : Grid) (k : Colour) (rows : List ℕ) → IsWithoutLiberty g k (λ p. is_set rows p) → IsWithout g h (λ p. IsTrue (is_set rows p)) → LosesShut g h k
 LosesShut-without g h k rows shut is =
-    let same : record g { cells = h.cells } ≡ h = same_grid (record g { cells = h.cells }) h (sym is.same_side) refl in
+    let same : record g { cells = h.cells } ≡ h = one_grid (record g { cells = h.cells }) h (sym is.same_side) refl in
     subst (λ x. LosesShut g x k) same
     (LosesShut-group g k (λ p. is_set rows p) shut h.cells is.all
     (λ p on at. ap (λ x. cell_at x p) same ∙ is.emptied p on at)

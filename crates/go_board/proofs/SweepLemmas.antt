@@ -13,7 +13,7 @@ use Rattle.go_board.specs.Clearing.{cleared_cell, clear}
 use Rattle.go_board.specs.inner.Groups.{is_shut, IsWithout}
 use Rattle.go_board.specs.inner.Rows.{has_bit, is_set, IsPart}
 use Rattle.go_board.specs.inner.Regions.{AreRowsOf}
-use Rattle.go_board.proofs.PointLemmas.{same_or_not}
+use Rattle.go_board.proofs.PointLemmas.{one_point, same_or_not}
 use Rattle.go_board.proofs.GridLemmas.{cell_at-with_cell_elsewhere}
 use Rattle.go_board.proofs.GroupLemmas.{grid_of-cells}
 use Rattle.go_board.proofs.WordLemmas.{le_from_part}
@@ -76,37 +76,47 @@ lowest_left columns left some low part =
     let found = bit_at-trailing_zeros w64 left (omega (arith, some)) (omega (arith, low, le_from_part left columns part)) in
     (ap (λ n. n == 1) found.1, found.0)
 
-module _ (row columns left next : ℕ) (p : Point) (at : p.row ≡ row) (set : has_bit left p.col ≡ true) (part : IsPart (has_bit left) (has_bit columns)) (there : has_bit next p.col ≡ false) (elsewhere : (k : ℕ) → k ≢ p.col → has_bit next k ≡ has_bit left k) where
-  -- what is left then is a part of what was
-  pub next_part : IsPart (has_bit next) (has_bit left)
-  next_part = λ k is.
-      elim (cases_eq k p.col) [
+-- what is left without its lowest column
+module _ (columns left next : ℕ) (some : left ≢ 0) (low : columns < 2 ^ 64) (part : IsPart (has_bit left) (has_bit columns)) (there : has_bit next (trailing_zeros w64 left) ≡ false) (elsewhere : (k : ℕ) → k ≢ trailing_zeros w64 left → has_bit next k ≡ has_bit left k) where
+  abbrev lowest : ℕ
+  lowest = trailing_zeros w64 left
+
+  set : has_bit left lowest ≡ true
+  set = (lowest_left columns left some low part).0
+
+  next_within : IsPart (has_bit next) (has_bit left)
+  next_within = λ k is.
+      elim (cases_eq k lowest) [
         | inl same ↦ ap (has_bit left) same ∙ set
         | inr other ↦ sym (elsewhere k other) ∙ is
       ]
 
+  -- it is still a part of the columns
+  pub next_part : IsPart (has_bit next) (has_bit columns)
+  next_part = λ k is. part k (next_within k is)
+
   pub next_smaller : next < left
   next_smaller =
-      let at_most = le_from_part next left next_part in
-      let differs : next ≢ left = λ same. false≢true (sym there ∙ ap (λ w. has_bit w p.col) same ∙ set) in
+      let at_most = le_from_part next left next_within in
+      let differs : next ≢ left = λ same. false≢true (sym there ∙ ap (λ w. has_bit w lowest) same ∙ set) in
       omega (arith, differs)
 
-  pub taken_more : (g h : Grid) → IsOn g.side p → IsWithout g h (InTaken row columns left) → IsWithout g (with_cell h p Empty) (InTaken row columns next)
-  taken_more g h on so_far =
-      without_more g h (InTaken row columns left) (InTaken row columns next) p so_far on
-      (at, part p.col set, there)
+  -- and the point in that column is taken
+  pub taken_more : (g h : Grid) (row : ℕ) → ((col : ℕ) → has_bit columns col ≡ true → col < g.side) → row < g.side → IsWithout g h (InTaken row columns left) → IsWithout g (with_cell h (record { col = lowest; row = row }) Empty) (InTaken row columns next)
+  taken_more g h row within below so_far =
+      let p : Point = record { col = lowest; row = row } in
+      without_more g h (InTaken row columns left) (InTaken row columns next) p so_far
+      (within lowest (part lowest set), below)
+      (refl, part lowest set, there)
       (λ q gone. (gone.0, gone.1, none_left q.col gone.2))
-      (λ q gone other. (gone.0, gone.1, sym (elsewhere q.col (λ same. other (same_point q same (gone.0 ∙ sym at)))) ∙ gone.2))
+      (λ q gone other. (gone.0, gone.1, sym (elsewhere q.col (λ same. other (one_point q p same gone.0))) ∙ gone.2))
     where
       none_left : (k : ℕ) → has_bit left k ≡ false → has_bit next k ≡ false
       none_left k none =
-          elim (cases_eq k p.col) [
+          elim (cases_eq k lowest) [
             | inl same ↦ ap (has_bit next) same ∙ there
             | inr other ↦ elsewhere k other ∙ none
           ]
-
-      same_point : (q : Point) → q.col ≡ p.col → q.row ≡ p.row → q ≡ p
-      same_point q e f = ap (λ c. record { col = c; row = q.row }) e ∙ ap (λ r. record { col = p.col; row = r }) f
 
 -- the points of a set in the first rows
 abbrev pub InRowsBefore : List ℕ → ℕ → Point → Type 0

@@ -2,7 +2,8 @@
 use Rattle.std.proofs.Common.{◌≡◌, ℕ, Bool, false, inl, inr, ◌↔◌, List, [], ◌∷◌, Option, Some, None, Contains, IsTrue, refl, sym, ap, ◌∙◌, cond, arith, unwrap_or, ◌<◌, ◌+◌, slice_index_or, subst, Decides, Result, OnErr, Ok, Err}
 use Rattle.std.specs.List.{list_any}
 use Rattle.std.proofs.lemmas.Bool.{false≢true, cases_lt, cases_Bool}
-use Rattle.std.proofs.lemmas.Bool.Decides.{Decides-or, Decides-and, Decides-not, Decides-like, Decides-eqb, same_from_decides, not_from_Decides}
+use Rattle.std.proofs.lemmas.Bool.Decides.{Decides-by_or, Decides-and, Decides-not, Decides-like, Decides-eqb, same_from_decides, not_from_Decides}
+use Rattle.std.proofs.lemmas.List.Elements.{Decides-contains}
 use Rattle.std.proofs.lemmas.Slice.Eq.{slice_eq-Decides}
 use Rattle.go_board.specs.declared.stones.Colour.{Colour}
 use Rattle.go_board.specs.declared.points.Point.{Point}
@@ -19,23 +20,10 @@ use Rattle.go_board.specs.Clearing.{play}
 use Rattle.go_board.specs.State.{State, is_over, set_up, turned}
 use Rattle.go_board.specs.Reason.{must_move, is_occupied, is_repeat, same_grid, reason_of, Forbids, IsFirstReason, rank_of}
 use Rattle.go_board.specs.inner.Earlier.{MayOnlyRepeat}
-use Rattle.go_board.proofs.GridLemmas.{Decides-same_cell}
-use Rattle.go_board.proofs.RuleLemmas.{side-clear, false_from_Decides}
+use Rattle.go_board.proofs.GridLemmas.{one_grid, Decides-same_cell}
+use Rattle.go_board.proofs.RuleLemmas.{false_from_Decides}
+use Rattle.go_board.proofs.SettledLemmas.{side_play}
 use Rattle.go_board.proofs.AreaLemmas.{side-with_areas}
-use Rattle.go_board.proofs.EntryLemmas.{Contains-none, Contains-later, Contains-cases}
-
--- a list has the element that some test finds
-Decides-has : {X : Type 0} (test : X → Bool) (x : X) → ((y : X) → Decides (test y) (x ≡ y)) → (ys : List X) → Decides (list_any test ys) (Contains ys x)
-Decides-has test x each [] = (λ t. absurd (false≢true t), λ h. absurd (Contains-none x h))
-Decides-has test x each (y ∷ ys) =
-    Decides-like _
-    (λ h. elim h [ inl e ↦ (0, omega arith, sym e) | inr l ↦ Contains-later y x ys l ])
-    (λ h. elim (Contains-cases y x ys h) [ inl e ↦ inl (sym e) | inr l ↦ inr l ])
-    (Decides-or _ _ (each y) (Decides-has test x each ys))
-
-one_grid : (a b : Grid) → a.side ≡ b.side → a.cells ≡ b.cells → a ≡ b
-one_grid a b sides cells =
-    ap (λ s. record { side = s; cells = a.cells }) sides ∙ ap (λ l. record { side = b.side; cells = l }) cells
 
 pub Decides-grids : (g h : Grid) → Decides (same_grid g h) (g ≡ h)
 Decides-grids g h =
@@ -44,7 +32,10 @@ Decides-grids g h =
 
 -- a stone repeats a colouring that was seen
 pub Decides-is_repeat : (s : State) (k : Colour) (p : Point) → Decides (is_repeat s k (Stone p)) (Contains s.seen (play s.colouring k p))
-Decides-is_repeat s k p = Decides-has (same_grid (play s.colouring k p)) _ (Decides-grids (play s.colouring k p)) s.seen
+Decides-is_repeat s k p =
+    let made = play s.colouring k p in
+    Decides-contains s.seen made _
+    (Decides-by_or (same_grid made) (λ g. g ≡ made) (list_any (same_grid made)) (λ g. Decides-like _ sym sym (Decides-grids made g)) refl (λ _ _. refl) s.seen)
 
 -- the first reason of a turn for which none before the last holds
 pub reason_of-last : (s : State) (k : Colour) (x : Play) (b : Bool) → is_over s ≡ false → must_move s.player (opponent k) ≡ false → is_occupied s x ≡ false → is_repeat s k x ≡ b → reason_of s k x ≡ cond b (Some Repeat) None
@@ -54,11 +45,6 @@ reason_of-last s k x b on turn free repeats = rw (on, turn, free, repeats) refl
 pub on_err : {A E : Type 0} (r : Result A E) (P : Type 0) → P → OnErr r P
 on_err (Ok v) P h = tt
 on_err (Err e) P h = h
-
--- a move leaves the side
-pub side-play : (g : Grid) (k : Colour) (p : Point) → (play g k p).side ≡ g.side
-unfolding play
-side-play g k p = side-clear _ k ∙ side-clear _ (opponent k)
 
 -- once a past of those colourings answered whether it holds a stone's colouring, the last reason is known
 pub reason_by_past : (s : State) (k : Colour) (p : Point) (b : Bool) (seen : List Grid) (made : Grid) → seen ≡ s.seen → made ≡ play s.colouring k p → is_over s ≡ false → must_move s.player (opponent k) ≡ false → is_occupied s (Stone p) ≡ false → (IsTrue b ↔ Contains seen made) → reason_of s k (Stone p) ≡ cond b (Some Repeat) None
@@ -184,4 +170,4 @@ side-set_up s (op ∷ ops) player = side-with_areas s.colouring (op ∷ ops)
 
 pub side-turned : (s : State) (k : Colour) (x : Play) → (turned s k x).colouring.side ≡ s.colouring.side
 side-turned s k Pass = refl
-side-turned s k (Stone p) = side-play s.colouring k p
+side-turned s k (Stone p) = side_play s.colouring k p

@@ -1,7 +1,8 @@
 -- Words as sets of columns: what the operations on words make of their bits.
-use Rattle.std.proofs.Common.{◌≡◌, inl, inr, ℕ, zero, suc, ◌+◌, ◌-◌, ◌*◌, ◌/◌, ◌%◌, ◌^◌, ◌<◌, ◌≤◌, ◌==◌, ◌||◌, ◌&&◌, min, max, true, false, not, bit_and, bit_or, w64, refl, sym, ap, ◌∙◌, arith, subst}
+use Rattle.std.proofs.Common.{◌≡◌, ◌≢◌, ◌⊎◌, inl, inr, ℕ, zero, suc, ◌+◌, ◌-◌, ◌*◌, ◌/◌, ◌%◌, ◌^◌, ◌<◌, ◌≤◌, ◌==◌, ◌||◌, ◌&&◌, min, max, Bool, true, false, not, bit_and, bit_or, w64, refl, sym, ap, ◌∙◌, arith, subst}
 use Rattle.std.specs.Int.{bit_at, bit_not}
-use Rattle.std.proofs.lemmas.Bool.{false≢true, cases_lt}
+use Rattle.std.proofs.Math.Bool.{or-true}
+use Rattle.std.proofs.lemmas.Bool.{not-false, false≢true, cases_lt, cases_eq, eqb-true, eqb-false}
 use Rattle.std.proofs.lemmas.Nat.{le_or_l, and_mask, mod_below, pow_pos}
 use Rattle.std.proofs.lemmas.Nat.Bits.{bit_at_and, bit_at_or, bit_at_not, bit_at-lt, bit_at-suc, bit_at-zero, bit_at_above, bit_at_ones, bit_at_cat_high, bit_at_cat_low, same_from_bits}
 use Rattle.go_board.specs.inner.Rows.{has_bit, IsPart}
@@ -54,6 +55,18 @@ has_bit-without word other c low column =
     ap (λ n. n == 1)
     (bit_at_and word (bit_not w64 other) c ∙ ap (λ b. min (bit_at word c) b) (bit_at_not w64 other c low column))
     ∙ test_without (bit_at word c) (bit_at other c) (bit_at-lt word c) (bit_at-lt other c)
+
+-- where nothing of the one is left without the other, what is in the one is in the other
+pub in_the_other : (x y : Bool) → x ≡ true → (x && not y) ≡ false → y ≡ true
+in_the_other true y is none = not-false y none
+in_the_other false y is none = absurd (false≢true is)
+
+-- the bit of a column that is there, and of one that isn't
+pub bit_at-there : (n c : ℕ) → has_bit n c ≡ true → bit_at n c ≡ 1
+bit_at-there n c is = eqb-true (bit_at n c) 1 is
+
+pub bit_at-gone : (n c : ℕ) → has_bit n c ≡ false → bit_at n c ≡ 0
+bit_at-gone n c none = let other = eqb-false (bit_at n c) 1 none in omega (arith, bit_at-lt n c, other)
 
 pub has_bit-zero : (c : ℕ) → has_bit 0 c ≡ false
 has_bit-zero c = ap (λ n. n == 1) (bit_at-zero c)
@@ -109,3 +122,15 @@ le_from_part a b part =
     (same_from_bits (bit_or a b) b
     (λ i. bit_at_or a b i ∙ max_part (bit_at a i) (bit_at b i) (bit_at-lt a i) (bit_at-lt b i) (part i)))
     (le_or_l a b)
+
+-- a word with a column more
+module _ (word next col : ℕ) (there : has_bit next col ≡ (has_bit word col || true)) (elsewhere : (k : ℕ) → k ≢ col → has_bit next k ≡ has_bit word k) where
+  pub IsPart-more : IsPart (has_bit word) (has_bit next)
+  IsPart-more k is =
+      elim (cases_eq k col) [
+        | inl same ↦ ap (has_bit next) same ∙ there ∙ or-true (has_bit word col)
+        | inr other ↦ elsewhere k other ∙ is
+      ]
+
+  pub from_more : (k : ℕ) → has_bit next k ≡ true → (has_bit word k ≡ true) ⊎ (k ≡ col)
+  from_more k is = elim (cases_eq k col) [ inl same ↦ inr same | inr other ↦ inl (sym (elsewhere k other) ∙ is) ]

@@ -1,6 +1,4 @@
-use Rattle.std.proofs.Common.{w64, refl, sym, subst, arith}
-use Rattle.std.specs.Int.{trailing_zeros}
-use Rattle.go_board.specs.declared.points.Point.{Point}
+use Rattle.std.proofs.Common.{sym, subst, arith}
 use Rattle.go_board.specs.inner.Groups.{IsWithout}
 use Rattle.go_board.proofs.SweepLemmas.{InTaken, lowest_left, next_part, next_smaller, taken_more}
 use Rattle.go_board.proofs.board.Board.empty_columns.Goals as goal
@@ -20,20 +18,16 @@ without_column-left-requires c =
 pub columns-smaller : goal.columns-smaller
 columns-smaller c =
     let l = c.columns in
-    let lowest = lowest_left c.args.columns l.left c.columns-test.true c.ranges.columns.fits l.invariant.part in
     let next = c.without_column-left in
-    next_smaller c.args.row c.args.columns l.left next.result (record { col = trailing_zeros w64 l.left; row = c.args.row }) refl lowest.0 l.invariant.part next.ensures.there next.ensures.elsewhere
+    next_smaller c.args.columns l.left next.result c.columns-test.true c.ranges.columns.fits l.invariant.part next.ensures.there next.ensures.elsewhere
 
 pub columns-preserved : goal.columns-preserved
 columns-preserved c =
     let l = c.columns in
     let g = c.args.self.now in
-    let p : Point = record { col = trailing_zeros w64 l.left; row = c.args.row } in
-    let lowest = lowest_left c.args.columns l.left c.columns-test.true c.ranges.columns.fits l.invariant.part in
     let next = c.without_column-left in
-    let below = c.requires.columns _ (l.invariant.part _ lowest.0) in
     record {
-      part = λ k is. l.invariant.part k (next_part c.args.row c.args.columns l.left next.result p refl lowest.0 l.invariant.part next.ensures.there next.ensures.elsewhere k is);
+      part = next_part c.args.columns l.left next.result c.columns-test.true c.ranges.columns.fits l.invariant.part next.ensures.there next.ensures.elsewhere;
       taken = subst (λ h. IsWithout g h (InTaken c.args.row c.args.columns next.result)) (sym c.set.ensures)
-          (taken_more c.args.row c.args.columns l.left next.result p refl lowest.0 l.invariant.part next.ensures.there next.ensures.elsewhere g l.self (below, c.requires.row) l.invariant.taken);
+          (taken_more c.args.columns l.left next.result c.columns-test.true c.ranges.columns.fits l.invariant.part next.ensures.there next.ensures.elsewhere g l.self c.args.row c.requires.columns c.requires.row l.invariant.taken);
     }

@@ -1,8 +1,8 @@
 use Rattle.std.proofs.Common.{◌≡◌, ◌+◌, ◌^◌, ◌<◌, length, get_or, slice_index, refl, sym, ap, ◌∙◌, subst, arith, rules}
-use Rattle.std.proofs.lemmas.Bool.{eqb-true}
+use Rattle.std.proofs.lemmas.Bool.{eqb-true, eqb-false}
 use Rattle.go_board.specs.inner.Rows.{has_bit, row_above, IsTaken, TakeAbove}
 use Rattle.go_board.proofs.GrowLemmas.{Grows-none, Grows-twice, above_more, row_above-same, row_above-next, part_first, IsClosed-taken}
-use Rattle.go_board.proofs.MissedLemmas.{has_unless_lacks, fuller_by_missed, TakeBelow-still, some_from_test}
+use Rattle.go_board.proofs.MissedLemmas.{has_unless_lacks, fuller_by_missed, TakeBelow-still}
 use Rattle.go_board.proofs.board.fill.take_down.Goals as goal
 
 pub rows-init : goal.rows-init
@@ -59,4 +59,4 @@ returns-clause-closed c = λ enough.
     IsClosed-taken c.args.room.now l.rows (l.auto.rows ∙ c.requires.same) l.invariant.wide (returns-clause-taken c) (l.invariant.still (eqb-true _ _ enough))
 
 pub returns-clause-fuller : goal.returns-clause-fuller
-returns-clause-fuller c = λ some. c.rows.invariant.fuller (some_from_test c.rows.missed some)
+returns-clause-fuller c = λ some. c.rows.invariant.fuller (eqb-false c.rows.missed 0 some)

@@ -1,10 +1,10 @@
 use Rattle.std.proofs.Common.{◌≡◌, ◌+◌, ◌-◌, ◌^◌, ◌<◌, length, get_or, slice_index, refl, sym, ap, ◌∙◌, subst, arith, rules}
-use Rattle.std.proofs.lemmas.Bool.{eqb-true, false≢true}
+use Rattle.std.proofs.lemmas.Bool.{eqb-true, false≢true, eqb-false}
 use Rattle.std.proofs.Math.ListN.{get_or-eq_default}
 use Rattle.go_board.specs.inner.Rows.{has_bit, row_above, IsTaken, TakeAbove, TakeBelow}
 use Rattle.go_board.proofs.WordLemmas.{has_bit-zero}
 use Rattle.go_board.proofs.GrowLemmas.{Grows-none, Grows-twice, below_more, part_second, IsClosed-taken}
-use Rattle.go_board.proofs.MissedLemmas.{has_unless_lacks, fuller_by_missed, TakeAbove-still, some_from_test}
+use Rattle.go_board.proofs.MissedLemmas.{has_unless_lacks, fuller_by_missed, TakeAbove-still}
 use Rattle.go_board.proofs.board.fill.take_up.Goals as goal
 
 pub rows-init : goal.rows-init
@@ -65,4 +65,4 @@ returns-clause-closed c = λ enough.
     IsClosed-taken c.args.room.now l.rows (l.auto.rows ∙ c.requires.same) l.invariant.wide (l.invariant.still (eqb-true _ _ enough)) (subst (TakeBelow c.args.room.now l.rows) all l.invariant.taken)
 
 pub returns-clause-fuller : goal.returns-clause-fuller
-returns-clause-fuller c = λ some. c.rows.invariant.fuller (some_from_test c.rows.missed some)
+returns-clause-fuller c = λ some. c.rows.invariant.fuller (eqb-false c.rows.missed 0 some)

@@ -4,7 +4,8 @@ use Rattle.go_board.specs.Point.{IsOn, DifferByOne}
 use Rattle.go_board.specs.inner.Glance.{IsRowAt}
 use Rattle.go_board.specs.inner.Rows.{has_bit}
 use Rattle.go_board.proofs.WordLemmas.{has_bit-zero}
-use Rattle.go_board.proofs.GlanceLemmas.{AreBeside, free_elsewhere, free_besides, alive_reaches, left_reaches, swapped}
+use Rattle.go_board.proofs.NeighbourLemmas.{DifferByOne-sym}
+use Rattle.go_board.proofs.GlanceLemmas.{AreBeside, free_elsewhere, free_besides, alive_reaches, left_reaches}
 use Rattle.go_board.proofs.board.glance.leaves_all_alive.Goals as goal
 
 pub returns-then-some_of : goal.returns-then-some_of
@@ -46,7 +47,7 @@ returns-then-some_of c = λ g k side is_own is_others none.
     let beside_down : AreBeside p 3 stone = λ q row is. inl (sym (alone q.col is), inl (omega (arith, row))) in
     let beside_along : AreBeside p 2 wide = λ q row is.
     let w = c.beside.ensures.from q.col is in
-    inr (omega (arith, row), swapped q.col p.col (subst (DifferByOne q.col) (alone w.0 w.2) w.1)) in
+    inr (omega (arith, row), DifferByOne-sym q.col p.col (subst (DifferByOne q.col) (alone w.0 w.2) w.1)) in
     let lost = c.none_of.ensures none in (
       λ own_stone.
           elim (c.some_of.ensures c.if-some_of.true) [
@@ -71,6 +72,6 @@ returns-then-some_of c = λ g k side is_own is_others none.
             | inr (same, differ) ↦
                 left_reaches g k p own others side on is_own is_others 1 wide above.free here below.free is_here free_above free_here free_below
                 along.result.shut along.ensures.shut (λ n. (lost n).1) q (omega (arith, same)) on_q (inr (same, differ))
-                (c.beside.ensures.to q.col p.col (omega (arith, on_q.0, side, c.requires.few)) (swapped p.col q.col differ) there)
+                (c.beside.ensures.to q.col p.col (omega (arith, on_q.0, side, c.requires.few)) (DifferByOne-sym p.col q.col differ) there)
           ],
     )

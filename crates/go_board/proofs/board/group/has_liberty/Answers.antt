@@ -1,4 +1,4 @@
-use Rattle.std.proofs.Common.{◌≡◌, inl, inr, w64, length, refl, sym, ap, ◌∙◌, subst, arith, rules}
+use Rattle.std.proofs.Common.{◌≡◌, inl, inr, w64, length, sym, ap, ◌∙◌, subst, arith, rules}
 use Rattle.std.specs.Int.{trailing_zeros}
 use Rattle.std.proofs.lemmas.Bool.{false≢true}
 use Rattle.go_board.specs.Point.{IsOn, DifferByOne}
@@ -43,29 +43,25 @@ rows-init c =
 
 pub bounds-group-row : goal.bounds-group-row
 bounds-group-row c =
-    let row = trailing_zeros w64 c.rows.waiting in
     let found = lowest_left c.rows.waiting c.rows.waiting c.rows-test.true c.rows.invariant.low (λ k is. is) in
-    omega (arith, c.rows.invariant.spread.rows_in row found.0, c.rows.invariant.spread.all)
+    omega (arith, c.rows.invariant.spread.rows_in _ found.0, c.rows.invariant.spread.all)
 
 pub grow_row-requires-clause-row : goal.grow_row-requires-clause-row
 grow_row-requires-clause-row c =
-    let row = trailing_zeros w64 c.rows.waiting in
     let found = lowest_left c.rows.waiting c.rows.waiting c.rows-test.true c.rows.invariant.low (λ k is. is) in
-    omega (arith, c.rows.invariant.spread.rows_in row found.0, c.rows.invariant.spread.all)
+    omega (arith, c.rows.invariant.spread.rows_in _ found.0, c.rows.invariant.spread.all)
 
 pub row_has_liberty-requires-in-rows-clause-row : goal.row_has_liberty-requires-in-rows-clause-row
 row_has_liberty-requires-in-rows-clause-row c =
-    let row = trailing_zeros w64 c.rows.waiting in
     let found = lowest_left c.rows.waiting c.rows.waiting c.rows-test.true c.rows.invariant.low (λ k is. is) in
     let long : length c.grow_row.new.rows ≡ length c.rows.group = search rules in
-    omega (arith, c.rows.invariant.spread.rows_in row found.0, c.rows.invariant.spread.all, long)
+    omega (arith, c.rows.invariant.spread.rows_in _ found.0, c.rows.invariant.spread.all, long)
 
 pub bounds-group-row-in-rows : goal.bounds-group-row-in-rows
 bounds-group-row-in-rows c =
-    let row = trailing_zeros w64 c.rows.waiting in
     let found = lowest_left c.rows.waiting c.rows.waiting c.rows-test.true c.rows.invariant.low (λ k is. is) in
     let long : length c.grow_row.new.rows ≡ length c.rows.group = search rules in
-    omega (arith, c.rows.invariant.spread.rows_in row found.0, c.rows.invariant.spread.all, long)
+    omega (arith, c.rows.invariant.spread.rows_in _ found.0, c.rows.invariant.spread.all, long)
 
 pub returns-then-row_has_liberty-2-clause-lives : goal.returns-then-row_has_liberty-2-clause-lives
 returns-then-row_has_liberty-2-clause-lives c = λ _.
@@ -139,9 +135,7 @@ rows-smaller c =
     let next = c.grow_row.new.rows in
     let waiting = c.rows.waiting in
     let left = c.without_column-waiting in
-    let row = trailing_zeros w64 waiting in
-    let found = lowest_left waiting waiting c.rows-test.true c.rows.invariant.low (λ k is. is) in
-    let fewer = next_smaller 0 waiting waiting left.result (record { col = row; row = 0 }) refl found.0 (λ k is. is) left.ensures.there left.ensures.elsewhere in
+    let fewer = next_smaller waiting waiting left.result c.rows-test.true c.rows.invariant.low (λ k is. is) left.ensures.there left.ensures.elsewhere in
     let same : lacking next ≡ lacking c.rows.group = ap lacking (c.grow_row.ensures.unchanged c.if-group-row.false) in
     omega (arith, fewer, same)
 

@@ -32,9 +32,8 @@ without_column-left-requires c =
 pub columns-smaller : goal.columns-smaller
 columns-smaller c =
     let l = c.columns in
-    let lowest = lowest_left c.args.columns l.left c.columns-test.true c.ranges.columns.fits l.invariant.part in
     let next = c.without_column-left in
-    next_smaller c.args.row c.args.columns l.left next.result (record { col = trailing_zeros w64 l.left; row = c.args.row }) refl lowest.0 l.invariant.part next.ensures.there next.ensures.elsewhere
+    next_smaller c.args.columns l.left next.result c.columns-test.true c.ranges.columns.fits l.invariant.part next.ensures.there next.ensures.elsewhere
 
 pub columns-preserved : goal.columns-preserved
 columns-preserved c =
@@ -50,9 +49,9 @@ columns-preserved c =
     let stone : cell_at l.board p ≡ stone_of k = l.invariant.taken.kept p (below, c.requires.row) (λ gone. true≢false (sym lowest.0 ∙ gone.2)) ∙ c.requires.stones p refl there in
     let pushed : c.push_in_room.new.changes.items ≡ l.changes.items ++ record { point = p; cell = stone_of k; more = 0 } ∷ [] = c.push_in_room.ensures.pushed c.if-not-push_in_room.false ∙ ap (λ x. l.changes.items ++ record { point = p; cell = x; more = 0 } ∷ []) c.stone.ensures in
     record {
-      part = λ i is. l.invariant.part i (next_part c.args.row c.args.columns l.left next.result p refl lowest.0 l.invariant.part next.ensures.there next.ensures.elsewhere i is);
+      part = next_part c.args.columns l.left next.result c.columns-test.true c.ranges.columns.fits l.invariant.part next.ensures.there next.ensures.elsewhere;
       taken = subst (λ h. IsWithout g h (InTaken c.args.row c.args.columns next.result)) (sym c.set.ensures)
-          (taken_more c.args.row c.args.columns l.left next.result p refl lowest.0 l.invariant.part next.ensures.there next.ensures.elsewhere g l.board (below, c.requires.row) l.invariant.taken);
+          (taken_more c.args.columns l.left next.result c.columns-test.true c.ranges.columns.fits l.invariant.part next.ensures.there next.ensures.elsewhere g l.board c.args.row c.requires.columns c.requires.row l.invariant.taken);
       logged = λ start h front was.
           subst (λ cs. LeadBackwards start h front c.set.new.self cs) (sym pushed)
           (subst (λ b. LeadBackwards start h front b (l.changes.items ++ record { point = p; cell = stone_of k; more = 0 } ∷ [])) (sym c.set.ensures)

@@ -2,8 +2,9 @@ use Rattle.std.proofs.Common.{◌≡◌, length, rules, sym, ap, ◌∙◌, subs
 use Rattle.go_board.specs.Clearing.{has_unreaching}
 use Rattle.go_board.specs.inner.Changes.{AreOn, LeadBackwards}
 use Rattle.go_board.proofs.SettledLemmas.{settled_by_play}
-use Rattle.go_board.proofs.BackwardsLemmas.{backwards-side, on_grid-round}
+use Rattle.go_board.proofs.BackwardsLemmas.{backwards-side, on_grid-round, back-round, front-round}
 use Rattle.go_board.proofs.past.captures.place_on.Goals as goal
+use Rattle.go_board.proofs.past.captures.place_on.Goals.{After-len}
 
 pub restore-requires-2-clause-settled : goal.restore-requires-2-clause-settled
 restore-requires-2-clause-settled c =
@@ -25,3 +26,18 @@ pub returns-clause-on_grid : goal.returns-clause-on_grid
 returns-clause-on_grid c =
     subst (AreOn c.args.board.now.side) (sym c.turn_round.ensures)
     (on_grid-round c.args.board.now.side c.len-start.result c.place_and_keep.new.changes.items c.place_and_keep.ensures.kept.on_grid)
+
+-- what the changes of the move lead back to, counted from where they begin
+leads : (c : After-len) → LeadBackwards c.len-start.result c.args.board.now c.args.changes.now.items c.place_and_keep.new.board c.place_and_keep.new.changes.items
+leads c =
+    let start : length c.args.changes.now.items ≡ c.len-start.result = search rules in
+    subst (λ n. LeadBackwards n c.args.board.now c.args.changes.now.items c.place_and_keep.new.board c.place_and_keep.new.changes.items) start c.place_and_keep.ensures.kept
+
+pub returns-clause-back : goal.returns-clause-back
+returns-clause-back c =
+    rw c.restore-2.ensures
+    (back-round c.len-start.result c.args.board.now c.args.changes.now.items c.place_and_keep.new.board c.place_and_keep.new.changes.items c.turn_round.new.changes.items c.len.result (leads c) c.turn_round.ensures (search rules))
+
+pub returns-clause-front : goal.returns-clause-front
+returns-clause-front c =
+    front-round c.len-start.result c.args.board.now c.args.changes.now.items c.place_and_keep.new.board c.place_and_keep.new.changes.items c.turn_round.new.changes.items c.len.result (leads c) c.turn_round.ensures (search rules)

@@ -4,8 +4,9 @@ use Rattle.go_board.specs.declared.stones.Cell.TheVariants.{Black}
 use Rattle.go_board.specs.declared.referee.plays.SetupOp.{SetupOp}
 use Rattle.go_board.specs.Point.{IsRectOn, index_of}
 use Rattle.go_board.specs.Grid.{Grid}
+use Rattle.go_board.specs.inner.Changes.{AreOn}
 use Rattle.go_board.proofs.AreaLemmas.{area_of_point, areas_more}
-use Rattle.go_board.proofs.BackwardsLemmas.{backwards-none}
+use Rattle.go_board.proofs.BackwardsLemmas.{backwards-none, on_grid-round, back-round, front-round}
 use Rattle.go_board.proofs.past.setups.set_points.Goals as goal
 
 pub loop-op-init : goal.loop-op-init
@@ -40,3 +41,16 @@ loop-op-preserved c =
       room = omega (arith, l.invariant.room, c.set_point.ensures.one, c.set_point.ensures.capacity, within);
       few = omega (arith, l.invariant.few, c.set_point.ensures.one);
     }
+
+pub returns-clause-back : goal.returns-clause-back
+returns-clause-back c =
+    back-round c.len-start.result c.args.board.now c.args.changes.now.items c.loop-op.board c.loop-op.changes.items c.turn_round.new.changes.items c.len.result c.loop-op.invariant.kept c.turn_round.ensures (search rules)
+
+pub returns-clause-front : goal.returns-clause-front
+returns-clause-front c =
+    front-round c.len-start.result c.args.board.now c.args.changes.now.items c.loop-op.board c.loop-op.changes.items c.turn_round.new.changes.items c.len.result c.loop-op.invariant.kept c.turn_round.ensures (search rules)
+
+pub returns-clause-on_grid : goal.returns-clause-on_grid
+returns-clause-on_grid c =
+    subst (AreOn c.args.board.now.side) (sym c.turn_round.ensures)
+    (on_grid-round c.args.board.now.side c.len-start.result c.loop-op.changes.items c.loop-op.invariant.kept.on_grid)
