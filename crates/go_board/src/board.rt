@@ -63,13 +63,6 @@ impl Model for Board {
         × AreRowsKept (record { side = b.size; cells = take (b.size * b.size) b.cells }) b.rows };
 }
 
-/// So many cells on which nothing stands.
-pub(crate) fn nothing<const N: usize>() -> [Cell; N]
-    ensures { result ≡ replicate N Empty }
-{
-    [Cell::Empty; N]
-}
-
 impl Board {
     ghost use Rattle.std.specs.Prelude.{◌≡◌, ◌*◌, ◌+◌, ◌≤◌, ◌↔◌, IsTrue, false, length};
     ghost use Rattle.go_board.specs.declared.stones.Cell.TheVariants.{Empty};
@@ -428,4 +421,11 @@ impl Board {
         let white_reach = self.all_reach::<N>(Colour::White, white, black);
         !(black_reach & white_reach)
     }
+}
+
+/// So many cells on which nothing stands.
+pub(crate) fn nothing<const N: usize>() -> [Cell; N]
+    ensures { result ≡ replicate N Empty }
+{
+    [Cell::Empty; N]
 }

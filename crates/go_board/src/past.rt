@@ -32,7 +32,7 @@ pub use print_past::PrintPast;
 use std::alloc::Global;
 
 /// The colourings that a game has been through, at least one, of each of which is known whether it begins a stretch. The present
-/// stretch is the newest colouring that begins one, and all after it. Boards handed in have the size of the first one.
+/// stretch is the newest colouring that begins one, and all after it. Boards handed in have the size of its colourings.
 /// After a refusal the past is unchanged.
 pub trait Past: Drop {
     /// The colourings, newest first.

@@ -15,7 +15,7 @@ pub record CursorState : Type 0 where
 
 -- one line later
 abbrev pub advanced : CursorState → CursorState
-advanced at = record { games = at.games; index = at.index + 1 }
+advanced cursor = record { games = cursor.games; index = cursor.index + 1 }
 
 -- what is shown of a line: its path, and its place (that both are of one line is the law `named`)
 pub record Shown : Type 0 where
@@ -32,8 +32,8 @@ pub record IsLine (games : Games) (index : ℕ) (line : LineRef) : Type 0 where
 
 -- the next line, or none after the last one
 abbrev pub GivesLine : CursorState → Option LineRef → Type 0
-GivesLine at None = slice_get (lines at.games) at.index ≡ None
-GivesLine at (Some line) = IsLine at.games at.index line
+GivesLine cursor None = slice_get (lines cursor.games) cursor.index ≡ None
+GivesLine cursor (Some line) = IsLine cursor.games cursor.index line
 
 -- a line takes the cursor one line on; at the end and after a refusal it is unchanged
 abbrev pub LeavesCursor : CursorState → Result (Option LineRef) MemoryFault → CursorState → Type 0

@@ -28,7 +28,7 @@ lines_from number no_games = []
 lines_from number (game first more below after) =
     lines_of_game number (through (first ∷ more) (node_lines below)) ++ lines_from (number + 1) after
 
--- the lines of a collection, those of an earlier game and of an earlier child tree first
+-- the lines of a collection, those of an earlier game and of an earlier variation first
 abbrev pub lines : Games → List Line
 lines games = lines_from 1 games
 

@@ -5,12 +5,12 @@ use Rattle.sgf_tree.specs.Tree.{Games, no_games, game, node_count}
 use Rattle.sgf_tree.specs.FileOrder.{node_at}
 use Rattle.sgf_lines.specs.Lines.{Line, through, last_number}
 
--- the variations through games whose first node has the number `at`
+-- the variations through games whose first node has the number `first_number`
 abbrev pub number_lines : ℕ → Games → List (List ℕ)
-number_lines at no_games = []
-number_lines at (game first more below after) =
-    let last = at + length more in
-    through (at ∷ range_with_len (at + 1) (length more)) (number_lines (last + 1) below)
+number_lines first_number no_games = []
+number_lines first_number (game first more below after) =
+    let last = first_number + length more in
+    through (first_number ∷ range_with_len (first_number + 1) (length more)) (number_lines (last + 1) below)
     ++ number_lines (last + 1 + node_count below) after
 
 -- a line by numbers: that of its game, counted from 1, and those of its nodes, counted from 0, the root first
@@ -22,12 +22,12 @@ pub record Path : Type 0 where
 abbrev pub paths_of_game : ℕ → List (List ℕ) → List Path
 paths_of_game number variations = map (λ numbers. record { game_number = number; numbers = numbers }) variations
 
--- the paths of games, of which the first has this number and begins at the node `at`
+-- the paths of games, of which the first has this number and begins at the node `first_number`
 abbrev pub paths_from : ℕ → ℕ → Games → List Path
-paths_from number at no_games = []
-paths_from number at (game first more below after) =
-    let last = at + length more in
-    paths_of_game number (through (at ∷ range_with_len (at + 1) (length more)) (number_lines (last + 1) below))
+paths_from number first_number no_games = []
+paths_from number first_number (game first more below after) =
+    let last = first_number + length more in
+    paths_of_game number (through (first_number ∷ range_with_len (first_number + 1) (length more)) (number_lines (last + 1) below))
     ++ paths_from (number + 1) (last + 1 + node_count below) after
 
 -- the paths of a collection's lines, in the same order

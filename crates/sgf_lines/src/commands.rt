@@ -18,10 +18,10 @@ use std::alloc::Global;
 /// The commands of the nodes of a line on a board.
 #[derive(Drop)]
 pub(crate) struct Commands {
-    // none where the board has more columns than there are letters of vertices
+    /// None where the board has more columns than there are letters of vertices.
     kept: KeptText,
 
-    // the index of the first node whose setup leaves a stone without a liberty
+    /// The index of the first node whose setup leaves a stone without a liberty.
     unreaching: Option<usize>,
 }
 

@@ -13,16 +13,16 @@ use sgf_tree::{Collection, MemoryFault};
 use std::alloc::Global;
 use std::marker::Model;
 
-/// Goes over the lines of a collection in file order: those of an earlier game, and of an earlier child tree, come first.
+/// Goes over the lines of a collection in file order: those of an earlier game, and of an earlier variation, come first.
 /// It is seen as the collection and the index of its next line, from 0.
 #[derive(Drop)]
 pub struct Cursor<'c, 'a> {
     collection: &'c Collection<'a>,
 
-    // the node from which on it looks for the next leaf
+    /// The node from which on it looks for the next leaf.
     next: usize,
 
-    // the nodes from the root to the leaf before that one; none before the first line
+    /// The nodes from the root to the leaf before that one; none before the first line.
     path: Vec<usize>,
 }
 

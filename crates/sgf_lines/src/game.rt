@@ -21,7 +21,7 @@ use std::alloc::Global;
 /// The first node that isn't allowed, and why it isn't.
 #[derive(Clone, Copy)]
 pub(crate) struct MetIllegal {
-    // how many nodes stand before it
+    /// How many nodes stand before it.
     index: usize,
 
     place: usize,
@@ -36,10 +36,10 @@ pub(crate) struct Game {
 
     illegal: Option<MetIllegal>,
 
-    // for each node how many setups and turns the referee had accepted before it
+    /// For each node how many setups and turns the referee had accepted before it.
     depths: Vec<usize>,
 
-    // those of the nodes, where they are asked for
+    /// Those of the nodes, where they are asked for.
     commands: Option<Commands>,
 }
 

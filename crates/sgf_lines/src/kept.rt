@@ -13,7 +13,7 @@ pub(crate) struct KeptText {
     /// The text of all of them.
     pub(crate) text: Vec<u8>,
 
-    // for each node the length of the text before it
+    /// For each node the length of the text before it.
     starts: Vec<usize>,
 }
 

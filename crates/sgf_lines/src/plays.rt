@@ -45,6 +45,3 @@ impl Plays {
         self.count += 1;
     }
 }
-
-#[cfg(test)]
-mod tests;

@@ -181,4 +181,6 @@ fn cursor_after<'c, 'a>(
 }
 
 #[cfg(test)]
+mod plays_tests;
+#[cfg(test)]
 mod tests;

@@ -27,16 +27,16 @@ use std::alloc::Global;
 pub(crate) struct Writer {
     form: Form,
 
-    // whether a line was written
+    /// Whether a line was written.
     wrote: bool,
 
-    // held of the line that was written last, in the forms that judge
+    /// What is held of the line that was written last, in the forms that judge.
     followed: Followed,
 
-    // that line's record, in sgf form
+    /// That line's record, in sgf form.
     nodes: KeptText,
 
-    // what stands first in that line's record, in the forms that judge
+    /// What stands first in that line's record, in the forms that judge.
     head: Vec<u8>,
 }
 

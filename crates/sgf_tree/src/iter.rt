@@ -93,6 +93,61 @@ impl<'a> Properties<'a> {
     }
 }
 
+/// The raw values of a property that are left, in file order.
+/// No call on it takes memory.
+#[derive(Drop)]
+pub struct Values<'a> {
+    /// The first one, until it is taken off: where it ends is known already.
+    pub(crate) first: Option<&'a [u8]>,
+    pub(crate) rest: &'a [u8],
+}
+
+impl<'a> Model for Values<'a> {
+    ghost use Rattle.std.specs.Prelude.{ℕ, List, option_copied};
+    ghost use Rattle.sgf_tree.specs.inner.TreeCode.{values_code};
+
+    ghost Value = { List (List ℕ) };
+
+    ghost coded = { values_code };
+
+    ghost use Rattle.sgf_tree.specs.inner.NodeText.{values_in, values_left, AreValuesIn};
+
+    ghost view = { λ p. values_left (option_copied p.first) (values_in p.rest.now) };
+
+    ghost invariant = { λ p. AreValuesIn p.rest.now };
+}
+
+impl<'a> Values<'a> {
+    /// The first raw value of a property, and those at the front of the text after it.
+    #[inline(always)]
+    pub(crate) fn new(first: &'a [u8], more: &'a [u8]) -> Values<'a>
+        requires { AreValuesIn more.now }
+        ensures { result ≡ first.now ∷ values_in more.now }
+    {
+        Values {
+            first: Some(first),
+            rest: more,
+        }
+    }
+
+    /// Takes off the next raw value: the bytes between its `[` and its `]`, which are a part of the text that was read.
+    /// None after the last one, again and again.
+    pub fn next(&mut self) -> Option<&'a [u8]>
+        ensures { MatchOption result ((self.old ≡ []) × (self.new ≡ [])) (λ v. self.old ≡ v.now ∷ self.new) }
+    {
+        if let Some(first) = self.first {
+            self.first = None;
+            return Some(first);
+        }
+        let text = self.rest;
+        let Some((start, close)) = value_at(text, 0, None) else {
+            return None;
+        };
+        self.rest = rest_from(text, close + 1);
+        Some(part(text, start, close))
+    }
+}
+
 /// The first property of a text, whose identifier begins at `start`, after white space, and where its values end.
 /// It is kept apart from the test whether there is one, so that finding none costs little.
 #[inline(never)]
@@ -223,61 +278,6 @@ fn written_values_end(text: &[u8], at: usize, long: &Vec<LongValue>) -> Option<u
         end = close + 1;
     }
     Some(end)
-}
-
-/// The raw values of a property that are left, in file order.
-/// No call on it takes memory.
-#[derive(Drop)]
-pub struct Values<'a> {
-    /// The first one, until it is taken off: where it ends is known already.
-    pub(crate) first: Option<&'a [u8]>,
-    pub(crate) rest: &'a [u8],
-}
-
-impl<'a> Model for Values<'a> {
-    ghost use Rattle.std.specs.Prelude.{ℕ, List, option_copied};
-    ghost use Rattle.sgf_tree.specs.inner.TreeCode.{values_code};
-
-    ghost Value = { List (List ℕ) };
-
-    ghost coded = { values_code };
-
-    ghost use Rattle.sgf_tree.specs.inner.NodeText.{values_in, values_left, AreValuesIn};
-
-    ghost view = { λ p. values_left (option_copied p.first) (values_in p.rest.now) };
-
-    ghost invariant = { λ p. AreValuesIn p.rest.now };
-}
-
-impl<'a> Values<'a> {
-    /// The first raw value of a property, and those at the front of the text after it.
-    #[inline(always)]
-    pub(crate) fn new(first: &'a [u8], more: &'a [u8]) -> Values<'a>
-        requires { AreValuesIn more.now }
-        ensures { result ≡ first.now ∷ values_in more.now }
-    {
-        Values {
-            first: Some(first),
-            rest: more,
-        }
-    }
-
-    /// Takes off the next raw value: the bytes between its `[` and its `]`, which are a part of the text that was read.
-    /// None after the last one, again and again.
-    pub fn next(&mut self) -> Option<&'a [u8]>
-        ensures { MatchOption result ((self.old ≡ []) × (self.new ≡ [])) (λ v. self.old ≡ v.now ∷ self.new) }
-    {
-        if let Some(first) = self.first {
-            self.first = None;
-            return Some(first);
-        }
-        let text = self.rest;
-        let Some((start, close)) = value_at(text, 0, None) else {
-            return None;
-        };
-        self.rest = rest_from(text, close + 1);
-        Some(part(text, start, close))
-    }
 }
 
 #[cfg(test)]

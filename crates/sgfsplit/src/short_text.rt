@@ -9,7 +9,7 @@ const ROOM: usize = 120;
 
 /// A short text.
 #[derive(Drop)]
-pub struct ShortText {
+pub(crate) struct ShortText {
     bytes: [u8; ROOM],
     length: usize,
     ghost within: { length ≤ 120 },
@@ -19,7 +19,7 @@ impl ShortText {
     ghost use Rattle.sgfsplit.specs.inner.ShortText.{short_text, number_text};
 
     /// The empty text.
-    pub fn new() -> ShortText
+    pub(crate) fn new() -> ShortText
         ensures { short_text result ≡ [] }
     {
         ShortText {
@@ -29,7 +29,7 @@ impl ShortText {
     }
 
     /// Appends a text.
-    pub fn push(&mut self, text: &str)
+    pub(crate) fn push(&mut self, text: &str)
         requires room { length (short_text self.old) + length text.now ≤ 120 }
         ensures { short_text self.new ≡ short_text self.old ++ text.now }
     {
@@ -39,7 +39,7 @@ impl ShortText {
     }
 
     /// Appends a number in decimal, where there is one.
-    pub fn push_number(&mut self, number: Option<u64>)
+    pub(crate) fn push_number(&mut self, number: Option<u64>)
         requires room { length (short_text self.old) + 40 ≤ 120 }
         ensures text { short_text self.new ≡ short_text self.old ++ number_text number }
         ensures short { length (short_text self.new) ≤ length (short_text self.old) + 40 }
@@ -51,7 +51,7 @@ impl ShortText {
     }
 
     /// Its bytes.
-    pub fn as_bytes(&self) -> &[u8]
+    pub(crate) fn as_bytes(&self) -> &[u8]
         ensures { result.now ≡ short_text self.now }
     {
         &self.bytes[..self.length]

@@ -2,12 +2,12 @@
 -- an index; 0 stands for none.
 use Rattle.std.specs.Prelude.{◌≡◌, ◌≢◌, ℕ, ◌-◌, ◌*◌, ◌/◌, ◌%◌, ◌^◌, ◌<◌, ◌≤◌, Option, Some, None, List, length, slice_index, bit_and, bit_xor}
 
--- a number of 64 bits whose low half hangs on all bits of another one
+-- a number of 64 bits whose low half depends on all bits of another one
 abbrev pub folded : ℕ → ℕ
 folded word = bit_xor word (word / 2 ^ 32)
 
--- A print is linear in the cells, so that moves can be chosen whose prints have the same low bits. Its key hangs on all bits of it, and
--- isn't linear.
+-- A print is linear in the cells, so that moves can be chosen whose prints have the same low bits. Its key depends on all bits of it,
+-- and isn't linear.
 abbrev pub scattered : ℕ → ℕ
 scattered print = folded (folded print * 15485907386658061715 % 2 ^ 64)
 

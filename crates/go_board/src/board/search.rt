@@ -35,7 +35,7 @@ impl<const N: usize> Search<N> {
     ghost use Rattle.go_board.specs.inner.Search.{nothing_found, with_found, HasRoom};
 
     /// A search that found nothing yet.
-    pub fn new(size: Size) -> Search<N>
+    pub(crate) fn new(size: Size) -> Search<N>
         ensures { result ≡ nothing_found size }
     {
         Search {
@@ -47,7 +47,7 @@ impl<const N: usize> Search<N> {
     }
 
     /// Adds a point, unless it was found before.
-    pub fn offer(&mut self, point: Point)
+    pub(crate) fn offer(&mut self, point: Point)
         requires on_board { IsOn self.old.marking.side point }
         requires room { HasRoom N 1 self.old }
         ensures { self.new ≡ with_found self.old point }
@@ -60,7 +60,7 @@ impl<const N: usize> Search<N> {
     }
 
     /// The next point that wasn't taken yet.
-    pub fn take_one(&mut self) -> Option<Point>
+    pub(crate) fn take_one(&mut self) -> Option<Point>
         ensures next { IfSome result (λ p. slice_get self.old.found self.old.taken ≡ Some p) }
         ensures on_grid { IfSome result (λ p. IsOn self.old.marking.side p) }
         ensures marked { IfSome result (λ p. IsTrue (is_marked self.old.marking p)) }
@@ -78,7 +78,7 @@ impl<const N: usize> Search<N> {
     }
 
     /// The points found, as a set.
-    pub fn into_marks(self) -> Marks
+    pub(crate) fn into_marks(self) -> Marks
         ensures marks { result ≡ self.entry.marking }
         ensures counted { marked_count result ≡ length self.entry.found }
     {

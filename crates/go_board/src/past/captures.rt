@@ -21,8 +21,8 @@ use crate::points::Point;
 use crate::size::{MAX_ROWS, USUAL_ROWS};
 use crate::stones::{Cell, Colour};
 
-/// Places a stone on an empty point, takes off what it captures, or what is captured with it, and adds changes that lead back;
-/// tells how many. It does so only where every stone is known to reach empty, and there is room for the changes. If not,
+/// Places a stone on an empty point, takes off what it captures, or, in suicide, its own group, and adds changes that lead
+/// back; tells how many. It does so only where every stone is known to reach empty, and there is room for the changes. If not,
 /// nothing is changed.
 pub(crate) fn place_on(
     board: &mut Board,

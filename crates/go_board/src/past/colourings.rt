@@ -186,9 +186,9 @@ impl Colourings {
         Ok(())
     }
 
-    /// Places a stone on an empty point of the newest colouring, and takes off what it captures, or what is captured with it: that
-    /// colouring goes on in the present stretch. Tells whether it was done. It takes no memory, and is done only where every
-    /// stone is known to reach empty, and there is room for what is kept.
+    /// Places a stone on an empty point of the newest colouring, and takes off what it captures, or, in suicide, its own group:
+    /// that colouring goes on in the present stretch. Tells whether it was done. It takes no memory, and is done only where
+    /// every stone is known to reach empty, and there is room for what is kept.
     pub(crate) fn place(&mut self, colour: Colour, point: Point) -> bool
         requires on_board { IsOn (newest_grid self.old).side point }
         requires empty { cell_at (newest_grid self.old) point ≡ Empty }

@@ -211,15 +211,15 @@ fn key_of(heads: usize, print: u64) -> usize
     scattered(print) as usize & (heads - 1)
 }
 
-/// A number that hangs on all bits of a print, and isn't linear in them: prints are linear in the cells, so moves can be
-/// chosen whose prints have the same low bits, and each look at the table would then go over all of them.
+/// A number that depends on all bits of a print, and isn't linear in them: prints are linear in the cells, so moves can
+/// be chosen whose prints have the same low bits, and each look at the table would then go over all of them.
 fn scattered(print: u64) -> u64
     ensures { result ≡ scattered print }
 {
     folded(folded(print).wrapping_mul(MIXER))
 }
 
-/// A number whose low half hangs on all bits of another one.
+/// A number whose low half depends on all bits of another one.
 fn folded(number: u64) -> u64
     ensures { result ≡ folded number }
 {

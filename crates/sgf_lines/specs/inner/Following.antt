@@ -27,7 +27,7 @@ numbers_before games (suc index) = numbers_of (slice_get (paths games) index)
 
 -- the nodes of the line before a cursor's next one; none before the first line
 abbrev pub path_before : CursorState → List ℕ
-path_before at = numbers_before at.games at.index
+path_before cursor = numbers_before cursor.games cursor.index
 
 -- How many nodes at the front of a path end with the node `parent`, which stands last there; 0 where there is no parent.
 abbrev pub IsCutBack : List ℕ → Option ℕ → ℕ → Type 0

@@ -31,18 +31,18 @@ abbrev pub Keeps : List Node → Writer → Type 0
 Keeps nodes writer = KeepsBy writer.form nodes writer
 
 -- it is kept of the line before a cursor's next one
-pub record KeepsAt (at : CursorState) (writer : Writer) : Type 0 where
+pub record KeepsAt (cursor : CursorState) (writer : Writer) : Type 0 where
   pub nodes : List Node
-  pub named : map Some nodes ≡ map (node_at at.games) (path_before at)
+  pub named : map Some nodes ≡ map (node_at cursor.games) (path_before cursor)
   pub keeps : Keeps nodes writer
 
 -- once a run has written a line
 abbrev pub KeepsOnce : Bool → CursorState → Writer → Type 0
-KeepsOnce true at writer = KeepsAt at writer
-KeepsOnce false at writer = Unit {0}
+KeepsOnce true cursor writer = KeepsAt cursor writer
+KeepsOnce false cursor writer = Unit {0}
 
 abbrev pub KeepsBefore : CursorState → Writer → Type 0
-KeepsBefore at writer = KeepsOnce writer.wrote at writer
+KeepsBefore cursor writer = KeepsOnce writer.wrote cursor writer
 
 -- plays went from `old` to `new` for the line of these nodes, of which the first `shared` are played already
 abbrev pub PlaysIn : {A E : Type 0} → Form → ℕ → ℕ → List Node → ℕ → Result A E → Type 0
@@ -52,25 +52,25 @@ PlaysIn gtp_form old new nodes shared result = PlaysFresh old new nodes shared r
 
 -- how many nodes of a cursor's next line are played already: those that it shares with the line before it, if the run wrote that one
 abbrev pub IsShared : Bool → CursorState → ℕ → Type 0
-IsShared true at shared = Continues (path_before at) shared (path_before (advanced at))
-IsShared false at shared = shared ≡ 0
+IsShared true cursor shared = Continues (path_before cursor) shared (path_before (advanced cursor))
+IsShared false cursor shared = shared ≡ 0
 
 -- a cursor's next line, and how many of its nodes are played for it
-pub record HasPlays (form : Form) (wrote : Bool) (at : CursorState) (count : ℕ) : Type 0 where
+pub record HasPlays (form : Form) (wrote : Bool) (cursor : CursorState) (count : ℕ) : Type 0 where
   pub line : Line
-  pub found : slice_get (lines at.games) at.index ≡ Some line
+  pub found : slice_get (lines cursor.games) cursor.index ≡ Some line
   pub shared : ℕ
-  pub shares : IsShared wrote at shared
+  pub shares : IsShared wrote cursor shared
   pub count_is : count ≡ plays_in form (fresh_plays line.nodes shared)
 
 -- plays went from `old` to `new` where a cursor's next line was to be written: those of that line, if there is one; none or some
 -- of them where memory was refused
 abbrev pub PlaysLine : {E : Type 0} → Form → Bool → CursorState → ℕ → ℕ → Result Bool E → Type 0
-PlaysLine form wrote at old new (Ok true) = (count : ℕ) × HasPlays form wrote at count × (new ≡ old + count)
-PlaysLine form wrote at old new (Ok false) = new ≡ old
-PlaysLine form wrote at old new (Err fault) = (new ≡ old) ⊎ ((count : ℕ) × HasPlays form wrote at count × (old ≤ new) × (new ≤ old + count))
+PlaysLine form wrote cursor old new (Ok true) = (count : ℕ) × HasPlays form wrote cursor count × (new ≡ old + count)
+PlaysLine form wrote cursor old new (Ok false) = new ≡ old
+PlaysLine form wrote cursor old new (Err fault) = (new ≡ old) ⊎ ((count : ℕ) × HasPlays form wrote cursor count × (old ≤ new) × (new ≤ old + count))
 
 -- how many nodes a run can still play: those after the line before a cursor's next one, or all before its first line
 abbrev pub left : Bool → CursorState → ℕ
-left true at = node_count at.games - first_after (path_before at)
-left false at = node_count at.games
+left true cursor = node_count cursor.games - first_after (path_before cursor)
+left false cursor = node_count cursor.games

@@ -22,4 +22,4 @@ pub record IsAfterLeaf (games : Games) (next : ℕ) (numbers : List ℕ) : Type 
 
 -- a cursor's state is stored as the pair of its parts
 abbrev pub cursor_state_code : Coded CursorState
-cursor_state_code = code_by (Games × ℕ) (coded× games_code coded_ℕ) (λ at. (at.games, at.index)) (λ p. record { games = p.0; index = p.1 }) (λ _. refl)
+cursor_state_code = code_by (Games × ℕ) (coded× games_code coded_ℕ) (λ cursor. (cursor.games, cursor.index)) (λ p. record { games = p.0; index = p.1 }) (λ _. refl)
