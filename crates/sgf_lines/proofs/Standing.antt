@@ -1,6 +1,6 @@
 -- Ordered nodes that stand in a longer list of them: those of the games below and after a game stand in those of the game.
 use Rattle.std.proofs.Common.{◌≡◌, ℕ, suc, ◌+◌, List, [], ◌∷◌, ◌++◌, length, slice_get, Option, Some, None, true, refl, sym, ap, ◌∙◌, arith, append_assoc, length-append, append-nil}
-use Rattle.sgf_tree.specs.Tree.{Node, Games, no_games, game, node_count}
+use Rattle.sgf_tree.specs.Tree.{Node, Games, game, node_count}
 use Rattle.sgf_tree.specs.FileOrder.{OrderedNode, further_nodes, nodes_from, ordered_nodes}
 use Rattle.sgf_tree.proofs.Lists.{slice_get-right}
 use Rattle.sgf_tree.proofs.OrderedNodes.{length-further_nodes, length-nodes_from}

@@ -1,11 +1,11 @@
 -- The places of a collection that a text spells rise strictly in file order, and each is within the text.
-use Rattle.std.proofs.Common.{◌≡◌, ℕ, zero, suc, ◌+◌, ◌-◌, ◌<◌, ◌≤◌, List, [], ◌∷◌, ◌++◌, length, Option, Some, None, map, slice_get, true, refl, ap, sym, ◌∙◌, arith}
+use Rattle.std.proofs.Common.{◌≡◌, ℕ, ◌+◌, ◌-◌, ◌<◌, ◌≤◌, List, [], ◌∷◌, ◌++◌, length, Option, Some, None, map, slice_get, true, refl, ap, sym, ◌∙◌, arith}
 use Rattle.std.proofs.lemmas.List.{map-append}
 use Rattle.std.proofs.lemmas.Option.{slice_get-map}
 use Rattle.sgf_tree.specs.Tree.{Node, Games, no_games, game, node_count}
 use Rattle.sgf_tree.specs.Spelling.{IsNode, node, AreNodes, no_node, nodes, AreGames, no_game, games, Spells, spells}
 use Rattle.sgf_tree.specs.FileOrder.{OrderedNode, further_nodes, nodes_from, ordered_nodes, place_at, PlacesRise}
-use Rattle.sgf_tree.proofs.Rises.{Rises, rises-low, rises-append, rises-pair, rises-get}
+use Rattle.sgf_tree.proofs.Rises.{Rises, rises-low, rises-append, rises-pair}
 use Rattle.sgf_tree.proofs.Shrinks.{shrinks-WhiteSpace, shrinks-AreProperties, shrinks-ByteOrderMark}
 
 abbrev node_place : Node → ℕ

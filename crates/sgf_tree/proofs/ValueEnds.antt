@@ -1,5 +1,5 @@
 -- The units of a raw value, by the machine, and where the next `]` stands.
-use Rattle.std.proofs.Common.{◌≡◌, ◌≢◌, ℕ, zero, suc, ◌+◌, ◌-◌, ◌<◌, ◌≤◌, true, not, ◌==◌, List, [], ◌∷◌, ◌++◌, length, get_or, take, drop, slice_range, Some, None, refl, sym, ap, subst, ◌∙◌, arith, eqb-true, get_or-take, get_or-drop, ne_eqb}
+use Rattle.std.proofs.Common.{◌≡◌, ◌≢◌, ℕ, ◌+◌, ◌-◌, ◌<◌, ◌≤◌, true, not, ◌==◌, List, [], ◌++◌, length, get_or, take, drop, slice_range, Some, None, refl, sym, ap, subst, ◌∙◌, arith, eqb-true, get_or-take, get_or-drop, ne_eqb}
 use Rattle.std.proofs.Math.Seq.{take-add}
 use Rattle.std.proofs.Common.{length-take, length-drop}
 use Rattle.std.proofs.lemmas.Bool.{and_parts, not-true, eqb-false, eq-eqb}
