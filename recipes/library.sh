@@ -1,5 +1,5 @@
 #!/bin/sh
-# Splits many files on all cores, with a progress bar: OUT/NAME.rows gets the rows of NAME.sgf, OUT/NAME.fault the fault line. OUT/jobs
+# Splits many files on all cores, with a progress bar: OUT/NAME.rows gets the rows of NAME.sgf, OUT/NAME.fault the fault row. OUT/jobs
 # says how each file ended (column Exitval), and a run that was stopped goes on with the files that are left.
 #
 #   recipes/library.sh out library/*.sgf

@@ -21,7 +21,7 @@ answer() {
     timeout 60 "$SGFSPLIT" "$@" < input.sgf > out 2> err
     check "$name: status" 0 $?
     check "$name: output" "$text" "$(cat out)"
-    check "$name: fault line" '' "$(cat err)"
+    check "$name: fault row" '' "$(cat err)"
 }
 
 # fault NAME LINE WORDS..: over standard input the run ends with status 1 and this line, and writes nothing.
@@ -31,7 +31,7 @@ fault() {
     timeout 60 "$SGFSPLIT" "$@" > out 2> err
     check "$name: status" 1 $?
     check "$name: output" '' "$(cat out)"
-    check "$name: fault line" "sgfsplit: $line" "$(cat err)"
+    check "$name: fault row" "sgfsplit: $line" "$(cat err)"
 }
 
 # times COUNT TEXT

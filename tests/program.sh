@@ -27,7 +27,7 @@ verdict() {
 
 # writes NAME TEXT: what the last run wrote to standard output; says NAME TEXT: to standard error. Both to the byte.
 writes() { verdict "$1: output" "$2." "$(cat out; printf .)"; }
-says() { verdict "$1: fault line" "$2." "$(cat err; printf .)"; }
+says() { verdict "$1: fault row" "$2." "$(cat err; printf .)"; }
 
 # fault NAME STATUS LINE COMMAND..: the run ends with this status and line, and nothing on standard output.
 fault() {
@@ -71,7 +71,7 @@ fault 'a missing file to count' 3 'open failed' "$SGFSPLIT" count none.sgf
 fault 'an empty name' 3 'open failed' "$SGFSPLIT" split ''
 run 3 'a directory' "$SGFSPLIT" split folder
 writes 'a directory' ''
-verdict 'a directory: fault line' 1 "$(grep -cxE 'sgfsplit: (open|read) failed' err)"
+verdict 'a directory: fault row' 1 "$(grep -cxE 'sgfsplit: (open|read) failed' err)"
 fault 'a closed standard input' 3 'read failed' bash -c '"$SGFSPLIT" split <&-'
 if [ "$(id -u)" = 0 ]; then
     not_run=$((not_run + 1))
@@ -125,8 +125,8 @@ if [ -w /dev/full ]; then
     lost 'a full device, counting' '"$SGFSPLIT" count two.sgf > /dev/full'
     lost 'a full device, for the help' '"$SGFSPLIT" --help > /dev/full'
     run 3 'a full device for both streams' bash -c '"$SGFSPLIT" split two.sgf > /dev/full 2> /dev/full'
-    run 1 'a full device for the fault line' bash -c '"$SGFSPLIT" split tail.sgf 2> /dev/full'
-    writes 'a full device for the fault line' ''
+    run 1 'a full device for the fault row' bash -c '"$SGFSPLIT" split tail.sgf 2> /dev/full'
+    writes 'a full device for the fault row' ''
 else
     not_run=$((not_run + 5))
     echo 'skipped: there is no /dev/full'

@@ -10,5 +10,5 @@ cat "$top/examples/two_games.sgf" >> library.sgf
 same want rows
 { printf ' '; cat library.sgf; } > changed.sgf
 if "$top/recipes/go_on.sh" rows changed.sgf 2> fault; then failed "a changed library was accepted"; fi
-grep -q 'no line ends at' fault || failed "the fault line is $(cat fault)"
+grep -q 'no line ends at' fault || failed "the fault row is $(cat fault)"
 same want rows

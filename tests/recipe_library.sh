@@ -1,5 +1,5 @@
 #!/usr/bin/env bash
-# A library on all cores: rows and fault lines of each file, and a second run that has nothing left to do.
+# A library on all cores: rows and fault rows of each file, and a second run that has nothing left to do.
 . "$(dirname "$0")/lib.sh"
 needs parallel
 mkdir library
