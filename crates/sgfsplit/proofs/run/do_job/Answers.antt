@@ -1,9 +1,21 @@
-use Rattle.std.proofs.Common.{◌+◌, ◌∙◌, ap, sym, subst, refl, arith, Ok}
+use Rattle.std.proofs.Common.{◌+◌, ◌∙◌, ap, sym, subst, refl, arith, Ok, Err, Some, None}
 use Rattle.std.specs.Result.{result_err}
 use Rattle.sgfsplit.specs.Act.{DoesJob}
 use Rattle.sgfsplit.specs.declared.request.Job.{Job}
 use Rattle.sgfsplit.proofs.Ends.{count_writes_nothing, row_reads_nothing}
 use Rattle.sgfsplit.proofs.run.do_job.Goals as goal
+
+pub returns-in-Ok-clause-does : goal.returns-in-Ok-clause-does
+returns-in-Ok-clause-does g c =
+    subst (λ (j : Job). DoesJob j (g.S.Source.state c.args.source.now) (g.S.Source.state c.split.new.source) (g.T.Sink.state c.args.output.now)
+    (g.T.Sink.state c.split.new.sink) None) (sym c.in-Split.is)
+    (Ok c.in-Ok.field-0, c.in-Ok.ensures.answer, refl)
+
+pub returns-in-Err-clause-does : goal.returns-in-Err-clause-does
+returns-in-Err-clause-does g c =
+    subst (λ (j : Job). DoesJob j (g.S.Source.state c.args.source.now) (g.S.Source.state c.split.new.source) (g.T.Sink.state c.args.output.now)
+    (g.T.Sink.state c.split.new.sink) (Some c.in-Err.fault)) (sym c.in-Split.is)
+    (Err c.in-Err.fault, c.in-Err.ensures.answer, refl)
 
 pub returns-in-Ok-count-clause-does : goal.returns-in-Ok-count-clause-does
 returns-in-Ok-count-clause-does g c =
