@@ -1,4 +1,4 @@
-//! A glance at the rows of the stones tells that all live wherever they do, at corners and edges too.
+//! A glance at the rows of the stones tells that all live on empty boards, and after which moves in a corner they do.
 
 use crate::given::{at, size};
 use crate::{Board, Cell, Colour};
