@@ -3,7 +3,7 @@
 ghost use Rattle.std.specs.Prelude.{◌≡◌};
 
 use crate::given::{at, size};
-use crate::{Board, Cell, Colour, Steps};
+use crate::{Board, Cell, Colour, Marks, Steps};
 use std::process::Abort;
 
 const B: Cell = Cell::Black;
@@ -21,31 +21,42 @@ fn three(rt: &impl Abort, cells: [Cell; 9]) -> Board
     board
 }
 
+/// Which points of a board of side 3 are marked, row by row from the top.
+fn marked(marks: &Marks) -> [bool; 9]
+    requires { marks.now.side ≡ 3 }
+{
+    let mut found = [false; 9];
+    for index in 0..9u8 {
+        found[usize::from(index)] = marks.has(at(index % 3, index / 3));
+    }
+    found
+}
+
 #[test]
-fn reaching(rt: HostRuntime) {
+fn reaching_empty(rt: HostRuntime) {
     let board = three(&rt, [B, W, E, W, E, E, E, E, E]);
     let mut steps = Steps::new();
-    let empty = board.reaching(Cell::Empty, &mut steps);
+    let marks = board.reaching(Cell::Empty, &mut steps);
     assert_eq!(rt; steps.count(), 8);
-    let mut more = Steps::new();
-    let black = board.reaching(Cell::Black, &mut more);
-    assert_eq!(rt; more.count(), 3);
-    for row in 0..3 {
-        for col in 0..3 {
-            let corner = col + row == 0;
-            assert_eq!(rt; empty.has(at(col, row)), !corner, "column {col}, row {row}");
-            assert_eq!(rt;
-                black.has(at(col, row)),
-                col + row < 2,
-                "column {col}, row {row}"
-            );
-        }
-    }
-    let mut none = Steps::new();
-    let black = Board::empty(size(&rt, 25)).reaching(Cell::Black, &mut none);
-    assert!(rt; none.count() == 0 && !black.has(at(24, 24)));
-    none.tick();
-    assert_eq!(rt; none.count(), 1);
+    assert!(rt; marked(&marks) == [false, true, true, true, true, true, true, true, true]);
+}
+
+#[test]
+fn reaching_black(rt: HostRuntime) {
+    let board = three(&rt, [B, W, E, W, E, E, E, E, E]);
+    let mut steps = Steps::new();
+    let marks = board.reaching(Cell::Black, &mut steps);
+    assert_eq!(rt; steps.count(), 3);
+    assert!(rt; marked(&marks) == [true, true, false, true, false, false, false, false, false]);
+}
+
+#[test]
+fn reaching_nothing(rt: HostRuntime) {
+    let mut steps = Steps::new();
+    let marks = Board::empty(size(&rt, 25)).reaching(Cell::Black, &mut steps);
+    assert!(rt; steps.count() == 0 && !marks.has(at(24, 24)));
+    steps.tick();
+    assert_eq!(rt; steps.count(), 1);
 }
 
 #[test]

@@ -1,7 +1,7 @@
 //! Games with captures: both pasts give the same answers, and an undo gives each board back.
 
 use crate::given::{at, size};
-use crate::referee::tests::{turn, undo};
+use crate::referee::tests::{answers, take_all, turn, undo};
 use crate::{Colour, ListPast, Past, Play, PrintPast, Reason, Referee, TurnFault};
 use std::alloc::Global;
 use std::process::Abort;
@@ -65,31 +65,22 @@ fn same_game(rt: &impl Abort, alloc: Global, side: u8, tries: u32) -> Result<(),
 fn ko<P: Past>(rt: &impl Abort, alloc: Global) -> Result<(), Fail> {
     let mut game = Referee::<P>::new(alloc, size(rt, 4))?;
     let turns = [
-        (Colour::Black, at(1, 0)),
-        (Colour::White, at(2, 0)),
-        (Colour::Black, at(0, 1)),
-        (Colour::White, at(3, 1)),
-        (Colour::Black, at(1, 2)),
-        (Colour::White, at(2, 2)),
-        (Colour::Black, at(3, 3)),
-        (Colour::White, at(1, 1)),
-        (Colour::Black, at(2, 1)),
+        (Colour::Black, Play::Stone(at(1, 0))),
+        (Colour::White, Play::Stone(at(2, 0))),
+        (Colour::Black, Play::Stone(at(0, 1))),
+        (Colour::White, Play::Stone(at(3, 1))),
+        (Colour::Black, Play::Stone(at(1, 2))),
+        (Colour::White, Play::Stone(at(2, 2))),
+        (Colour::Black, Play::Stone(at(3, 3))),
+        (Colour::White, Play::Stone(at(1, 1))),
+        (Colour::Black, Play::Stone(at(2, 1))),
     ];
-    for (colour, point) in turns {
-        assert_eq!(rt;
-            turn(rt, &mut game, colour, Play::Stone(point)),
-            Ok(()),
-            "{point:?}"
-        );
-    }
+    take_all(rt, &mut game, &turns);
     let taken = game.board().copy();
-    let answer = turn(rt, &mut game, Colour::White, Play::Stone(at(1, 1)));
-    assert_eq!(rt; answer, Err(TurnFault::Illegal(Reason::Repeat)));
+    let repeat = Err(TurnFault::Illegal(Reason::Repeat));
+    answers(rt, &mut game, Colour::White, Play::Stone(at(1, 1)), repeat);
     assert!(rt; game.board().same(&taken));
-    assert_eq!(rt;
-        turn(rt, &mut game, Colour::White, Play::Stone(at(0, 3))),
-        Ok(())
-    );
+    answers(rt, &mut game, Colour::White, Play::Stone(at(0, 3)), Ok(()));
     undo(rt, &mut game);
     assert!(rt; game.board().same(&taken));
     Ok(())
@@ -100,20 +91,12 @@ fn large_capture<P: Past>(rt: &impl Abort, alloc: Global) -> Result<(), Fail> {
     let mut game = Referee::<P>::new(alloc, size(rt, 9))?;
     for index in 0..80u8 {
         if index > 0 {
-            game.turn(Colour::White, Play::Pass)?;
+            answers(rt, &mut game, Colour::White, Play::Pass, Ok(()));
         }
-        let answer = turn(
-            rt,
-            &mut game,
-            Colour::Black,
-            Play::Stone(at(index % 9, index / 9)),
-        );
-        assert_eq!(rt; answer, Ok(()), "stone {index}");
+        let point = at(index % 9, index / 9);
+        answers(rt, &mut game, Colour::Black, Play::Stone(point), Ok(()));
     }
-    assert_eq!(rt;
-        turn(rt, &mut game, Colour::White, Play::Stone(at(8, 8))),
-        Ok(())
-    );
+    answers(rt, &mut game, Colour::White, Play::Stone(at(8, 8)), Ok(()));
     assert_eq!(rt; game.score(), (0, 81));
     undo(rt, &mut game);
     assert_eq!(rt; game.score(), (81, 0));

@@ -23,6 +23,46 @@ pub(crate) fn turn<P: Past>(
     referee.turn(colour, play)
 }
 
+/// Takes a turn, which must be answered so.
+pub(crate) fn answers<P: Past>(
+    rt: &impl Abort,
+    referee: &mut Referee<P>,
+    colour: Colour,
+    play: Play,
+    answer: Result<(), TurnFault>,
+) {
+    assert_eq!(rt;
+        turn(rt, referee, colour, play),
+        answer,
+        "{colour:?} {play:?}"
+    );
+}
+
+/// Takes turns, which must all be legal.
+pub(crate) fn take_all<P: Past>(
+    rt: &impl Abort,
+    referee: &mut Referee<P>,
+    turns: &[(Colour, Play)],
+) {
+    for (colour, play) in turns {
+        answers(rt, referee, *colour, *play, Ok(()));
+    }
+}
+
+/// The numbers of turns and of calls that stand must be these, and the score.
+fn stands<P: Past>(
+    rt: &impl Abort,
+    referee: &Referee<P>,
+    turns: u64,
+    depth: usize,
+    score: (u32, u32),
+) {
+    assert_eq!(rt;
+        (referee.turns(), referee.depth(), referee.score()),
+        (turns, depth, score)
+    );
+}
+
 /// Colours an area, which must be on the board, and lets either player move.
 fn set_area<P: Past>(
     rt: &impl Abort,
@@ -51,33 +91,19 @@ fn illegal(reason: Reason) -> Result<(), TurnFault> {
 fn on_one<P: Past>(rt: &impl Abort, alloc: Global) -> Result<(), Fail> {
     let mut game = Referee::<P>::new(alloc, size(rt, 1))?;
     let pass = Play::Pass;
-    let turns = [
-        (
-            Colour::Black,
-            Play::Stone(at(0, 0)),
-            illegal(Reason::Repeat),
-            0,
-            false,
-        ),
-        (Colour::White, pass, illegal(Reason::Turn), 0, false),
-        (Colour::Black, pass, Ok(()), 1, false),
-        (Colour::White, pass, Ok(()), 2, true),
-        (Colour::Black, pass, illegal(Reason::Over), 2, true),
-    ];
-    for (colour, play, answer, made, over) in turns {
-        assert_eq!(rt;
-            turn(rt, &mut game, colour, play),
-            answer,
-            "{colour:?} {play:?}"
-        );
-        assert_eq!(rt;
-            (game.turns(), game.over()),
-            (made, over),
-            "after {colour:?} {play:?}"
-        );
-    }
+    let stone = Play::Stone(at(0, 0));
+    answers(rt, &mut game, Colour::Black, stone, illegal(Reason::Repeat));
+    answers(rt, &mut game, Colour::White, pass, illegal(Reason::Turn));
+    answers(rt, &mut game, Colour::Black, pass, Ok(()));
+    stands(rt, &game, 1, 1, (0, 0));
+    assert!(rt; !game.over());
+    answers(rt, &mut game, Colour::White, pass, Ok(()));
+    assert!(rt; game.over());
+    answers(rt, &mut game, Colour::Black, pass, illegal(Reason::Over));
+    stands(rt, &game, 2, 2, (0, 0));
     undo(rt, &mut game);
-    assert_eq!(rt; (game.turns(), game.over(), game.depth()), (1, false, 1));
+    assert!(rt; !game.over());
+    stands(rt, &game, 1, 1, (0, 0));
     Ok(())
 }
 
@@ -95,18 +121,17 @@ fn on_three<P: Past>(rt: &impl Abort, alloc: Global) -> Result<(), Fail> {
         (at(2, 2), illegal(Reason::Turn)),
     ];
     for (point, answer) in turns {
-        assert_eq!(rt;
-            turn(rt, &mut game, Colour::White, Play::Stone(point)),
-            answer,
-            "{point:?}"
-        );
+        answers(rt, &mut game, Colour::White, Play::Stone(point), answer);
     }
     undo(rt, &mut game);
     undo(rt, &mut game);
-    assert_eq!(rt; (game.turns(), game.depth(), game.score()), (0, 0, (0, 0)));
-    assert_eq!(rt;
-        turn(rt, &mut game, Colour::White, Play::Pass),
-        illegal(Reason::Turn)
+    stands(rt, &game, 0, 0, (0, 0));
+    answers(
+        rt,
+        &mut game,
+        Colour::White,
+        Play::Pass,
+        illegal(Reason::Turn),
     );
     Ok(())
 }
@@ -115,11 +140,8 @@ fn on_three<P: Past>(rt: &impl Abort, alloc: Global) -> Result<(), Fail> {
 fn player_alone<P: Past>(rt: &impl Abort, alloc: Global) -> Result<(), Fail> {
     let mut game = Referee::<P>::new(alloc, size(rt, 3))?;
     game.setup(&[], Some(Colour::White))?;
-    assert_eq!(rt;
-        turn(rt, &mut game, Colour::White, Play::Stone(at(0, 0))),
-        Ok(())
-    );
-    assert_eq!(rt; (game.turns(), game.score()), (1, (0, 9)));
+    answers(rt, &mut game, Colour::White, Play::Stone(at(0, 0)), Ok(()));
+    stands(rt, &game, 1, 2, (0, 9));
     Ok(())
 }
 
@@ -131,15 +153,9 @@ fn another_game<P: Past>(rt: &impl Abort, alloc: Global) -> Result<(), Fail> {
             (Colour::Black, Play::Stone(at(0, 0))),
             (Colour::White, Play::Pass),
         ];
-        for (colour, play) in turns {
-            assert_eq!(rt;
-                turn(rt, &mut game, colour, play),
-                Ok(()),
-                "{colour:?} {play:?} before side {side}"
-            );
-        }
+        take_all(rt, &mut game, &turns);
         game.reset(size(rt, side))?;
-        assert_eq!(rt; (game.turns(), game.depth(), game.score()), (0, 0, (0, 0)));
+        stands(rt, &game, 0, 0, (0, 0));
         assert_eq!(rt; game.board().size().side(), side);
     }
     Ok(())

@@ -1,6 +1,7 @@
 -- There is room for each node, and it stands after those so far.
 use Rattle.std.proofs.Common.{◌≡◌, ◌-◌, ◌++◌, ◌∷◌, [], ap, ◌∙◌, length, length-append, append_assoc, arith, take}
 use Rattle.std.proofs.lemmas.List.{length-take-le}
+use Rattle.std.proofs.lemmas.Result.{err_from_is_err_and}
 use Rattle.std.proofs.lemmas.List.FromFn.{length-range_with_len}
 use Rattle.std.specs.List.{range_with_len}
 use Rattle.sgf_lines.proofs.Following.{range_more}
@@ -25,3 +26,8 @@ loop-node-preserved c =
           ∙ ap (λ ns. front ++ ns) (range_more c.args.first c.loop-node.node c.loop-node.auto.node);
       room = omega (arith, c.loop-node.invariant.room, c.push.ensures.capacity);
     }
+
+pub returns-in_err-reserve-clause-unchanged : goal.returns-in_err-reserve-clause-unchanged
+returns-in_err-reserve-clause-unchanged c =
+    let p = err_from_is_err_and c.from_residual.result c.from_residual.ensures.1 in
+    rw p.1 c.in_err-reserve.ensures.items
