@@ -1,4 +1,4 @@
-use Rattle.std.proofs.Common.{ap, length, arith}
+use Rattle.std.proofs.Common.{ap, length, arith, rules}
 use Rattle.sgf_tree.proofs.node.NodeRef.iter.Goals as goal
 
 pub new-requires : goal.new-requires
@@ -7,3 +7,6 @@ new-requires c = record {
   held = c.self.invariant.0.properties;
   kept = c.self.invariant.1;
 }
+
+pub returns : goal.returns
+returns c = search rules
