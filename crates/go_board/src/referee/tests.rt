@@ -49,7 +49,7 @@ pub(crate) fn take_all<P: Past>(
     }
 }
 
-/// The numbers of turns and of calls that stand must be these, and the score.
+/// The referee must have taken so many turns, hold so many calls that can be undone, and give this score.
 fn stands<P: Past>(
     rt: &impl Abort,
     referee: &Referee<P>,
