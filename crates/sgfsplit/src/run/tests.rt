@@ -1,12 +1,13 @@
 //! What no clause says: that the worked examples get their answers where memory is there, and ends that fail.
 
-ghost use Rattle.std.specs.Prelude.{None, ◌≡◌, ◌≤◌};
+ghost use Rattle.std.specs.Prelude.{None, ◌≡◌, ◌<◌, ◌≤◌};
 
 use super::act;
 use crate::request::Job;
 use crate::words::tests::asked;
 use sgf_lines::{Form, Options, Sink, SinkFault, SliceSource, Source, SourceFault, WriteSink};
 use std::alloc::{AllocError, Global};
+use std::process::Abort;
 use std::test::Fail;
 
 /// Does what the words ask for with the input; the status, or none where the words ask for nothing.
@@ -28,163 +29,254 @@ fn run(
 
 const TWO: &str = "(;SZ[3](;B[aa])(;B[bb];W[aa]))";
 
+/// What comes of the words and the input: this status, this output, and this line of standard error.
+fn ends(
+    rt: &impl Abort,
+    alloc: Global,
+    words: &[&str],
+    input: &str,
+    want: (u8, &str, &str),
+) -> Result<(), Fail> {
+    let mut output = Vec::new(alloc);
+    let mut faults = Vec::new(alloc);
+    let status = run(alloc, words, input, &mut output, &mut faults)?;
+    let is_so = status == Some(want.0)
+        && output.as_slice() == want.1.as_bytes()
+        && faults.as_slice() == want.2.as_bytes();
+    assert!(rt; is_so, "of {words:?} on {input}");
+    Ok(())
+}
+
+/// What the words answer on the input: this output, with status 0 and nothing to tell.
+fn gives(
+    rt: &impl Abort,
+    alloc: Global,
+    words: &[&str],
+    input: &str,
+    want: &str,
+) -> Result<(), Fail> {
+    ends(rt, alloc, words, input, (0, want, ""))
+}
+
+/// What the words answer on an input that they can't be done with: this line, with status 1 and no output.
+fn tells(
+    rt: &impl Abort,
+    alloc: Global,
+    words: &[&str],
+    input: &str,
+    want: &str,
+) -> Result<(), Fail> {
+    ends(rt, alloc, words, input, (1, "", want))
+}
+
 #[test]
-fn answers(rt: HostRuntime) -> Result<(), Fail> {
-    for (words, input, want) in [
-        (
-            ["split"].as_slice(),
-            "(;SZ[3];B[bb])",
-            "7 1 2 score 9 0 open\n",
-        ),
-        (
-            ["split"].as_slice(),
-            TWO,
-            "8 1 2 score 9 0 open\n22 1 3 score 1 1 open\n",
-        ),
-        (
-            ["split", "--after", "8"].as_slice(),
-            TWO,
-            "22 1 3 score 1 1 open\n",
-        ),
-        (["split", "--after", "22"].as_slice(), TWO, ""),
-        (
-            ["split", "--limit", "1"].as_slice(),
-            TWO,
-            "8 1 2 score 9 0 open\n",
-        ),
-        (["split", "--limit", "0"].as_slice(), TWO, ""),
-        (
-            ["split", "--after", "8", "--limit", "1"].as_slice(),
-            TWO,
-            "22 1 3 score 1 1 open\n",
-        ),
-        (
-            ["split", "--form", "sgf"].as_slice(),
-            TWO,
-            "(;SZ[3];B[aa])\n(;SZ[3];B[bb];W[aa])\n",
-        ),
-        (
-            ["split", "--form", "sgf"].as_slice(),
-            "(;GaMe[1]C[a\\]b] ;B[aa])",
-            "(;GM[1]C[a\\]b];B[aa])\n",
-        ),
-        (
-            ["split", "--form", "gtp"].as_slice(),
-            "(;SZ[3];B[bb])",
-            "# 7 1 2 score 9 0 open\nboardsize 3\nclear_board\nplay B B2\n\n",
-        ),
-        (
-            ["split", "--form", "gtp"].as_slice(),
-            "(;SZ[5]AB[ab][ba]AW[cc]C[one\ntwo];W[];B[ee])",
-            "# 37 1 3 score 4 1 open\nboardsize 5\nclear_board\n# one\n# two\nclear_board\nplay B B5\nplay B A4\nplay W C3\nplay W pass\nplay B E1\n\n",
-        ),
-        (
-            ["split"].as_slice(),
-            "(;SZ[1];B[aa])",
-            "7 1 2 illegal 1 7 repeat\n",
-        ),
-        (
-            ["split"].as_slice(),
-            "(;SZ[1])(;SZ[2])",
-            "1 1 1 score 0 0 open\n9 2 1 score 0 0 open\n",
-        ),
-        (
-            ["split", "--after", "1"].as_slice(),
-            "(;SZ[1])(;SZ[2])",
-            "9 2 1 score 0 0 open\n",
-        ),
-        (
-            ["split"].as_slice(),
-            "(;GM[2]SZ[26])",
-            "1 1 1 unjudged game\n",
-        ),
-        (
-            ["split"].as_slice(),
-            "(;SZ[19:19])",
-            "1 1 1 unjudged size\n",
-        ),
-        (
-            ["split"].as_slice(),
-            " ( ; SZ [3] ; B [bb] ) ",
-            "12 1 2 score 9 0 open\n",
-        ),
-        (
-            ["split"].as_slice(),
-            "\u{feff}(;)",
-            "4 1 1 score 0 0 open\n",
-        ),
-        (["count"].as_slice(), TWO, "1 4 2\n"),
-        (["count"].as_slice(), "(;SZ[1])(;SZ[2])", "2 2 2\n"),
-    ] {
-        let mut output = Vec::new(rt.alloc());
-        let mut faults = Vec::new(rt.alloc());
-        let status = run(rt.alloc(), words, input, &mut output, &mut faults)?;
-        assert_eq!(rt; status, Some(0), "of {words:?} on {input}");
-        assert_eq!(rt;
-            output.as_slice(),
-            want.as_bytes(),
-            "of {words:?} on {input}"
-        );
-        assert!(rt; faults.is_empty(), "of {words:?} on {input}");
-    }
+fn rows_of_two(rt: HostRuntime) -> Result<(), Fail> {
+    gives(
+        &rt,
+        rt.alloc(),
+        &["split"],
+        TWO,
+        "8 1 2 score 9 0 open\n22 1 3 score 1 1 open\n",
+    )?;
+    gives(
+        &rt,
+        rt.alloc(),
+        &["split", "--after", "8"],
+        TWO,
+        "22 1 3 score 1 1 open\n",
+    )?;
+    gives(&rt, rt.alloc(), &["split", "--after", "22"], TWO, "")?;
+    gives(
+        &rt,
+        rt.alloc(),
+        &["split", "--limit", "1"],
+        TWO,
+        "8 1 2 score 9 0 open\n",
+    )?;
+    gives(&rt, rt.alloc(), &["split", "--limit", "0"], TWO, "")?;
+    gives(
+        &rt,
+        rt.alloc(),
+        &["split", "--after", "8", "--limit", "1"],
+        TWO,
+        "22 1 3 score 1 1 open\n",
+    )?;
     Ok(())
 }
 
 #[test]
-fn faults(rt: HostRuntime) -> Result<(), Fail> {
-    for (words, input, want) in [
-        (
-            ["split", "--after", "1"].as_slice(),
-            "(;SZ[3];B[bb])",
-            "sgfsplit: no line ends at 1\n",
-        ),
-        (
-            ["split", "--after", "16", "--limit", "0"].as_slice(),
-            TWO,
-            "sgfsplit: no line ends at 16\n",
-        ),
-        (
-            ["split", "--after", "18446744073709551615"].as_slice(),
-            TWO,
-            "sgfsplit: no line ends at 18446744073709551615\n",
-        ),
-        (
-            ["split"].as_slice(),
-            "",
-            "sgfsplit: byte 0: input ends too early\n",
-        ),
-        (
-            ["split"].as_slice(),
-            "(;C[a\\",
-            "sgfsplit: byte 6: input ends too early\n",
-        ),
-        (
-            ["split"].as_slice(),
-            "(;SZ[3])x",
-            "sgfsplit: byte 8: not SGF\n",
-        ),
-        (
-            ["split"].as_slice(),
-            "(;B[aa](;W[bb]);B[cc])",
-            "sgfsplit: byte 15: not SGF\n",
-        ),
-        (["count"].as_slice(), "()", "sgfsplit: byte 1: not SGF\n"),
-    ] {
-        let mut output = Vec::new(rt.alloc());
-        let mut faults = Vec::new(rt.alloc());
-        let status = run(rt.alloc(), words, input, &mut output, &mut faults)?;
-        assert_eq!(rt; status, Some(1), "of {words:?} on {input}");
-        assert!(rt; output.is_empty(), "of {words:?} on {input}");
-        assert_eq!(rt;
-            faults.as_slice(),
-            want.as_bytes(),
-            "of {words:?} on {input}"
-        );
-    }
+fn texts(rt: HostRuntime) -> Result<(), Fail> {
+    gives(
+        &rt,
+        rt.alloc(),
+        &["split", "--form", "sgf"],
+        TWO,
+        "(;SZ[3];B[aa])\n(;SZ[3];B[bb];W[aa])\n",
+    )?;
+    gives(
+        &rt,
+        rt.alloc(),
+        &["split", "--form", "sgf"],
+        "(;GaMe[1]C[a\\]b] ;B[aa])",
+        "(;GM[1]C[a\\]b];B[aa])\n",
+    )?;
     Ok(())
 }
 
-/// Gives a text three bytes at a time, and fails where it has no more.
+#[test]
+fn scripts(rt: HostRuntime) -> Result<(), Fail> {
+    gives(
+        &rt,
+        rt.alloc(),
+        &["split", "--form", "gtp"],
+        "(;SZ[3];B[bb])",
+        "# 7 1 2 score 9 0 open\nboardsize 3\nclear_board\nplay B B2\n\n",
+    )?;
+    gives(
+        &rt,
+        rt.alloc(),
+        &["split", "--form", "gtp"],
+        "(;SZ[5]AB[ab][ba]AW[cc]C[one\ntwo];W[];B[ee])",
+        "# 37 1 3 score 4 1 open\nboardsize 5\nclear_board\n# one\n# two\nclear_board\nplay B B5\nplay B A4\nplay W C3\nplay W pass\nplay B E1\n\n",
+    )?;
+    Ok(())
+}
+
+#[test]
+fn verdicts(rt: HostRuntime) -> Result<(), Fail> {
+    gives(
+        &rt,
+        rt.alloc(),
+        &["split"],
+        "(;SZ[3];B[bb])",
+        "7 1 2 score 9 0 open\n",
+    )?;
+    gives(
+        &rt,
+        rt.alloc(),
+        &["split"],
+        "(;SZ[1];B[aa])",
+        "7 1 2 illegal 1 7 repeat\n",
+    )?;
+    gives(
+        &rt,
+        rt.alloc(),
+        &["split"],
+        "(;SZ[1])(;SZ[2])",
+        "1 1 1 score 0 0 open\n9 2 1 score 0 0 open\n",
+    )?;
+    gives(
+        &rt,
+        rt.alloc(),
+        &["split", "--after", "1"],
+        "(;SZ[1])(;SZ[2])",
+        "9 2 1 score 0 0 open\n",
+    )?;
+    gives(
+        &rt,
+        rt.alloc(),
+        &["split"],
+        "(;GM[2]SZ[26])",
+        "1 1 1 unjudged game\n",
+    )?;
+    gives(
+        &rt,
+        rt.alloc(),
+        &["split"],
+        "(;SZ[19:19])",
+        "1 1 1 unjudged size\n",
+    )?;
+    gives(
+        &rt,
+        rt.alloc(),
+        &["split"],
+        " ( ; SZ [3] ; B [bb] ) ",
+        "12 1 2 score 9 0 open\n",
+    )?;
+    gives(
+        &rt,
+        rt.alloc(),
+        &["split"],
+        "\u{feff}(;)",
+        "4 1 1 score 0 0 open\n",
+    )?;
+    Ok(())
+}
+
+#[test]
+fn counts(rt: HostRuntime) -> Result<(), Fail> {
+    gives(&rt, rt.alloc(), &["count"], TWO, "1 4 2\n")?;
+    gives(&rt, rt.alloc(), &["count"], "(;SZ[1])(;SZ[2])", "2 2 2\n")?;
+    Ok(())
+}
+
+#[test]
+fn no_such_line(rt: HostRuntime) -> Result<(), Fail> {
+    tells(
+        &rt,
+        rt.alloc(),
+        &["split", "--after", "1"],
+        "(;SZ[3];B[bb])",
+        "sgfsplit: no line ends at 1\n",
+    )?;
+    tells(
+        &rt,
+        rt.alloc(),
+        &["split", "--after", "16", "--limit", "0"],
+        TWO,
+        "sgfsplit: no line ends at 16\n",
+    )?;
+    tells(
+        &rt,
+        rt.alloc(),
+        &["split", "--after", "18446744073709551615"],
+        TWO,
+        "sgfsplit: no line ends at 18446744073709551615\n",
+    )?;
+    Ok(())
+}
+
+#[test]
+fn first_faulty_byte(rt: HostRuntime) -> Result<(), Fail> {
+    tells(
+        &rt,
+        rt.alloc(),
+        &["split"],
+        "",
+        "sgfsplit: byte 0: input ends too early\n",
+    )?;
+    tells(
+        &rt,
+        rt.alloc(),
+        &["split"],
+        "(;C[a\\",
+        "sgfsplit: byte 6: input ends too early\n",
+    )?;
+    tells(
+        &rt,
+        rt.alloc(),
+        &["split"],
+        "(;SZ[3])x",
+        "sgfsplit: byte 8: not SGF\n",
+    )?;
+    tells(
+        &rt,
+        rt.alloc(),
+        &["split"],
+        "(;B[aa](;W[bb]);B[cc])",
+        "sgfsplit: byte 15: not SGF\n",
+    )?;
+    tells(
+        &rt,
+        rt.alloc(),
+        &["count"],
+        "()",
+        "sgfsplit: byte 1: not SGF\n",
+    )?;
+    Ok(())
+}
+
+/// Gives a text byte by byte, and fails where it has no more.
 #[derive(Drop)]
 struct FailingSource<'a> {
     left: &'a [u8],
@@ -195,14 +287,13 @@ impl Source for FailingSource<'_> {
     ghost state = { λ s. record { failures = s.failures; given = None; to_come = None } };
 
     fn get(&mut self, buffer: &mut [u8]) -> Result<usize, SourceFault> {
-        let count = buffer.len().min(3).min(self.left.len());
-        if count == 0 {
+        let [first, rest @ ..] = self.left else {
             self.failures += 1;
             return Err(SourceFault);
-        }
-        buffer[..count].copy_from_slice(&self.left[..count]);
-        self.left = &self.left[count..];
-        Ok(count)
+        };
+        buffer[0] = *first;
+        self.left = rest;
+        Ok(1)
     }
 
     fn failures(&self) -> u64 {
@@ -222,17 +313,24 @@ struct SmallSink {
     ghost within: { taken ≤ 64 },
 }
 
-/// A sink that takes so many bytes, `step` at a time.
-fn small_sink(step: usize, room: usize, can_flush: bool) -> SmallSink
-    ensures { result.failures ≡ 0 }
-{
-    SmallSink {
-        bytes: [0; 64],
-        taken: 0,
-        step,
-        room,
-        can_flush,
-        failures: 0,
+impl SmallSink {
+    /// A sink that takes so many bytes, `step` at a time.
+    fn new(step: usize, room: usize, can_flush: bool) -> SmallSink
+        ensures { result.failures ≡ 0 }
+    {
+        SmallSink {
+            bytes: [0; 64],
+            taken: 0,
+            step,
+            room,
+            can_flush,
+            failures: 0,
+        }
+    }
+
+    /// The bytes that it took.
+    fn taken(&self) -> &[u8] {
+        &self.bytes[..self.taken]
     }
 }
 
@@ -282,6 +380,26 @@ fn rows_job() -> Job {
     }
 }
 
+/// What comes of a job over a source and two such sinks: the status, and what each took.
+fn acts<S: Source>(
+    rt: &impl Abort,
+    alloc: Global,
+    job: &Job,
+    source: &mut S,
+    mut output: SmallSink,
+    mut faults: SmallSink,
+    want: (u8, &[u8], &[u8]),
+)
+    requires source_counts { (S.state source.old).failures < u64.MAX }
+    requires output_counts { output.failures < u64.MAX }
+    requires faults_count { faults.failures < u64.MAX }
+{
+    let status = act(alloc, job, source, &mut output, &mut faults);
+    assert_eq!(rt; status, want.0);
+    assert_eq!(rt; output.taken(), want.1);
+    assert_eq!(rt; faults.taken(), want.2);
+}
+
 #[test]
 fn source_fails(rt: HostRuntime) {
     for length in 0..TWO.len() {
@@ -289,20 +407,17 @@ fn source_fails(rt: HostRuntime) {
             left: &TWO.as_bytes()[..length],
             failures: 0,
         };
-        let mut output = small_sink(64, 64, true);
-        let mut faults = small_sink(64, 64, true);
-        let status = act(
+        let output = SmallSink::new(64, 64, true);
+        let faults = SmallSink::new(64, 64, true);
+        let told = b"sgfsplit: read failed\n";
+        acts(
+            &rt,
             rt.alloc(),
             &rows_job(),
             &mut source,
-            &mut output,
-            &mut faults,
-        );
-        assert_eq!(rt; status, 3, "after {length} bytes");
-        assert_eq!(rt; output.taken, 0, "after {length} bytes");
-        assert_eq!(rt;
-            &faults.bytes[..faults.taken],
-            b"sgfsplit: read failed\n".as_slice()
+            output,
+            faults,
+            (3, b"", told),
         );
     }
 }
@@ -312,20 +427,17 @@ fn output_fails(rt: HostRuntime) {
     for room in 0..ROWS.len() {
         for step in [1, 7, 64] {
             let mut source = SliceSource::new(TWO.as_bytes());
-            let mut output = small_sink(step, room, true);
-            let mut faults = small_sink(1, 64, false);
-            let status = act(
+            let output = SmallSink::new(step, room, true);
+            let faults = SmallSink::new(1, 64, false);
+            let told = b"sgfsplit: write failed\n";
+            acts(
+                &rt,
                 rt.alloc(),
                 &rows_job(),
                 &mut source,
-                &mut output,
-                &mut faults,
-            );
-            assert_eq!(rt; status, 3, "with room for {room}");
-            assert_eq!(rt; &output.bytes[..output.taken], &ROWS.as_bytes()[..room]);
-            assert_eq!(rt;
-                &faults.bytes[..faults.taken],
-                b"sgfsplit: write failed\n".as_slice()
+                output,
+                faults,
+                (3, &ROWS.as_bytes()[..room], told),
             );
         }
     }
@@ -336,12 +448,17 @@ fn flush_fails(rt: HostRuntime) {
     for (job, want) in [(rows_job(), ROWS), (Job::Count { file: None }, "1 4 2\n")] {
         for (can_flush, status) in [(true, 0), (false, 3)] {
             let mut source = SliceSource::new(TWO.as_bytes());
-            let mut output = small_sink(5, 64, can_flush);
-            let mut faults = small_sink(64, 0, true);
-            let given = act(rt.alloc(), &job, &mut source, &mut output, &mut faults);
-            assert_eq!(rt; given, status);
-            assert_eq!(rt; &output.bytes[..output.taken], want.as_bytes());
-            assert_eq!(rt; faults.taken, 0);
+            let output = SmallSink::new(5, 64, can_flush);
+            let faults = SmallSink::new(64, 0, true);
+            acts(
+                &rt,
+                rt.alloc(),
+                &job,
+                &mut source,
+                output,
+                faults,
+                (status, want.as_bytes(), b""),
+            );
         }
     }
 }
@@ -351,16 +468,16 @@ fn faults_fail(rt: HostRuntime) {
     let line = b"sgfsplit: byte 0: input ends too early\n";
     for room in 0..line.len() {
         let mut source = SliceSource::new(b"");
-        let mut output = small_sink(64, 64, true);
-        let mut faults = small_sink(10, room, true);
-        let status = act(
+        let output = SmallSink::new(64, 64, true);
+        let faults = SmallSink::new(10, room, true);
+        acts(
+            &rt,
             rt.alloc(),
             &rows_job(),
             &mut source,
-            &mut output,
-            &mut faults,
+            output,
+            faults,
+            (1, b"", &line[..room]),
         );
-        assert_eq!(rt; status, 1, "with room for {room}");
-        assert_eq!(rt; &faults.bytes[..faults.taken], &line[..room]);
     }
 }

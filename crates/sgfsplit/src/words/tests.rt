@@ -4,6 +4,7 @@ use super::job;
 use crate::request::{Job, JobFault};
 use sgf_lines::{Form, Options};
 use std::alloc::{AllocError, Global};
+use std::process::Abort;
 use std::test::Fail;
 
 /// What the words ask for: the job, or the status that they get.
@@ -29,82 +30,110 @@ fn is_named(file: &Option<String>, name: Option<&str>) -> bool {
     }
 }
 
+/// What splits: these options and this file.
+fn splits(
+    rt: &impl Abort,
+    alloc: Global,
+    words: &[&str],
+    options: &Options,
+    file: Option<&str>,
+) -> Result<(), Fail> {
+    let is_asked = match &asked(alloc, words)? {
+        Ok(
+            Job::Split {
+                options: given,
+                file: named,
+            },
+        ) => given == options && is_named(named, file),
+        _ => false,
+    };
+    assert!(rt; is_asked, "of {words:?}");
+    Ok(())
+}
+
 #[test]
-fn words_of_a_job(rt: HostRuntime) -> Result<(), Fail> {
-    for (words, form, after, limit, file) in [
-        (["split"].as_slice(), Form::List, None, None, None),
-        (["split", "-"].as_slice(), Form::List, None, None, None),
-        (
-            ["split", "--form", "list", "x"].as_slice(),
-            Form::List,
-            None,
-            None,
-            Some("x"),
-        ),
-        (
-            [
-                "split", "--form", "gtp", "--after", "0", "--limit", "7", "a b",
-            ]
-            .as_slice(),
-            Form::Gtp,
-            Some(0),
-            Some(7),
-            Some("a b"),
-        ),
-        (
-            ["split", "x", "--limit=18446744073709551615", "--form=sgf"].as_slice(),
-            Form::Sgf,
-            None,
-            Some(u64::MAX),
-            Some("x"),
-        ),
-    ] {
-        let asked = asked(rt.alloc(), words)?;
-        let is_asked = match &asked {
-            Ok(
-                Job::Split {
-                    options,
-                    file: named,
-                },
-            ) => { *options == Options { form, after, limit } && is_named(named, file) }
-            _ => false,
-        };
-        assert!(rt; is_asked, "of {words:?}");
-    }
-    for (words, file) in [
-        (["count"].as_slice(), None),
-        (["count", "x"].as_slice(), Some("x")),
-    ] {
-        let asked = asked(rt.alloc(), words)?;
-        let is_asked = match &asked {
-            Ok(Job::Count { file: named }) => is_named(named, file),
-            _ => false,
-        };
-        assert!(rt; is_asked, "of {words:?}");
-    }
+fn words_of_a_split(rt: HostRuntime) -> Result<(), Fail> {
+    let list = Options {
+        form: Form::List,
+        after: None,
+        limit: None,
+    };
+    splits(&rt, rt.alloc(), &["split"], &list, None)?;
+    splits(&rt, rt.alloc(), &["split", "-"], &list, None)?;
+    splits(
+        &rt,
+        rt.alloc(),
+        &["split", "--form", "list", "x"],
+        &list,
+        Some("x"),
+    )?;
+    let gtp = Options {
+        form: Form::Gtp,
+        after: Some(0),
+        limit: Some(7),
+    };
+    let words = [
+        "split", "--form", "gtp", "--after", "0", "--limit", "7", "a b",
+    ];
+    splits(&rt, rt.alloc(), &words, &gtp, Some("a b"))?;
+    let sgf = Options {
+        form: Form::Sgf,
+        after: None,
+        limit: Some(u64::MAX),
+    };
+    let words = ["split", "x", "--limit=18446744073709551615", "--form=sgf"];
+    splits(&rt, rt.alloc(), &words, &sgf, Some("x"))?;
+    Ok(())
+}
+
+/// What counts: this file.
+fn counts(rt: &impl Abort, alloc: Global, words: &[&str], file: Option<&str>) -> Result<(), Fail> {
+    let is_asked = match &asked(alloc, words)? {
+        Ok(Job::Count { file: named }) => is_named(named, file),
+        _ => false,
+    };
+    assert!(rt; is_asked, "of {words:?}");
+    Ok(())
+}
+
+#[test]
+fn words_of_a_count(rt: HostRuntime) -> Result<(), Fail> {
+    counts(&rt, rt.alloc(), &["count"], None)?;
+    counts(&rt, rt.alloc(), &["count", "x"], Some("x"))?;
+    Ok(())
+}
+
+/// The status that words get which ask for nothing that can be done.
+fn refuses(rt: &impl Abort, alloc: Global, words: &[&str], status: i32) -> Result<(), Fail> {
+    let refused = match &asked(alloc, words)? {
+        Ok(_) => None,
+        Err(status) => Some(*status),
+    };
+    assert_eq!(rt; refused, Some(status), "of {words:?}");
+    Ok(())
+}
+
+#[test]
+fn helped(rt: HostRuntime) -> Result<(), Fail> {
+    refuses(&rt, rt.alloc(), &["--help"], 0)?;
+    refuses(&rt, rt.alloc(), &["split", "--help"], 0)?;
     Ok(())
 }
 
 #[test]
 fn refused_words(rt: HostRuntime) -> Result<(), Fail> {
-    for (words, status) in [
-        (["--help"].as_slice(), 0),
-        (["split", "--help"].as_slice(), 0),
-        ([].as_slice(), 2),
-        (["two.sgf"].as_slice(), 2),
-        (["--version"].as_slice(), 2),
-        (["split", "--form", "xml"].as_slice(), 2),
-        (["split", "--after", "x"].as_slice(), 2),
-        (["split", "--form", "sgf", "--form", "sgf"].as_slice(), 2),
-        (["split", "x", "y"].as_slice(), 2),
-        (["count", "--limit", "1"].as_slice(), 2),
-    ] {
-        let asked = asked(rt.alloc(), words)?;
-        let refused = match &asked {
-            Ok(_) => None,
-            Err(status) => Some(*status),
-        };
-        assert_eq!(rt; refused, Some(status), "of {words:?}");
-    }
+    refuses(&rt, rt.alloc(), &[], 2)?;
+    refuses(&rt, rt.alloc(), &["two.sgf"], 2)?;
+    refuses(&rt, rt.alloc(), &["--version"], 2)?;
+    refuses(&rt, rt.alloc(), &["split", "--form", "xml"], 2)?;
+    refuses(&rt, rt.alloc(), &["split", "--after", "x"], 2)?;
+    refuses(
+        &rt,
+        rt.alloc(),
+        &["split", "--form", "sgf", "--form", "sgf"],
+        2,
+    )?;
+    refuses(&rt, rt.alloc(), &["split", "x", "y"], 2)?;
+    refuses(&rt, rt.alloc(), &["count", "--limit", "1"], 2)?;
     Ok(())
 }

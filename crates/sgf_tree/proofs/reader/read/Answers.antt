@@ -1,4 +1,5 @@
-use Rattle.std.proofs.Common.{◌∙◌, sym, subst}
+use Rattle.std.proofs.Common.{◌∙◌, sym, subst, arith}
+use Rattle.std.proofs.lemmas.Grind.{common_steps}
 use Rattle.sgf_tree.specs.Spelling.{Spells}
 use Rattle.sgf_tree.specs.Tree.{Games}
 use Rattle.sgf_tree.proofs.WholeRead.{whole-games, whole-spelled, whole-laid_out}
@@ -13,3 +14,6 @@ pub returns-in-Ok-clause-spelled : goal.returns-in-Ok-clause-spelled
 returns-in-Ok-clause-spelled c =
     let read = c.in-Ok.ensures.read in
     subst (λ (g : Games). Spells g c.args.text.now) (sym (c.new.ensures ∙ whole-games c.args.text.now read.0 _ read.2)) (whole-spelled c.args.text.now read.0 _ read.2)
+
+pub returns-in-Err-NotSgf-clause-not_sgf : goal.returns-in-Err-NotSgf-clause-not_sgf
+returns-in-Err-NotSgf-clause-not_sgf c = grind (arith, common_steps)
