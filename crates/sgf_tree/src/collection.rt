@@ -149,6 +149,7 @@ mod tests {
     use super::*;
     use crate::reader::long::LONG;
     use crate::reader::read;
+    use std::alloc::Global;
     use std::test::Fail;
 
     #[test]
@@ -188,14 +189,9 @@ mod tests {
         Ok(())
     }
 
-    /// Values of one byte less than a long one has, and longer ones full of escaped brackets.
-    #[test]
-    fn keeps_where_long_values_end(rt: HostRuntime) -> Result<(), Fail> {
-        let mut short = Vec::new(rt.alloc());
-        short.resize(LONG - 1, b'a')?;
-        let long = b"\\]".repeat(rt.alloc(), LONG / 2)?;
-        let (short, long) = (short.as_slice(), long.as_slice());
-        let mut text = b"(;C[".to_vec(rt.alloc())?;
+    /// A text of a value that is kept as it is and of three that are long.
+    fn text_of_values(alloc: Global, short: &[u8], long: &[u8]) -> Result<Vec<u8>, Fail> {
+        let mut text = b"(;C[".to_vec(alloc)?;
         for (value, after) in [
             (short, "]N["),
             (long, "] ["),
@@ -205,22 +201,46 @@ mod tests {
             text.extend_from_slice(value)?;
             text.extend_from_slice(after.as_bytes())?;
         }
+        Ok(text)
+    }
+
+    /// The names of a node's first properties, each with a letter for its first value.
+    fn push_first_values(
+        node: NodeRef<'_>,
+        short: &[u8],
+        long: &[u8],
+        seen: &mut Vec<u8>,
+    ) -> Result<(), Fail> {
+        let mut properties = node.iter();
+        for _ in 0..3 {
+            let Some(property) = properties.next() else {
+                return Ok(());
+            };
+            property.push_name(seen)?;
+            let value = property.value(0);
+            seen.push(if value == short {
+                b's'
+            } else if value == long {
+                b'l'
+            } else {
+                b'.'
+            })?;
+        }
+        Ok(())
+    }
+
+    /// Values of one byte less than a long one has, and longer ones full of escaped brackets.
+    #[test]
+    fn keeps_where_long_values_end(rt: HostRuntime) -> Result<(), Fail> {
+        let mut short = Vec::new(rt.alloc());
+        short.resize(LONG - 1, b'a')?;
+        let long = b"\\]".repeat(rt.alloc(), LONG / 2)?;
+        let text = text_of_values(rt.alloc(), &short, &long)?;
         let c = read(rt.alloc(), &text)?;
-        assert_eq!(rt; c.long.len(), 3);
+        assert!(rt; c.long.len() == 3);
         let mut seen = Vec::new(rt.alloc());
         for i in 0..c.nodes() {
-            let mut properties = c.node(i).iter();
-            for _ in 0..3 {
-                let Some(property) = properties.next() else {
-                    continue;
-                };
-                property.push_name(&mut seen)?;
-                seen.push(match property.value(0) {
-                    value if value == short => b's',
-                    value if value == long => b'l',
-                    _ => b'.',
-                })?;
-            }
+            push_first_values(c.node(i), &short, &long, &mut seen)?;
         }
         assert_eq!(rt; seen.as_slice(), b"CsNlW.ClB.".as_slice());
         Ok(())

@@ -33,6 +33,8 @@
 
 mod collection;
 mod fault;
+#[cfg(test)]
+mod given;
 mod iter;
 pub mod laws;
 mod layout;

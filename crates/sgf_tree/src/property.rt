@@ -128,48 +128,42 @@ fn is_short_name(identifier: &[u8]) -> bool
 
 #[cfg(test)]
 mod tests {
-    use super::*;
+    use crate::given::{is_text, only_property};
     use crate::reader::read;
     use std::test::Fail;
 
     #[test]
     fn names_are_upper_case_letters(rt: HostRuntime) -> Result<(), Fail> {
         let c = read(rt.alloc(), b"(;GaMe[1])")?;
-        assert_eq!(rt; c.nodes(), 1);
-        let node = c.node(0);
-        assert_eq!(rt; node.props(), 1);
-        let property = node.prop(0);
+        let property = only_property(&rt, &c);
         let mut name = b"x".to_vec(rt.alloc())?;
         property.push_name(&mut name)?;
         assert_eq!(rt; name.as_slice(), b"xGM".as_slice());
-        assert_eq!(rt; property.short_name(), None);
-        assert!(rt; property.is(b"GM"));
-        assert!(rt; !property.is(b"GaMe"));
-        assert!(rt; !property.is(b"G"));
-        assert!(rt; !property.is(b"GMX"));
-        assert_eq!(rt; property.values(), 1);
-        assert_eq!(rt; property.value(0), b"1".as_slice());
+        Ok(())
+    }
+
+    #[test]
+    fn knows_its_name(rt: HostRuntime) -> Result<(), Fail> {
+        let c = read(rt.alloc(), b"(;GaMe[1])")?;
+        let property = only_property(&rt, &c);
+        for (name, want) in [("GM", true), ("GaMe", false), ("G", false), ("GMX", false)] {
+            assert!(rt; property.is(name.as_bytes()) == want, "of {name:?}");
+        }
         Ok(())
     }
 
     #[test]
     fn gives_short_names(rt: HostRuntime) -> Result<(), Fail> {
         for (text, want) in [
-            (b"(;B[aa])".as_slice(), Some("B")),
-            (b"(;BL[9])".as_slice(), Some("BL")),
-            (b"(;Bl[9])".as_slice(), None),
-            (b"(;KGS[9])".as_slice(), None),
+            ("(;B[aa])", Some("B")),
+            ("(;BL[9])", Some("BL")),
+            ("(;Bl[9])", None),
+            ("(;GaMe[1])", None),
+            ("(;KGS[9])", None),
         ] {
-            let c = read(rt.alloc(), text)?;
-            assert_eq!(rt; c.nodes(), 1);
-            let node = c.node(0);
-            assert_eq!(rt; node.props(), 1);
-            let property = node.prop(0);
-            assert_eq!(rt;
-                property.short_name(),
-                want.map(|name| name.as_bytes()),
-                "of {text:?}"
-            );
+            let c = read(rt.alloc(), text.as_bytes())?;
+            let name = only_property(&rt, &c).short_name();
+            assert!(rt; is_text(name, want), "of {text:?}");
         }
         Ok(())
     }
@@ -177,14 +171,11 @@ mod tests {
     #[test]
     fn values_are_raw(rt: HostRuntime) -> Result<(), Fail> {
         let c = read(rt.alloc(), b"(;C[a\\]b\\\\] [] [c:d ; ( e\n])")?;
-        assert_eq!(rt; c.nodes(), 1);
-        let node = c.node(0);
-        assert_eq!(rt; node.props(), 1);
-        let property = node.prop(0);
-        assert_eq!(rt; property.values(), 3);
-        assert_eq!(rt; property.value(0), b"a\\]b\\\\".as_slice());
-        assert_eq!(rt; property.value(1), b"".as_slice());
-        assert_eq!(rt; property.value(2), b"c:d ; ( e\n".as_slice());
+        let property = only_property(&rt, &c);
+        assert!(rt; property.values() == 3);
+        assert!(rt; property.value(0) == b"a\\]b\\\\".as_slice());
+        assert!(rt; property.value(1).is_empty());
+        assert!(rt; property.value(2) == b"c:d ; ( e\n".as_slice());
         Ok(())
     }
 }

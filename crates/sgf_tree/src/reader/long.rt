@@ -118,41 +118,70 @@ fn kept_end(text: &[u8], at: usize, long: &[LongValue]) -> Option<usize>
 #[cfg(test)]
 mod tests {
     use super::*;
+    use std::alloc::Global;
+    use std::process::Abort;
     use std::test::Fail;
 
-    /// Values of so many plain bytes and then the text of a row, with more text after it or none: what is looked at one by
-    /// one, what is compared at once and what is searched for gives the same.
+    /// The value of so many plain bytes and then a text ends after so many bytes more, whatever comes after the text.
+    fn ends(
+        rt: &impl Abort,
+        alloc: Global,
+        plain: usize,
+        rest: &str,
+        after: &str,
+        want: Option<usize>,
+    ) -> Result<(), Fail> {
+        let mut text = Vec::new(alloc);
+        text.resize(plain, b'a')?;
+        text.extend_from_slice(rest.as_bytes())?;
+        text.extend_from_slice(after.as_bytes())?;
+        let end = match want {
+            Some(end) => Some(end.wrapping_add(plain)),
+            None => None,
+        };
+        assert!(rt; value_end(&text, 0, None) == end, "of {plain} and {rest:?}");
+        Ok(())
+    }
+
+    /// What is looked at one by one, what is compared at once and what is searched for gives the same.
+    const PLAIN: [usize; 13] = [0, 1, 2, 3, 13, 15, 16, 17, 100, 127, 128, 129, 200];
+
     #[test]
     fn finds_the_end_of_a_value(rt: HostRuntime) -> Result<(), Fail> {
-        for plain in [0, 1, 2, 3, 13, 15, 16, 17, 100, 127, 128, 129, 200] {
+        for plain in PLAIN {
             for (rest, want) in [
-                ("]", Some(0)),
-                ("]]", Some(0)),
-                ("\\]]", Some(2)),
-                ("\\\\]", Some(2)),
-                ("\\\\\\]]", Some(4)),
-                ("\\\\\\\\]]", Some(4)),
-                ("\\]\\]]", Some(4)),
-                ("\\]\\\\]]", Some(4)),
-                ("\\]\\\\\\]]", Some(6)),
-                ("\\]a\\]b]", Some(6)),
-                ("\\:\\\\:]", Some(5)),
-                ("\\]01234567890123456789\\]]", Some(24)),
+                ("]", 0),
+                ("]]", 0),
+                ("\\]]", 2),
+                ("\\\\]", 2),
+                ("\\\\\\]]", 4),
+                ("\\\\\\\\]]", 4),
+                ("\\]\\]]", 4),
+                ("\\]\\\\]]", 4),
+                ("\\]\\\\\\]]", 6),
+                ("\\]a\\]b]", 6),
+                ("\\:\\\\:]", 5),
+                ("\\]01234567890123456789\\]]", 24),
             ] {
-                for after in ["", "W[aa];B[bb]\\];W[cc]"] {
-                    let mut text = Vec::new(rt.alloc());
-                    text.resize(plain, b'a')?;
-                    text.extend_from_slice(rest.as_bytes())?;
-                    text.extend_from_slice(after.as_bytes())?;
-                    let want = want.map(|end: usize| end.wrapping_add(plain));
-                    assert_eq!(rt; value_end(&text, 0, None), want, "of {plain} and {rest:?}");
-                }
+                ends(&rt, rt.alloc(), plain, rest, "", Some(want))?;
+                ends(
+                    &rt,
+                    rt.alloc(),
+                    plain,
+                    rest,
+                    "W[aa];B[bb]\\];W[cc]",
+                    Some(want),
+                )?;
             }
+        }
+        Ok(())
+    }
+
+    #[test]
+    fn finds_no_end(rt: HostRuntime) -> Result<(), Fail> {
+        for plain in PLAIN {
             for rest in ["", "\\", "\\]", "\\\\", "\\]\\", "\\]a\\\\", "\\\\\\]"] {
-                let mut text = Vec::new(rt.alloc());
-                text.resize(plain, b'a')?;
-                text.extend_from_slice(rest.as_bytes())?;
-                assert_eq!(rt; value_end(&text, 0, None), None, "of {plain} and {rest:?}");
+                ends(&rt, rt.alloc(), plain, rest, "", None)?;
             }
         }
         Ok(())

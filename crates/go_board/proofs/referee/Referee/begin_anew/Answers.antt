@@ -17,5 +17,5 @@ invariant_of-self-2 g c =
     kept.result (kept.ensures.turns ∙ sym (ap (λ (states : States). states.present.turns) c.self.view_is)) (kept.ensures.player ∙ sym (ap (λ (states : States). states.present.player) c.self.view_is)) (kept.ensures.passes ∙ sym (ap (λ (states : States). states.present.passes) c.self.view_is)) kept.ensures.grew
     (g.P.Past.held c.try_setup.new.self) made true c.args.player was.turns c.push.new.self.items now (side-with_areas (newest_grid held) c.args.ops.now) items (omega arith)
 
-pub invariant_of-self : goal.invariant_of-self
-invariant_of-self g c = search rules
+pub invariant_of-self-then-is_err : goal.invariant_of-self-then-is_err
+invariant_of-self-then-is_err g c = search rules
