@@ -188,24 +188,32 @@ mod tests {
     fn seeks_from_anywhere(rt: HostRuntime) -> Result<(), Fail> {
         let collection = read(rt.alloc(), b"(;SZ[3](;B[aa])(;B[bb];W[aa]))")?;
         let mut cursor = Cursor::new(rt.alloc(), &collection);
+        for (place, is_last) in [(8, false), (22, true), (8, false)] {
+            cursor.seek_after(place)?;
+            if is_last {
+                assert!(rt; cursor.next()?.is_none());
+            } else {
+                expect_line(&rt, cursor.next()?, &[0, 2, 3], 22);
+            }
+        }
+        Ok(())
+    }
+
+    #[test]
+    fn stays_after_a_refused_place(rt: HostRuntime) -> Result<(), Fail> {
+        let collection = read(rt.alloc(), b"(;SZ[3](;B[aa])(;B[bb];W[aa]))")?;
+        let mut cursor = Cursor::new(rt.alloc(), &collection);
         cursor.seek_after(8)?;
+        assert!(rt; cursor.seek_after(16) == Err(SeekFault::NoSuchLine { place: 16 }));
         expect_line(&rt, cursor.next()?, &[0, 2, 3], 22);
-        let refused = cursor.seek_after(16);
-        assert_eq!(rt; refused, Err(SeekFault::NoSuchLine { place: 16 }));
-        assert!(rt; cursor.next()?.is_none());
-        cursor.seek_after(8)?;
-        expect_line(&rt, cursor.next()?, &[0, 2, 3], 22);
-        cursor.seek_after(22)?;
-        assert!(rt; cursor.next()?.is_none());
         Ok(())
     }
 
     fn expect_line(rt: &impl Abort, line: Option<LineRef<'_>>, path: &[usize], place: usize) {
-        let Some(line) = line else {
-            panic!(rt; "a line was expected");
+        let is_so = match line {
+            Some(line) => line.path() == path && line.game() == 1 && line.place() == place,
+            None => false,
         };
-        assert_eq!(rt; line.path(), path);
-        assert_eq!(rt; line.game(), 1);
-        assert_eq!(rt; line.place(), place);
+        assert!(rt; is_so, "the line that ends at {place}");
     }
 }
