@@ -189,7 +189,7 @@ mod tests {
         Ok(())
     }
 
-    /// A text of a value that is kept as it is and of three that are long.
+    /// A text of one value that isn't long and three that are.
     fn text_of_values(alloc: Global, short: &[u8], long: &[u8]) -> Result<Vec<u8>, Fail> {
         let mut text = b"(;C[".to_vec(alloc)?;
         for (value, after) in [

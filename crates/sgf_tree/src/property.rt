@@ -139,6 +139,8 @@ mod tests {
         let mut name = b"x".to_vec(rt.alloc())?;
         property.push_name(&mut name)?;
         assert_eq!(rt; name.as_slice(), b"xGM".as_slice());
+        assert!(rt; property.values() == 1);
+        assert!(rt; property.value(0) == b"1".as_slice());
         Ok(())
     }
 

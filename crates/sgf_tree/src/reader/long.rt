@@ -143,7 +143,8 @@ mod tests {
         Ok(())
     }
 
-    /// What is looked at one by one, what is compared at once and what is searched for gives the same.
+    /// How many plain bytes come first: what is looked at one by one, what is compared at once and what is searched for gives
+    /// the same.
     const PLAIN: [usize; 13] = [0, 1, 2, 3, 13, 15, 16, 17, 100, 127, 128, 129, 200];
 
     #[test]
