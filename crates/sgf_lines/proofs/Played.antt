@@ -1,11 +1,12 @@
 -- A game goes on by a node, and back.
-use Rattle.std.proofs.Common.{◌≡◌, ◌⊎◌, ℕ, ◌+◌, ◌<◌, ◌≤◌, cond, List, [], ◌∷◌, ◌++◌, length, take, drop, slice_get, Option, Some, None, Ok, Err, inl, inr, refl, sym, ap, subst, ◌∙◌, arith, length-append}
+use Rattle.std.proofs.Common.{◌≡◌, ◌⊎◌, ℕ, ◌+◌, ◌<◌, ◌≤◌, cond, List, [], ◌∷◌, ◌++◌, length, take, drop, slice_get, Option, Some, None, Result, Ok, Err, inl, inr, refl, sym, ap, subst, ◌∙◌, arith, length-append}
 use Rattle.std.proofs.lemmas.Bool.{cases_lt, le-leb, lt-leb, le-ltb, lt-ltb}
 use Rattle.std.proofs.Math.Seq.{take-append_seam}
 use Rattle.std.proofs.lemmas.List.{take-take, take-append-le, take-append-drop, take_all, length-take-le}
 use Rattle.std.proofs.lemmas.List.Sums.{fold-append}
 use Rattle.std.proofs.lemmas.Option.{slice_get_within}
 use Rattle.sgf_tree.specs.Tree.{Node}
+use Rattle.go_board.specs.declared.reason.Reason.{Reason}
 use Rattle.go_board.specs.State.{State, States, followed_by}
 use Rattle.sgf_lines.specs.Step.{step}
 use Rattle.sgf_lines.specs.Walk.{IllegalNode, Walk, before_root, stepped, next_by, next, walk}
@@ -114,6 +115,13 @@ tells_illegal side nodes game m h e =
     let is : IsFirstIllegal side nodes (Some m) = subst (IsFirstIllegal side nodes) e h.illegal in
     let f = illegal_is side nodes m is in
     rw (f.1, ← h.state, ← f.2, ← f.3) refl
+
+-- where no illegal node was met, the next one's step is taken or refused
+pub takes_step : (side : ℕ) (nodes : List Node) (game : Game) (n : Node) (r : Result State Reason) → IsPlayed side nodes game → game.illegal ≡ None → step game.referee.present n ≡ r
+    → walk side (nodes ++ n ∷ []) ≡ stepped (walk side nodes) n r
+takes_step side nodes game n r h none e =
+    let stands : StandsAfter (walk side nodes) game.referee.present = record { no_illegal = met_none side nodes game h none; state = sym h.state } in
+    walk_more side nodes n ∙ next_is (walk side nodes) game.referee.present stands n r e
 
 module _ (side : ℕ) (nodes : List Node) (old new : Game) (h : IsPlayed side nodes old) where
   -- what is kept before a node

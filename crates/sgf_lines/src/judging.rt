@@ -1,8 +1,9 @@
 //! Judges a line.
 
-ghost use Rattle.std.specs.Prelude.{◌≡◌, ◌<◌, List, Some, map, length, All, IfOk};
+ghost use Rattle.std.specs.Prelude.{◌≡◌, ◌<◌, ℕ, List, Some, map, length, All, IfOk};
 ghost use Rattle.sgf_tree.specs.Tree.{Node, node_count};
 ghost use Rattle.sgf_tree.specs.FileOrder.{node_at, IsLeaf};
+ghost use Rattle.go_board.specs.State.{begun};
 ghost use Rattle.sgf_lines.specs.JudgedGames.{board};
 ghost use Rattle.sgf_lines.specs.Verdict.{score_in, verdict_of, verdict_by, IsVerdictAt};
 ghost use Rattle.sgf_lines.specs.inner.Stepping.{ended_with};
@@ -68,14 +69,29 @@ fn judge_on(
     let Ok(mut referee) = Referee::<PrintPast>::new(alloc, size) else {
         return Err(MemoryFault);
     };
+    judge_by(alloc, &mut referee, collection, path)
+}
+
+/// The verdict of the line of a path, by a referee in the state in which its game begins.
+fn judge_by(
+    alloc: Global,
+    referee: &mut Referee<PrintPast>,
+    collection: &Collection<'_>,
+    path: &[usize],
+) -> Result<Verdict, MemoryFault>
+    requires { All (λ i. i < node_count collection.now) path.now }
+    ensures { (side : ℕ) (nodes : List Node) → referee.old ≡ begun side
+        → map Some nodes ≡ map (node_at collection.now) path.now
+        → IfOk result (λ verdict. verdict ≡ verdict_by (board side) nodes) }
+{
     for number in path {
         let node = collection.node(*number);
-        match play_node(alloc, &mut referee, &node, false) {
+        match play_node(alloc, referee, &node, false) {
             Ok(_) => {}
             Err(fault) => return ended(fault, referee.turns(), collection.place(*number)),
         }
     }
-    Ok(score(&referee))
+    Ok(score(referee))
 }
 
 /// The verdict of a line that ends with a fault at the node of that place, after so many turns.

@@ -17,7 +17,7 @@ use sgf_tree::{MemoryFault, NodeRef};
 use std::alloc::Global;
 
 /// Why a node's step wasn't taken.
-#[derive(Clone, Copy, Debug)]
+#[derive(Clone, Copy)]
 pub(crate) enum StepFault {
     /// The node isn't allowed.
     Illegal(Reason),
@@ -57,7 +57,7 @@ impl From<TurnFault> for StepFault {
 }
 
 /// What a node did on the board.
-#[derive(Clone, Copy, Debug)]
+#[derive(Clone, Copy)]
 pub(crate) enum Effect<'a> {
     /// It has no moves and no stones.
     Nothing,
@@ -68,7 +68,7 @@ pub(crate) enum Effect<'a> {
 }
 
 /// A node's step that was taken, and what the node says beside it.
-#[derive(Clone, Copy, Debug)]
+#[derive(Clone, Copy)]
 pub(crate) struct TakenStep<'a> {
     pub(crate) effect: Effect<'a>,
     /// The first value of its first C.

@@ -1,6 +1,6 @@
 //! The records of lines are written to a sink, each by as many puts as it takes.
 
-ghost use Rattle.std.specs.Prelude.{◌≡◌, ◌<◌, ◌≤◌, ◌+◌, length, drop};
+ghost use Rattle.std.specs.Prelude.{◌≡◌, ◌<◌, ◌≤◌, ◌+◌, false, length, drop};
 ghost use Rattle.sgf_tree.specs.Tree.{node_count};
 ghost use Rattle.sgf_lines.specs.Lines.{lines};
 ghost use Rattle.sgf_lines.specs.Page.{limited};
@@ -71,9 +71,36 @@ fn write_lines<T: Sink>(
     ensures failures { (T.state sink.new).failures
         ≡ (T.state sink.old).failures + write_failures result }
 {
+    let mut writer = Writer::new(alloc, options.form);
+    write_by(&mut writer, alloc, collection, cursor, options, sink, plays)
+}
+
+/// Writes those records by a writer that has written none.
+fn write_by<T: Sink>(
+    writer: &mut Writer,
+    alloc: Global,
+    collection: &Collection<'_>,
+    cursor: &mut Cursor<'_, '_>,
+    options: &Options,
+    sink: &mut T,
+    plays: &mut Plays,
+) -> Result<u64, RunFault>
+    requires form { writer.old.form ≡ options.now.form }
+    requires wrote { writer.old.wrote ≡ false }
+    requires same { cursor.old.games ≡ collection.now }
+    requires countable { (T.state sink.old).failures < u64.MAX }
+    requires plays_countable { plays.old + node_count collection.now ≤ u64.MAX }
+    ensures answer { WritesLines options.now.form
+        (limited options.now.limit (drop cursor.old.index (lines collection.now)))
+        (T.state sink.old) (T.state sink.new) result }
+    ensures plays { PlaysLines options.now.form
+        (limited options.now.limit (drop cursor.old.index (lines collection.now)))
+        plays.old plays.new result }
+    ensures failures { (T.state sink.new).failures
+        ≡ (T.state sink.old).failures + write_failures result }
+{
     // There are no more lines than nodes.
     let limit = options.limit.unwrap_or(collection.nodes() as u64);
-    let mut writer = Writer::new(alloc, options.form);
     let mut lines = 0u64;
     'page: while lines < limit {
         match writer.next(alloc, collection, cursor, plays) {

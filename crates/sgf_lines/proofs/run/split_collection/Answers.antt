@@ -12,3 +12,6 @@ deliver-requires-clause-plays_countable g c =
 
 pub returns-in-Err-clause-answer : goal.returns-in-Err-clause-answer
 returns-in-Err-clause-answer g c = split_of_no_start c.args.options.now c.args.collection.now (g.T.Sink.state c.args.sink.now) c.in-Err.fault c.in-Err.ensures.start
+
+pub returns-in-Ok-clause-write_failures : goal.returns-in-Ok-clause-write_failures
+returns-in-Ok-clause-write_failures g c = c.deliver.ensures.failures

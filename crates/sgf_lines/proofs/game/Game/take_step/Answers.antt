@@ -1,10 +1,10 @@
 -- The depth is that of the game before the node, and the node goes on the walk.
-use Rattle.std.proofs.Common.{◌≡◌, ◌++◌, ◌∷◌, [], inl, Some, refl, sym, ap, ◌∙◌, arith}
+use Rattle.std.proofs.Common.{◌≡◌, ◌++◌, ◌∷◌, [], inl, Some, Ok, Err, refl, sym, ap, ◌∙◌, arith}
 use Rattle.sgf_lines.specs.declared.game.MetIllegal.{MetIllegal}
 use Rattle.sgf_lines.specs.declared.game.Game.{Game}
 use Rattle.sgf_lines.specs.Walk.{Walk}
 use Rattle.sgf_lines.proofs.Named.{place_of_node}
-use Rattle.sgf_lines.proofs.Played.{depth_now, passes, passed_same, plays_on, stops}
+use Rattle.sgf_lines.proofs.Played.{depth_now, passes, passed_same, takes_step, plays_on, stops}
 use Rattle.sgf_lines.proofs.RaisedPlays.{raises_passed, raises_one}
 use Rattle.sgf_lines.proofs.game.Game.take_step.Goals as goal
 
@@ -50,3 +50,15 @@ returns-in-Ok-clause-told c = (c.node.result, c.node.ensures, c.in-Ok.ensures.to
 
 pub returns-in_default-clause-changed : goal.returns-in_default-clause-changed
 returns-in_default-clause-changed c = λ side nodes node h e. ap (λ (w : Walk). w.taken) (passed_same side nodes c.args.self.now node h c.in_default.not-None)
+
+pub returns-in-Ok-clause-changed : goal.returns-in-Ok-clause-changed
+returns-in-Ok-clause-changed c = λ side nodes node h e.
+    let same : c.node.result ≡ node = (let both : Some c.node.result ≡ Some node = sym c.node.ensures ∙ e in cc) in
+    let now = c.play_node.new.referee.present in
+    (now, refl, ap (λ (w : Walk). w.taken) (takes_step side nodes c.args.self.now node (Ok now) h c.in-None.is (rw same at c.in-Ok.ensures.stepped.0)))
+
+pub returns-in-Err-Illegal-clause-changed : goal.returns-in-Err-Illegal-clause-changed
+returns-in-Err-Illegal-clause-changed c = λ side nodes node h e.
+    let same : c.node.result ≡ node = (let both : Some c.node.result ≡ Some node = sym c.node.ensures ∙ e in cc) in
+    let refused = rw c.in-Err-Illegal.field-0-is at c.in-Err-Illegal.ensures.stepped in
+    ap (λ (w : Walk). w.taken) (takes_step side nodes c.args.self.now node (Err c.in-Err-Illegal.reason) h c.in-None.is (rw same at refused.0))

@@ -1,5 +1,6 @@
 -- What is kept is kept along the line, whatever comes of the record.
-use Rattle.std.proofs.Common.{◌<◌, true, false}
+use Rattle.std.proofs.lemmas.Grind.{common_steps}
+use Rattle.std.proofs.Common.{◌<◌, true, false, arith}
 use Rattle.std.proofs.lemmas.Result.{on_ok_weaker}
 use Rattle.sgf_lines.specs.inner.Kept.{IsKeptRecord}
 use Rattle.sgf_lines.proofs.KeptTexts.{record_of_nodes}
@@ -45,3 +46,24 @@ returns-in_ok-follow-in-List-clause-made c = λ old l h held le same.
     on_ok_weaker c.push_list_row.result
     (λ pushed. rw c.in-List.is (row_followed c.args.collection.now l c.args.line.now c.verdict-verdict.result c.push_list_row.new.output.items h verdict (rw c.clear.ensures.items at pushed)))
     c.push_list_row.ensures
+
+pub returns-in_ok-follow-in-List-clause-form : goal.returns-in_ok-follow-in-List-clause-form
+returns-in_ok-follow-in-List-clause-form c = grind (arith, common_steps)
+
+pub returns-in_ok-follow-in-List-clause-wrote : goal.returns-in_ok-follow-in-List-clause-wrote
+returns-in_ok-follow-in-List-clause-wrote c = grind (arith, common_steps)
+
+pub returns-in-Sgf-clause-plays : goal.returns-in-Sgf-clause-plays
+returns-in-Sgf-clause-plays c = grind (arith, common_steps)
+
+pub returns-in-Sgf-clause-form : goal.returns-in-Sgf-clause-form
+returns-in-Sgf-clause-form c = grind (arith, common_steps)
+
+pub returns-in-Sgf-clause-wrote : goal.returns-in-Sgf-clause-wrote
+returns-in-Sgf-clause-wrote c = grind (arith, common_steps)
+
+pub returns-in_ok-follow-in-Gtp-clause-form : goal.returns-in_ok-follow-in-Gtp-clause-form
+returns-in_ok-follow-in-Gtp-clause-form c = grind (arith, common_steps)
+
+pub returns-in_ok-follow-in-Gtp-clause-wrote : goal.returns-in_ok-follow-in-Gtp-clause-wrote
+returns-in_ok-follow-in-Gtp-clause-wrote c = grind (arith, common_steps)

@@ -4,7 +4,7 @@ use Rattle.sgf_tree.specs.Tree.{node_count}
 use Rattle.sgf_lines.specs.inner.Keeping.{KeepsBefore, left}
 use Rattle.sgf_lines.specs.RunPlays.{plays_of}
 use Rattle.sgf_lines.proofs.Paging.{IsSoFar, page_from}
-use Rattle.sgf_lines.proofs.writing.write_lines.Given as goal
+use Rattle.sgf_lines.proofs.writing.write_by.Given as goal
 
 abbrev pub invariant-page : goal.invariant-page
 invariant-page g l = record {

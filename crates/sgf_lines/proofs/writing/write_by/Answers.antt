@@ -8,9 +8,9 @@ use Rattle.sgf_tree.specs.declared.fault.MemoryFault.{MemoryFault}
 use Rattle.sgf_lines.specs.inner.Running.{HasRecord}
 use Rattle.sgf_lines.specs.inner.Keeping.{record_in, PlaysLine, left}
 use Rattle.sgf_lines.specs.declared.fault.RunFault.TheVariants.{Write, Memory}
-use Rattle.sgf_lines.proofs.Paging.{one_written, cut_short, limit_met, for_options}
+use Rattle.sgf_lines.proofs.Paging.{one_written, cut_short, cut_between, none_left, limit_met, for_options}
 use Rattle.sgf_lines.proofs.PagingPlays.{one_played, played_then_cut, played_in_part, all_played, plays_for_options}
-use Rattle.sgf_lines.proofs.writing.write_lines.Goals as goal
+use Rattle.sgf_lines.proofs.writing.write_by.Goals as goal
 
 pub page-preserved : goal.page-preserved
 page-preserved g c =
@@ -83,3 +83,24 @@ returns-clause-answer g c =
     (g.T.Sink.state c.page.sink) (Ok c.page.lines) limit
     (limit_met c.args.options.now.form c.args.collection.now c.args.cursor.now.index c.unwrap_or-limit.result (g.T.Sink.state c.args.sink.now) c.page.lines c.page.cursor
     (g.T.Sink.state c.page.sink) c.page.invariant.written (omega (arith, c.page-test.false)))
+
+pub next-requires-clause-keeps : goal.next-requires-clause-keeps
+next-requires-clause-keeps g c = c.page.invariant.keeps
+
+pub returns-in-Err-clause-answer : goal.returns-in-Err-clause-answer
+returns-in-Err-clause-answer g c =
+    let limit : c.unwrap_or-limit.result ≡ unwrap_or c.args.options.now.limit (node_count c.args.collection.now) =
+    c.unwrap_or-limit.ensures ∙ ap (unwrap_or c.args.options.now.limit) c.nodes.ensures.count in
+    for_options c.args.options.now.form c.args.collection.now c.args.cursor.now.index c.args.options.now.limit c.unwrap_or-limit.result (g.T.Sink.state c.args.sink.now)
+    (g.T.Sink.state c.page.sink) (Err (Memory c.page.lines)) limit
+    (cut_between c.args.options.now.form c.args.collection.now c.args.cursor.now.index c.unwrap_or-limit.result (g.T.Sink.state c.args.sink.now) c.page.lines c.page.cursor
+    (g.T.Sink.state c.page.sink) c.page.invariant.written)
+
+pub returns-in-Ok-false-clause-answer : goal.returns-in-Ok-false-clause-answer
+returns-in-Ok-false-clause-answer g c =
+    let limit : c.unwrap_or-limit.result ≡ unwrap_or c.args.options.now.limit (node_count c.args.collection.now) =
+    c.unwrap_or-limit.ensures ∙ ap (unwrap_or c.args.options.now.limit) c.nodes.ensures.count in
+    for_options c.args.options.now.form c.args.collection.now c.args.cursor.now.index c.args.options.now.limit c.unwrap_or-limit.result (g.T.Sink.state c.args.sink.now)
+    (g.T.Sink.state c.page.sink) (Ok c.page.lines) limit
+    (none_left c.args.options.now.form c.args.collection.now c.args.cursor.now.index c.unwrap_or-limit.result (g.T.Sink.state c.args.sink.now) c.page.lines c.page.cursor
+    (g.T.Sink.state c.page.sink) c.page.invariant.written (rw c.in-Ok-false.field-0-test at c.in-Ok-false.ensures.made))
