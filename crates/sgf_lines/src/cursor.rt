@@ -173,12 +173,20 @@ mod tests {
     use std::process::Abort;
     use std::test::Fail;
 
+    /// A game of two lines, which end at the places 8 and 22.
+    const BRANCHES: &[u8] = b"(;SZ[3](;B[aa])(;B[bb];W[aa]))";
+
     #[test]
     fn cursor_ends_and_stays(rt: HostRuntime) -> Result<(), Fail> {
-        let collection = read(rt.alloc(), b"(;SZ[3](;B[aa])(;B[bb];W[aa]))")?;
+        let collection = read(rt.alloc(), BRANCHES)?;
         let mut cursor = Cursor::new(rt.alloc(), &collection);
-        expect_line(&rt, cursor.next()?, &[0, 1], 8);
-        expect_line(&rt, cursor.next()?, &[0, 2, 3], 22);
+        ends_and_stays(&rt, &mut cursor)
+    }
+
+    /// The cursor gives both lines, and then none however often it is asked.
+    fn ends_and_stays(rt: &impl Abort, cursor: &mut Cursor<'_, '_>) -> Result<(), Fail> {
+        expect_line(rt, cursor.next()?, &[0, 1], 8);
+        expect_line(rt, cursor.next()?, &[0, 2, 3], 22);
         assert!(rt; cursor.next()?.is_none());
         assert!(rt; cursor.next()?.is_none());
         Ok(())
@@ -186,14 +194,19 @@ mod tests {
 
     #[test]
     fn seeks_from_anywhere(rt: HostRuntime) -> Result<(), Fail> {
-        let collection = read(rt.alloc(), b"(;SZ[3](;B[aa])(;B[bb];W[aa]))")?;
+        let collection = read(rt.alloc(), BRANCHES)?;
         let mut cursor = Cursor::new(rt.alloc(), &collection);
+        seeks(&rt, &mut cursor)
+    }
+
+    /// The cursor goes behind the first line, the last one and the first one again.
+    fn seeks(rt: &impl Abort, cursor: &mut Cursor<'_, '_>) -> Result<(), Fail> {
         for (place, is_last) in [(8, false), (22, true), (8, false)] {
             cursor.seek_after(place)?;
             if is_last {
                 assert!(rt; cursor.next()?.is_none());
             } else {
-                expect_line(&rt, cursor.next()?, &[0, 2, 3], 22);
+                expect_line(rt, cursor.next()?, &[0, 2, 3], 22);
             }
         }
         Ok(())
@@ -201,11 +214,16 @@ mod tests {
 
     #[test]
     fn stays_after_a_refused_place(rt: HostRuntime) -> Result<(), Fail> {
-        let collection = read(rt.alloc(), b"(;SZ[3](;B[aa])(;B[bb];W[aa]))")?;
+        let collection = read(rt.alloc(), BRANCHES)?;
         let mut cursor = Cursor::new(rt.alloc(), &collection);
+        stays(&rt, &mut cursor)
+    }
+
+    /// Where no line has a place the cursor stands where it stood.
+    fn stays(rt: &impl Abort, cursor: &mut Cursor<'_, '_>) -> Result<(), Fail> {
         cursor.seek_after(8)?;
         assert!(rt; cursor.seek_after(16) == Err(SeekFault::NoSuchLine { place: 16 }));
-        expect_line(&rt, cursor.next()?, &[0, 2, 3], 22);
+        expect_line(rt, cursor.next()?, &[0, 2, 3], 22);
         Ok(())
     }
 

@@ -11,14 +11,11 @@ fn small_counts(rt: HostRuntime) {
         nodes: 4,
         lines: 2,
     };
-    assert_eq!(rt; count(rt.alloc(), &mut source), Ok(counts));
+    assert!(rt; count(rt.alloc(), &mut source) == Ok(counts));
     let mut sink = ArraySink::<6>::new();
-    assert_eq!(rt; write_counts(&mut sink, &counts), Ok(()));
-    assert_eq!(rt; sink.as_slice(), b"1 4 2\n".as_slice());
+    assert!(rt; write_counts(&mut sink, &counts) == Ok(()));
+    assert!(rt; sink.as_slice() == b"1 4 2\n".as_slice());
     let mut sink = ArraySink::<3>::new();
-    assert_eq!(rt;
-        write_counts(&mut sink, &counts),
-        Err(RunFault::Write { lines: 0 })
-    );
-    assert_eq!(rt; sink.as_slice(), b"1 4".as_slice());
+    assert!(rt; write_counts(&mut sink, &counts) == Err(RunFault::Write { lines: 0 }));
+    assert!(rt; sink.as_slice() == b"1 4".as_slice());
 }

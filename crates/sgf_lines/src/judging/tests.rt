@@ -5,6 +5,7 @@ use crate::Verdict;
 use go_board::Reason;
 use sgf_tree::read;
 use std::alloc::Global;
+use std::process::Abort;
 
 fn open(black: u32, white: u32) -> Verdict {
     Verdict::Score {
@@ -40,6 +41,11 @@ fn verdict(alloc: Global, text: &[u8], leaf: usize) -> Option<Verdict> {
     }
 }
 
+/// The line that ends in a node has that verdict.
+fn is_judged(rt: &impl Abort, alloc: Global, text: &[u8], leaf: usize, wanted: Verdict) {
+    assert_eq!(rt; verdict(alloc, text, leaf), Some(wanted), "of {text:?}");
+}
+
 /// The area scores of the last board, and whether two passes ended the game.
 #[test]
 fn scores(rt: HostRuntime) {
@@ -61,7 +67,7 @@ fn scores(rt: HostRuntime) {
         (b"(;SZ[3];B[](;W[])(;W[bb])(;AE[aa];W[]))", 5, open(0, 0)),
         (b"(;SZ[9];B[];W[])", 2, over(0, 0)),
     ] {
-        assert_eq!(rt; verdict(rt.alloc(), text, leaf), Some(wanted));
+        is_judged(&rt, rt.alloc(), text, leaf, wanted);
     }
 }
 
@@ -100,10 +106,7 @@ fn reasons(rt: HostRuntime) {
             Reason::Repeat,
         ),
     ] {
-        assert_eq!(rt;
-            verdict(rt.alloc(), text, leaf),
-            Some(illegal(turn, place, reason))
-        );
+        is_judged(&rt, rt.alloc(), text, leaf, illegal(turn, place, reason));
     }
 }
 
@@ -123,6 +126,6 @@ fn sizes(rt: HostRuntime) {
         (b"(;SZ[52];B[ZZ])", 1, open(2704, 0)),
         (b"(;SZ[52];B[tt])", 1, open(2704, 0)),
     ] {
-        assert_eq!(rt; verdict(rt.alloc(), text, leaf), Some(wanted));
+        is_judged(&rt, rt.alloc(), text, leaf, wanted);
     }
 }

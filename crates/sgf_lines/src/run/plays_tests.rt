@@ -1,6 +1,8 @@
 //! How many nodes small runs play.
 
 use crate::{ArraySink, Form, Options, Plays, RunFault, SliceSource, split_counted};
+use std::alloc::Global;
+use std::process::Abort;
 
 /// A game of two lines, which end at the places 8 and 22.
 const BRANCHES: &[u8] = b"(;SZ[3](;B[aa])(;B[bb];W[aa]))";
@@ -85,12 +87,23 @@ fn small_runs(rt: HostRuntime) {
             after,
             limit: None,
         };
-        let mut plays = Plays::new();
-        let mut sink = ArraySink::<100>::new();
-        let mut source = SliceSource::new(text);
-        let result = split_counted(rt.alloc(), &mut source, &mut sink, &options, &mut plays);
-        assert_eq!(rt; result, answer);
-        assert_eq!(rt; sink.as_slice(), written);
-        assert_eq!(rt; plays.count(), count);
+        plays(&rt, rt.alloc(), text, &options, (written, answer, count));
     }
+}
+
+/// A run over a text writes these bytes, gives this answer and plays so many nodes.
+fn plays(
+    rt: &impl Abort,
+    alloc: Global,
+    text: &[u8],
+    options: &Options,
+    want: (&[u8], Result<u64, RunFault>, u64),
+) {
+    let mut plays = Plays::new();
+    let mut sink = ArraySink::<100>::new();
+    let mut source = SliceSource::new(text);
+    let result = split_counted(alloc, &mut source, &mut sink, options, &mut plays);
+    assert!(rt; sink.as_slice() == want.0, "the output over {text:?}");
+    assert!(rt; result == want.1, "the answer over {text:?}");
+    assert!(rt; plays.count() == want.2, "the plays over {text:?}");
 }

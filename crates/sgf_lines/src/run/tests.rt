@@ -5,6 +5,7 @@ use crate::counting::count;
 use crate::{ArraySink, Form, Options, ReadSource, RunFault, SliceSource, WriteSink};
 use std::alloc::Global;
 use std::io::{self, ErrorKind, Read, Write};
+use std::process::Abort;
 
 /// A game of two lines, which end at the places 8 and 22.
 const BRANCHES: &[u8] = b"(;SZ[3](;B[aa])(;B[bb];W[aa]))";
@@ -32,6 +33,20 @@ fn run(alloc: Global, text: &[u8], options: &Options) -> (Vec<u8>, Result<u64, R
     (sink.into_inner(), answer)
 }
 
+/// A run over a text writes these bytes, and gives this answer.
+fn writes(
+    rt: &impl Abort,
+    alloc: Global,
+    text: &[u8],
+    options: &Options,
+    written: &[u8],
+    answer: Result<u64, RunFault>,
+) {
+    let (output, result) = run(alloc, text, options);
+    assert!(rt; output.as_slice() == written, "the output over {text:?}");
+    assert!(rt; result == answer, "the answer over {text:?}");
+}
+
 #[test]
 fn pages(rt: HostRuntime) {
     for (after, limit, written, answer) in [
@@ -55,9 +70,14 @@ fn pages(rt: HostRuntime) {
             Err(RunFault::NoSuchLine { place: u64::MAX }),
         ),
     ] {
-        let (output, result) = run(rt.alloc(), BRANCHES, &games(after, limit));
-        assert_eq!(rt; output.as_slice(), written);
-        assert_eq!(rt; result, answer);
+        writes(
+            &rt,
+            rt.alloc(),
+            BRANCHES,
+            &games(after, limit),
+            written,
+            answer,
+        );
     }
 }
 
@@ -68,16 +88,15 @@ fn rows(rt: HostRuntime) {
         after: None,
         limit: None,
     };
-    for (text, written) in [
+    for (text, written, lines) in [
         (
             BRANCHES,
             b"8 1 2 score 9 0 open\n22 1 3 score 1 1 open\n".as_slice(),
+            2,
         ),
-        (b"(;SZ[1];B[aa])", b"7 1 2 illegal 1 7 repeat\n"),
+        (b"(;SZ[1];B[aa])", b"7 1 2 illegal 1 7 repeat\n", 1),
     ] {
-        let (output, result) = run(rt.alloc(), text, &options);
-        assert_eq!(rt; output.as_slice(), written);
-        assert!(rt; result.is_ok());
+        writes(&rt, rt.alloc(), text, &options, written, Ok(lines));
     }
 }
 
@@ -121,25 +140,29 @@ fn scripts(rt: HostRuntime) {
         ),
         (b"(;SZ[26]C[x];B[aa])", b"# 12 1 2 score 676 0 open\n\n"),
     ] {
-        let (output, result) = run(rt.alloc(), text, &options);
-        assert_eq!(rt; output.as_slice(), written);
-        assert_eq!(rt; result, Ok(1));
+        writes(&rt, rt.alloc(), text, &options, written, Ok(1));
     }
 }
 
 #[test]
 fn single_lines(rt: HostRuntime) {
-    for (text, written) in [
+    for (text, written, lines) in [
         (
             b"(;GaMe[1]C[a\\]b] ;B[aa])".as_slice(),
             b"(;GM[1]C[a\\]b];B[aa])\n".as_slice(),
+            1,
         ),
-        (b"(;SZ[1])(;SZ[2])", b"(;SZ[1])\n(;SZ[2])\n"),
-        (b"(;)", b"(;)\n"),
+        (b"(;SZ[1])(;SZ[2])", b"(;SZ[1])\n(;SZ[2])\n", 2),
+        (b"(;)", b"(;)\n", 1),
     ] {
-        let (output, result) = run(rt.alloc(), text, &games(None, None));
-        assert_eq!(rt; output.as_slice(), written);
-        assert!(rt; result.is_ok());
+        writes(
+            &rt,
+            rt.alloc(),
+            text,
+            &games(None, None),
+            written,
+            Ok(lines),
+        );
     }
 }
 
@@ -151,9 +174,8 @@ fn faulty_texts(rt: HostRuntime) {
         (b"(;SZ[3])x", 8, 9),
         (b"(;B[aa](;W[bb]);B[cc])", 15, 22),
     ] {
-        let (output, result) = run(rt.alloc(), text, &games(None, None));
-        assert!(rt; output.is_empty());
-        assert_eq!(rt; result, Err(RunFault::NotSgf { at, len }));
+        let answer = Err(RunFault::NotSgf { at, len });
+        writes(&rt, rt.alloc(), text, &games(None, None), b"", answer);
     }
 }
 
@@ -183,13 +205,18 @@ fn sinks_that_fail(rt: HostRuntime) {
         let mut source = SliceSource::new(BRANCHES);
         let mut sink = WriteSink::new(Trickle { room });
         let result = split(rt.alloc(), &mut source, &mut sink, &games(None, None));
-        assert_eq!(rt; result, Err(RunFault::Write { lines }));
+        assert!(rt; result == Err(RunFault::Write { lines }), "room for {room}");
     }
+}
+
+/// A sink over an array has taken what it has room for.
+#[test]
+fn sinks_that_are_full(rt: HostRuntime) {
     let mut sink = ArraySink::<20>::new();
     let mut source = SliceSource::new(BRANCHES);
     let result = split(rt.alloc(), &mut source, &mut sink, &games(None, None));
-    assert_eq!(rt; result, Err(RunFault::Write { lines: 1 }));
-    assert_eq!(rt; sink.as_slice(), b"(;SZ[3];B[aa])\n(;SZ[".as_slice());
+    assert!(rt; result == Err(RunFault::Write { lines: 1 }));
+    assert!(rt; sink.as_slice() == b"(;SZ[3];B[aa])\n(;SZ[".as_slice());
 }
 
 /// Gives two bytes a call, so often, and then fails.
@@ -216,9 +243,9 @@ fn sources_that_fail(rt: HostRuntime) {
         let mut source = ReadSource::new(Failing { calls });
         let mut sink = ArraySink::<8>::new();
         let result = split(rt.alloc(), &mut source, &mut sink, &games(None, None));
-        assert_eq!(rt; result, Err(RunFault::Read));
+        assert!(rt; result == Err(RunFault::Read));
         assert!(rt; sink.as_slice().is_empty());
         let mut source = ReadSource::new(Failing { calls });
-        assert_eq!(rt; count(rt.alloc(), &mut source), Err(RunFault::Read));
+        assert!(rt; count(rt.alloc(), &mut source) == Err(RunFault::Read));
     }
 }
