@@ -147,52 +147,74 @@ impl<'a> Collection<'a> {
 #[cfg(test)]
 mod tests {
     use super::*;
+    use crate::fault::MemoryFault;
+    use crate::property::PropRef;
     use crate::reader::long::LONG;
     use crate::reader::read;
     use std::alloc::Global;
+    use std::process::Abort;
     use std::test::Fail;
 
-    #[test]
-    fn reads_nodes_in_file_order(rt: HostRuntime) -> Result<(), Fail> {
-        let c = read(rt.alloc(), b"(;SZ[3](;B[aa])(;B[bb];W[aa]))")?;
-        assert_eq!(rt; c.games(), 1);
-        assert_eq!(rt; c.nodes(), 4);
-        for (i, want) in [
+    /// What is told of a node: its parent, its place, whether it is a leaf, its game and the last node below it.
+    type Told = (Option<usize>, usize, bool, usize, usize);
+
+    /// This is told of node `i`.
+    fn is_told(c: &Collection<'_>, i: usize, want: Told) -> bool {
+        i < c.nodes()
+            && (
+                c.parent(i),
+                c.place(i),
+                c.is_leaf(i),
+                c.game_of(i),
+                c.last_below(i),
+            ) == want
+    }
+
+    /// Four nodes of one game are told of so.
+    fn tells(rt: &impl Abort, c: &Collection<'_>) {
+        const NODES: [(usize, Told); 4] = [
             (0, (None, 1, false, 1, 3)),
             (1, (Some(0), 8, true, 1, 1)),
             (2, (Some(0), 16, false, 1, 3)),
             (3, (Some(2), 22, true, 1, 3)),
-        ] {
-            if i < c.nodes() {
-                let node = (
-                    c.parent(i),
-                    c.place(i),
-                    c.is_leaf(i),
-                    c.game_of(i),
-                    c.last_below(i),
-                );
-                assert_eq!(rt; node, want, "of node {i}");
-            }
+        ];
+        assert!(rt; c.games() == 1 && c.nodes() == 4);
+        for &(i, want) in &NODES {
+            assert!(rt; is_told(c, i, want), "of node {i}");
         }
+    }
+
+    #[test]
+    fn reads_nodes_in_file_order(rt: HostRuntime) -> Result<(), Fail> {
+        let c = read(rt.alloc(), b"(;SZ[3](;B[aa])(;B[bb];W[aa]))")?;
+        tells(&rt, &c);
         Ok(())
+    }
+
+    /// The nodes have these places and are in these games.
+    fn has_nodes(c: &Collection<'_>, want: &[(usize, usize)]) -> bool {
+        let mut i = 0;
+        for &(place, game) in want {
+            if i >= c.nodes() || c.place(i) != place || c.game_of(i) != game {
+                return false;
+            }
+            i += 1;
+        }
+        i == c.nodes()
     }
 
     #[test]
     fn numbers_games(rt: HostRuntime) -> Result<(), Fail> {
+        const NODES: [(usize, usize); 6] = [(1, 1), (5, 2), (7, 2), (10, 2), (11, 2), (15, 3)];
         let c = read(rt.alloc(), b"(;)\n(;(;)(;;))(;)")?;
-        assert_eq!(rt; c.games(), 3);
-        let mut games = Vec::new(rt.alloc());
-        for i in 0..c.nodes() {
-            games.push(c.game_of(i))?;
-        }
-        assert_eq!(rt; games.as_slice(), [1, 2, 2, 2, 2, 3].as_slice());
+        assert!(rt; c.games() == 3 && has_nodes(&c, &NODES));
         Ok(())
     }
 
     /// A text of one value that isn't long and three that are.
-    fn text_of_values(alloc: Global, short: &[u8], long: &[u8]) -> Result<Vec<u8>, Fail> {
+    fn text_of_values(alloc: Global, short: &[u8], long: &[u8]) -> Result<Vec<u8>, MemoryFault> {
         let mut text = b"(;C[".to_vec(alloc)?;
-        for (value, after) in [
+        for &(value, after) in &[
             (short, "]N["),
             (long, "] ["),
             (long, "]W[aa];C["),
@@ -204,62 +226,85 @@ mod tests {
         Ok(text)
     }
 
-    /// The names of a node's first properties, each with a letter for its first value.
-    fn push_first_values(
-        node: NodeRef<'_>,
-        short: &[u8],
-        long: &[u8],
-        seen: &mut Vec<u8>,
-    ) -> Result<(), Fail> {
-        let mut properties = node.iter();
-        for _ in 0..3 {
-            let Some(property) = properties.next() else {
-                return Ok(());
-            };
-            property.push_name(seen)?;
-            let value = property.value(0);
-            seen.push(if value == short {
-                b's'
-            } else if value == long {
-                b'l'
-            } else {
-                b'.'
-            })?;
+    /// The property is there, and has this name and this first value.
+    fn is_property(property: Option<PropRef<'_>>, name: &str, value: &[u8]) -> bool {
+        match property {
+            Some(property) => property.is(name.as_bytes()) && property.value(0) == value,
+            None => false,
         }
-        Ok(())
+    }
+
+    /// The first of two nodes has the first values of the text of these values.
+    fn has_first_node(c: &Collection<'_>, short: &[u8], long: &[u8]) -> bool {
+        if c.nodes() != 2 {
+            return false;
+        }
+        let mut properties = c.node(0).iter();
+        is_property(properties.next(), "C", short)
+            && is_property(properties.next(), "N", long)
+            && is_property(properties.next(), "W", b"aa")
+    }
+
+    /// The last of two nodes has the first values of the text of these values.
+    fn has_last_node(c: &Collection<'_>, long: &[u8]) -> bool {
+        if c.nodes() != 2 {
+            return false;
+        }
+        let mut properties = c.node(1).iter();
+        is_property(properties.next(), "C", long)
+            && is_property(properties.next(), "B", b"bb")
+            && properties.next().is_none()
+    }
+
+    /// The text is that of these values, and where the three long ones end is kept.
+    fn reads_ends(alloc: Global, text: &[u8], short: &[u8], long: &[u8]) -> bool {
+        match read(alloc, text) {
+            Ok(c) => c.long.len() == 3
+                && has_first_node(&c, short, long)
+                && has_last_node(&c, long),
+            Err(_) => false,
+        }
+    }
+
+    /// Where the three long ones end is kept of the text of these values.
+    fn gives_ends(alloc: Global, short: &[u8], long: &[u8]) -> bool {
+        match text_of_values(alloc, short, long) {
+            Ok(text) => reads_ends(alloc, &text, short, long),
+            Err(_) => false,
+        }
     }
 
     /// Values of one byte less than a long one has, and longer ones full of escaped brackets.
     #[test]
     fn keeps_where_long_values_end(rt: HostRuntime) -> Result<(), Fail> {
-        let mut short = Vec::new(rt.alloc());
-        short.resize(LONG - 1, b'a')?;
+        let short = b"a".repeat(rt.alloc(), LONG - 1)?;
         let long = b"\\]".repeat(rt.alloc(), LONG / 2)?;
-        let text = text_of_values(rt.alloc(), &short, &long)?;
-        let c = read(rt.alloc(), &text)?;
-        assert!(rt; c.long.len() == 3);
-        let mut seen = Vec::new(rt.alloc());
-        for i in 0..c.nodes() {
-            push_first_values(c.node(i), &short, &long, &mut seen)?;
-        }
-        assert_eq!(rt; seen.as_slice(), b"CsNlW.ClB.".as_slice());
+        assert!(rt; gives_ends(rt.alloc(), &short, &long));
         Ok(())
     }
 
-    #[test]
-    fn places_count_the_mark_and_white_space(rt: HostRuntime) -> Result<(), Fail> {
-        for (text, want) in [
-            (b"\xEF\xBB\xBF(;)".as_slice(), [4].as_slice()),
-            (b" ( ; SZ [3] ; B [bb] ) ".as_slice(), [3, 12].as_slice()),
-            (b"(;C[]\x0B[a]\x0C\r\n;)\t".as_slice(), [1, 12].as_slice()),
-        ] {
-            let c = read(rt.alloc(), text)?;
-            let mut places = Vec::new(rt.alloc());
-            for i in 0..c.nodes() {
-                places.push(c.place(i))?;
-            }
-            assert_eq!(rt; places.as_slice(), want, "of {text:?}");
+    /// The text has these nodes.
+    fn gives_nodes(alloc: Global, text: &[u8], want: &[(usize, usize)]) -> bool {
+        match read(alloc, text) {
+            Ok(c) => has_nodes(&c, want),
+            Err(_) => false,
         }
-        Ok(())
+    }
+
+    #[test]
+    fn places_count_the_mark_and_white_space(rt: HostRuntime) {
+        for &(text, want) in &[
+            (b"\xEF\xBB\xBF(;)".as_slice(), [(4, 1)].as_slice()),
+            (
+                b" ( ; SZ [3] ; B [bb] ) ".as_slice(),
+                [(3, 1), (12, 1)].as_slice(),
+            ),
+            (
+                b"(;C[]\x0B[a]\x0C\r\n;)\t".as_slice(),
+                [(1, 1), (12, 1)].as_slice(),
+            ),
+        ] {
+            assert!(rt; gives_nodes(rt.alloc(), text, want), "of {text:?}");
+        }
     }
 }

@@ -283,51 +283,67 @@ fn written_values_end(text: &[u8], at: usize, long: &Vec<LongValue>) -> Option<u
 #[cfg(test)]
 mod tests {
     use super::*;
+    use crate::collection::Collection;
+    use crate::given::is_text;
     use crate::reader::read;
+    use std::alloc::Global;
     use std::test::Fail;
+
+    /// The values are these, and then there is none, again and again.
+    fn are_values(mut values: Values<'_>, want: &[&str]) -> bool {
+        for value in want {
+            if !is_text(values.next(), Some(*value)) {
+                return false;
+            }
+        }
+        values.next().is_none() && values.next().is_none()
+    }
+
+    /// The next property has this name and these values.
+    fn is_next(properties: &mut Properties<'_>, name: &str, want: &[&str]) -> bool {
+        match properties.next() {
+            Some(property) => property.is(name.as_bytes()) && are_values(property.iter(), want),
+            None => false,
+        }
+    }
+
+    /// The first of two nodes has the properties `AB[aa][bb]` and `C[x\]y]`.
+    fn has_two(c: &Collection<'_>) -> bool {
+        if c.nodes() != 2 {
+            return false;
+        }
+        let mut properties = c.node(0).iter();
+        is_next(&mut properties, "AB", &["aa", "bb"])
+            && is_next(&mut properties, "C", &["x\\]y"])
+            && properties.next().is_none()
+    }
 
     #[test]
     fn steps_forward(rt: HostRuntime) -> Result<(), Fail> {
         let c = read(rt.alloc(), b"(; AB [aa]\n[bb] C[x\\]y] ;PL[B])")?;
-        assert_eq!(rt; c.nodes(), 2);
-        let mut properties = c.node(0).iter();
-        let mut seen = Vec::new(rt.alloc());
-        for _ in 0..3 {
-            let Some(property) = properties.next() else {
-                seen.push(b'.')?;
-                continue;
-            };
-            property.push_name(&mut seen)?;
-            let mut values = property.iter();
-            for _ in 0..3 {
-                let Some(value) = values.next() else {
-                    seen.push(b';')?;
-                    continue;
-                };
-                seen.push(b' ')?;
-                seen.extend_from_slice(value)?;
-            }
-        }
-        assert_eq!(rt; seen.as_slice(), b"AB aa bb;C x\\]y;;.".as_slice());
+        assert!(rt; has_two(&c));
         Ok(())
     }
 
-    #[test]
-    fn takes_off_what_is_written(rt: HostRuntime) -> Result<(), Fail> {
-        for (text, want) in [
-            (
-                b"(;B[aa]C[x\\]][y] W[bb])".as_slice(),
-                b"B[aa]C[x\\]][y]".as_slice(),
-            ),
-            (b"(;B[aa]AB[a] [b])".as_slice(), b"B[aa]".as_slice()),
-            (b"(;GaMe[1]B[aa])".as_slice(), b"".as_slice()),
-            (b"(;\nB[aa]PL[W]\n)".as_slice(), b"B[aa]PL[W]".as_slice()),
-            (b"(;)".as_slice(), b"".as_slice()),
-        ] {
-            let c = read(rt.alloc(), text)?;
-            assert_eq!(rt; c.nodes(), 1);
-            assert_eq!(rt; c.node(0).iter().written(), want, "of {text:?}");
+    /// This is taken off the properties of the text's one node.
+    fn takes_off(alloc: Global, text: &str, want: &str) -> bool {
+        match read(alloc, text.as_bytes()) {
+            Ok(c) => c.nodes() == 1 && c.node(0).iter().written() == want.as_bytes(),
+            Err(_) => false,
         }
-        Ok(())
+    }
+
+    #[test]
+    fn takes_off_what_is_written(rt: HostRuntime) {
+        const TEXTS: [(&str, &str); 5] = [
+            ("(;B[aa]C[x\\]][y] W[bb])", "B[aa]C[x\\]][y]"),
+            ("(;B[aa]AB[a] [b])", "B[aa]"),
+            ("(;GaMe[1]B[aa])", ""),
+            ("(;\nB[aa]PL[W]\n)", "B[aa]PL[W]"),
+            ("(;)", ""),
+        ];
+        for &(text, want) in &TEXTS {
+            assert!(rt; takes_off(rt.alloc(), text, want), "of {text:?}");
+        }
     }
 }

@@ -142,129 +142,163 @@ impl<'a> NodeRef<'a> {
 
 #[cfg(test)]
 mod tests {
+    use super::*;
+    use crate::collection::Collection;
     use crate::given::is_text;
-    use crate::iter::Properties;
     use crate::reader::read;
+    use std::alloc::Global;
     use std::test::Fail;
 
-    /// The first value of the next property.
-    fn first_value<'c>(properties: &mut Properties<'c>) -> Option<&'c [u8]> {
-        match properties.next() {
+    /// The first value of the property.
+    fn first_value<'c>(property: Option<PropRef<'c>>) -> Option<&'c [u8]> {
+        match property {
             Some(property) => Some(property.value(0)),
             None => None,
         }
     }
 
+    /// The only node's first property of that name has this value, or none is there.
+    fn has_first(c: &Collection<'_>, name: &str, want: Option<&str>) -> bool {
+        c.nodes() == 1 && is_text(first_value(c.node(0).first(name.as_bytes())), want)
+    }
+
     #[test]
     fn finds_the_first_property_of_a_name(rt: HostRuntime) -> Result<(), Fail> {
-        let c = read(rt.alloc(), b"(;GM[1]AB[aa]GaMe[2])")?;
-        assert_eq!(rt; c.nodes(), 1);
-        let node = c.node(0);
-        for (name, want) in [
+        const NAMES: [(&str, Option<&str>); 5] = [
             ("GM", Some("1")),
             ("AB", Some("aa")),
             ("GaMe", None),
             ("A", None),
             ("", None),
-        ] {
-            let value = node
-                .first(name.as_bytes())
-                .map(|property| property.value(0));
-            assert!(rt; is_text(value, want), "of {name:?}");
+        ];
+        let c = read(rt.alloc(), b"(;GM[1]AB[aa]GaMe[2])")?;
+        for &(name, want) in &NAMES {
+            assert!(rt; has_first(&c, name, want), "of {name:?}");
         }
         Ok(())
     }
 
-    #[test]
-    fn gives_a_lone_property(rt: HostRuntime) -> Result<(), Fail> {
-        for (text, want) in [
-            (b"(;B[pd])".as_slice(), Some((b'B', "pd"))),
-            (b"(;B[pd];)".as_slice(), Some((b'B', "pd"))),
-            (b"(;B[pd] \n;)".as_slice(), Some((b'B', "pd"))),
-            (b"(;W[[:](;))".as_slice(), Some((b'W', "[:"))),
-            (b"(;)".as_slice(), None),
-            (b"(;B[])".as_slice(), None),
-            (b"(;B[p])".as_slice(), None),
-            (b"(;B[\\d])".as_slice(), None),
-            (b"(;B[p\\]])".as_slice(), None),
-            (b"(;B[pdq])".as_slice(), None),
-            (b"(;AB[pd])".as_slice(), None),
-            (b"(;B[pd][dp])".as_slice(), None),
-            (b"(;B[pd] [dp])".as_slice(), None),
-            (b"(;B[pd]C[x])".as_slice(), None),
-            (b"(;B[pd] C[x])".as_slice(), None),
-            (b"(; B[pd])".as_slice(), None),
-            (b"(;B [pd])".as_slice(), None),
-        ] {
-            let c = read(rt.alloc(), text)?;
-            assert!(rt; c.nodes() > 0);
-            let is_so = match (c.node(0).lone(), want) {
-                (Some((letter, value)), Some(want)) => {
-                    letter == want.0 && value == want.1.as_bytes()
-                }
-                (None, None) => true,
-                _ => false,
-            };
-            assert!(rt; is_so, "of {text:?}");
+    /// The node's lone property is this letter and this value, or it has none.
+    fn has_lone(node: &NodeRef<'_>, want: Option<(u8, &str)>) -> bool {
+        match (node.lone(), want) {
+            (Some((letter, value)), Some(want)) => letter == want.0 && value == want.1.as_bytes(),
+            (None, None) => true,
+            _ => false,
         }
-        Ok(())
+    }
+
+    /// The lone property of the text's first node is this letter and this value, or it has none.
+    fn gives_lone(alloc: Global, text: &str, want: Option<(u8, &str)>) -> bool {
+        match read(alloc, text.as_bytes()) {
+            Ok(c) => c.nodes() > 0 && has_lone(&c.node(0), want),
+            Err(_) => false,
+        }
     }
 
     #[test]
-    fn gives_the_front_of_more(rt: HostRuntime) -> Result<(), Fail> {
-        for (text, want) in [
-            (b"(;B[pd]BL[60])".as_slice(), Some((b'B', "pd", "60"))),
-            (b"(;W[[:]C[x]C[y];)".as_slice(), Some((b'W', "[:", "x"))),
-            (b"(;B[pd]Cc [x])".as_slice(), Some((b'B', "pd", "x"))),
-            (b"(;B[pd])".as_slice(), None),
-            (b"(;B[pd] C[x])".as_slice(), None),
-            (b"(;B[pd][dp]C[x])".as_slice(), None),
-            (b"(;B[pdq]C[x])".as_slice(), None),
-            (b"(;B[\\d]C[x])".as_slice(), None),
-            (b"(;AB[pd]C[x])".as_slice(), None),
-            (b"(; B[pd]C[x])".as_slice(), None),
-        ] {
-            let c = read(rt.alloc(), text)?;
-            assert!(rt; c.nodes() > 0);
-            let is_so = match (c.node(0).front(), want) {
-                (Some((letter, value, mut left)), Some(want)) => {
-                    letter == want.0
-                        && value == want.1.as_bytes()
-                        && is_text(first_value(&mut left), Some(want.2))
-                }
-                (None, None) => true,
-                _ => false,
-            };
-            assert!(rt; is_so, "of {text:?}");
+    fn gives_a_lone_property(rt: HostRuntime) {
+        const LONE: [(&str, (u8, &str)); 4] = [
+            ("(;B[pd])", (b'B', "pd")),
+            ("(;B[pd];)", (b'B', "pd")),
+            ("(;B[pd] \n;)", (b'B', "pd")),
+            ("(;W[[:](;))", (b'W', "[:")),
+        ];
+        const OTHERS: [&str; 13] = [
+            "(;)",
+            "(;B[])",
+            "(;B[p])",
+            "(;B[\\d])",
+            "(;B[p\\]])",
+            "(;B[pdq])",
+            "(;AB[pd])",
+            "(;B[pd][dp])",
+            "(;B[pd] [dp])",
+            "(;B[pd]C[x])",
+            "(;B[pd] C[x])",
+            "(; B[pd])",
+            "(;B [pd])",
+        ];
+        for &(text, want) in &LONE {
+            assert!(rt; gives_lone(rt.alloc(), text, Some(want)), "of {text:?}");
         }
-        Ok(())
+        for &text in &OTHERS {
+            assert!(rt; gives_lone(rt.alloc(), text, None), "of {text:?}");
+        }
+    }
+
+    /// The node's front is this letter and this value, before a property of this first value, or it has none.
+    fn has_front(node: &NodeRef<'_>, want: Option<(u8, &str, &str)>) -> bool {
+        match (node.front(), want) {
+            (Some((letter, value, mut left)), Some(want)) => {
+                letter == want.0
+                    && value == want.1.as_bytes()
+                    && is_text(first_value(left.next()), Some(want.2))
+            }
+            (None, None) => true,
+            _ => false,
+        }
+    }
+
+    /// The front of the text's first node is this one, or it has none.
+    fn gives_front(alloc: Global, text: &str, want: Option<(u8, &str, &str)>) -> bool {
+        match read(alloc, text.as_bytes()) {
+            Ok(c) => c.nodes() > 0 && has_front(&c.node(0), want),
+            Err(_) => false,
+        }
     }
 
     #[test]
-    fn gives_what_is_written(rt: HostRuntime) -> Result<(), Fail> {
-        for (text, want, left) in [
-            (
-                b"(;B[aa]C[x\\]][y])".as_slice(),
-                b";B[aa]C[x\\]][y]".as_slice(),
-                None,
-            ),
-            (
-                b"(;B[aa]C[x] W[bb]GaMe[1])".as_slice(),
-                b";B[aa]C[x]".as_slice(),
-                Some("bb"),
-            ),
-            (b"(; B[aa])".as_slice(), b";".as_slice(), Some("aa")),
-            (b"(;)".as_slice(), b";".as_slice(), None),
-        ] {
-            let c = read(rt.alloc(), text)?;
-            assert_eq!(rt; c.nodes(), 1);
-            let (written, properties) = c.node(0).written();
-            let first = match properties {
-                Some(mut properties) => first_value(&mut properties),
-                None => None,
-            };
-            assert!(rt; written == want && is_text(first, left), "of {text:?}");
+    fn gives_the_front_of_more(rt: HostRuntime) {
+        const FRONTS: [(&str, (u8, &str, &str)); 3] = [
+            ("(;B[pd]BL[60])", (b'B', "pd", "60")),
+            ("(;W[[:]C[x]C[y];)", (b'W', "[:", "x")),
+            ("(;B[pd]Cc [x])", (b'B', "pd", "x")),
+        ];
+        const OTHERS: [&str; 7] = [
+            "(;B[pd])",
+            "(;B[pd] C[x])",
+            "(;B[pd][dp]C[x])",
+            "(;B[pdq]C[x])",
+            "(;B[\\d]C[x])",
+            "(;AB[pd]C[x])",
+            "(; B[pd]C[x])",
+        ];
+        for &(text, want) in &FRONTS {
+            assert!(rt; gives_front(rt.alloc(), text, Some(want)), "of {text:?}");
         }
-        Ok(())
+        for &text in &OTHERS {
+            assert!(rt; gives_front(rt.alloc(), text, None), "of {text:?}");
+        }
+    }
+
+    /// The node is written so, and then has a property of this first value, or none.
+    fn is_written(node: &NodeRef<'_>, want: &str, left: Option<&str>) -> bool {
+        let (written, properties) = node.written();
+        let first = match properties {
+            Some(mut properties) => first_value(properties.next()),
+            None => None,
+        };
+        written == want.as_bytes() && is_text(first, left)
+    }
+
+    /// The text's one node is written so, and then has a property of this first value, or none.
+    fn gives_written(alloc: Global, text: &str, want: &str, left: Option<&str>) -> bool {
+        match read(alloc, text.as_bytes()) {
+            Ok(c) => c.nodes() == 1 && is_written(&c.node(0), want, left),
+            Err(_) => false,
+        }
+    }
+
+    #[test]
+    fn gives_what_is_written(rt: HostRuntime) {
+        const TEXTS: [(&str, &str, Option<&str>); 4] = [
+            ("(;B[aa]C[x\\]][y])", ";B[aa]C[x\\]][y]", None),
+            ("(;B[aa]C[x] W[bb]GaMe[1])", ";B[aa]C[x]", Some("bb")),
+            ("(; B[aa])", ";", Some("aa")),
+            ("(;)", ";", None),
+        ];
+        for &(text, want, left) in &TEXTS {
+            assert!(rt; gives_written(rt.alloc(), text, want, left), "of {text:?}");
+        }
     }
 }

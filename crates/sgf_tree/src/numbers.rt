@@ -42,7 +42,7 @@ mod tests {
 
     #[test]
     fn reads_numbers(rt: HostRuntime) {
-        for (raw, want) in [
+        const NUMBERS: [(&str, Option<i64>); 10] = [
             ("+7", Some(7)),
             ("-0", Some(0)),
             ("-12", Some(-12)),
@@ -53,8 +53,9 @@ mod tests {
             ("", None),
             ("19:19", None),
             ("1 ", None),
-        ] {
-            assert_eq!(rt; number(raw.as_bytes()), want, "of {raw:?}");
+        ];
+        for &(raw, want) in &NUMBERS {
+            assert!(rt; number(raw.as_bytes()) == want, "of {raw:?}");
         }
     }
 }

@@ -128,56 +128,104 @@ fn is_short_name(identifier: &[u8]) -> bool
 
 #[cfg(test)]
 mod tests {
+    use super::*;
+    use crate::collection::Collection;
     use crate::given::{is_text, only_property};
     use crate::reader::read;
+    use std::alloc::Global;
     use std::test::Fail;
+
+    /// The only property has these values.
+    fn has_values(c: &Collection<'_>, want: &[&str]) -> bool {
+        let Some(property) = only_property(c) else {
+            return false;
+        };
+        let mut i = 0;
+        for value in want {
+            if i >= property.values() || property.value(i) != value.as_bytes() {
+                return false;
+            }
+            i += 1;
+        }
+        i == property.values()
+    }
+
+    /// The only property's name appends to what is there, which gives this.
+    fn gives_name(alloc: Global, c: &Collection<'_>, front: &[u8], want: &[u8]) -> bool {
+        let Some(property) = only_property(c) else {
+            return false;
+        };
+        match front.to_vec(alloc) {
+            Ok(mut name) => property.push_name(&mut name).is_ok() && name.as_slice() == want,
+            Err(_) => false,
+        }
+    }
 
     #[test]
     fn names_are_upper_case_letters(rt: HostRuntime) -> Result<(), Fail> {
         let c = read(rt.alloc(), b"(;GaMe[1])")?;
-        let property = only_property(&rt, &c);
-        let mut name = b"x".to_vec(rt.alloc())?;
-        property.push_name(&mut name)?;
-        assert_eq!(rt; name.as_slice(), b"xGM".as_slice());
-        assert!(rt; property.values() == 1);
-        assert!(rt; property.value(0) == b"1".as_slice());
+        assert!(rt; gives_name(rt.alloc(), &c, b"x", b"xGM") && has_values(&c, &["1"]));
         Ok(())
+    }
+
+    /// Whether this is its name is told so of the only property.
+    fn is_told(c: &Collection<'_>, name: &str, want: bool) -> bool {
+        match only_property(c) {
+            Some(property) => property.is(name.as_bytes()) == want,
+            None => false,
+        }
     }
 
     #[test]
     fn knows_its_name(rt: HostRuntime) -> Result<(), Fail> {
+        const NAMES: [(&str, bool); 4] = [
+            ("GM", true),
+            ("GaMe", false),
+            ("G", false),
+            ("GMX", false),
+        ];
         let c = read(rt.alloc(), b"(;GaMe[1])")?;
-        let property = only_property(&rt, &c);
-        for (name, want) in [("GM", true), ("GaMe", false), ("G", false), ("GMX", false)] {
-            assert!(rt; property.is(name.as_bytes()) == want, "of {name:?}");
+        for &(name, want) in &NAMES {
+            assert!(rt; is_told(&c, name, want), "of {name:?}");
         }
         Ok(())
     }
 
+    /// The short name of the only property is this one, or it has none.
+    fn has_short_name(c: &Collection<'_>, want: Option<&str>) -> bool {
+        match only_property(c) {
+            Some(property) => is_text(property.short_name(), want),
+            None => false,
+        }
+    }
+
+    /// The short name of the text's only property is this one, or it has none.
+    fn gives_short_name(alloc: Global, text: &str, want: Option<&str>) -> bool {
+        match read(alloc, text.as_bytes()) {
+            Ok(c) => has_short_name(&c, want),
+            Err(_) => false,
+        }
+    }
+
     #[test]
-    fn gives_short_names(rt: HostRuntime) -> Result<(), Fail> {
-        for (text, want) in [
+    fn gives_short_names(rt: HostRuntime) {
+        const TEXTS: [(&str, Option<&str>); 5] = [
             ("(;B[aa])", Some("B")),
             ("(;BL[9])", Some("BL")),
             ("(;Bl[9])", None),
             ("(;GaMe[1])", None),
             ("(;KGS[9])", None),
-        ] {
-            let c = read(rt.alloc(), text.as_bytes())?;
-            let name = only_property(&rt, &c).short_name();
-            assert!(rt; is_text(name, want), "of {text:?}");
+        ];
+        for &(text, want) in &TEXTS {
+            assert!(rt; gives_short_name(rt.alloc(), text, want), "of {text:?}");
         }
-        Ok(())
     }
 
     #[test]
     fn values_are_raw(rt: HostRuntime) -> Result<(), Fail> {
+        const VALUES: [&str; 3] = ["a\\]b\\\\", "", "c:d ; ( e\n"];
         let c = read(rt.alloc(), b"(;C[a\\]b\\\\] [] [c:d ; ( e\n])")?;
-        let property = only_property(&rt, &c);
-        assert!(rt; property.values() == 3);
-        assert!(rt; property.value(0) == b"a\\]b\\\\".as_slice());
-        assert!(rt; property.value(1).is_empty());
-        assert!(rt; property.value(2) == b"c:d ; ( e\n".as_slice());
+        assert!(rt; has_values(&c, &VALUES));
         Ok(())
     }
 }

@@ -109,11 +109,19 @@ fn spaced(byte: u8) -> u8
 #[cfg(test)]
 mod tests {
     use super::*;
-    use std::test::Fail;
+    use std::alloc::Global;
+
+    /// The raw value appends to what is there, which gives this.
+    fn gives(alloc: Global, front: &[u8], raw: &[u8], want: &[u8]) -> bool {
+        match front.to_vec(alloc) {
+            Ok(mut out) => push_text(raw, &mut out).is_ok() && out.as_slice() == want,
+            Err(_) => false,
+        }
+    }
 
     #[test]
-    fn decodes(rt: HostRuntime) -> Result<(), Fail> {
-        for (raw, want) in [
+    fn decodes(rt: HostRuntime) {
+        const TEXTS: [(&str, &str); 9] = [
             ("a\\\nb", "ab"),
             ("a\\\r\nb", "ab"),
             ("a\tb\r\nc\\:d", "a b\nc:d"),
@@ -123,50 +131,55 @@ mod tests {
             ("\\\t", " "),
             ("x\\", "x"),
             ("", ""),
-        ] {
-            let mut out = Vec::new(rt.alloc());
-            push_text(raw.as_bytes(), &mut out)?;
-            assert_eq!(rt; out.as_slice(), want.as_bytes(), "of {raw:?}");
+        ];
+        for &(raw, want) in &TEXTS {
+            assert!(rt;
+                gives(rt.alloc(), b"", raw.as_bytes(), want.as_bytes()),
+                "of {raw:?}"
+            );
         }
-        Ok(())
+    }
+
+    /// So many plain bytes, the special ones, and more plain bytes than are looked at together.
+    fn among_literals(alloc: Global, plain: usize, special: &str) -> Result<Vec<u8>, MemoryFault> {
+        let mut text = Vec::new(alloc);
+        text.resize(plain, b'a')?;
+        text.extend_from_slice(special.as_bytes())?;
+        text.resize(text.len().wrapping_add(20), b'c')?;
+        Ok(text)
+    }
+
+    /// The special bytes give these, among so many plain ones and others.
+    fn gives_among_literals(alloc: Global, plain: usize, special: &str, want: &str) -> bool {
+        match (
+            among_literals(alloc, plain, special),
+            among_literals(alloc, plain, want),
+        ) {
+            (Ok(raw), Ok(want)) => gives(alloc, b"", &raw, &want),
+            _ => false,
+        }
     }
 
     /// Bytes that are looked at together and those that are left give the same, wherever the first special one stands.
     #[test]
-    fn decodes_after_literals(rt: HostRuntime) -> Result<(), Fail> {
+    fn decodes_after_literals(rt: HostRuntime) {
+        const SPECIAL: [(&str, &str); 5] = [
+            ("", ""),
+            ("\\]b", "]b"),
+            ("\tb", " b"),
+            ("\r\nb", "\nb"),
+            ("\x01b", "\x01b"),
+        ];
         for plain in 0..40 {
-            for (special, want) in [
-                ("", ""),
-                ("\\]b", "]b"),
-                ("\tb", " b"),
-                ("\r\nb", "\nb"),
-                ("\x01b", "\x01b"),
-            ] {
-                let mut raw = Vec::new(rt.alloc());
-                raw.resize(plain, b'a')?;
-                raw.extend_from_slice(special.as_bytes())?;
-                raw.resize(raw.len().wrapping_add(20), b'c')?;
-                let mut decoded = Vec::new(rt.alloc());
-                decoded.resize(plain, b'a')?;
-                decoded.extend_from_slice(want.as_bytes())?;
-                decoded.resize(decoded.len().wrapping_add(20), b'c')?;
-                let mut out = Vec::new(rt.alloc());
-                push_text(&raw, &mut out)?;
-                assert_eq!(rt;
-                    out.as_slice(),
-                    decoded.as_slice(),
-                    "of {plain} and {special:?}"
-                );
+            for &(special, want) in &SPECIAL {
+                let is_so = gives_among_literals(rt.alloc(), plain, special, want);
+                assert!(rt; is_so, "of {plain} and {special:?}");
             }
         }
-        Ok(())
     }
 
     #[test]
-    fn appends(rt: HostRuntime) -> Result<(), Fail> {
-        let mut out = b"x".to_vec(rt.alloc())?;
-        push_text(b"\\\n", &mut out)?;
-        assert_eq!(rt; out.as_slice(), b"x".as_slice());
-        Ok(())
+    fn appends(rt: HostRuntime) {
+        assert!(rt; gives(rt.alloc(), b"x", b"\\\n", b"x"));
     }
 }

@@ -3,17 +3,17 @@
 use super::*;
 use std::test::Fail;
 
-/// The first fault of a text, if that is why it is refused.
-fn faulty_byte(alloc: Global, text: &[u8]) -> Option<usize> {
+/// This byte is the first fault of the text, which is refused for it.
+fn is_first_fault(alloc: Global, text: &[u8], want: usize) -> bool {
     match read(alloc, text) {
-        Err(ReadFault::NotSgf { at }) => Some(at),
-        _ => None,
+        Err(ReadFault::NotSgf { at }) => at == want,
+        _ => false,
     }
 }
 
 #[test]
 fn refuses_at_the_first_fault(rt: HostRuntime) {
-    for (text, at) in [
+    const TEXTS: [(&str, usize); 17] = [
         ("", 0),
         ("(;", 2),
         ("(;C[a\\", 6),
@@ -31,47 +31,69 @@ fn refuses_at_the_first_fault(rt: HostRuntime) {
         ("(;[1])", 2),
         (")", 0),
         (" ", 1),
-    ] {
-        assert_eq!(rt;
-            faulty_byte(rt.alloc(), text.as_bytes()),
-            Some(at),
+    ];
+    for &(text, at) in &TEXTS {
+        assert!(rt;
+            is_first_fault(rt.alloc(), text.as_bytes(), at),
             "of {text:?}"
         );
     }
-    for (text, at) in [
+    for &(text, at) in &[
         (b"\xEF\xBB".as_slice(), 2),
         (b"\xEF".as_slice(), 1),
         (b"\xEFx".as_slice(), 1),
         (b"\xEF\xBB\xBF\xEF\xBB\xBF(;)".as_slice(), 3),
         (b" \xEF\xBB\xBF(;)".as_slice(), 1),
     ] {
-        assert_eq!(rt; faulty_byte(rt.alloc(), text), Some(at), "of {text:?}");
+        assert!(rt; is_first_fault(rt.alloc(), text, at), "of {text:?}");
+    }
+}
+
+const DEPTH: usize = 100_000;
+
+/// A text of games, each in the one before it.
+fn nested(alloc: Global) -> Result<Vec<u8>, Fail> {
+    let mut text = b"(;".repeat(alloc, DEPTH)?;
+    text.resize(3 * DEPTH, b')')?;
+    Ok(text)
+}
+
+/// The text is read, and its last node is below its first.
+fn is_nested(alloc: Global, text: &[u8]) -> bool {
+    match read(alloc, text) {
+        Ok(c) => {
+            c.nodes() == DEPTH && c.place(DEPTH - 1) == 199_999 && c.last_below(0) == DEPTH - 1
+        }
+        Err(_) => false,
     }
 }
 
 #[test]
 fn reads_deep_nesting(rt: HostRuntime) -> Result<(), Fail> {
-    const DEPTH: usize = 100_000;
-    let mut text = Vec::new(rt.alloc());
-    for _ in 0..DEPTH {
-        text.extend_from_slice(b"(;")?;
-    }
-    for _ in 0..DEPTH {
-        text.push(b')')?;
-    }
-    let c = read(rt.alloc(), &text)?;
-    assert_eq!(rt; c.nodes(), DEPTH);
-    assert_eq!(rt; c.place(DEPTH - 1), 199_999);
-    assert_eq!(rt; c.last_below(0), DEPTH - 1);
+    let text = nested(rt.alloc())?;
+    assert!(rt; is_nested(rt.alloc(), &text));
     Ok(())
+}
+
+/// The text is read, and has one node.
+fn has_one_node(alloc: Global, text: &[u8]) -> bool {
+    match read(alloc, text) {
+        Ok(c) => c.nodes() == 1,
+        Err(_) => false,
+    }
+}
+
+/// The text is of one node, and too long with one more white space.
+fn is_longest(alloc: Global, text: &mut Vec<u8>) -> bool {
+    has_one_node(alloc, text)
+        && text.push(b' ').is_ok()
+        && matches!(read(alloc, text), Err(ReadFault::TooLong))
 }
 
 #[test]
 fn reads_up_to_the_limit(rt: HostRuntime) -> Result<(), Fail> {
     let mut text = b"(;)".to_vec(rt.alloc())?;
     text.resize(MAX_LENGTH, b' ')?;
-    assert_eq!(rt; read(rt.alloc(), &text)?.nodes(), 1);
-    text.push(b' ')?;
-    assert!(rt; matches!(read(rt.alloc(), &text), Err(ReadFault::TooLong)));
+    assert!(rt; is_longest(rt.alloc(), &mut text));
     Ok(())
 }

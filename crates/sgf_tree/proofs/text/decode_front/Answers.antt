@@ -7,3 +7,18 @@ returns-in-92-3-clause-decoded c = grind (arith, common_steps)
 
 pub returns-in-13-clause-decoded : goal.returns-in-13-clause-decoded
 returns-in-13-clause-decoded c = grind (arith, common_steps)
+
+pub returns-in-92-clause-decoded : goal.returns-in-92-clause-decoded
+returns-in-92-clause-decoded c = grind (arith, common_steps)
+
+pub returns-in-92-2-clause-decoded : goal.returns-in-92-2-clause-decoded
+returns-in-92-2-clause-decoded c = grind (arith, common_steps)
+
+pub returns-in-13-2-clause-decoded : goal.returns-in-13-2-clause-decoded
+returns-in-13-2-clause-decoded c = grind (arith, common_steps)
+
+pub returns-in-len1-up-clause-decoded : goal.returns-in-len1-up-clause-decoded
+returns-in-len1-up-clause-decoded c = grind (arith, common_steps)
+
+pub returns-in-empty-clause-decoded : goal.returns-in-empty-clause-decoded
+returns-in-empty-clause-decoded c = grind (arith, common_steps)
