@@ -1,3 +1,4 @@
+use Rattle.std.proofs.lemmas.Grind.{common_steps}
 use Rattle.std.proofs.Common.{◌*◌, length, get_or, rules, refl, sym, ap, ◌∙◌, subst, arith}
 use Rattle.std.proofs.lemmas.List.{length-set}
 use Rattle.go_board.specs.declared.stones.Cell.TheVariants.{Black}
@@ -54,3 +55,9 @@ pub returns-clause-on_grid : goal.returns-clause-on_grid
 returns-clause-on_grid c =
     subst (AreOn c.args.board.now.side) (sym c.turn_round.ensures)
     (on_grid-round c.args.board.now.side c.len-start.result c.loop-op.changes.items c.loop-op.invariant.kept.on_grid)
+
+pub returns-clause-there : goal.returns-clause-there
+returns-clause-there c = grind (arith, common_steps)
+
+pub returns-clause-count : goal.returns-clause-count
+returns-clause-count c = grind (arith, common_steps)

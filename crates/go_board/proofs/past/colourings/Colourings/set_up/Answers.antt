@@ -1,3 +1,4 @@
+use Rattle.std.proofs.lemmas.Grind.{common_steps}
 use Rattle.std.proofs.Common.{◌≡◌, ◌++◌, [], ◌∷◌, rules, refl, sym, ap, ◌∙◌, subst, arith}
 use Rattle.go_board.specs.declared.past.changes.Older.{Older}
 use Rattle.go_board.specs.Grid.{Grid}
@@ -19,3 +20,18 @@ invariant_of-self-2 c =
     (subst (λ g. IsPast g 0 (was.older.items ++ kept ∷ []) new) (sym c.prepare.ensures)
     (past-more was.newest h was.older_in_stretch 0 was.older.items kept was.changes.items new (λ more. absurd (omega (arith, more))) refl done.count done.back (done.front ∙ c.in_ok-reserve-2.ensures.items) c.self.invariant c.is_settled-settled.ensures
     (subst (λ n. AreOn n new) (sym side) done.on_grid)))
+
+pub returns-then-not-are_few_points-clause-ok : goal.returns-then-not-are_few_points-clause-ok
+returns-then-not-are_few_points-clause-ok c = grind (arith, common_steps)
+
+pub returns-then-not-are_few_points-clause-err : goal.returns-then-not-are_few_points-clause-err
+returns-then-not-are_few_points-clause-err c = grind (arith, common_steps)
+
+pub invariant_of-self : goal.invariant_of-self
+invariant_of-self c = grind (arith, common_steps)
+
+pub returns-clause-ok : goal.returns-clause-ok
+returns-clause-ok c = grind (arith, common_steps)
+
+pub returns-clause-err : goal.returns-clause-err
+returns-clause-err c = grind (arith, common_steps)
