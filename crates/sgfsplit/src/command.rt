@@ -56,13 +56,14 @@ pub fn command<'a>(alloc: Global) -> Result<Command<'a>, AllocError>
     ensures { IfOk result (λ c. (names : FormNames)
         × (names_of names ≡ forms) × (app_of c ≡ program_app names)) }
 {
+    let split = split_command(alloc)?;
     let program = Command::new(alloc, "sgfsplit")
         .about("Splits Go game records with variations into their single lines of play")
         .after_help(EXAMPLE)
         .subcommand_required(true)
-        .subcommand(split_command(alloc)?)?
-        .subcommand(count_command(alloc)?)?;
-    Ok(program)
+        .subcommand(split)?;
+    let count = count_command(alloc)?;
+    Ok(program.subcommand(count)?)
 }
 
 /// The command `split`.
@@ -70,19 +71,17 @@ fn split_command<'a>(alloc: Global) -> Result<Command<'a>, AllocError>
     ensures { IfOk result (λ c. (names : FormNames)
         × (names_of names ≡ forms) × (app_of c ≡ split_app names)) }
 {
-    let after = number_option(
-        alloc,
-        "after",
-        "PLACE",
-        "Only the lines that follow the line of this place",
-    );
-    let limit = number_option(alloc, "limit", "N", "At most N lines, the first ones");
     let split = Command::new(alloc, "split")
         .about("Writes one record per line of play, in the order of the file")
         .after_help(SPLIT_EXAMPLE)
         .arg(form_option(alloc))?
-        .arg(after)?
-        .arg(limit)?
+        .arg(number_option(
+            alloc,
+            "after",
+            "PLACE",
+            "Only the lines that follow the line of this place",
+        ))?
+        .arg(number_option(alloc, "limit", "N", "At most N lines, the first ones"))?
         .arg(file_argument(alloc))?;
     Ok(split)
 }

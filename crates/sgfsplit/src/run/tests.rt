@@ -101,6 +101,13 @@ fn rows_of_two(rt: HostRuntime) -> Result<(), Fail> {
         TWO,
         "22 1 3 score 1 1 open\n",
     )?;
+    gives(
+        &rt,
+        rt.alloc(),
+        &["split", "--after", "22", "--limit", "1"],
+        TWO,
+        "",
+    )?;
     Ok(())
 }
 
