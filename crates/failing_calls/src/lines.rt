@@ -15,6 +15,13 @@ const KO: &[u8] = b"(;SZ[4]AB[ba][ab][bc]AW[ca][db][cc][bb];B[cb];W[bb])";
 
 /// Makes the calls.
 pub fn calls(alloc: Global, seen: &mut Seen) -> Result<(), Wrong> {
+    two_lines(alloc, seen)?;
+    ko(alloc, seen)?;
+    counts(alloc, seen)
+}
+
+/// Goes over the game of two lines, and judges the first.
+fn two_lines(alloc: Global, seen: &mut Seen) -> Result<(), Wrong> {
     let two = collection(alloc, TWO, seen)?;
     goes_over(alloc, &two, seen)?;
     let score = Verdict::Score {
@@ -22,34 +29,29 @@ pub fn calls(alloc: Global, seen: &mut Seen) -> Result<(), Wrong> {
         white: 0,
         over: false,
     };
-    judged(alloc, &two, 1, score, seen)?;
+    judged(alloc, &two, 1, score, seen)
+}
+
+/// Judges the line that a ko ends.
+fn ko(alloc: Global, seen: &mut Seen) -> Result<(), Wrong> {
     let ko = collection(alloc, KO, seen)?;
     let repeat = Verdict::Illegal {
         turn: 2,
         place: 45,
         reason: Reason::Repeat,
     };
-    judged(alloc, &ko, 2, repeat, seen)?;
-    counts(alloc, seen)
+    judged(alloc, &ko, 2, repeat, seen)
 }
 
 /// Goes over the lines of the game of two lines, and looks for places.
 fn goes_over(alloc: Global, two: &Collection<'_>, seen: &mut Seen) -> Result<(), Wrong> {
     let mut cursor = Cursor::new(alloc, two);
+    both(&mut cursor, seen)?;
+    cursor = Cursor::new(alloc, two);
+    places(&mut cursor, seen)?;
+    cursor = Cursor::new(alloc, two);
     next(&mut cursor, Some((&[0, 1], 8)), seen)?;
-    next(&mut cursor, Some((&[0, 2, 3], 22)), seen)?;
-    next(&mut cursor, None, seen)?;
-    next(&mut cursor, None, seen)?;
-    let mut cursor = Cursor::new(alloc, two);
-    seek(&mut cursor, 8, true, seen)?;
-    next(&mut cursor, Some((&[0, 2, 3], 22)), seen)?;
-    seek(&mut cursor, 16, false, seen)?;
-    next(&mut cursor, None, seen)?;
-    seek(&mut cursor, 22, true, seen)?;
-    next(&mut cursor, None, seen)?;
     // A refused search leaves the cursor where it was: before the second line.
-    let mut cursor = Cursor::new(alloc, two);
-    next(&mut cursor, Some((&[0, 1], 8)), seen)?;
     if cursor.seek_after(22).is_err() {
         seen.want();
     } else {
@@ -57,6 +59,24 @@ fn goes_over(alloc: Global, two: &Collection<'_>, seen: &mut Seen) -> Result<(),
         next(&mut cursor, Some((&[0, 1], 8)), seen)?;
     }
     next(&mut cursor, Some((&[0, 2, 3], 22)), seen)
+}
+
+/// Goes over both lines, and to the end twice.
+fn both(cursor: &mut Cursor<'_, '_>, seen: &mut Seen) -> Result<(), Wrong> {
+    next(cursor, Some((&[0, 1], 8)), seen)?;
+    next(cursor, Some((&[0, 2, 3], 22)), seen)?;
+    next(cursor, None, seen)?;
+    next(cursor, None, seen)
+}
+
+/// Goes after the places of both lines, and after one of no line.
+fn places(cursor: &mut Cursor<'_, '_>, seen: &mut Seen) -> Result<(), Wrong> {
+    seek(cursor, 8, true, seen)?;
+    next(cursor, Some((&[0, 2, 3], 22)), seen)?;
+    seek(cursor, 16, false, seen)?;
+    next(cursor, None, seen)?;
+    seek(cursor, 22, true, seen)?;
+    next(cursor, None, seen)
 }
 
 /// A line by its path and its place.

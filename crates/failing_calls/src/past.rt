@@ -17,20 +17,32 @@ pub fn calls<P: Past>(alloc: Global, seen: &mut Seen) -> Result<(), Wrong> {
     let black = with_stone(&empty, Point { col: 0, row: 0 }, Cell::Black);
     let white = with_stone(&empty, Point { col: 1, row: 1 }, Cell::White);
     let mut past = begin::<P>(alloc, &empty, seen)?;
-    push(&mut past, &empty, &black, seen)?;
-    right(past.holds(&empty), "a past after a push")?;
-    restart(&mut past, &empty, &black, &white, seen)?;
+    grows(&mut past, &empty, &black, &white, seen)
+}
+
+/// Does so to a past of the empty board alone.
+fn grows<P: Past>(
+    past: &mut P,
+    empty: &Board,
+    black: &Board,
+    white: &Board,
+    seen: &mut Seen,
+) -> Result<(), Wrong>
+    requires past { P.held past.old ≡ record { colouring = empty.now; begins = true } ∷ [] }
+    requires black { black.now.side ≡ empty.now.side }
+    requires white { white.now.side ≡ empty.now.side }
+{
+    push(past, empty, black, seen)?;
+    right(past.holds(empty), "a past after a push")?;
+    restart(past, empty, black, white, seen)?;
     right(
-        !past.holds(&empty) && !past.holds(&black),
+        !past.holds(empty) && !past.holds(black),
         "a stretch before a restart",
     )?;
-    right(past.holds(&white), "a stretch after a restart")?;
+    right(past.holds(white), "a stretch after a restart")?;
     past.pop();
-    right(
-        past.holds(&empty) && past.holds(&black),
-        "a past after a pop",
-    )?;
-    right(!past.holds(&white), "what was taken back")
+    right(past.holds(empty) && past.holds(black), "a past after a pop")?;
+    right(!past.holds(white), "what was taken back")
 }
 
 /// The board with one stone more.

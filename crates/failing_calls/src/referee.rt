@@ -14,62 +14,50 @@ pub fn calls<P: Past>(alloc: Global, seen: &mut Seen) -> Result<(), Wrong> {
 
 const CORNER: Play = Play::Stone(Point { col: 0, row: 0 });
 
-/// Black must move first, on one point every stone repeats the empty board, and two passes end the game.
 fn on_one<P: Past>(alloc: Global, seen: &mut Seen) -> Result<(), Wrong> {
     let mut game = begin::<P>(alloc, 1, seen)?;
-    turn(&mut game, Colour::Black, CORNER, Err(Reason::Repeat), seen)?;
-    turn(
-        &mut game,
-        Colour::White,
-        Play::Pass,
-        Err(Reason::Turn),
-        seen,
-    )?;
-    turn(&mut game, Colour::Black, Play::Pass, Ok(()), seen)?;
+    passes_twice(&mut game, seen)
+}
+
+/// Black must move first, on one point every stone repeats the empty board, and two passes end the game.
+fn passes_twice<P: Past>(game: &mut Referee<P>, seen: &mut Seen) -> Result<(), Wrong> {
+    turn(game, Colour::Black, CORNER, Err(Reason::Repeat), seen)?;
+    turn(game, Colour::White, Play::Pass, Err(Reason::Turn), seen)?;
+    turn(game, Colour::Black, Play::Pass, Ok(()), seen)?;
     right(game.turns() == 1 && !game.over(), "a game after a pass")?;
-    turn(&mut game, Colour::White, Play::Pass, Ok(()), seen)?;
+    turn(game, Colour::White, Play::Pass, Ok(()), seen)?;
     right(game.turns() == 2 && game.over(), "a game after two passes")?;
-    turn(
-        &mut game,
-        Colour::Black,
-        Play::Pass,
-        Err(Reason::Over),
-        seen,
-    )?;
-    undo(&mut game)?;
+    turn(game, Colour::Black, Play::Pass, Err(Reason::Over), seen)?;
+    undo(game)?;
     right(
         !game.over() && game.turns() == 1 && game.depth() == 1,
         "a game after an undo",
     )
 }
 
-/// Setup colours an area, lets either player move and is taken back whole.
 fn on_three<P: Past>(alloc: Global, seen: &mut Seen) -> Result<(), Wrong> {
     let mut game = begin::<P>(alloc, 3, seen)?;
-    set_top_up(&mut game, seen)?;
+    let start = begin::<P>(alloc, 3, seen)?;
+    sets_up(&mut game, &start, seen)
+}
+
+/// Setup colours an area, lets either player move and is taken back whole.
+fn sets_up<P: Past>(
+    game: &mut Referee<P>,
+    start: &Referee<P>,
+    seen: &mut Seen,
+) -> Result<(), Wrong> {
+    set_top_up(game, seen)?;
     let middle = Play::Stone(Point { col: 1, row: 1 });
     let last = Play::Stone(Point { col: 2, row: 2 });
-    turn(
-        &mut game,
-        Colour::White,
-        CORNER,
-        Err(Reason::Occupied),
-        seen,
-    )?;
-    turn(&mut game, Colour::White, middle, Ok(()), seen)?;
+    turn(game, Colour::White, CORNER, Err(Reason::Occupied), seen)?;
+    turn(game, Colour::White, middle, Ok(()), seen)?;
     right(game.score() == (0, 9), "the score after a stone")?;
-    turn(&mut game, Colour::White, last, Err(Reason::Turn), seen)?;
-    undo(&mut game)?;
-    undo(&mut game)?;
-    let start = begin::<P>(alloc, 3, seen)?;
-    right(Shown::of(&start).is_of(&game), "a game after all undos")?;
-    turn(
-        &mut game,
-        Colour::White,
-        Play::Pass,
-        Err(Reason::Turn),
-        seen,
-    )
+    turn(game, Colour::White, last, Err(Reason::Turn), seen)?;
+    undo(game)?;
+    undo(game)?;
+    right(Shown::of(start).is_of(game), "a game after all undos")?;
+    turn(game, Colour::White, Play::Pass, Err(Reason::Turn), seen)
 }
 
 /// What a referee shows.
@@ -127,13 +115,25 @@ fn turn<P: Past>(
     answer: Result<(), Reason>,
     seen: &mut Seen,
 ) -> Result<(), Wrong> {
+    let before = Shown::of(game);
+    turn_from(&before, game, colour, play, answer, seen)
+}
+
+/// Takes a turn of a game that shows what it did before.
+fn turn_from<P: Past>(
+    before: &Shown,
+    game: &mut Referee<P>,
+    colour: Colour,
+    play: Play,
+    answer: Result<(), Reason>,
+    seen: &mut Seen,
+) -> Result<(), Wrong> {
     if let Play::Stone(point) = play {
         let side = game.board().size().side();
         if point.col >= side || point.row >= side {
             return wrong_in("a point beside the board");
         }
     }
-    let before = Shown::of(game);
     seen.call();
     let taken = match game.turn(colour, play) {
         Err(TurnFault::Memory) => {
@@ -156,6 +156,16 @@ fn turn<P: Past>(
 
 /// Sets white stones up on the top row of three points, and once more where memory was refused; the game is the same then.
 fn set_top_up<P: Past>(game: &mut Referee<P>, seen: &mut Seen) -> Result<(), Wrong> {
+    let before = Shown::of(game);
+    set_top_up_from(&before, game, seen)
+}
+
+/// Sets them up in a game that shows what it did before.
+fn set_top_up_from<P: Past>(
+    before: &Shown,
+    game: &mut Referee<P>,
+    seen: &mut Seen,
+) -> Result<(), Wrong> {
     if game.board().size().side() < 3 {
         return wrong_in("a board of fewer than three columns");
     }
@@ -167,7 +177,6 @@ fn set_top_up<P: Past>(game: &mut Referee<P>, seen: &mut Seen) -> Result<(), Wro
         cell: Cell::White,
         area,
     }];
-    let before = Shown::of(game);
     seen.call();
     if game.setup(&ops, None).is_ok() {
         return right(game.depth() == 1, "a game after a setup");

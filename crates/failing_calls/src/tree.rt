@@ -30,15 +30,25 @@ const TEXTS: [(&str, &str); 9] = [
 
 /// Makes the calls.
 pub fn calls(alloc: Global, seen: &mut Seen) -> Result<(), Wrong> {
-    let two = collection(alloc, TWO, seen)?;
-    right(is_two(&two), "the collection read")?;
-    match reading(alloc, b"(B[aa])", seen) {
-        Err(ReadFault::NotSgf { at: 1 }) => {}
-        _ => return wrong_in("the first fault"),
-    }
+    two(alloc, seen)?;
+    first_fault(alloc, seen)?;
     fronts(alloc, seen)?;
     names(alloc, seen)?;
     texts(alloc, seen)
+}
+
+/// The game of two lines is read.
+fn two(alloc: Global, seen: &mut Seen) -> Result<(), Wrong> {
+    let two = collection(alloc, TWO, seen)?;
+    right(is_two(&two), "the collection read")
+}
+
+/// A game without a node is faulty at its second byte.
+fn first_fault(alloc: Global, seen: &mut Seen) -> Result<(), Wrong> {
+    match reading(alloc, b"(B[aa])", seen) {
+        Err(ReadFault::NotSgf { at: 1 }) => Ok(()),
+        _ => wrong_in("the first fault"),
+    }
 }
 
 /// Each front of the game of two lines but the whole ends too early.
@@ -99,15 +109,20 @@ fn is_two(collection: &Collection<'_>) -> bool {
 /// Appends a name to a vector.
 fn names(alloc: Global, seen: &mut Seen) -> Result<(), Wrong> {
     let collection = collection(alloc, b"(;GaMe[1])", seen)?;
+    let mut out = Vec::new(alloc);
+    name(&collection, &mut out, seen)
+}
+
+/// Appends a byte to an empty vector, and then the name of the property of a node.
+fn name(collection: &Collection<'_>, out: &mut Vec<u8>, seen: &mut Seen) -> Result<(), Wrong> {
     if collection.nodes() == 0 {
         return wrong_in("a collection without nodes");
     }
     let Some(property) = collection.node(0).first(b"GM") else {
         return wrong_in("no property of the name");
     };
-    let mut out = Vec::new(alloc);
-    append_text(b"x", b"", &mut out, seen)?;
-    append_name(&property, b"x", &mut out, seen)?;
+    append_text(b"x", b"", out, seen)?;
+    append_name(&property, b"x", out, seen)?;
     right(out.as_slice() == b"xGM".as_slice(), "a name appended")
 }
 
@@ -132,18 +147,22 @@ fn append_name(
 /// Appends decoded texts, each to an empty vector and then to itself.
 fn texts(alloc: Global, seen: &mut Seen) -> Result<(), Wrong> {
     for (raw, text) in TEXTS {
-        let text = text.as_bytes();
         let mut out = Vec::new(alloc);
-        append_text(raw.as_bytes(), b"", &mut out, seen)?;
-        right(out.as_slice() == text, "a decoded text")?;
-        append_text(raw.as_bytes(), text, &mut out, seen)?;
-        let (first, second) = out.as_slice().split_at(out.len() / 2);
-        right(
-            first == text && second == text,
-            "a decoded text after another",
-        )?;
+        text_twice(raw.as_bytes(), text.as_bytes(), &mut out, seen)?;
     }
     Ok(())
+}
+
+/// Appends a decoded text to an empty vector and then to itself.
+fn text_twice(raw: &[u8], text: &[u8], out: &mut Vec<u8>, seen: &mut Seen) -> Result<(), Wrong> {
+    append_text(raw, b"", out, seen)?;
+    right(out.as_slice() == text, "a decoded text")?;
+    append_text(raw, text, out, seen)?;
+    let (first, second) = out.as_slice().split_at(out.len() / 2);
+    right(
+        first == text && second == text,
+        "a decoded text after another",
+    )
 }
 
 /// Appends a decoded text to a vector of these bytes, and once more where memory was refused; the vector has the same bytes then.
