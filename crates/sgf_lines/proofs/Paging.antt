@@ -3,13 +3,13 @@ use Rattle.std.proofs.Common.{◌≡◌, ℕ, ◌+◌, ◌<◌, ◌≤◌, List,
 use Rattle.std.proofs.lemmas.Option.{slice_get_within}
 use Rattle.std.specs.Prelude.{unwrap_or}
 use Rattle.std.specs.Io.KnownBytes.{Appends}
-use Rattle.std.proofs.KnownBytes.{Appends-trans}
+use Rattle.std.proofs.KnownBytes.{Appends-kept, Appends-trans}
 use Rattle.std.proofs.lemmas.List.{take_all, length-take, length-drop}
 use Rattle.sgf_tree.specs.Tree.{Games, node_count}
 use Rattle.sgf_lines.specs.Lines.{Line, lines}
 use Rattle.sgf_lines.specs.Page.{limited}
 use Rattle.sgf_lines.specs.Record.{record_of, output}
-use Rattle.sgf_lines.specs.Ends.{SinkState, Takes}
+use Rattle.sgf_lines.specs.Ends.{SinkState, Takes, TakesNothing}
 use Rattle.sgf_lines.specs.Cursor.{CursorState}
 use Rattle.sgf_lines.specs.inner.Running.{WritesLines, HasRecord}
 use Rattle.sgf_lines.specs.declared.options.Form.{Form}
@@ -17,7 +17,7 @@ use Rattle.sgf_lines.specs.declared.fault.RunFault.{RunFault}
 use Rattle.sgf_lines.specs.declared.fault.RunFault.TheVariants.{Write, Memory}
 use Rattle.sgf_lines.proofs.Pages.{get_dropped, get_taken, get_none, limited_is}
 use Rattle.sgf_lines.proofs.LineCounts.{lines_within}
-use Rattle.sgf_lines.proofs.Running.{one_more, cut_in}
+use Rattle.sgf_lines.proofs.Running.{one_more, cut_in, all_taken}
 
 -- at most `limit` of the lines from the index `first` on
 abbrev pub page_from : Games → ℕ → ℕ → List Line
@@ -109,4 +109,12 @@ flushed form ls old now new k h f = record {
   taken = h.taken;
   takes = rw append-nil at (Appends-trans old.taken now.taken new.taken h.taken [] h.takes f.taken);
   answers = h.answers;
+}
+
+-- the flush after the last record failed
+pub not_flushed : (form : Form) (ls : List Line) (old now new : SinkState) (k : ℕ) → WritesLines form ls old now (Ok k) → TakesNothing now new → WritesLines form ls old new (Err (Write k))
+not_flushed form ls old now new k h f = record {
+  taken = h.taken;
+  takes = Appends-kept old.taken now.taken new.taken h.taken h.takes f.taken;
+  answers = rw (h.answers.0, h.answers.1) (all_taken form ls);
 }

@@ -127,6 +127,14 @@ all_played form c first limit count k now h le = record {
   answers = all_plays form (page_from c first limit) k le;
 }
 
+-- the flush after the last record failed
+pub played_not_flushed : (form : Form) (ls : List Line) (count new k : ℕ) → k ≡ length ls → PlaysLines form ls count new (Ok k) → PlaysLines form ls count new (Err (Write k))
+played_not_flushed form ls count new k is h = record {
+  plays = h.plays;
+  rises = h.rises;
+  answers = record { at_least = omega (arith, h.answers, all_plays form ls k (omega (arith, is))); at_most = omega (arith, h.answers, all_plays form ls (k + 1) (omega (arith, is))) };
+}
+
 -- the page by the options
 pub plays_for_options : (form : Form) (c : Games) (first : ℕ) (asked : Option ℕ) (limit count new : ℕ) (result : Result ℕ RunFault) → limit ≡ unwrap_or asked (node_count c)
     → PlaysLines form (page_from c first limit) count new result → PlaysLines form (limited asked (drop first (lines c))) count new result
