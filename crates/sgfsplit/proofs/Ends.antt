@@ -1,10 +1,14 @@
 -- What a put says of the row that is put, and the answers of counting of failures.
-use Rattle.std.proofs.Common.{◌≡◌, ◌∙◌, ℕ, ◌-◌, ◌≤◌, List, ◌++◌, length, take, drop, Result, Ok, Err, Option, Some, refl, sym, ap, arith, append_assoc, length-drop}
+use Rattle.std.proofs.Common.{◌≡◌, ◌∙◌, ℕ, ◌+◌, ◌-◌, ◌≤◌, List, [], ◌++◌, length, take, drop, Result, Ok, Err, Option, Some, inl, inr, refl, sym, ap, arith, append_assoc, append-nil, length-drop}
 use Rattle.std.proofs.Math.Seq.{take-length}
 use Rattle.std.proofs.lemmas.List.{take-append-drop}
 use Rattle.std.specs.Result.{result_err}
+use Rattle.std.specs.Io.KnownBytes.{Appends}
+use Rattle.std.proofs.KnownBytes.{Appends-kept, Appends-trans}
 use Rattle.sgf_lines.specs.Answer.{reads_failed, writes_failed}
 use Rattle.sgf_lines.specs.Counts.{AnswersCount, AnswersRow}
+use Rattle.sgf_lines.specs.Ends.{SinkState, IsPut, IsFlush}
+use Rattle.sgfsplit.specs.Act.{TakesRow}
 use Rattle.sgf_lines.specs.declared.fault.RunFault.{RunFault}
 use Rattle.sgf_lines.specs.declared.fault.RunFault.TheVariants.{Read, TooLong, NotSgf, NoSuchLine, Write, Memory}
 
@@ -15,6 +19,30 @@ part_put row front rest n parts within =
     let left : length rest - n ≡ length (drop n rest) = omega (arith, length-drop n rest) in
     let whole : take (length rest - n) (drop n rest) ≡ drop n rest = rw left (take-length (drop n rest)) in
     parts ∙ (ap (λ r. front ++ r) (sym (take-append-drop n rest)) ∙ (sym (append_assoc front (take n rest) (drop n rest)) ∙ ap (λ r. (front ++ take n rest) ++ r) (sym whole)))
+
+-- the sink failed after a front of the row
+pub row_cut : {E : Type 0} (row front rest bytes : List ℕ) (old now new : SinkState) (r : Result ℕ E) → row ≡ front ++ rest → Appends old.taken now.taken front → now.failures ≡ old.failures
+    → IsPut now new bytes r → ((n : ℕ) → r ≡ Ok n → ⊥) → TakesRow row old new
+row_cut row front rest bytes old now new (Ok n) parts takes same put failed = absurd (failed n refl)
+row_cut row front rest bytes old now new (Err e) parts takes same put failed = record {
+  taken = front;
+  takes = Appends-kept old.taken now.taken new.taken front takes put.taken;
+  whole_or_front = inr (rest, parts, put.failures ∙ ap (λ n. n + 1) same);
+}
+
+-- the row was put whole, and the flush was answered, or failed
+pub row_flushed : {A E : Type 0} (row front rest : List ℕ) (old now new : SinkState) (r : Result A E) → row ≡ front ++ rest → rest ≡ [] → Appends old.taken now.taken front → now.failures ≡ old.failures
+    → IsFlush now new r → TakesRow row old new
+row_flushed row front rest old now new (Ok x) parts none takes same flush = record {
+  taken = front;
+  takes = rw append-nil at (Appends-trans old.taken now.taken new.taken front [] takes flush.taken);
+  whole_or_front = inl (sym (append-nil front) ∙ (ap (λ r. front ++ r) (sym none) ∙ sym parts), flush.failures ∙ same);
+}
+row_flushed row front rest old now new (Err e) parts none takes same flush = record {
+  taken = front;
+  takes = Appends-kept old.taken now.taken new.taken front takes flush.taken;
+  whole_or_front = inr (rest, parts, flush.failures ∙ ap (λ n. n + 1) same);
+}
 
 -- the writing of a row reads nothing
 pub row_reads_nothing : (row taken : List ℕ) (r : Result (Unit {0}) RunFault) → AnswersRow row taken r → reads_failed (result_err r) ≡ 0

@@ -1,6 +1,7 @@
-use Rattle.std.proofs.Common.{◌++◌, ◌∙◌, take}
+use Rattle.std.proofs.Common.{◌≡◌, [], ◌++◌, ◌∙◌, take, arith}
+use Rattle.std.proofs.lemmas.Grind.{common_steps}
 use Rattle.std.proofs.KnownBytes.{Appends-trans}
-use Rattle.sgfsplit.proofs.Ends.{part_put}
+use Rattle.sgfsplit.proofs.Ends.{part_put, row_cut, row_flushed}
 use Rattle.sgfsplit.proofs.run.put_row.Goals as goal
 
 pub loop-rest-preserved : goal.loop-rest-preserved
@@ -12,3 +13,14 @@ loop-rest-preserved g c =
       Appends-trans _ _ _ _ _ kept.2 put.2.taken,
       put.2.failures ∙ kept.3,
     )
+
+pub returns-in_default : goal.returns-in_default
+returns-in_default g c =
+    let kept = c.loop-rest.invariant in
+    row_cut c.args.row.now kept.0 c.loop-rest.rest.now c.loop-rest.rest.now _ _ _ c.put.result kept.1 kept.2 kept.3 c.put.ensures c.in_default.not-Ok
+
+pub returns : goal.returns
+returns g c =
+    let kept = c.loop-rest.invariant in
+    let none : c.loop-rest.rest.now ≡ [] = grind (arith, common_steps) in
+    row_flushed c.args.row.now kept.0 c.loop-rest.rest.now _ _ _ c.flush.result kept.1 none kept.2 kept.3 c.flush.ensures

@@ -1,4 +1,5 @@
-use Rattle.std.proofs.Common.{◌∙◌, ap, ap₂, map, string_bytes, subst, sym, Option}
+use Rattle.std.proofs.Common.{◌∙◌, ap, ap₂, map, string_bytes, refl, subst, sym, Option}
+use Rattle.std.proofs.lemmas.Result.{err_from_is_err_and}
 use Rattle.clap.specs.Faults.{fault_of, is_simple_and_free}
 use Rattle.clap.specs.Simple.{is_simple, subcommand_of}
 use Rattle.clap.specs.Takes.{takes}
@@ -41,3 +42,22 @@ returns-clause-faultless c =
     let command = c.in_ok-command.ensures in
     let free = ap is_simple_and_free command.2 ∙ app_free command.0 in
     (command.0, command.1, ap (λ a. fault_of a (map string_bytes c.args.words.now)) (sym command.2) ∙ c.in-Ok.ensures.kinds free)
+
+-- where memory was refused
+pub returns-in_err-command-clause-split : goal.returns-in_err-command-clause-split
+returns-in_err-command-clause-split c = λ name given plain are. let p = err_from_is_err_and c.from_residual.result c.from_residual.ensures.1 in rw (p.1, p.2) refl
+
+pub returns-in_err-command-clause-count : goal.returns-in_err-command-clause-count
+returns-in_err-command-clause-count c = λ name file plain are. let p = err_from_is_err_and c.from_residual.result c.from_residual.ensures.1 in rw (p.1, p.2) refl
+
+pub returns-in_err-found_job-clause-split : goal.returns-in_err-found_job-clause-split
+returns-in_err-found_job-clause-split c = λ name given plain are. let p = err_from_is_err_and c.from_residual-in_err-found_job.result c.from_residual-in_err-found_job.ensures.1 in rw (p.1, p.2) refl
+
+pub returns-in_err-found_job-clause-count : goal.returns-in_err-found_job-clause-count
+returns-in_err-found_job-clause-count c = λ name file plain are. let p = err_from_is_err_and c.from_residual-in_err-found_job.result c.from_residual-in_err-found_job.ensures.1 in rw (p.1, p.2) refl
+
+pub returns-in-OutOfMemory-clause-split : goal.returns-in-OutOfMemory-clause-split
+returns-in-OutOfMemory-clause-split c = λ name given plain are. refl
+
+pub returns-in-OutOfMemory-clause-count : goal.returns-in-OutOfMemory-clause-count
+returns-in-OutOfMemory-clause-count c = λ name file plain are. refl
