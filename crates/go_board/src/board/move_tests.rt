@@ -31,32 +31,31 @@ fn stones(board: &Board) -> (usize, usize) {
     (black, white)
 }
 
+/// Moves one after the other, how many stones of each colour stand after each, and why.
+const MOVES: [(Colour, u8, u8, (usize, usize), &str); 7] = [
+    (Colour::Black, 1, 0, (1, 0), "one stone"),
+    (Colour::White, 0, 0, (1, 1), "one liberty is left"),
+    (Colour::Black, 0, 1, (2, 0), "no liberty is left"),
+    (Colour::White, 0, 0, (2, 0), "it has no liberty"),
+    (Colour::White, 2, 0, (2, 1), "one liberty is left"),
+    (Colour::White, 1, 1, (2, 2), "liberties are left"),
+    (Colour::White, 0, 0, (1, 3), "the opponent's first"),
+];
+
+/// Stones that are set on an empty board.
+const SET: [(u8, u8, Cell); 3] = [
+    (0, 0, Cell::White),
+    (1, 0, Cell::Black),
+    (0, 1, Cell::Black),
+];
+
 #[test]
 fn captures(rt: HostRuntime) {
     let mut board = empty(&rt, 3);
-    play(&rt, &mut board, Colour::Black, 1, 0);
-    play(&rt, &mut board, Colour::White, 0, 0);
-    assert_eq!(rt; stones(&board), (1, 1));
-    play(&rt, &mut board, Colour::Black, 0, 1);
-    assert_eq!(rt;
-        stones(&board),
-        (2, 0),
-        "the white stone had no liberty left"
-    );
-    play(&rt, &mut board, Colour::White, 0, 0);
-    assert_eq!(rt;
-        stones(&board),
-        (2, 0),
-        "a stone without a liberty is taken itself"
-    );
-    play(&rt, &mut board, Colour::White, 2, 0);
-    play(&rt, &mut board, Colour::White, 1, 1);
-    play(&rt, &mut board, Colour::White, 0, 0);
-    assert_eq!(rt;
-        stones(&board),
-        (1, 3),
-        "the opponent's stones are taken before the own"
-    );
+    for &(colour, col, row, left, why) in &MOVES {
+        play(&rt, &mut board, colour, col, row);
+        assert!(rt; stones(&board) == left, "{why}");
+    }
 }
 
 #[test]
@@ -73,16 +72,12 @@ fn large_group(rt: HostRuntime) {
 #[test]
 fn after_setting(rt: HostRuntime) {
     let mut board = empty(&rt, 9);
-    for (col, row, cell) in [
-        (0, 0, Cell::White),
-        (1, 0, Cell::Black),
-        (0, 1, Cell::Black),
-    ] {
+    for &(col, row, cell) in &SET {
         let side = board.size().side();
         assert!(rt; col < side && row < side);
         board.set(Point { col, row }, cell);
     }
-    assert_eq!(rt; stones(&board), (2, 1));
+    assert!(rt; stones(&board) == (2, 1));
     play(&rt, &mut board, Colour::Black, 8, 8);
-    assert_eq!(rt; stones(&board), (3, 0), "a stone far away had no liberty");
+    assert!(rt; stones(&board) == (3, 0), "a stone far away had no liberty");
 }

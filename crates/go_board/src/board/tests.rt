@@ -65,16 +65,16 @@ fn clearing(rt: HostRuntime) {
     assert!(rt; board.has_unreaching());
     board.clear(Colour::Black);
     assert!(rt; board.at(at(0, 0)) == E && board.at(at(1, 0)) == W && !board.has_unreaching());
-    assert_eq!(rt; board.score(), (0, 9));
+    assert!(rt; board.score() == (0, 9));
     let all_black = three(&rt, [B, B, B, B, B, B, B, B, B]);
     assert!(rt; all_black.has_unreaching());
 }
 
 #[test]
 fn scores(rt: HostRuntime) {
-    assert_eq!(rt; Board::empty(size(&rt, 3)).score(), (0, 0));
-    assert_eq!(rt; three(&rt, [W, E, E, E, B, E, E, E, E]).score(), (1, 1));
-    assert_eq!(rt; three(&rt, [E, B, E, B, B, W, E, W, W]).score(), (4, 3));
+    assert!(rt; Board::empty(size(&rt, 3)).score() == (0, 0));
+    assert!(rt; three(&rt, [W, E, E, E, B, E, E, E, E]).score() == (1, 1));
+    assert!(rt; three(&rt, [E, B, E, B, B, W, E, W, W]).score() == (4, 3));
 }
 
 #[test]
@@ -84,10 +84,10 @@ fn moves(rt: HostRuntime) {
         board.place(Colour::Black, at(1, 0));
     }
     assert!(rt; board.same(&three(&rt, [E, E, W, W, W, E, E, E, E])));
-    assert_eq!(rt; board.score(), (0, 9));
+    assert!(rt; board.score() == (0, 9));
     let mut single = Board::empty(size(&rt, 1));
     single.place(Colour::White, at(0, 0));
-    assert_eq!(rt; single.at(at(0, 0)), E);
+    assert!(rt; single.at(at(0, 0)) == E);
 }
 
 #[test]

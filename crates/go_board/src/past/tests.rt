@@ -1,10 +1,11 @@
 //! Worked examples of a past.
 
-ghost use Rattle.std.specs.Prelude.{◌≡◌};
+ghost use Rattle.std.specs.Prelude.{◌≡◌, [], ◌∷◌, true};
+ghost use Rattle.go_board.specs.Past.{HaveSide};
 ghost use Rattle.go_board.specs.Point.{IsOn};
 
 use crate::given::{at, size};
-use crate::{Board, Cell, ListPast, Past, Point, PrintPast};
+use crate::{Board, Cell, ListPast, MemoryFault, Past, Point, PrintPast};
 use std::alloc::Global;
 use std::process::Abort;
 use std::test::Fail;
@@ -19,26 +20,37 @@ fn with_stone(board: &Board, point: Point, cell: Cell) -> Board
     copy
 }
 
-/// A stretch that was begun anew hides the older colourings until it is taken back.
-fn past_begins_anew<P: Past>(rt: &impl Abort, alloc: Global) -> Result<(), Fail> {
-    let empty = Board::empty(size(rt, 3));
-    let black = with_stone(&empty, at(0, 0), Cell::Black);
-    let white = with_stone(&empty, at(1, 1), Cell::White);
-    let mut past = P::new(alloc, &empty)?;
+/// Whether the present stretch has the last board alone, where it was begun anew with it, and else the other two alone.
+fn has_alone<P: Past>(past: &P, anew: bool, empty: &Board, black: &Board, white: &Board) -> bool
+    requires empty { HaveSide empty.now.side (P.held past.now) }
+    requires black { HaveSide black.now.side (P.held past.now) }
+    requires white { HaveSide white.now.side (P.held past.now) }
+{
+    past.holds(empty) != anew && past.holds(black) != anew && past.holds(white) == anew
+}
+
+/// A stretch that is begun anew hides the colouring before it and the empty one, until it is taken back.
+fn begins_anew<P: Past>(rt: &impl Abort, past: &mut P, empty: &Board) -> Result<(), MemoryFault>
+    requires side { empty.now.side ≡ 3 }
+    requires one { P.held past.old ≡ record { colouring = empty.now; begins = true } ∷ [] }
+{
+    let black = with_stone(empty, at(0, 0), Cell::Black);
+    let white = with_stone(empty, at(1, 1), Cell::White);
     past.push(&black)?;
-    assert!(rt; past.holds(&empty));
+    assert!(rt; past.holds(empty));
     past.restart(&white)?;
-    assert_eq!(rt;
-        (past.holds(&empty), past.holds(&black), past.holds(&white)),
-        (false, false, true)
-    );
+    assert!(rt; has_alone(past, true, empty, &black, &white));
     past.pop();
-    assert_eq!(rt;
-        (past.holds(&empty), past.holds(&black), past.holds(&white)),
-        (true, true, false)
-    );
+    assert!(rt; has_alone(past, false, empty, &black, &white));
     assert!(rt; past.newest().same(&black));
     Ok(())
+}
+
+/// A past of the empty board, in which a stretch is begun anew.
+fn past_begins_anew<P: Past>(rt: &impl Abort, alloc: Global) -> Result<(), MemoryFault> {
+    let empty = Board::empty(size(rt, 3));
+    let mut past = P::new(alloc, &empty)?;
+    begins_anew(rt, &mut past, &empty)
 }
 
 /// Two colourings whose prints have the same low bits are two.
@@ -47,7 +59,7 @@ fn prints_alike<P: Past>(rt: &impl Abort, alloc: Global) -> Result<(), Fail> {
     let inner = with_stone(&empty, at(12, 4), Cell::Black);
     let last = with_stone(&empty, at(24, 24), Cell::Black);
     let past = P::new(alloc, &inner)?;
-    assert_eq!(rt; (past.holds(&inner), past.holds(&last)), (true, false));
+    assert!(rt; past.holds(&inner) && !past.holds(&last));
     Ok(())
 }
 

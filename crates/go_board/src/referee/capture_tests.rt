@@ -1,7 +1,7 @@
 //! Games with captures: both pasts give the same answers, and an undo gives each board back.
 
 use crate::given::{at, size};
-use crate::referee::tests::{answers, take_all, turn, undo};
+use crate::referee::tests::{answers, turn, undo};
 use crate::{Colour, ListPast, Past, Play, PrintPast, Reason, Referee, TurnFault};
 use std::alloc::Global;
 use std::process::Abort;
@@ -20,86 +20,128 @@ fn coordinate(rt: &impl Abort, number: u64, side: u8) -> u8 {
     ((number >> 40) % u64::from(side)) as u8
 }
 
-/// Stones on points by chance, over two pasts in step, and then all of them taken back.
-fn same_game(rt: &impl Abort, alloc: Global, side: u8, tries: u32) -> Result<(), Fail> {
-    let mut listed = Referee::<ListPast>::new(alloc, size(rt, side))?;
-    let mut printed = Referee::<PrintPast>::new(alloc, size(rt, side))?;
+/// Stones on points by chance, which both pasts must answer alike.
+fn play_in_step(
+    rt: &impl Abort,
+    listed: &mut Referee<ListPast>,
+    printed: &mut Referee<PrintPast>,
+    side: u8,
+    tries: u32,
+) {
     let mut number = u64::from(side);
     let mut colour = Colour::Black;
     for i in 0..tries {
         let col = next_number(number);
         number = next_number(col);
-        let point = at(coordinate(rt, col, side), coordinate(rt, number, side));
-        let answer = turn(rt, &mut printed, colour, Play::Stone(point));
-        let taken = answer.is_ok();
-        assert_eq!(rt;
-            turn(rt, &mut listed, colour, Play::Stone(point)),
-            answer,
+        let stone = Play::Stone(at(coordinate(rt, col, side), coordinate(rt, number, side)));
+        let answer = turn(rt, printed, colour, stone);
+        assert!(rt;
+            turn(rt, listed, colour, stone) == answer,
             "try {i} on side {side}"
         );
         assert!(rt;
             listed.board().same(printed.board()),
             "after try {i} on side {side}"
         );
-        if taken {
+        if answer.is_ok() {
             colour = colour.opponent();
         }
     }
+}
+
+/// All turns are taken back over both pasts, which must give the same boards, and the empty one at last.
+fn undo_in_step(
+    rt: &impl Abort,
+    listed: &mut Referee<ListPast>,
+    printed: &mut Referee<PrintPast>,
+    side: u8,
+    tries: u32,
+) {
     for i in 0..tries {
-        assert_eq!(rt; listed.depth(), printed.depth());
+        assert!(rt;
+            listed.depth() == printed.depth(),
+            "undo {i} on side {side}"
+        );
         if listed.depth() == 0 {
             break;
         }
-        undo(rt, &mut listed);
-        undo(rt, &mut printed);
+        undo(rt, listed);
+        undo(rt, printed);
         assert!(rt;
             listed.board().same(printed.board()),
             "after undo {i} on side {side}"
         );
     }
-    assert_eq!(rt; printed.score(), (0, 0));
+    assert!(rt; printed.score() == (0, 0));
+}
+
+/// Stones on points by chance, over two pasts in step, and then all of them taken back.
+fn same_game(rt: &impl Abort, alloc: Global, side: u8, tries: u32) -> Result<(), Fail> {
+    let mut listed = Referee::<ListPast>::new(alloc, size(rt, side))?;
+    let mut printed = Referee::<PrintPast>::new(alloc, size(rt, side))?;
+    play_in_step(rt, &mut listed, &mut printed, side, tries);
+    undo_in_step(rt, &mut listed, &mut printed, side, tries);
     Ok(())
 }
 
-/// A stone that is taken in a ko can't be taken back at once, and a refused try leaves the board as it was.
-fn ko<P: Past>(rt: &impl Abort, alloc: Global) -> Result<(), Fail> {
-    let mut game = Referee::<P>::new(alloc, size(rt, 4))?;
-    let turns = [
-        (Colour::Black, Play::Stone(at(1, 0))),
-        (Colour::White, Play::Stone(at(2, 0))),
-        (Colour::Black, Play::Stone(at(0, 1))),
-        (Colour::White, Play::Stone(at(3, 1))),
-        (Colour::Black, Play::Stone(at(1, 2))),
-        (Colour::White, Play::Stone(at(2, 2))),
-        (Colour::Black, Play::Stone(at(3, 3))),
-        (Colour::White, Play::Stone(at(1, 1))),
-        (Colour::Black, Play::Stone(at(2, 1))),
-    ];
-    take_all(rt, &mut game, &turns);
+/// The stones that lead to a ko: the last of them takes the one before it.
+const INTO_KO: [(Colour, u8, u8); 9] = [
+    (Colour::Black, 1, 0),
+    (Colour::White, 2, 0),
+    (Colour::Black, 0, 1),
+    (Colour::White, 3, 1),
+    (Colour::Black, 1, 2),
+    (Colour::White, 2, 2),
+    (Colour::Black, 3, 3),
+    (Colour::White, 1, 1),
+    (Colour::Black, 2, 1),
+];
+
+/// The stone that was taken last can't be taken back at once, and a refused try leaves the board as it was.
+fn no_taking_back<P: Past>(rt: &impl Abort, game: &mut Referee<P>) {
     let taken = game.board().copy();
     let repeat = Err(TurnFault::Illegal(Reason::Repeat));
-    answers(rt, &mut game, Colour::White, Play::Stone(at(1, 1)), repeat);
+    answers(rt, game, Colour::White, Play::Stone(at(1, 1)), repeat);
     assert!(rt; game.board().same(&taken));
-    answers(rt, &mut game, Colour::White, Play::Stone(at(0, 3)), Ok(()));
-    undo(rt, &mut game);
+    answers(rt, game, Colour::White, Play::Stone(at(0, 3)), Ok(()));
+    undo(rt, game);
     assert!(rt; game.board().same(&taken));
+}
+
+/// A ko, in which a stone is taken and can't be taken back.
+fn ko<P: Past>(rt: &impl Abort, alloc: Global) -> Result<(), Fail> {
+    let mut game = Referee::<P>::new(alloc, size(rt, 4))?;
+    for &(colour, col, row) in &INTO_KO {
+        answers(rt, &mut game, colour, Play::Stone(at(col, row)), Ok(()));
+    }
+    no_taking_back(rt, &mut game);
     Ok(())
+}
+
+/// Eighty black stones fill a board of side 9 but for its last point, while White passes.
+fn fill_but_one<P: Past>(rt: &impl Abort, game: &mut Referee<P>) {
+    for index in 0..80u8 {
+        if index > 0 {
+            answers(rt, game, Colour::White, Play::Pass, Ok(()));
+        }
+        let point = at(index % 9, index / 9);
+        answers(rt, game, Colour::Black, Play::Stone(point), Ok(()));
+    }
+}
+
+/// The stone on the last point takes all the others, and they are put back.
+fn takes_all_others<P: Past>(rt: &impl Abort, game: &mut Referee<P>) {
+    answers(rt, game, Colour::White, Play::Stone(at(8, 8)), Ok(()));
+    assert!(rt; game.score() == (0, 81));
+    undo(rt, game);
+    assert!(rt; game.score() == (81, 0));
 }
 
 /// Eighty stones are taken at once, and put back.
 fn large_capture<P: Past>(rt: &impl Abort, alloc: Global) -> Result<(), Fail> {
     let mut game = Referee::<P>::new(alloc, size(rt, 9))?;
-    for index in 0..80u8 {
-        if index > 0 {
-            answers(rt, &mut game, Colour::White, Play::Pass, Ok(()));
-        }
-        let point = at(index % 9, index / 9);
-        answers(rt, &mut game, Colour::Black, Play::Stone(point), Ok(()));
-    }
-    answers(rt, &mut game, Colour::White, Play::Stone(at(8, 8)), Ok(()));
-    assert_eq!(rt; game.score(), (0, 81));
-    undo(rt, &mut game);
-    assert_eq!(rt; game.score(), (81, 0));
+    fill_but_one(rt, &mut game);
+    takes_all_others(rt, &mut game);
     Ok(())
 }
 

@@ -31,22 +31,10 @@ pub(crate) fn answers<P: Past>(
     play: Play,
     answer: Result<(), TurnFault>,
 ) {
-    assert_eq!(rt;
-        turn(rt, referee, colour, play),
-        answer,
+    assert!(rt;
+        turn(rt, referee, colour, play) == answer,
         "{colour:?} {play:?}"
     );
-}
-
-/// Takes turns, which must all be legal.
-pub(crate) fn take_all<P: Past>(
-    rt: &impl Abort,
-    referee: &mut Referee<P>,
-    turns: &[(Colour, Play)],
-) {
-    for (colour, play) in turns {
-        answers(rt, referee, *colour, *play, Ok(()));
-    }
 }
 
 /// The referee must have taken so many turns, hold so many calls that can be undone, and give this score.
@@ -57,10 +45,7 @@ fn stands<P: Past>(
     depth: usize,
     score: (u32, u32),
 ) {
-    assert_eq!(rt;
-        (referee.turns(), referee.depth(), referee.score()),
-        (turns, depth, score)
-    );
+    assert!(rt; referee.turns() == turns && referee.depth() == depth && referee.score() == score);
 }
 
 /// Colours an area, which must be on the board, and lets either player move.
@@ -145,36 +130,45 @@ fn player_alone<P: Past>(rt: &impl Abort, alloc: Global) -> Result<(), Fail> {
     Ok(())
 }
 
+/// A referee that begins another game of that size after two turns is as a new one.
+fn begins_again<P: Past>(
+    rt: &impl Abort,
+    game: &mut Referee<P>,
+    side: u8,
+) -> Result<(), MemoryFault> {
+    answers(rt, game, Colour::Black, Play::Stone(at(0, 0)), Ok(()));
+    answers(rt, game, Colour::White, Play::Pass, Ok(()));
+    game.reset(size(rt, side))?;
+    stands(rt, game, 0, 0, (0, 0));
+    assert!(rt; game.board().size().side() == side);
+    Ok(())
+}
+
 /// A referee that begins another game, of another size or of the same, is as a new one.
 fn another_game<P: Past>(rt: &impl Abort, alloc: Global) -> Result<(), Fail> {
     let mut game = Referee::<P>::new(alloc, size(rt, 3))?;
     for side in [2, 5, 5] {
-        let turns = [
-            (Colour::Black, Play::Stone(at(0, 0))),
-            (Colour::White, Play::Pass),
-        ];
-        take_all(rt, &mut game, &turns);
-        game.reset(size(rt, side))?;
-        stands(rt, &game, 0, 0, (0, 0));
-        assert_eq!(rt; game.board().size().side(), side);
+        begins_again(rt, &mut game, side)?;
     }
     Ok(())
 }
 
+/// The examples, over one kind of past.
+fn examples<P: Past>(rt: &impl Abort, alloc: Global) -> Result<(), Fail> {
+    on_one::<P>(rt, alloc)?;
+    on_three::<P>(rt, alloc)?;
+    another_game::<P>(rt, alloc)?;
+    player_alone::<P>(rt, alloc)
+}
+
 #[test]
 fn referee_over_list_past(rt: HostRuntime) -> Result<(), Fail> {
-    on_one::<ListPast>(&rt, rt.alloc())?;
-    on_three::<ListPast>(&rt, rt.alloc())?;
-    another_game::<ListPast>(&rt, rt.alloc())?;
-    player_alone::<ListPast>(&rt, rt.alloc())
+    examples::<ListPast>(&rt, rt.alloc())
 }
 
 #[test]
 fn referee_over_print_past(rt: HostRuntime) -> Result<(), Fail> {
-    on_one::<PrintPast>(&rt, rt.alloc())?;
-    on_three::<PrintPast>(&rt, rt.alloc())?;
-    another_game::<PrintPast>(&rt, rt.alloc())?;
-    player_alone::<PrintPast>(&rt, rt.alloc())
+    examples::<PrintPast>(&rt, rt.alloc())
 }
 
 #[test]

@@ -1,27 +1,57 @@
 //! Worked examples of values that name points and rectangles.
 
-use crate::given::{at, size};
-use crate::{Rect, point, rect};
+use crate::given::size;
+use crate::{Point, Rect, point, rect};
+
+/// Values, the side of a board, and the point of it that they name.
+const POINTS: [(&str, u8, Option<Point>); 11] = [
+    ("aa", 1, Some(Point { col: 0, row: 0 })),
+    ("ba", 1, None),
+    ("a", 25, None),
+    ("", 25, None),
+    ("aaa", 25, None),
+    ("aA", 25, None),
+    ("yy", 25, Some(Point { col: 24, row: 24 })),
+    ("tt", 19, None),
+    ("Aa", 26, None),
+    ("Aa", 27, Some(Point { col: 26, row: 0 })),
+    ("ZZ", 52, Some(Point { col: 51, row: 51 })),
+];
+
+/// Values, and the rectangle of a board of side 3 that they name.
+const RECTANGLES: [(&str, Option<Rect>); 7] = [
+    (
+        "bb",
+        Some(Rect {
+            first: Point { col: 1, row: 1 },
+            last: Point { col: 1, row: 1 },
+        }),
+    ),
+    (
+        "aa:aa",
+        Some(Rect {
+            first: Point { col: 0, row: 0 },
+            last: Point { col: 0, row: 0 },
+        }),
+    ),
+    (
+        "aa:ca",
+        Some(Rect {
+            first: Point { col: 0, row: 0 },
+            last: Point { col: 2, row: 0 },
+        }),
+    ),
+    ("ca:aa", None),
+    ("ab:ba", None),
+    ("aa:", None),
+    ("aa:dd", None),
+];
 
 #[test]
 fn points(rt: HostRuntime) {
-    let named = [
-        (b"aa".as_slice(), 1, Some(at(0, 0))),
-        (b"ba".as_slice(), 1, None),
-        (b"a".as_slice(), 25, None),
-        (b"".as_slice(), 25, None),
-        (b"aaa".as_slice(), 25, None),
-        (b"aA".as_slice(), 25, None),
-        (b"yy".as_slice(), 25, Some(at(24, 24))),
-        (b"tt".as_slice(), 19, None),
-        (b"Aa".as_slice(), 26, None),
-        (b"Aa".as_slice(), 27, Some(at(26, 0))),
-        (b"ZZ".as_slice(), 52, Some(at(51, 51))),
-    ];
-    for (raw, side, expected) in named {
-        assert_eq!(rt;
-            point(raw, size(&rt, side)),
-            expected,
+    for &(raw, side, expected) in &POINTS {
+        assert!(rt;
+            point(raw.as_bytes(), size(&rt, side)) == expected,
             "{raw:?} on side {side}"
         );
     }
@@ -29,17 +59,7 @@ fn points(rt: HostRuntime) {
 
 #[test]
 fn rectangles(rt: HostRuntime) {
-    let named = [
-        (b"bb".as_slice(), Some((at(1, 1), at(1, 1)))),
-        (b"aa:aa".as_slice(), Some((at(0, 0), at(0, 0)))),
-        (b"aa:ca".as_slice(), Some((at(0, 0), at(2, 0)))),
-        (b"ca:aa".as_slice(), None),
-        (b"ab:ba".as_slice(), None),
-        (b"aa:".as_slice(), None),
-        (b"aa:dd".as_slice(), None),
-    ];
-    for (raw, corners) in named {
-        let expected = corners.map(|(first, last)| Rect { first, last });
-        assert_eq!(rt; rect(raw, size(&rt, 3)), expected, "{raw:?}");
+    for &(raw, expected) in &RECTANGLES {
+        assert!(rt; rect(raw.as_bytes(), size(&rt, 3)) == expected, "{raw:?}");
     }
 }
