@@ -20,7 +20,7 @@ pub fn calls<P: Past>(alloc: Global, seen: &mut Seen) -> Result<(), Wrong> {
     grows(&mut past, &empty, &black, &white, seen)
 }
 
-/// Does so to a past of the empty board alone.
+/// Adds black to a past of the empty board alone, begins a stretch with white, and takes that back.
 fn grows<P: Past>(
     past: &mut P,
     empty: &Board,

@@ -14,6 +14,7 @@ pub fn calls<P: Past>(alloc: Global, seen: &mut Seen) -> Result<(), Wrong> {
 
 const CORNER: Play = Play::Stone(Point { col: 0, row: 0 });
 
+/// Plays a game on one point.
 fn on_one<P: Past>(alloc: Global, seen: &mut Seen) -> Result<(), Wrong> {
     let mut game = begin::<P>(alloc, 1, seen)?;
     passes_twice(&mut game, seen)
@@ -35,6 +36,7 @@ fn passes_twice<P: Past>(game: &mut Referee<P>, seen: &mut Seen) -> Result<(), W
     )
 }
 
+/// Plays a game on three by three points, beside one that stays as it begins.
 fn on_three<P: Past>(alloc: Global, seen: &mut Seen) -> Result<(), Wrong> {
     let mut game = begin::<P>(alloc, 3, seen)?;
     let start = begin::<P>(alloc, 3, seen)?;
@@ -119,7 +121,7 @@ fn turn<P: Past>(
     turn_from(&before, game, colour, play, answer, seen)
 }
 
-/// Takes a turn of a game that shows what it did before.
+/// Takes a turn of a game of which it is known what it shows, and once more where memory was refused.
 fn turn_from<P: Past>(
     before: &Shown,
     game: &mut Referee<P>,
@@ -160,7 +162,7 @@ fn set_top_up<P: Past>(game: &mut Referee<P>, seen: &mut Seen) -> Result<(), Wro
     set_top_up_from(&before, game, seen)
 }
 
-/// Sets them up in a game that shows what it did before.
+/// Sets those stones up in a game of which it is known what it shows.
 fn set_top_up_from<P: Past>(
     before: &Shown,
     game: &mut Referee<P>,

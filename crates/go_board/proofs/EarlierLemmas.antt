@@ -11,7 +11,7 @@ use Rattle.go_board.specs.Grid.{Grid}
 use Rattle.go_board.specs.Clearing.{play}
 use Rattle.go_board.specs.Past.{Held, newest_grid, HaveSide}
 use Rattle.go_board.specs.State.{States, starting, followed_by, turned}
-use Rattle.go_board.specs.inner.Earlier.{held_before_call, states_before, states_of, with_setup, IsRefereeKept}
+use Rattle.go_board.specs.inner.Earlier.{held_before_call, states_before, states_of, IsRefereeKept}
 
 length-states_before : (held : List Held) (es : List Earlier) → length (states_before held es) ≡ length es
 length-states_before held [] = refl
@@ -67,10 +67,3 @@ module _ (held : List Held) (player : Option Colour) (passes turns : ℕ) (earli
   states_of-turned states colour point now made next earlier' was is made_is next_is longer =
       subst (λ (s : States). states_of now (Some next) 0 (turns + 1) earlier' ≡ followed_by s (turned s.present colour (Stone point))) was
       (rw (is, made_is, next_is, longer, reverse-append earlier (saved ∷ []), saved_as saved turns player passes true same_turns same_player same_passes grew) refl)
-
-  -- the same by the colouring that a setup makes
-  pub states_of-set_up : (states : States) (now : List Held) (made made' : Grid) (next : Option Colour) (earlier' : List Earlier) → states_of held player passes turns earlier ≡ states → now ≡ record { colouring = made; begins = true } ∷ held → made ≡ made' → earlier' ≡ earlier ++ saved ∷ []
-      → states_of now next 0 turns earlier' ≡ followed_by states (with_setup states.present made' next)
-  states_of-set_up states now made made' next earlier' was is made_is longer =
-      subst (λ (s : States). states_of now next 0 turns earlier' ≡ followed_by s (with_setup s.present made' next)) was
-      (rw (is, made_is, longer, reverse-append earlier (saved ∷ []), saved_as saved turns player passes true same_turns same_player same_passes grew) refl)
