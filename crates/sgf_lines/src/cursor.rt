@@ -176,62 +176,67 @@ mod tests {
     /// A game of two lines, which end at the places 8 and 22.
     const BRANCHES: &[u8] = b"(;SZ[3](;B[aa])(;B[bb];W[aa]))";
 
+    /// The cursor's next line goes through these nodes of the first game, and ends at the place.
+    fn gives(cursor: &mut Cursor<'_, '_>, path: &[usize], place: usize) -> bool {
+        match cursor.next() {
+            Ok(Some(line)) => line.path() == path && line.game() == 1 && line.place() == place,
+            _ => false,
+        }
+    }
+
+    /// The cursor has no next line.
+    fn gives_none(cursor: &mut Cursor<'_, '_>) -> bool {
+        matches!(cursor.next(), Ok(None))
+    }
+
     #[test]
-    fn cursor_ends_and_stays(rt: HostRuntime) -> Result<(), Fail> {
+    fn ends_and_stays(rt: HostRuntime) -> Result<(), Fail> {
         let collection = read(rt.alloc(), BRANCHES)?;
         let mut cursor = Cursor::new(rt.alloc(), &collection);
-        ends_and_stays(&rt, &mut cursor)
+        assert!(rt; gives_both_lines(&mut cursor));
+        Ok(())
     }
 
     /// The cursor gives both lines, and then none however often it is asked.
-    fn ends_and_stays(rt: &impl Abort, cursor: &mut Cursor<'_, '_>) -> Result<(), Fail> {
-        expect_line(rt, cursor.next()?, &[0, 1], 8);
-        expect_line(rt, cursor.next()?, &[0, 2, 3], 22);
-        assert!(rt; cursor.next()?.is_none());
-        assert!(rt; cursor.next()?.is_none());
-        Ok(())
+    fn gives_both_lines(cursor: &mut Cursor<'_, '_>) -> bool {
+        gives(cursor, &[0, 1], 8)
+            && gives(cursor, &[0, 2, 3], 22)
+            && gives_none(cursor)
+            && gives_none(cursor)
     }
 
     #[test]
     fn seeks_from_anywhere(rt: HostRuntime) -> Result<(), Fail> {
         let collection = read(rt.alloc(), BRANCHES)?;
         let mut cursor = Cursor::new(rt.alloc(), &collection);
-        seeks(&rt, &mut cursor)
-    }
-
-    /// The cursor goes behind the first line, the last one and the first one again.
-    fn seeks(rt: &impl Abort, cursor: &mut Cursor<'_, '_>) -> Result<(), Fail> {
         for (place, is_last) in [(8, false), (22, true), (8, false)] {
-            cursor.seek_after(place)?;
-            if is_last {
-                assert!(rt; cursor.next()?.is_none());
-            } else {
-                expect_line(rt, cursor.next()?, &[0, 2, 3], 22);
-            }
+            assert!(rt; goes_after(&mut cursor, place, is_last), "after {place}");
         }
         Ok(())
+    }
+
+    /// The cursor goes to after the line that ends at the place, which is the last one or the first.
+    fn goes_after(cursor: &mut Cursor<'_, '_>, place: u64, is_last: bool) -> bool {
+        cursor.seek_after(place) == Ok(())
+            && if is_last {
+                gives_none(cursor)
+            } else {
+                gives(cursor, &[0, 2, 3], 22)
+            }
     }
 
     #[test]
     fn stays_after_a_refused_place(rt: HostRuntime) -> Result<(), Fail> {
         let collection = read(rt.alloc(), BRANCHES)?;
         let mut cursor = Cursor::new(rt.alloc(), &collection);
-        stays(&rt, &mut cursor)
-    }
-
-    /// Where no line has a place the cursor stands where it stood.
-    fn stays(rt: &impl Abort, cursor: &mut Cursor<'_, '_>) -> Result<(), Fail> {
-        cursor.seek_after(8)?;
-        assert!(rt; cursor.seek_after(16) == Err(SeekFault::NoSuchLine { place: 16 }));
-        expect_line(rt, cursor.next()?, &[0, 2, 3], 22);
+        assert!(rt; stays(&mut cursor));
         Ok(())
     }
 
-    fn expect_line(rt: &impl Abort, line: Option<LineRef<'_>>, path: &[usize], place: usize) {
-        let is_so = match line {
-            Some(line) => line.path() == path && line.game() == 1 && line.place() == place,
-            None => false,
-        };
-        assert!(rt; is_so, "the line that ends at {place}");
+    /// Where no line has a place the cursor stands where it stood.
+    fn stays(cursor: &mut Cursor<'_, '_>) -> bool {
+        cursor.seek_after(8) == Ok(())
+            && cursor.seek_after(16) == Err(SeekFault::NoSuchLine { place: 16 })
+            && gives(cursor, &[0, 2, 3], 22)
     }
 }

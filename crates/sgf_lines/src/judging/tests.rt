@@ -7,29 +7,73 @@ use sgf_tree::read;
 use std::alloc::Global;
 use std::process::Abort;
 
-fn open(black: u32, white: u32) -> Verdict {
-    Verdict::Score {
-        black,
-        white,
-        over: false,
-    }
-}
+/// Texts, the node that a line ends in, and its score: Black's points, White's, and whether two passes ended the game.
+const SCORES: [(&str, usize, (u32, u32, bool)); 16] = [
+    ("(;SZ[3];B[bb])", 1, (9, 0, false)),
+    (" ( ; SZ [3] ; B [bb] ) ", 1, (9, 0, false)),
+    ("(;SZ[3](;B[aa])(;B[bb];W[aa]))", 1, (9, 0, false)),
+    ("(;SZ[3](;B[aa])(;B[bb];W[aa]))", 3, (1, 1, false)),
+    ("(;SZ[1])(;SZ[2])", 1, (0, 0, false)),
+    ("\u{feff}(;)", 0, (0, 0, false)),
+    ("(;SZ[3]AB[aa:ca])", 0, (9, 0, false)),
+    ("(;SZ[3]AB[aa]AW[ab][bb][ca]PL[B];B[ba])", 1, (0, 9, false)),
+    ("(;SZ[3]AB[aa]AW[ba][ab]AE[cc];B[cc])", 1, (1, 3, false)),
+    ("(;SZ[3]PL[W];W[aa])", 1, (0, 9, false)),
+    ("(;SZ[3];C[x]SZ[2])", 1, (0, 0, false)),
+    ("(;SZ[3];B[];W[];AE[aa];W[bb])", 4, (0, 9, false)),
+    ("(;SZ[3];B[](;W[])(;W[bb])(;AE[aa];W[]))", 2, (0, 0, true)),
+    ("(;SZ[3];B[](;W[])(;W[bb])(;AE[aa];W[]))", 3, (0, 9, false)),
+    ("(;SZ[3];B[](;W[])(;W[bb])(;AE[aa];W[]))", 5, (0, 0, false)),
+    ("(;SZ[9];B[];W[])", 2, (0, 0, true)),
+];
 
-fn over(black: u32, white: u32) -> Verdict {
-    Verdict::Score {
-        black,
-        white,
-        over: true,
-    }
-}
+/// Scores on boards of which 26 and more have points with capital letters, and on which `tt` is a point from 20 on.
+const SCORES_OF_SIZES: [(&str, usize, (u32, u32, bool)); 6] = [
+    ("(;SZ[19];B[tt])", 1, (0, 0, false)),
+    ("(;SZ[20];B[tt])", 1, (400, 0, false)),
+    ("(;SZ[26])", 0, (0, 0, false)),
+    ("(;SZ[27];B[zA])", 1, (729, 0, false)),
+    ("(;SZ[52];B[ZZ])", 1, (2704, 0, false)),
+    ("(;SZ[52];B[tt])", 1, (2704, 0, false)),
+];
 
-fn illegal(turn: u64, place: usize, reason: Reason) -> Verdict {
-    Verdict::Illegal {
-        turn,
-        place,
-        reason,
-    }
-}
+/// Texts, the node that a line ends in, and the first turn of it that isn't allowed, with its node's place and the reason.
+const REASONS: [(&str, usize, u64, usize, Reason); 14] = [
+    ("(;SZ[9]AB[aa];B[bb]PL[W])", 1, 1, 13, Reason::Mixed),
+    ("(;B[aa]W[bb])", 0, 1, 1, Reason::TwoMoves),
+    ("(;SZ[9]AB[jj])", 0, 1, 1, Reason::BadSetup),
+    ("(;SZ[3]AB[ca:aa])", 0, 1, 1, Reason::BadSetup),
+    ("(;SZ[3];B[aa];PL[b])", 2, 2, 13, Reason::BadSetup),
+    ("(;SZ[9];B[jj])", 1, 1, 7, Reason::BadPoint),
+    ("(;SZ[26];B[zA])", 1, 1, 8, Reason::BadPoint),
+    ("(;SZ[9];B[];W[];B[aa])", 3, 3, 15, Reason::Over),
+    ("(;SZ[3];B[];W[];PL[W];W[aa])", 4, 3, 21, Reason::Over),
+    ("(;SZ[9];W[aa])", 1, 1, 7, Reason::Turn),
+    ("(;SZ[9];B[aa];W[aa])", 2, 2, 13, Reason::Occupied),
+    ("(;SZ[1];B[aa])", 1, 1, 7, Reason::Repeat),
+    (
+        "(;SZ[4]AB[ba][ab][bc]AW[ca][db][cc][bb];B[cb];W[bb])",
+        2,
+        2,
+        45,
+        Reason::Repeat,
+    ),
+    (
+        "(;SZ[2];B[aa];W[bb];B[ba];W[ab];B[aa];W[ba];B[aa])",
+        7,
+        7,
+        43,
+        Reason::Repeat,
+    ),
+];
+
+/// Games that aren't judged, of one node each.
+const UNJUDGED: [(&str, Verdict); 4] = [
+    ("(;GM[2]SZ[26])", Verdict::NotGo),
+    ("(;GM[x])", Verdict::NotGo),
+    ("(;SZ[19:19])", Verdict::BadSize),
+    ("(;SZ[53])", Verdict::BadSize),
+];
 
 /// The verdict of the line that ends in a node; none where the text isn't a collection in which a line ends there.
 fn verdict(alloc: Global, text: &[u8], leaf: usize) -> Option<Verdict> {
@@ -42,90 +86,38 @@ fn verdict(alloc: Global, text: &[u8], leaf: usize) -> Option<Verdict> {
 }
 
 /// The line that ends in a node has that verdict.
-fn is_judged(rt: &impl Abort, alloc: Global, text: &[u8], leaf: usize, wanted: Verdict) {
-    assert_eq!(rt; verdict(alloc, text, leaf), Some(wanted), "of {text:?}");
+fn is_judged(rt: &impl Abort, alloc: Global, text: &str, leaf: usize, wanted: Verdict) {
+    let is_so = verdict(alloc, text.as_bytes(), leaf) == Some(wanted);
+    assert!(rt; is_so, "{text:?} is {wanted:?}");
 }
 
-/// The area scores of the last board, and whether two passes ended the game.
 #[test]
 fn scores(rt: HostRuntime) {
-    for (text, leaf, wanted) in [
-        (b"(;SZ[3];B[bb])".as_slice(), 1, open(9, 0)),
-        (b" ( ; SZ [3] ; B [bb] ) ", 1, open(9, 0)),
-        (b"(;SZ[3](;B[aa])(;B[bb];W[aa]))", 1, open(9, 0)),
-        (b"(;SZ[3](;B[aa])(;B[bb];W[aa]))", 3, open(1, 1)),
-        (b"(;SZ[1])(;SZ[2])", 1, open(0, 0)),
-        (b"\xEF\xBB\xBF(;)", 0, open(0, 0)),
-        (b"(;SZ[3]AB[aa:ca])", 0, open(9, 0)),
-        (b"(;SZ[3]AB[aa]AW[ab][bb][ca]PL[B];B[ba])", 1, open(0, 9)),
-        (b"(;SZ[3]AB[aa]AW[ba][ab]AE[cc];B[cc])", 1, open(1, 3)),
-        (b"(;SZ[3]PL[W];W[aa])", 1, open(0, 9)),
-        (b"(;SZ[3];C[x]SZ[2])", 1, open(0, 0)),
-        (b"(;SZ[3];B[];W[];AE[aa];W[bb])", 4, open(0, 9)),
-        (b"(;SZ[3];B[](;W[])(;W[bb])(;AE[aa];W[]))", 2, over(0, 0)),
-        (b"(;SZ[3];B[](;W[])(;W[bb])(;AE[aa];W[]))", 3, open(0, 9)),
-        (b"(;SZ[3];B[](;W[])(;W[bb])(;AE[aa];W[]))", 5, open(0, 0)),
-        (b"(;SZ[9];B[];W[])", 2, over(0, 0)),
-    ] {
-        is_judged(&rt, rt.alloc(), text, leaf, wanted);
+    for &(text, leaf, (black, white, over)) in &SCORES {
+        let score = Verdict::Score { black, white, over };
+        is_judged(&rt, rt.alloc(), text, leaf, score);
+    }
+    for &(text, leaf, (black, white, over)) in &SCORES_OF_SIZES {
+        let score = Verdict::Score { black, white, over };
+        is_judged(&rt, rt.alloc(), text, leaf, score);
     }
 }
 
 #[test]
 fn reasons(rt: HostRuntime) {
-    for (text, leaf, turn, place, reason) in [
-        (
-            b"(;SZ[9]AB[aa];B[bb]PL[W])".as_slice(),
-            1,
-            1,
-            13,
-            Reason::Mixed,
-        ),
-        (b"(;B[aa]W[bb])", 0, 1, 1, Reason::TwoMoves),
-        (b"(;SZ[9]AB[jj])", 0, 1, 1, Reason::BadSetup),
-        (b"(;SZ[3]AB[ca:aa])", 0, 1, 1, Reason::BadSetup),
-        (b"(;SZ[3];B[aa];PL[b])", 2, 2, 13, Reason::BadSetup),
-        (b"(;SZ[9];B[jj])", 1, 1, 7, Reason::BadPoint),
-        (b"(;SZ[9];B[];W[];B[aa])", 3, 3, 15, Reason::Over),
-        (b"(;SZ[3];B[];W[];PL[W];W[aa])", 4, 3, 21, Reason::Over),
-        (b"(;SZ[9];W[aa])", 1, 1, 7, Reason::Turn),
-        (b"(;SZ[9];B[aa];W[aa])", 2, 2, 13, Reason::Occupied),
-        (b"(;SZ[1];B[aa])", 1, 1, 7, Reason::Repeat),
-        (
-            b"(;SZ[4]AB[ba][ab][bc]AW[ca][db][cc][bb];B[cb];W[bb])",
-            2,
-            2,
-            45,
-            Reason::Repeat,
-        ),
-        (
-            b"(;SZ[2];B[aa];W[bb];B[ba];W[ab];B[aa];W[ba];B[aa])",
-            7,
-            7,
-            43,
-            Reason::Repeat,
-        ),
-    ] {
-        is_judged(&rt, rt.alloc(), text, leaf, illegal(turn, place, reason));
+    for &(text, leaf, turn, place, reason) in &REASONS {
+        let illegal = Verdict::Illegal {
+            turn,
+            place,
+            reason,
+        };
+        is_judged(&rt, rt.alloc(), text, leaf, illegal);
     }
 }
 
-/// A board of 26 and more has points with capital letters, and on 20 and more `tt` is a point.
 #[test]
-fn sizes(rt: HostRuntime) {
-    for (text, leaf, wanted) in [
-        (b"(;GM[2]SZ[26])".as_slice(), 0, Verdict::NotGo),
-        (b"(;GM[x])", 0, Verdict::NotGo),
-        (b"(;SZ[19:19])", 0, Verdict::BadSize),
-        (b"(;SZ[53])", 0, Verdict::BadSize),
-        (b"(;SZ[19];B[tt])", 1, open(0, 0)),
-        (b"(;SZ[20];B[tt])", 1, open(400, 0)),
-        (b"(;SZ[26])", 0, open(0, 0)),
-        (b"(;SZ[26];B[zA])", 1, illegal(1, 8, Reason::BadPoint)),
-        (b"(;SZ[27];B[zA])", 1, open(729, 0)),
-        (b"(;SZ[52];B[ZZ])", 1, open(2704, 0)),
-        (b"(;SZ[52];B[tt])", 1, open(2704, 0)),
-    ] {
-        is_judged(&rt, rt.alloc(), text, leaf, wanted);
+fn unjudged(rt: HostRuntime) {
+    for &(text, verdict) in &UNJUDGED {
+        is_judged(&rt, rt.alloc(), text, 0, verdict);
     }
 }

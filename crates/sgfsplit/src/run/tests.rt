@@ -47,240 +47,232 @@ fn ends(
     Ok(())
 }
 
-/// What the words answer on the input: this output, with status 0 and nothing to tell.
-fn gives(
-    rt: &impl Abort,
-    alloc: Global,
-    words: &[&str],
-    input: &str,
-    want: &str,
-) -> Result<(), Fail> {
-    ends(rt, alloc, words, input, (0, want, ""))
+/// What words answer on an input: this output, with status 0 and nothing to tell.
+fn give(rt: &impl Abort, alloc: Global, cases: &[(&[&str], &str, &str)]) -> Result<(), Fail> {
+    for (words, input, output) in cases {
+        ends(rt, alloc, words, input, (0, output, ""))?;
+    }
+    Ok(())
 }
 
-/// What the words answer on an input that they can't be done with: this line, with status 1 and no output.
-fn tells(
-    rt: &impl Abort,
-    alloc: Global,
-    words: &[&str],
-    input: &str,
-    want: &str,
-) -> Result<(), Fail> {
-    ends(rt, alloc, words, input, (1, "", want))
+/// Words that can't be done with an input: this line, with status 1 and no output.
+fn tell(rt: &impl Abort, alloc: Global, cases: &[(&[&str], &str, &str)]) -> Result<(), Fail> {
+    for (words, input, line) in cases {
+        ends(rt, alloc, words, input, (1, "", line))?;
+    }
+    Ok(())
 }
 
-#[test]
-fn rows_of_two(rt: HostRuntime) -> Result<(), Fail> {
-    gives(
-        &rt,
-        rt.alloc(),
+/// The rows of two lines, all of them and pages of them.
+const ROWS_OF_TWO: [(&[&str], &str, &str); 7] = [
+    (
         &["split"],
         TWO,
         "8 1 2 score 9 0 open\n22 1 3 score 1 1 open\n",
-    )?;
-    gives(
-        &rt,
-        rt.alloc(),
-        &["split", "--after", "8"],
-        TWO,
-        "22 1 3 score 1 1 open\n",
-    )?;
-    gives(&rt, rt.alloc(), &["split", "--after", "22"], TWO, "")?;
-    gives(
-        &rt,
-        rt.alloc(),
-        &["split", "--limit", "1"],
-        TWO,
-        "8 1 2 score 9 0 open\n",
-    )?;
-    gives(&rt, rt.alloc(), &["split", "--limit", "0"], TWO, "")?;
-    gives(
-        &rt,
-        rt.alloc(),
+    ),
+    (&["split", "--after", "8"], TWO, "22 1 3 score 1 1 open\n"),
+    (&["split", "--after", "22"], TWO, ""),
+    (&["split", "--limit", "1"], TWO, "8 1 2 score 9 0 open\n"),
+    (&["split", "--limit", "0"], TWO, ""),
+    (
         &["split", "--after", "8", "--limit", "1"],
         TWO,
         "22 1 3 score 1 1 open\n",
-    )?;
-    gives(
-        &rt,
-        rt.alloc(),
-        &["split", "--after", "22", "--limit", "1"],
-        TWO,
-        "",
-    )?;
-    Ok(())
-}
+    ),
+    (&["split", "--after", "22", "--limit", "1"], TWO, ""),
+];
 
 #[test]
-fn texts(rt: HostRuntime) -> Result<(), Fail> {
-    gives(
-        &rt,
-        rt.alloc(),
+fn rows_of_two(rt: HostRuntime) -> Result<(), Fail> {
+    give(&rt, rt.alloc(), &ROWS_OF_TWO)
+}
+
+/// Lines as games of their own.
+const TEXTS: [(&[&str], &str, &str); 2] = [
+    (
         &["split", "--form", "sgf"],
         TWO,
         "(;SZ[3];B[aa])\n(;SZ[3];B[bb];W[aa])\n",
-    )?;
-    gives(
-        &rt,
-        rt.alloc(),
+    ),
+    (
         &["split", "--form", "sgf"],
         "(;GaMe[1]C[a\\]b] ;B[aa])",
         "(;GM[1]C[a\\]b];B[aa])\n",
-    )?;
-    Ok(())
-}
+    ),
+];
 
 #[test]
-fn scripts(rt: HostRuntime) -> Result<(), Fail> {
-    gives(
-        &rt,
-        rt.alloc(),
+fn texts(rt: HostRuntime) -> Result<(), Fail> {
+    give(&rt, rt.alloc(), &TEXTS)
+}
+
+/// Lines as scripts of the Go Text Protocol.
+const SCRIPTS: [(&[&str], &str, &str); 3] = [
+    (
         &["split", "--form", "gtp"],
         "(;SZ[3];B[bb])",
         "# 7 1 2 score 9 0 open\nboardsize 3\nclear_board\nplay B B2\n\n",
-    )?;
-    gives(
-        &rt,
-        rt.alloc(),
+    ),
+    (
         &["split", "--form", "gtp"],
         "(;SZ[5]AB[ab][ba]AW[cc]C[one\ntwo];W[];B[ee])",
         "# 37 1 3 score 4 1 open\nboardsize 5\nclear_board\n# one\n# two\nclear_board\nplay B B5\nplay B A4\nplay W C3\nplay W pass\nplay B E1\n\n",
-    )?;
-    Ok(())
-}
+    ),
+    (
+        &["split", "--form", "gtp"],
+        "(;GM[2]SZ[26])",
+        "# 1 1 1 unjudged game\n\n",
+    ),
+];
 
 #[test]
-fn verdicts(rt: HostRuntime) -> Result<(), Fail> {
-    gives(
-        &rt,
-        rt.alloc(),
-        &["split"],
-        "(;SZ[3];B[bb])",
-        "7 1 2 score 9 0 open\n",
-    )?;
-    gives(
-        &rt,
-        rt.alloc(),
-        &["split"],
-        "(;SZ[1];B[aa])",
-        "7 1 2 illegal 1 7 repeat\n",
-    )?;
-    gives(
-        &rt,
-        rt.alloc(),
+fn scripts(rt: HostRuntime) -> Result<(), Fail> {
+    give(&rt, rt.alloc(), &SCRIPTS)
+}
+
+/// Rows of games that are judged, and of such as aren't.
+const VERDICTS: [(&[&str], &str, &str); 10] = [
+    (&["split"], "(;SZ[3];B[bb])", "7 1 2 score 9 0 open\n"),
+    (&["split"], "(;SZ[1];B[aa])", "7 1 2 illegal 1 7 repeat\n"),
+    (
         &["split"],
         "(;SZ[1])(;SZ[2])",
         "1 1 1 score 0 0 open\n9 2 1 score 0 0 open\n",
-    )?;
-    gives(
-        &rt,
-        rt.alloc(),
+    ),
+    (
         &["split", "--after", "1"],
         "(;SZ[1])(;SZ[2])",
         "9 2 1 score 0 0 open\n",
-    )?;
-    gives(
-        &rt,
-        rt.alloc(),
-        &["split"],
-        "(;GM[2]SZ[26])",
-        "1 1 1 unjudged game\n",
-    )?;
-    gives(
-        &rt,
-        rt.alloc(),
-        &["split"],
-        "(;SZ[19:19])",
-        "1 1 1 unjudged size\n",
-    )?;
-    gives(
-        &rt,
-        rt.alloc(),
+    ),
+    (&["split"], "(;GM[2]SZ[26])", "1 1 1 unjudged game\n"),
+    (&["split"], "(;SZ[19:19])", "1 1 1 unjudged size\n"),
+    (&["split"], "(;SZ[53])", "1 1 1 unjudged size\n"),
+    (&["split"], "(;SZ[9];B[];W[])", "11 1 3 score 0 0 over\n"),
+    (
         &["split"],
         " ( ; SZ [3] ; B [bb] ) ",
         "12 1 2 score 9 0 open\n",
-    )?;
-    gives(
-        &rt,
-        rt.alloc(),
-        &["split"],
-        "\u{feff}(;)",
-        "4 1 1 score 0 0 open\n",
-    )?;
-    Ok(())
+    ),
+    (&["split"], "\u{feff}(;)", "4 1 1 score 0 0 open\n"),
+];
+
+#[test]
+fn verdicts(rt: HostRuntime) -> Result<(), Fail> {
+    give(&rt, rt.alloc(), &VERDICTS)
 }
+
+/// Rows of lines of which a node isn't allowed, a line for each reason at least.
+const REASONS: [(&[&str], &str, &str); 10] = [
+    (
+        &["split"],
+        "(;SZ[9]AB[aa];B[bb]PL[W])",
+        "13 1 2 illegal 1 13 mixed\n",
+    ),
+    (&["split"], "(;B[aa]W[bb])", "1 1 1 illegal 1 1 two-moves\n"),
+    (
+        &["split"],
+        "(;SZ[9]AB[jj])",
+        "1 1 1 illegal 1 1 bad-setup\n",
+    ),
+    (
+        &["split"],
+        "(;SZ[9];B[jj])",
+        "7 1 2 illegal 1 7 bad-point\n",
+    ),
+    (
+        &["split"],
+        "(;SZ[9];B[];W[];B[aa])",
+        "15 1 4 illegal 3 15 over\n",
+    ),
+    (
+        &["split"],
+        "(;SZ[3];B[];W[];PL[W];W[aa])",
+        "21 1 5 illegal 3 21 over\n",
+    ),
+    (&["split"], "(;SZ[9];W[aa])", "7 1 2 illegal 1 7 turn\n"),
+    (
+        &["split"],
+        "(;SZ[9];B[aa];W[aa])",
+        "13 1 3 illegal 2 13 occupied\n",
+    ),
+    (
+        &["split"],
+        "(;SZ[4]AB[ba][ab][bc]AW[ca][db][cc][bb];B[cb];W[bb])",
+        "45 1 3 illegal 2 45 repeat\n",
+    ),
+    (
+        &["split"],
+        "(;SZ[2];B[aa];W[bb];B[ba];W[ab];B[aa];W[ba];B[aa])",
+        "43 1 8 illegal 7 43 repeat\n",
+    ),
+];
+
+#[test]
+fn reasons(rt: HostRuntime) -> Result<(), Fail> {
+    give(&rt, rt.alloc(), &REASONS)
+}
+
+/// How many games, nodes and lines there are.
+const COUNTS: [(&[&str], &str, &str); 3] = [
+    (&["count"], TWO, "1 4 2\n"),
+    (&["count"], "(;SZ[1])(;SZ[2])", "2 2 2\n"),
+    (&["count"], "(;GM[2](;)(;))", "1 3 2\n"),
+];
 
 #[test]
 fn counts(rt: HostRuntime) -> Result<(), Fail> {
-    gives(&rt, rt.alloc(), &["count"], TWO, "1 4 2\n")?;
-    gives(&rt, rt.alloc(), &["count"], "(;SZ[1])(;SZ[2])", "2 2 2\n")?;
-    Ok(())
+    give(&rt, rt.alloc(), &COUNTS)
 }
 
-#[test]
-fn no_such_line(rt: HostRuntime) -> Result<(), Fail> {
-    tells(
-        &rt,
-        rt.alloc(),
+/// Places at which no line ends.
+const NO_SUCH_LINES: [(&[&str], &str, &str); 3] = [
+    (
         &["split", "--after", "1"],
         "(;SZ[3];B[bb])",
         "sgfsplit: no line ends at 1\n",
-    )?;
-    tells(
-        &rt,
-        rt.alloc(),
+    ),
+    (
         &["split", "--after", "16", "--limit", "0"],
         TWO,
         "sgfsplit: no line ends at 16\n",
-    )?;
-    tells(
-        &rt,
-        rt.alloc(),
+    ),
+    (
         &["split", "--after", "18446744073709551615"],
         TWO,
         "sgfsplit: no line ends at 18446744073709551615\n",
-    )?;
-    Ok(())
-}
+    ),
+];
 
 #[test]
-fn first_faulty_byte(rt: HostRuntime) -> Result<(), Fail> {
-    tells(
-        &rt,
-        rt.alloc(),
-        &["split"],
-        "",
-        "sgfsplit: byte 0: input ends too early\n",
-    )?;
-    tells(
-        &rt,
-        rt.alloc(),
+fn no_such_line(rt: HostRuntime) -> Result<(), Fail> {
+    tell(&rt, rt.alloc(), &NO_SUCH_LINES)
+}
+
+/// Texts that are no collection, named by their first faulty byte.
+const FIRST_FAULTY_BYTES: [(&[&str], &str, &str); 6] = [
+    (&["split"], "", "sgfsplit: byte 0: input ends too early\n"),
+    (
         &["split"],
         "(;C[a\\",
         "sgfsplit: byte 6: input ends too early\n",
-    )?;
-    tells(
-        &rt,
-        rt.alloc(),
-        &["split"],
-        "(;SZ[3])x",
-        "sgfsplit: byte 8: not SGF\n",
-    )?;
-    tells(
-        &rt,
-        rt.alloc(),
+    ),
+    (&["split"], "(;SZ[3])x", "sgfsplit: byte 8: not SGF\n"),
+    (
         &["split"],
         "(;B[aa](;W[bb]);B[cc])",
         "sgfsplit: byte 15: not SGF\n",
-    )?;
-    tells(
-        &rt,
-        rt.alloc(),
+    ),
+    (&["count"], "()", "sgfsplit: byte 1: not SGF\n"),
+    (
         &["count"],
-        "()",
-        "sgfsplit: byte 1: not SGF\n",
-    )?;
-    Ok(())
+        "(;C[a\\",
+        "sgfsplit: byte 6: input ends too early\n",
+    ),
+];
+
+#[test]
+fn first_faulty_byte(rt: HostRuntime) -> Result<(), Fail> {
+    tell(&rt, rt.alloc(), &FIRST_FAULTY_BYTES)
 }
 
 /// Gives a text byte by byte, and fails where it has no more.

@@ -113,27 +113,33 @@ fn refuses(rt: &impl Abort, alloc: Global, words: &[&str], status: i32) -> Resul
     Ok(())
 }
 
+/// Words that ask for help.
+const HELPED: [&[&str]; 2] = [&["--help"], &["split", "--help"]];
+
 #[test]
 fn helped(rt: HostRuntime) -> Result<(), Fail> {
-    refuses(&rt, rt.alloc(), &["--help"], 0)?;
-    refuses(&rt, rt.alloc(), &["split", "--help"], 0)?;
+    for words in &HELPED {
+        refuses(&rt, rt.alloc(), words, 0)?;
+    }
     Ok(())
 }
 
+/// Words that ask for nothing that there is.
+const REFUSED: [&[&str]; 8] = [
+    &[],
+    &["two.sgf"],
+    &["--version"],
+    &["split", "--form", "xml"],
+    &["split", "--after", "x"],
+    &["split", "--form", "sgf", "--form", "sgf"],
+    &["split", "x", "y"],
+    &["count", "--limit", "1"],
+];
+
 #[test]
 fn refused_words(rt: HostRuntime) -> Result<(), Fail> {
-    refuses(&rt, rt.alloc(), &[], 2)?;
-    refuses(&rt, rt.alloc(), &["two.sgf"], 2)?;
-    refuses(&rt, rt.alloc(), &["--version"], 2)?;
-    refuses(&rt, rt.alloc(), &["split", "--form", "xml"], 2)?;
-    refuses(&rt, rt.alloc(), &["split", "--after", "x"], 2)?;
-    refuses(
-        &rt,
-        rt.alloc(),
-        &["split", "--form", "sgf", "--form", "sgf"],
-        2,
-    )?;
-    refuses(&rt, rt.alloc(), &["split", "x", "y"], 2)?;
-    refuses(&rt, rt.alloc(), &["count", "--limit", "1"], 2)?;
+    for words in &REFUSED {
+        refuses(&rt, rt.alloc(), words, 2)?;
+    }
     Ok(())
 }
