@@ -1,7 +1,7 @@
 #!/bin/sh
 # Prints the nanoseconds of a referee's turn, undo and score over both pasts, in games of random points, and of a flood of the
 # empty board, on sides 9, 19 and 52, by bench/board/main.rt.in: a turn's time is that of all tries, refused ones included, by
-# the turns taken. Then the bytes of memory that a placed stone takes over both pasts, the referee's record with it, and the
+# the turns taken. Then the bytes of memory that a placed stone takes over both pasts, with what the referee keeps of it, and the
 # peak of one long game, by bench/board/memory.rt.in. Where the variable TURNS names a program that prints the same times of
 # another referee, the two run by turns. The least time of ROUNDS runs (5) is printed for each.
 # The programs are no crates of this repository, so that the gate doesn't prove them: they are built in a folder of their own

@@ -38,7 +38,7 @@ Suggests: gnugo, parallel
 ${conflicts}Section: games
 Priority: optional
 Description: split a Go game record into its lines of play and judge each
- A game record with variations (Smart Game Format) is a tree. sgfsplit writes each
+ A Go game with variations (Smart Game Format) is a tree. sgfsplit writes each
  line of play as a record of its own, in file order, judged by the Tromp-Taylor
  rules, and names the first faulty byte of anything else.
  .

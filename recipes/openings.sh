@@ -3,8 +3,9 @@
 #
 #   recipes/openings.sh 4 *.sgf | head
 #
-# A row is COUNT SIDE MOVE .. with moves as in GTP (`B-Q16`). Lines in which the referee finds an illegal node count up to it, those of
-# other games or of sides past 25 don't count; stones set up at the beginning stand as moves too. A file that is refused is named
+# A row is COUNT SIDE MOVE .. with moves as in GTP (`B-Q16`). Lines in which the referee finds an illegal node count up to it. Lines
+# whose script has no commands (other games, sides past 25, a setup that leaves a group without a liberty) don't count. Stones set up
+# at the beginning stand as moves too. A file that is refused is named
 # on standard error, and the others go on.
 set -euo pipefail
 sgfsplit=${SGFSPLIT:-sgfsplit}

@@ -1,5 +1,5 @@
 #!/bin/sh
-# Writes a game record without what stands around it, such as mail headers, an introduction or a signature: standard input from
+# Writes SGF text without what stands around it, such as mail headers, an introduction or a signature: standard input from
 # its first `(` before a `;` to its last `)`. Places then count from that `(`.
 #
 #   recipes/without_prose.sh < mail.txt | sgfsplit split

@@ -1,5 +1,5 @@
 #!/usr/bin/env bash
-# The manual page is well formed, and each option and subcommand of the help stands in it, as do each reason and fault row.
+# The manual page is well formed, and each option and subcommand of the help stands in it.
 . "$(dirname "$0")/lib.sh"
 page=$top/man/sgfsplit.1
 { "$SGFSPLIT" --help; "$SGFSPLIT" split --help; } > help

@@ -1,4 +1,4 @@
-//! Runs.
+//! Runs while memory is refused.
 
 use crate::page::Page;
 use crate::seen::{Seen, Wrong, right, wrong_in};

@@ -320,7 +320,7 @@ impl Board {
     }
 
     /// The whole move: the point takes the player's colour, then the opponent's colour is cleared, then the player's
-    /// own.
+    /// own, which is suicide.
     #[tactic(auto, using(crate::proofs::SettledLemmas::settled_by_play, crate::proofs::SettledLemmas::side_play))]
     pub fn place(&mut self, colour: Colour, point: Point)
         requires on_board { IsOn self.old.side point }

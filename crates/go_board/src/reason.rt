@@ -17,7 +17,7 @@ pub enum Reason {
     BadSetup,
     /// A move is neither a pass nor a point of the board.
     BadPoint,
-    /// The game is over: the last two turns were passes.
+    /// The game is over: two passes came one after the other, and no setup of stones since.
     Over,
     /// It is the other player's turn.
     Turn,

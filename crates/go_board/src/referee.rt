@@ -1,4 +1,5 @@
-//! The referee: the rules of Tromp-Taylor over a past, with undo.
+//! The referee: the rules of Tromp-Taylor over a past, with undo. Each accepted call keeps what it changes besides the past
+//! (`Earlier`), which `undo` gives back; where the call added a colouring to the past, `undo` takes that off.
 
 #[cfg(test)]
 mod capture_tests;

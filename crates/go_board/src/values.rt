@@ -1,4 +1,5 @@
-//! The points and rectangles that property values name (SGF FF[4], "Point" and "compressed point lists").
+//! The points and rectangles that property values name (SGF FF[4], "Point" and "compressed point lists"). A pass, as `tt` may
+//! be, is told from a point before these are asked.
 
 #[cfg(test)]
 mod tests;

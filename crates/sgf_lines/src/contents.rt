@@ -1,4 +1,5 @@
-//! What a node holds for the referee: moves, stones and players (SGF FF[4], move and setup properties).
+//! What a node holds for the referee and for a script: moves, stones and players (SGF FF[4], move and setup properties), and
+//! a comment.
 
 ghost use Rattle.std.specs.Prelude.{◌≡◌, ◌∷◌, ◌++◌, [], ℕ, List, OnOk, IfOk};
 ghost use Rattle.sgf_tree.specs.Tree.{Property, values};
@@ -23,7 +24,7 @@ pub(crate) enum Moves<'a> {
     Several,
 }
 
-/// What a node holds for the referee.
+/// What a node holds for the referee and for a script.
 #[derive(Drop)]
 pub(crate) struct Contents<'a> {
     pub(crate) moves: Moves<'a>,

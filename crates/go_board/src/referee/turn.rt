@@ -1,4 +1,5 @@
-//! A referee's turns.
+//! A referee's turns. Of positional superko the past is asked: whether a stone would make a colouring that was there since
+//! the last setup of stones.
 
 use crate::fault::{MemoryFault, TurnFault};
 use crate::past::Past;

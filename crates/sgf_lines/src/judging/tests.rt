@@ -27,7 +27,7 @@ const SCORES: [(&str, usize, (u32, u32, bool)); 16] = [
     ("(;SZ[9];B[];W[])", 2, (0, 0, true)),
 ];
 
-/// Scores on boards of which 26 and more have points with capital letters, and on which `tt` is a point from 20 on.
+/// Scores on boards that have points with capital letters from side 27 on, and on which `tt` is a point from 20 on.
 const SCORES_OF_SIZES: [(&str, usize, (u32, u32, bool)); 6] = [
     ("(;SZ[19];B[tt])", 1, (0, 0, false)),
     ("(;SZ[20];B[tt])", 1, (400, 0, false)),

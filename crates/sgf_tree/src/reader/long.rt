@@ -1,5 +1,5 @@
-//! Where raw values end. A long one is searched for its end once, when it is read: its length is kept for those who step
-//! over it later.
+//! Where raw values end: at the first `]` that no `\` escapes. A long one is searched for its end once, when it is read: its
+//! length is kept for those who step over it later.
 
 ghost use Rattle.std.specs.Prelude.{◌≡◌, ◌≤◌, length, IfSome, IfOk, IfErr, OnOk, MatchOption};
 ghost use Rattle.sgf_tree.specs.inner.Progress.{IsValueEnd, SpellsNoValue};
