@@ -20,15 +20,24 @@ fn on_one<P: Past>(alloc: Global, seen: &mut Seen) -> Result<(), Wrong> {
     passes_twice(&mut game, seen)
 }
 
+/// What a player plays, and what the game says of it, with the turns made then and whether it is over.
+type Answered = (Colour, Play, Result<(), Reason>, u64, bool);
+
 /// Black must move first, on one point every stone repeats the empty board, and two passes end the game.
+const PASSES: [Answered; 5] = [
+    (Colour::Black, CORNER, Err(Reason::Repeat), 0, false),
+    (Colour::White, Play::Pass, Err(Reason::Turn), 0, false),
+    (Colour::Black, Play::Pass, Ok(()), 1, false),
+    (Colour::White, Play::Pass, Ok(()), 2, true),
+    (Colour::Black, Play::Pass, Err(Reason::Over), 2, true),
+];
+
+/// Plays those turns, and takes the last pass back.
 fn passes_twice<P: Past>(game: &mut Referee<P>, seen: &mut Seen) -> Result<(), Wrong> {
-    turn(game, Colour::Black, CORNER, Err(Reason::Repeat), seen)?;
-    turn(game, Colour::White, Play::Pass, Err(Reason::Turn), seen)?;
-    turn(game, Colour::Black, Play::Pass, Ok(()), seen)?;
-    right(game.turns() == 1 && !game.over(), "a game after a pass")?;
-    turn(game, Colour::White, Play::Pass, Ok(()), seen)?;
-    right(game.turns() == 2 && game.over(), "a game after two passes")?;
-    turn(game, Colour::Black, Play::Pass, Err(Reason::Over), seen)?;
+    for &(colour, play, answer, turns, over) in &PASSES {
+        turn(game, colour, play, answer, seen)?;
+        right(game.turns() == turns && game.over() == over, "a game of passes")?;
+    }
     undo(game)?;
     right(
         !game.over() && game.turns() == 1 && game.depth() == 1,

@@ -34,7 +34,7 @@
 //! | `past/captures`, `past/setups` | a stone with what it captures, and a setup's points, on the newest colouring itself |
 //! | `past/print`, `past/table` | the print of a colouring, and `past/print/powers` for it; prints looked up by a table |
 //! | `reason`, `fault` | why a turn, or a node, isn't allowed; the errors |
-//! | `referee` | the referee and undo; `referee/plays`, `referee/setup`, `referee/turn` and `referee/reset` below it |
+//! | `referee` | the referee and undo; `referee/plays`, `referee/setup`, `referee/turn`, `referee/spare_turn` and `referee/reset` below it |
 //! | `laws` | what follows from the definitions |
 //!
 //! A point *reaches* a colour where a path of adjacent points of the point's own colour leads from it to a point of that

@@ -6,6 +6,7 @@ mod capture_tests;
 mod plays;
 mod reset;
 mod setup;
+mod spare_turn;
 #[cfg(test)]
 mod tests;
 mod turn;
