@@ -36,7 +36,10 @@ const PASSES: [Answered; 5] = [
 fn passes_twice<P: Past>(game: &mut Referee<P>, seen: &mut Seen) -> Result<(), Wrong> {
     for &(colour, play, answer, turns, over) in &PASSES {
         turn(game, colour, play, answer, seen)?;
-        right(game.turns() == turns && game.over() == over, "a game of passes")?;
+        right(
+            game.turns() == turns && game.over() == over,
+            "a game of passes",
+        )?;
     }
     undo(game)?;
     right(

@@ -18,7 +18,11 @@ impl<P: Past> Referee<P> {
     /// Takes the turn of a stone, which is tried on the spare board, unless it repeats a colouring. Tells whether the
     /// turn was taken.
     #[inline(never)]
-    pub(super) fn take_by_spare(&mut self, colour: Colour, point: Point) -> Result<bool, MemoryFault>
+    pub(super) fn take_by_spare(
+        &mut self,
+        colour: Colour,
+        point: Point,
+    ) -> Result<bool, MemoryFault>
         requires on_board { IsOn self.old.present.colouring.side point }
         requires only_repeat { MayOnlyRepeat self.old.present colour (Stone point) }
         ensures known { IfOk result (λ taken. reason_of self.old.present colour (Stone point)
