@@ -1,5 +1,6 @@
-//! The referee: the rules of Tromp-Taylor over a past, with undo. Each accepted call keeps what it changes besides the past
-//! (`Earlier`), which `undo` gives back; where the call added a colouring to the past, `undo` takes that off.
+//! The referee: the rules of Tromp-Taylor over a past, with undo. Each accepted setup or turn keeps the player, the passes and
+//! the turns from before it (`Earlier`), and `undo` gives them back; where the call added a colouring to the past, `undo` takes
+//! it off.
 
 #[cfg(test)]
 mod capture_tests;

@@ -1,4 +1,4 @@
-//! A referee's turns. Of positional superko the past is asked: whether a stone would make a colouring that was there since
+//! A referee's turns. For positional superko it asks the past whether a stone would make a colouring that was there since
 //! the last setup of stones.
 
 use crate::fault::{MemoryFault, TurnFault};
