@@ -5,8 +5,7 @@
 #
 # A row is COUNT SIDE MOVE .. with moves as in GTP (`B-Q16`). Lines in which the referee finds an illegal node count up to it. Lines
 # whose script has no commands (unjudged ones, sides past 25, a setup that leaves a group without a liberty) don't count. Stones set
-# up at the beginning stand as moves too. A file that is refused is named
-# on standard error, and the others go on.
+# up at the beginning stand as moves too. A file that is refused is named on standard error, and the others go on.
 set -euo pipefail
 sgfsplit=${SGFSPLIT:-sgfsplit}
 moves=$1
