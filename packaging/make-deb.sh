@@ -37,7 +37,7 @@ Depends: libc6 (>= ${libc:-2.17})
 Suggests: gnugo, parallel
 ${conflicts}Section: games
 Priority: optional
-Description: split a Go game record into its lines of play and judge each
+Description: split a Go game with variations into its lines of play and judge each
  A Go game with variations (Smart Game Format) is a tree. sgfsplit writes each
  line of play as a record of its own, in file order, judged by the Tromp-Taylor
  rules, and names the first faulty byte of anything else.

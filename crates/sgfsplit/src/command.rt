@@ -58,7 +58,7 @@ pub fn command<'a>(alloc: Global) -> Result<Command<'a>, AllocError>
 {
     let split = split_command(alloc)?;
     let program = Command::new(alloc, "sgfsplit")
-        .about("Splits Go game records with variations into their single lines of play")
+        .about("Splits Go games with variations into their single lines of play")
         .after_help(EXAMPLE)
         .subcommand_required(true)
         .subcommand(split)?;
