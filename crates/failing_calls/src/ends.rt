@@ -3,7 +3,7 @@
 ghost use Rattle.std.specs.Prelude.{◌≡◌, ◌≤◌, None};
 
 use crate::runs::{FIRST, SECOND};
-use crate::seen::{Seen, Wrong, right, wrong_in};
+use crate::seen::Seen;
 use crate::tree::TWO;
 use sgf_lines::{
     ArraySink, Form, Options, RunFault, Sink, SinkFault, SliceSource, Source, SourceFault, count,
@@ -22,16 +22,17 @@ const ROWS: Options = Options {
 const LENGTH: usize = FIRST.len() + SECOND.len();
 
 /// Makes the runs.
-pub fn calls(alloc: Global, seen: &mut Seen) -> Result<(), Wrong> {
+pub fn calls(alloc: Global, seen: &mut Seen) {
     for calls in 0..TWO.len() + 2 {
-        source_fails(alloc, calls, seen)?;
+        source_fails(alloc, calls, seen);
+        count_fails(alloc, calls, seen);
     }
     for step in [1, 7, 64] {
         for room in 0..LENGTH + 1 {
-            sink_fails(alloc, step, room, seen)?;
+            flush_fails(alloc, step, room, seen);
+            sink_fails(alloc, step, room, seen);
         }
     }
-    Ok(())
 }
 
 /// A source that gives one byte of a text a call, so often, and then fails.
@@ -75,29 +76,33 @@ impl Source for Trickle<'_> {
     }
 }
 
-/// A run and a count from a source that fails after so many calls: they fail, and nothing is written, unless the source comes
-/// to its end.
-fn source_fails(alloc: Global, calls: usize, seen: &mut Seen) -> Result<(), Wrong> {
+/// A run from a source that fails after so many calls: it fails, and nothing is written, unless the source comes to its end.
+fn source_fails(alloc: Global, calls: usize, seen: &mut Seen) {
     seen.call();
     let mut source = byte_by_byte(calls);
     let mut sink = ArraySink::<64>::new();
     let answer = split(alloc, &mut source, &mut sink, &ROWS);
     let fails = calls <= TWO.len();
+    let written = sink.as_slice().len();
     match answer {
         Err(RunFault::Memory { .. }) => seen.want(),
-        Err(RunFault::Read) => right(fails && sink.as_slice().is_empty(), "a failed read")?,
-        Ok(2) => right(!fails && sink.as_slice().len() == LENGTH, "a byte a read")?,
-        _ => return wrong_in("a run whose source fails"),
+        Err(RunFault::Read) => seen.right(fails && written == 0, "a failed read"),
+        Ok(2) => seen.right(!fails && written == LENGTH, "a byte a read"),
+        _ => seen.wrong("a run whose source fails"),
     }
+}
+
+/// A count from such a source.
+fn count_fails(alloc: Global, calls: usize, seen: &mut Seen) {
     seen.call();
     let mut source = byte_by_byte(calls);
+    let fails = calls <= TWO.len();
     match count(alloc, &mut source) {
         Err(RunFault::Memory { .. }) => seen.want(),
-        Err(RunFault::Read) => right(fails, "a failed read of a count")?,
-        Ok(counts) => right(!fails && counts.lines == 2, "a count by a byte a read")?,
-        Err(_) => return wrong_in("a count whose source fails"),
+        Err(RunFault::Read) => seen.right(fails, "a failed read of a count"),
+        Ok(counts) => seen.right(!fails && counts.lines == 2, "a count by a byte a read"),
+        Err(_) => seen.wrong("a count whose source fails"),
     }
-    Ok(())
 }
 
 /// A sink that takes at most `step` bytes a call and `room` bytes in all, and then fails, as its flush may.
@@ -159,32 +164,40 @@ impl Sink for Narrow {
 }
 
 /// A run to a sink with that room, whose flush fails: what fits stands, and the fault names the whole records of it.
-fn sink_fails(alloc: Global, step: usize, room: usize, seen: &mut Seen) -> Result<(), Wrong> {
+fn flush_fails(alloc: Global, step: usize, room: usize, seen: &mut Seen) {
     seen.call();
     let mut source = SliceSource::new(TWO);
     let mut sink = sink_of(step, room, false);
-    let lines = match split(alloc, &mut source, &mut sink, &ROWS) {
-        Err(RunFault::Memory { .. }) => {
-            seen.want();
-            return Ok(());
+    match split(alloc, &mut source, &mut sink, &ROWS) {
+        Err(RunFault::Memory { .. }) => seen.want(),
+        Err(RunFault::Write { lines }) => {
+            seen.right(lines == whole(room), "the lines before a failed write");
+            let fits = is_front(&sink.bytes[..sink.taken], room);
+            seen.right(fits, "what stands after a failed write");
         }
-        Err(RunFault::Write { lines }) => lines,
-        _ => return wrong_in("a run whose sink fails"),
-    };
-    let whole = u64::from(room >= FIRST.len()) + u64::from(room >= LENGTH);
-    right(lines == whole, "the lines before a failed write")?;
-    let taken = &sink.bytes[..sink.taken];
-    right(is_front(taken, room), "what stands after a failed write")?;
+        _ => seen.wrong("a run whose sink fails"),
+    }
+}
+
+/// A run to a sink with that room: it fails unless all fits.
+fn sink_fails(alloc: Global, step: usize, room: usize, seen: &mut Seen) {
     seen.call();
     let mut source = SliceSource::new(TWO);
     let mut sink = sink_of(step, room, true);
+    let fits = room >= LENGTH;
     match split(alloc, &mut source, &mut sink, &ROWS) {
         Err(RunFault::Memory { .. }) => seen.want(),
-        Err(RunFault::Write { lines }) => right(lines == whole && room < LENGTH, "a failed write")?,
-        Ok(lines) => right(lines == 2 && room >= LENGTH, "little at a time")?,
-        Err(_) => return wrong_in("a run whose sink is narrow"),
+        Err(RunFault::Write { lines }) => {
+            seen.right(lines == whole(room) && !fits, "a failed write")
+        }
+        Ok(lines) => seen.right(lines == 2 && fits, "little at a time"),
+        Err(_) => seen.wrong("a run whose sink is narrow"),
     }
-    Ok(())
+}
+
+/// How many whole rows so many bytes have room for.
+fn whole(room: usize) -> u64 {
+    u64::from(room >= FIRST.len()) + u64::from(room >= LENGTH)
 }
 
 /// Whether these are the first bytes of the two rows, so many.

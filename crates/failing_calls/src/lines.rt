@@ -1,7 +1,7 @@
 //! The calls of `sgf_lines` on a collection that was read, and its counts.
 
 use crate::page::Page;
-use crate::seen::{Seen, Wrong, right, wrong_in};
+use crate::seen::Seen;
 use crate::tree::{TWO, collection};
 use go_board::Reason;
 use sgf_lines::{
@@ -14,84 +14,88 @@ use std::alloc::Global;
 const KO: &[u8] = b"(;SZ[4]AB[ba][ab][bc]AW[ca][db][cc][bb];B[cb];W[bb])";
 
 /// Makes the calls.
-pub fn calls(alloc: Global, seen: &mut Seen) -> Result<(), Wrong> {
-    two_lines(alloc, seen)?;
-    ko(alloc, seen)?;
-    counts(alloc, seen)
+pub fn calls(alloc: Global, seen: &mut Seen) {
+    two_lines(alloc, seen);
+    ko(alloc, seen);
+    counts(alloc, seen);
 }
 
 /// Goes over the game of two lines, and judges the first.
-fn two_lines(alloc: Global, seen: &mut Seen) -> Result<(), Wrong> {
-    let two = collection(alloc, TWO, seen)?;
-    goes_over(alloc, &two, seen)?;
+fn two_lines(alloc: Global, seen: &mut Seen) {
+    let Ok(two) = collection(alloc, TWO, seen) else {
+        return;
+    };
+    goes_over(alloc, &two, seen);
     let score = Verdict::Score {
         black: 9,
         white: 0,
         over: false,
     };
-    judged(alloc, &two, 1, score, seen)
+    judged(alloc, &two, 1, score, seen);
 }
 
 /// Judges the line that a ko ends.
-fn ko(alloc: Global, seen: &mut Seen) -> Result<(), Wrong> {
-    let ko = collection(alloc, KO, seen)?;
+fn ko(alloc: Global, seen: &mut Seen) {
+    let Ok(ko) = collection(alloc, KO, seen) else {
+        return;
+    };
     let repeat = Verdict::Illegal {
         turn: 2,
         place: 45,
         reason: Reason::Repeat,
     };
-    judged(alloc, &ko, 2, repeat, seen)
+    judged(alloc, &ko, 2, repeat, seen);
 }
 
 /// Goes over the lines of the game of two lines, and looks for places.
-fn goes_over(alloc: Global, two: &Collection<'_>, seen: &mut Seen) -> Result<(), Wrong> {
+fn goes_over(alloc: Global, two: &Collection<'_>, seen: &mut Seen) {
     let mut cursor = Cursor::new(alloc, two);
-    both(&mut cursor, seen)?;
+    both(&mut cursor, seen);
     cursor = Cursor::new(alloc, two);
-    places(&mut cursor, seen)?;
+    places(&mut cursor, seen);
     cursor = Cursor::new(alloc, two);
-    next(&mut cursor, Some((&[0, 1], 8)), seen)?;
+    next(&mut cursor, Some((&[0, 1], 8)), seen);
     // A refused search leaves the cursor where it was: before the second line.
     if cursor.seek_after(22).is_err() {
         seen.want();
     } else {
         cursor = Cursor::new(alloc, two);
-        next(&mut cursor, Some((&[0, 1], 8)), seen)?;
+        next(&mut cursor, Some((&[0, 1], 8)), seen);
     }
-    next(&mut cursor, Some((&[0, 2, 3], 22)), seen)
+    next(&mut cursor, Some((&[0, 2, 3], 22)), seen);
 }
 
 /// Goes over both lines, and to the end twice.
-fn both(cursor: &mut Cursor<'_, '_>, seen: &mut Seen) -> Result<(), Wrong> {
-    next(cursor, Some((&[0, 1], 8)), seen)?;
-    next(cursor, Some((&[0, 2, 3], 22)), seen)?;
-    next(cursor, None, seen)?;
-    next(cursor, None, seen)
+fn both(cursor: &mut Cursor<'_, '_>, seen: &mut Seen) {
+    next(cursor, Some((&[0, 1], 8)), seen);
+    next(cursor, Some((&[0, 2, 3], 22)), seen);
+    next(cursor, None, seen);
+    next(cursor, None, seen);
 }
 
 /// Goes after the places of both lines, and after one of no line.
-fn places(cursor: &mut Cursor<'_, '_>, seen: &mut Seen) -> Result<(), Wrong> {
-    seek(cursor, 8, true, seen)?;
-    next(cursor, Some((&[0, 2, 3], 22)), seen)?;
-    seek(cursor, 16, false, seen)?;
-    next(cursor, None, seen)?;
-    seek(cursor, 22, true, seen)?;
-    next(cursor, None, seen)
+fn places(cursor: &mut Cursor<'_, '_>, seen: &mut Seen) {
+    seek(cursor, 8, true, seen);
+    next(cursor, Some((&[0, 2, 3], 22)), seen);
+    seek(cursor, 16, false, seen);
+    next(cursor, None, seen);
+    seek(cursor, 22, true, seen);
+    next(cursor, None, seen);
 }
 
 /// A line by its path and its place.
 type Line<'a> = Option<(&'a [usize], usize)>;
 
 /// Goes on by one line, and once more where memory was refused, which gives the same line then.
-fn next(cursor: &mut Cursor<'_, '_>, line: Line<'_>, seen: &mut Seen) -> Result<(), Wrong> {
+fn next(cursor: &mut Cursor<'_, '_>, line: Line<'_>, seen: &mut Seen) {
     seen.call();
     if let Ok(given) = cursor.next() {
-        return right(is_line(given, line), "a line");
+        return seen.right(is_line(given, line), "a line");
     }
     seen.want();
     match cursor.next() {
-        Ok(given) => right(is_line(given, line), "a line after a refused one"),
-        Err(_) => wrong_in("a line was refused twice"),
+        Ok(given) => seen.right(is_line(given, line), "a line after a refused one"),
+        Err(_) => seen.wrong("a line was refused twice"),
     }
 }
 
@@ -107,12 +111,7 @@ fn is_line(given: Option<LineRef<'_>>, line: Line<'_>) -> bool {
 }
 
 /// Goes after a place, which is that of a line or of none, and once more where memory was refused.
-fn seek(
-    cursor: &mut Cursor<'_, '_>,
-    place: u64,
-    is_line: bool,
-    seen: &mut Seen,
-) -> Result<(), Wrong> {
+fn seek(cursor: &mut Cursor<'_, '_>, place: u64, is_line: bool, seen: &mut Seen) {
     seen.call();
     let sought = match cursor.seek_after(place) {
         Err(SeekFault::Memory) => {
@@ -122,9 +121,11 @@ fn seek(
         sought => sought,
     };
     match sought {
-        Ok(()) => right(is_line, "a place of no line"),
-        Err(SeekFault::NoSuchLine { place: named }) => right(!is_line && named == place, "a place"),
-        Err(SeekFault::Memory) => wrong_in("a place was refused twice"),
+        Ok(()) => seen.right(is_line, "a place of no line"),
+        Err(SeekFault::NoSuchLine { place: named }) => {
+            seen.right(!is_line && named == place, "a place")
+        }
+        Err(SeekFault::Memory) => seen.wrong("a place was refused twice"),
     }
 }
 
@@ -135,23 +136,23 @@ fn judged(
     leaf: usize,
     verdict: Verdict,
     seen: &mut Seen,
-) -> Result<(), Wrong> {
+) {
     if leaf >= collection.nodes() || !collection.is_leaf(leaf) {
-        return wrong_in("no leaf");
+        return seen.wrong("no leaf");
     }
     seen.call();
     if let Ok(given) = judge(alloc, collection, leaf) {
-        return right(given == verdict, "a verdict");
+        return seen.right(given == verdict, "a verdict");
     }
     seen.want();
     match judge(alloc, collection, leaf) {
-        Ok(given) => right(given == verdict, "a verdict after a refused one"),
-        Err(_) => wrong_in("a verdict was refused twice"),
+        Ok(given) => seen.right(given == verdict, "a verdict after a refused one"),
+        Err(_) => seen.wrong("a verdict was refused twice"),
     }
 }
 
 /// Counts the game of two lines, and once more where memory was refused; writes the counts, which takes none.
-fn counts(alloc: Global, seen: &mut Seen) -> Result<(), Wrong> {
+fn counts(alloc: Global, seen: &mut Seen) {
     let mut source = SliceSource::new(TWO);
     seen.call();
     let counted = match count(alloc, &mut source) {
@@ -167,12 +168,11 @@ fn counts(alloc: Global, seen: &mut Seen) -> Result<(), Wrong> {
         nodes: 4,
         lines: 2,
     };
-    right(counted == Ok(counts), "counts")?;
+    seen.right(counted == Ok(counts), "counts");
     let mut page = Page::new();
     seen.call();
-    right(write_counts(&mut page, &counts) == Ok(()), "counts written")?;
-    right(
-        page.as_slice() == b"1 4 2\n".as_slice(),
-        "the row of counts",
-    )
+    let written = write_counts(&mut page, &counts);
+    seen.right(written == Ok(()), "counts written");
+    let is_row = page.as_slice() == b"1 4 2\n".as_slice();
+    seen.right(is_row, "the row of counts");
 }

@@ -4,45 +4,43 @@ ghost use Rattle.std.specs.Prelude.{◌≡◌, [], ◌∷◌, true, false, IfOk,
 ghost use Rattle.go_board.specs.Past.{HaveSide};
 ghost use Rattle.go_board.specs.Point.{IsOn};
 
-use crate::seen::{Seen, Wrong, right, wrong_in};
-use go_board::{Board, Cell, Past, Point, Size};
+use crate::seen::Seen;
+use go_board::{Board, Cell, MemoryFault, Past, Point, Size};
 use std::alloc::Global;
 
 /// Adds a colouring to a past's stretch and begins another with a third, and takes that back.
-pub fn calls<P: Past>(alloc: Global, seen: &mut Seen) -> Result<(), Wrong> {
+pub fn calls<P: Past>(alloc: Global, seen: &mut Seen) {
     let Some(size) = Size::new(3) else {
-        return wrong_in("no board of side 3");
+        return seen.wrong("no board of side 3");
     };
     let empty = Board::empty(size);
     let black = with_stone(&empty, Point { col: 0, row: 0 }, Cell::Black);
     let white = with_stone(&empty, Point { col: 1, row: 1 }, Cell::White);
-    let mut past = begin::<P>(alloc, &empty, seen)?;
-    grows(&mut past, &empty, &black, &white, seen)
+    if let Ok(mut past) = begin::<P>(alloc, &empty, seen) {
+        grows(&mut past, &empty, &black, &white, seen);
+    }
 }
 
 /// Adds black to a past of the empty board alone, begins a stretch with white, and takes that back.
-fn grows<P: Past>(
-    past: &mut P,
-    empty: &Board,
-    black: &Board,
-    white: &Board,
-    seen: &mut Seen,
-) -> Result<(), Wrong>
+fn grows<P: Past>(past: &mut P, empty: &Board, black: &Board, white: &Board, seen: &mut Seen)
     requires past { P.held past.old ≡ record { colouring = empty.now; begins = true } ∷ [] }
     requires black { black.now.side ≡ empty.now.side }
     requires white { white.now.side ≡ empty.now.side }
 {
-    push(past, empty, black, seen)?;
-    right(past.holds(empty), "a past after a push")?;
-    restart(past, empty, black, white, seen)?;
-    right(
-        !past.holds(empty) && !past.holds(black),
-        "a stretch before a restart",
-    )?;
-    right(past.holds(white), "a stretch after a restart")?;
+    let Ok(()) = push(past, empty, black, seen) else {
+        return;
+    };
+    seen.right(past.holds(empty), "a past after a push");
+    let Ok(()) = restart(past, empty, black, white, seen) else {
+        return;
+    };
+    let holds_earlier = past.holds(empty) || past.holds(black);
+    seen.right(!holds_earlier, "a stretch before a restart");
+    seen.right(past.holds(white), "a stretch after a restart");
     past.pop();
-    right(past.holds(empty) && past.holds(black), "a past after a pop")?;
-    right(!past.holds(white), "what was taken back")
+    let holds_both = past.holds(empty) && past.holds(black);
+    seen.right(holds_both, "a past after a pop");
+    seen.right(!past.holds(white), "what was taken back");
 }
 
 /// The board with one stone more.
@@ -56,7 +54,7 @@ fn with_stone(board: &Board, point: Point, cell: Cell) -> Board
 }
 
 /// A past of that colouring, asked for once more where memory was refused.
-fn begin<P: Past>(alloc: Global, board: &Board, seen: &mut Seen) -> Result<P, Wrong>
+fn begin<P: Past>(alloc: Global, board: &Board, seen: &mut Seen) -> Result<P, MemoryFault>
     ensures { IfOk result (λ past. P.held past
         ≡ record { colouring = board.now; begins = true } ∷ []) }
 {
@@ -65,14 +63,18 @@ fn begin<P: Past>(alloc: Global, board: &Board, seen: &mut Seen) -> Result<P, Wr
         return Ok(past);
     }
     seen.want();
-    match P::new(alloc, board) {
-        Ok(past) => Ok(past),
-        Err(_) => wrong_in("a past was refused twice"),
-    }
+    let again = P::new(alloc, board);
+    seen.right(again.is_ok(), "a past asked for again");
+    again
 }
 
 /// Adds a colouring to a past of another one, and once more where memory was refused; nothing was added then.
-fn push<P: Past>(past: &mut P, only: &Board, board: &Board, seen: &mut Seen) -> Result<(), Wrong>
+fn push<P: Past>(
+    past: &mut P,
+    only: &Board,
+    board: &Board,
+    seen: &mut Seen,
+) -> Result<(), MemoryFault>
     requires past { HaveSide board.now.side (P.held past.old) }
     requires only { HaveSide only.now.side (P.held past.old) }
     ensures { OnOk result (P.held past.new
@@ -83,18 +85,13 @@ fn push<P: Past>(past: &mut P, only: &Board, board: &Board, seen: &mut Seen) -> 
         return Ok(());
     }
     seen.want();
-    right(
-        past.newest().same(only),
-        "the newest colouring after a refused push",
-    )?;
-    right(
-        past.holds(only) && !past.holds(board),
-        "a past after a refused push",
-    )?;
-    match past.push(board) {
-        Ok(()) => Ok(()),
-        Err(_) => wrong_in("a push was refused twice"),
-    }
+    let is_newest = past.newest().same(only);
+    seen.right(is_newest, "the newest colouring after a refused push");
+    let holds_one = past.holds(only) && !past.holds(board);
+    seen.right(holds_one, "a past after a refused push");
+    let again = past.push(board);
+    seen.right(again.is_ok(), "a push asked for again");
+    again
 }
 
 /// Begins a stretch, and once more where memory was refused; the past is the same then.
@@ -104,7 +101,7 @@ fn restart<P: Past>(
     second: &Board,
     board: &Board,
     seen: &mut Seen,
-) -> Result<(), Wrong>
+) -> Result<(), MemoryFault>
     requires past { HaveSide board.now.side (P.held past.old) }
     requires first { HaveSide first.now.side (P.held past.old) }
     requires second { HaveSide second.now.side (P.held past.old) }
@@ -116,17 +113,12 @@ fn restart<P: Past>(
         return Ok(());
     }
     seen.want();
-    right(
-        past.newest().same(second),
-        "the newest colouring after a refused restart",
-    )?;
-    right(
-        past.holds(first) && past.holds(second),
-        "a stretch after a refused restart",
-    )?;
-    right(!past.holds(board), "a past after a refused restart")?;
-    match past.restart(board) {
-        Ok(()) => Ok(()),
-        Err(_) => wrong_in("a restart was refused twice"),
-    }
+    let is_newest = past.newest().same(second);
+    seen.right(is_newest, "the newest colouring after a refused restart");
+    let holds_both = past.holds(first) && past.holds(second);
+    seen.right(holds_both, "a stretch after a refused restart");
+    seen.right(!past.holds(board), "a past after a refused restart");
+    let again = past.restart(board);
+    seen.right(again.is_ok(), "a restart asked for again");
+    again
 }

@@ -1,23 +1,24 @@
 //! The calls of a referee that take memory.
 
-use crate::seen::{Seen, Wrong, right, wrong_in};
+use crate::seen::Seen;
 use go_board::{
     Board, Cell, Colour, Past, Play, Point, Reason, Rect, Referee, SetupOp, Size, TurnFault,
 };
 use std::alloc::Global;
 
 /// Plays two games.
-pub fn calls<P: Past>(alloc: Global, seen: &mut Seen) -> Result<(), Wrong> {
-    on_one::<P>(alloc, seen)?;
-    on_three::<P>(alloc, seen)
+pub fn calls<P: Past>(alloc: Global, seen: &mut Seen) {
+    on_one::<P>(alloc, seen);
+    on_three::<P>(alloc, seen);
 }
 
 const CORNER: Play = Play::Stone(Point { col: 0, row: 0 });
 
 /// Plays a game on one point.
-fn on_one<P: Past>(alloc: Global, seen: &mut Seen) -> Result<(), Wrong> {
-    let mut game = begin::<P>(alloc, 1, seen)?;
-    passes_twice(&mut game, seen)
+fn on_one<P: Past>(alloc: Global, seen: &mut Seen) {
+    if let Some(mut game) = begin::<P>(alloc, 1, seen) {
+        passes_twice(&mut game, seen);
+    }
 }
 
 /// What a player plays, and what the game says of it, with the turns made then and whether it is over.
@@ -33,45 +34,45 @@ const PASSES: [Answered; 5] = [
 ];
 
 /// Plays those turns, and takes the last pass back.
-fn passes_twice<P: Past>(game: &mut Referee<P>, seen: &mut Seen) -> Result<(), Wrong> {
+fn passes_twice<P: Past>(game: &mut Referee<P>, seen: &mut Seen) {
     for &(colour, play, answer, turns, over) in &PASSES {
-        turn(game, colour, play, answer, seen)?;
-        right(
-            game.turns() == turns && game.over() == over,
-            "a game of passes",
-        )?;
+        turn(game, colour, play, answer, seen);
+        let is_so = game.turns() == turns && game.over() == over;
+        seen.right(is_so, "a game of passes");
     }
-    undo(game)?;
-    right(
-        !game.over() && game.turns() == 1 && game.depth() == 1,
-        "a game after an undo",
-    )
+    undo(game, seen);
+    let is_so = !game.over() && game.turns() == 1 && game.depth() == 1;
+    seen.right(is_so, "a game after an undo");
 }
 
 /// Plays a game on three by three points, beside one that stays as it begins.
-fn on_three<P: Past>(alloc: Global, seen: &mut Seen) -> Result<(), Wrong> {
-    let mut game = begin::<P>(alloc, 3, seen)?;
-    let start = begin::<P>(alloc, 3, seen)?;
-    sets_up(&mut game, &start, seen)
+fn on_three<P: Past>(alloc: Global, seen: &mut Seen) {
+    if let Some(start) = begin::<P>(alloc, 3, seen) {
+        on_three_beside(alloc, &start, seen);
+    }
+}
+
+/// Plays a game on three by three points, beside this one.
+fn on_three_beside<P: Past>(alloc: Global, start: &Referee<P>, seen: &mut Seen) {
+    if let Some(mut game) = begin::<P>(alloc, 3, seen) {
+        sets_up(&mut game, start, seen);
+    }
 }
 
 /// Setup colours an area, lets either player move and is taken back whole.
-fn sets_up<P: Past>(
-    game: &mut Referee<P>,
-    start: &Referee<P>,
-    seen: &mut Seen,
-) -> Result<(), Wrong> {
-    set_top_up(game, seen)?;
+fn sets_up<P: Past>(game: &mut Referee<P>, start: &Referee<P>, seen: &mut Seen) {
+    set_top_up(game, seen);
     let middle = Play::Stone(Point { col: 1, row: 1 });
     let last = Play::Stone(Point { col: 2, row: 2 });
-    turn(game, Colour::White, CORNER, Err(Reason::Occupied), seen)?;
-    turn(game, Colour::White, middle, Ok(()), seen)?;
-    right(game.score() == (0, 9), "the score after a stone")?;
-    turn(game, Colour::White, last, Err(Reason::Turn), seen)?;
-    undo(game)?;
-    undo(game)?;
-    right(Shown::of(start).is_of(game), "a game after all undos")?;
-    turn(game, Colour::White, Play::Pass, Err(Reason::Turn), seen)
+    turn(game, Colour::White, CORNER, Err(Reason::Occupied), seen);
+    turn(game, Colour::White, middle, Ok(()), seen);
+    seen.right(game.score() == (0, 9), "the score after a stone");
+    turn(game, Colour::White, last, Err(Reason::Turn), seen);
+    undo(game, seen);
+    undo(game, seen);
+    let is_start = Shown::of(start).is_of(game);
+    seen.right(is_start, "a game after all undos");
+    turn(game, Colour::White, Play::Pass, Err(Reason::Turn), seen);
 }
 
 /// What a referee shows.
@@ -105,19 +106,16 @@ impl Shown {
 }
 
 /// A referee, asked for once more where memory was refused.
-fn begin<P: Past>(alloc: Global, side: u8, seen: &mut Seen) -> Result<Referee<P>, Wrong> {
-    let Some(size) = Size::new(side) else {
-        return wrong_in("no board of the side");
-    };
+fn begin<P: Past>(alloc: Global, side: u8, seen: &mut Seen) -> Option<Referee<P>> {
+    let size = Size::new(side)?;
     seen.call();
     if let Ok(game) = Referee::<P>::new(alloc, size) {
-        return Ok(game);
+        return Some(game);
     }
     seen.want();
-    match Referee::<P>::new(alloc, size) {
-        Ok(game) => Ok(game),
-        Err(_) => wrong_in("a referee was refused twice"),
-    }
+    let again = Referee::<P>::new(alloc, size);
+    seen.right(again.is_ok(), "a referee asked for again");
+    again.ok()
 }
 
 /// Takes a turn, and once more where memory was refused; the game is the same then, as it is where a reason forbids the
@@ -128,9 +126,9 @@ fn turn<P: Past>(
     play: Play,
     answer: Result<(), Reason>,
     seen: &mut Seen,
-) -> Result<(), Wrong> {
+) {
     let before = Shown::of(game);
-    turn_from(&before, game, colour, play, answer, seen)
+    turn_from(&before, game, colour, play, answer, seen);
 }
 
 /// Takes a turn of a game of which it is known what it shows, and once more where memory was refused.
@@ -141,47 +139,43 @@ fn turn_from<P: Past>(
     play: Play,
     answer: Result<(), Reason>,
     seen: &mut Seen,
-) -> Result<(), Wrong> {
+) {
     if let Play::Stone(point) = play {
         let side = game.board().size().side();
         if point.col >= side || point.row >= side {
-            return wrong_in("a point beside the board");
+            return seen.wrong("a point beside the board");
         }
     }
     seen.call();
     let taken = match game.turn(colour, play) {
         Err(TurnFault::Memory) => {
             seen.want();
-            right(before.is_of(game), "a game after a refused turn")?;
-            right(answer.is_ok(), "memory for an illegal turn")?;
+            seen.right(before.is_of(game), "a game after a refused turn");
+            seen.right(answer.is_ok(), "memory for an illegal turn");
             game.turn(colour, play)
         }
         taken => taken,
     };
     match (taken, answer) {
-        (Ok(()), Ok(())) => right(game.depth() > before.depth, "a game after a turn"),
-        (Err(TurnFault::Illegal(given)), Err(reason)) => right(
-            given == reason && before.is_of(game),
-            "a game after an illegal turn",
-        ),
-        _ => wrong_in("the answer of a turn"),
+        (Ok(()), Ok(())) => seen.right(game.depth() > before.depth, "a game after a turn"),
+        (Err(TurnFault::Illegal(given)), Err(reason)) => {
+            let is_so = given == reason && before.is_of(game);
+            seen.right(is_so, "a game after an illegal turn");
+        }
+        _ => seen.wrong("the answer of a turn"),
     }
 }
 
 /// Sets white stones up on the top row of three points, and once more where memory was refused; the game is the same then.
-fn set_top_up<P: Past>(game: &mut Referee<P>, seen: &mut Seen) -> Result<(), Wrong> {
+fn set_top_up<P: Past>(game: &mut Referee<P>, seen: &mut Seen) {
     let before = Shown::of(game);
-    set_top_up_from(&before, game, seen)
+    set_top_up_from(&before, game, seen);
 }
 
 /// Sets those stones up in a game of which it is known what it shows.
-fn set_top_up_from<P: Past>(
-    before: &Shown,
-    game: &mut Referee<P>,
-    seen: &mut Seen,
-) -> Result<(), Wrong> {
+fn set_top_up_from<P: Past>(before: &Shown, game: &mut Referee<P>, seen: &mut Seen) {
     if game.board().size().side() < 3 {
-        return wrong_in("a board of fewer than three columns");
+        return seen.wrong("a board of fewer than three columns");
     }
     let area = Rect {
         first: Point { col: 0, row: 0 },
@@ -192,22 +186,18 @@ fn set_top_up_from<P: Past>(
         area,
     }];
     seen.call();
-    if game.setup(&ops, None).is_ok() {
-        return right(game.depth() == 1, "a game after a setup");
+    if game.setup(&ops, None).is_err() {
+        seen.want();
+        seen.right(before.is_of(game), "a game after a refused setup");
+        seen.right(game.setup(&ops, None).is_ok(), "a setup asked for again");
     }
-    seen.want();
-    right(before.is_of(game), "a game after a refused setup")?;
-    match game.setup(&ops, None) {
-        Ok(()) => right(game.depth() == 1, "a game after a setup"),
-        Err(_) => wrong_in("a setup was refused twice"),
-    }
+    seen.right(game.depth() == 1, "a game after a setup");
 }
 
 /// Takes the newest call back.
-fn undo<P: Past>(game: &mut Referee<P>) -> Result<(), Wrong> {
+fn undo<P: Past>(game: &mut Referee<P>, seen: &mut Seen) {
     if game.depth() == 0 {
-        return wrong_in("nothing to take back");
+        return seen.wrong("nothing to take back");
     }
     game.undo();
-    Ok(())
 }

@@ -1,7 +1,7 @@
 //! Runs while memory is refused.
 
 use crate::page::Page;
-use crate::seen::{Seen, Wrong, right, wrong_in};
+use crate::seen::Seen;
 use crate::tree::TWO;
 use sgf_lines::{Form, Options, Plays, RunFault, SliceSource, split, split_counted};
 use std::alloc::Global;
@@ -29,7 +29,7 @@ struct Run<'a> {
 }
 
 /// Makes the runs.
-pub fn calls(alloc: Global, seen: &mut Seen) -> Result<(), Wrong> {
+pub fn calls(alloc: Global, seen: &mut Seen) {
     let rows = Options {
         form: Form::List,
         after: None,
@@ -53,8 +53,8 @@ pub fn calls(alloc: Global, seen: &mut Seen) -> Result<(), Wrong> {
             records,
             plays,
         };
-        splits(alloc, run, seen)?;
-        splits_with_plays(alloc, run, seen)?;
+        splits(alloc, run, seen);
+        splits_with_plays(alloc, run, seen);
     }
     let run = Run {
         text: COMMENT,
@@ -65,49 +65,47 @@ pub fn calls(alloc: Global, seen: &mut Seen) -> Result<(), Wrong> {
         records: &[SCRIPT],
         plays: &[0, 3],
     };
-    splits(alloc, run, seen)?;
-    splits_with_plays(alloc, run, seen)
+    splits(alloc, run, seen);
+    splits_with_plays(alloc, run, seen);
 }
 
 /// Splits a text, and once more where memory was refused: exactly the whole records of the first lines stand then, and no
 /// flush was made.
-fn splits(alloc: Global, run: Run<'_>, seen: &mut Seen) -> Result<(), Wrong> {
+fn splits(alloc: Global, run: Run<'_>, seen: &mut Seen) {
     seen.call();
     let mut source = SliceSource::new(run.text);
     let mut page = Page::new();
     match split(alloc, &mut source, &mut page, &run.options) {
-        Err(RunFault::Memory { lines }) => is_cut(lines, &page, run, seen)?,
-        answer => return is_whole(answer, &page, run),
+        Err(RunFault::Memory { lines }) => is_cut(lines, &page, run, seen),
+        answer => return is_whole(answer, &page, run, seen),
     }
     let mut source = SliceSource::new(run.text);
     let mut page = Page::new();
     let answer = split(alloc, &mut source, &mut page, &run.options);
-    is_whole(answer, &page, run)
+    is_whole(answer, &page, run, seen);
 }
 
 /// The same, asked for its plays: where memory was refused, those of the lines that stand, and of the next at most.
-fn splits_with_plays(alloc: Global, run: Run<'_>, seen: &mut Seen) -> Result<(), Wrong> {
+fn splits_with_plays(alloc: Global, run: Run<'_>, seen: &mut Seen) {
     seen.call();
     let mut source = SliceSource::new(run.text);
     let mut page = Page::new();
     let mut plays = Plays::new();
     match split_counted(alloc, &mut source, &mut page, &run.options, &mut plays) {
         Err(RunFault::Memory { lines }) => {
-            is_cut(lines, &page, run, seen)?;
+            is_cut(lines, &page, run, seen);
             let next = lines.saturating_add(1).min(run.records.len() as u64);
-            right(plays_of(run, lines) <= plays.count(), "plays of the lines")?;
-            right(
-                plays.count() <= plays_of(run, next),
-                "plays of the next line",
-            )?;
+            let count = plays.count();
+            seen.right(plays_of(run, lines) <= count, "plays of the lines");
+            seen.right(count <= plays_of(run, next), "plays of the next line");
         }
-        answer => return is_whole_with_plays(answer, &page, &plays, run),
+        answer => return is_whole_with_plays(answer, &page, &plays, run, seen),
     }
     let mut source = SliceSource::new(run.text);
     let mut page = Page::new();
     let mut plays = Plays::new();
     let answer = split_counted(alloc, &mut source, &mut page, &run.options, &mut plays);
-    is_whole_with_plays(answer, &page, &plays, run)
+    is_whole_with_plays(answer, &page, &plays, run, seen);
 }
 
 /// How many nodes are played for the first records, so many.
@@ -119,13 +117,11 @@ fn plays_of(run: Run<'_>, lines: u64) -> u64 {
 }
 
 /// The run wrote the first records, so many, and didn't flush.
-fn is_cut(lines: u64, page: &Page, run: Run<'_>, seen: &mut Seen) -> Result<(), Wrong> {
+fn is_cut(lines: u64, page: &Page, run: Run<'_>, seen: &mut Seen) {
     seen.want();
-    right(page.flushes() == 0, "a flush after refused memory")?;
-    right(
-        has_first(page.as_slice(), run.records, lines),
-        "records after refused memory",
-    )
+    seen.right(page.flushes() == 0, "a flush after refused memory");
+    let are_first = has_first(page.as_slice(), run.records, lines);
+    seen.right(are_first, "records after refused memory");
 }
 
 /// The run wrote all records, flushed once, and told their plays.
@@ -134,25 +130,20 @@ fn is_whole_with_plays(
     page: &Page,
     plays: &Plays,
     run: Run<'_>,
-) -> Result<(), Wrong> {
-    is_whole(answer, page, run)?;
-    right(
-        plays.count() == plays_of(run, run.records.len() as u64),
-        "the plays",
-    )
+    seen: &mut Seen,
+) {
+    is_whole(answer, page, run, seen);
+    let all = plays_of(run, run.records.len() as u64);
+    seen.right(plays.count() == all, "the plays");
 }
 
 /// The run wrote all records, and flushed once.
-fn is_whole(answer: Result<u64, RunFault>, page: &Page, run: Run<'_>) -> Result<(), Wrong> {
-    let Ok(lines) = answer else {
-        return wrong_in("a run failed");
-    };
-    right(lines == run.records.len() as u64, "the number of lines")?;
-    right(
-        has_first(page.as_slice(), run.records, lines),
-        "the records",
-    )?;
-    right(page.flushes() == 1, "one flush")
+fn is_whole(answer: Result<u64, RunFault>, page: &Page, run: Run<'_>, seen: &mut Seen) {
+    let lines = run.records.len() as u64;
+    seen.right(answer == Ok(lines), "the number of lines");
+    let are_all = has_first(page.as_slice(), run.records, lines);
+    seen.right(are_all, "the records");
+    seen.right(page.flushes() == 1, "one flush");
 }
 
 /// Whether these bytes are exactly the first records, so many.

@@ -1,20 +1,23 @@
 //! What was seen of the calls.
 
-ghost use Rattle.std.specs.Prelude.{IsErr};
-
 use std::fmt;
 
-/// How many calls were made, and how many of them wanted memory at first.
+/// How many calls were made, how many of them wanted memory at first, and what was wrong first.
 #[derive(Drop)]
 pub struct Seen {
     calls: u32,
     wants: u32,
+    wrong: Option<&'static str>,
 }
 
 impl Seen {
     /// Nothing was seen yet.
     pub fn new() -> Seen {
-        Seen { calls: 0, wants: 0 }
+        Seen {
+            calls: 0,
+            wants: 0,
+            wrong: None,
+        }
     }
 
     /// A call is made.
@@ -27,6 +30,25 @@ impl Seen {
         self.wants = self.wants.saturating_add(1);
     }
 
+    /// It is wrong unless it holds.
+    pub fn right(&mut self, holds: bool, what: &'static str) {
+        if !holds {
+            self.wrong(what);
+        }
+    }
+
+    /// It is wrong.
+    pub fn wrong(&mut self, what: &'static str) {
+        if self.wrong.is_none() {
+            self.wrong = Some(what);
+        }
+    }
+
+    /// What was wrong first.
+    pub fn first_wrong(&self) -> Option<&'static str> {
+        self.wrong
+    }
+
     /// The exit status where nothing was wrong.
     pub fn status(&self) -> u8 {
         if self.wants == 0 { 0 } else { 4 }
@@ -37,28 +59,4 @@ impl fmt::Display for Seen {
     fn fmt<W: fmt::Write>(&self, f: &mut fmt::Formatter<W>) -> fmt::Result {
         write!(f, "{} calls, {} wants of memory", self.calls, self.wants)
     }
-}
-
-/// What was wrong.
-#[derive(Clone, Copy)]
-pub struct Wrong {
-    what: &'static str,
-}
-
-impl fmt::Display for Wrong {
-    fn fmt<W: fmt::Write>(&self, f: &mut fmt::Formatter<W>) -> fmt::Result {
-        f.write_str(self.what)
-    }
-}
-
-/// It is wrong.
-pub fn wrong_in<T>(what: &'static str) -> Result<T, Wrong>
-    ensures { IsErr result }
-{
-    Err(Wrong { what })
-}
-
-/// It is wrong unless it holds.
-pub fn right(holds: bool, what: &'static str) -> Result<(), Wrong> {
-    if holds { Ok(()) } else { wrong_in(what) }
 }

@@ -1,6 +1,6 @@
 //! The calls of `sgf_tree` that take memory.
 
-use crate::seen::{Seen, Wrong, right, wrong_in};
+use crate::seen::Seen;
 use sgf_tree::{Collection, PropRef, ReadFault, push_text, read};
 use std::alloc::Global;
 
@@ -29,37 +29,41 @@ const TEXTS: [(&str, &str); 9] = [
 ];
 
 /// Makes the calls.
-pub fn calls(alloc: Global, seen: &mut Seen) -> Result<(), Wrong> {
-    two(alloc, seen)?;
-    first_fault(alloc, seen)?;
-    fronts(alloc, seen)?;
-    names(alloc, seen)?;
-    texts(alloc, seen)
+pub fn calls(alloc: Global, seen: &mut Seen) {
+    two(alloc, seen);
+    first_fault(alloc, seen);
+    fronts(alloc, seen);
+    names(alloc, seen);
+    texts(alloc, seen);
 }
 
 /// The game of two lines is read.
-fn two(alloc: Global, seen: &mut Seen) -> Result<(), Wrong> {
-    let two = collection(alloc, TWO, seen)?;
-    right(is_two(&two), "the collection read")
+fn two(alloc: Global, seen: &mut Seen) {
+    if let Ok(two) = collection(alloc, TWO, seen) {
+        seen.right(is_two(&two), "the collection read");
+    }
 }
 
 /// A game without a node is faulty at its second byte.
-fn first_fault(alloc: Global, seen: &mut Seen) -> Result<(), Wrong> {
-    match reading(alloc, b"(B[aa])", seen) {
-        Err(ReadFault::NotSgf { at: 1 }) => Ok(()),
-        _ => wrong_in("the first fault"),
-    }
+fn first_fault(alloc: Global, seen: &mut Seen) {
+    let at = faulty_byte(alloc, b"(B[aa])", seen);
+    seen.right(at == Some(1), "the first fault");
 }
 
 /// Each front of the game of two lines but the whole ends too early.
-fn fronts(alloc: Global, seen: &mut Seen) -> Result<(), Wrong> {
+fn fronts(alloc: Global, seen: &mut Seen) {
     for length in 0..TWO.len() {
-        match reading(alloc, &TWO[..length], seen) {
-            Err(ReadFault::NotSgf { at }) => right(at == length, "where a front ends")?,
-            _ => return wrong_in("a front of a text"),
-        }
+        let at = faulty_byte(alloc, &TWO[..length], seen);
+        seen.right(at == Some(length), "where a front ends");
     }
-    Ok(())
+}
+
+/// The first faulty byte of a text, counted from 0; none where it is read.
+fn faulty_byte(alloc: Global, text: &[u8], seen: &mut Seen) -> Option<usize> {
+    match reading(alloc, text, seen) {
+        Err(ReadFault::NotSgf { at }) => Some(at),
+        _ => None,
+    }
 }
 
 /// Reads a text, and once more where memory was refused.
@@ -83,11 +87,10 @@ pub fn collection<'a>(
     alloc: Global,
     text: &'a [u8],
     seen: &mut Seen,
-) -> Result<Collection<'a>, Wrong> {
-    match reading(alloc, text, seen) {
-        Ok(collection) => Ok(collection),
-        Err(_) => wrong_in("a text was not read"),
-    }
+) -> Result<Collection<'a>, ReadFault> {
+    let collection = reading(alloc, text, seen);
+    seen.right(collection.is_ok(), "a text read");
+    collection
 }
 
 /// Whether it is the collection of the game of two lines.
@@ -107,73 +110,60 @@ fn is_two(collection: &Collection<'_>) -> bool {
 }
 
 /// Appends a name to a vector.
-fn names(alloc: Global, seen: &mut Seen) -> Result<(), Wrong> {
-    let collection = collection(alloc, b"(;GaMe[1])", seen)?;
-    let mut out = Vec::new(alloc);
-    name(&collection, &mut out, seen)
+fn names(alloc: Global, seen: &mut Seen) {
+    if let Ok(collection) = collection(alloc, b"(;GaMe[1])", seen) {
+        let mut out = Vec::new(alloc);
+        name(&collection, &mut out, seen);
+    }
 }
 
 /// Appends a byte to an empty vector, and then the name of the property of a node.
-fn name(collection: &Collection<'_>, out: &mut Vec<u8>, seen: &mut Seen) -> Result<(), Wrong> {
+fn name(collection: &Collection<'_>, out: &mut Vec<u8>, seen: &mut Seen) {
     if collection.nodes() == 0 {
-        return wrong_in("a collection without nodes");
+        return seen.wrong("a collection without nodes");
     }
     let Some(property) = collection.node(0).first(b"GM") else {
-        return wrong_in("no property of the name");
+        return seen.wrong("no property of the name");
     };
-    append_text(b"x", b"", out, seen)?;
-    append_name(&property, b"x", out, seen)?;
-    right(out.as_slice() == b"xGM".as_slice(), "a name appended")
+    append_text(b"x", b"", out, seen);
+    append_name(&property, b"x", out, seen);
+    seen.right(out.as_slice() == b"xGM".as_slice(), "a name appended");
 }
 
 /// Appends a name to a vector of these bytes, and once more where memory was refused; the vector has the same bytes then.
-fn append_name(
-    property: &PropRef<'_>,
-    before: &[u8],
-    out: &mut Vec<u8>,
-    seen: &mut Seen,
-) -> Result<(), Wrong> {
+fn append_name(property: &PropRef<'_>, before: &[u8], out: &mut Vec<u8>, seen: &mut Seen) {
     seen.call();
     if property.push_name(out).is_err() {
         seen.want();
-        right(out.as_slice() == before, "a vector after a refused name")?;
-        if property.push_name(out).is_err() {
-            return wrong_in("a name was refused twice");
-        }
+        seen.right(out.as_slice() == before, "a vector after a refused name");
+        seen.right(property.push_name(out).is_ok(), "a name asked for again");
     }
-    Ok(())
 }
 
 /// Appends decoded texts, each to an empty vector and then to itself.
-fn texts(alloc: Global, seen: &mut Seen) -> Result<(), Wrong> {
+fn texts(alloc: Global, seen: &mut Seen) {
     for (raw, text) in TEXTS {
         let mut out = Vec::new(alloc);
-        text_twice(raw.as_bytes(), text.as_bytes(), &mut out, seen)?;
+        text_twice(raw.as_bytes(), text.as_bytes(), &mut out, seen);
     }
-    Ok(())
 }
 
 /// Appends a decoded text to an empty vector and then to itself.
-fn text_twice(raw: &[u8], text: &[u8], out: &mut Vec<u8>, seen: &mut Seen) -> Result<(), Wrong> {
-    append_text(raw, b"", out, seen)?;
-    right(out.as_slice() == text, "a decoded text")?;
-    append_text(raw, text, out, seen)?;
+fn text_twice(raw: &[u8], text: &[u8], out: &mut Vec<u8>, seen: &mut Seen) {
+    append_text(raw, b"", out, seen);
+    seen.right(out.as_slice() == text, "a decoded text");
+    append_text(raw, text, out, seen);
     let (first, second) = out.as_slice().split_at(out.len() / 2);
-    right(
-        first == text && second == text,
-        "a decoded text after another",
-    )
+    let is_twice = first == text && second == text;
+    seen.right(is_twice, "a decoded text after another");
 }
 
 /// Appends a decoded text to a vector of these bytes, and once more where memory was refused; the vector has the same bytes then.
-fn append_text(raw: &[u8], before: &[u8], out: &mut Vec<u8>, seen: &mut Seen) -> Result<(), Wrong> {
+fn append_text(raw: &[u8], before: &[u8], out: &mut Vec<u8>, seen: &mut Seen) {
     seen.call();
     if push_text(raw, out).is_err() {
         seen.want();
-        right(out.as_slice() == before, "a vector after a refused text")?;
-        if push_text(raw, out).is_err() {
-            return wrong_in("a text was refused twice");
-        }
+        seen.right(out.as_slice() == before, "a vector after a refused text");
+        seen.right(push_text(raw, out).is_ok(), "a text asked for again");
     }
-    Ok(())
 }
