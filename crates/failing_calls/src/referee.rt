@@ -107,7 +107,10 @@ impl Shown {
 
 /// A referee, asked for once more where memory was refused.
 fn begin<P: Past>(alloc: Global, side: u8, seen: &mut Seen) -> Option<Referee<P>> {
-    let size = Size::new(side)?;
+    let Some(size) = Size::new(side) else {
+        seen.wrong("no board of the side");
+        return None;
+    };
     seen.call();
     if let Ok(game) = Referee::<P>::new(alloc, size) {
         return Some(game);

@@ -140,7 +140,7 @@ fn is_whole_with_plays(
 /// The run wrote all records, and flushed once.
 fn is_whole(answer: Result<u64, RunFault>, page: &Page, run: Run<'_>, seen: &mut Seen) {
     let lines = run.records.len() as u64;
-    seen.right(answer == Ok(lines), "the number of lines");
+    seen.right(answer == Ok(lines), "the answer of a run");
     let are_all = has_first(page.as_slice(), run.records, lines);
     seen.right(are_all, "the records");
     seen.right(page.flushes() == 1, "one flush");
