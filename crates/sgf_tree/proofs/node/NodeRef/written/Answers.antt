@@ -1,4 +1,4 @@
-use Rattle.std.proofs.Common.{◌∙◌, ap}
+use Rattle.std.proofs.Common.{◌∙◌, ap, rules}
 use Rattle.sgf_tree.specs.Written.{node_text}
 use Rattle.sgf_tree.proofs.LoneNodes.{lone-text}
 use Rattle.sgf_tree.proofs.node.NodeRef.written.Goals as goal
@@ -14,3 +14,6 @@ new-left-requires c = record {
   held = c.written_properties_end-end.ensures.left;
   kept = c.self.invariant.1;
 }
+
+pub returns-else-is_empty : goal.returns-else-is_empty
+returns-else-is_empty c = search rules
