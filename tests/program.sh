@@ -90,13 +90,18 @@ answer 'after the first line' $'22 1 3 score 1 1 open\n' "$SGFSPLIT" split --aft
 answer 'after the last line' '' "$SGFSPLIT" split --after 22 two.sgf
 answer 'no line' '' "$SGFSPLIT" split --limit 0 two.sgf
 answer 'one line' $'8 1 2 score 9 0 open\n' "$SGFSPLIT" split --limit 1 two.sgf
+answer 'one line after the first' $'22 1 3 score 1 1 open\n' "$SGFSPLIT" split --after 8 --limit 1 two.sgf
+answer 'one line after the last' '' "$SGFSPLIT" split --after 22 --limit 1 two.sgf
 answer 'all options' $'(;SZ[3];B[bb];W[aa])\n' "$SGFSPLIT" split --form sgf --after 8 --limit 1 two.sgf
 answer 'options in another order, with =' $'(;SZ[3];B[bb];W[aa])\n' "$SGFSPLIT" split two.sgf --limit=1 --after=8 --form=sgf
+answer 'options with = after the file' $'(;SZ[3];B[aa])\n(;SZ[3];B[bb];W[aa])\n' "$SGFSPLIT" split two.sgf --limit=18446744073709551615 --form=sgf
 answer 'the greatest limit' "$rows" "$SGFSPLIT" split --limit 18446744073709551615 two.sgf
 answer 'counts' $'1 4 2\n' "$SGFSPLIT" count two.sgf
 answer 'counts of standard input' $'1 4 2\n' bash -c 'fed two.sgf count -'
 fault 'after an inner node' 1 'no line ends at 16' "$SGFSPLIT" split --after 16 two.sgf
 fault 'after an inner node, with a limit' 1 'no line ends at 16' "$SGFSPLIT" split --after 16 --limit 0 two.sgf
+fault 'after a place before the first node, in a file of a name with a space' 1 'no line ends at 0' \
+    "$SGFSPLIT" split --form gtp --after 0 --limit 7 'a b.sgf'
 fault 'after the greatest place' 1 'no line ends at 18446744073709551615' "$SGFSPLIT" split --after 18446744073709551615 two.sgf
 
 # ---- inputs that are refused
@@ -113,6 +118,70 @@ rm full.sgf
 fault 'zeros without end' 1 'input is longer than 67108864 bytes' bash -c 'fed /dev/zero split'
 fault 'zeros without end to count' 1 'input is longer than 67108864 bytes' "$SGFSPLIT" count /dev/zero
 fault 'games without end' 1 'input is longer than 67108864 bytes' bash -c "yes '(;B[aa])' | \"\$SGFSPLIT\" split"
+
+# ---- what a text answers, from standard input
+# gives TEXT OUTPUT WORDS..: on this text the words answer this output.
+gives() {
+    local text=$1 output=$2
+    shift 2
+    printf '%s' "$text" > input.sgf
+    answer "$* on $text" "$output" "$SGFSPLIT" "$@" < input.sgf
+}
+
+# tells TEXT LINE WORDS..: with this text the words can't be done, and this line tells why.
+tells() {
+    local text=$1 line=$2
+    shift 2
+    printf '%s' "$text" > input.sgf
+    fault "$* on $text" 1 "$line" "$SGFSPLIT" "$@" < input.sgf
+}
+
+# games that are judged
+gives '(;SZ[3];B[bb])' $'7 1 2 score 9 0 open\n' split
+gives '(;SZ[1];B[aa])' $'7 1 2 illegal 1 7 repeat\n' split
+gives '(;SZ[1])(;SZ[2])' $'1 1 1 score 0 0 open\n9 2 1 score 0 0 open\n' split
+gives '(;SZ[1])(;SZ[2])' $'9 2 1 score 0 0 open\n' split --after 1
+gives '(;SZ[9];B[];W[])' $'11 1 3 score 0 0 over\n' split
+gives ' ( ; SZ [3] ; B [bb] ) ' $'12 1 2 score 9 0 open\n' split
+gives $'\xef\xbb\xbf(;)' $'4 1 1 score 0 0 open\n' split
+
+# games that aren't
+gives '(;GM[2]SZ[26])' $'1 1 1 unjudged game\n' split
+gives '(;SZ[19:19])' $'1 1 1 unjudged size\n' split
+gives '(;SZ[53])' $'1 1 1 unjudged size\n' split
+
+# lines of which a node isn't allowed, each reason in the order of checking
+gives '(;SZ[9]AB[aa];B[bb]PL[W])' $'13 1 2 illegal 1 13 mixed\n' split
+gives '(;B[aa]W[bb])' $'1 1 1 illegal 1 1 two-moves\n' split
+gives '(;SZ[9]AB[jj])' $'1 1 1 illegal 1 1 bad-setup\n' split
+gives '(;SZ[9];B[jj])' $'7 1 2 illegal 1 7 bad-point\n' split
+gives '(;SZ[9];B[];W[];B[aa])' $'15 1 4 illegal 3 15 over\n' split
+gives '(;SZ[3];B[];W[];PL[W];W[aa])' $'21 1 5 illegal 3 21 over\n' split
+gives '(;SZ[9];W[aa])' $'7 1 2 illegal 1 7 turn\n' split
+gives '(;SZ[9];B[aa];W[aa])' $'13 1 3 illegal 2 13 occupied\n' split
+gives '(;SZ[4]AB[ba][ab][bc]AW[ca][db][cc][bb];B[cb];W[bb])' $'45 1 3 illegal 2 45 repeat\n' split
+gives '(;SZ[2];B[aa];W[bb];B[ba];W[ab];B[aa];W[ba];B[aa])' $'43 1 8 illegal 7 43 repeat\n' split
+
+# games of their own
+gives '(;GaMe[1]C[a\]b] ;B[aa])' $'(;GM[1]C[a\\]b];B[aa])\n' split --form sgf
+
+# scripts
+gives '(;SZ[3];B[bb])' $'# 7 1 2 score 9 0 open\nboardsize 3\nclear_board\nplay B B2\n\n' split --form gtp
+gives $'(;SZ[5]AB[ab][ba]AW[cc]C[one\ntwo];W[];B[ee])' $'# 37 1 3 score 4 1 open
+boardsize 5\nclear_board\n# one\n# two\nclear_board
+play B B5\nplay B A4\nplay W C3\nplay W pass\nplay B E1\n\n' split --form gtp
+gives '(;GM[2]SZ[26])' $'# 1 1 1 unjudged game\n\n' split --form gtp
+
+# games, nodes and lines
+gives '(;SZ[1])(;SZ[2])' $'2 2 2\n' count
+gives '(;GM[2](;)(;))' $'1 3 2\n' count
+
+# places at which no line ends, and first faulty bytes
+tells '(;SZ[3];B[bb])' 'no line ends at 1' split --after 1
+tells '(;C[a\' 'byte 6: input ends too early' split
+tells '(;B[aa](;W[bb]);B[cc])' 'byte 15: not SGF' split
+tells '()' 'byte 1: not SGF' count
+tells '(;C[a\' 'byte 6: input ends too early' count
 
 # ---- outputs that fail: never status 0 where output was lost
 # lost NAME COMMAND: the run ends with status 3 and says so.
@@ -169,6 +238,7 @@ refused 'a number given twice' split --limit 1 --limit 2
 refused 'two files' split two.sgf two.sgf
 refused 'an option before the command' --form sgf split
 refused 'an option of split after count' count --form sgf
+refused 'a limit of a count' count --limit 1
 refused 'an unknown option' split --colour
 refused 'no version' --version
 run 2 'wrong words open nothing' bash -c 'mkfifo pipe; "$SGFSPLIT" split --form xml pipe'

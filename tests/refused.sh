@@ -84,6 +84,19 @@ each 'counted bytes' REFUSE_READ 3 'read failed' '' count
 unset SHORT_READS
 check 'each byte is a read' 32 "$(cat bytes.runs)"
 
+# After each byte of the output, and of the row of a fault: where that row is cut, the status is the fault's.
+export SHORT_WRITES=1
+each 'written bytes' REFUSE_WRITE 3 'write failed' '' split
+check 'each byte is a write' 44 "$(cat 'written bytes.runs')"
+row='sgfsplit: byte 30: not SGF'
+printf ')' >> input.sgf
+for number in $(seq 0 ${#row}); do
+    env LD_PRELOAD="$PWD/refuse.so" "REFUSE_WRITE=$((number + 1))" "$SGFSPLIT" split < input.sgf > out 2> err
+    check "a row of which $number bytes are written: status" 1 $?
+    check "a row of which $number bytes are written" "${row:0:number}." "$(cat out err; printf .)"
+done
+unset SHORT_WRITES
+
 # Under a limit on memory, in steps of 64 KiB and then wider: the answer, or want of memory after whole records. The last line is much
 # longer than the others, so that memory runs out after some records, too.
 {

@@ -11,9 +11,6 @@ use crate::request::Job;
 use sgf_lines::{RunFault, Sink, Source, count, split, write_counts};
 use std::alloc::Global;
 
-#[cfg(test)]
-mod tests;
-
 /// Does a job, tells its fault, if there is one, and answers the exit status.
 ///
 /// The output holds what was written before a fault. After want of memory it is flushed, whatever that answers. The row

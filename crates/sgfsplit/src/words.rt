@@ -17,9 +17,6 @@ use clap::error::ErrorKind;
 use sgf_lines::{Form, Options};
 use std::alloc::{AllocError, Global};
 
-#[cfg(test)]
-pub(crate) mod tests;
-
 /// The job that the words ask for, the program's own name first.
 ///
 /// A number is at most 18,446,744,073,709,551,615. What isn't a job of `sgfsplit split` or `sgfsplit count` is
