@@ -136,17 +136,34 @@ tells() {
     fault "$* on $text" 1 "$line" "$SGFSPLIT" "$@" < input.sgf
 }
 
-# games that are judged
+# games that are judged: the points of both, and whether two passes ended the game
 gives '(;SZ[3];B[bb])' $'7 1 2 score 9 0 open\n' split
-gives '(;SZ[1];B[aa])' $'7 1 2 illegal 1 7 repeat\n' split
-gives '(;SZ[1])(;SZ[2])' $'1 1 1 score 0 0 open\n9 2 1 score 0 0 open\n' split
-gives '(;SZ[1])(;SZ[2])' $'9 2 1 score 0 0 open\n' split --after 1
-gives '(;SZ[9];B[];W[])' $'11 1 3 score 0 0 over\n' split
 gives ' ( ; SZ [3] ; B [bb] ) ' $'12 1 2 score 9 0 open\n' split
 gives $'\xef\xbb\xbf(;)' $'4 1 1 score 0 0 open\n' split
+gives '(;SZ[1])(;SZ[2])' $'1 1 1 score 0 0 open\n9 2 1 score 0 0 open\n' split
+gives '(;SZ[1])(;SZ[2])' $'9 2 1 score 0 0 open\n' split --after 1
+gives '(;SZ[3]AB[aa:ca])' $'1 1 1 score 9 0 open\n' split
+gives '(;SZ[3]AB[aa]AW[ab][bb][ca]PL[B];B[ba])' $'32 1 2 score 0 9 open\n' split
+gives '(;SZ[3]AB[aa]AW[ba][ab]AE[cc];B[cc])' $'29 1 2 score 1 3 open\n' split
+gives '(;SZ[3]PL[W];W[aa])' $'12 1 2 score 0 9 open\n' split
+gives '(;SZ[3];C[x]SZ[2])' $'7 1 2 score 0 0 open\n' split
+gives '(;SZ[9];B[];W[])' $'11 1 3 score 0 0 over\n' split
+gives '(;SZ[3];B[];W[];AE[aa];W[bb])' $'22 1 5 score 0 9 open\n' split
+passes='(;SZ[3];B[](;W[])(;W[bb])(;AE[aa];W[]))'
+gives "$passes" $'12 1 3 score 0 0 over\n18 1 3 score 0 9 open\n33 1 4 score 0 0 open\n' split
+
+# boards of up to 52 points a side: columns and rows have capital letters from 27 on, and `tt` is a point from 20 on
+gives '(;SZ[19];B[tt])' $'8 1 2 score 0 0 open\n' split
+gives '(;SZ[20];B[tt])' $'8 1 2 score 400 0 open\n' split
+gives '(;SZ[26])' $'1 1 1 score 0 0 open\n' split
+gives '(;SZ[27];B[zA])' $'8 1 2 score 729 0 open\n' split
+gives '(;SZ[52];B[ZZ])' $'8 1 2 score 2704 0 open\n' split
+gives '(;SZ[52];B[tt])' $'8 1 2 score 2704 0 open\n' split
 
 # games that aren't
 gives '(;GM[2]SZ[26])' $'1 1 1 unjudged game\n' split
+gives '(;GM[x])' $'1 1 1 unjudged game\n' split
+gives '(;GM[2](;)(;))' $'8 1 2 unjudged game\n11 1 2 unjudged game\n' split
 gives '(;SZ[19:19])' $'1 1 1 unjudged size\n' split
 gives '(;SZ[53])' $'1 1 1 unjudged size\n' split
 
@@ -154,22 +171,40 @@ gives '(;SZ[53])' $'1 1 1 unjudged size\n' split
 gives '(;SZ[9]AB[aa];B[bb]PL[W])' $'13 1 2 illegal 1 13 mixed\n' split
 gives '(;B[aa]W[bb])' $'1 1 1 illegal 1 1 two-moves\n' split
 gives '(;SZ[9]AB[jj])' $'1 1 1 illegal 1 1 bad-setup\n' split
+gives '(;SZ[3]AB[ca:aa])' $'1 1 1 illegal 1 1 bad-setup\n' split
+gives '(;SZ[3];B[aa];PL[b])' $'13 1 3 illegal 2 13 bad-setup\n' split
 gives '(;SZ[9];B[jj])' $'7 1 2 illegal 1 7 bad-point\n' split
+gives '(;SZ[26];B[zA])' $'8 1 2 illegal 1 8 bad-point\n' split
 gives '(;SZ[9];B[];W[];B[aa])' $'15 1 4 illegal 3 15 over\n' split
 gives '(;SZ[3];B[];W[];PL[W];W[aa])' $'21 1 5 illegal 3 21 over\n' split
 gives '(;SZ[9];W[aa])' $'7 1 2 illegal 1 7 turn\n' split
 gives '(;SZ[9];B[aa];W[aa])' $'13 1 3 illegal 2 13 occupied\n' split
+gives '(;SZ[1];B[aa])' $'7 1 2 illegal 1 7 repeat\n' split
+gives '(;SZ[1];B[aa](;W[])(;C[x]))' $'14 1 3 illegal 1 7 repeat\n20 1 3 illegal 1 7 repeat\n' split
 gives '(;SZ[4]AB[ba][ab][bc]AW[ca][db][cc][bb];B[cb];W[bb])' $'45 1 3 illegal 2 45 repeat\n' split
 gives '(;SZ[2];B[aa];W[bb];B[ba];W[ab];B[aa];W[ba];B[aa])' $'43 1 8 illegal 7 43 repeat\n' split
 
 # games of their own
+gives '(;)' $'(;)\n' split --form sgf
+gives '(;SZ[1])(;SZ[2])' $'(;SZ[1])\n(;SZ[2])\n' split --form sgf
 gives '(;GaMe[1]C[a\]b] ;B[aa])' $'(;GM[1]C[a\\]b];B[aa])\n' split --form sgf
+gives "$passes" $'(;SZ[3];B[];W[])\n(;SZ[3];B[];W[bb])\n(;SZ[3];B[];AE[aa];W[])\n' split --form sgf
 
-# scripts
+# scripts: the row, the board, the comments, the stones of each setup and the moves, up to the first node that isn't allowed
 gives '(;SZ[3];B[bb])' $'# 7 1 2 score 9 0 open\nboardsize 3\nclear_board\nplay B B2\n\n' split --form gtp
 gives $'(;SZ[5]AB[ab][ba]AW[cc]C[one\ntwo];W[];B[ee])' $'# 37 1 3 score 4 1 open
 boardsize 5\nclear_board\n# one\n# two\nclear_board
 play B B5\nplay B A4\nplay W C3\nplay W pass\nplay B E1\n\n' split --form gtp
+gives '(;SZ[1];B[aa])' $'# 7 1 2 illegal 1 7 repeat\nboardsize 1\nclear_board\n\n' split --form gtp
+gives '(;SZ[3]AB[aa]AW[ba][ab]AE[cc];B[cc])' $'# 29 1 2 score 1 3 open\n\n' split --form gtp
+gives '(;SZ[3]C[x];B[aa]C[y];W[aa]C[z])' $'# 21 1 3 illegal 2 21 occupied
+boardsize 3\nclear_board\n# x\n# y\nplay B A3\n\n' split --form gtp
+gives $'(;SZ[1]C[a\n\nb])' $'# 1 1 1 score 0 0 open\nboardsize 1\nclear_board\n# a\n# \n# b\n\n' split --form gtp
+gives '(;SZ[3];B[];W[];AE[aa];W[bb])' $'# 22 1 5 score 0 9 open
+boardsize 3\nclear_board\nplay B pass\nplay W pass\nclear_board\nplay W B2\n\n' split --form gtp
+gives '(;SZ[1])(;SZ[2])' $'# 1 1 1 score 0 0 open\nboardsize 1\nclear_board\n
+# 9 2 1 score 0 0 open\nboardsize 2\nclear_board\n\n' split --form gtp
+gives '(;SZ[26]C[x];B[aa])' $'# 12 1 2 score 676 0 open\n\n' split --form gtp
 gives '(;GM[2]SZ[26])' $'# 1 1 1 unjudged game\n\n' split --form gtp
 
 # games, nodes and lines

@@ -33,6 +33,7 @@ pub fn calls(alloc: Global, seen: &mut Seen) {
             sink_fails(alloc, step, room, seen);
         }
     }
+    array_is_full(alloc, seen);
 }
 
 /// A source that gives one byte of a text a call, so often, and then fails.
@@ -192,6 +193,21 @@ fn sink_fails(alloc: Global, step: usize, room: usize, seen: &mut Seen) {
         }
         Ok(lines) => seen.right(lines == 2 && fits, "little at a time"),
         Err(_) => seen.wrong("a run whose sink is narrow"),
+    }
+}
+
+/// A run to an array that the second row doesn't fit into, which takes what it has room for.
+fn array_is_full(alloc: Global, seen: &mut Seen) {
+    seen.call();
+    let mut source = SliceSource::new(TWO);
+    let mut sink = ArraySink::<30>::new();
+    match split(alloc, &mut source, &mut sink, &ROWS) {
+        Err(RunFault::Memory { .. }) => seen.want(),
+        Err(RunFault::Write { lines }) => {
+            let fits = is_front(sink.as_slice(), 30);
+            seen.right(lines == 1 && fits, "a full array");
+        }
+        _ => seen.wrong("a run to an array that is too short"),
     }
 }
 

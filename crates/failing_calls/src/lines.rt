@@ -5,7 +5,8 @@ use crate::seen::Seen;
 use crate::tree::{TWO, collection};
 use go_board::Reason;
 use sgf_lines::{
-    Counts, Cursor, LineRef, RunFault, SeekFault, SliceSource, Verdict, count, judge, write_counts,
+    ArraySink, Counts, Cursor, LineRef, RunFault, SeekFault, SliceSource, Verdict, count, judge,
+    write_counts,
 };
 use sgf_tree::Collection;
 use std::alloc::Global;
@@ -175,4 +176,16 @@ fn counts(alloc: Global, seen: &mut Seen) {
     seen.right(written == Ok(()), "counts written");
     let is_row = page.as_slice() == b"1 4 2\n".as_slice();
     seen.right(is_row, "the row of counts");
+    counts_without_room(&counts, seen);
+}
+
+/// Writes counts to an array that their row doesn't fit into.
+fn counts_without_room(counts: &Counts, seen: &mut Seen) {
+    let mut sink = ArraySink::<3>::new();
+    seen.call();
+    let written = write_counts(&mut sink, counts);
+    let is_told = written == Err(RunFault::Write { lines: 0 });
+    seen.right(is_told, "counts without room");
+    let is_front = sink.as_slice() == b"1 4".as_slice();
+    seen.right(is_front, "the front of the row of counts");
 }

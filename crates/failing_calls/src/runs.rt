@@ -9,6 +9,42 @@ use std::alloc::Global;
 /// A game with setup, a comment of two lines, a pass and a stone.
 const COMMENT: &[u8] = b"(;SZ[5]AB[ab][ba]AW[cc]C[one\ntwo];W[];B[ee])";
 
+/// Two lines that share a node that isn't allowed.
+const ILLEGAL: &[u8] = b"(;SZ[1];B[aa](;W[])(;C[x]))";
+
+const ILLEGAL_ROWS: [&[u8]; 2] = [
+    b"14 1 3 illegal 1 7 repeat\n",
+    b"20 1 3 illegal 1 7 repeat\n",
+];
+
+/// Three lines that share a pass, the last one with a setup.
+const PASSES: &[u8] = b"(;SZ[3];B[](;W[])(;W[bb])(;AE[aa];W[]))";
+
+const PASSES_ROWS: [&[u8]; 3] = [
+    b"12 1 3 score 0 0 over\n",
+    b"18 1 3 score 0 9 open\n",
+    b"33 1 4 score 0 0 open\n",
+];
+
+const PASSES_GAMES: [&[u8]; 3] = [
+    b"(;SZ[3];B[];W[])\n",
+    b"(;SZ[3];B[];W[bb])\n",
+    b"(;SZ[3];B[];AE[aa];W[])\n",
+];
+
+/// Two games of one line each.
+const TWO_GAMES: &[u8] = b"(;SZ[1])(;SZ[2])";
+
+const TWO_SCRIPTS: [&[u8]; 2] = [
+    b"# 1 1 1 score 0 0 open\nboardsize 1\nclear_board\n\n",
+    b"# 9 2 1 score 0 0 open\nboardsize 2\nclear_board\n\n",
+];
+
+/// Two lines of a game other than Go.
+const OTHER_GAME: &[u8] = b"(;GM[2](;)(;))";
+
+const OTHER_ROWS: [&[u8]; 2] = [b"8 1 2 unjudged game\n", b"11 1 2 unjudged game\n"];
+
 /// The rows of the game of two lines.
 pub const FIRST: &[u8] = b"8 1 2 score 9 0 open\n";
 
@@ -30,11 +66,32 @@ struct Run<'a> {
 
 /// Makes the runs.
 pub fn calls(alloc: Global, seen: &mut Seen) {
-    let rows = Options {
-        form: Form::List,
-        after: None,
-        limit: None,
-    };
+    pages(alloc, seen);
+    for (text, form, records, plays) in [
+        (COMMENT, Form::Gtp, [SCRIPT].as_slice(), [0, 3].as_slice()),
+        (ILLEGAL, Form::List, &ILLEGAL_ROWS, &[0, 2, 2]),
+        (PASSES, Form::List, &PASSES_ROWS, &[0, 3, 4, 6]),
+        (PASSES, Form::Sgf, &PASSES_GAMES, &[0, 0, 0, 0]),
+        (TWO_GAMES, Form::Gtp, &TWO_SCRIPTS, &[0, 1, 2]),
+        (OTHER_GAME, Form::List, &OTHER_ROWS, &[0, 0, 0]),
+    ] {
+        let run = Run {
+            text,
+            options: Options {
+                form,
+                after: None,
+                limit: None,
+            },
+            records,
+            plays,
+        };
+        splits(alloc, run, seen);
+        splits_with_plays(alloc, run, seen);
+    }
+}
+
+/// Makes the runs over pages of the game of two lines.
+fn pages(alloc: Global, seen: &mut Seen) {
     for (after, limit, records, plays) in [
         (None, None, [FIRST, SECOND].as_slice(), [0, 2, 4].as_slice()),
         (Some(8), None, &[SECOND], &[0, 3]),
@@ -46,9 +103,9 @@ pub fn calls(alloc: Global, seen: &mut Seen) {
         let run = Run {
             text: TWO,
             options: Options {
+                form: Form::List,
                 after,
                 limit,
-                ..rows
             },
             records,
             plays,
@@ -56,17 +113,6 @@ pub fn calls(alloc: Global, seen: &mut Seen) {
         splits(alloc, run, seen);
         splits_with_plays(alloc, run, seen);
     }
-    let run = Run {
-        text: COMMENT,
-        options: Options {
-            form: Form::Gtp,
-            ..rows
-        },
-        records: &[SCRIPT],
-        plays: &[0, 3],
-    };
-    splits(alloc, run, seen);
-    splits_with_plays(alloc, run, seen);
 }
 
 /// Splits a text, and once more where memory was refused: exactly the whole records of the first lines stand then, and no

@@ -7,15 +7,11 @@ mod fill;
 mod flood;
 mod glance;
 mod group;
-#[cfg(test)]
-mod move_tests;
 pub(crate) mod regions;
 mod reset;
 mod search;
 pub(crate) mod stone_rows;
 mod sweep;
-#[cfg(test)]
-mod tests;
 
 ghost use Rattle.std.specs.Prelude.{◌≡◌, replicate};
 ghost use Rattle.go_board.specs.declared.stones.Cell.TheVariants.{Empty};

@@ -44,8 +44,6 @@
 
 mod board;
 mod fault;
-#[cfg(test)]
-mod given;
 pub mod laws;
 mod marks;
 mod past;

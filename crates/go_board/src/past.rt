@@ -10,8 +10,6 @@ pub(crate) mod print;
 mod print_past;
 mod setups;
 mod table;
-#[cfg(test)]
-mod tests;
 
 ghost use Rattle.std.specs.Prelude.{◌≡◌, ◌≤◌, ◌↔◌, [], ◌∷◌, true, false, List, Some, All, fold, length, drop, IsTrue, IfOk, OnOk, OnErr, Contains, if◌then◌else◌};
 ghost use Rattle.go_board.specs.declared.stones.Cell.TheVariants.{Empty};

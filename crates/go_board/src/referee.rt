@@ -2,14 +2,10 @@
 //! the turns from before it (`Earlier`), and `undo` gives them back; where the call added a colouring to the past, `undo` takes
 //! it off.
 
-#[cfg(test)]
-mod capture_tests;
 mod plays;
 mod reset;
 mod setup;
 mod spare_turn;
-#[cfg(test)]
-mod tests;
 mod turn;
 
 ghost use Rattle.std.specs.Prelude.{◌≡◌, IsTrue};

@@ -1,9 +1,6 @@
 //! The points and rectangles that property values name (SGF FF[4], "Point" and "compressed point lists"). A pass, as `tt` may
 //! be, is told from a point before these are asked.
 
-#[cfg(test)]
-mod tests;
-
 ghost use Rattle.std.specs.Prelude.{◌≡◌, IfSome};
 ghost use Rattle.go_board.specs.Point.{IsOn, IsRectOn};
 ghost use Rattle.go_board.specs.Values.{coordinate, rect_of, point_value, rect_value};

@@ -1,8 +1,5 @@
 //! Points as the Go Text Protocol writes them (GTP version 2, "vertex").
 
-#[cfg(test)]
-mod tests;
-
 ghost use Rattle.std.specs.Prelude.{◌≡◌, ◌≤◌};
 ghost use Rattle.go_board.specs.Point.{IsOn};
 ghost use Rattle.go_board.specs.Vertex.{vertex_of};

@@ -108,6 +108,3 @@ fn put_number<T: Sink>(number: u64, end: &[u8], sink: &mut T) -> Result<(), Sink
     put_all(buffer.format(number).as_bytes(), sink)?;
     put_all(end, sink)
 }
-
-#[cfg(test)]
-mod tests;

@@ -120,6 +120,3 @@ pub(crate) fn score<P: Past>(referee: &Referee<P>) -> Verdict
         over: referee.over(),
     }
 }
-
-#[cfg(test)]
-mod tests;

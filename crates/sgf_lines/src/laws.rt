@@ -114,6 +114,3 @@ pub fn judged()
     ensures one_of_two { (side : ℕ) (nodes : List Node)
         → ((state : State) × IsAfter (starting side) nodes state) ⊎ HasIllegal (starting side) nodes }
 {}
-
-#[cfg(test)]
-mod tests;

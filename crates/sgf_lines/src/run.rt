@@ -179,8 +179,3 @@ fn cursor_after<'c, 'a>(
         Err(SeekFault::Memory) => Err(RunFault::Memory { lines: 0 }),
     }
 }
-
-#[cfg(test)]
-mod plays_tests;
-#[cfg(test)]
-mod tests;

@@ -1,8 +1,5 @@
 //! Stones that capture nothing: mostly a glance at the points around one tells that it does not.
 
-#[cfg(test)]
-mod tests;
-
 ghost use Rattle.std.specs.Prelude.{◌≡◌, ◌≤◌, ◌||◌, ◌⊎◌, IsTrue};
 ghost use Rattle.std.specs.Option.{ForSome};
 ghost use Rattle.go_board.specs.declared.stones.Cell.TheVariants.{Empty};

@@ -2,8 +2,6 @@
 //! apart by one comparison.
 
 mod powers;
-#[cfg(test)]
-mod tests;
 
 ghost use Rattle.std.specs.Prelude.{◌≡◌, ◌<◌, ◌≤◌, length, slice_set};
 ghost use Rattle.go_board.specs.inner.Print.{code_of, print_of};

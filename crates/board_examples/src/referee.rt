@@ -1,7 +1,7 @@
 //! Worked examples of a referee.
 
 use crate::given::{at, size};
-use crate::{
+use go_board::{
     Cell, Colour, ListPast, MemoryFault, Past, Play, PrintPast, Reason, Rect, Referee, SetupOp,
     TurnFault,
 };

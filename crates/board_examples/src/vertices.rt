@@ -1,7 +1,7 @@
 //! Worked examples of vertices.
 
 use crate::given::{at, size};
-use crate::{Vertex, vertex};
+use go_board::{Vertex, vertex};
 
 #[test]
 fn vertices(rt: HostRuntime) {

@@ -5,7 +5,7 @@ ghost use Rattle.go_board.specs.Past.{HaveSide};
 ghost use Rattle.go_board.specs.Point.{IsOn};
 
 use crate::given::{at, size};
-use crate::{Board, Cell, ListPast, MemoryFault, Past, Point, PrintPast};
+use go_board::{Board, Cell, ListPast, MemoryFault, Past, Point, PrintPast};
 use std::alloc::Global;
 use std::process::Abort;
 use std::test::Fail;

@@ -1,6 +1,6 @@
 //! The sides that boards have.
 
-use crate::{MAX_SIDE, Size};
+use go_board::{MAX_SIDE, Size};
 
 /// Sides, and whether there is a board of it.
 const SIDES: [(u8, bool); 6] = [

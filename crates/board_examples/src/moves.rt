@@ -1,6 +1,6 @@
 //! Moves in turn, on boards where every stone is known to reach empty, and a move after points were set.
 
-use crate::{Board, Cell, Colour, Point, Size};
+use go_board::{Board, Cell, Colour, Point, Size};
 use std::process::Abort;
 
 /// Plays on an empty point of the board.

@@ -2,7 +2,7 @@
 
 ghost use Rattle.std.specs.Prelude.{◌≡◌};
 
-use crate::{Point, Size};
+use go_board::{Point, Size};
 use std::process::Abort;
 
 /// The point of a column and a row, from 0.

@@ -1,7 +1,7 @@
 //! Worked examples of values that name points and rectangles.
 
 use crate::given::size;
-use crate::{Point, Rect, point, rect};
+use go_board::{Point, Rect, point, rect};
 
 /// Values, the side of a board, and the point of it that they name.
 const POINTS: [(&str, u8, Option<Point>); 11] = [

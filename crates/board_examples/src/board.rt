@@ -3,7 +3,7 @@
 ghost use Rattle.std.specs.Prelude.{◌≡◌};
 
 use crate::given::{at, size};
-use crate::{Board, Cell, Colour, Marks, Steps};
+use go_board::{Board, Cell, Colour, Marks, Steps};
 use std::process::Abort;
 
 const B: Cell = Cell::Black;

@@ -1,8 +1,8 @@
 //! Games with captures: both pasts give the same answers, and an undo gives each board back.
 
 use crate::given::{at, size};
-use crate::referee::tests::{answers, turn, undo};
-use crate::{Colour, ListPast, Past, Play, PrintPast, Reason, Referee, TurnFault};
+use crate::referee::{answers, turn, undo};
+use go_board::{Colour, ListPast, Past, Play, PrintPast, Reason, Referee, TurnFault};
 use std::alloc::Global;
 use std::process::Abort;
 use std::test::Fail;

@@ -1,0 +1,33 @@
+//! Worked examples of `go_board`, called as by any program that stands on it.
+//!
+//! They stand beside that crate and not within: a crate that has tests is proved once more with them.
+//!
+//! | Module | Examples of |
+//! |---|---|
+//! | `size`, `values`, `vertices` | sides, the values that name points and rectangles, points as the Go Text Protocol writes them |
+//! | `board` | reaching, clearing, scores, moves and copies |
+//! | `moves` | moves one after the other, and after points were set |
+//! | `past` | a stretch that is begun anew, and prints that are alike |
+//! | `referee` | turns, setup, undo, another game; the texts of the faults |
+//! | `captures` | games with captures over both pasts |
+//! | `given` | points and sizes for all of these |
+#![tactic(auto)]
+
+#[cfg(test)]
+mod board;
+#[cfg(test)]
+mod captures;
+#[cfg(test)]
+mod given;
+#[cfg(test)]
+mod moves;
+#[cfg(test)]
+mod past;
+#[cfg(test)]
+mod referee;
+#[cfg(test)]
+mod size;
+#[cfg(test)]
+mod values;
+#[cfg(test)]
+mod vertices;
