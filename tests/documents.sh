@@ -2,6 +2,7 @@
 # The examples of README, docs/ and the manual page, run as they stand: after each line `$ COMMAND` come the lines that it writes.
 # They run where the examples and recipes lie, with the program on the path. Commands of make, rt, git and apt-get aren't run here.
 . "$(dirname "$0")/lib.sh"
+needs python3 perl
 mkdir bin
 ln -s "$SGFSPLIT" bin/sgfsplit
 PATH=$work/bin:$PATH

@@ -1,6 +1,6 @@
 #!/usr/bin/env bash
 # Refuses each request for memory of the program `failing_calls` in turn. It makes the libraries' calls, each once more after a want of
-# memory, and its status says whether all was as it should be (crates/failing_calls/src/main.rt).
+# memory, and runs between ends that fail, once each; its status says whether all was as it should be (crates/failing_calls/src/main.rt).
 . "$(dirname "$0")/lib.sh"
 tried=$top/crates/failing_calls/out/failing_calls
 needs cc

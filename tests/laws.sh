@@ -1,12 +1,15 @@
 #!/usr/bin/env bash
 # Laws of the program over the examples: splitting the sgf output again gives the same bytes; appending a collection leaves the
-# rows of the first and raises those of the second; pages join to the whole; counts fit.
+# rows of the first and raises those of the second; pages join to the whole; places rise; counts fit.
 . "$(dirname "$0")/lib.sh"
 for file in "$top"/examples/*.sgf; do
     "$SGFSPLIT" split --form sgf "$file" > once
     "$SGFSPLIT" split --form sgf once > twice
     same once twice "the lines of $file, split again,"
     "$SGFSPLIT" split "$file" > rows
+    cut -d ' ' -f 1 rows > places
+    sort -nu places > risen
+    same risen places "the places of $file in order"
     : > pages
     place=
     while "$SGFSPLIT" split ${place:+--after "$place"} --limit 1 "$file" > page && [ -s page ]; do

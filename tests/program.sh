@@ -1,5 +1,6 @@
 #!/usr/bin/env bash
-# Drives the built program as users do: files, pipes, full devices, closed streams, endless inputs, wrong words.
+# Drives the built program as users do, and compares what it writes to the byte: rows, games, scripts and counts of small texts, each
+# with its answer worked out by hand; then files, pipes, full devices, closed streams, endless inputs, wrong words.
 # The last line is `N passed, N failed, N skipped`. A run that lost output may never end with status 0.
 . "$(dirname "$0")/lib.sh"
 set +e
@@ -251,31 +252,34 @@ run 0 'a slow reader' bash -c '"$SGFSPLIT" split many.sgf | (sleep 0.3; cat) | t
 writes 'a slow reader' $'160000 1 2 score 81 0 open\n'
 
 # ---- words
-# refused NAME WORDS..: status 2, something on standard error, nothing on standard output.
+# refused NAME TEXT WORDS..: status 2, `error: TEXT` is the first line on standard error, nothing on standard output.
 refused() {
-    local name=$1
-    shift
+    local name=$1 text=$2
+    shift 2
     run 2 "$name" "$SGFSPLIT" "$@"
     writes "$name" ''
-    verdict "$name: says something" 1 "$([ -s err ] && echo 1)"
+    verdict "$name: text" "error: $text" "$(head -n 1 err)"
 }
-refused 'no word'
-refused 'an unknown command' divide
-refused 'a file without a command' two.sgf
-refused 'an unknown form' split --form xml
-refused 'a form in capitals' split --form SGF
-refused 'no form' split --form
-refused 'no number' split --after x
-refused 'a negative number' split --after=-1
-refused 'a number of more than 64 bits' split --limit 18446744073709551616
-refused 'an option given twice' split --form sgf --form sgf
-refused 'a number given twice' split --limit 1 --limit 2
-refused 'two files' split two.sgf two.sgf
-refused 'an option before the command' --form sgf split
-refused 'an option of split after count' count --form sgf
-refused 'a limit of a count' count --limit 1
-refused 'an unknown option' split --colour
-refused 'no version' --version
+form="for '--form <FORM>'" after="for '--after <PLACE>'" limit="for '--limit <N>'"
+twice='cannot be used multiple times'
+refused 'no word' "'sgfsplit' requires a subcommand but one was not provided"
+refused 'an unknown command' "unrecognized subcommand 'divide'" divide
+refused 'a file without a command' "unrecognized subcommand 'two.sgf'" two.sgf
+refused 'an unknown form' "invalid value 'xml' $form" split --form xml
+refused 'a form in capitals' "invalid value 'SGF' $form" split --form SGF
+refused 'no form' "a value is required $form but none was supplied" split --form
+refused 'no number' "invalid value 'x' $after: invalid digit found in string" split --after x
+refused 'a negative number' "invalid value '-1' $after: invalid digit found in string" split --after=-1
+refused 'a number of more than 64 bits' "invalid value '18446744073709551616' $limit: number too large to fit in target type" \
+    split --limit 18446744073709551616
+refused 'an option given twice' "the argument '--form <FORM>' $twice" split --form sgf --form sgf
+refused 'a number given twice' "the argument '--limit <N>' $twice" split --limit 1 --limit 2
+refused 'two files' "unexpected argument 'two.sgf' found" split two.sgf two.sgf
+refused 'an option before the command' "unexpected argument '--form' found" --form sgf split
+refused 'an option of split after count' "unexpected argument '--form' found" count --form sgf
+refused 'a limit of a count' "unexpected argument '--limit' found" count --limit 1
+refused 'an unknown option' "unexpected argument '--colour' found" split --colour
+refused 'no version' "unexpected argument '--version' found" --version
 run 2 'wrong words open nothing' bash -c 'mkfifo pipe; "$SGFSPLIT" split --form xml pipe'
 
 run 0 'help' "$SGFSPLIT" --help
@@ -283,7 +287,21 @@ verdict 'help names both commands' 2 "$(grep -cE '^ +(split|count) ' out)"
 verdict 'help has an example' 1 "$(grep -c '^ *sgfsplit split .*\.sgf' out)"
 run 0 'help of split' "$SGFSPLIT" split --help
 verdict 'help of split names its options' 3 "$(grep -cE '^ +--(form|after|limit) ' out)"
-run 0 'help of count' "$SGFSPLIT" count --help
+answer 'help of count' 'Counts the games, nodes and lines of play
+
+Usage: sgfsplit count [FILE]
+
+Arguments:
+  [FILE]  The collection to read; none or -: standard input
+
+Options:
+  -h, --help  Print help
+
+Example:
+  sgfsplit count joseki.sgf
+
+writes three numbers: games, nodes, lines of play.
+' "$SGFSPLIT" count --help
 
 echo "$passed passed, $failed failed, $not_run skipped"
 [ "$failed" = 0 ]

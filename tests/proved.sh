@@ -2,6 +2,7 @@
 # Each call and clause that docs/PROVED.md names stands in the code, and each law of the code is named there. Each definition that the
 # tables of docs/ name stands in that file.
 . "$(dirname "$0")/lib.sh"
+needs python3
 python3 - "$top" <<'PYTHON'
 import glob
 import re

@@ -1,6 +1,7 @@
 #!/usr/bin/env bash
 # A collection cut between games into small parts has the rows of the whole, at every size of the parts, and the fault of the whole.
 . "$(dirname "$0")/lib.sh"
+needs python3
 cat "$top"/examples/*.sgf > whole.sgf
 printf '(;SZ[9]C[not the end) of a game, \\]) neither];W[aa])\n' >> whole.sgf
 "$SGFSPLIT" split whole.sgf > want

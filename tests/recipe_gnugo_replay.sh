@@ -1,7 +1,7 @@
 #!/usr/bin/env bash
 # GNU Go plays the scripts of the examples, of a comment longer than its lines, of a ko and of a suicide, and agrees on each area.
 . "$(dirname "$0")/lib.sh"
-needs gnugo
+needs gnugo python3
 {
     printf '(;SZ[9]C[%s];B[cc])' "$(head -c 3000 /dev/zero | tr '\0' 'x')"
     printf '(;SZ[4]AB[ba][ab][bc]AW[ca][db][cc][bb];B[cb];W[bb])'

@@ -1,6 +1,7 @@
 #!/usr/bin/env bash
 # A game in a mail: refused as it is, split without what stands around it.
 . "$(dirname "$0")/lib.sh"
+needs perl
 {
     printf 'From: a player (somewhere)\nSubject: our game (the one on Sunday)\n\nHello, here it is: '
     cat "$top/examples/corner.sgf"

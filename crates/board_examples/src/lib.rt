@@ -10,7 +10,7 @@
 //! | `past` | a stretch that is begun anew, and prints that are alike |
 //! | `referee` | turns, setup, undo, another game; the texts of the faults |
 //! | `captures` | games with captures over both pasts |
-//! | `given` | points and sizes for all of these |
+//! | `given` | points and sizes for the others |
 #![tactic(auto)]
 
 #[cfg(test)]

@@ -2,7 +2,8 @@
 //!
 //! The program is run with its Nth request for memory refused, for N = 1, 2, .. (`tests/failing_calls.sh`). A call then
 //! gives its answer with ample memory, or its want of memory: then what it was called on is unchanged, and the same call made
-//! again gives that answer. Texts and the ends of runs lie in arrays, so that only the calls ask for memory.
+//! again gives that answer. A run leaves whole records in its sink then; one between ends that fail (`ends`) is made once.
+//! Texts and the ends of runs lie in arrays, so that only the calls ask for memory.
 //!
 //! Status 0: every call gave its answer at once. Status 4: some call wanted memory, and all was as it should be. Status 1:
 //! something was wrong, which standard error names.

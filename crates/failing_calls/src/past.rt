@@ -1,4 +1,4 @@
-//! The calls of a past that take memory.
+//! Calls of a past that take memory: `new`, `push`, `restart`. A referee makes the others (`referee`).
 
 ghost use Rattle.std.specs.Prelude.{◌≡◌, [], ◌∷◌, true, false, IfOk, OnOk};
 ghost use Rattle.go_board.specs.Past.{HaveSide};

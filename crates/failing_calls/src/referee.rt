@@ -1,4 +1,4 @@
-//! The calls of a referee that take memory.
+//! Calls of a referee that take memory: `new`, `turn`, `setup`, `reset`.
 
 use crate::seen::Seen;
 use go_board::{
@@ -33,7 +33,7 @@ const PASSES: [Answered; 5] = [
     (Colour::Black, Play::Pass, Err(Reason::Over), 2, true),
 ];
 
-/// Plays those turns, and takes the last pass back.
+/// Plays those turns, takes the last pass back, and begins another game.
 fn passes_twice<P: Past>(game: &mut Referee<P>, seen: &mut Seen) {
     for &(colour, play, answer, turns, over) in &PASSES {
         turn(game, colour, play, answer, seen);
@@ -43,6 +43,7 @@ fn passes_twice<P: Past>(game: &mut Referee<P>, seen: &mut Seen) {
     undo(game, seen);
     let is_so = !game.over() && game.turns() == 1 && game.depth() == 1;
     seen.right(is_so, "a game after an undo");
+    begin_another(game, seen);
 }
 
 /// Plays a game on three by three points, beside one that stays as it begins.
@@ -203,4 +204,18 @@ fn undo<P: Past>(game: &mut Referee<P>, seen: &mut Seen) {
         return seen.wrong("nothing to take back");
     }
     game.undo();
+}
+
+/// Begins another game, and once more where memory was refused; the game is the same then.
+fn begin_another<P: Past>(game: &mut Referee<P>, seen: &mut Seen) {
+    let before = Shown::of(game);
+    let size = game.board().size();
+    seen.call();
+    if game.reset(size).is_err() {
+        seen.want();
+        seen.right(before.is_of(game), "a game after a refused reset");
+        seen.right(game.reset(size).is_ok(), "a reset asked for again");
+    }
+    let is_so = !game.over() && game.turns() == 0 && game.depth() == 0;
+    seen.right(is_so, "another game");
 }
