@@ -68,6 +68,20 @@ each faulty REFUSE_MEMORY 4 "$memory" '' split
 each faulty REFUSE_READ 3 'read failed' '' split
 cp good.sgf input.sgf
 
+# A past with more entries than it has room for at first: a setup of 70 points, and 70 moves after one another. Nothing is captured, and
+# what is empty reaches both colours.
+letters=$(printf '%s' {a..z} {A..Z})
+{
+    printf '(;SZ[52](;AB'
+    for at in {0..69}; do printf '[%s%s]' "${letters:at % 35:1}" "${letters:at / 35:1}"; done
+    printf ';W[ss])('
+    for at in {0..34}; do printf ';B[%sa];W[%sc]' "${letters:at:1}" "${letters:at:1}"; done
+    printf '))'
+} > input.sgf
+each growth REFUSE_MEMORY 4 "$memory" "$nl" split
+check 'growth: rows' "score 70 1 open${nl}score 35 35 open" "$(cut -d ' ' -f 4- growth.out)"
+cp good.sgf input.sgf
+
 # Short reads and short writes change nothing, and each of many reads that fails is told.
 for short in SHORT_READS SHORT_WRITES; do
     for form in list sgf gtp; do
