@@ -1,5 +1,5 @@
-//! Calls of a past that take memory: `new`, `push`, `restart`. That of `reset` is a referee's (`referee`); `try_stone` and
-//! `try_setup` of a past that is full are those of a run (`tests/refused.sh`).
+//! Calls of a past that take memory: `new`, `push`, `restart`. Those of `try_stone` and `try_setup`, which take some where a
+//! past is full, are a run's (`tests/refused.sh`).
 
 ghost use Rattle.std.specs.Prelude.{◌≡◌, [], ◌∷◌, true, false, IfOk, OnOk};
 ghost use Rattle.go_board.specs.Past.{HaveSide};

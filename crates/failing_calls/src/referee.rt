@@ -1,4 +1,4 @@
-//! Calls of a referee that take memory: `new`, `turn`, `setup`, `reset`.
+//! Calls of a referee that take memory, `new`, `turn` and `setup`, and `reset`, which takes none over these pasts.
 
 use crate::seen::Seen;
 use go_board::{
@@ -206,16 +206,11 @@ fn undo<P: Past>(game: &mut Referee<P>, seen: &mut Seen) {
     game.undo();
 }
 
-/// Begins another game, and once more where memory was refused; the game is the same then.
+/// Begins another game, which takes no memory over these pasts.
 fn begin_another<P: Past>(game: &mut Referee<P>, seen: &mut Seen) {
-    let before = Shown::of(game);
     let size = game.board().size();
     seen.call();
-    if game.reset(size).is_err() {
-        seen.want();
-        seen.right(before.is_of(game), "a game after a refused reset");
-        seen.right(game.reset(size).is_ok(), "a reset asked for again");
-    }
+    seen.right(game.reset(size).is_ok(), "a reset");
     let is_so = !game.over() && game.turns() == 0 && game.depth() == 0;
-    seen.right(is_so, "another game");
+    seen.right(is_so, "a game after a reset");
 }
