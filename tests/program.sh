@@ -141,6 +141,10 @@ tells() {
 gives '(;SZ[3];B[bb])' $'7 1 2 score 9 0 open\n' split
 gives ' ( ; SZ [3] ; B [bb] ) ' $'12 1 2 score 9 0 open\n' split
 gives $'\xef\xbb\xbf(;)' $'4 1 1 score 0 0 open\n' split
+gives $'(;C[]\x0b[a]\x0c\r\n;)\t' $'12 1 2 score 0 0 open\n' split
+gives $'(;)\n(;(;)(;;))(;)' $'1 1 1 score 0 0 open\n7 2 2 score 0 0 open\n11 2 3 score 0 0 open\n15 3 1 score 0 0 open\n' split
+gives '(;SZ[007];B[gg])' $'9 1 2 score 49 0 open\n' split
+gives '(;SZ[+7];B[gg])' $'8 1 2 score 49 0 open\n' split
 gives '(;SZ[1])(;SZ[2])' $'1 1 1 score 0 0 open\n9 2 1 score 0 0 open\n' split
 gives '(;SZ[1])(;SZ[2])' $'9 2 1 score 0 0 open\n' split --after 1
 gives '(;SZ[3]AB[aa:ca])' $'1 1 1 score 9 0 open\n' split
@@ -167,6 +171,8 @@ gives '(;GM[x])' $'1 1 1 unjudged game\n' split
 gives '(;GM[2](;)(;))' $'8 1 2 unjudged game\n11 1 2 unjudged game\n' split
 gives '(;SZ[19:19])' $'1 1 1 unjudged size\n' split
 gives '(;SZ[53])' $'1 1 1 unjudged size\n' split
+gives '(;SZ[-0])' $'1 1 1 unjudged size\n' split
+gives '(;SZ[7 ])' $'1 1 1 unjudged size\n' split
 
 # lines of which a node isn't allowed, each reason in the order of checking
 gives '(;SZ[9]AB[aa];B[bb]PL[W])' $'13 1 2 illegal 1 13 mixed\n' split
@@ -189,6 +195,8 @@ gives '(;SZ[2];B[aa];W[bb];B[ba];W[ab];B[aa];W[ba];B[aa])' $'43 1 8 illegal 7 43
 gives '(;)' $'(;)\n' split --form sgf
 gives '(;SZ[1])(;SZ[2])' $'(;SZ[1])\n(;SZ[2])\n' split --form sgf
 gives '(;GaMe[1]C[a\]b] ;B[aa])' $'(;GM[1]C[a\\]b];B[aa])\n' split --form sgf
+gives $'(; AB [aa]\n[bb] C[x\\]y] ;PL[B])' $'(;AB[aa][bb]C[x\\]y];PL[B])\n' split --form sgf
+gives $'(;C[a\\]b\\\\] [] [c:d ; ( e\n])' $'(;C[a\\]b\\\\][][c:d ; ( e\n])\n' split --form sgf
 gives "$passes" $'(;SZ[3];B[];W[])\n(;SZ[3];B[];W[bb])\n(;SZ[3];B[];AE[aa];W[])\n' split --form sgf
 
 # scripts: the row, the board, the comments, the stones of each setup and the moves, up to the first node that isn't allowed
@@ -214,10 +222,29 @@ gives '(;GM[2](;)(;))' $'1 3 2\n' count
 
 # places at which no line ends, and first faulty bytes
 tells '(;SZ[3];B[bb])' 'no line ends at 1' split --after 1
-tells '(;C[a\' 'byte 6: input ends too early' split
+early='input ends too early'
+tells ' ' "byte 1: $early" split
+tells '(;' "byte 2: $early" split
+tells '(;C[a\' "byte 6: $early" split
+tells '(;C[\]' "byte 6: $early" split
+tells '(;C[\\\]' "byte 8: $early" split
+tells '(;C[0123456789abcdefg\];)' "byte 25: $early" split
+tells $'\xef' "byte 1: $early" split
+tells $'\xef\xbb' "byte 2: $early" split
+tells '()' 'byte 1: not SGF' split
+tells ')' 'byte 0: not SGF' split
+tells '(B[aa])' 'byte 1: not SGF' split
+tells '(;[1])' 'byte 2: not SGF' split
+tells '(;a[1])' 'byte 2: not SGF' split
+tells '(;B)' 'byte 3: not SGF' split
+tells '(;B B[aa])' 'byte 4: not SGF' split
 tells '(;B[aa](;W[bb]);B[cc])' 'byte 15: not SGF' split
+tells '(;SZ[3](;B[aa])(;B[bb];W[aa])))' 'byte 30: not SGF' split
+tells $'\xefx' 'byte 1: not SGF' split
+tells $'\xef\xbb\xbf\xef\xbb\xbf(;)' 'byte 3: not SGF' split
+tells $' \xef\xbb\xbf(;)' 'byte 1: not SGF' split
 tells '()' 'byte 1: not SGF' count
-tells '(;C[a\' 'byte 6: input ends too early' count
+tells '(;C[a\' "byte 6: $early" count
 
 # ---- outputs that fail: never status 0 where output was lost
 # lost NAME COMMAND: the run ends with status 3 and says so.

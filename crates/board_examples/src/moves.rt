@@ -18,16 +18,14 @@ fn empty(rt: &impl Abort, side: u8) -> Board {
 
 /// How many stones of each colour there are.
 fn stones(board: &Board) -> (usize, usize) {
-    let black = board
-        .cells()
-        .iter()
-        .filter(|cell| **cell == Cell::Black)
-        .count();
-    let white = board
-        .cells()
-        .iter()
-        .filter(|cell| **cell == Cell::White)
-        .count();
+    let (mut black, mut white) = (0usize, 0usize);
+    for cell in board.cells() {
+        match cell {
+            Cell::Black => black = black.saturating_add(1),
+            Cell::White => white = white.saturating_add(1),
+            Cell::Empty => {}
+        }
+    }
     (black, white)
 }
 

@@ -40,6 +40,8 @@
 //! A point *reaches* a colour where a path of adjacent points of the point's own colour leads from it to a point of that
 //! colour; a stone that reaches empty has a liberty. Only a past's `new`, `push`, `restart`, `try_stone` and `try_setup` and a
 //! referee's `new`, `setup` and `turn` take memory, and their `reset` where the past can't be begun anew in place.
+//!
+//! Worked examples stand in the crate `board_examples`.
 #![tactic(auto)]
 
 mod board;

@@ -26,6 +26,8 @@
 //! | `followed`, `game`, `plays` | lines followed one after the other, over a game that is played on; the count of nodes played |
 //! | `counting` | the games, nodes and lines of what a source gives |
 //! | `laws` | what follows from the definitions |
+//!
+//! What a run writes is tried on the program (`tests/`), the other calls by the crate `failing_calls`.
 #![tactic(auto)]
 
 mod commands;

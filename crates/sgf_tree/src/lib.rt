@@ -29,12 +29,12 @@
 //! | `text`, `numbers` | the decoded text of a value; the value of a number |
 //! | `fault` | the ways in which a call may fail |
 //! | `laws` | what holds of all texts |
+//!
+//! Worked examples stand in the crate `tree_examples`, and those that the program shows in `tests/`.
 #![tactic(auto)]
 
 mod collection;
 mod fault;
-#[cfg(test)]
-mod given;
 mod iter;
 pub mod laws;
 mod layout;

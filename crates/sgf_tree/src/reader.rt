@@ -65,6 +65,3 @@ fn read_whole(
     let mark = mark_end(text)?;
     read_games(text, skip_white_space(text, mark), nodes, long)
 }
-
-#[cfg(test)]
-mod tests;

@@ -13,7 +13,7 @@ use crate::reader::scan::{far_value_end, short_value_end};
 
 /// How many bytes a value has at least whose length is kept: more than nearly all comments have, so that few are, and enough
 /// that a search costs more than a look-up.
-pub(crate) const LONG: usize = 4096;
+const LONG: usize = 4096;
 
 /// Reads the raw value at `at`.
 /// The result is where its `]` stands.
@@ -112,103 +112,5 @@ fn kept_end(text: &[u8], at: usize, long: &[LongValue]) -> Option<usize>
         Some(at + long[low].bytes as usize)
     } else {
         None
-    }
-}
-
-#[cfg(test)]
-mod tests {
-    use super::*;
-    use crate::fault::MemoryFault;
-    use std::alloc::Global;
-
-    /// The value at the front of the text ends so many bytes after the plain ones, or nowhere.
-    fn is_end(text: &[u8], plain: usize, want: Option<usize>) -> bool {
-        match (value_end(text, 0, None), want) {
-            (Some(end), Some(want)) => end == want.wrapping_add(plain),
-            (None, None) => true,
-            _ => false,
-        }
-    }
-
-    /// So many plain bytes, a text, and what comes after it.
-    fn after_plain(
-        alloc: Global,
-        plain: usize,
-        rest: &str,
-        after: &str,
-    ) -> Result<Vec<u8>, MemoryFault> {
-        let mut text = Vec::new(alloc);
-        text.resize(plain, b'a')?;
-        text.extend_from_slice(rest.as_bytes())?;
-        text.extend_from_slice(after.as_bytes())?;
-        Ok(text)
-    }
-
-    /// The value of so many plain bytes and then a text ends after so many bytes more, whatever comes after the text.
-    fn ends(alloc: Global, plain: usize, rest: &str, after: &str, want: Option<usize>) -> bool {
-        match after_plain(alloc, plain, rest, after) {
-            Ok(text) => is_end(&text, plain, want),
-            Err(_) => false,
-        }
-    }
-
-    /// How many plain bytes come first: what is looked at one by one, what is compared at once and what is searched for gives
-    /// the same.
-    const PLAIN: [usize; 13] = [0, 1, 2, 3, 13, 15, 16, 17, 100, 127, 128, 129, 200];
-
-    #[test]
-    fn finds_the_end_of_a_value(rt: HostRuntime) {
-        const RESTS: [(&str, usize); 12] = [
-            ("]", 0),
-            ("]]", 0),
-            ("\\]]", 2),
-            ("\\\\]", 2),
-            ("\\\\\\]]", 4),
-            ("\\\\\\\\]]", 4),
-            ("\\]\\]]", 4),
-            ("\\]\\\\]]", 4),
-            ("\\]\\\\\\]]", 6),
-            ("\\]a\\]b]", 6),
-            ("\\:\\\\:]", 5),
-            ("\\]01234567890123456789\\]]", 24),
-        ];
-        for &plain in &PLAIN {
-            for &(rest, want) in &RESTS {
-                let is_so = ends(rt.alloc(), plain, rest, "", Some(want))
-                    && ends(rt.alloc(), plain, rest, "W[aa];B[bb]\\];W[cc]", Some(want));
-                assert!(rt; is_so, "of {plain} and {rest:?}");
-            }
-        }
-    }
-
-    #[test]
-    fn finds_no_end(rt: HostRuntime) {
-        const RESTS: [&str; 7] = ["", "\\", "\\]", "\\\\", "\\]\\", "\\]a\\\\", "\\\\\\]"];
-        for &plain in &PLAIN {
-            for &rest in &RESTS {
-                let is_so = ends(rt.alloc(), plain, rest, "", None);
-                assert!(rt; is_so, "of {plain} and {rest:?}");
-            }
-        }
-    }
-
-    /// The value after the text's first byte ends here, or nowhere.
-    fn ends_after_one(text: &str, want: Option<usize>) -> bool {
-        !text.is_empty() && value_end(text.as_bytes(), 1, None) == want
-    }
-
-    /// A `\` before the value is none of its own.
-    #[test]
-    fn looks_at_the_value_alone(rt: HostRuntime) {
-        const TEXTS: [(&str, Option<usize>); 5] = [
-            ("\\]", Some(1)),
-            ("\\]0123456789abcdef", Some(1)),
-            ("\\\\]]", Some(3)),
-            ("\\\\]]0123456789abcdef", Some(3)),
-            ("\\\\", None),
-        ];
-        for &(text, want) in &TEXTS {
-            assert!(rt; ends_after_one(text, want), "of {text:?}");
-        }
     }
 }

@@ -43,3 +43,6 @@ returns-in_err-extend_from_slice-clause-failures g c =
 
 pub returns-then-count-eq0-clause-answer : goal.returns-then-count-eq0-clause-answer
 returns-then-count-eq0-clause-answer g c = grind (arith, common_steps)
+
+pub returns-then-count-eq0-clause-failures : goal.returns-then-count-eq0-clause-failures
+returns-then-count-eq0-clause-failures g c = grind (arith, common_steps)
