@@ -1,5 +1,5 @@
 #!/usr/bin/env bash
-# Tries raw values on the built program: where they end, and the text of a comment, with any number of plain bytes before what is special,
+# Tries raw values on the built program: where they end, and the text of a comment, with none to 200 plain bytes before what is special,
 # so that bytes which are looked at together answer as those that are looked at one by one.
 # The last line is `N passed, N failed, N skipped`.
 . "$(dirname "$0")/lib.sh"
@@ -22,7 +22,7 @@ plain() { head -c "$1" /dev/zero | tr '\0' "$2"; }
 
 few='0 1 2 3 13 15 16 17 100 127 128 129 200'
 
-# ---- a value ends at its first `]` that no `\` stands before, counting from its front: each game comes back as it stood
+# ---- a value ends at its first `]` that isn't escaped: each game comes back as it stood
 for count in $few; do
     before=$(plain "$count" a)
     for value in '' '\]' '\\' '\\\]' '\\\\' '\]\]' '\]\\' '\]\\\]' '\]a\]b' '\:\\:' '\]01234567890123456789\]'; do
@@ -33,7 +33,7 @@ done > input.sgf
 check 'values come back as they stood' input.sgf out
 check 'values that end: nothing is said' /dev/null err
 
-# ---- and has no end where there is none: the text ends too early
+# ---- where each `]` is escaped, or there is none, the text ends too early
 for count in $few; do
     before=$(plain "$count" a)
     for value in '' '\' '\]' '\\' '\]\' '\]a\\' '\\\]'; do

@@ -1,5 +1,5 @@
-//! Worked examples of `sgf_tree`, called as by any program that stands on it: what its calls answer that neither the program `sgfsplit`
-//! shows nor a clause says.
+//! Worked examples of `sgf_tree`, called as by any program that stands on it: which nodes answer at a glance, which no clause says and
+//! the program `sgfsplit` doesn't show, and names and numbers.
 //!
 //! They stand beside that crate and not within: a crate that has tests is proved once more with them. First faults, places, values and
 //! decoded text are tried on the program itself (`tests/program.sh`, `tests/values.sh`), parents and the last nodes below in `failing_calls`.

@@ -1,4 +1,4 @@
-//! Names of properties: the capitals of what is written, and as it stands where that is one capital or two.
+//! Names of properties, the capitals of what is written; and short names, where that is one capital or two and nothing else.
 
 use sgf_tree::{PropRef, read};
 use std::alloc::Global;
