@@ -1,8 +1,11 @@
-# make            proves and builds the program: crates/sgfsplit/out/sgfsplit (the prover's messages go to out/make.log)
+# make try        compiles the program without the proof and shows the rows of examples/corner.sgf, in about a minute
+# make            proves and builds the program: crates/sgfsplit/out/sgfsplit (the prover's messages go to out/sgfsplit.log)
 # make check      the test command: the merge gate and every script of tests/
 # make scripts    the scripts of tests/ alone
-# make failing_calls  proves and builds the program of tests/failing_calls.sh
-# make install    PREFIX=/usr/local DESTDIR= PROGRAM=sgfsplit: program, manual page, completion
+# make lib        proves and builds the library for C and Python: out/libsgflines.so.0
+# make sgf_lines_tests  proves and builds the program of tests/failing_calls.sh
+# make install    PREFIX=/usr/local DESTDIR= PROGRAM=sgfsplit: program, manual page, completion for bash, zsh and fish, and the tools;
+#                 library, header, what pkg-config reads, and the Python module (in PYTHON_DIR=PREFIX/lib/python3/dist-packages)
 # make uninstall  takes these away again
 # make deb        a Debian package in out/
 # make bench      measures the program (see docs/PERFORMANCE.md)
@@ -10,45 +13,80 @@ PREFIX ?= /usr/local
 DESTDIR ?=
 PROGRAM ?= sgfsplit
 built = crates/sgfsplit/out/sgfsplit
-tried = crates/failing_calls/out/failing_calls
+tried = crates/sgf_lines_tests/out/sgf_lines_tests
+library = out/libsgflines.so.0
 
-.PHONY: program failing_calls check scripts install uninstall deb bench
+.PHONY: program try lib sgf_lines_tests check scripts install install_library uninstall uninstall_library deb bench
 
 program:
+	@packaging/prove.sh sgfsplit --help
+
+try:
+	@echo 'compiling without the proof: nothing is proved yet'
 	@mkdir -p out
-	@(cd crates/sgfsplit && rt run -- --help < /dev/null > ../../out/help.txt 2> ../../out/make.log) \
-	    || { tail -n 20 out/make.log >&2; echo 'make: not built; out/make.log has all messages' >&2; exit 1; }
-	@echo "built $(built)"
+	@cd crates/sgfsplit && rt try -- split < ../../examples/corner.sgf 2> ../../out/try.log || { tail -n 20 ../../out/try.log >&2; exit 1; }
 
 $(built):
 	@$(MAKE) --no-print-directory program
 
-failing_calls:
-	@mkdir -p out
-	@(cd crates/failing_calls && rt run < /dev/null > ../../out/failing_calls.txt 2> ../../out/failing_calls.log) \
-	    || { tail -n 20 out/failing_calls.log >&2; echo 'make: not built; out/failing_calls.log has all messages' >&2; exit 1; }
-	@echo "built $(tried)"
+lib:
+	@packaging/build-library.sh
+
+$(library):
+	@$(MAKE) --no-print-directory lib
+
+sgf_lines_tests:
+	@packaging/prove.sh sgf_lines_tests
 
 $(tried):
-	@$(MAKE) --no-print-directory failing_calls
+	@$(MAKE) --no-print-directory sgf_lines_tests
 
 check:
 	@tests/all.sh
 
-scripts: $(built) $(tried)
+scripts: $(built) $(tried) $(library)
 	@tests/all.sh --scripts
 
-install: $(built)
-	install -d '$(DESTDIR)$(PREFIX)/bin' '$(DESTDIR)$(PREFIX)/share/man/man1' '$(DESTDIR)$(PREFIX)/share/bash-completion/completions'
+share = $(DESTDIR)$(PREFIX)/share
+tools = $(notdir $(wildcard recipes/*.py))
+named = sed 's/sgfsplit$$/$(PROGRAM)/; s/-c sgfsplit /-c $(PROGRAM) /'
+
+install: $(built) install_library
+	install -d '$(DESTDIR)$(PREFIX)/bin' '$(share)/man/man1' '$(share)/bash-completion/completions' \
+	    '$(share)/zsh/site-functions' '$(share)/fish/vendor_completions.d' '$(share)/sgfsplit'
 	install -m 755 $(built) '$(DESTDIR)$(PREFIX)/bin/$(PROGRAM)'
-	sed 's/^\.Nm sgfsplit$$/.Nm $(PROGRAM)/' man/sgfsplit.1 > '$(DESTDIR)$(PREFIX)/share/man/man1/$(PROGRAM).1'
-	sed 's/sgfsplit$$/$(PROGRAM)/' completion/sgfsplit.bash > '$(DESTDIR)$(PREFIX)/share/bash-completion/completions/$(PROGRAM)'
+	sed 's/^\.Nm sgfsplit$$/.Nm $(PROGRAM)/' man/sgfsplit.1 > '$(share)/man/man1/$(PROGRAM).1'
+	$(named) completion/sgfsplit.bash > '$(share)/bash-completion/completions/$(PROGRAM)'
+	$(named) completion/_sgfsplit > '$(share)/zsh/site-functions/_$(PROGRAM)'
+	$(named) completion/sgfsplit.fish > '$(share)/fish/vendor_completions.d/$(PROGRAM).fish'
+	install -m 755 $(tools:%=recipes/%) '$(share)/sgfsplit'
+	sed 's|^PROGRAM = "sgfsplit"|PROGRAM = "../../bin/$(PROGRAM)"|' recipes/sgfsplit.py > '$(share)/sgfsplit/sgfsplit.py'
+	chmod 644 '$(share)/sgfsplit/sgfsplit.py' '$(share)/sgfsplit/goboard.py'
 
-uninstall:
-	rm -f '$(DESTDIR)$(PREFIX)/bin/$(PROGRAM)' '$(DESTDIR)$(PREFIX)/share/man/man1/$(PROGRAM).1' \
-	    '$(DESTDIR)$(PREFIX)/share/bash-completion/completions/$(PROGRAM)'
+uninstall: uninstall_library
+	rm -rf '$(share)/sgfsplit/__pycache__'
+	rm -f $(tools:%='$(share)/sgfsplit/%')
+	[ ! -d '$(share)/sgfsplit' ] || rmdir '$(share)/sgfsplit'
+	rm -f '$(DESTDIR)$(PREFIX)/bin/$(PROGRAM)' '$(share)/man/man1/$(PROGRAM).1' '$(share)/bash-completion/completions/$(PROGRAM)' \
+	    '$(share)/zsh/site-functions/_$(PROGRAM)' '$(share)/fish/vendor_completions.d/$(PROGRAM).fish'
 
-deb: $(built)
+lib_dir = $(DESTDIR)$(PREFIX)/lib
+PYTHON_DIR ?= $(PREFIX)/lib/python3/dist-packages
+
+install_library: $(library)
+	install -d '$(lib_dir)/pkgconfig' '$(DESTDIR)$(PREFIX)/include' '$(DESTDIR)$(PYTHON_DIR)'
+	install -m 755 $(library) '$(lib_dir)/libsgflines.so.0'
+	ln -sf libsgflines.so.0 '$(lib_dir)/libsgflines.so'
+	install -m 644 include/sgf_lines.h '$(DESTDIR)$(PREFIX)/include/sgf_lines.h'
+	sed 's|@PREFIX@|$(PREFIX)|; s|@VERSION@|$(shell cat VERSION)|' packaging/sgflines.pc.in > '$(lib_dir)/pkgconfig/sgflines.pc'
+	install -m 644 python/sgflines.py '$(DESTDIR)$(PYTHON_DIR)/sgflines.py'
+
+uninstall_library:
+	rm -f '$(lib_dir)/libsgflines.so.0' '$(lib_dir)/libsgflines.so' '$(lib_dir)/pkgconfig/sgflines.pc' \
+	    '$(DESTDIR)$(PREFIX)/include/sgf_lines.h' '$(DESTDIR)$(PYTHON_DIR)/sgflines.py' \
+	    '$(DESTDIR)$(PYTHON_DIR)/__pycache__'/sgflines.*
+
+deb: $(built) $(library)
 	packaging/make-deb.sh
 
 bench: $(built)

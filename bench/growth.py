@@ -87,7 +87,7 @@ def drawing(rows):
         x += 90
     if any(row[0] == "peer" for row in rows):
         svg.append(f'<path d="M{x} {HEIGHT + 14}h24" stroke="black" stroke-width="2" stroke-dasharray="5 4"/>'
-                   f'<text x="{x + 30}" y="{HEIGHT + 18}">the program compared with</text>')
+                   f'<text x="{x + 30}" y="{HEIGHT + 18}">a plain Rust program for the same job</text>')
     return "\n".join(svg + ["</svg>", ""])
 
 

@@ -132,6 +132,46 @@ def searches(size):
     return front + "".join(f";B[JY];W[{next(whites)}];B[KY];W[{next(whites)}]" for _ in range(count)) + ")"
 
 
+def repeats(size):
+    """A line of some 70,000 turns, then variations of one move, each of which brings back the colouring that the line began with: White
+    counts in two regions with a stone more at each turn, and empties a full one by its own suicide; Black passes."""
+    areas, walls = regions(52, True, 8)
+    areas = [areas[0], areas[1]]
+    held = {stone for area in areas for stone in area}
+    outer = [point(col, row) for row in range(52) for col in range(52)]
+    front = "(;SZ[52]AB" + "".join(f"[{stone}]" for stone in outer if stone not in held and stone != "ZZ") + "PL[W]"
+    line = []
+    for stone in counting(areas):
+        line.append(f";W[{stone}];B[]")
+        if len(line) == len(areas[0]) * (len(areas[1]) - 1) + len(areas[1]) - 1:
+            break
+    front += "".join(line)
+    last = areas[1][-1]
+    return repeated(max(size, len(front) + 12), front, f"(;W[{last}])", ")")
+
+
+def corridor():
+    """The points of one corridor through a board of 52, from one end to the other, and its walls."""
+    path = []
+    for row in range(0, 52, 2):
+        cols = range(52) if row % 4 == 0 else range(51, -1, -1)
+        path += [point(col, row) for col in cols]
+        if row < 50:
+            path.append(point(51 if row % 4 == 0 else 0, row + 1))
+    inside = set(path)
+    walls = [point(col, row) for row in range(52) for col in range(52) if point(col, row) not in inside]
+    return path, walls
+
+
+def labyrinth(size, filled, unit):
+    """A labyrinth with black walls, its corridor open or filled by one white group with a liberty at each end, and variations of it."""
+    path, walls = corridor()
+    stones = "AB" + "".join(f"[{stone}]" for stone in walls)
+    if filled:
+        stones += "AW" + "".join(f"[{stone}]" for stone in path[1:-1])
+    return repeated(max(size, 20_000), "(;SZ[52]" + stones + "PL[B]", unit, ")")
+
+
 def fan(count):
     """A long line that very many variations share."""
     return "(;" + ";C[x]" * count + "(;)" * count + ")"
@@ -173,6 +213,12 @@ INPUTS = {
         f"[{letter}a:{letter}Z]" for letter in LETTERS[::2]) + ";AE[aa:ZZ]", ")"), FORMS),
     "passes": ("passes, and a setup after each two", lambda n: repeated(n, "(", ";B[];W[];AE[aa]", ")"), FORMS),
     "script": ("setups of one point on a full board of 25", lambda n: repeated(n // 64, "(;SZ[25]AB[aa:yx]", ";AB[aa]", ")"), FORMS),
+    "repeats": ("variations that bring back a colouring of 70,000 turns ago", repeats, ["list", "count"]),
+    "open": ("a stone in a labyrinth of side 52", lambda n: labyrinth(n, False, "(;B[aa])"), ["list", "count"]),
+    "filled": ("a score of that labyrinth, its corridor one group", lambda n: labyrinth(n, True, "(;)"), ["list", "count"]),
+    "chased": ("a stone beside that group, its liberty at the other end", lambda n: labyrinth(n, True, "(;B[aa])"), ["list", "count"]),
+    "emptied": ("a setup of one point in that group", lambda n: labyrinth(n, True, "(;AE[aa])"), ["list", "count"]),
+    "flips": ("setups that turn all points of a board of 52", lambda n: repeated(n, "(;SZ[52]", ";AB[aa:ZZ];AW[aa:ZZ]", ")"), ["list", "count"]),
     "fan": ("a long line that very many variations share", lambda n: fan((n - 3) // 8), ["list", "count"]),
     "fan10k": ("the same with 10,000 of each", lambda n: fan(10_000), FORMS),
     "comb": ("a variation at each node of a long line", lambda n: comb(n // 6), ["list", "count"]),
@@ -221,7 +267,7 @@ def earlier(path):
 
 def main():
     parser = argparse.ArgumentParser()
-    parser.add_argument("--mib", type=int, default=64)
+    parser.add_argument("--mib", type=float, default=64)
     parser.add_argument("--only")
     parser.add_argument("--forms")
     parser.add_argument("--limit", type=int, default=16)
@@ -242,7 +288,7 @@ def main():
         for name in names:
             what, make, forms = INPUTS[name]
             with open(path, "w", encoding="ascii", newline="") as file:
-                file.write(make(min(arguments.mib << 20, LIMIT)))
+                file.write(make(min(int(arguments.mib * (1 << 20)), LIMIT)))
             size = os.path.getsize(path)
             for form in forms:
                 if arguments.forms and form not in arguments.forms.split(","):

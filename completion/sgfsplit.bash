@@ -6,6 +6,12 @@ _sgfsplit() {
         mapfile -t COMPREPLY < <(compgen -W 'split count --help' -- "$word")
         return
     fi
+    # bash hands `--form=sgf` over as three words
+    if [ "$word" = = ]; then
+        word=
+    elif [ "$before" = = ]; then
+        before=${COMP_WORDS[COMP_CWORD - 2]}
+    fi
     if [ "${COMP_WORDS[1]}" = split ]; then
         case $before in
             --form)

@@ -4,4 +4,4 @@
 set -eu
 apt-get update
 apt-get install -y --no-install-recommends \
-    make gcc libc6-dev perl python3 bash gzip binutils dpkg mandoc gnugo parallel sgf2dg libpostscript-file-perl time valgrind
+    make gcc g++ libc6-dev pkg-config perl python3 bash gzip binutils dpkg mandoc gnugo parallel sgf2dg sqlite3 libc-bin time valgrind zsh fish lintian

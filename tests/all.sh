@@ -9,9 +9,9 @@ passed=0 failed=0 skipped=0
 log=$(mktemp)
 trap 'rm -f "$log"' EXIT
 
-programs=(crates/sgfsplit/out/sgfsplit crates/failing_calls/out/failing_calls)
+programs=(crates/sgfsplit/out/sgfsplit crates/sgf_lines_tests/out/sgf_lines_tests out/libsgflines.so.0)
 
-# Builds what the gate didn't, as where it failed.
+# Builds what the gate didn't: the shared library, over the libraries that it proved, and more where it failed.
 build() {
     local program
     for program in "${programs[@]}"; do

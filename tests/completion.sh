@@ -22,10 +22,13 @@ wants '--help count split' ''
 wants 'split' s
 wants '--after --form --help --limit' split --
 wants 'gtp list sgf' split --form ''
+wants 'gtp list sgf' split --form =
+wants 'sgf' split --form = s
 wants '' split --limit ''
+wants '' split --limit =
 wants 'game.sgf' split --form sgf g
 wants 'game.sgf' count ''
-"$SGFSPLIT" split --help | grep -oE -- '--[a-z]+' | sort -u > options
+"$SGFSPLIT" split --help | sed -n '/^Options:/,/^$/p' | grep -oE -- '--[a-z]+' | sort -u > options
 for option in $(cat options); do
     [[ " $(offered split --) " == *" $option "* ]] || failed "$option isn't offered"
 done

@@ -1,6 +1,6 @@
 #!/usr/bin/env bash
-# The examples of README, docs/ and the manual page, run as they stand: after each line `$ COMMAND` come the lines that it writes.
-# They run where the examples and recipes lie, with the program on the path. Commands of make, rt, git and apt-get aren't run here.
+# The examples of README, docs/ and the manual page, run as they stand by examples.py, where the examples and recipes lie, with the program on
+# the path. Those of docs/RECIPES.md need more programs: recipe_examples.sh runs them.
 . "$(dirname "$0")/lib.sh"
 needs python3 perl
 mkdir bin
@@ -8,41 +8,12 @@ ln -s "$SGFSPLIT" bin/sgfsplit
 PATH=$work/bin:$PATH
 cp -R "$top/examples" "$top/recipes" .
 cp examples/* .
-python3 - "$top/README.md" "$top"/docs/*.md "$top/man/sgfsplit.1" <<'PYTHON'
-import re
-import subprocess
-import sys
-
-LEFT_OUT = re.compile(r"(sudo |make|rt |git |apt-get |\(cd )")
-ran = wrong = 0
-for path in sys.argv[1:]:
-    with open(path, encoding="utf-8") as file:
-        lines = [line.rstrip("\n") for line in file]
-    if path.endswith(".1"):
-        lines = [line.replace("\\e", "\\").removeprefix(".Dl ") for line in lines if not line.startswith(".Ed")]
-    number = 0
-    while number < len(lines):
-        begins = re.match(r"( *)\$ (.*)", lines[number])
-        number += 1
-        if not begins or LEFT_OUT.match(begins[2]):
-            continue
-        want = []
-        while number < len(lines) and lines[number].strip() not in ("", "```", ".Pp") and not re.match(r" *(\$ |\.)", lines[number]):
-            want.append(lines[number].removeprefix(begins[1]))
-            number += 1
-        if path.endswith(".1") and not want:
-            continue
-        run = subprocess.run(["bash", "-c", begins[2]], stdin=subprocess.DEVNULL, stdout=subprocess.PIPE, stderr=subprocess.STDOUT)
-        got = run.stdout.decode("utf-8", "replace").rstrip("\n").split("\n")
-        ran += 1
-        if [line for line in got if line] != want:
-            wrong += 1
-            print(f"{path}: $ {begins[2]}\n  stands: {want}\n  comes:  {got}")
-print(f"{ran} examples, {wrong} wrong")
-sys.exit(wrong > 0 or ran == 0)
-PYTHON
+shopt -s extglob
+python3 "$top/tests/examples.py" "$top/README.md" "$top"/docs/!(RECIPES).md "$top/man/sgfsplit.1"
 cp -R "$top/docs/figures" .
 figures/draw.py
 for figure in figures/*.svg; do
     same "$top/docs/figures/$(basename "$figure")" "$figure" "what draw.py draws"
 done
+recipes/picture.py examples/corner.sgf > corner.svg
+same "$top/docs/figures/corner.svg" corner.svg "what recipes/picture.py draws"

@@ -1,11 +1,11 @@
 #!/usr/bin/env bash
-# Refuses each request for memory of the program `failing_calls` in turn. It makes the libraries' calls, each once more after a want of
-# memory, and runs between ends that fail, once each; its status says whether all was as it should be (crates/failing_calls/src/main.rt).
+# Refuses each request for memory of the program `sgf_lines_tests` in turn. It makes the libraries' calls, each once more after a want of
+# memory, and runs between ends that fail, once each; its status says whether all was as it should be (crates/sgf_lines_tests/src/main.rt).
 . "$(dirname "$0")/lib.sh"
-tried=$top/crates/failing_calls/out/failing_calls
+tried=$top/crates/sgf_lines_tests/out/sgf_lines_tests
 needs cc
 cc -shared -fPIC -O1 -o refuse.so "$top/tests/refuse.c" -ldl 2> cc.txt || skipped 'the C compiler makes no shared library'
-[ -x "$tried" ] || failed "no program at $tried: run make failing_calls first"
+[ -x "$tried" ] || skipped "no program at $tried: run make sgf_lines_tests first"
 
 number=0 wanted=0
 while :; do

@@ -73,9 +73,13 @@ done
 { printf '(;'; times 100000 '(;)'; printf ')'; } > input.sgf
 answer 'wide, the last line' '300000 1 2 score 0 0 open' split --after 299997
 answer 'wide, counted' '1 100001 100000' count
-times 1000000 '(;)' > input.sgf
-answer 'games, the last one' '2999998 1000000 1 score 0 0 open' split --after 2999995
-answer 'games, counted' '1000000 1000000 1000000' count
+games=1200000
+times "$games" '(;)' > input.sgf
+answer 'games, the last one' "$((3 * games - 2)) $games 1 score 0 0 open" split --after "$((3 * games - 5))"
+answer 'games, counted' "$games $games $games" count
+timeout 60 "$SGFSPLIT" split input.sgf > out 2> err
+check 'games: status' 0 $?
+check 'games: each has its row' '' "$(seq "$games" | awk '{ print 3 * $1 - 2, $1, 1, "score 0 0 open" }' | cmp - out 2>&1)"
 
 # ---- one huge part
 { printf '(;C['; head -c 67108858 /dev/zero | tr '\0' x; printf '])'; } > input.sgf
@@ -90,6 +94,17 @@ answer 'a million properties' '1 1 1 score 0 0 open' split
 { printf '(;G'; head -c 4000000 /dev/zero | tr '\0' a; printf 'M[1])'; } > input.sgf
 answer 'a huge name' '1 1 1 score 0 0 open' split
 answer 'a huge name as a game' '(;GM[1])' split --form sgf
+times 16384 "$(printf %063d 7)n" | tr n '\n' > comment
+{ printf '(;SZ[3]C['; cat comment; printf ']AB[aa];W[bb])'; } > input.sgf
+timeout 60 "$SGFSPLIT" split --form gtp input.sgf > out 2> err
+check 'a comment of a megabyte, as a script: status' 0 $?
+{
+    echo "# $((9 + 16384 * 64 + 7)) 1 2 score 1 1 open"
+    printf 'boardsize 3\nclear_board\n'
+    sed 's/^/# /' comment
+    printf '# \nclear_board\nplay B A3\nplay W B2\n\n'
+} > want
+check 'a comment of a megabyte, as a script' '' "$(cmp want out 2>&1)"
 
 # ---- long lines: passes and setups that never end a game, and moves after one that isn't allowed
 { printf '(;SZ[9]'; times 100000 ';B[];W[];AE[aa]'; printf ')'; } > input.sgf
@@ -98,6 +113,25 @@ answer 'passes and setups' '1500000 1 300001 score 0 0 open' split
 (ulimit -v 131072 && exec timeout 60 "$SGFSPLIT" split input.sgf) > out 2> err
 check 'whole boards set up in turn, in 128 MiB: status' 0 $?
 check 'whole boards set up in turn, in 128 MiB' '799998 1 80001 score 0 0 open' "$(cat out)"
+# 70,304 stones in one stretch: 26 times Black plays all points of side 52 but one, while White passes, and White plays there and takes them
+# all. No colouring comes twice: White's stone tells which time it is, and when it is taken, by the last but one of Black's stones, all
+# points are Black's but two, and then one, which are others each time.
+awk '
+    function add(x, y) { moves[++count] = substr(letters, x + 1, 1) substr(letters, y + 1, 1) }
+    BEGIN {
+        letters = "abcdefghijklmnopqrstuvwxyzABCDEFGHIJKLMNOPQRSTUVWXYZ"
+        printf "(;SZ[52]"
+        for (free = 0; free < 52; free += 2) {
+            count = 0
+            for (y = 51; y >= 0; y--) for (x = 51; x >= 0; x--) if (y > 0 || x > free || x < free - 2) add(x, y)
+            if (free > 0) { add(free - 1, 0); add(free - 2, 0) }
+            for (i = 1; i < count; i++) printf ";B[%s];W[]", moves[i]
+            printf ";B[%s];W[%sa]", moves[count], substr(letters, free + 1, 1)
+        }
+        printf ")"
+    }' > input.sgf
+check 'stones in one stretch' 70304 "$(grep -o '\[[a-zA-Z][a-zA-Z]\]' input.sgf | wc -l)"
+answer 'stones in one stretch' "$(($(stat -c %s input.sgf) - 7)) 1 140557 score 0 2704 open" split
 { printf '(;SZ[1];B[aa]'; times 300000 ';B[aa]'; printf ')'; } > input.sgf
 answer 'moves after an illegal one' '1800007 1 300002 illegal 1 7 repeat' split
 

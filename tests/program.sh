@@ -65,6 +65,17 @@ answer 'standard input' "$rows" bash -c 'fed two.sgf split'
 answer 'a hyphen for standard input' "$rows" bash -c 'fed two.sgf split -'
 answer 'a pipe that writes in parts' "$rows" bash -c '(head -c 10 two.sgf; sleep 0.2; tail -c +11 two.sgf) | "$SGFSPLIT" split'
 answer 'a file of a name with a space' "$rows" bash -c 'cp two.sgf "a b.sgf"; "$SGFSPLIT" split "a b.sgf"'
+answer 'a file of a name with white space at both ends' "$rows" bash -c 'cp two.sgf " two.sgf "; printf x > "two.sgf "; "$SGFSPLIT" split " two.sgf "'
+fault 'a file of a name with white space at one end more' 3 'open failed' "$SGFSPLIT" split '  two.sgf '
+fault 'a line feed after a name' 3 'open failed' "$SGFSPLIT" split $'two.sgf\n'
+answer 'a file of a name in other alphabets' "$rows" bash -c 'cp two.sgf "碁 Ёж é.sgf"; "$SGFSPLIT" split "碁 Ёж é.sgf"'
+fault 'a file of a name in other letters' 3 'open failed' "$SGFSPLIT" split '碁 ёж é.sgf'
+answer 'counts of a file of a name in another alphabet' $'1 4 2\n' bash -c 'cp two.sgf 棋.sgf; "$SGFSPLIT" count 棋.sgf'
+latin=$'caf\xe9.sgf'
+cp two.sgf "$latin"
+fault 'a file of a name that is not UTF-8' 2 "a word isn't UTF-8" "$SGFSPLIT" split "$latin"
+fault 'another word that is not UTF-8' 2 "a word isn't UTF-8" "$SGFSPLIT" $'\xff'
+answer 'that file as standard input' "$rows" bash -c 'fed "$0" split' "$latin"
 answer 'a file after two hyphens' "$rows" bash -c 'cp two.sgf ./-x; "$SGFSPLIT" split -- -x'
 answer 'a file and standard input' "$rows" bash -c 'fed empty.sgf split two.sgf'
 fault 'a missing file' 3 'open failed' "$SGFSPLIT" split none.sgf
@@ -96,6 +107,13 @@ answer 'one line after the last' '' "$SGFSPLIT" split --after 22 --limit 1 two.s
 answer 'all options' $'(;SZ[3];B[bb];W[aa])\n' "$SGFSPLIT" split --form sgf --after 8 --limit 1 two.sgf
 answer 'options in another order, with =' $'(;SZ[3];B[bb];W[aa])\n' "$SGFSPLIT" split two.sgf --limit=1 --after=8 --form=sgf
 answer 'options with = after the file' $'(;SZ[3];B[aa])\n(;SZ[3];B[bb];W[aa])\n' "$SGFSPLIT" split two.sgf --limit=18446744073709551615 --form=sgf
+answer 'the limit before the place' $'(;SZ[3];B[bb];W[aa])\n' "$SGFSPLIT" split --limit 1 --after 8 --form sgf two.sgf
+answer 'the place before the form' $'(;SZ[3];B[bb];W[aa])\n' "$SGFSPLIT" split --after 8 --form sgf --limit 1 two.sgf
+answer 'the file between options' $'(;SZ[3];B[bb];W[aa])\n' "$SGFSPLIT" split --form sgf two.sgf --after 8
+answer 'the file before options' $'22 1 3 score 1 1 open\n' "$SGFSPLIT" split two.sgf --after 8 --limit 1
+answer 'a place with a plus sign' $'22 1 3 score 1 1 open\n' "$SGFSPLIT" split --after +8 two.sgf
+answer 'a limit with a plus sign' $'8 1 2 score 9 0 open\n' "$SGFSPLIT" split --limit=+1 two.sgf
+answer 'a place with zeros in front' $'22 1 3 score 1 1 open\n' "$SGFSPLIT" split --after 0000000000000000000000000000008 two.sgf
 answer 'the greatest limit' "$rows" "$SGFSPLIT" split --limit 18446744073709551615 two.sgf
 answer 'counts' $'1 4 2\n' "$SGFSPLIT" count two.sgf
 answer 'counts of standard input' $'1 4 2\n' bash -c 'fed two.sgf count -'
@@ -257,10 +275,14 @@ if [ -w /dev/full ]; then
     lost 'a full device, counting' '"$SGFSPLIT" count two.sgf > /dev/full'
     lost 'a full device, for the help' '"$SGFSPLIT" --help > /dev/full'
     run 3 'a full device for both streams' bash -c '"$SGFSPLIT" split two.sgf > /dev/full 2> /dev/full'
+    run 2 'a full device for wrong words' bash -c '"$SGFSPLIT" split --form xml two.sgf 2> /dev/full'
+    writes 'a full device for wrong words' ''
+    run 2 'a full device for no word' bash -c '"$SGFSPLIT" 2> /dev/full'
+    run 2 'a full device for a word that is not UTF-8' bash -c '"$SGFSPLIT" $'"'\\xff'"' 2> /dev/full'
     run 1 'a full device for the fault row' bash -c '"$SGFSPLIT" split tail.sgf 2> /dev/full'
     writes 'a full device for the fault row' ''
 else
-    not_run=$((not_run + 5))
+    not_run=$((not_run + 8))
     echo 'skipped: there is no /dev/full'
 fi
 lost 'a closed standard output' '"$SGFSPLIT" split two.sgf >&-'
@@ -268,6 +290,10 @@ lost 'a closed standard output, counting' '"$SGFSPLIT" count two.sgf >&-'
 lost 'a closed standard output, for the help' '"$SGFSPLIT" split --help >&-'
 run 0 'a closed standard error' bash -c '"$SGFSPLIT" split two.sgf 2>&-'
 writes 'a closed standard error' "$rows"
+run 2 'a closed standard error, at wrong words' bash -c '"$SGFSPLIT" split --form xml two.sgf 2>&-'
+writes 'a closed standard error, at wrong words' ''
+run 2 'a closed standard error, at no word' bash -c '"$SGFSPLIT" 2>&-'
+run 2 'both streams closed, at wrong words' bash -c '"$SGFSPLIT" count --limit 1 >&- 2>&-'
 run 1 'a closed standard error, at a fault' bash -c '"$SGFSPLIT" split tail.sgf 2>&-'
 {
     printf '(;SZ[9]'
@@ -308,27 +334,6 @@ refused 'a limit of a count' "unexpected argument '--limit' found" count --limit
 refused 'an unknown option' "unexpected argument '--colour' found" split --colour
 refused 'no version' "unexpected argument '--version' found" --version
 run 2 'wrong words open nothing' bash -c 'mkfifo pipe; "$SGFSPLIT" split --form xml pipe'
-
-run 0 'help' "$SGFSPLIT" --help
-verdict 'help names both commands' 2 "$(grep -cE '^ +(split|count) ' out)"
-verdict 'help has an example' 1 "$(grep -c '^ *sgfsplit split .*\.sgf' out)"
-run 0 'help of split' "$SGFSPLIT" split --help
-verdict 'help of split names its options' 3 "$(grep -cE '^ +--(form|after|limit) ' out)"
-answer 'help of count' 'Counts the games, nodes and lines of play
-
-Usage: sgfsplit count [FILE]
-
-Arguments:
-  [FILE]  The collection to read; none or -: standard input
-
-Options:
-  -h, --help  Print help
-
-Example:
-  sgfsplit count joseki.sgf
-
-writes three numbers: games, nodes, lines of play.
-' "$SGFSPLIT" count --help
 
 echo "$passed passed, $failed failed, $not_run skipped"
 [ "$failed" = 0 ]

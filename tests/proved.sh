@@ -27,9 +27,13 @@ def contracts(crate, name):
 
 named = set()
 call = None
+of_calls = False
 for line in open(f"{top}/docs/PROVED.md", encoding="utf-8"):
     cells = [cell.strip() for cell in line.split("|")[1:-1]]
-    if len(cells) != 3 or cells[0] in ("Call", "---"):
+    if not cells or cells[0] == "Call":
+        of_calls = bool(cells)
+        continue
+    if not of_calls or cells[0] == "---":
         continue
     call = cells[0].strip("`") or call
     named.add(call)

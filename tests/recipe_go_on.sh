@@ -1,14 +1,60 @@
 #!/usr/bin/env bash
-# Rows that grow with a library equal those of one run; a library that was changed before the last place is refused.
+# Rows that grow with a collection equal those of one run, and so do rows that were cut off at any byte; a collection that was changed
+# before the last place is refused, and then nothing is written.
 . "$(dirname "$0")/lib.sh"
+needs python3
+go_on=$top/recipes/go_on.py
 cat "$top/examples/corner.sgf" > library.sgf
-"$top/recipes/go_on.sh" rows library.sgf
+"$go_on" rows library.sgf
 cat "$top/examples/two_games.sgf" >> library.sgf
-"$top/recipes/go_on.sh" rows library.sgf
-"$top/recipes/go_on.sh" rows library.sgf
+"$go_on" rows library.sgf
+"$go_on" rows library.sgf
 "$SGFSPLIT" split library.sgf > want
 same want rows
+
+# Cut off at each byte, of a collection that has grown since, and of one that hasn't.
+size=$(wc -c < want)
+for ((byte = 0; byte <= size; byte++)); do
+    head -c "$byte" want > rows
+    "$go_on" rows library.sgf
+    cmp want rows >&2 || failed "rows that were cut off at byte $byte"
+done
+cat "$top/examples/illegal.sgf" >> library.sgf
+"$SGFSPLIT" split library.sgf > more
+for ((byte = 0; byte <= size; byte += 9)); do
+    head -c "$byte" want > rows
+    "$go_on" rows library.sgf
+    cmp more rows >&2 || failed "rows that were cut off at byte $byte, and then grew"
+done
+
+# Changed before the last place, refused, and rows that aren't any: nothing is written.
+refused() {
+    cp rows before
+    if "$go_on" rows "$1" 2> fault; then failed "$1 was accepted"; fi
+    [ "$(cat fault)" = "$2" ] || failed "the fault row is $(cat fault)"
+    same before rows
+}
 { printf ' '; cat library.sgf; } > changed.sgf
-if "$top/recipes/go_on.sh" rows changed.sgf 2> fault; then failed "a changed library was accepted"; fi
-grep -q 'no line ends at' fault || failed "the fault row is $(cat fault)"
-same want rows
+refused changed.sgf "changed.sgf: no line ends at $(tail -n 1 rows | cut -d ' ' -f 1)"
+{ cat library.sgf; printf 'x'; } > broken.sgf
+refused broken.sgf "broken.sgf:$(($(wc -l < broken.sgf) + 1)):1: not SGF"
+printf '12 1 4 sco' > rows
+refused broken.sgf "broken.sgf:$(($(wc -l < broken.sgf) + 1)):1: not SGF"
+printf 'Dear Sir,\n' > rows
+refused library.sgf "rows: its last row isn't one of sgfsplit"
+
+cp "$top/examples/corner.sgf" rows
+refused rows "rows: its last row isn't one of sgfsplit"
+printf '(;SZ[9];B[aa])' > rows
+refused rows "rows: its last row isn't one of sgfsplit"
+
+# A folder of rows, as library.py makes it.
+mkdir games
+cp "$top"/examples/*.sgf games
+"$top/recipes/library.py" out games
+for file in games/*.sgf; do cat "$top/examples/ko.sgf" >> "$file"; done
+"$go_on" out games
+for file in games/*.sgf; do
+    "$SGFSPLIT" split "$file" > want
+    same want "out/${file%.sgf}.rows"
+done

@@ -1,22 +1,145 @@
 #!/usr/bin/env bash
-# A library on all cores: rows and fault rows of each file, and a second run that has nothing left to do.
+# A library on all cores: the rows or the fault of each file in its own folder; later calls do what was added, changed, repaired or had
+# failed and nothing else; a removed folder comes again with the same bytes; so do runs that were killed, and those on other machines.
 . "$(dirname "$0")/lib.sh"
-needs parallel
-mkdir library
-cp "$top"/examples/*.sgf library
-printf '(;SZ[9]' > library/broken.sgf
-"$top/recipes/library.sh" out library/*.sgf || true
-for file in library/*.sgf; do
-    name=$(basename "$file" .sgf)
-    "$SGFSPLIT" split "$file" > want 2> want.fault || true
-    same want "out/$name.rows"
-    same want.fault "out/$name.fault"
+needs python3 parallel
+library=$top/recipes/library.py
+mkdir -p games/x/y games/z
+cp "$top"/examples/*.sgf games/x
+cp "$top/examples/corner.sgf" games/x/y/g.sgf
+cp "$top/examples/ko.sgf" games/z/g.sgf
+printf '(;SZ[9]' > games/z/broken.sgf
+printf '(;SZ[9])x' > games/a.sgf
+
+# Each file has the rows that the program writes, or its fault with line and column, and no other file stands there.
+whole() {
+    local folder=$1 name file count=0
+    while IFS= read -r file; do
+        name=$folder/${file%.sgf}
+        if "$SGFSPLIT" split "$file" > want 2> want.fault; then
+            same want "$name.rows"
+            [ ! -e "$name.fault" ] || failed "$name.fault stands beside the rows"
+        else
+            [ -s "$name.fault" ] && [ ! -e "$name.rows" ] || failed "no fault of $file alone"
+        fi
+        count=$((count + 1))
+    done < <(find games -type f)
+    [ "$(find "$folder" -type f ! -name .done.jsonl | wc -l)" = "$count" ] || failed "other files in $folder: $(find "$folder" -type f)"
+}
+
+# What a run wrote anew, of all that stands in the folder.
+anew() { find "$1" -type f -newer mark ! -name .done.jsonl | sort | tr '\n' ' '; }
+
+call() { touch mark; sleep 0.05; status=0; "$library" "$@" 2> faults || status=$?; }
+
+call out games
+[ "$status" = 1 ] || failed "status $status with two refused files"
+whole out
+printf 'games/a.sgf:1:9: not SGF\ngames/z/broken.sgf:1:8: input ends too early\n' > want
+same want faults
+cp -R out first
+
+# Again: the two that failed are tried and named again, and nothing else is written.
+call out games
+[ "$(anew out)" = 'out/games/a.fault out/games/z/broken.fault ' ] || failed "written again: $(anew out)"
+same want faults
+
+# Repaired, broken, added, and changed with the size and the time that it had.
+printf '(;SZ[9])' > games/a.sgf
+rm games/z/broken.sgf
+cp -p games/x/y/g.sgf was
+printf ')' >> games/z/g.sgf
+printf '(;SZ[3];B[aa])' > games/b.sgf
+sed 's/B\[cc\]/B[dd]/' was > games/x/y/g.sgf
+touch -r was games/x/y/g.sgf
+rm out/games/z/broken.fault out/games/x/corner.rows
+call out games
+[ "$status" = 1 ] || failed "status $status with a refused file"
+[ "$(anew out)" = 'out/games/a.rows out/games/b.rows out/games/x/corner.rows out/games/x/y/g.rows out/games/z/g.fault ' ] ||
+    failed "written: $(anew out)"
+whole out
+cp "$top/examples/ko.sgf" games/z/g.sgf
+call out games
+[ "$status" = 0 ] && [ ! -s faults ] || failed "status $status once all are repaired: $(cat faults)"
+whole out
+
+# The same files as words in another order, and some of them: nothing is done again, and nothing goes.
+call out $(find games -name '*.sgf' | sort -r)
+[ "$status" = 0 ] && [ -z "$(anew out)" ] || failed "done again: $(anew out)"
+call out ./games/x games//b.sgf games/z/../b.sgf
+[ "$status" = 0 ] && [ -z "$(anew out)" ] || failed "done again: $(anew out)"
+whole out
+
+# Removed and made again, by names from standard input, and by GNU Parallel: the same bytes.
+cp -R out want.out
+rm -r out
+find games -name '*.sgf' -print0 | sort -rz | "$library" -0 out
+call there games/x games/z games --sshlogin
+[ "$status" = 1 ] && grep -q '^--sshlogin: No such file' faults || failed "an option after the files was taken for one"
+rm -r there
+call --sshlogin=: there games
+[ "$status" = 0 ] || failed "by GNU Parallel: $(cat faults)"
+for folder in out there; do
+    sed -i '/broken/d' want.out/.done.jsonl
+    diff -r want.out "$folder" >&2 || failed "$folder isn't the folder that later calls made"
 done
-[ "$(tail -n +2 out/jobs | wc -l)" = "$(ls library | wc -l)" ] || failed "the job log hasn't each file once"
-rm out/*.rows
-"$top/recipes/library.sh" out library/*.sgf || true
-[ ! -e out/broken.rows ] || failed "a file that was done was split again"
-"$top/recipes/library.sh" again library/*.sgf --sshlogin : || true
-same out/corner.fault again/corner.fault
-"$SGFSPLIT" split library/corner.sgf > want
-same want again/corner.rows "the rows made with --sshlogin"
+
+# A machine that isn't there: each file is named, and the next call does them.
+cat > ssh <<'SSH'
+#!/bin/sh
+exit 255
+SSH
+chmod +x ssh
+PARALLEL_SSH=$work/ssh call --sshlogin=1/nowhere late games
+[ "$status" = 1 ] && [ "$(grep -c 'not done$' faults)" = "$(find games -name '*.sgf' | wc -l)" ] || failed "a lost machine: $(cat faults)"
+call late games
+whole late
+
+# Killed at some moment, and called again. The journal of what was done may end in the middle of a row.
+mkdir many
+for number in $(seq 300); do cp "$top/examples/corner.sgf" "many/$number.sgf"; done
+"$library" all many
+mkdir killed
+for delay in 0.2 0.4 0.7; do
+    timeout -s KILL "$delay" "$library" killed many 2> /dev/null || true
+    find killed -name '*.rows' | while read -r file; do same "all/${file#killed/}" "$file" "a file of a killed run"; done
+    [ ! -e killed/.done.jsonl ] || truncate -s -7 killed/.done.jsonl 2> /dev/null || true
+done
+"$library" killed many
+diff -r all killed >&2 || failed "a killed run wasn't mended"
+
+# Two calls at once, and one that is asked to end.
+"$library" both many &
+"$library" both many
+wait
+diff -r all both >&2 || failed "two calls at once came in each other's way"
+for signal in INT TERM; do
+    timeout --foreground -s "$signal" 0.5 "$library" ended many 2> faults || true
+    if grep -q Traceback faults; then failed "$signal: $(cat faults)"; fi
+done
+"$library" ended many
+diff -r all ended >&2 || failed "a run that was asked to end wasn't mended"
+
+# OUT below the library is no part of it; two names of one place; a progress bar on a terminal.
+cp "$top/examples/ko.sgf" many/out.sgf
+(cd many && "$library" out . && "$library" out .)
+[ "$(find many/out -name '*.rows' | wc -l)" = 301 ] || failed "OUT was taken for a part of the library"
+mkdir two
+cp "$top/examples/ko.sgf" two/g.sgf
+cp "$top/examples/corner.sgf" two/g
+if "$library" pair two/g.sgf two/g two/g.sgf 2> faults; then failed "two files were kept at one place"; fi
+echo 'two/g: left out, since what two/g.sgf gives is kept at pair/two/g' > want
+same want faults
+python3 - "$library" <<'PYTHON'
+import os
+import pty
+import sys
+
+seen = []
+def read(end):
+    seen.append(os.read(end, 1024))
+    return seen[-1]
+pty.spawn([sys.argv[1], "bar", "many"], read)
+text = b"".join(seen)
+sys.exit(0 if b"301/301 files" in text and b"[####" in text and text.count(b"\r[") > 3 else f"no bar: {text}")
+PYTHON

@@ -1,7 +1,8 @@
 #!/usr/bin/env bash
 # Refuses each request of the built program in turn: each growth of memory, each read, each write; then it runs the program
-# under a limit on memory, in steps. A run then gives its whole answer, or ends with the status and the line of what was
-# refused, after whole records only. The last line is `N passed, N failed, N skipped`.
+# under a limit on memory, in steps. Where memory was refused a run gives its whole answer, or ends with the status and the line
+# of that, after whole records only. Where a read or a write was refused it ends so always: nothing is read or written of that stream
+# again, and what stands is all that was written before. The last line is `N passed, N failed, N skipped`.
 . "$(dirname "$0")/lib.sh"
 needs cc
 set +e
@@ -18,11 +19,18 @@ check() {
 }
 
 # What is wrong with the files out and err after a run with this status, where NAME is the whole answer's files and a
-# refusal may end the run with STATUS and LINE: nothing, if the whole answer came, or the refusal after whole records.
+# refusal may end the run with STATUS and LINE: nothing, if the whole answer came, which it can't where a read or a write was
+# refused, or the refusal after whole records.
 wrong() {
     local name=$1 status=$2 line=$3 got=$4 end=$5
-    if [ "$got" = "$(cat "$name.status")" ] && cmp -s out "$name.out" && cmp -s err "$name.err"; then
+    if [ "$status" = 3 ] && [ -e mark ] && [ "$(cat mark)" != refused ]; then
+        echo 'asked again after the refusal'
         return
+    fi
+    if [ "$status" = 4 ] || [ ! -e mark ]; then
+        if [ "$got" = "$(cat "$name.status")" ] && cmp -s out "$name.out" && cmp -s err "$name.err"; then
+            return
+        fi
     fi
     [ "$got" = "$status" ] || { echo "status $got"; return; }
     [ "$(cat err)" = "sgfsplit: $line" ] || { echo "line $(cat err)"; return; }
@@ -55,9 +63,20 @@ memory='out of memory'
 printf '(;SZ[5]AB[ab][ba]AW[cc]C[one\ntwo];W[](;B[ee](;W[ed])(;W[de]))(;B[dd]C[%0400d]))(;GM[2])(;SZ[3];B[aa];W[aa])' 7 > input.sgf
 for form in list sgf; do
     each "$form" REFUSE_MEMORY 4 "$memory" "$nl" split --form "$form" input.sgf
-    each "$form" REFUSE_READ 3 'read failed' '' split --form "$form"
-    each "$form" REFUSE_WRITE 3 'write failed' '' split --form "$form"
+    for error in 4 5; do
+        export REFUSE_ERROR=$error
+        each "$form" REFUSE_READ 3 'read failed' '' split --form "$form"
+        each "$form of a file" REFUSE_READ 3 'read failed' '' split --form "$form" input.sgf
+        each "$form" REFUSE_WRITE 3 'write failed' '' split --form "$form"
+        check "$form: one write for an answer that fits the buffer" 2 "$(cat "$form.runs")"
+    done
 done
+for error in 4 5; do
+    export REFUSE_ERROR=$error
+    each help REFUSE_WRITE 3 'write failed' '' --help
+    each 'help of split' REFUSE_WRITE 3 'write failed' '' split --help
+done
+unset REFUSE_ERROR
 each gtp REFUSE_MEMORY 4 "$memory" "$nl$nl" split --form gtp
 each page REFUSE_MEMORY 4 "$memory" "$nl" split --after 42 --limit 2
 each count REFUSE_MEMORY 4 "$memory" "$nl" count

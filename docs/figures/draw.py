@@ -74,7 +74,7 @@ def tree(name, nodes, edges, lines, width, height, below):
                      f'<text x="{x}" y="{y + 5}" text-anchor="middle" font-family="monospace">{text}</text>')
     y = height - 18 * len(below) + 4
     for (colour, _), text in zip(lines, below):
-        parts.append(f'<path d="M20 {y - 4}h26" stroke="{colour}" stroke-width="4"/><text x="56" y="{y}" font-family="monospace">{text}</text>')
+        parts.append(f'<path d="M20 {y - 4}h26" stroke="{colour}" stroke-width="4"/><text x="56" y="{y}" font-family="monospace" xml:space="preserve">{text}</text>')
         y += 18
     write(name, svg(width, height, parts))
 

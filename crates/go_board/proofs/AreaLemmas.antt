@@ -1,38 +1,52 @@
 -- An area coloured row by row.
-use Rattle.std.proofs.Common.{◌≡◌, ◌≢◌, subst, ℕ, ◌+◌, ◌-◌, ◌*◌, ◌<◌, ◌≤◌, inl, inr, nat_le, List, [], ◌∷◌, fold, length, get_or, take, replicate, map, refl, sym, ap, ◌∙◌, arith, rules, cond, Decides}
-use Rattle.std.proofs.lemmas.List.{places, get_or-take, length-take, get_or-replicate, length-replicate, length-set}
+use Rattle.std.proofs.Common.{◌≡◌, ◌≢◌, subst, ℕ, ◌+◌, ◌-◌, ◌*◌, ◌%◌, ◌^◌, ◌<◌, ◌≤◌, ◌==◌, ◌&&◌, true, inl, inr, nat_le, List, [], ◌∷◌, fold, length, get_or, take, refl, sym, ap, ◌∙◌, arith, cond, Decides}
+use Rattle.std.proofs.lemmas.List.{length-set}
 use Rattle.std.proofs.lemmas.List.Sums.{fold_more}
-use Rattle.std.proofs.lemmas.Bool.{cases_order, cases_lt, cases_Bool, cond-true, cond-false, leb-true, le-leb}
-use Rattle.std.proofs.lemmas.Bool.Decides.{Decides-and, not_from_Decides}
-use Rattle.std.proofs.Math.Nat.{mul-le-mul_right}
-use borrow.Rule.Slice.PartMut.{put_mid, mid_of}
-use Rattle.go_board.specs.declared.stones.Cell.{Cell}
-use Rattle.go_board.specs.declared.stones.Cell.TheVariants.{Empty}
+use Rattle.std.proofs.lemmas.Bool.{cases_lt, cases_Bool, cond-true, cond-false, leb-true, le-leb, and_from, and_parts, false≢true}
+use Rattle.std.proofs.lemmas.Bool.Decides.{Decides-and, Decides-eqb, not_from_Decides}
+use Rattle.std.proofs.Math.Nat.{mod-eq_of_lt}
+use Rattle.std.proofs.lemmas.Nat.{pow_below}
+use Rattle.std.proofs.lemmas.Nat.Bits.{bit_at_mask_inside, bit_at_mask_below, bit_at_mask_above}
 use Rattle.go_board.specs.declared.points.Point.{Point}
 use Rattle.go_board.specs.declared.points.Rect.{Rect}
 use Rattle.go_board.specs.declared.referee.plays.SetupOp.{SetupOp}
-use Rattle.go_board.specs.Point.{IsOn, IsRectOn, index_of, point_at, points}
-use Rattle.go_board.specs.Grid.{Grid, cell_at, with_cell}
+use Rattle.go_board.specs.Point.{IsOn, IsRectOn, index_of}
+use Rattle.go_board.specs.Grid.{Grid, cell_at, with_cell, grid_of}
 use Rattle.go_board.specs.State.{is_in, with_area}
-use Rattle.go_board.proofs.PointLemmas.{index_below, IsOn-point_at, index_of-point_at, is_map-points}
+use Rattle.go_board.specs.inner.Rows.{has_bit}
+use Rattle.go_board.specs.inner.Regions.{with_columns}
 use Rattle.go_board.proofs.GridLemmas.{cell_at-with_cell, cell_at-with_cell_elsewhere}
 use Rattle.go_board.proofs.GroupLemmas.{grid_of-cells}
+use Rattle.go_board.proofs.RegionLemmas.{same_bools}
+use Rattle.go_board.proofs.StoneRowsLemmas.{side-coloured, cell_at-coloured, length-coloured}
 
--- a list after a write to a part of it, in the part and outside it
-get_or-in_part : {X : Type 0} (a k : ℕ) (xs ys : List X) (i : ℕ) (d : X) → length ys ≡ k → a + k ≤ length xs → a ≤ i → i < a + k → get_or (put_mid a k xs ys) i d ≡ get_or ys (i - a) d
-get_or-in_part a k xs ys i d same fits low high = search (rules, places)
+-- the columns from one to another
+pub column_word : (k : ℕ) → k < 64 → 1 * 2 ^ k % 2 ^ 64 ≡ 2 ^ k
+column_word k low =
+    let one : 1 * 2 ^ k ≡ 2 ^ k = omega arith in
+    ap (λ n. n % 2 ^ 64) one ∙ mod-eq_of_lt (pow_below k 64 low)
 
-get_or-below_part : {X : Type 0} (a k : ℕ) (xs ys : List X) (i : ℕ) (d : X) → length ys ≡ k → a + k ≤ length xs → i < a → get_or (put_mid a k xs ys) i d ≡ get_or xs i d
-get_or-below_part a k xs ys i d same fits low = search (rules, places)
+pub columns_between : (first last k : ℕ) → first ≤ last → last < 63 → has_bit (1 * 2 ^ (last + 1) % 2 ^ 64 - 1 * 2 ^ first % 2 ^ 64) k ≡ (nat_le first k && nat_le k last)
+columns_between first last k ordered few =
+    ap (λ n. has_bit (n - 1 * 2 ^ first % 2 ^ 64) k) (column_word (last + 1) (omega (arith, few)))
+    ∙ ap (λ n. has_bit (2 ^ (last + 1) - n) k) (column_word first (omega (arith, ordered, few)))
+    ∙ same_bools _ _ there back
+  where
+    there : has_bit (2 ^ (last + 1) - 2 ^ first) k ≡ true → (nat_le first k && nat_le k last) ≡ true
+    there is =
+        elim (cases_lt k first) [
+          | inl before ↦ absurd (false≢true (sym (ap (λ n. n == 1) (bit_at_mask_below first (last + 1) k before)) ∙ is))
+          | inr from ↦
+              elim (cases_lt k (last + 1)) [
+                | inl within ↦ and_from _ _ (le-leb first k from) (le-leb k last (omega (arith, within)))
+                | inr past ↦ absurd (false≢true (sym (ap (λ n. n == 1) (bit_at_mask_above first (last + 1) k past)) ∙ is))
+              ]
+        ]
 
-get_or-above_part : {X : Type 0} (a k : ℕ) (xs ys : List X) (i : ℕ) (d : X) → length ys ≡ k → a + k ≤ length xs → a + k ≤ i → get_or (put_mid a k xs ys) i d ≡ get_or xs i d
-get_or-above_part a k xs ys i d same fits high = search (rules, places)
-
-length-part : {X : Type 0} (a k : ℕ) (xs ys : List X) → length ys ≡ k → a + k ≤ length xs → length (put_mid a k xs ys) ≡ length xs
-length-part a k xs ys same fits = search (rules, places)
-
-length-mid : {X : Type 0} (a k : ℕ) (xs : List X) → a + k ≤ length xs → length (mid_of a k xs) ≡ k
-length-mid a k xs fits = search (rules, places)
+    back : (nat_le first k && nat_le k last) ≡ true → has_bit (2 ^ (last + 1) - 2 ^ first) k ≡ true
+    back is =
+        let both = and_parts _ _ is in
+        ap (λ n. n == 1) (bit_at_mask_inside first (last + 1) k (leb-true first k both.0) (omega (arith, leb-true k last both.1)))
 
 -- the point is in the part of the area above that row
 pub record IsAbove (area : Rect) (row : ℕ) (p : Point) : Type 0 where
@@ -41,80 +55,59 @@ pub record IsAbove (area : Rect) (row : ℕ) (p : Point) : Type 0 where
   pub below : area.first.row ≤ p.row
   pub above : p.row < row
 
--- the new cells are the old ones with the area coloured above that row
-pub record IsColouredTo (side : ℕ) (op : SetupOp) (row : ℕ) (old new : List Cell) : Type 0 where
-  pub same_length : length new ≡ length old
-  pub inside : (p : Point) → IsOn side p → IsAbove op.area row p → get_or new (index_of side p) Empty ≡ op.cell
-  pub outside : (p : Point) → IsOn side p → (¬ IsAbove op.area row p) → get_or new (index_of side p) Empty ≡ get_or old (index_of side p) Empty
+-- the new grid is the old one with the area coloured above that row
+pub record IsColouredTo (op : SetupOp) (row : ℕ) (old new : Grid) : Type 0 where
+  pub same_side : new.side ≡ old.side
+  pub all : length new.cells ≡ new.side * new.side
+  pub inside : (p : Point) → IsOn old.side p → IsAbove op.area row p → cell_at new p ≡ op.cell
+  pub outside : (p : Point) → IsOn old.side p → (¬ IsAbove op.area row p) → cell_at new p ≡ cell_at old p
 
-pub coloured_none : (side : ℕ) (op : SetupOp) (old : List Cell) → IsColouredTo side op op.area.first.row old old
-coloured_none side op old =
-    record { same_length = refl; inside = λ p on h. absurd (omega (arith, h.below, h.above)); outside = λ p on h. refl }
-
--- the index of a point of an earlier or a later row
-index_above : (side : ℕ) (p : Point) (row : ℕ) → p.col < side → p.row < row → index_of side p < row * side
-index_above side p row on h =
-    let rows : (p.row + 1) * side ≤ row * side = mul-le-mul_right side (omega arith) in omega arith
-
-index_below_row : (side : ℕ) (p : Point) (row : ℕ) → row < p.row → (row + 1) * side ≤ index_of side p
-index_below_row side p row h =
-    let rows : (row + 1) * side ≤ p.row * side = mul-le-mul_right side (omega arith) in omega arith
+pub coloured_none : (op : SetupOp) (old : Grid) → length old.cells ≡ old.side * old.side → IsColouredTo op op.area.first.row old old
+coloured_none op old all =
+    record { same_side = refl; all = all; inside = λ p on h. absurd (omega (arith, h.below, h.above)); outside = λ p on h. refl }
 
 -- the row's part of the area
-module _ (side : ℕ) (op : SetupOp) (row a k : ℕ) (old new : List Cell) (so_far : IsColouredTo side op row old new) (on_board : IsRectOn side op.area) (starts : a ≡ row * side + op.area.first.col) (long : a + k ≡ row * side + op.area.last.col + 1) (fits : a + k ≤ length new) (low : op.area.first.row ≤ row) where
-  after : List Cell
-  after = put_mid a k new (replicate k op.cell)
+module _ (op : SetupOp) (row columns : ℕ) (old new : Grid) (is : (k : ℕ) → has_bit columns k ≡ (nat_le op.area.first.col k && nat_le k op.area.last.col)) (low : op.area.first.row ≤ row) (so_far : IsColouredTo op row old new) where
+  next_at : (p : Point) → IsOn old.side p → cell_at (with_columns new row columns op.cell) p ≡ cond ((p.row == row) && has_bit columns p.col) op.cell (cell_at new p)
+  next_at p on = cell_at-coloured new row columns op.cell p (subst (λ n. IsOn n p) (sym so_far.same_side) on)
 
-  cell_before : (p : Point) → index_of side p < a → get_or after (index_of side p) Empty ≡ get_or new (index_of side p) Empty
-  unfolding after
-  cell_before p h = get_or-below_part a k new _ _ Empty (length-replicate k op.cell) fits h
-
-  cell_after : (p : Point) → a + k ≤ index_of side p → get_or after (index_of side p) Empty ≡ get_or new (index_of side p) Empty
-  unfolding after
-  cell_after p h = get_or-above_part a k new _ _ Empty (length-replicate k op.cell) fits h
-
-  cell_within : (p : Point) → a ≤ index_of side p → index_of side p < a + k → get_or after (index_of side p) Empty ≡ op.cell
-  unfolding after
-  cell_within p h m =
-      get_or-in_part a k new _ _ Empty (length-replicate k op.cell) fits h m
-      ∙ get_or-replicate k (index_of side p - a) op.cell Empty (omega arith)
-
-  inside_more : (p : Point) → IsOn side p → IsAbove op.area (row + 1) p → get_or after (index_of side p) Empty ≡ op.cell
+  inside_more : (p : Point) → IsOn old.side p → IsAbove op.area (row + 1) p → cell_at (with_columns new row columns op.cell) p ≡ op.cell
   inside_more p on h =
-      elim (cases_order p.row row) [
-        | inl e ↦ (let same : p.row * side ≡ row * side = ap (λ r. r * side) e in
-            cell_within p (omega (arith, h.right_of)) (omega (arith, h.left_of)))
-        | inr (inl less) ↦ (let above = index_above side p row on.0 less in
-            cell_before p (omega arith) ∙ so_far.inside p on (record { right_of = h.right_of; left_of = h.left_of; below = h.below; above = less }))
-        | inr (inr more) ↦ absurd (omega (arith, h.above))
+      next_at p on
+      ∙ elim (cases_Bool (p.row == row)) [
+        | inl same ↦
+            ap (λ b. cond (b && has_bit columns p.col) op.cell (cell_at new p)) same
+            ∙ ap (λ b. cond b op.cell (cell_at new p)) (is p.col ∙ and_from _ _ (le-leb _ _ h.right_of) (le-leb _ _ h.left_of))
+        | inr apart ↦
+            let other : p.row ≢ row = λ e. false≢true (sym apart ∙ (Decides-eqb p.row row).1 e) in
+            ap (λ b. cond (b && has_bit columns p.col) op.cell (cell_at new p)) apart
+            ∙ so_far.inside p on (record { right_of = h.right_of; left_of = h.left_of; below = h.below; above = omega (arith, h.above, other) })
       ]
 
-  outside_more : (p : Point) → IsOn side p → (¬ IsAbove op.area (row + 1) p) → get_or after (index_of side p) Empty ≡ get_or old (index_of side p) Empty
-  outside_more p on not =
-      let not_above : ¬ IsAbove op.area row p = λ h. not (record { right_of = h.right_of; left_of = h.left_of; below = h.below; above = omega (arith, h.above) }) in
-      elim (cases_order p.row row) [
-        | inl e ↦ (let same : p.row * side ≡ row * side = ap (λ r. r * side) e in
-            elim (cases_lt p.col op.area.first.col) [
-              | inl left ↦ (cell_before p (omega arith) ∙ so_far.outside p on not_above)
-              | inr within ↦ elim (cases_lt op.area.last.col p.col) [
-                | inl right ↦ (cell_after p (omega arith) ∙ so_far.outside p on not_above)
-                | inr inner ↦ absurd (not (record { right_of = within; left_of = inner; below = omega arith; above = omega arith }))
-              ]
-            ])
-        | inr (inl less) ↦ (let above = index_above side p row on.0 less in
-            cell_before p (omega arith) ∙ so_far.outside p on not_above)
-        | inr (inr more) ↦ (let below = index_below_row side p row more in
-            cell_after p (omega (arith, on_board.1.0)) ∙ so_far.outside p on not_above)
+  outside_more : (p : Point) → IsOn old.side p → (¬ IsAbove op.area (row + 1) p) → cell_at (with_columns new row columns op.cell) p ≡ cell_at old p
+  outside_more p on not_above =
+      let before : ¬ IsAbove op.area row p = λ h. not_above (record { right_of = h.right_of; left_of = h.left_of; below = h.below; above = omega (arith, h.above) }) in
+      next_at p on
+      ∙ elim (cases_Bool (p.row == row)) [
+        | inl same ↦
+            ap (λ b. cond (b && has_bit columns p.col) op.cell (cell_at new p)) same
+            ∙ elim (cases_Bool (has_bit columns p.col)) [
+              | inl there ↦
+                  let both = and_parts _ _ (sym (is p.col) ∙ there) in
+                  let e = (Decides-eqb p.row row).0 same in
+                  absurd (not_above (record { right_of = leb-true _ _ both.0; left_of = leb-true _ _ both.1; below = omega (arith, e, low); above = omega (arith, e) }))
+              | inr none ↦ ap (λ b. cond b op.cell (cell_at new p)) none ∙ so_far.outside p on before
+            ]
+        | inr apart ↦ ap (λ b. cond (b && has_bit columns p.col) op.cell (cell_at new p)) apart ∙ so_far.outside p on before
       ]
 
-  pub coloured_more : IsColouredTo side op (row + 1) old (put_mid a k new (replicate k op.cell))
-  unfolding after
-  coloured_more =
-      record {
-        same_length = length-part a k new (replicate k op.cell) (length-replicate k op.cell) fits ∙ so_far.same_length;
-        inside = inside_more;
-        outside = outside_more;
-      }
+  pub coloured_more : IsColouredTo op (row + 1) old (with_columns new row columns op.cell)
+  coloured_more = record {
+    same_side = side-coloured new row columns op.cell ∙ so_far.same_side;
+    all = length-coloured new row columns op.cell ∙ ap (λ n. n * n) (sym (side-coloured new row columns op.cell));
+    inside = inside_more;
+    outside = outside_more;
+  }
 
 -- the test for a point in an area
 abbrev IsIn : Rect → Point → Type 0
@@ -128,54 +121,21 @@ Decides-is_in r p =
     Decides-and _ _ (Decides-and _ _ (Decides-leb _ _) (Decides-leb _ _)) (Decides-and _ _ (Decides-leb _ _) (Decides-leb _ _))
 
 -- once all rows of the area are done, it is coloured
-module _ (side : ℕ) (op : SetupOp) (row : ℕ) (old new : List Cell) (done : IsColouredTo side op row old new) (last : row ≡ op.area.last.row + 1) (whole : side * side ≤ length old) where
-  front : Grid
-  front = record { side = side; cells = take (side * side) old }
-
-  cell_of : Point → Cell
-  cell_of p = cond (is_in op.area p) op.cell (cell_at front p)
-
-  cell_at-front : (p : Point) → IsOn side p → cell_at front p ≡ get_or old (index_of side p) Empty
-  unfolding front
-  cell_at-front p on = get_or-take (side * side) old _ Empty (index_below side p on)
-
-  each_cell : (p : Point) → IsOn side p → get_or new (index_of side p) Empty ≡ cell_of p
-  unfolding cell_of
-  each_cell p on =
-      elim (cases_Bool (is_in op.area p)) [
-        | inl in_it ↦ (let h = (Decides-is_in op.area p).0 in_it in
-            done.inside p on (record { right_of = h.0.0; left_of = h.0.1; below = h.1.0; above = omega (arith, h.1.1) }) ∙ sym (cond-true _ _ _ in_it))
-        | inr out ↦ (
-            done.outside p on (λ h. not_from_Decides _ (Decides-is_in op.area p) out ((h.right_of, h.left_of), (h.below, omega (arith, h.above))))
-            ∙ sym (cell_at-front p on) ∙ sym (cond-false _ _ _ out))
-      ]
-
-  pub coloured_all : record { side = side; cells = take (side * side) new } ≡ with_area (record { side = side; cells = take (side * side) old }) op
-  unfolding front cell_of with_area
-  coloured_all =
-      let long : length (take (side * side) new) ≡ side * side = length-take (side * side) new ∙ omega (arith, done.same_length) in
-      let cells : take (side * side) new ≡ map cell_of (points side) =
-      is_map-points cell_of side (take (side * side) new) Empty long
-      (λ i h.
-      get_or-take (side * side) new i Empty h
-      ∙ ap (λ j. get_or new j Empty) (sym (index_of-point_at side i h))
-      ∙ each_cell (point_at side i) (IsOn-point_at side i h)) in
-      ap (λ (cs : List Cell). record { side = side; cells = cs }) cells
-
--- one row more, as the code writes it
-pub coloured_row : (side : ℕ) (op : SetupOp) (row a k : ℕ) (old new filled : List Cell) → IsColouredTo side op row old new → IsRectOn side op.area → side * side ≤ length new → op.area.first.row ≤ row → row ≤ op.area.last.row → a ≡ row * side + op.area.first.col → k ≡ row * side + op.area.last.col + 1 - a → filled ≡ replicate (length (mid_of a k new)) op.cell → IsColouredTo side op (row + 1) old (put_mid a k new filled)
-coloured_row side op row a k old new filled so_far on_board whole low high starts long is_filled =
-    let rows : row * side ≤ op.area.last.row * side = mul-le-mul_right side high in
-    let last : op.area.last.row * side + op.area.last.col < side * side = index_below side op.area.last on_board.1 in
-    let ends : a + k ≡ row * side + op.area.last.col + 1 = omega (arith, on_board.2) in
-    let fits : a + k ≤ length new = omega arith in
-    let count : length (mid_of a k new) ≡ k = length-mid a k new fits in
-    rw (is_filled, count) (coloured_more side op row a k old new so_far on_board starts ends fits low)
-
--- the same, where the code reads the side anew
-pub coloured_view : (s side : ℕ) (op : SetupOp) (row : ℕ) (old new : List Cell) → s ≡ side → IsColouredTo s op row old new → row ≡ op.area.last.row + 1 → side * side ≤ length old → record { side = s; cells = take (s * s) new } ≡ with_area (record { side = side; cells = take (side * side) old }) op
-coloured_view s side op row old new same done last whole =
-    rw same (coloured_all side op row old new (rw same at done) last whole)
+pub coloured_all : (op : SetupOp) (row : ℕ) (old new : Grid) → IsColouredTo op row old new → row ≡ op.area.last.row + 1 → new ≡ with_area old op
+unfolding with_area
+coloured_all op row old new done last =
+    sym (grid_of-cells new (λ p. cond (is_in op.area p) op.cell (cell_at old p)) done.all
+    (λ p at.
+    let on = subst (λ n. IsOn n p) done.same_side at in
+    elim (cases_Bool (is_in op.area p)) [
+      | inl in_it ↦
+          let h = (Decides-is_in op.area p).0 in_it in
+          cond-true _ _ _ in_it ∙ sym (done.inside p on (record { right_of = h.0.0; left_of = h.0.1; below = h.1.0; above = omega (arith, h.1.1, last) }))
+      | inr out ↦
+          cond-false _ _ _ out
+          ∙ sym (done.outside p on (λ h. not_from_Decides _ (Decides-is_in op.area p) out ((h.right_of, h.left_of), (h.below, omega (arith, h.above, last)))))
+    ]))
+    ∙ ap (λ n. grid_of n (λ p. cond (is_in op.area p) op.cell (cell_at old p))) done.same_side
 
 -- an area's colours leave the side
 pub side-with_area : (g : Grid) (op : SetupOp) → (with_area g op).side ≡ g.side

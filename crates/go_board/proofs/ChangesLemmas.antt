@@ -1,114 +1,209 @@
--- Changes that lead back from one grid to another.
-use Rattle.std.proofs.Common.{◌≡◌, ℕ, zero, suc, ◌+◌, ◌-◌, ◌<◌, ◌≤◌, List, [], ◌∷◌, ◌++◌, length, get_or, set, take, drop, slice_range, refl, sym, ap, ◌∙◌, arith, append_assoc, length-append, length-take}
-use Rattle.std.proofs.lemmas.List.{length-set, set-set, set-get_or, take_more, drop_more, set_at, drop-append-le, take_at, drop_at}
-use Rattle.std.proofs.lemmas.List.Elements.{All-push}
+-- Changes that lead back from a colouring to the one before it.
+use Rattle.std.proofs.Common.{◌≡◌, ◌≢◌, ◌==◌, ◌||◌, ◌&&◌, ℕ, zero, suc, ◌+◌, ◌*◌, ◌%◌, ◌^◌, ◌<◌, inl, inr, Bool, true, false, not, cond, List, [], ◌∷◌, ◌++◌, length, bit_and, bit_xor, w64, refl, sym, ap, subst, ◌∙◌, arith, append_assoc}
+use Rattle.std.specs.Int.{bit_at, bit_not}
+use Rattle.std.proofs.lemmas.Bool.{cases_eq, false≢true}
+use Rattle.std.proofs.lemmas.Bool.Decides.{Decides-eqb}
+use Rattle.std.proofs.lemmas.Nat.Bits.{bit_at_xor, bit_at-lt}
+use Rattle.std.proofs.lemmas.List.{append-nil}
+use Rattle.std.proofs.lemmas.List.Elements.{All-append, All-push}
 use Rattle.go_board.specs.declared.stones.Cell.{Cell}
-use Rattle.go_board.specs.declared.stones.Cell.TheVariants.{Black, Empty}
-use Rattle.go_board.specs.declared.past.changes.Change.{Change}
+use Rattle.go_board.specs.declared.stones.Cell.TheVariants.{Black, White, Empty}
 use Rattle.go_board.specs.declared.points.Point.{Point}
-use Rattle.go_board.specs.declared.stones.Colour.{Colour}
-use Rattle.go_board.specs.Colour.{stone_of}
-use Rattle.go_board.specs.Point.{index_of}
-use Rattle.go_board.specs.Grid.{Grid, cell_at, with_cell}
-use Rattle.go_board.specs.inner.Changes.{after_changes, painted, with_change, IsChangeOn, AreAllOf, LeadsBack}
-use Rattle.go_board.proofs.RangeLemmas.{front-range, back-range}
+use Rattle.go_board.specs.declared.past.changes.Change.{Change}
+use Rattle.go_board.specs.Colour.{same_cell}
+use Rattle.go_board.specs.Point.{IsOn}
+use Rattle.go_board.specs.Grid.{Grid, cell_at, with_cell, grid_of}
+use Rattle.go_board.specs.inner.Regions.{with_columns}
+use Rattle.go_board.specs.inner.Rows.{has_bit}
+use Rattle.go_board.specs.inner.Changes.{with_change, after_changes, IsChangeOn, MakeMore, MakeOne, differ, is_put_back}
+use Rattle.go_board.proofs.RuleLemmas.{false_from_Decides}
+use Rattle.go_board.proofs.GridLemmas.{cell_at-with_cell_elsewhere}
+use Rattle.go_board.proofs.GroupLemmas.{grid_of-cells}
+use Rattle.go_board.proofs.StoneRowsLemmas.{side-coloured, cell_at-coloured, length-coloured}
+use Rattle.go_board.proofs.WordLemmas.{has_bit-and, has_bit-without, has_bit-zero}
 
--- a point coloured anew and then as it was
-pub with_cell-back : (g : Grid) (p : Point) (c : Cell) → with_cell (with_cell g p c) p (cell_at g p) ≡ g
-with_cell-back g p c =
-    ap (λ (cs : List Cell). record { side = g.side; cells = cs })
-    (set-set g.cells (index_of g.side p) c (cell_at g p) ∙ set-get_or g.cells (index_of g.side p) Empty)
+-- two colourings of one side with the same on each point are one
+pub one_colouring : (g h : Grid) → g.side ≡ h.side → length g.cells ≡ g.side * g.side → length h.cells ≡ h.side * h.side → ((p : Point) → IsOn g.side p → cell_at g p ≡ cell_at h p) → g ≡ h
+one_colouring g h side all all' each =
+    sym (grid_of-cells g (cell_at g) all (λ p on. refl))
+    ∙ ap (λ n. grid_of n (cell_at g)) side
+    ∙ grid_of-cells h (cell_at g) all' (λ p on. each p (subst (λ n. IsOn n p) (sym side) on))
 
--- a change of one point
-pub with_change-one : (g : Grid) (p : Point) (c : Cell) → with_change g (record { point = p; cell = c; more = 0 }) ≡ with_cell g p c
-with_change-one g p c =
-    let same : index_of g.side p + 0 ≡ index_of g.side p = omega arith in
-    ap (λ i. record { side = g.side; cells = set g.cells i c }) same
-
--- a stone on an empty point taken off again
-pub stone-back : (g h : Grid) (p : Point) (k : Colour) → h ≡ with_cell g p (stone_of k) → cell_at g p ≡ Empty → with_change h (record { point = p; cell = Empty; more = 0 }) ≡ g
-stone-back g h p k is empty =
-    with_change-one h p Empty
-    ∙ ap (λ (x : Grid). with_cell x p Empty) is
-    ∙ ap (λ x. with_cell (with_cell g p (stone_of k)) p x) (sym empty) ∙ with_cell-back g p (stone_of k)
-
--- the last of the changes comes last
-pub after-push : (g : Grid) (cs : List Change) (c : Change) → after_changes g (cs ++ c ∷ []) ≡ with_change (after_changes g cs) c
-after-push g [] c = refl
-after-push g (x ∷ xs) c = after-push (with_change g x) xs c
-
--- one change more, and what it leads to
-last-count : (cs : List Change) (c : Change) → length (cs ++ c ∷ []) - 1 ≡ length cs
-last-count cs c = omega (arith, length-append cs (c ∷ []))
-
-pub last-back : (g : Grid) (cs : List Change) (c : Change) → after_changes g (drop (length (cs ++ c ∷ []) - 1) (cs ++ c ∷ [])) ≡ with_change g c
-last-back g cs c = ap (after_changes g) (drop_at cs (c ∷ []) (length (cs ++ c ∷ []) - 1) (sym (last-count cs c)))
-
-pub last-front : (cs : List Change) (c : Change) → take (length (cs ++ c ∷ []) - 1) (cs ++ c ∷ []) ≡ cs
-last-front cs c = take_at cs (c ∷ []) (length (cs ++ c ∷ []) - 1) (sym (last-count cs c))
-
--- the side stays
+-- the side stays, and so does the number of cells
 pub after-side : (g : Grid) (cs : List Change) → (after_changes g cs).side ≡ g.side
 after-side g [] = refl
-after-side g (x ∷ xs) = after-side (with_change g x) xs
+after-side g (x ∷ xs) = after-side (with_change g x) xs ∙ side-coloured g x.row x.columns x.cell
 
--- and so does the number of cells
-length-painted : (cells : List Cell) (cell : Cell) (i n : ℕ) → length (painted cells cell i n) ≡ length cells
-length-painted cells cell i zero = refl
-length-painted cells cell i (suc n) = length-set (painted cells cell i n) (i + n) cell ∙ length-painted cells cell i n
+pub after-length : (g : Grid) (cs : List Change) → length g.cells ≡ g.side * g.side → length (after_changes g cs).cells ≡ g.side * g.side
+after-length g [] all = all
+after-length g (x ∷ xs) all =
+    let side = side-coloured g x.row x.columns x.cell in
+    after-length (with_change g x) xs (length-coloured g x.row x.columns x.cell ∙ ap (λ n. n * n) (sym side)) ∙ ap (λ n. n * n) side
 
-pub after-length : (g : Grid) (cs : List Change) → length (after_changes g cs).cells ≡ length g.cells
-after-length g [] = refl
-after-length g (x ∷ xs) = after-length (with_change g x) xs ∙ length-painted g.cells x.cell (index_of g.side x.point) (suc x.more)
+after-append : (g : Grid) (xs ys : List Change) → after_changes g (xs ++ ys) ≡ after_changes (after_changes g xs) ys
+after-append g [] ys = refl
+after-append g (x ∷ xs) ys = after-append (with_change g x) xs ys
 
--- the first n old cells, and then the new ones
-abbrev pub spliced : List Cell → List Cell → ℕ → List Cell
-spliced old new n = take n old ++ drop n new
+pub after-push : (g : Grid) (cs : List Change) (c : Change) → after_changes g (cs ++ c ∷ []) ≡ with_change (after_changes g cs) c
+after-push g cs c = after-append g cs (c ∷ [])
 
-spliced-set : (old new : List Cell) (i : ℕ) → i < length old → i < length new → set (spliced old new i) i (get_or old i Black) ≡ spliced old new (i + 1)
-spliced-set old new i in_old in_new =
-    let front : length (take i old) ≡ i = length-take i old ∙ omega arith in
-    ap (λ xs. set (take i old ++ xs) i (get_or old i Black)) (drop_more new i Black in_new)
-    ∙ set_at (take i old) (get_or new i Black) (drop (i + 1) new) (get_or old i Black) i front
-    ∙ sym (append_assoc (take i old) (get_or old i Black ∷ []) (drop (i + 1) new))
-    ∙ ap (λ xs. xs ++ drop (i + 1) new) (sym (take_more old i Black in_old))
+-- no more changes
+pub MakeMore-none : (side : ℕ) (old new : List Change) → new ≡ old → MakeMore side (λ p x. x) old new
+MakeMore-none side old new same =
+    record { more = []; added = same ∙ sym (append-nil old); on_grid = λ k d h. absurd (omega (arith, h)); made = λ g p e on. refl }
 
-pub spliced-range : (old new : List Cell) (a b : ℕ) → a ≤ b → slice_range old a b ≡ slice_range new a b → spliced old new a ≡ spliced old new b
-spliced-range old new a b h same =
-    ap (λ xs. take a old ++ xs) (back-range new a b h ∙ ap (λ xs. xs ++ drop b new) (sym same))
-    ∙ sym (append_assoc (take a old) (slice_range old a b) (drop b new))
-    ∙ ap (λ xs. xs ++ drop b new) (sym (front-range old a b h))
+-- one more
+pub MakeMore-one : (side : ℕ) (c : Change) (old new : List Change) → IsChangeOn side c → new ≡ old ++ c ∷ [] → MakeMore side (λ p x. cond ((p.row == c.row) && has_bit c.columns p.col) c.cell x) old new
+MakeMore-one side c old new on is = record {
+  more = c ∷ [];
+  added = is;
+  on_grid = All-push (IsChangeOn side) [] c (λ k d h. absurd (omega (arith, h))) on;
+  made = λ g p e on_board. cell_at-coloured g c.row c.columns c.cell p (subst (λ n. IsOn n p) (sym e) on_board);
+}
 
-painted-spliced : (old new : List Cell) (cell : Cell) (i n : ℕ) → i + n ≤ length old → i + n ≤ length new → AreAllOf cell old i n → painted (spliced old new i) cell i n ≡ spliced old new (i + n)
-painted-spliced old new cell i zero in_old in_new run = ap (spliced old new) (omega arith)
-painted-spliced old new cell i (suc n) in_old in_new run =
-    let so_far = painted-spliced old new cell i n (omega (arith, in_old)) (omega (arith, in_new)) (λ k h. run k (omega (arith, h))) in
-    ap (λ xs. set xs (i + n) cell) so_far
-    ∙ ap (λ x. set (spliced old new (i + n)) (i + n) x) (sym (run n (omega arith)))
-    ∙ spliced-set old new (i + n) (omega (arith, in_old)) (omega (arith, in_new))
-    ∙ ap (spliced old new) (omega arith)
+-- some, and then others
+pub MakeMore-then : (side : ℕ) (first second : Point → Cell → Cell) (a b c : List Change) → MakeMore side first a b → MakeMore side second b c → MakeMore side (λ p x. second p (first p x)) a c
+MakeMore-then side first second a b c h k = record {
+  more = h.more ++ k.more;
+  added = k.added ∙ ap (λ xs. xs ++ k.more) h.added ∙ append_assoc a h.more k.more;
+  on_grid = All-append (IsChangeOn side) h.more k.more h.on_grid k.on_grid;
+  made = λ g p e on.
+      ap (λ (x : Grid). cell_at x p) (after-append g h.more k.more)
+      ∙ k.made (after_changes g h.more) p (after-side g h.more ∙ e) on
+      ∙ ap (second p) (h.made g p e on);
+}
 
-module _ (side start : ℕ) (old new : List Cell) where
-  -- a change added, of the next points up to j
-  pub leads-more : (i j n : ℕ) (changes : List Change) (c : Change) → n ≡ suc c.more → j ≡ i + n → j ≤ length old → j ≤ length new → IsChangeOn side c → index_of side c.point ≡ i → AreAllOf c.cell old i n → LeadsBack side old new start i changes → LeadsBack side old new start j (changes ++ c ∷ [])
-  leads-more i j n changes c count to in_old in_new on at run leads =
-      let g : Grid = record { side = side; cells = new } in
-      let parts : drop start (changes ++ c ∷ []) ≡ drop start changes ++ c ∷ [] = drop-append-le start changes (c ∷ []) leads.starts in
-      let so_far : after_changes g (drop start changes) ≡ record { side = side; cells = spliced old new i } = leads.back in
-      let one : with_change (record { side = side; cells = spliced old new i }) c ≡ record { side = side; cells = painted (spliced old new i) c.cell i n } = ap (λ x. record { side = side; cells = painted (spliced old new i) c.cell x (suc c.more) }) at ∙ ap (λ k. record { side = side; cells = painted (spliced old new i) c.cell i k }) (sym count) in
-      let all : painted (spliced old new i) c.cell i n ≡ spliced old new j = painted-spliced old new c.cell i n (omega (arith, to, in_old)) (omega (arith, to, in_new)) run ∙ ap (spliced old new) (sym to) in
-      record {
-        starts = omega (arith, leads.starts, length-append changes (c ∷ []));
-        back = ap (after_changes g) parts ∙ after-push g (drop start changes) c ∙ ap (λ (x : Grid). with_change x c) so_far ∙ one ∙ ap (λ (xs : List Cell). record { side = side; cells = xs }) all;
-        few = omega (arith, count, to, leads.few, length-append changes (c ∷ []));
-        on_grid = All-push (IsChangeOn side) changes c leads.on_grid on;
-      }
+pub MakeMore-like : (side : ℕ) (first second : Point → Cell → Cell) (a b : List Change) → ((p : Point) (x : Cell) → IsOn side p → first p x ≡ second p x) → MakeMore side first a b → MakeMore side second a b
+MakeMore-like side first second a b same h = record {
+  more = h.more;
+  added = h.added;
+  on_grid = h.on_grid;
+  made = λ g p e on. h.made g p e on ∙ same p (cell_at g p) on;
+}
 
-  -- no change, where the next cells are the same
-  pub leads-range : (a b : ℕ) (changes : List Change) → a ≤ b → slice_range old a b ≡ slice_range new a b → LeadsBack side old new start a changes → LeadsBack side old new start b changes
-  leads-range a b changes h same leads = record {
-    starts = leads.starts;
-    back = leads.back ∙ ap (λ (xs : List Cell). record { side = side; cells = xs }) (spliced-range old new a b h same);
-    few = omega (arith, leads.few);
-    on_grid = leads.on_grid;
-  }
+-- a change of no columns makes nothing else
+pub no_columns : (r : Bool) (columns col : ℕ) (cell x : Cell) → columns ≡ 0 → x ≡ cond (r && has_bit columns col) cell x
+no_columns r columns col cell x none = sym (ap (λ b. cond (r && b) cell x) (ap (λ n. has_bit n col) none ∙ has_bit-zero col) ∙ never r cell x)
+  where
+    never : (r : Bool) (cell x : Cell) → cond (r && false) cell x ≡ x
+    never true cell x = refl
+    never false cell x = refl
+
+-- the columns of a row, by what stood on them
+by_cell : (r k : Bool) (c x : Cell) → cond (r && ((k && not (same_cell c Black)) && not (same_cell c White))) Empty (cond (r && (k && same_cell c White)) White (cond (r && (k && same_cell c Black)) Black x)) ≡ cond (r && k) c x
+by_cell false k c x = refl
+by_cell true false c x = refl
+by_cell true true Black x = refl
+by_cell true true White x = refl
+by_cell true true Empty x = refl
+
+pub row_put_back : (old : Grid) (row columns black white : ℕ) → old.side < 64 → black < 2 ^ 64 → white < 2 ^ 64
+    → ((col : ℕ) → col < old.side → has_bit black col ≡ same_cell (cell_at old (record { col = col; row = row })) Black)
+    → ((col : ℕ) → col < old.side → has_bit white col ≡ same_cell (cell_at old (record { col = col; row = row })) White)
+    → (p : Point) (x : Cell) → IsOn old.side p
+    → cond ((p.row == row) && has_bit (bit_and (bit_and columns (bit_not w64 black)) (bit_not w64 white)) p.col) Empty
+    (cond ((p.row == row) && has_bit (bit_and columns white) p.col) White (cond ((p.row == row) && has_bit (bit_and columns black) p.col) Black x))
+    ≡ cond ((p.row == row) && has_bit columns p.col) (cell_at old p) x
+row_put_back old row columns black white few low_black low_white is_black is_white p x on =
+    let narrow : p.col < 64 = omega (arith, on.0) in
+    elim (cases_eq p.row row) [
+      | inr other ↦ rw (false_from_Decides (p.row == row) (Decides-eqb p.row row) other) refl
+      | inl e ↦ (let here : ◌≡◌ {A = Point} (record { col = p.col; row = row }) p = ap (λ n. record { col = p.col; row = n }) (sym e) in
+          let black_here : has_bit black p.col ≡ same_cell (cell_at old p) Black = is_black p.col on.0 ∙ ap (λ (q : Point). same_cell (cell_at old q) Black) here in
+          let white_here : has_bit white p.col ≡ same_cell (cell_at old p) White = is_white p.col on.0 ∙ ap (λ (q : Point). same_cell (cell_at old q) White) here in
+          rw (has_bit-without (bit_and columns (bit_not w64 black)) white p.col low_white narrow, has_bit-without columns black p.col low_black narrow, has_bit-and columns white p.col, has_bit-and columns black p.col, black_here, white_here)
+          (by_cell (p.row == row) (has_bit columns p.col) (cell_at old p) x))
+    ]
+
+-- the bits that one of two words has, and not the other
+test_apart : (x y : ℕ) → x < 2 → y < 2 → ((x + y) % 2 == 1) ≡ differ (x == 1) (y == 1)
+test_apart zero zero hx hy = refl
+test_apart zero (suc zero) hx hy = refl
+test_apart zero (suc (suc y)) hx hy = absurd (omega arith)
+test_apart (suc zero) zero hx hy = refl
+test_apart (suc zero) (suc zero) hx hy = refl
+test_apart (suc zero) (suc (suc y)) hx hy = absurd (omega arith)
+test_apart (suc (suc x)) y hx hy = absurd (omega arith)
+
+pub has_bit-apart : (a b c : ℕ) → has_bit (bit_xor a b) c ≡ differ (has_bit a c) (has_bit b c)
+has_bit-apart a b c = ap (λ n. n == 1) (bit_at_xor a b c) ∙ test_apart (bit_at a c) (bit_at b c) (bit_at-lt a c) (bit_at-lt b c)
+
+-- points with different colours are apart in black or in white
+pub apart_by_colour : (a b : Cell) → (differ (same_cell a Black) (same_cell b Black) || differ (same_cell a White) (same_cell b White)) ≡ not (same_cell a b)
+apart_by_colour Black Black = refl
+apart_by_colour Black White = refl
+apart_by_colour Black Empty = refl
+apart_by_colour White Black = refl
+apart_by_colour White White = refl
+apart_by_colour White Empty = refl
+apart_by_colour Empty Black = refl
+apart_by_colour Empty White = refl
+apart_by_colour Empty Empty = refl
+
+either_is : (a b : Cell) → cond (not (same_cell a b)) a b ≡ a
+either_is Black Black = refl
+either_is Black White = refl
+either_is Black Empty = refl
+either_is White Black = refl
+either_is White White = refl
+either_is White Empty = refl
+either_is Empty Black = refl
+either_is Empty White = refl
+either_is Empty Empty = refl
+
+-- what the changes that put points back make
+abbrev pub put_back : Bool → Grid → Grid → Point → Cell → Cell
+put_back all old new point cell = cond (is_put_back all old new point) (cell_at old point) cell
+
+module _ (all : Bool) (old new : Grid) (a b : List Change) (side : new.side ≡ old.side) (cells : length old.cells ≡ old.side * old.side) (new_cells : length new.cells ≡ new.side * new.side) (h : MakeMore old.side (put_back all old new) a b) where
+  -- they lead back from the new colouring
+  pub leads_back : after_changes new h.more ≡ old
+  leads_back =
+      one_colouring (after_changes new h.more) old (after-side new h.more ∙ side) (after-length new h.more new_cells ∙ ap (λ n. n * n) (sym (after-side new h.more))) cells
+      (λ p on.
+      let on_old : IsOn old.side p = subst (λ n. IsOn n p) (after-side new h.more ∙ side) on in
+      h.made new p side on_old ∙ by all p)
+    where
+      by : (b : Bool) (p : Point) → put_back b old new p (cell_at new p) ≡ cell_at old p
+      by true p = refl
+      by false p = either_is (cell_at old p) (cell_at new p)
+
+  -- where all are put back, they do so from any colouring
+  pub makes_one : all ≡ true → MakeOne old h.more
+  makes_one is g same_side g_cells =
+      one_colouring (after_changes g h.more) old (after-side g h.more ∙ same_side) (after-length g h.more g_cells ∙ ap (λ n. n * n) (sym (after-side g h.more))) cells
+      (λ p on.
+      let on_old : IsOn old.side p = subst (λ n. IsOn n p) (after-side g h.more ∙ same_side) on in
+      h.made g p same_side on_old ∙ ap (λ b. put_back b old new p (cell_at g p)) is)
+
+-- one column alone
+pub one_column : (columns col k : ℕ) → ((other : ℕ) → other ≢ col → has_bit columns other ≡ false) → has_bit columns k ≡ true → k ≡ col
+one_column columns col k elsewhere there = elim (cases_eq k col) [
+  | inl e ↦ e
+  | inr other ↦ absurd (false≢true (sym (elsewhere k other) ∙ there))
+]
+
+-- the stone on a point taken off
+pub stone_back : (g h : Grid) (p : Point) (stone : Cell) (columns : ℕ) → IsOn g.side p → length g.cells ≡ g.side * g.side → cell_at g p ≡ Empty → h ≡ with_cell g p stone → has_bit columns p.col ≡ true → ((k : ℕ) → k ≢ p.col → has_bit columns k ≡ false) → with_columns h p.row columns Empty ≡ g
+stone_back g h p stone columns on all free is there elsewhere =
+    let side : h.side ≡ g.side = ap (λ (x : Grid). x.side) is in
+    one_colouring (with_columns h p.row columns Empty) g (side-coloured h p.row columns Empty ∙ side)
+    (length-coloured h p.row columns Empty ∙ ap (λ n. n * n) (sym (side-coloured h p.row columns Empty))) all
+    (λ q on_made.
+    let on_h : IsOn h.side q = subst (λ n. IsOn n q) (side-coloured h p.row columns Empty) on_made in
+    let on_g : IsOn g.side q = subst (λ n. IsOn n q) side on_h in
+    cell_at-coloured h p.row columns Empty q on_h ∙ each q on_g)
+  where
+    other_point : (q : Point) → IsOn g.side q → (q ≡ p → ⊥) → cell_at h q ≡ cell_at g q
+    other_point q on_g other = ap (λ (x : Grid). cell_at x q) is ∙ cell_at-with_cell_elsewhere g p q stone on on_g other
+
+    each : (q : Point) → IsOn g.side q → cond ((q.row == p.row) && has_bit columns q.col) Empty (cell_at h q) ≡ cell_at g q
+    each q on_g = elim (cases_eq q.row p.row) [
+      | inr other ↦ rw (false_from_Decides (q.row == p.row) (Decides-eqb q.row p.row) other) (other_point q on_g (λ e. other (ap (λ (x : Point). x.row) e)))
+      | inl row ↦ elim (cases_eq q.col p.col) [
+        | inr other ↦ rw ((Decides-eqb q.row p.row).1 row, elsewhere q.col other) (other_point q on_g (λ e. other (ap (λ (x : Point). x.col) e)))
+        | inl col ↦ (let same : q ≡ p = ap (λ n. record { col = n; row = q.row }) col ∙ ap (λ n. record { col = p.col; row = n }) row in
+            let bit : has_bit columns q.col ≡ true = ap (has_bit columns) col ∙ there in
+            rw ((Decides-eqb q.row p.row).1 row, bit) (sym (ap (cell_at g) same ∙ free)))
+      ]
+    ]

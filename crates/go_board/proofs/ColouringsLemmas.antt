@@ -1,16 +1,17 @@
 -- Past colourings, as what is kept of them tells them.
-use Rattle.std.proofs.Common.{◌≡◌, ◌==◌, ℕ, zero, suc, ◌+◌, ◌-◌, ◌<◌, ◌≤◌, List, [], ◌∷◌, ◌++◌, Some, false, length, get_or, map, take, drop, reverse, slice_range, refl, sym, ap, subst, ◌∙◌, arith, length-take, length-append, IsTrue}
-use Rattle.std.proofs.lemmas.List.{take_more, drop-drop, take-take, reverse-append}
-use Rattle.std.proofs.lemmas.List.Elements.{All-take, All-push}
+use Rattle.std.proofs.Common.{◌≡◌, ◌==◌, ℕ, zero, suc, ◌+◌, ◌-◌, ◌<◌, ◌≤◌, inl, inr, List, [], ◌∷◌, ◌++◌, Some, Bool, true, false, cond, length, get_or, map, take, drop, reverse, slice_range, refl, sym, ap, subst, ◌∙◌, arith, length-take, length-append, IsTrue}
+use Rattle.std.proofs.lemmas.List.{take_more, take_all, take_at, drop_at, drop-drop, take-take, reverse-append, length-reverse}
+use Rattle.std.proofs.lemmas.List.Elements.{All-take, All-append}
+use Rattle.std.proofs.lemmas.Bool.{cases_lt}
 use Rattle.std.proofs.lemmas.Bool.Decides.{nat_tests}
 use Rattle.std.proofs.lemmas.Slice.{between_is}
 use Rattle.go_board.specs.declared.past.changes.Change.{Change}
 use Rattle.go_board.specs.declared.past.changes.Older.{Older}
 use Rattle.go_board.specs.Grid.{Grid}
 use Rattle.go_board.specs.Clearing.{has_unreaching}
-use Rattle.go_board.specs.Past.{Held, newest, present_stretch}
-use Rattle.go_board.specs.inner.Changes.{after_changes, with_change, IsChangeOn, before, changes_before, held_before, AreKept, AreCounted, AreOn, IsPast}
-use Rattle.go_board.proofs.ChangesLemmas.{after-side, last-back, last-front}
+use Rattle.go_board.specs.Past.{Held, PastColourings, all_of, stretch_of, with_next}
+use Rattle.go_board.specs.inner.Changes.{first_grid, after_changes, is_full, IsEndOf, IsChangeOn, MakeOne, before, changes_before, held_before, AreKept, AreCounted, AreOn, IsPast}
+use Rattle.go_board.proofs.ChangesLemmas.{after-side}
 
 -- a stretch has no more older colourings than there are
 pub counted-le : (older_in_stretch : ℕ) (os : List Older) → AreCounted older_in_stretch os → older_in_stretch ≤ length os
@@ -24,12 +25,17 @@ pub length-held : (g : Grid) (os : List Older) (changes : List Change) → lengt
 length-held g [] changes = refl
 length-held g (o ∷ os) changes = ap suc (length-held (before g o changes) os (changes_before o changes))
 
--- the colourings, newest first
+-- the colourings
+abbrev pub past_held : Grid → ℕ → List Older → List Change → PastColourings
+past_held g older_in_stretch os changes =
+    record { newest = record { colouring = g; begins = older_in_stretch == 0 }; older = held_before g os changes }
+
+-- the same as a list, newest first
 abbrev pub all_held : Grid → ℕ → List Older → List Change → List Held
-all_held g older_in_stretch os changes = record { colouring = g; begins = older_in_stretch == 0 } ∷ held_before g os changes
+all_held g older_in_stretch os changes = all_of (past_held g older_in_stretch os changes)
 
 -- the present stretch is the newest colouring and as many older ones as are counted
-pub stretch-is : (g : Grid) (older_in_stretch : ℕ) (os : List Older) (changes : List Change) → AreCounted older_in_stretch os → present_stretch (all_held g older_in_stretch os changes) ≡ map (λ (h : Held). h.colouring) (take (suc older_in_stretch) (all_held g older_in_stretch os changes))
+pub stretch-is : (g : Grid) (older_in_stretch : ℕ) (os : List Older) (changes : List Change) → AreCounted older_in_stretch os → stretch_of (all_held g older_in_stretch os changes) ≡ map (λ (h : Held). h.colouring) (take (suc older_in_stretch) (all_held g older_in_stretch os changes))
 stretch-is g zero os changes h = refl
 stretch-is g (suc n) [] changes h = absurd (omega arith)
 stretch-is g (suc n) (o ∷ os) changes h =
@@ -47,88 +53,137 @@ past-pop g older_in_stretch older older' o changes parts past =
     let turned : reverse older ≡ o ∷ reverse older' = ap reverse parts ∙ reverse-append older' (o ∷ []) in
     let kept = subst (λ (os : List Older). AreKept g os changes) turned past.kept in
     let counted = subst (λ (os : List Older). AreCounted older_in_stretch os) turned past.counted in
-    let side : (before g o changes).side ≡ g.side = after-side g (drop (length changes - o.changes) changes) in
+    let side : (before g o changes).side ≡ g.side = after-side g (drop o.start changes) in
     record {
-      kept = kept.2;
+      kept = kept.3;
       counted = counted.1;
-      on_grid = rw side (All-take (IsChangeOn g.side) (length changes - o.changes) changes past.on_grid);
+      on_grid = rw side (All-take (IsChangeOn g.side) o.start changes past.on_grid);
     }
 
--- one colouring more, from which the newest changes lead back
-pub past-more : (g h : Grid) (older_in_stretch next : ℕ) (older : List Older) (o : Older) (old new : List Change) → (0 < next → next ≡ older_in_stretch + 1) → o.older_in_stretch ≡ older_in_stretch → o.changes ≤ length new → before h o new ≡ g → changes_before o new ≡ old → IsPast g older_in_stretch older old → (IsTrue o.settled → has_unreaching g ≡ false) → AreOn h.side new → IsPast h next (older ++ o ∷ []) new
-past-more g h older_in_stretch next older o old new follows same few before_is rest_is past settled on =
-    let turned : reverse (older ++ o ∷ []) ≡ o ∷ reverse older = reverse-append older (o ∷ []) in
-    record {
-      kept = rw turned (few, λ is. ap has_unreaching before_is ∙ settled is, rw (before_is, rest_is) past.kept);
-      counted = rw turned ((λ more. omega (arith, follows more, same)), rw same past.counted);
-      on_grid = on;
-    }
-
--- one colouring more, from which one change leads back
-module _ (g h : Grid) (older_in_stretch next : ℕ) (older : List Older) (o : Older) (changes : List Change) (c : Change) (follows : next ≡ older_in_stretch + 1) (back : with_change h c ≡ g) (one : o.changes ≡ 1) (same : o.older_in_stretch ≡ older_in_stretch) where
-  abbrev all : List Change
-  all = changes ++ c ∷ []
-
-  before_is : before h o all ≡ g
-  before_is = ap (λ n. after_changes h (drop (length all - n) all)) one ∙ last-back h changes c ∙ back
+-- one colouring more
+module _ (g h : Grid) (older_in_stretch next : ℕ) (older : List Older) (o : Older) (changes more all : List Change) (begins : Bool) (follows : next ≡ cond begins 0 (older_in_stretch + 1)) (same : o.older_in_stretch ≡ older_in_stretch) (start : o.start ≡ length changes) (added : all ≡ changes ++ more) (back : after_changes h more ≡ g) where
+  newest_are : drop o.start all ≡ more
+  newest_are = ap (λ xs. drop o.start xs) added ∙ drop_at changes more o.start (sym start)
 
   rest_is : changes_before o all ≡ changes
-  rest_is = ap (λ n. take (length all - n) all) one ∙ last-front changes c
+  rest_is = ap (λ xs. take o.start xs) added ∙ take_at changes more o.start (sym start)
+
+  before_is : before h o all ≡ g
+  before_is = ap (after_changes h) newest_are ∙ back
 
   turned : reverse (older ++ o ∷ []) ≡ o ∷ reverse older
   turned = reverse-append older (o ∷ [])
 
-  pub past-push : IsPast g older_in_stretch older changes → (IsTrue o.settled → has_unreaching g ≡ false) → IsChangeOn h.side c → h.side ≡ g.side → IsPast h next (older ++ o ∷ []) all
-  past-push past settled on side = record {
-    kept = rw turned (omega (arith, one, length-append changes (c ∷ [])), λ is. ap has_unreaching before_is ∙ settled is, rw (before_is, rest_is) past.kept);
-    counted = rw turned ((λ _. omega (arith, follows, same)), rw same past.counted);
-    on_grid = All-push (IsChangeOn h.side) changes c (rw side past.on_grid) on;
+  pub past-push : IsPast g older_in_stretch older changes → (IsTrue o.settled → has_unreaching g ≡ false) → (IsTrue (is_full (length older)) → MakeOne g more) → AreOn h.side changes → AreOn h.side more → IsPast h next (older ++ o ∷ []) all
+  past-push past settled full on on_more = record {
+    kept = rw turned (
+      omega (arith, start, ap (λ (xs : List Change). length xs) added, length-append changes more),
+      λ is. ap has_unreaching before_is ∙ settled is,
+      λ is. rw (before_is, newest_are) (full (rw (length-reverse older) at is)),
+      rw (before_is, rest_is) past.kept,
+    );
+    counted = rw turned ((λ some. counted_on begins follows some), rw same past.counted);
+    on_grid = rw added (All-append (IsChangeOn h.side) changes more on on_more);
   }
+    where
+      counted_on : (b : Bool) → next ≡ cond b 0 (older_in_stretch + 1) → 0 < next → next ≡ suc o.older_in_stretch
+      counted_on true e some = absurd (omega (arith, e, some))
+      counted_on false e some = omega (arith, e, same)
 
-  pub held-push : all_held h next (reverse (older ++ o ∷ [])) all ≡ record { colouring = h; begins = false } ∷ all_held g older_in_stretch (reverse older) changes
-  held-push =
-      let goes_on : (next == 0) ≡ false = grind (arith, nat_tests) in
-      rw (turned, goes_on, before_is, rest_is, same) refl
+  pub held-push : past_held h next (reverse (older ++ o ∷ [])) all ≡ with_next (past_held g older_in_stretch (reverse older) changes) h begins
+  held-push = rw (turned, begins_is begins follows, before_is, rest_is, same) refl
+    where
+      begins_is : (b : Bool) → next ≡ cond b 0 (older_in_stretch + 1) → (next == 0) ≡ b
+      begins_is true e = rw e refl
+      begins_is false e = rw e (grind (arith, nat_tests))
 
 -- going back by one colouring
 turned-take : (older : List Older) (i : ℕ) (d : Older) → i < length older → reverse (take (i + 1) older) ≡ get_or older i d ∷ reverse (take i older)
 turned-take older i d h = ap reverse (take_more older i d h) ∙ reverse-append (take i older) (get_or older i d ∷ [])
 
-module _ (held : List Held) (older : List Older) (changes : List Change) (board : Grid) (n end : ℕ) (d : Older) (is_one : n < length older) (within : end ≤ length changes) (earlier : drop (length older - (n + 1) + 1) held ≡ held_before board (reverse (take (n + 1) older)) (take end changes)) (kept : AreKept board (reverse (take (n + 1) older)) (take end changes)) where
+-- that is the colouring of a number, and what is kept of the ones before it
+pub record IsThere (held : List Held) (older : List Older) (changes : List Change) (number end : ℕ) (grid : Grid) : Type 0 where
+  pub there : first_grid (drop (length older - number) held) ≡ Some grid
+  pub earlier : drop (length older - number + 1) held ≡ held_before grid (reverse (take number older)) (take end changes)
+  pub kept : AreKept grid (reverse (take number older)) (take end changes)
+  pub within : end ≤ length changes
+
+module _ (held : List Held) (older : List Older) (changes : List Change) (n end : ℕ) (board : Grid) (d : Older) (is_one : n < length older) (at : IsThere held older changes (n + 1) end board) where
   abbrev one : Older
   one = get_or older n d
 
-  -- the board once the changes of that colouring are taken back
-  abbrev pub board_before : Grid
-  board_before = after_changes board (slice_range changes (end - one.changes) end)
+  abbrev pub newest_changes : List Change
+  newest_changes = slice_range changes one.start end
 
-  same_board : before board one (take end changes) ≡ board_before
-  same_board =
-      let count : length (take end changes) ≡ end = length-take end changes ∙ omega arith in
-      ap (λ k. after_changes board (drop (k - one.changes) (take end changes))) count
-      ∙ ap (after_changes board) (sym (between_is changes (end - one.changes) end))
+  same_newest : drop one.start (take end changes) ≡ newest_changes
+  same_newest = sym (between_is changes one.start end)
 
-  same_changes : changes_before one (take end changes) ≡ take (end - one.changes) changes
-  same_changes =
-      let count : length (take end changes) ≡ end = length-take end changes ∙ omega arith in
-      ap (λ k. take (k - one.changes) (take end changes)) count ∙ take-take (end - one.changes) end changes (omega arith)
+  parts : AreKept board (get_or older n d ∷ reverse (take n older)) (take end changes)
+  parts = subst (λ (os : List Older). AreKept board os (take end changes)) (turned-take older n d is_one) at.kept
 
-  whole : drop (length older - n) held ≡ record { colouring = board_before; begins = one.older_in_stretch == 0 } ∷ held_before board_before (reverse (take n older)) (take (end - one.changes) changes)
-  whole =
-      let count : length older - n ≡ length older - (n + 1) + 1 = omega arith in
-      ap (λ k. drop k held) count ∙ earlier
-      ∙ ap (λ os. held_before board os (take end changes)) (turned-take older n d is_one)
-      ∙ ap (λ (b : Grid). record { colouring = b; begins = one.older_in_stretch == 0 } ∷ held_before b (reverse (take n older)) (changes_before one (take end changes))) same_board
-      ∙ ap (λ cs. record { colouring = board_before; begins = one.older_in_stretch == 0 } ∷ held_before board_before (reverse (take n older)) cs) same_changes
+  pub start-within : one.start ≤ end
+  start-within = omega (arith, parts.0, length-take end changes)
 
-  pub there-back : newest (drop (length older - n) held) ≡ Some board_before
-  there-back = ap newest whole
+  same_rest : changes_before one (take end changes) ≡ take one.start changes
+  same_rest = take-take one.start end changes start-within
 
-  pub earlier-back : drop (length older - n + 1) held ≡ held_before board_before (reverse (take n older)) (take (end - one.changes) changes)
-  earlier-back = sym (drop-drop 1 (length older - n) held) ∙ ap (λ (hs : List Held). drop 1 hs) whole
+  -- the changes lead to the colouring before it, those of a full step from any colouring
+  pub full-back : IsTrue (is_full n) → MakeOne (after_changes board newest_changes) newest_changes
+  full-back is =
+      let count : length (reverse (take n older)) ≡ n = length-reverse (take n older) ∙ length-take n older ∙ omega arith in
+      subst (λ (cs : List Change). MakeOne (after_changes board cs) cs) same_newest (parts.2 (rw count is))
 
-  pub kept-back : AreKept board_before (reverse (take n older)) (take (end - one.changes) changes)
-  kept-back =
-      let rest = subst (λ (os : List Older). AreKept board os (take end changes)) (turned-take older n d is_one) kept in
-      let on_board = subst (λ (b : Grid). AreKept b (reverse (take n older)) (changes_before one (take end changes))) same_board rest.2 in
-      subst (λ (cs : List Change). AreKept board_before (reverse (take n older)) cs) same_changes on_board
+  pub there-back : IsThere held older changes n one.start (after_changes board newest_changes)
+  there-back = record {
+    there = ap first_grid whole;
+    earlier = sym (drop-drop 1 (length older - n) held) ∙ ap (λ (hs : List Held). drop 1 hs) whole;
+    kept = subst (λ (b : Grid). AreKept b (reverse (take n older)) (take one.start changes)) (ap (after_changes board) same_newest)
+        (subst (λ (cs : List Change). AreKept (before board one (take end changes)) (reverse (take n older)) cs) same_rest parts.3);
+    within = omega (arith, start-within, at.within);
+  }
+    where
+      whole : drop (length older - n) held ≡ record { colouring = after_changes board newest_changes; begins = one.older_in_stretch == 0 } ∷ held_before (after_changes board newest_changes) (reverse (take n older)) (take one.start changes)
+      whole =
+          let count : length older - n ≡ length older - (n + 1) + 1 = omega arith in
+          ap (λ k. drop k held) count ∙ at.earlier
+          ∙ ap (λ os. held_before board os (take end changes)) (turned-take older n d is_one)
+          ∙ ap (λ (b : Grid). record { colouring = b; begins = one.older_in_stretch == 0 } ∷ held_before b (reverse (take n older)) (changes_before one (take end changes))) (ap (after_changes board) same_newest)
+          ∙ ap (λ cs. record { colouring = after_changes board newest_changes; begins = one.older_in_stretch == 0 } ∷ held_before (after_changes board newest_changes) (reverse (take n older)) cs) same_rest
+
+-- the newest one is there
+pub there-newest : (g : Grid) (older_in_stretch : ℕ) (older : List Older) (changes : List Change) (number end : ℕ) → number ≡ length older → end ≡ length changes → AreKept g (reverse older) changes → IsThere (all_held g older_in_stretch (reverse older) changes) older changes number end g
+there-newest g older_in_stretch older changes number end is is_end kept =
+    let none : length older - number ≡ 0 = omega arith in
+    let whole : take number older ≡ older = take_all number older (omega arith) in
+    let all_changes : take end changes ≡ changes = take_all end changes (omega arith) in
+    record {
+      there = rw none refl;
+      earlier = rw (none, whole, all_changes) refl;
+      kept = rw (whole, all_changes) kept;
+      within = omega arith;
+    }
+
+-- and so each older one is: so many numbers below the newest
+pub there-all : (held : List Held) (older : List Older) (changes : List Change) (newest : Grid) → IsThere held older changes (length older) (length changes) newest → (less number : ℕ) (d : Older) → number + suc less ≡ length older → (g : Grid) × (g.side ≡ newest.side) × IsThere held older changes number (get_or older number d).start g
+there-all held older changes newest at zero number d is =
+    let below : number < length older = omega arith in
+    let next : length older ≡ number + 1 = omega arith in
+    let from = subst (λ n. IsThere held older changes n (length changes) newest) next at in
+    (_, after-side newest (slice_range changes (get_or older number d).start (length changes)), there-back held older changes number (length changes) newest d below from)
+there-all held older changes newest at (suc less) number d is =
+    let below : number < length older = omega arith in
+    let upper = there-all held older changes newest at less (number + 1) d (omega arith) in
+    (_, after-side upper.0 (slice_range changes (get_or older number d).start (get_or older (number + 1) d).start) ∙ upper.1, there-back held older changes number (get_or older (number + 1) d).start upper.0 d below upper.2)
+
+-- so from the number at which a walk back begins, the colouring of that number is there
+pub there-from : (newest : Grid) (older_in_stretch : ℕ) (older : List Older) (changes : List Change) (held : List Held) → all_held newest older_in_stretch (reverse older) changes ≡ held → AreKept newest (reverse older) changes → (number end count : ℕ) → number ≤ length older → count ≡ length changes → IsEndOf older count number end
+    → (g : Grid) × (g.side ≡ newest.side) × IsThere held older changes number end g × (number ≡ length older → g ≡ newest)
+there-from newest older_in_stretch older changes held same kept number end count le is_count ends =
+    let one : Older = record { start = 0; older_in_stretch = 0; settled = false } in
+    elim (cases_lt number (length older)) [
+      | inr ge ↦ (let is : number ≡ length older = omega arith in
+          (newest, refl, subst (λ (hs : List Held). IsThere hs older changes number end newest) same (there-newest newest older_in_stretch older changes number end is (ends.0 is ∙ is_count) kept), λ _. refl))
+      | inl lt ↦ (let at = subst (λ (hs : List Held). IsThere hs older changes (length older) (length changes) newest) same (there-newest newest older_in_stretch older changes (length older) (length changes) refl refl kept) in
+          let up = there-all held older changes newest at (length older - number - 1) number one (omega arith) in
+          (up.0, up.1, subst (λ e. IsThere held older changes number e up.0) (sym (ends.1 one lt)) up.2, λ is. absurd (omega (arith, lt, is))))
+    ]

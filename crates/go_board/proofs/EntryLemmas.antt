@@ -6,7 +6,7 @@ use Rattle.std.proofs.lemmas.Slice.{between_is, between_to_end}
 use Rattle.std.proofs.Math.Nat.{mul-le-mul_right}
 use Rattle.go_board.specs.declared.stones.Cell.{Cell}
 use Rattle.go_board.specs.Grid.{Grid}
-use Rattle.go_board.specs.Past.{Held, present_stretch}
+use Rattle.go_board.specs.Past.{Held, PastColourings, stretch_of, present_stretch, with_next}
 use Rattle.go_board.specs.inner.Entries.{entry, entries}
 
 -- a list has its first element, what the rest has, and nothing else
@@ -36,7 +36,7 @@ with_cells side cells = record { side = side; cells = cells }
 -- the stretch of the first n colourings has the one of those cells
 abbrev pub Has : ℕ → List Cell → List Bool → List Cell → ℕ → Type 0
 Has side all flags cells n =
-    Contains (present_stretch (entries side all flags n)) (record { side = side; cells = cells })
+    Contains (stretch_of (entries side all flags n)) (record { side = side; cells = cells })
 
 module _ (side points : ℕ) (square : points ≡ side * side) (all : List Cell) (flags : List Bool) (cells : List Cell) where
   -- the cells of the colouring at index n
@@ -91,14 +91,19 @@ module _ (side : ℕ) (cells new : List Cell) (flags : List Bool) (b : Bool) (fi
       let flag_new : slice_index_or (flags ++ b ∷ []) (length flags) false ≡ b = get_or_at flags b [] false (length flags) refl in
       rw (count, cells_new, flag_new, entries-more (length flags) (omega arith)) refl
 
--- the newest colouring stands apart; once another is the newest, it stands after the others
-pub held-add : (newest added : Grid) (flag begins : Bool) (cells cells' : List Cell) (flags flags' : List Bool) → length cells ≡ length flags * (newest.side * newest.side) → length newest.cells ≡ newest.side * newest.side → newest.side ≡ added.side → cells' ≡ cells ++ newest.cells → flags' ≡ flags ++ flag ∷ [] → ◌≡◌ {A = List Held} (record { colouring = added; begins = begins } ∷ entries added.side cells' flags' (length flags')) (record { colouring = added; begins = begins } ∷ (record { colouring = newest; begins = flag } ∷ entries newest.side cells flags (length flags)))
-held-add newest added flag begins cells cells' flags flags' fits square same more_cells more_flags =
+-- the newest colouring stands apart
+abbrev pub past_apart : Grid → Bool → List Cell → List Bool → PastColourings
+past_apart newest begins cells flags =
+    record { newest = record { colouring = newest; begins = begins }; older = entries newest.side cells flags (length flags) }
+
+-- once another is the newest, it stands after the others
+pub past-add : (newest added : Grid) (flag begins : Bool) (cells cells' : List Cell) (flags flags' : List Bool) → length cells ≡ length flags * (newest.side * newest.side) → length newest.cells ≡ newest.side * newest.side → newest.side ≡ added.side → cells' ≡ cells ++ newest.cells → flags' ≡ flags ++ flag ∷ [] → past_apart added begins cells' flags' ≡ with_next (past_apart newest flag cells flags) added begins
+past-add newest added flag begins cells cells' flags flags' fits square same more_cells more_flags =
     let others : ◌≡◌ {A = List Held} (entries added.side cells' flags' (length flags')) (record { colouring = newest; begins = flag } ∷ entries newest.side cells flags (length flags)) = rw (← same, more_cells, more_flags) (entries-push newest.side cells newest.cells flags flag fits square) in
-    ap (λ (hs : List Held). record { colouring = added; begins = begins } ∷ hs) others
+    ap (λ (hs : List Held). record { newest = record { colouring = added; begins = begins }; older = hs }) others
 
 -- once the newest one is taken away, the last of the others is the newest
-pub held-pop : (side kept : ℕ) (flag : Bool) (cells cells' : List Cell) (flags flags' : List Bool) → length cells ≡ length flags * (side * side) → kept ≡ length cells - side * side → cells' ≡ take kept cells → flags ≡ flags' ++ flag ∷ [] → record { colouring = record { side = side; cells = take (length cells - kept) (drop kept cells) }; begins = flag } ∷ entries side cells' flags' (length flags') ≡ entries side cells flags (length flags)
+pub held-pop : (side kept : ℕ) (flag : Bool) (cells cells' : List Cell) (flags flags' : List Bool) → length cells ≡ length flags * (side * side) → kept ≡ length cells - side * side → cells' ≡ take kept cells → flags ≡ flags' ++ flag ∷ [] → entries side cells flags (length flags) ≡ record { colouring = record { side = side; cells = take (length cells - kept) (drop kept cells) }; begins = flag } ∷ entries side cells' flags' (length flags')
 held-pop side kept flag cells cells' flags flags' fits is_kept less_cells less_flags =
     let count : length flags ≡ length flags' + 1 = rw less_flags (length-append flags' (flag ∷ [])) in
     let whole : length cells ≡ length flags' * (side * side) + side * side = rw (fits, count) (omega arith) in
@@ -108,11 +113,11 @@ held-pop side kept flag cells cells' flags flags' fits is_kept less_cells less_f
     let last : take (length cells - kept) (drop kept cells) ≡ drop kept cells = between_to_end cells kept (length cells) (omega arith) in
     let joined : cells ≡ cells' ++ drop kept cells = rw less_cells (sym (take-append-drop kept cells)) in
     rw last
-    (sym (subst (λ (cs : List Cell). entries side cs flags (length flags) ≡ record { colouring = record { side = side; cells = drop kept cells }; begins = flag } ∷ entries side cells' flags' (length flags')) (sym joined)
-    (rw less_flags (entries-push side cells' (drop kept cells) flags' flag front back))))
+    (subst (λ (cs : List Cell). entries side cs flags (length flags) ≡ record { colouring = record { side = side; cells = drop kept cells }; begins = flag } ∷ entries side cells' flags' (length flags')) (sym joined)
+    (rw less_flags (entries-push side cells' (drop kept cells) flags' flag front back)))
 
 -- the stretch has a colouring that isn't the newest exactly where it goes on and the others have it
-pub held-has : (r : Bool) (newest grid : Grid) (begins : Bool) (cells : List Cell) (flags : List Bool) → newest.side ≡ grid.side → begins ≡ false → newest ≢ grid → (IsTrue r ↔ Has newest.side cells flags grid.cells (length flags)) → IsTrue r ↔ Contains (present_stretch (record { colouring = newest; begins = begins } ∷ entries newest.side cells flags (length flags))) grid
+pub held-has : (r : Bool) (newest grid : Grid) (begins : Bool) (cells : List Cell) (flags : List Bool) → newest.side ≡ grid.side → begins ≡ false → newest ≢ grid → (IsTrue r ↔ Has newest.side cells flags grid.cells (length flags)) → IsTrue r ↔ Contains (present_stretch (past_apart newest begins cells flags)) grid
 held-has r newest grid begins cells flags same on other has =
     let whole : record { side = newest.side; cells = grid.cells } ≡ grid = ap (λ s. record { side = s; cells = grid.cells }) same in
     let others = rw whole at has in

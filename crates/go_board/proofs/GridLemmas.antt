@@ -1,8 +1,7 @@
 -- Reading the grids and markings that functions of the points make, and grids after a point was set.
-use Rattle.std.proofs.Common.{◌≡◌, ◌≢◌, ◌==◌, ℕ, ◌*◌, ◌<◌, Bool, false, List, length, get_or, refl, sym, ap, ◌∙◌, Decides, replicate, zero, suc}
-use Rattle.std.proofs.lemmas.List.{get_or_default, length-map, get_or-set_same, get_or-set_other}
-use Rattle.std.proofs.lemmas.Bool.{false≢true}
-use Rattle.std.proofs.lemmas.Bool.Decides.{Decides-eqb, same_from_decides}
+use Rattle.std.proofs.Common.{◌≡◌, ◌≢◌, ℕ, ◌*◌, ◌<◌, Bool, false, length, get_or, refl, ap, ◌∙◌, Decides, replicate, zero, suc}
+use Rattle.std.proofs.lemmas.List.{length-map, get_or-set_same, get_or-set_other}
+use Rattle.std.proofs.lemmas.Bool.Decides.{same_from_decides}
 use denote.Enum.Bare.{sameb}
 use Rattle.go_board.specs.contracts.stones.Cell.{the_type}
 use Rattle.go_board.specs.declared.stones.Cell.{Cell}
@@ -37,11 +36,6 @@ Decides-cell_eq White Empty = (λ h. cc, λ h. cc)
 Decides-cell_eq Empty Black = (λ h. cc, λ h. cc)
 Decides-cell_eq Empty White = (λ h. cc, λ h. cc)
 
--- a cell of a list as long as the grid, read with any default
-pub cell_at-index : (g : Grid) (cells : List Cell) (i : ℕ) (d : Cell) (p : Point) → cells ≡ g.cells → i < length cells → index_of g.side p ≡ i → get_or cells i d ≡ cell_at g p
-cell_at-index g cells i d p same within at =
-    get_or_default cells i d Empty within ∙ ap (λ l. get_or l i Empty) same ∙ ap (λ j. get_or g.cells j Empty) (sym at)
-
 -- `==` on two cells is the test of the definitions
 pub same_cell-eq : (a b : Cell) → sameb the_type a b ≡ same_cell a b
 same_cell-eq a b = same_from_decides _ _ (Decides-cell_eq a b) (Decides-same_cell a b)
@@ -49,18 +43,6 @@ same_cell-eq a b = same_from_decides _ _ (Decides-cell_eq a b) (Decides-same_cel
 -- grids with one side and the same cells are one
 pub one_grid : (a b : Grid) → a.side ≡ b.side → a.cells ≡ b.cells → a ≡ b
 one_grid a b e f = ap (λ s. record { side = s; cells = a.cells }) e ∙ ap (λ l. record { side = b.side; cells = l }) f
-
--- two grids with the same cells are one where a test finds their sides equal
-pub Decides-same_side : (a b : Grid) (m n : ℕ) (r : Bool) → m ≡ a.side → n ≡ b.side → a.cells ≡ b.cells → r ≡ (m == n) → Decides r (a ≡ b)
-Decides-same_side a b m n r is_a is_b cells is = (
-  λ e. one_grid a b (sym is_a ∙ (Decides-eqb m n).0 (sym is ∙ e) ∙ is_b) cells,
-  λ e. is ∙ (Decides-eqb m n).1 (is_a ∙ ap (λ g. g.side) e ∙ sym is_b),
-)
-
--- two grids with other cells are two
-pub Decides-other_cells : (a b : Grid) (xs ys : List Cell) (r : Bool) → xs ≡ a.cells → ys ≡ b.cells → r ≡ false → Decides r (xs ≡ ys) → Decides r (a ≡ b)
-Decides-other_cells a b xs ys r is_a is_b other d =
-    (λ e. absurd (false≢true (sym other ∙ e)), λ e. d.1 (is_a ∙ ap (λ g. g.cells) e ∙ sym is_b))
 
 pub cell_at-grid_of : (side : ℕ) (colour : Point → Cell) (p : Point) → IsOn side p → cell_at (grid_of side colour) p ≡ colour p
 cell_at-grid_of side colour p h = get_or-map-points colour side p Empty h

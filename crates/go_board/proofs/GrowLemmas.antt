@@ -1,14 +1,13 @@
--- Sets of points as rows of words: one row grown, and the rows grown in turn.
-use Rattle.std.proofs.Common.{◌≡◌, ◌≢◌, inl, inr, ℕ, zero, suc, ◌+◌, ◌-◌, ◌^◌, ◌<◌, ◌≤◌, ◌||◌, Bool, true, List, length, get_or, set, bit_and, bit_or, refl, sym, ap, ◌∙◌, arith, subst, slice_index}
+-- Sets of points as rows of words: one row grown.
+use Rattle.std.proofs.Common.{◌≡◌, ◌≢◌, inl, inr, ℕ, zero, suc, ◌+◌, ◌-◌, ◌^◌, ◌<◌, ◌≤◌, ◌||◌, Bool, true, List, length, get_or, set, bit_and, bit_or, refl, sym, ap, ◌∙◌, arith, slice_index}
 use Rattle.std.proofs.lemmas.Bool.{or_cases, or_left, or_right, and_parts, and_from, false≢true, cases_lt, cases_eq}
 use Rattle.std.proofs.lemmas.List.{get_or-set_same, get_or-set_other}
 use Rattle.std.proofs.Math.ListN.{get_or-eq_default}
-use Rattle.std.proofs.Math.Numerals.{add-one}
 use Rattle.std.proofs.lemmas.List.Sums.{sum_by-set}
 use Rattle.go_board.specs.declared.points.Point.{Point}
 use Rattle.go_board.specs.Point.{DifferByOne}
-use Rattle.go_board.specs.inner.Rows.{has_bit, is_set, row_above, IsPart, HasBeside, AreWide, IsTaken, TakeAbove, TakeBelow, IsAmong, IsClosed, IsRowClosed, Grows, lacking}
-use Rattle.go_board.proofs.WordLemmas.{has_bit-or, has_bit-and, has_bit-zero, le_from_part}
+use Rattle.go_board.specs.inner.Rows.{has_bit, is_set, row_above, IsPart, HasBeside, IsAmong, IsClosed, IsRowClosed, Grows, lacking}
+use Rattle.go_board.proofs.WordLemmas.{has_bit-or, has_bit-and, has_bit-zero}
 
 -- a point that is set has a row
 pub row_below : (rows : List ℕ) (p : Point) → is_set rows p ≡ true → p.row < length rows
@@ -38,72 +37,6 @@ above_at rows zero col q next at is = absurd (omega arith)
 above_at rows (suc r) col q next at is =
     let below : r ≡ q.row = omega arith in ap (λ k. has_bit (get_or rows k 0) col) below ∙ ap (has_bit (get_or rows q.row 0)) (sym at) ∙ is
 
--- a row that is closed is wide, and takes what stands above it
-wide_closed : (room rows : List ℕ) (row : ℕ) → IsRowClosed (is_set room) (is_set rows) row → HasBeside (has_bit (slice_index room row)) (has_bit (slice_index rows row))
-wide_closed room rows row closed =
-    λ col d differ there is. closed (record { col = col; row = row }) (record { col = d; row = row }) refl (inr (refl, differ)) there is
-
-pub taken_closed : (room rows : List ℕ) (row : ℕ) → IsRowClosed (is_set room) (is_set rows) row → IsTaken room rows row (row_above rows row)
-taken_closed room rows zero closed = λ col there is. absurd (false≢true (sym (has_bit-zero col) ∙ is))
-taken_closed room rows (suc r) closed =
-    λ col there is. closed (record { col = col; row = suc r }) (record { col = col; row = r }) refl (inl (refl, inr (omega arith))) there is
-
--- one row more is wide
-pub wide_more : (room rows next : List ℕ) (row : ℕ) → ((k : ℕ) → k < row → HasBeside (has_bit (slice_index room k)) (has_bit (slice_index rows k))) → IsRowClosed (is_set room) (is_set next) row → ((k : ℕ) → k ≢ row → slice_index next k ≡ slice_index rows k) → (k : ℕ) → k < row + 1 → HasBeside (has_bit (slice_index room k)) (has_bit (slice_index next k))
-wide_more room rows next row wide closed others k below =
-    elim (cases_eq k row) [
-      | inl same ↦ subst (λ r. HasBeside (has_bit (slice_index room r)) (has_bit (slice_index next r))) (sym same) (wide_closed room next row closed)
-      | inr other ↦ subst (λ w. HasBeside (has_bit (slice_index room k)) (has_bit w)) (sym (others k other)) (wide k (omega (arith, below, other)))
-    ]
-
--- where one row alone changes, those above it stand as before
-pub row_above-same : (rows next : List ℕ) (row k : ℕ) → ((j : ℕ) → j ≢ row → slice_index next j ≡ slice_index rows j) → k ≤ row → row_above next k ≡ row_above rows k
-row_above-same rows next row zero others low = refl
-row_above-same rows next row (suc j) others low = others j (λ e. omega arith)
-
-pub row_above-next : (rows : List ℕ) (row : ℕ) → get_or rows row 0 ≡ row_above rows (row + 1)
-row_above-next rows row = sym (ap (row_above rows) (add-one row))
-
--- one row more takes what stands above it
-pub above_more : (room rows next : List ℕ) (row : ℕ) → TakeAbove room rows row → ((k : ℕ) → k ≢ row → slice_index next k ≡ slice_index rows k) → IsTaken room next row (row_above next row) → TakeAbove room next (row + 1)
-above_more room rows next row before others taken k below =
-    elim (cases_eq k row) [
-      | inl same ↦ subst (λ r. IsTaken room next r (row_above next r)) (sym same) taken
-      | inr other ↦ λ col there is.
-          ap (λ w. has_bit w col) (others k other)
-          ∙ before k (omega (arith, below, other)) col there (ap (λ w. has_bit w col) (sym (row_above-same rows next row k others (omega (arith, below, other)))) ∙ is)
-    ]
-
--- one row more takes what stands below it
-pub below_more : (room rows next : List ℕ) (row : ℕ) → length next ≡ length rows → TakeBelow room rows (row + 1) → ((k : ℕ) → k ≢ row → slice_index next k ≡ slice_index rows k) → IsTaken room next row (slice_index next (row + 1)) → TakeBelow room next row
-below_more room rows next row long before others taken k start within =
-    elim (cases_eq k row) [
-      | inl same ↦ subst (λ r. IsTaken room next r (slice_index next (r + 1))) (sym same) taken
-      | inr other ↦ λ col there is.
-          ap (λ w. has_bit w col) (others k other)
-          ∙ before k (omega (arith, start, other)) (omega (arith, within, long)) col there (ap (λ w. has_bit w col) (sym (others (k + 1) (λ e. omega (arith, e, start)))) ∙ is)
-    ]
-
--- wide rows that take what stands above and below them are closed
-pub IsClosed-taken : (room rows : List ℕ) → length rows ≡ length room → AreWide room rows → TakeAbove room rows (length rows) → TakeBelow room rows 0 → IsClosed (is_set room) (is_set rows)
-IsClosed-taken room rows long wide up down =
-    λ p q adjacent there is.
-    let below : p.row < length rows = rw long (row_below room p there) in
-    elim adjacent [
-      | inl (cols, inl next) ↦
-          down p.row (omega arith) below p.col there
-          (ap (λ r. has_bit (get_or rows r 0) p.col) next ∙ ap (has_bit (get_or rows q.row 0)) cols ∙ is)
-      | inl (cols, inr next) ↦ up p.row below p.col there (above_at rows p.row p.col q next (sym cols) is)
-      | inr (line, differ) ↦ wide p.row below p.col q.col differ there (ap (λ r. has_bit (get_or rows r 0) q.col) line ∙ is)
-    ]
-
--- a part of a union
-pub part_first : (a b : ℕ) → IsPart (has_bit a) (has_bit (bit_or a b))
-part_first a b = λ col is. has_bit-or a b col ∙ or_left _ _ is
-
-pub part_second : (a b : ℕ) → IsPart (has_bit b) (has_bit (bit_or a b))
-part_second a b = λ col is. has_bit-or a b col ∙ or_right _ _ is
-
 -- what a row may grow from: its own bits and those around it, where there is room
 abbrev pub seed_of : List ℕ → List ℕ → ℕ → ℕ → ℕ
 seed_of rows room row beside = bit_and (bit_or (get_or rows row 0) beside) (get_or room row 0)
@@ -113,13 +46,6 @@ pub lacking-more : (rows : List ℕ) (row grown : ℕ) → row < length rows →
 lacking-more rows row grown within more low other =
     let sums = sum_by-set (λ word. 2 ^ 64 - word) rows row grown 0 within in
     omega (arith, other)
-
--- a row that has all of what it may grow from takes what stands beside it
-pub taken_already : (rows room : List ℕ) (row beside : ℕ) → seed_of rows room row beside ≡ get_or rows row 0 → IsTaken room rows row beside
-taken_already rows room row beside same =
-    λ col there is.
-    ap (λ w. has_bit w col) (sym same)
-    ∙ has_bit-and _ _ col ∙ and_from _ _ (has_bit-or (get_or rows row 0) beside col ∙ or_right _ _ is) there
 
 module _ (rows room : List ℕ) (row beside grown : ℕ) (within_row : row < length rows) (within : IsAmong (is_set rows) (is_set room)) (beside_in : IsPart (has_bit beside) (has_bit (bit_or (row_above rows row) (slice_index rows (row + 1))))) (in_room : IsPart (has_bit grown) (has_bit (get_or room row 0))) (from_seed : IsPart (has_bit (seed_of rows room row beside)) (has_bit grown)) (closed : HasBeside (has_bit (get_or room row 0)) (has_bit grown)) (least : (set : ℕ → Bool) → HasBeside (has_bit (get_or room row 0)) set → IsPart (has_bit (seed_of rows room row beside)) set → IsPart (has_bit grown) set) where
   abbrev grown_rows : List ℕ
@@ -208,15 +134,3 @@ module _ (rows room : List ℕ) (row beside grown : ℕ) (within_row : row < len
       near p q same (cols, inl next) is =
           or_right _ _ (ap (λ r. has_bit (get_or rows r 0) p.col) (ap (λ n. n + 1) (sym same) ∙ next) ∙ ap (has_bit (get_or rows q.row 0)) cols ∙ is)
       near p q same (cols, inr next) is = or_left _ _ (above_at rows row p.col q (next ∙ same) (sym cols) is)
-
-  pub taken-row : IsTaken room grown_rows row beside
-  taken-row =
-      λ col there is.
-      ap (λ w. has_bit w col) (get_or-set_same rows row grown 0 within_row) ∙ from_seed col (beside_seed col is there)
-
-  pub lacking-row : seed_of rows room row beside ≢ get_or rows row 0 → grown < 2 ^ 64 → lacking grown_rows < lacking rows
-  lacking-row other low =
-      let seeded : get_or rows row 0 ≤ seed_of rows room row beside = le_from_part _ _ own_seed in
-      let more : seed_of rows room row beside ≤ grown = le_from_part _ _ from_seed in
-      let sums = sum_by-set (λ word. 2 ^ 64 - word) rows row grown 0 within_row in
-      omega (arith, other)

@@ -1,16 +1,15 @@
--- Filling the group of a stone row by row.
-use Rattle.std.proofs.Common.{◌≡◌, ◌≢◌, ◌⊎◌, inl, inr, ℕ, zero, suc, ◌+◌, ◌*◌, ◌/◌, ◌%◌, ◌^◌, ◌<◌, true, false, not, nat_eq, w64, IsTrue, List, length, get_or, set, take, replicate, bit_and, bit_or, slice_index, refl, sym, ap, ◌∙◌, arith, subst}
+-- The group of a stone, and the points beside it.
+use Rattle.std.proofs.Common.{◌≡◌, ◌≢◌, ◌⊎◌, inl, inr, ℕ, zero, suc, ◌+◌, ◌*◌, ◌/◌, ◌%◌, ◌^◌, ◌<◌, true, false, not, nat_eq, w64, List, length, get_or, set, take, replicate, bit_and, bit_or, slice_index, refl, sym, ap, ◌∙◌, arith}
 use Rattle.std.proofs.lemmas.Bool.{or_cases, or_left, or_right, or_parts, and_parts, and_from, not-true, not-false, false≢true, true≢false, cases_eq, cases_Bool}
 use Rattle.std.proofs.lemmas.Bool.Decides.{Decides-not, Decides-eqb}
 use Rattle.std.specs.Int.{trailing_zeros}
 use Rattle.std.proofs.lemmas.List.{get_or-set_same, get_or-set_other}
 use Rattle.go_board.specs.declared.points.Point.{Point}
-use Rattle.go_board.specs.Point.{IsOn, AreAdjacent, DifferByOne}
+use Rattle.go_board.specs.Point.{IsOn, AreAdjacent}
 use Rattle.go_board.specs.inner.Rows.{has_bit, is_set, row_above, IsAmong, IsRowClosed, Grows, IsInOrBeside}
-use Rattle.go_board.specs.inner.Linked.{IsLinked, IsFilled, IsLiberty, IsRowGroup, IsShutIn}
+use Rattle.go_board.specs.inner.Linked.{IsLinked, IsLiberty, IsRowGroup}
 use Rattle.go_board.proofs.PointLemmas.{one_point}
 use Rattle.go_board.proofs.WordLemmas.{has_bit-or, has_bit-and, has_bit-left, from_left, has_bit-right, has_bit-zero}
-use Rattle.go_board.proofs.GrowLemmas.{row_below}
 use Rattle.go_board.proofs.SweepLemmas.{lowest_left}
 
 -- the columns of two rows and those beside the columns of the row between them
@@ -94,32 +93,7 @@ adjacent-from rows row col (inl up) = above_from rows row col up
 adjacent-from rows row col (inr (inl down)) = (record { col = col; row = row + 1 }, inl (refl, inl refl), down)
 adjacent-from rows row col (inr (inr (d, differ, there))) = (record { col = d; row = row }, inr (refl, differ), there)
 
--- adjacent points are in one row, or in rows that differ by one
-adjacent_rows : (p q : Point) → AreAdjacent p q → (p.row ≡ q.row) ⊎ DifferByOne p.row q.row
-adjacent_rows p q (inl (cols, differ)) = inr differ
-adjacent_rows p q (inr (line, differ)) = inl line
-
--- a row is filled: the points of it beside the group are of the group where there is room, and a stone is on each
-pub record IsRowShut (own others : List ℕ) (besides : Point) (group : List ℕ) (row : ℕ) : Type 0 where
-  pub closed : IsRowClosed (is_set own) (is_set group) row
-  pub filled : (p q : Point) → p.row ≡ row → IsOn (length own) p → AreAdjacent p q → IsTrue (is_set group q) → IsFilled own others besides p
-
--- a group that is filled, but for some rows
-pub record IsSpread (own others : List ℕ) (besides from : Point) (group : List ℕ) (waiting : ℕ) : Type 0 where
-  pub all : length group ≡ length own
-  pub within : IsAmong (is_set group) (is_set own)
-  pub start : IsTrue (is_set group from)
-  pub linked : (p : Point) → IsTrue (is_set group p) → IsLinked (is_set own) from p
-  pub rows_in : (row : ℕ) → IsTrue (has_bit waiting row) → row < length own
-  pub shut : (row : ℕ) → row < length own → has_bit waiting row ≡ false → IsRowShut own others besides group row
-
-module _ (own others : List ℕ) (besides from : Point) where
-  shut_still : (group next : List ℕ) (row : ℕ) → IsAmong (is_set group) (is_set next) → ((p q : Point) → p.row ≡ row → AreAdjacent p q → is_set next q ≡ true → is_set group q ≡ true) → IsRowShut own others besides group row → IsRowShut own others besides next row
-  shut_still group next row kept back was = record {
-    closed = λ p q same adjacent there is. kept p (was.closed p q same adjacent there (back p q same adjacent is));
-    filled = λ p q same on adjacent is. was.filled p q same on adjacent (back p q same adjacent is);
-  }
-
+module _ (own others : List ℕ) (from : Point) where
   -- at first the group is one row
   module _ (old first grown : List ℕ) (word : ℕ) (none : (p : Point) → is_set old p ≡ false) (within_row : from.row < length old) (there : has_bit word from.col ≡ true) (alone : (k : ℕ) → k ≢ from.col → has_bit word k ≡ false) (first_is : first ≡ set old from.row word) where
     in_first : (p : Point) → is_set first p ≡ true → p ≡ from
@@ -157,101 +131,9 @@ module _ (own others : List ℕ) (besides from : Point) where
       closed = closed;
     }
 
-  pub IsSpread-begun : (group : List ℕ) (waiting : ℕ) → IsRowGroup own from group → length group ≡ length own → ((p q : Point) → p.row ≡ from.row → IsOn (length own) p → AreAdjacent p q → is_set group q ≡ true → IsFilled own others besides p) → ((r : ℕ) → has_bit waiting r ≡ true → r < length own) → ((r : ℕ) → DifferByOne r from.row → r < length own → has_bit waiting r ≡ true) → IsSpread own others besides from group waiting
-  IsSpread-begun group waiting begun all filled rows_in beside = record {
-    all = all;
-    within = begun.within;
-    start = begun.start;
-    linked = begun.linked;
-    rows_in = rows_in;
-    shut = λ row below not_waiting.
-        elim (cases_eq row from.row) [
-          | inl same ↦
-              subst (λ r. IsRowShut own others besides group r) (sym same) (record { closed = begun.closed; filled = filled })
-          | inr other ↦
-              record {
-                closed = λ p q same adjacent room is. absurd (nothing row below not_waiting other p q same adjacent is);
-                filled = λ p q same on adjacent is. absurd (nothing row below not_waiting other p q same adjacent is);
-              }
-        ];
-  }
-    where
-      nothing : (row : ℕ) → row < length own → has_bit waiting row ≡ false → row ≢ from.row → (p q : Point) → p.row ≡ row → AreAdjacent p q → is_set group q ≡ true → ⊥
-      nothing row below not_waiting other p q same adjacent is =
-          elim (adjacent_rows p q adjacent) [
-            | inl line ↦ other (sym same ∙ line ∙ begun.one_row q is)
-            | inr differ ↦
-                false≢true
-                (sym not_waiting
-                ∙ beside row (subst (λ r. DifferByOne r from.row) same (subst (λ r. DifferByOne p.row r) (begun.one_row q is) differ)) below)
-          ]
-
-  -- one row is grown
-  module _ (group next : List ℕ) (row waiting left after : ℕ) (was : IsSpread own others besides from group waiting) (grows : Grows (is_set own) (is_set group) (is_set next)) (others_same : (k : ℕ) → k ≢ row → slice_index next k ≡ slice_index group k) (gone : (k : ℕ) → k ≢ row → has_bit left k ≡ has_bit waiting k) (not_there : has_bit left row ≡ false) where
-    pub linked_still : (p : Point) → is_set next p ≡ true → IsLinked (is_set own) from p
-    linked_still p is = λ set closed has. grows.least set closed (λ q there. was.linked q there set closed has) p is
-
-    left_in : (k : ℕ) → has_bit left k ≡ true → k < length own
-    left_in k is =
-        elim (cases_eq k row) [
-          | inl same ↦ absurd (false≢true (sym not_there ∙ ap (has_bit left) (sym same) ∙ is))
-          | inr other ↦ was.rows_in k (sym (gone k other) ∙ is)
-        ]
-
-    module _ (long : length next ≡ length group) (here : IsRowShut own others besides next row) (kept_waiting : (k : ℕ) → has_bit left k ≡ true → has_bit after k ≡ true) (from_left : (k : ℕ) → has_bit after k ≡ true → (has_bit left k ≡ true) ⊎ (k < length own)) (either : (slice_index next row ≡ slice_index group row) ⊎ ((k : ℕ) → DifferByOne k row → k < length own → has_bit after k ≡ true)) where
-      pub IsSpread-next : IsSpread own others besides from next after
-      IsSpread-next = record {
-        all = long ∙ was.all;
-        within = grows.within;
-        start = grows.kept from was.start;
-        linked = linked_still;
-        rows_in = λ k is. elim (from_left k is) [ inl old ↦ left_in k old | inr new ↦ new ];
-        shut = λ k below not_waiting.
-            elim (cases_eq k row) [
-              | inl same ↦ subst (λ r. IsRowShut own others besides next r) (sym same) here
-              | inr other ↦ shut_still group next k grows.kept (back k below not_waiting other) (was.shut k below (sym (gone k other) ∙ none_left k not_waiting))
-            ];
-      }
-        where
-          none_left : (k : ℕ) → has_bit after k ≡ false → has_bit left k ≡ false
-          none_left k none =
-              elim (cases_Bool (has_bit left k)) [ inl is ↦ absurd (false≢true (sym none ∙ kept_waiting k is)) | inr not_so ↦ not_so ]
-
-          back : (k : ℕ) → k < length own → has_bit after k ≡ false → k ≢ row → (p q : Point) → p.row ≡ k → AreAdjacent p q → is_set next q ≡ true → is_set group q ≡ true
-          back k below not_waiting other p q same adjacent is =
-              elim (cases_eq q.row row) [
-                | inr apart ↦ ap (λ w. has_bit w q.col) (sym (others_same q.row apart)) ∙ is
-                | inl line ↦
-                    elim either [
-                      | inl unchanged ↦
-                          ap (λ r. has_bit (slice_index group r) q.col) line ∙ ap (λ w. has_bit w q.col) (sym unchanged)
-                          ∙ ap (λ r. has_bit (slice_index next r) q.col) (sym line) ∙ is
-                      | inr beside ↦
-                          elim (adjacent_rows p q adjacent) [
-                            | inl level ↦ absurd (other (sym same ∙ level ∙ line))
-                            | inr differ ↦
-                                absurd (false≢true
-                                (sym not_waiting
-                                ∙ beside k (subst (λ r. DifferByOne r row) same (subst (λ r. DifferByOne p.row r) line differ)) below))
-                          ]
-                    ]
-              ]
-
-  -- where no row is left, the group is shut in
-  pub IsShutIn-all : (group : List ℕ) (waiting : ℕ) → IsSpread own others besides from group waiting → waiting ≡ 0 → IsShutIn own others besides from group
-  IsShutIn-all group waiting spread none = record {
-    within = spread.within;
-    start = spread.start;
-    closed = λ p q adjacent there is. (each p.row (row_below own p there)).closed p q refl adjacent there is;
-    filled = λ p q on adjacent is. (each p.row on.1).filled p q refl on adjacent is;
-  }
-    where
-      each : (row : ℕ) → row < length own → IsRowShut own others besides group row
-      each row below = spread.shut row below (ap (λ w. has_bit w row) none ∙ has_bit-zero row)
-
   -- a point beside the group that is in neither set is a liberty
-  pub IsLiberty-beside : (group : List ℕ) (p q : Point) → IsAmong (is_set group) (is_set own) → ((x : Point) → is_set group x ≡ true → IsLinked (is_set own) from x) → IsOn (length own) p → AreAdjacent p q → is_set group q ≡ true → is_set own p ≡ false → is_set others p ≡ false → p ≢ besides → IsLiberty own others besides from p
-  IsLiberty-beside group p q within linked on adjacent is not_own not_other another = record {
+  pub IsLiberty-beside : (group : List ℕ) (p q : Point) → IsAmong (is_set group) (is_set own) → ((x : Point) → is_set group x ≡ true → IsLinked (is_set own) from x) → IsOn (length own) p → AreAdjacent p q → is_set group q ≡ true → is_set own p ≡ false → is_set others p ≡ false → IsLiberty own others from p
+  IsLiberty-beside group p q within linked on adjacent is not_own not_other = record {
     stone = q;
     on_grid = on;
     adjacent = adjacent;
@@ -259,5 +141,4 @@ module _ (own others : List ℕ) (besides from : Point) where
     linked = linked q is;
     not_own = not_own;
     not_other = not_other;
-    another = another;
   }

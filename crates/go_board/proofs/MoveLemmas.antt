@@ -171,21 +171,6 @@ still_settled g h k q loses on settled = λ stone. loses.still q on (settled (le
 on_next : (g h : Grid) (k : Colour) (q : Point) → LosesShut g h k → IsOn g.side q → IsOn h.side q
 on_next g h k q loses on = subst (λ s. IsOn s q) (sym loses.same_side) on
 
--- groups without a liberty are taken off after others
-pub LosesShut-twice : (a b c : Grid) (k : Colour) → LosesShut a b k → LosesShut b c k → LosesShut a c k
-LosesShut-twice a b c k ab bc = record {
-  same_side = bc.same_side ∙ ab.same_side;
-  all = bc.all ∙ ab.all;
-  taken = λ p on.
-      elim (bc.taken p (on_next a b k p ab on)) [
-        | inl same ↦
-            elim (ab.taken p on) [ inl was ↦ inl (same ∙ was) | inr gone ↦ inr (same ∙ gone.0, gone.1) ]
-        | inr gone ↦ inr (gone.0, left_over a b k k p ab on gone.1)
-      ];
-  still = λ p on way. bc.still p (on_next a b k p ab on) (ab.still p on way);
-  cleared = bc.cleared ∙ ab.cleared;
-}
-
 -- the groups without a liberty of the four neighbours are taken off in turn
 pub ReachBeside-four : (a b c d e : Grid) (k : Colour) (p : Point) → LosesShut a b k → LosesShut b c k → LosesShut c d k → LosesShut d e k → ForSome (left_of p) (ReachesIfStone b k) → ForSome (right_of a.side p) (ReachesIfStone c k) → ForSome (above p) (ReachesIfStone d k) → ForSome (below a.side p) (ReachesIfStone e k) → ReachBeside e k p
 unfolding IsNeighbour

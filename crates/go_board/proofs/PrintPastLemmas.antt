@@ -4,13 +4,14 @@ use Rattle.std.proofs.lemmas.List.{get_or-reverse, length-reverse, length-map}
 use Rattle.std.specs.Option.{is_some}
 use Rattle.std.proofs.lemmas.Bool.{false≢true}
 use Rattle.go_board.specs.Grid.{Grid}
-use Rattle.go_board.specs.Past.{Held, newest, present_stretch}
+use Rattle.go_board.specs.Past.{Held, stretch_of}
+use Rattle.go_board.specs.inner.Changes.{first_grid, IsNumber}
 use Rattle.go_board.specs.inner.Print.{print_of, prints_of}
 use Rattle.go_board.specs.inner.Table.{IsLastOf}
 
 -- the colouring at an index of the list, newest first
 abbrev pub IsAt : List Held → ℕ → Grid → Type 0
-IsAt held j g = newest (drop j held) ≡ Some g
+IsAt held j g = first_grid (drop j held) ≡ Some g
 
 some_same : (a b : Grid) → Some a ≡ Some b → a ≡ b
 some_same a b e = cc
@@ -43,10 +44,6 @@ pub none_found : (prints : List ℕ) (print start end : ℕ) (found : Option ℕ
 none_found prints print start end None last none = last
 none_found prints print start end (Some x) last none = absurd (false≢true (sym none))
 
--- that number's colouring, counted from the oldest
-abbrev pub IsNumber : List Held → ℕ → Grid → Type 0
-IsNumber held y g = IsAt held (length held - 1 - y) g
-
 module _ (held : List Held) (prints : List ℕ) (kept : reverse prints ≡ prints_of held) where
   pub same_length : length prints ≡ length held
   same_length = sym (length-reverse prints) ∙ ap (λ (xs : List ℕ). length xs) kept ∙ length-map held (λ (h : Held). print_of h.colouring.cells)
@@ -65,12 +62,12 @@ module _ (held : List Held) (prints : List ℕ) (kept : reverse prints ≡ print
   missing y print g is h other at = other (print-number y g h at ∙ sym is)
 
   -- a stretch from a number on has the colouring of a number in it
-  pub seen : (start y : ℕ) (g : Grid) → present_stretch held ≡ map (λ (h : Held). h.colouring) (take (length held - start) held) → start ≤ y → y < length held → IsNumber held y g → Contains (present_stretch held) g
+  pub seen : (start y : ℕ) (g : Grid) → stretch_of held ≡ map (λ (h : Held). h.colouring) (take (length held - start) held) → start ≤ y → y < length held → IsNumber held y g → Contains (stretch_of held) g
   seen start y g stretch low high at =
       rw stretch (of-index (length held - start) (length held - 1 - y) held g (omega arith) (omega arith) at)
 
   -- and no other
-  pub unseen : (start : ℕ) (g : Grid) → present_stretch held ≡ map (λ (h : Held). h.colouring) (take (length held - start) held) → ((y : ℕ) → start ≤ y → y < length held → IsNumber held y g → ⊥) → Contains (present_stretch held) g → ⊥
+  pub unseen : (start : ℕ) (g : Grid) → stretch_of held ≡ map (λ (h : Held). h.colouring) (take (length held - start) held) → ((y : ℕ) → start ≤ y → y < length held → IsNumber held y g → ⊥) → Contains (stretch_of held) g → ⊥
   unseen start g stretch never has =
       let there = index-of (length held - start) held g (rw stretch at has) in
       let j = there.0 in
@@ -79,8 +76,8 @@ module _ (held : List Held) (prints : List ℕ) (kept : reverse prints ≡ print
       never y (omega (arith, there.1, there.2)) (omega (arith, there.2)) (rw turned there.3)
 
   -- where a look-up by its print finds none, the stretch doesn't have it
-  pub not_found : (start end print : ℕ) (g : Grid) (found : Option ℕ) → present_stretch held ≡ map (λ (h : Held). h.colouring) (take (length held - start) held) → end ≡ length prints
-      → IsLastOf prints print start end found → is_some found ≡ false → print ≡ print_of g.cells → Contains (present_stretch held) g → ⊥
+  pub not_found : (start end print : ℕ) (g : Grid) (found : Option ℕ) → stretch_of held ≡ map (λ (h : Held). h.colouring) (take (length held - start) held) → end ≡ length prints
+      → IsLastOf prints print start end found → is_some found ≡ false → print ≡ print_of g.cells → Contains (stretch_of held) g → ⊥
   not_found start end print g found stretch all last none is =
       unseen start g stretch
       (λ y low high at.

@@ -1,13 +1,12 @@
 -- Rows of words that have the points of a grid with certain cells, and those that reach a colour through them.
-use Rattle.std.proofs.Common.{◌≡◌, ◌≢◌, ◌⊎◌, inl, inr, ℕ, ◌+◌, ◌-◌, ◌*◌, ◌^◌, ◌%◌, ◌<◌, ◌≤◌, ◌==◌, ◌||◌, ◌&&◌, Bool, true, false, not, Some, None, List, [], ◌∷◌, length, get_or, set, slice_get, slice_range, slice_index, take, bit_and, bit_or, w64, refl, sym, ap, ◌∙◌, arith, subst, rules}
+use Rattle.std.proofs.Common.{◌≡◌, ◌≢◌, ◌⊎◌, inl, inr, ℕ, ◌+◌, ◌-◌, ◌*◌, ◌^◌, ◌%◌, ◌<◌, ◌==◌, ◌||◌, ◌&&◌, Bool, true, false, not, List, [], ◌∷◌, length, get_or, set, slice_index, bit_and, bit_or, w64, refl, sym, ap, ◌∙◌, arith, subst}
 use Rattle.std.proofs.lemmas.Bool.{or_cases, or_left, or_right, and_parts, and_from, false≢true, cases_lt, cases_eq}
 use Rattle.std.specs.Int.{bit_not}
 use Rattle.std.proofs.Math.Bool.{or_self}
 use Rattle.std.proofs.Math.ListN.{get_or-eq_default}
 use Rattle.std.proofs.Math.Nat.{mod-eq_of_lt}
-use Rattle.std.proofs.lemmas.Nat.{row_fits, pow_below}
-use Rattle.std.proofs.lemmas.List.{places, get_or-set_same, get_or-set_other, get_or-take, length-take-le}
-use Rattle.std.proofs.lemmas.Option.{slice_get-get_or, slice_get_past}
+use Rattle.std.proofs.lemmas.Nat.{pow_below}
+use Rattle.std.proofs.lemmas.List.{get_or-set_same, get_or-set_other}
 use Rattle.std.proofs.lemmas.Nat.Bits.{bit_at-zero, same_from_bits, bit_at_set_same, bit_at_set_other, bit_at_mask_inside, bit_at_mask_above}
 use Rattle.go_board.specs.declared.stones.Cell.{Cell}
 use Rattle.go_board.specs.declared.stones.Cell.TheVariants.{Black, White, Empty}
@@ -17,7 +16,7 @@ use Rattle.go_board.specs.Point.{IsOn, AreAdjacent}
 use Rattle.go_board.specs.Grid.{Grid, cell_at}
 use Rattle.go_board.specs.Reaching.{Leads, Reaches, reaches}
 use Rattle.go_board.specs.inner.Rows.{has_bit, is_set, IsAmong, IsClosed, Grows}
-use Rattle.go_board.specs.inner.Regions.{is_either, is_there, AreRowsOf, IsDifference, reaches_through_own}
+use Rattle.go_board.specs.inner.Regions.{is_either, AreRowsOf, IsDifference, reaches_through_own}
 use Rattle.go_board.proofs.GridLemmas.{Decides-same_cell}
 use Rattle.go_board.proofs.GrowLemmas.{row_below}
 use Rattle.go_board.proofs.WordLemmas.{has_bit-zero, has_bit-and, has_bit-without, bit_at-gone}
@@ -30,69 +29,6 @@ has_bit-set_there word col b is low =
 
 pub has_bit-set_elsewhere : (word col : ℕ) → col < 64 → (k : ℕ) → k ≢ col → has_bit (bit_or word (1 * 2 ^ col % 2 ^ 64)) k ≡ has_bit word k
 has_bit-set_elsewhere word col low k other = ap (λ n. n == 1) (bit_at_set_other w64 word col low k other)
-
--- a row of the cells
-part_at : (xs : List Cell) (a n i : ℕ) (d : Cell) → i < n → a + n ≤ length xs → get_or (slice_range xs a (a + n)) i d ≡ get_or xs (a + i) d
-part_at xs a n i d below fits = search (rules, places)
-
-length-part : (xs : List Cell) (a n : ℕ) → a + n ≤ length xs → length (slice_range xs a (a + n)) ≡ n
-length-part xs a n fits = search (rules, places)
-
-row_ends : (side row : ℕ) (cells : List Cell) → length cells ≡ side * side → row < side → row * side + side ≤ length cells
-row_ends side row cells all below = rw all (row_fits row side side side below (omega arith))
-
-cell_of_row : (side row col : ℕ) (cells : List Cell) → length cells ≡ side * side → row < side → col < side → slice_get (slice_range cells (row * side) (row * side + side)) col ≡ Some (get_or cells (row * side + col) Empty)
-cell_of_row side row col cells all below in_row =
-    let fits = row_ends side row cells all below in
-    let long : length (slice_range cells (row * side) (row * side + side)) ≡ side = length-part cells (row * side) side fits in
-    let within : col < length (slice_range cells (row * side) (row * side + side)) = rw long in_row in
-    slice_get-get_or (slice_range cells (row * side) (row * side + side)) col Empty within
-    ∙ ap Some (part_at cells (row * side) side col Empty in_row fits)
-
-past_row : (side row col : ℕ) (cells : List Cell) → length cells ≡ side * side → row < side → side ≤ col → slice_get (slice_range cells (row * side) (row * side + side)) col ≡ None
-past_row side row col cells all below past =
-    let fits = row_ends side row cells all below in
-    let long : length (slice_range cells (row * side) (row * side + side)) ≡ side = length-part cells (row * side) side fits in
-    slice_get_past (slice_range cells (row * side) (row * side + side)) col (rw long past)
-
--- one row more is written
-abbrev pub RowsBelow : ℕ → List Cell → Cell → ℕ → List ℕ → Type 0
-RowsBelow side cells wanted n rows =
-    (r col : ℕ) → r < n
-    → has_bit (slice_index rows r) col ≡ is_there (slice_get (slice_range cells (r * side) (r * side + side)) col) wanted
-
-pub rows_more : (side : ℕ) (cells : List Cell) (wanted : Cell) (rows : List ℕ) (row word : ℕ) → row < length rows → RowsBelow side cells wanted row rows → ((col : ℕ) → has_bit word col ≡ is_there (slice_get (slice_range cells (row * side) (row * side + side)) col) wanted) → RowsBelow side cells wanted (row + 1) (set rows row word)
-rows_more side cells wanted rows row word within before is =
-    λ r col below.
-    elim (cases_eq r row) [
-      | inl same ↦
-          ap (λ k. has_bit (get_or (set rows row word) k 0) col) same
-          ∙ ap (λ w. has_bit w col) (get_or-set_same rows row word 0 within)
-          ∙ is col
-          ∙ ap (λ k. is_there (slice_get (slice_range cells (k * side) (k * side + side)) col) wanted) (sym same)
-      | inr apart ↦
-          ap (λ w. has_bit w col) (get_or-set_other rows row r word 0 apart) ∙ before r col (omega (arith, apart))
-    ]
-
-pub AreRowsOf-cells : (side : ℕ) (cells : List Cell) (wanted : Cell) (rows : List ℕ) → length cells ≡ side * side → length rows ≡ side → RowsBelow side cells wanted side rows → AreRowsOf side (λ p. same_cell (cell_at (record { side = side; cells = cells }) p) wanted) rows
-AreRowsOf-cells side cells wanted rows all long each = record {
-  on = λ p on.
-      each p.row p.col on.1
-      ∙ ap (λ c. is_there c wanted) (cell_of_row side p.row p.col cells all on.1 on.0);
-  off = λ p is.
-      let row : p.row < side = rw (← long) (row_below rows p is) in
-      elim (cases_lt p.col side) [
-        | inl col ↦ (col, row)
-        | inr past ↦
-            absurd (false≢true (sym (each p.row p.col row ∙ ap (λ c. is_there c wanted) (past_row side p.row p.col cells all row past)) ∙ is))
-      ];
-}
-
--- the same of rows of which no more than these are used
-pub rows_kept : (side : ℕ) (cells : List Cell) (wanted : Cell) (rows : List ℕ) → length cells ≡ side * side → side ≤ length rows → RowsBelow side cells wanted side rows → AreRowsOf side (λ p. same_cell (cell_at (record { side = side; cells = cells }) p) wanted) (take side rows)
-rows_kept side cells wanted rows all long each =
-    AreRowsOf-cells side cells wanted (take side rows) all (length-take-le side rows long)
-    (λ r col below. ap (λ w. has_bit w col) (get_or-take side rows r 0 below) ∙ each r col below)
 
 -- the columns of a row that aren't in a set
 mask_is : (side : ℕ) → side < 64 → 1 * 2 ^ side % 2 ^ 64 - 1 ≡ 2 ^ side - 2 ^ 0

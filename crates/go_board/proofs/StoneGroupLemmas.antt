@@ -1,19 +1,18 @@
 -- What the rows of a stone's group tell of a grid: the stone reaches empty, or its group has no liberty.
-use Rattle.std.proofs.Common.{◌≡◌, ◌≢◌, inl, inr, ℕ, ◌&&◌, ◌||◌, Bool, true, false, not, IsTrue, List, [], length, refl, sym, ap, ◌∙◌, subst}
+use Rattle.std.proofs.Common.{◌≡◌, inl, inr, ℕ, ◌&&◌, ◌||◌, Bool, true, false, not, IsTrue, List, [], length, refl, sym, ap, ◌∙◌, subst}
 use Rattle.std.proofs.lemmas.Bool.{and_parts, and_from, false≢true, true≢false}
 use Rattle.go_board.specs.declared.stones.Cell.TheVariants.{Empty}
 use Rattle.go_board.specs.declared.stones.Colour.{Colour}
 use Rattle.go_board.specs.declared.points.Point.{Point}
 use Rattle.go_board.specs.Colour.{opponent, stone_of, same_cell}
 use Rattle.go_board.specs.Point.{IsOn}
-use Rattle.go_board.specs.Grid.{Grid, cell_at, with_cell}
+use Rattle.go_board.specs.Grid.{Grid, cell_at}
 use Rattle.go_board.specs.Reaching.{Reaches, reaches}
 use Rattle.go_board.specs.inner.Groups.{IsWithoutLiberty, LosesShut, IsWithout}
 use Rattle.go_board.specs.inner.Rows.{is_set, IsClosed}
 use Rattle.go_board.specs.inner.Regions.{AreRowsOf}
-use Rattle.go_board.specs.inner.Linked.{IsLiberty, IsShutIn, IsSameBut}
-use Rattle.go_board.proofs.PointLemmas.{same_or_not}
-use Rattle.go_board.proofs.GridLemmas.{one_grid, Decides-same_cell, cell_at-with_cell_elsewhere}
+use Rattle.go_board.specs.inner.Linked.{IsLiberty, IsShutIn}
+use Rattle.go_board.proofs.GridLemmas.{one_grid, Decides-same_cell}
 use Rattle.go_board.proofs.NeighbourLemmas.{AreAdjacent-sym}
 use Rattle.go_board.proofs.GroupLemmas.{neither_stone, stone_of≢Empty, LosesShut-group}
 use Rattle.go_board.proofs.ReachingLemmas.{Decides-reaches, path_by_step}
@@ -26,7 +25,7 @@ implies : (x y : Bool) → (x ≡ true → y ≡ true) → (not x || y) ≡ true
 implies true y h = h refl
 implies false y h = refl
 
-module _ (g : Grid) (k : Colour) (own others : List ℕ) (besides from : Point) (all : length own ≡ g.side) (is_own : AreRowsOf g.side (λ p. same_cell (cell_at g p) (stone_of k)) own) (is_other : AreRowsOf g.side (λ p. same_cell (cell_at g p) (stone_of (opponent k))) others) where
+module _ (g : Grid) (k : Colour) (own others : List ℕ) (from : Point) (all : length own ≡ g.side) (is_own : AreRowsOf g.side (λ p. same_cell (cell_at g p) (stone_of k)) own) (is_other : AreRowsOf g.side (λ p. same_cell (cell_at g p) (stone_of (opponent k))) others) where
   own_stone : (p : Point) → is_set own p ≡ true → cell_at g p ≡ stone_of k
   own_stone p is = (Decides-same_cell _ _).0 (sym (is_own.on p (is_own.off p is)) ∙ is)
 
@@ -37,65 +36,55 @@ module _ (g : Grid) (k : Colour) (own others : List ℕ) (besides from : Point) 
   own_set p on stone = is_own.on p on ∙ (Decides-same_cell _ _).1 stone
 
   -- a group beside which each point has a stone has no liberty
-  pub IsWithoutLiberty-shut : (group : List ℕ) → cell_at g besides ≢ Empty → IsShutIn own others besides from group → IsWithoutLiberty g k (λ p. is_set group p)
-  IsWithoutLiberty-shut group stone shut = record {
+  pub IsWithoutLiberty-shut : (group : List ℕ) → IsShutIn own others from group → IsWithoutLiberty g k (λ p. is_set group p)
+  IsWithoutLiberty-shut group shut = record {
     stones = λ p on is. own_stone p (shut.within p is);
     shut = λ p q on at adjacent is free.
         elim (shut.filled q p (subst (λ n. IsOn n q) (sym all) at) (AreAdjacent-sym p q adjacent) is) [
           | inl own_q ↦ stone_of≢Empty k (sym (own_stone q own_q) ∙ free)
-          | inr (inl other_q) ↦ stone_of≢Empty (opponent k) (sym (other_stone q other_q) ∙ free)
-          | inr (inr same) ↦ stone (ap (cell_at g) (sym same) ∙ free)
+          | inr other_q ↦ stone_of≢Empty (opponent k) (sym (other_stone q other_q) ∙ free)
         ];
     whole = λ p q on at adjacent is stone_q. shut.closed q p (AreAdjacent-sym p q adjacent) (own_set q at stone_q) is;
   }
 
-  -- a liberty is one after a stone was put on another point
-  module _ (h : Grid) (same : IsSameBut g h k besides) where
-    still_own : (p : Point) → is_set own p ≡ true → cell_at h p ≡ stone_of k
-    still_own p is =
-        elim (same_or_not p besides) [
-          | inl here ↦ ap (cell_at h) here ∙ same.own (ap (cell_at g) (sym here) ∙ own_stone p is)
-          | inr other ↦ same.elsewhere p (is_own.off p is) other ∙ own_stone p is
-        ]
+  -- the own stones that reach empty only if the one on the point does
+  carries : Point → Bool
+  carries p = is_set own p && (not (reaches g Empty p) || reaches g Empty from)
 
-    on_h : (p : Point) → IsOn g.side p → IsOn h.side p
-    on_h p on = subst (λ n. IsOn n p) (sym same.same_side) on
+  carries-closed : IsClosed (is_set own) carries
+  unfolding carries
+  carries-closed p q adjacent there is =
+      let both = and_parts _ _ is in
+      let on_p = is_own.off p there in
+      let on_q = is_own.off q both.0 in
+      and_from _ _ there
+      (implies _ _
+      (λ way.
+      not_true _ _
+      ((Decides-reaches g Empty q on_q).1
+      (path_by_step g Empty q p on_q (AreAdjacent-sym p q adjacent) on_p (inl (own_stone p there ∙ sym (own_stone q both.0)))
+      ((Decides-reaches g Empty p on_p).0 way)))
+      both.1))
 
-    -- the own stones that reach empty only if the one on the point does
-    carries : Point → Bool
-    carries p = is_set own p && (not (reaches h Empty p) || reaches h Empty from)
-
-    carries-closed : IsClosed (is_set own) carries
-    unfolding carries
-    carries-closed p q adjacent there is =
-        let both = and_parts _ _ is in
-        let on_p = on_h p (is_own.off p there) in
-        let on_q = on_h q (is_own.off q both.0) in
-        and_from _ _ there
-        (implies _ _
-        (λ way.
-        not_true _ _
-        ((Decides-reaches h Empty q on_q).1
-        (path_by_step h Empty q p on_q (AreAdjacent-sym p q adjacent) on_p (inl (still_own p there ∙ sym (still_own q both.0)))
-        ((Decides-reaches h Empty p on_p).0 way)))
-        both.1))
-
-    pub Reaches-liberty : IsOn g.side from → cell_at g from ≡ stone_of k → (p : Point) → IsLiberty own others besides from p → Reaches h Empty from
-    unfolding carries
-    Reaches-liberty on_from cell p free =
-        let stone : is_set own from ≡ true = own_set from on_from cell in
-        let q = free.stone in
-        let on_p = subst (λ n. IsOn n p) all free.on_grid in
-        let on_q = is_own.off q free.own_stone in
-        let empty : cell_at g p ≡ Empty = neither_stone k (cell_at g p) (sym (is_own.on p on_p) ∙ free.not_own) (sym (is_other.on p on_p) ∙ free.not_other) in
-        let way : Reaches h Empty q = path_by_step h Empty q p (on_h q on_q) (AreAdjacent-sym p q free.adjacent) (on_h p on_p) (inr (same.elsewhere p on_p free.another ∙ empty)) ([], (on_h p on_p, same.elsewhere p on_p free.another ∙ empty)) in
-        let both = and_parts _ _ (free.linked carries carries-closed (and_from _ _ stone (implies (reaches h Empty from) (reaches h Empty from) (λ is. is)))) in
-        (Decides-reaches h Empty from (on_h from (is_own.off from stone))).0
-        (not_true _ _ ((Decides-reaches h Empty q (on_h q on_q)).1 way) both.1)
+  pub Reaches-liberty : IsOn g.side from → cell_at g from ≡ stone_of k → (p : Point) → IsLiberty own others from p → Reaches g Empty from
+  unfolding carries
+  Reaches-liberty on_from cell p free =
+      let stone : is_set own from ≡ true = own_set from on_from cell in
+      let q = free.stone in
+      let on_p = subst (λ n. IsOn n p) all free.on_grid in
+      let on_q = is_own.off q free.own_stone in
+      let empty : cell_at g p ≡ Empty = neither_stone k (cell_at g p) (sym (is_own.on p on_p) ∙ free.not_own) (sym (is_other.on p on_p) ∙ free.not_other) in
+      let way : Reaches g Empty q = path_by_step g Empty q p on_q (AreAdjacent-sym p q free.adjacent) on_p (inr empty) ([], (on_p, empty)) in
+      let both = and_parts _ _ (free.linked carries carries-closed (and_from _ _ stone (implies (reaches g Empty from) (reaches g Empty from) (λ is. is)))) in
+      (Decides-reaches g Empty from on_from).0 (not_true _ _ ((Decides-reaches g Empty q on_q).1 way) both.1)
 
 -- the rows of a colour, by another word
 pub rows_of_colour : (g : Grid) (k d : Colour) (rows : List ℕ) → d ≡ k → AreRowsOf g.side (λ p. same_cell (cell_at g p) (stone_of k)) rows → AreRowsOf g.side (λ p. same_cell (cell_at g p) (stone_of d)) rows
 rows_of_colour g k d rows is are = subst (λ c. AreRowsOf g.side (λ p. same_cell (cell_at g p) (stone_of c)) rows) (sym is) are
+
+-- the rows of the other colour
+pub rows_of_opponent : (g : Grid) (k d : Colour) (rows : List ℕ) → d ≡ opponent k → AreRowsOf g.side (λ p. same_cell (cell_at g p) (stone_of d)) rows → AreRowsOf g.side (λ p. same_cell (cell_at g p) (stone_of (opponent k))) rows
+rows_of_opponent g k d rows is are = subst (λ c. AreRowsOf g.side (λ p. same_cell (cell_at g p) (stone_of c)) rows) is are
 
 -- a group without a liberty is taken off by emptying its points
 pub LosesShut-without : (g h : Grid) (k : Colour) (rows : List ℕ) → IsWithoutLiberty g k (λ p. is_set rows p) → IsWithout g h (λ p. IsTrue (is_set rows p)) → LosesShut g h k
@@ -105,11 +94,3 @@ LosesShut-without g h k rows shut is =
     (LosesShut-group g k (λ p. is_set rows p) shut h.cells is.all
     (λ p on at. ap (λ x. cell_at x p) same ∙ is.emptied p on at)
     (λ p on other. ap (λ x. cell_at x p) same ∙ is.kept p on (λ gone. true≢false (sym gone ∙ other))))
-
--- a stone on an empty point changes no other
-pub IsSameBut-stone : (g : Grid) (k d : Colour) (p : Point) → IsOn g.side p → cell_at g p ≡ Empty → IsSameBut g (with_cell g p (stone_of k)) d p
-IsSameBut-stone g k d p on empty = record {
-  same_side = refl;
-  elsewhere = λ q at other. cell_at-with_cell_elsewhere g p q (stone_of k) on at other;
-  own = λ stone. absurd (stone_of≢Empty d (sym stone ∙ empty));
-}

@@ -1,7 +1,6 @@
 -- Grids with points emptied, one after another.
 use Rattle.std.proofs.Common.{◌≡◌, ◌≢◌, ◌⊎◌, ℕ, ◌+◌, ◌*◌, ◌^◌, ◌<◌, ◌==◌, Bool, cond, w64, true, false, List, length, slice_index, refl, sym, ap, subst, ◌∙◌, arith, inl, inr, IsTrue}
 use Rattle.std.specs.Int.{trailing_zeros}
-use Rattle.std.proofs.lemmas.List.{length-set}
 use Rattle.std.proofs.lemmas.Nat.Bits.{bit_at-trailing_zeros}
 use Rattle.std.proofs.lemmas.Bool.{cases_eq, true≢false, false≢true}
 use Rattle.go_board.specs.declared.stones.Cell.TheVariants.{Empty}
@@ -13,29 +12,10 @@ use Rattle.go_board.specs.Clearing.{cleared_cell, clear}
 use Rattle.go_board.specs.inner.Groups.{is_shut, IsWithout}
 use Rattle.go_board.specs.inner.Rows.{has_bit, is_set, IsPart}
 use Rattle.go_board.specs.inner.Regions.{AreRowsOf}
-use Rattle.go_board.proofs.PointLemmas.{one_point, same_or_not}
-use Rattle.go_board.proofs.GridLemmas.{cell_at-with_cell_elsewhere}
 use Rattle.go_board.proofs.GroupLemmas.{grid_of-cells}
-use Rattle.go_board.proofs.WordLemmas.{le_from_part}
-use Rattle.go_board.proofs.EmptiedLemmas.{cell_at-emptied}
-
--- one point more is emptied
-pub without_more : (g h : Grid) (Gone More : Point → Type 0) (p : Point) → IsWithout g h Gone → IsOn g.side p → More p → ((q : Point) → Gone q → More q) → ((q : Point) → More q → q ≢ p → Gone q) → IsWithout g (with_cell h p Empty) More
-without_more g h Gone More p is on here there back = record {
-  same_side = is.same_side;
-  all = length-set h.cells (index_of h.side p) Empty ∙ is.all;
-  emptied = λ q at more.
-      elim (same_or_not q p) [
-        | inl same ↦ ap (cell_at (with_cell h p Empty)) same ∙ cell_at-emptied h p
-        | inr other ↦ elsewhere q at other ∙ is.emptied q at (back q more other)
-      ];
-  kept = λ q at not_more.
-      elsewhere q at (λ same. not_more (subst More (sym same) here)) ∙ is.kept q at (λ gone. not_more (there q gone));
-}
-  where
-    elsewhere : (q : Point) → IsOn g.side q → q ≢ p → cell_at (with_cell h p Empty) q ≡ cell_at h q
-    elsewhere q at other =
-        cell_at-with_cell_elsewhere h p q Empty (subst (λ n. IsOn n p) (sym is.same_side) on) (subst (λ n. IsOn n q) (sym is.same_side) at) other
+use Rattle.go_board.proofs.GridLemmas.{cell_at-with_cell, cell_at-with_cell_elsewhere}
+use Rattle.std.proofs.lemmas.List.{length-set}
+use Rattle.go_board.proofs.WordLemmas.{le_from_part, has_bit-zero}
 
 -- other points are emptied after some
 pub without_both : (g h i : Grid) (First Second Both : Point → Type 0) → IsWithout g h First → IsWithout h i Second → ((p : Point) → First p → ¬ Second p) → ((p : Point) → First p → Both p) → ((p : Point) → Second p → Both p) → ((p : Point) → Both p → First p ⊎ Second p) → IsWithout g i Both
@@ -66,10 +46,6 @@ without_shut g h k shut all are is =
     cell p on true gone = ap (λ b. cond b Empty (cell_at g p)) gone ∙ sym (is.emptied p on (are.on p on ∙ gone))
     cell p on false left = ap (λ b. cond b Empty (cell_at g p)) left ∙ sym (is.kept p on (λ gone. true≢false (sym gone ∙ are.on p on ∙ left)))
 
--- the points of a row in the columns of a set that aren't in what is left of it
-abbrev pub InTaken : ℕ → ℕ → ℕ → Point → Type 0
-InTaken row columns left p = (p.row ≡ row) × (has_bit columns p.col ≡ true) × (has_bit left p.col ≡ false)
-
 -- the lowest column of what is left
 pub lowest_left : (columns left : ℕ) → left ≢ 0 → columns < 2 ^ 64 → IsPart (has_bit left) (has_bit columns) → (has_bit left (trailing_zeros w64 left) ≡ true) × (trailing_zeros w64 left < 64)
 lowest_left columns left some low part =
@@ -91,32 +67,11 @@ module _ (columns left next : ℕ) (some : left ≢ 0) (low : columns < 2 ^ 64) 
         | inr other ↦ sym (elsewhere k other) ∙ is
       ]
 
-  -- it is still a part of the columns
-  pub next_part : IsPart (has_bit next) (has_bit columns)
-  next_part = λ k is. part k (next_within k is)
-
   pub next_smaller : next < left
   next_smaller =
       let at_most = le_from_part next left next_within in
       let differs : next ≢ left = λ same. false≢true (sym there ∙ ap (λ w. has_bit w lowest) same ∙ set) in
       omega (arith, differs)
-
-  -- and the point in that column is taken
-  pub taken_more : (g h : Grid) (row : ℕ) → ((col : ℕ) → has_bit columns col ≡ true → col < g.side) → row < g.side → IsWithout g h (InTaken row columns left) → IsWithout g (with_cell h (record { col = lowest; row = row }) Empty) (InTaken row columns next)
-  taken_more g h row within below so_far =
-      let p : Point = record { col = lowest; row = row } in
-      without_more g h (InTaken row columns left) (InTaken row columns next) p so_far
-      (within lowest (part lowest set), below)
-      (refl, part lowest set, there)
-      (λ q gone. (gone.0, gone.1, none_left q.col gone.2))
-      (λ q gone other. (gone.0, gone.1, sym (elsewhere q.col (λ same. other (one_point q p same gone.0))) ∙ gone.2))
-    where
-      none_left : (k : ℕ) → has_bit left k ≡ false → has_bit next k ≡ false
-      none_left k none =
-          elim (cases_eq k lowest) [
-            | inl same ↦ ap (has_bit next) same ∙ there
-            | inr other ↦ elsewhere k other ∙ none
-          ]
 
 -- the points of a set in the first rows
 abbrev pub InRowsBefore : List ℕ → ℕ → Point → Type 0
@@ -134,3 +89,57 @@ rows_more g h i rows row before is =
       | inl same ↦ inr (same, ap (λ r. has_bit (slice_index rows r) p.col) (sym same) ∙ both.1)
       | inr other ↦ inl (omega (arith, both.0, other), both.1)
     ])
+
+-- the points of a row in some columns before one
+abbrev pub InColumnsBefore : ℕ → ℕ → ℕ → Point → Type 0
+InColumnsBefore row columns col p = (p.row ≡ row) × (has_bit columns p.col ≡ true) × (p.col < col)
+
+-- one point is emptied
+point_emptied : (g : Grid) (q : Point) → IsOn g.side q → length g.cells ≡ g.side * g.side → IsWithout g (with_cell g q Empty) (λ p. p ≡ q)
+point_emptied g q here all = record {
+  same_side = refl;
+  all = length-set g.cells (index_of g.side q) Empty;
+  emptied = λ p on same. ap (cell_at (with_cell g q Empty)) same ∙ cell_at-with_cell g q Empty here all;
+  kept = λ p on other. cell_at-with_cell_elsewhere g q p Empty here on other;
+}
+
+-- one column more, which is emptied
+pub columns_more : (g h : Grid) (row columns col : ℕ) → length h.cells ≡ h.side * h.side → IsOn h.side (record { col = col; row = row }) → has_bit columns col ≡ true
+    → IsWithout g h (InColumnsBefore row columns col) → IsWithout g (with_cell h (record { col = col; row = row }) Empty) (InColumnsBefore row columns (col + 1))
+columns_more g h row columns col all here there before =
+    let made : ℕ → ℕ → Point = λ c r. record { col = c; row = r } in
+    let q : Point = made col row in
+    without_both g h (with_cell h q Empty) (InColumnsBefore row columns col) (λ p. p ≡ q) (InColumnsBefore row columns (col + 1)) before (point_emptied h q here all)
+    (λ p first same. let at : p.col ≡ col = ap (λ x. x.col) same in omega (arith, first.2))
+    (λ p first. (first.0, first.1, omega (arith, first.2)))
+    (λ p same. let at : p.col ≡ col = ap (λ x. x.col) same in (ap (λ x. x.row) same, ap (has_bit columns) at ∙ there, omega arith))
+    (λ p both.
+    elim (cases_eq p.col col) [
+      | inl same ↦
+          let first : p ≡ made col p.row = ap (λ c. made c p.row) same in
+          let second : made col p.row ≡ q = ap (λ r. made col r) both.0 in
+          inr (first ∙ second)
+      | inr other ↦ inl (both.0, both.1, omega (arith, both.2, other))
+    ])
+
+-- one column more, which isn't asked for
+pub columns_same : (g h : Grid) (row columns col : ℕ) → has_bit columns col ≡ false → IsWithout g h (InColumnsBefore row columns col) → IsWithout g h (InColumnsBefore row columns (col + 1))
+columns_same g h row columns col none before = record {
+  same_side = before.same_side;
+  all = before.all;
+  emptied = λ p on gone.
+      elim (cases_eq p.col col) [
+        | inl same ↦ absurd (true≢false (sym gone.1 ∙ ap (has_bit columns) same ∙ none))
+        | inr other ↦ before.emptied p on (gone.0, gone.1, omega (arith, gone.2, other))
+      ];
+  kept = λ p on left. before.kept p on (λ gone. left (gone.0, gone.1, omega (arith, gone.2)));
+}
+
+-- no columns
+pub no_columns : (g : Grid) (row : ℕ) → IsWithout g g (λ p. (p.row ≡ row) × (has_bit 0 p.col ≡ true))
+no_columns g row = record {
+  same_side = refl;
+  all = refl;
+  emptied = λ p on gone. absurd (false≢true (sym (has_bit-zero p.col) ∙ gone.1));
+  kept = λ p on left. refl;
+}

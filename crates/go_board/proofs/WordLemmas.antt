@@ -1,7 +1,6 @@
 -- Words as sets of columns: what the operations on words make of their bits.
 use Rattle.std.proofs.Common.{◌≡◌, ◌≢◌, ◌⊎◌, inl, inr, ℕ, zero, suc, ◌+◌, ◌-◌, ◌*◌, ◌/◌, ◌%◌, ◌^◌, ◌<◌, ◌≤◌, ◌==◌, ◌||◌, ◌&&◌, min, max, Bool, true, false, not, bit_and, bit_or, w64, refl, sym, ap, ◌∙◌, arith, subst}
 use Rattle.std.specs.Int.{bit_at, bit_not}
-use Rattle.std.proofs.Math.Bool.{or-true}
 use Rattle.std.proofs.lemmas.Bool.{not-false, false≢true, cases_lt, cases_eq, eqb-true, eqb-false}
 use Rattle.std.proofs.lemmas.Nat.{le_or_l, and_mask, mod_below, pow_pos}
 use Rattle.std.proofs.lemmas.Nat.Bits.{bit_at_and, bit_at_or, bit_at_not, bit_at-lt, bit_at-suc, bit_at-zero, bit_at_above, bit_at_ones, bit_at_cat_high, bit_at_cat_low, same_from_bits}
@@ -125,12 +124,5 @@ le_from_part a b part =
 
 -- a word with a column more
 module _ (word next col : ℕ) (there : has_bit next col ≡ (has_bit word col || true)) (elsewhere : (k : ℕ) → k ≢ col → has_bit next k ≡ has_bit word k) where
-  pub IsPart-more : IsPart (has_bit word) (has_bit next)
-  IsPart-more k is =
-      elim (cases_eq k col) [
-        | inl same ↦ ap (has_bit next) same ∙ there ∙ or-true (has_bit word col)
-        | inr other ↦ elsewhere k other ∙ is
-      ]
-
   pub from_more : (k : ℕ) → has_bit next k ≡ true → (has_bit word k ≡ true) ⊎ (k ≡ col)
   from_more k is = elim (cases_eq k col) [ inl same ↦ inr same | inr other ↦ inl (sym (elsewhere k other) ∙ is) ]

@@ -1,28 +1,48 @@
--- The past colourings of a game, newest first, each with whether it begins a stretch. Positional superko looks at the present
--- stretch alone: what it forbids is in Reason.antt.
-use Rattle.std.specs.Prelude.{◌≡◌, ℕ, Bool, Option, Some, None, List, [], ◌∷◌, if◌then◌else◌, unwrap_or}
-use Rattle.go_board.specs.Grid.{Grid, empty_grid}
+-- The past colourings of a game, each with whether it begins a stretch. Positional superko looks at the present stretch alone:
+-- what it forbids is in Reason.antt.
+use Rattle.std.specs.Prelude.{◌≡◌, ℕ, Bool, true, List, [], ◌∷◌, if◌then◌else◌}
+use Rattle.go_board.specs.Grid.{Grid}
 
 -- a past colouring, and whether it begins a stretch
 pub record Held : Type 0 where
   pub colouring : Grid
   pub begins : Bool
 
--- the newest of the past colourings
-abbrev pub newest : List Held → Option Grid
-newest [] = None
-newest (first ∷ others) = Some first.colouring
+-- the past colourings: the newest, and those before it, newest first
+pub record PastColourings : Type 0 where
+  pub newest : Held
+  pub older : List Held
 
--- the same, where there is one
-abbrev pub newest_grid : List Held → Grid
-newest_grid held = unwrap_or (newest held) (empty_grid 0)
+-- all of them, newest first
+abbrev pub all_of : PastColourings → List Held
+all_of past = past.newest ∷ past.older
 
--- the colourings of the present stretch: the newest one that begins a stretch, and all after it
-abbrev pub present_stretch : List Held → List Grid
-present_stretch [] = []
-present_stretch (first ∷ others) = first.colouring ∷ (if first.begins then [] else present_stretch others)
+-- the newest of them
+abbrev pub newest_grid : PastColourings → Grid
+newest_grid past = past.newest.colouring
+
+-- one colouring alone, which begins a stretch
+abbrev pub only : Grid → PastColourings
+only grid = record { newest = record { colouring = grid; begins = true }; older = [] }
+
+-- one colouring more, which begins a stretch or goes on in the present one
+abbrev pub with_next : PastColourings → Grid → Bool → PastColourings
+with_next past grid begins =
+    record { newest = record { colouring = grid; begins = begins }; older = all_of past }
+
+-- the colourings of the newest stretch: the newest one that begins a stretch, and all after it
+abbrev pub stretch_of : List Held → List Grid
+stretch_of [] = []
+stretch_of (first ∷ others) = first.colouring ∷ (if first.begins then [] else stretch_of others)
+
+-- the colourings of the present stretch
+abbrev pub present_stretch : PastColourings → List Grid
+present_stretch past = stretch_of (all_of past)
 
 -- each of the colourings has that side
-abbrev pub HaveSide : ℕ → List Held → Type 0
-HaveSide side [] = Unit {0}
-HaveSide side (first ∷ others) = (first.colouring.side ≡ side) × HaveSide side others
+abbrev pub AllHaveSide : ℕ → List Held → Type 0
+AllHaveSide side [] = Unit {0}
+AllHaveSide side (first ∷ others) = (first.colouring.side ≡ side) × AllHaveSide side others
+
+abbrev pub HaveSide : ℕ → PastColourings → Type 0
+HaveSide side past = AllHaveSide side (all_of past)

@@ -1,9 +1,10 @@
 -- Why a turn isn't allowed: the reasons as facts, in their order, and as a function that computes.
-use Rattle.std.specs.Prelude.{◌≡◌, ◌≢◌, ℕ, ◌<◌, Bool, false, not, ◌&&◌, ◌==◌, if◌then◌else◌, Option, Some, None, List, Contains, codes}
+use Rattle.std.specs.Prelude.{◌≡◌, ◌≢◌, ◌⊎◌, ℕ, ◌<◌, Bool, false, not, ◌&&◌, ◌==◌, if◌then◌else◌, Option, Some, None, List, [], ◌∷◌, Contains, codes}
 use Rattle.std.specs.List.{list_any}
 use Rattle.std.specs.Cmp.Lexicographic.{pointwise}
 use Rattle.go_board.specs.declared.stones.Cell.TheVariants.{Empty}
 use Rattle.go_board.specs.declared.stones.Colour.{Colour}
+use Rattle.go_board.specs.declared.points.Point.{Point}
 use Rattle.go_board.specs.declared.referee.plays.Play.{Play}
 use Rattle.go_board.specs.declared.referee.plays.Play.TheVariants.{Pass, Stone}
 use Rattle.go_board.specs.declared.reason.Reason.{Reason}
@@ -43,6 +44,13 @@ rank_of Repeat = 7
 pub record IsFirstReason (state : State) (colour : Colour) (turn : Play) (reason : Reason) : Type 0 where
   pub holds : Forbids state colour turn reason
   pub first : (other : Reason) → rank_of other < rank_of reason → ¬ Forbids state colour turn other
+
+-- a colouring of the stretch has a stone on the point, and the one after it has none
+abbrev pub WasEmptied : Point → List Grid → Type 0
+WasEmptied point [] = ⊥
+WasEmptied point (later ∷ []) = ⊥
+WasEmptied point (later ∷ (earlier ∷ others)) =
+    ((cell_at earlier point ≢ Empty) × (cell_at later point ≡ Empty)) ⊎ WasEmptied point (earlier ∷ others)
 
 -- Below, the same as a function that computes; the laws say that the two agree.
 

@@ -1,7 +1,7 @@
 -- Words of private contracts, views and invariants.
 pub mod Neighbour
 pub mod Rows
-pub mod Edge
+pub mod Fill
 pub mod Linked
 pub mod Regions
 pub mod Glance

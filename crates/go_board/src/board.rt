@@ -1,26 +1,21 @@
 //! The board: reading and setting points, moves and the score (Tromp-Taylor).
 
-mod alone;
 mod areas;
 mod capture;
+pub(crate) mod cells;
 mod fill;
 mod flood;
 mod glance;
 mod group;
 pub(crate) mod regions;
-mod reset;
 mod search;
 pub(crate) mod stone_rows;
-mod sweep;
 
-ghost use Rattle.std.specs.Prelude.{◌≡◌, replicate};
-ghost use Rattle.go_board.specs.declared.stones.Cell.TheVariants.{Empty};
-
-use crate::board::regions::{count_apart, no_rows};
+use crate::board::regions::{count_apart, no_rows, with_column};
 use crate::board::stone_rows::StoneRows;
 use crate::past::print::{print_of, print_with};
 use crate::points::Point;
-use crate::size::{MAX_POINTS, MAX_ROWS, MAX_SIDE, Size, USUAL_ROWS};
+use crate::size::{MAX_POINTS, MAX_ROWS, Size};
 use crate::stones::{Cell, Colour};
 use std::marker::Model;
 
@@ -28,63 +23,59 @@ use std::marker::Model;
 #[derive(Drop)]
 pub struct Board {
     size: Size,
-    cells: [Cell; MAX_POINTS],
+    /// The stones, as rows of words.
+    rows: StoneRows,
     /// Whether it is known that every stone reaches empty. After a move it is; a colouring from outside can have a stone
     /// that doesn't.
     settled: bool,
     /// The print of the colouring, where it is known.
     print: u64,
     printed: bool,
-    /// The stones as rows of words, where they are known.
-    rows: StoneRows,
 }
 
 impl Model for Board {
-    ghost use Rattle.std.specs.Prelude.{◌≡◌, ◌*◌, ◌≤◌, IsTrue, false, length, take};
+    ghost use Rattle.std.specs.Prelude.{◌≡◌, IsTrue, false};
     ghost use Rattle.go_board.specs.Clearing.{has_unreaching};
-    ghost use Rattle.go_board.specs.declared.size.TheConstants.{MAX_POINTS};
     ghost use Rattle.go_board.specs.Grid.{Grid};
     ghost use Rattle.go_board.specs.inner.Print.{print_of};
-    ghost use Rattle.go_board.specs.inner.Regions.{AreRowsKept};
+    ghost use Rattle.go_board.specs.inner.Regions.{AreStones, grid_with};
 
     ghost Value = { Grid };
 
-    ghost view = { λ b. record { side = b.size; cells = take (b.size * b.size) b.cells } };
+    ghost view = { λ b. grid_with b.size b.rows };
 
-    ghost invariant = { λ b. (length b.cells ≡ MAX_POINTS)
-        × (b.size * b.size ≤ MAX_POINTS)
-        × (IsTrue b.settled
-        → has_unreaching (record { side = b.size; cells = take (b.size * b.size) b.cells }) ≡ false)
-        × (IsTrue b.printed → b.print ≡ print_of (take (b.size * b.size) b.cells))
-        × AreRowsKept (record { side = b.size; cells = take (b.size * b.size) b.cells }) b.rows };
+    ghost invariant = { λ b. AreStones (grid_with b.size b.rows) b.rows
+        × (IsTrue b.settled → has_unreaching (grid_with b.size b.rows) ≡ false)
+        × (IsTrue b.printed → b.print ≡ print_of (grid_with b.size b.rows).cells) };
 }
 
 impl Board {
-    ghost use Rattle.std.specs.Prelude.{◌≡◌, ◌*◌, ◌+◌, ◌≤◌, ◌↔◌, IsTrue, false, length};
+    ghost use Rattle.std.specs.Prelude.{◌≡◌, ◌*◌, ◌<◌, ◌≤◌, ◌↔◌, ℕ, IsTrue, false, length};
     ghost use Rattle.go_board.specs.declared.stones.Cell.TheVariants.{Empty};
     ghost use Rattle.go_board.specs.declared.stones.Colour.TheVariants.{Black, White};
     ghost use Rattle.go_board.specs.declared.points.Point.{Point};
     ghost use Rattle.go_board.specs.Point.{IsOn};
-    ghost use Rattle.go_board.specs.Colour.{stone_of};
+    ghost use Rattle.go_board.specs.Colour.{same_cell, stone_of};
     ghost use Rattle.go_board.specs.Grid.{cell_at, with_cell, empty_grid};
     ghost use Rattle.go_board.specs.Marking.{is_marked, marked_count};
     ghost use Rattle.go_board.specs.Reaching.{Reaches};
     ghost use Rattle.go_board.specs.Clearing.{clear, play, has_unreaching};
     ghost use Rattle.go_board.specs.Score.{score_of};
     ghost use Rattle.go_board.specs.inner.Print.{print_of};
+    ghost use Rattle.go_board.specs.inner.Regions.{with_columns};
+    ghost use Rattle.go_board.specs.inner.Rows.{has_bit};
 
     /// The board of that size on which nothing stands.
     pub fn empty(size: Size) -> Board
         ensures { result ≡ empty_grid size }
     {
-        prove!(size.points() <= MAX_POINTS);
+        prove!(usize::from(size.side()) <= MAX_ROWS);
         Board {
             size,
-            cells: nothing(),
+            rows: StoneRows::none(),
             settled: true,
             print: 0,
             printed: true,
-            rows: StoneRows::none(),
         }
     }
 
@@ -95,12 +86,13 @@ impl Board {
         self.size
     }
 
-    /// What stands on each point, row by row from the top, from left to right.
-    pub fn cells(&self) -> &[Cell]
-        ensures cells { result.now ≡ self.now.cells }
-        ensures all { length result.now ≡ self.now.side * self.now.side }
+    /// Tells a proof that every point has a cell, and that the board is no greater than the greatest one.
+    pub(crate) fn has_all_cells(&self)
+        ensures all { length self.now.cells ≡ self.now.side * self.now.side }
+        ensures few { self.now.side ≤ MAX_ROWS }
+        ensures few_points { self.now.side * self.now.side ≤ MAX_POINTS }
     {
-        &self.cells[..self.size.points()]
+        prove!(self.size.points() <= MAX_POINTS);
     }
 
     /// What stands on a point.
@@ -108,7 +100,20 @@ impl Board {
         requires { IsOn self.now.side point }
         ensures { result ≡ cell_at self.now point }
     {
-        self.cells[point.index(self.size)]
+        self.rows.at(point)
+    }
+
+    /// The columns of a row with a stone of a colour, a bit for each.
+    pub(crate) fn columns_of(&self, row: u8, colour: Colour) -> u64
+        requires { row < self.now.side }
+        ensures within { (col : ℕ) → col < self.now.side → has_bit result col
+            ≡ same_cell (cell_at self.now (record { col = col; row = row })) (stone_of colour) }
+        ensures off { (col : ℕ) → IsTrue (has_bit result col) → col < self.now.side }
+    {
+        match colour {
+            Colour::Black => self.rows.black[usize::from(row)],
+            Colour::White => self.rows.white[usize::from(row)],
+        }
     }
 
     /// Colours one point, and no other. Nothing is cleared.
@@ -116,12 +121,11 @@ impl Board {
         requires { IsOn self.old.side point }
         ensures { self.new ≡ with_cell self.old point cell }
     {
-        let index = point.index(self.size);
-        let points = self.size.points();
-        self.print = print_with(self.print, &self.cells[..points], index, cell);
-        self.cells[index] = cell;
-        self.rows.set(point, cell);
-        self.settled = false;
+        let print = print_with(self.print, self, point, cell);
+        let printed = self.printed;
+        self.set_unprinted(point, cell);
+        self.print = print;
+        self.printed = printed;
     }
 
     /// Colours one point as `set` does, where the print of what that makes isn't asked for, or is given back by `restore`.
@@ -129,37 +133,39 @@ impl Board {
         requires { IsOn self.old.side point }
         ensures { self.new ≡ with_cell self.old point cell }
     {
-        prove!(self.size.side() <= MAX_SIDE);
-        let index = point.index(self.size);
-        self.cells[index] = cell;
-        self.rows.set(point, cell);
-        self.settled = false;
-        self.printed = false;
+        self.has_all_cells();
+        let column = with_column(0, usize::from(point.col), true);
+        self.colour_columns(point.row, column, cell);
     }
 
-    /// Colours every point: cells are the points row by row from the top, from left to right.
-    pub fn set_cells(&mut self, cells: &[Cell])
-        requires { length cells.now ≡ self.old.side * self.old.side }
-        ensures { self.new ≡ record self.old { cells = cells.now } }
+    /// Colours the points of a row in a set of columns. Nothing is cleared.
+    pub(crate) fn colour_columns(&mut self, row: u8, columns: u64, cell: Cell)
+        requires row { row < self.old.side }
+        requires columns { (col : ℕ) → IsTrue (has_bit columns col) → col < self.old.side }
+        ensures { self.new ≡ with_columns self.old row columns cell }
     {
-        self.cells[..cells.len()].copy_from_slice(cells);
+        self.rows.colour(usize::from(row), columns, cell);
         self.settled = false;
         self.printed = false;
-        self.rows.known = false;
     }
 
     /// Whether two boards have the same side and the same colouring.
     pub fn same(&self, other: &Board) -> bool
         ensures { IsTrue result ↔ (self.now ≡ other.now) }
     {
-        self.is_of(other.size, other.cells())
+        self.size == other.size && self.rows.same(&other.rows, self.size)
     }
 
-    /// Whether it has that side and those cells.
-    pub(crate) fn is_of(&self, size: Size, cells: &[Cell]) -> bool
-        ensures { IsTrue result ↔ (self.now ≡ record { side = size; cells = cells.now }) }
+    /// Whether a row is the same on a board of the same size.
+    pub(crate) fn has_same_row(&self, other: &Board, row: u8) -> bool
+        requires side { other.now.side ≡ self.now.side }
+        requires row { row < self.now.side }
+        ensures { IsTrue result → (col : ℕ) → col < self.now.side
+            → cell_at self.now (record { col = col; row = row }) ≡ cell_at other.now (record { col = col; row = row }) }
     {
-        self.cells() == cells && self.size == size
+        let row = usize::from(row);
+        self.rows.black[row] == other.rows.black[row]
+            && self.rows.white[row] == other.rows.white[row]
     }
 
     /// A board with the same side and the same colouring.
@@ -168,24 +174,11 @@ impl Board {
     {
         Board {
             size: self.size,
-            cells: self.cells,
+            rows: self.rows,
             settled: self.settled,
             print: self.print,
             printed: self.printed,
-            rows: self.rows,
         }
-    }
-
-    /// Gives this board the colouring of another one of the same size.
-    pub fn copy_from(&mut self, other: &Board)
-        requires { self.old.side ≡ other.now.side }
-        ensures { self.new ≡ other.now }
-    {
-        self.set_cells(other.cells());
-        self.settled = other.settled;
-        self.print = other.print;
-        self.printed = other.printed;
-        self.rows.copy_from(&other.rows, self.size);
     }
 
     /// Whether it is known that every stone reaches empty: true only where each does.
@@ -213,7 +206,7 @@ impl Board {
         if self.printed {
             self.print
         } else {
-            print_of(self.cells())
+            print_of(self)
         }
     }
 
@@ -222,7 +215,7 @@ impl Board {
         requires { IsOn self.now.side point }
         ensures { result ≡ print_of (with_cell self.now point cell).cells }
     {
-        print_with(self.print(), self.cells(), point.index(self.size), cell)
+        print_with(self.print(), self, point, cell)
     }
 
     /// Places a stone that captures nothing, where the print of what that makes is known. It stays known that every stone
@@ -233,35 +226,19 @@ impl Board {
         requires print { print ≡ print_of (with_cell self.old point (stone_of colour)).cells }
         ensures { self.new ≡ with_cell self.old point (stone_of colour) }
     {
-        prove!(self.size.side() <= MAX_SIDE);
-        let index = point.index(self.size);
-        let cell = colour.stone();
-        self.cells[index] = cell;
-        self.rows.set(point, cell);
+        self.set_unprinted(point, colour.stone());
         self.print = print;
         self.printed = true;
         self.settled = true;
     }
 
-    /// Works out what a move asks of the board, to be kept from then on: the rows of the stones, whether every stone reaches
-    /// empty, and the print.
+    /// Works out what a move asks of the board, to be kept from then on: whether every stone reaches empty, and the print.
     /// Nothing that is seen changes.
     pub(crate) fn prepare(&mut self)
         ensures { self.new ≡ self.old }
     {
-        self.work_rows_out();
         self.work_settled_out();
         self.work_print_out();
-    }
-
-    /// Works the rows of the stones out, if they aren't known, to be kept from then on. Nothing that is seen changes.
-    fn work_rows_out(&mut self)
-        ensures { self.new ≡ self.old }
-    {
-        if !self.rows.known {
-            self.rows
-                .work_out(&self.cells[..self.size.points()], self.size);
-        }
     }
 
     /// Works out whether every stone reaches empty, if it isn't known. Nothing that is seen changes.
@@ -287,32 +264,10 @@ impl Board {
         if self.settled {
             return;
         }
-        if self.is_usual() {
-            self.clear_by::<USUAL_ROWS>(colour);
-        } else {
-            self.clear_by::<MAX_ROWS>(colour);
-        }
-    }
-
-    /// The same, whatever is known of the board. `N` rows are enough for it.
-    fn clear_by<const N: usize>(&mut self, colour: Colour)
-        requires enough { self.old.side ≤ N }
-        requires at_most { N ≤ MAX_ROWS }
-        ensures value { self.new ≡ clear self.old colour }
-        ensures side { self.new.side ≡ self.old.side }
-    {
-        let mut shut_words = no_rows::<N>();
-        let shut = &mut shut_words[..usize::from(self.size.side())];
-        self.shut_stones::<N>(colour, shut);
+        let mut words = no_rows();
+        let shut = &mut words[..usize::from(self.size.side())];
+        self.shut_stones(colour, shut);
         self.empty_set(shut);
-    }
-
-    /// Whether the board is no greater than the usual ones.
-    pub(crate) fn is_usual(&self) -> bool
-        ensures usual { IsTrue result → self.now.side ≤ USUAL_ROWS }
-        ensures at_most { self.now.side ≤ MAX_ROWS }
-    {
-        usize::from(self.size.side()) <= USUAL_ROWS
     }
 
     /// The whole move: the point takes the player's colour, then the opponent's colour is cleared, then the player's
@@ -324,7 +279,6 @@ impl Board {
         ensures value { self.new ≡ play self.old colour point }
         ensures side { self.new.side ≡ self.old.side }
     {
-        self.work_rows_out();
         self.work_settled_out();
         if self.settled {
             self.place_settled(colour, point);
@@ -366,25 +320,11 @@ impl Board {
         ensures black { result.0 ≡ score_of self.now Black }
         ensures white { result.1 ≡ score_of self.now White }
     {
-        if self.is_usual() {
-            self.score_by::<USUAL_ROWS>()
-        } else {
-            self.score_by::<MAX_ROWS>()
-        }
-    }
-
-    /// The same. `N` rows are enough for the board.
-    fn score_by<const N: usize>(&self) -> (u32, u32)
-        requires enough { self.now.side ≤ N }
-        requires at_most { N ≤ MAX_ROWS }
-        ensures black { result.0 ≡ score_of self.now Black }
-        ensures white { result.1 ≡ score_of self.now White }
-    {
         let side = usize::from(self.size.side());
-        let (mut black_rows, mut white_rows) = (no_rows::<N>(), no_rows::<N>());
-        let black = &mut black_rows[..side];
-        let white = &mut white_rows[..side];
-        self.areas::<N>(black, white);
+        let (mut black_words, mut white_words) = (no_rows(), no_rows());
+        let black = &mut black_words[..side];
+        let white = &mut white_words[..side];
+        self.areas(black, white);
         (count_apart(black, white), count_apart(white, black))
     }
 
@@ -395,33 +335,8 @@ impl Board {
         if self.settled {
             return false;
         }
-        if self.is_usual() {
-            self.has_unreaching_by::<USUAL_ROWS>()
-        } else {
-            self.has_unreaching_by::<MAX_ROWS>()
-        }
-    }
-
-    /// The same, where it isn't known. `N` rows are enough for the board.
-    fn has_unreaching_by<const N: usize>(&self) -> bool
-        requires enough { self.now.side ≤ N }
-        requires at_most { N ≤ MAX_ROWS }
-        ensures { result ≡ has_unreaching self.now }
-    {
-        let (mut black_rows, mut white_rows) = (no_rows::<N>(), no_rows::<N>());
-        let side = usize::from(self.size.side());
-        let black = &mut black_rows[..side];
-        let white = &mut white_rows[..side];
-        self.stones(black, white);
-        let black_reach = self.all_reach::<N>(Colour::Black, black, white);
-        let white_reach = self.all_reach::<N>(Colour::White, white, black);
+        let black_reach = self.all_reach(Colour::Black);
+        let white_reach = self.all_reach(Colour::White);
         !(black_reach & white_reach)
     }
-}
-
-/// So many cells on which nothing stands.
-pub(crate) fn nothing<const N: usize>() -> [Cell; N]
-    ensures { result ≡ replicate N Empty }
-{
-    [Cell::Empty; N]
 }

@@ -1,12 +1,14 @@
 //! What the words of the contracts mean. Each function here does nothing; its contract is a law, proved.
 
-ghost use Rattle.std.specs.Prelude.{◌≡◌, ◌≢◌, ◌≤◌, ◌*◌, ◌↔◌, if◌then◌else◌, IsTrue, ℕ, List, Option, Some, false, length, map, slice_get};
+ghost use Rattle.std.specs.Prelude.{◌≡◌, ◌≢◌, ◌≤◌, ◌*◌, ◌↔◌, ◌∷◌, if◌then◌else◌, IsTrue, ℕ, List, Option, Some, false, length, map, slice_get};
 ghost use Rattle.go_board.specs.declared.stones.Cell.{Cell};
 ghost use Rattle.go_board.specs.declared.stones.Cell.TheVariants.{Empty};
 ghost use Rattle.go_board.specs.declared.stones.Colour.{Colour};
 ghost use Rattle.go_board.specs.declared.points.Point.{Point};
 ghost use Rattle.go_board.specs.declared.reason.Reason.{Reason};
+ghost use Rattle.go_board.specs.declared.reason.Reason.TheVariants.{Repeat};
 ghost use Rattle.go_board.specs.declared.referee.plays.Play.{Play};
+ghost use Rattle.go_board.specs.declared.referee.plays.Play.TheVariants.{Stone};
 ghost use Rattle.go_board.specs.declared.referee.plays.SetupOp.{SetupOp};
 ghost use Rattle.go_board.specs.Colour.{stone_of};
 ghost use Rattle.go_board.specs.Point.{IsOn, index_of, points};
@@ -16,7 +18,7 @@ ghost use Rattle.go_board.specs.Clearing.{clear, play, HasUnreaching, has_unreac
 ghost use Rattle.go_board.specs.Score.{CountsFor, counts_for};
 ghost use Rattle.go_board.specs.Vertex.{vertex_of};
 ghost use Rattle.go_board.specs.State.{State, is_in, with_area, set_up, turned};
-ghost use Rattle.go_board.specs.Reason.{IsFirstReason, reason_of};
+ghost use Rattle.go_board.specs.Reason.{Forbids, IsFirstReason, WasEmptied, reason_of};
 
 /// The points of a grid are listed once each, a point at its index and nowhere else.
 pub fn listing()
@@ -95,6 +97,14 @@ pub fn naming()
 pub fn reasons()
     ensures { (state : State) (colour : Colour) (turn : Play) (reason : Reason)
         → ((reason_of state colour turn ≡ Some reason) ↔ IsFirstReason state colour turn reason) }
+{}
+
+/// A stone that stays on its point can repeat a colouring of the stretch only where that point was emptied.
+pub fn repeating()
+    ensures { (state : State) (others : List Grid) (colour : Colour) (point : Point)
+        → state.seen ≡ state.colouring ∷ others → cell_at state.colouring point ≡ Empty
+        → cell_at (play state.colouring colour point) point ≢ Empty
+        → Forbids state colour (Stone point) Repeat → WasEmptied point state.seen }
 {}
 
 /// Colouring an area colours its points, and no other.

@@ -22,26 +22,24 @@
 //! | `vertices` | points as the Go Text Protocol writes them |
 //! | `marks`, `steps` | a set of points of a board; a count of work |
 //! | `board` | the board: reading, setting, moves, score |
+//! | `board/stone_rows` | the stones of a board as rows of bits |
 //! | `board/flood`, `board/search` | the flood that counts its steps, and its worklist |
-//! | `board/group` | whether the group of a stone has a liberty, by rows of bits |
-//! | `board/capture`, `board/sweep` | groups without a liberty taken off one at a time; sets of points taken off |
-//! | `board/glance`, `board/alone` | stones that capture nothing, told by a glance at the rows around them, or by the groups beside them |
 //! | `board/regions`, `board/fill` | sets of points as rows of bits, and filling these: the score, whether all stones reach empty |
-//! | `board/stone_rows` | the stones of a board as rows of bits, kept while points are set |
-//! | `board/areas`, `board/reset` | colouring areas; emptying the board in place |
+//! | `board/group`, `board/capture` | the group of a stone, by rows of bits; groups without a liberty taken off one at a time |
+//! | `board/glance` | a glance at the rows around a stone: mostly it tells that it captures nothing |
+//! | `board/areas`, `board/cells` | colouring areas and emptying sets of points; a board as a list of cells |
 //! | `past` | the colourings that a game has been through; `past/list_past` and `past/print_past` keep them |
-//! | `past/colourings`, `past/changes`, `past/differences`, `past/cells` | past colourings as changes that lead back |
-//! | `past/captures`, `past/setups` | a stone with what it captures, and a setup's points, on the newest colouring itself |
+//! | `past/colourings`, `past/changes` | past colourings as changes that lead back |
 //! | `past/print`, `past/table` | the print of a colouring, and `past/print/powers` for it; prints looked up by a table |
 //! | `reason`, `fault` | why a turn, or a node, isn't allowed; the errors |
-//! | `referee` | the referee and undo; `referee/plays`, `referee/setup`, `referee/turn`, `referee/spare_turn` and `referee/reset` below it |
+//! | `referee` | the referee and undo; `referee/plays`, `referee/setup`, `referee/turn`, `referee/stay` and `referee/reset` below it |
 //! | `laws` | what follows from the definitions |
 //!
 //! A point *reaches* a colour where a path of adjacent points of the point's own colour leads from it to a point of that
-//! colour; a stone that reaches empty has a liberty. Only a past's `new`, `push`, `restart`, `try_stone` and `try_setup` and a
-//! referee's `new`, `setup` and `turn` take memory, and their `reset` where the past can't be begun anew in place.
+//! colour; a stone that reaches empty has a liberty. Only a past's `new`, `push`, `restart`, `play` and `set_up` and a
+//! referee's `new`, `setup`, `turn` and `stay` take memory, and their `reset` where the past can't be begun anew in place.
 //!
-//! Worked examples stand in the crate `board_examples`.
+//! Worked examples stand in the crate `go_board_tests`.
 #![tactic(auto)]
 
 mod board;

@@ -27,6 +27,19 @@ impl Point {
         usize::from(self.row) * usize::from(size.side()) + usize::from(self.col)
     }
 
+    /// The point of an index in that list.
+    pub(crate) fn of_index(index: usize, size: Size) -> Point
+        requires { index < size * size }
+        ensures on_board { IsOn size result }
+        ensures value { index_of size result ≡ index }
+    {
+        let side = usize::from(size.side());
+        Point {
+            col: (index % side) as u8,
+            row: (index / side) as u8,
+        }
+    }
+
     /// The next point in a list that goes row by row from the top, from left to right; after the last point of the board
     /// the first of the row after it.
     pub(crate) fn following(self, size: Size) -> Point

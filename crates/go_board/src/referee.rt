@@ -1,14 +1,12 @@
-//! The referee: the rules of Tromp-Taylor over a past, with undo. Each accepted setup or turn keeps the player, the passes and
+//! The referee: the rules of Tromp-Taylor over a past, with undo. Each accepted call keeps the player, the passes and
 //! the turns from before it (`Earlier`), and `undo` gives them back; where the call added a colouring to the past, `undo` takes
 //! it off.
 
 mod plays;
 mod reset;
 mod setup;
-mod spare_turn;
+mod stay;
 mod turn;
-
-ghost use Rattle.std.specs.Prelude.{◌≡◌, IsTrue};
 
 use crate::board::Board;
 use crate::fault::MemoryFault;
@@ -23,14 +21,10 @@ use std::marker::Model;
 const FIRST_STATES: usize = 64;
 
 /// A referee of one game. It is seen as the list of the states that the game was in: the present one, and before it one
-/// for each accepted setup or turn that wasn't taken back. After a refusal it is unchanged.
+/// for each accepted call that wasn't taken back: a setup, a turn or a stay. After a refusal it is unchanged.
 #[derive(Drop)]
 pub struct Referee<P: Past> {
     past: P,
-    /// A second board, on which stones are tried and areas coloured.
-    spare: Board,
-    /// Whether it is known that the spare board has the present colouring.
-    spare_is_current: bool,
     player: Option<Colour>,
     passes: u8,
     turns: u64,
@@ -38,7 +32,7 @@ pub struct Referee<P: Past> {
     earlier: Vec<Earlier>,
 }
 
-/// What is kept of the state before an accepted setup or turn, besides the past.
+/// What is kept of the state before an accepted call, besides the past.
 #[derive(Clone, Copy)]
 struct Earlier {
     /// How many turns were made.
@@ -52,7 +46,7 @@ struct Earlier {
 }
 
 impl<P: Past> Model for Referee<P> {
-    ghost use Rattle.std.specs.Prelude.{IsTrue, reverse};
+    ghost use Rattle.std.specs.Prelude.{reverse};
     ghost use Rattle.go_board.specs.State.{States};
     ghost use Rattle.go_board.specs.inner.Earlier.{states_of, IsRefereeKept};
 
@@ -60,25 +54,22 @@ impl<P: Past> Model for Referee<P> {
 
     ghost view = { λ r. states_of (P.held r.past) r.player r.passes r.turns r.earlier.items };
 
-    ghost invariant = { λ r. IsRefereeKept (P.held r.past) r.spare (IsTrue r.spare_is_current) r.player r.passes r.turns (reverse r.earlier.items) };
+    ghost invariant = { λ r. IsRefereeKept (P.held r.past) r.player r.passes r.turns (reverse r.earlier.items) };
 }
 
 impl<P: Past> Referee<P> {
-    ghost use Rattle.std.specs.Prelude.{◌≡◌, ◌<◌, ◌≤◌, length, IfOk};
+    ghost use Rattle.std.specs.Prelude.{◌≡◌, ◌<◌, ◌≤◌, ◌∷◌, length, IfOk};
     ghost use Rattle.go_board.specs.declared.stones.Colour.TheVariants.{Black, White};
     ghost use Rattle.go_board.specs.Score.{score_of};
-    ghost use Rattle.go_board.specs.State.{HaveBegun, begun, followed_by, is_over};
+    ghost use Rattle.go_board.specs.State.{HaveBegun, begun, is_over};
 
     /// A referee in the state in which a game begins: the board is empty and Black must move. `MemoryFault` comes only
     /// where memory was refused.
     pub fn new(alloc: Global, size: Size) -> Result<Referee<P>, MemoryFault>
         ensures { IfOk result (λ referee. referee ≡ begun size) }
     {
-        let spare = Board::empty(size);
         Ok(Referee {
-            past: P::new(alloc, &spare)?,
-            spare,
-            spare_is_current: true,
+            past: P::new(alloc, &Board::empty(size))?,
             player: Some(Colour::Black),
             passes: 0,
             turns: 0,
@@ -86,7 +77,7 @@ impl<P: Past> Referee<P> {
         })
     }
 
-    /// How many accepted setups and turns aren't taken back. The oldest state is that in which a game begins.
+    /// How many accepted calls (setups, turns and stays) aren't taken back. The oldest state is that in which a game begins.
     pub fn depth(&self) -> usize
         ensures value { result ≡ length self.now.earlier }
         ensures begun { HaveBegun self.now }
@@ -94,17 +85,16 @@ impl<P: Past> Referee<P> {
         self.earlier.len()
     }
 
-    /// Takes the newest accepted setup or turn back: the whole state is that before it. `depth` tells whether there is
+    /// Takes the newest accepted call back: the whole state is that before it. `depth` tells whether there is
     /// one.
     pub fn undo(&mut self)
         requires { 0 < length self.old.earlier }
-        ensures value { self.old ≡ followed_by self.new self.old.present }
+        ensures value { self.old.earlier ≡ self.new.present ∷ self.new.earlier }
         ensures side { self.new.present.colouring.side ≡ self.old.present.colouring.side }
     {
         let earlier = self.earlier.pop().unwrap();
         if earlier.grew {
             self.past.pop();
-            self.spare_is_current = false;
         }
         self.player = earlier.player;
         self.passes = earlier.passes;
@@ -156,16 +146,5 @@ impl<P: Past> Referee<P> {
             passes: self.passes,
             grew,
         }
-    }
-}
-
-/// Gives the spare board the newest colouring, unless it is known to have it.
-fn bring_up_to_date(spare: &mut Board, newest: &Board, spare_is_current: bool)
-    requires side { spare.old.side ≡ newest.now.side }
-    requires known { IsTrue spare_is_current → spare.old ≡ newest.now }
-    ensures { spare.new ≡ newest.now }
-{
-    if !spare_is_current {
-        spare.copy_from(newest);
     }
 }

@@ -13,15 +13,11 @@ pub(crate) const MAX_ROWS: usize = MAX_SIDE as usize;
 /// The number of points of the greatest board.
 pub const MAX_POINTS: usize = MAX_ROWS * MAX_ROWS;
 
-/// The number of rows of the usual board, of side 19. An array is filled when it is made, so calls on a board up to that
-/// side make arrays of this length, and leave `MAX_ROWS` to greater boards.
-pub(crate) const USUAL_ROWS: usize = 19;
-
 /// The number of points of a board of side 9, for the worklist of a flood on boards up to that side.
 pub(crate) const SMALL_POINTS: usize = 81;
 
 /// The number of points of the usual board, for the worklist and the cells of calls on boards up to that side.
-pub(crate) const USUAL_POINTS: usize = USUAL_ROWS * USUAL_ROWS;
+pub(crate) const USUAL_POINTS: usize = 361;
 
 /// The side of a square board, in points: 1 to `MAX_SIDE`.
 #[derive(Clone, Copy, Debug, PartialEq, Eq)]

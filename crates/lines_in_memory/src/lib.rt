@@ -1,4 +1,4 @@
-//! How `sgf_lines` is used by a program that has a text in memory and wants the records of its lines there.
+//! How `sgf_lines` is used by a program that has a text in memory: it wants the records of its lines there, or goes over the lines itself.
 #![tactic(auto)]
 
 ghost use Rattle.std.specs.Prelude.{◌≡◌, List, IfOk};
@@ -6,7 +6,8 @@ ghost use Rattle.sgf_lines.specs.Lines.{Line};
 ghost use Rattle.sgf_lines.specs.Record.{output};
 ghost use Rattle.sgf_lines.specs.Answer.{HasPage};
 
-use sgf_lines::{Options, RunFault, SliceSource, WriteSink, split};
+use sgf_lines::{Cursor, Options, RunFault, SliceSource, WriteSink, split};
+use sgf_tree::{Collection, MemoryFault};
 use std::alloc::Global;
 
 #[cfg(test)]
@@ -24,4 +25,14 @@ pub fn records(alloc: Global, text: &[u8], options: &Options) -> Result<Vec<u8>,
         Ok(_) => Ok(sink.into_inner()),
         Err(fault) => Err(fault),
     }
+}
+
+/// How many nodes the longest line of a collection has.
+pub fn longest_line(alloc: Global, collection: &Collection<'_>) -> Result<usize, MemoryFault> {
+    let mut cursor = Cursor::new(alloc, collection);
+    let mut longest = 0;
+    'lines: while let Some(line) = cursor.next()? {
+        longest = line.path().len().max(longest);
+    }
+    Ok(longest)
 }

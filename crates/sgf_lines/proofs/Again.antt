@@ -1,13 +1,18 @@
 -- The sgf output of a collection is itself a text of the grammar, whose sgf output is the same bytes.
-use Rattle.std.proofs.Common.{◌≡◌, ◌≢◌, ℕ, ◌+◌, List, [], ◌∷◌, ◌++◌, length, refl, sym, ap, ◌∙◌, subst, arith, append_assoc, length-append}
-use Rattle.std.proofs.lemmas.Grind.{flat_map-append}
-use Rattle.std.specs.List.{flat_map}
+use Rattle.std.proofs.Common.{◌≡◌, ◌≢◌, ℕ, ◌+◌, List, [], ◌∷◌, ◌++◌, length, map, Some, refl, sym, ap, ◌∙◌, subst, arith, append_assoc, length-append}
+use Rattle.std.specs.List.{flat_map, AllZip}
 use Rattle.sgf_tree.specs.Tree.{Property, Node, Games, no_games, game}
 use Rattle.sgf_tree.specs.RawValue.{IsValue, no_unit, plain, escaped}
 use Rattle.sgf_tree.specs.Spelling.{WhiteSpace, no_white_space, white_space, Letters, no_letter, upper, lower, IsPropValue, prop_value, ArePropValues, no_value, value, IsProperty, property, AreProperties, no_property, properties, IsNode, node, AreNodes, no_node, nodes, AreGames, no_game, games, no_byte_order_mark, Spells, spells}
 use Rattle.sgf_lines.specs.Lines.{Line, through, node_lines, lines_of_game, lines_from, lines}
-use Rattle.sgf_lines.specs.Record.{value_text, property_text, node_text, sgf_record}
-use Rattle.sgf_lines.proofs.Lists.{Each, each_append, each_through}
+use Rattle.sgf_lines.specs.Record.{value_text, property_text, node_text, sgf_record, output}
+use Rattle.sgf_lines.specs.Page.{page}
+use Rattle.sgf_lines.specs.declared.options.Options.{Options}
+use Rattle.sgf_lines.specs.declared.options.Form.TheVariants.{Sgf as sgf_form}
+use Rattle.sgf_lines.specs.SplitAgain.{HaveSame, IsKept}
+use Rattle.sgf_lines.proofs.PagesJoin.{on_page}
+use Rattle.sgf_lines.proofs.SaidAgain.{says_same}
+use Rattle.sgf_lines.proofs.Lists.{Each, each_append, each_parts, each_map, each_through}
 
 -- ---- What is spelled somewhere is spelled by its text, whatever follows.
 
@@ -139,47 +144,99 @@ nodes_same : (at : ℕ) (ns : List Node) → flat_map node_text (all_moved at ns
 nodes_same at [] = refl
 nodes_same at (n ∷ ns) = ap (λ t. node_text n ++ t) (nodes_same (at + length (node_text n)) ns)
 
-records_same : (at : ℕ) (ls : List (List Node)) → Each IsSpelledLine ls → flat_map sgf_record (node_lines (single_games at ls)) ≡ flat_map sgf_record ls
-records_same at [] h = refl
-records_same at ([] ∷ ls) h = absurd (h.0.0 refl)
-records_same at ((n ∷ ns) ∷ ls) h =
-    let one : flat_map node_text (all_moved (at + 1 + length (node_text n)) ns) ≡ flat_map node_text ns = nodes_same (at + 1 + length (node_text n)) ns in
-    let rest = records_same (at + length (sgf_record (n ∷ ns))) ls h.1 in
-    ap (λ t. (40 ∷ ((node_text n ++ t) ++ (41 ∷ 10 ∷ []))) ++ flat_map sgf_record (node_lines (single_games (at + length (sgf_record (n ∷ ns))) ls))) one
-    ∙ ap (λ t. sgf_record (n ∷ ns) ++ t) rest
+-- ---- The lines of a page, and what they became.
 
-records_of_game : (number : ℕ) (variations : List (List Node)) → flat_map (λ line. sgf_record line.nodes) (lines_of_game number variations) ≡ flat_map sgf_record variations
-records_of_game number [] = refl
-records_of_game number (w ∷ ws) = ap (λ t. sgf_record w ++ t) (records_of_game number ws)
+abbrev nodes_of : List Line → List (List Node)
+nodes_of ls = map (λ line. line.nodes) ls
 
-records_of_lines : (number : ℕ) (g : Games) → flat_map (λ line. sgf_record line.nodes) (lines_from number g) ≡ flat_map sgf_record (node_lines g)
-records_of_lines number no_games = refl
-records_of_lines number (game first more below after) =
-    let variations = through (first ∷ more) (node_lines below) in
-    let text = λ (line : Line). sgf_record line.nodes in
-    flat_map-append text (lines_of_game number variations) (lines_from (number + 1) after)
-    ∙ ap (λ t. t ++ flat_map text (lines_from (number + 1) after)) (records_of_game number variations)
-    ∙ ap (λ t. flat_map sgf_record variations ++ t) (records_of_lines (number + 1) after)
-    ∙ sym (flat_map-append sgf_record variations (node_lines after))
+-- each line of a collection that is spelled is spelled
+each_line : (number : ℕ) (g : Games) → Each IsSpelledLine (node_lines g) → Each (λ line. IsSpelledLine line.nodes) (lines_from number g)
+each_line number no_games h = tt
+each_line number (game first more below after) h =
+    let own = through (first ∷ more) (node_lines below) in
+    let parts = each_parts IsSpelledLine own (node_lines after) h in
+    each_append (λ line. IsSpelledLine line.nodes) (lines_of_game number own) (lines_from (number + 1) after)
+    (each_map (λ line. IsSpelledLine line.nodes) (λ nodes. record { game_number = number; nodes = nodes }) own parts.0)
+    (each_line (number + 1) after parts.1)
 
--- the sgf output of the games is spelled by a collection with that output
-again_of : (ls : List (List Node)) → ls ≢ [] → Each IsSpelledLine ls
-    → (d : Games) × Spells d (flat_map sgf_record ls) × (flat_map (λ line. sgf_record line.nodes) (lines d) ≡ flat_map sgf_record ls)
-again_of [] some h = absurd (some refl)
-again_of ([] ∷ ls) some h = absurd (h.0.0 refl)
-again_of ((n ∷ ns) ∷ ls) some h =
-    let d = single_games 0 ((n ∷ ns) ∷ ls) in
-    (d, spells_again n ns ls h, records_of_lines 1 d ∙ records_same 0 ((n ∷ ns) ∷ ls) h)
+-- and so is each line of a page
+page_spelled : (c : Games) (t : List ℕ) → Spells c t → (o : Options) (asked : List Line) → page o c ≡ Some asked → Each IsSpelledLine (nodes_of asked)
+page_spelled c t (spells {first} {more} {below} {after} m g w) o asked e =
+    let all = each_line 1 (game first more below after) (lines_spelled g) in
+    let within = on_page c o asked e in
+    let rest = each_parts (λ line. IsSpelledLine line.nodes) within.0 (asked ++ within.1) (subst (Each (λ line. IsSpelledLine line.nodes)) within.2 all) in
+    let mine = each_parts (λ line. IsSpelledLine line.nodes) asked within.1 rest.1 in
+    each_map IsSpelledLine (λ line. line.nodes) asked mine.0
 
-has_line : (own : List Node) (ls others : List (List Node)) → through own ls ++ others ≢ []
-has_line own [] others e = cc
-has_line own (l ∷ ls) others e = cc
+records_of : (ls : List Line) → flat_map sgf_record (nodes_of ls) ≡ output sgf_form ls
+records_of [] = refl
+records_of (line ∷ ls) = ap (λ t. sgf_record line.nodes ++ t) (records_of ls)
 
-pub sgf_again : (c : Games) (t : List ℕ) → Spells c t
-    → (d : Games) × Spells d (flat_map (λ line. sgf_record line.nodes) (lines c))
-    × (flat_map (λ line. sgf_record line.nodes) (lines d) ≡ flat_map (λ line. sgf_record line.nodes) (lines c))
-sgf_again c t (spells {first} {more} {below} {after} m g w) =
-    let ls = node_lines (game first more below after) in
-    let found = again_of ls (has_line (first ∷ more) (node_lines below) (node_lines after)) (lines_spelled g) in
-    let same : flat_map sgf_record ls ≡ flat_map (λ line. sgf_record line.nodes) (lines c) = sym (records_of_lines 1 (game first more below after)) in
-    (found.0, rw same at found.1, found.2 ∙ same)
+-- ---- The lines of single games.
+
+moved_same : (at : ℕ) (ns : List Node) → AllZip HaveSame ns (all_moved at ns)
+moved_same at [] = tt
+moved_same at (n ∷ ns) = (refl, moved_same (at + length (node_text n)) ns)
+
+record AreSingle (asked : List Line) (others : List Line) : Type 0 where
+  texts : output sgf_form others ≡ flat_map sgf_record (nodes_of asked)
+  kept : AllZip IsKept asked others
+
+single_lines : (at number : ℕ) (asked : List Line) (ls : List (List Node)) → nodes_of asked ≡ ls → Each IsSpelledLine ls
+    → AreSingle asked (lines_from number (single_games at ls))
+single_lines at number [] [] e h = record { texts = refl; kept = tt }
+single_lines at number [] (l ∷ ls) e h = absurd cc
+single_lines at number (line ∷ asked) [] e h = absurd cc
+single_lines at number (line ∷ asked) ([] ∷ ls) e h = absurd (h.0.0 refl)
+single_lines at number (line ∷ asked) ((n ∷ ns) ∷ ls) e h =
+    let here : line.nodes ≡ n ∷ ns = cc in
+    let others : nodes_of asked ≡ ls = cc in
+    let rest = single_lines (at + length (sgf_record (n ∷ ns))) (number + 1) asked ls others h.1 in
+    let moved = all_moved (at + 1 + length (node_text n)) ns in
+    let first : Node = record { place = at + 1; properties = n.properties } in
+    let same : AllZip HaveSame line.nodes (first ∷ moved) =
+    subst (λ l. AllZip HaveSame l (first ∷ moved)) (sym here) (refl, moved_same (at + 1 + length (node_text n)) ns) in
+    let text : sgf_record (first ∷ moved) ≡ sgf_record line.nodes =
+    ap (λ t. 40 ∷ ((node_text n ++ t) ++ (41 ∷ 10 ∷ []))) (nodes_same (at + 1 + length (node_text n)) ns) ∙ ap sgf_record (sym here) in
+    record {
+      texts = ap (λ t. t ++ output sgf_form (lines_from (number + 1) (single_games (at + length (sgf_record (n ∷ ns))) ls))) text
+          ∙ ap (λ t. sgf_record line.nodes ++ t) rest.texts;
+      kept = (record { nodes = same; says = says_same line.nodes (first ∷ moved) same }, rest.kept);
+    }
+
+-- the sgf output of lines is spelled by a collection with that output, whose lines are these
+pub record IsSplit (asked : List Line) : Type 0 where
+  pub games : Games
+  pub spelled : Spells games (output sgf_form asked)
+  pub texts : output sgf_form (lines games) ≡ output sgf_form asked
+  pub kept : AllZip IsKept asked (lines games)
+
+split_by : (asked : List Line) (ls : List (List Node)) → nodes_of asked ≡ ls → ls ≢ [] → Each IsSpelledLine ls → IsSplit asked
+split_by asked [] e some h = absurd (some refl)
+split_by asked ([] ∷ ls) e some h = absurd (h.0.0 refl)
+split_by asked ((n ∷ ns) ∷ ls) e some h =
+    let single = single_lines 0 1 asked ((n ∷ ns) ∷ ls) e h in
+    let text : flat_map sgf_record ((n ∷ ns) ∷ ls) ≡ output sgf_form asked = ap (flat_map sgf_record) (sym e) ∙ records_of asked in
+    record {
+      games = single_games 0 ((n ∷ ns) ∷ ls);
+      spelled = subst (λ t. Spells (single_games 0 ((n ∷ ns) ∷ ls)) t) text (spells_again n ns ls h);
+      texts = single.texts ∙ records_of asked;
+      kept = single.kept;
+    }
+
+some_nodes : (asked : List Line) → asked ≢ [] → nodes_of asked ≢ []
+some_nodes [] some e = some refl
+some_nodes (line ∷ asked) some e = cc
+
+pub page_split : (c : Games) (t : List ℕ) → Spells c t → (o : Options) (asked : List Line) → page o c ≡ Some asked → asked ≢ [] → IsSplit asked
+page_split c t h o asked e some = split_by asked (nodes_of asked) refl (some_nodes asked some) (page_spelled c t h o asked e)
+
+pub sgf_again : (c : Games) (t : List ℕ) → Spells c t → (o : Options) (asked : List Line) → page o c ≡ Some asked → asked ≢ []
+    → (d : Games) × Spells d (output sgf_form asked) × (output sgf_form (lines d) ≡ output sgf_form asked)
+sgf_again c t h o asked e some = let s = page_split c t h o asked e some in (s.games, s.spelled, s.texts)
+
+pub verdicts_kept : ((c d : Games) (t : List ℕ) → Spells c t → Spells d t → c ≡ d) → (c d : Games) (t : List ℕ) → Spells c t
+    → (o : Options) (asked : List Line) → page o c ≡ Some asked → asked ≢ [] → Spells d (output sgf_form asked) → AllZip IsKept asked (lines d)
+verdicts_kept one c d t h o asked e some also =
+    let s = page_split c t h o asked e some in
+    subst (λ g. AllZip IsKept asked (lines g)) (one s.games d (output sgf_form asked) s.spelled also) s.kept

@@ -9,7 +9,7 @@ use Rattle.sgf_tree.specs.Tree.{Games}
 use Rattle.sgf_tree.specs.declared.fault.TheConstants.{MAX_LENGTH}
 use Rattle.sgf_tree.specs.Spelling.{Spells}
 use Rattle.sgf_tree.specs.Refusal.{IsFaultyAt}
-use Rattle.sgf_lines.specs.Ends.{SourceState, SinkState, Takes, TakesNothing}
+use Rattle.sgf_lines.specs.Ends.{SourceState, SinkState, Delivers, TakesNothing}
 use Rattle.sgf_lines.specs.Answer.{IsWhole}
 use Rattle.sgf_lines.specs.Counts.{counts_of, AnswersCount, IsCount, IsWriting}
 use Rattle.sgf_lines.specs.inner.Running.{IsReading, PutsAll}
@@ -52,14 +52,16 @@ row_cut row old now new done piece rest n is front more =
       taken = done ++ take n piece;
       takes = Appends-trans old.taken now.taken new.taken done (take n piece) front more;
       answers = (refl, (drop n piece ++ rest, is ∙ cut));
+      delivers = tt;
     }
 
 -- the whole row was taken, and the flush was answered
-pub row_flushed : {A : Type 0} (row : List ℕ) (old now new : SinkState) (u : A) → Appends old.taken now.taken row → Takes now new [] → IsWriting {A = A} row old new (Ok u)
+pub row_flushed : {A : Type 0} (row : List ℕ) (old now new : SinkState) (u : A) → Appends old.taken now.taken row → Delivers now new → IsWriting {A = A} row old new (Ok u)
 row_flushed row old now new u h f = record {
   taken = row;
-  takes = rw append-nil at (Appends-trans old.taken now.taken new.taken row [] h f.taken);
+  takes = Appends-kept old.taken now.taken new.taken row h f.taken;
   answers = refl;
+  delivers = f.delivered;
 }
 
 -- and where the flush failed
@@ -68,6 +70,7 @@ row_not_flushed row old now new h f = record {
   taken = row;
   takes = Appends-kept old.taken now.taken new.taken row h f.taken;
   answers = (refl, ([], sym (append-nil row)));
+  delivers = tt;
 }
 
 -- two pieces are put as one

@@ -32,10 +32,6 @@ lines_of_points g k (p ∷ ps) =
 pub stones-by_point : (g : Grid) (k : Colour) → flat_map (commands_at g k) (points g.side) ≡ stone_commands g k
 stones-by_point g k = sym (lines_of_points g k (points g.side))
 
--- the points in their order
-pub points-get : (side i : ℕ) → i < side * side → slice_get (points side) i ≡ Some (point_at side i)
-points-get side i lt = (slice_get-points side i (point_at side i)).1 (IsOn-point_at side i lt, sym (index_of-point_at side i lt))
-
 -- two and three texts, appended one after another
 pub joins_two : {E : Type 0} (r : Result (Unit {0}) E) (old mid new a b : List ℕ) → mid ≡ old ++ a → OnOk r (new ≡ mid ++ b) → OnOk r (new ≡ old ++ (a ++ b))
 joins_two (Ok u) old mid new a b e f = f ∙ ap (λ t. t ++ b) e ∙ append_assoc old a b
@@ -44,13 +40,3 @@ joins_two (Err fault) old mid new a b e f = tt
 pub joins_three : {E : Type 0} (r : Result (Unit {0}) E) (old first second new a b d : List ℕ) → first ≡ old ++ a → second ≡ first ++ b → OnOk r (new ≡ second ++ d)
     → OnOk r (new ≡ old ++ ((a ++ b) ++ d))
 joins_three r old first second new a b d e f g = joins_two r old second new (a ++ b) d (f ∙ ap (λ t. t ++ b) e ∙ append_assoc old a b) g
-
--- what a node with stones adds
-pub script-stones : (after : State) (g : Grid) (n : Node) → after.colouring ≡ g → moves n ≡ [] → 0 < length (stones n) → node_script after n ≡ comment_rows n ++ colouring_commands g
-script-stones after g n e none some =
-    let front = comment_rows n ++ setup_commands after.colouring (stones n) in
-    ap (λ ms. front ++ move_commands after.colouring.side ms) none ∙ append-nil front ∙ ap (λ t. comment_rows n ++ t) (of_stones (stones n) some) ∙ ap (λ b. comment_rows n ++ colouring_commands b) e
-  where
-    of_stones : (ts : List Stones) → 0 < length ts → setup_commands after.colouring ts ≡ colouring_commands after.colouring
-    of_stones [] lt = absurd (omega arith)
-    of_stones (t ∷ ts) lt = refl

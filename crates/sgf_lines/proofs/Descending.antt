@@ -147,7 +147,7 @@ module _ (c : Games) (next : ℕ) (path : List ℕ) (stands : IsAfterLeaf c next
       some_way (suc i) e lt = (i, stands.path i (omega arith))
 
   -- what is kept comes before the next node
-  short : length path ≤ next
+  pub short : length path ≤ next
   short = by_next next refl
     where
       by_next : (n : ℕ) → next ≡ n → length path ≤ next

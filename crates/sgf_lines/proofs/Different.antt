@@ -38,13 +38,13 @@ filter_none : (p : ℕ → Bool) (l : List ℕ) → Each (λ n. p n ≡ false) l
 filter_none p [] h = refl
 filter_none p (n ∷ l) h = rw h.0 (filter_none p l h.1)
 
-each_filter : (P : ℕ → Type 0) (p : ℕ → Bool) (l : List ℕ) → Each P l → Each P (filter p l)
+pub each_filter : (P : ℕ → Type 0) (p : ℕ → Bool) (l : List ℕ) → Each P l → Each P (filter p l)
 each_filter P p [] h = tt
 each_filter P p (n ∷ l) h =
     let rest = each_filter P p l h.1 in
     elim (cases_Bool (p n)) [ inl holds ↦ rw holds (h.0, rest) | inr fails ↦ rw fails rest ]
 
-each_different : (P : ℕ → Type 0) (l : List ℕ) → Each P l → Each P (different l)
+pub each_different : (P : ℕ → Type 0) (l : List ℕ) → Each P l → Each P (different l)
 each_different P [] h = tt
 each_different P (n ∷ l) h = (h.0, each_filter P (differ n) (different l) (each_different P l h.1))
 

@@ -1,59 +1,33 @@
 -- One line more of a run.
-use Rattle.std.proofs.Common.{◌≡◌, ℕ, suc, ◌+◌, ◌-◌, ◌<◌, ◌≤◌, Bool, true, false, List, [], ◌∷◌, ◌++◌, length, take, map, slice_get, Option, Some, None, Result, Ok, Err, inl, inr, refl, sym, ap, subst, ◌∙◌, arith, add-one, All, length-append}
-use Rattle.std.specs.Prelude.{MatchBool}
+use Rattle.std.proofs.Common.{◌≡◌, ℕ, zero, suc, ◌+◌, ◌-◌, ◌<◌, ◌≤◌, Bool, true, false, List, [], ◌∷◌, ◌++◌, length, take, map, slice_get, Option, Some, None, Result, Ok, Err, inl, inr, refl, sym, ap, subst, ◌∙◌, arith, add-one, length-append}
+use Rattle.std.specs.Prelude.{nat_lt, MatchBool}
 use Rattle.std.specs.List.{range_with_len}
 use Rattle.std.specs.Result.{IsErr}
 use Rattle.std.proofs.Math.Seq.{take-append_seam}
-use Rattle.std.proofs.lemmas.List.{take-map, length-take-le}
+use Rattle.std.proofs.lemmas.List.{take-map, take_all, length-take-le}
+use Rattle.std.proofs.lemmas.Bool.{cases_lt, lt-ltb, le-ltb}
 use Rattle.std.proofs.lemmas.List.FromFn.{length-range_with_len}
-use Rattle.sgf_tree.specs.Tree.{Node, Games, node_count}
+use Rattle.sgf_tree.specs.Tree.{Node}
 use Rattle.sgf_tree.specs.FileOrder.{node_at}
-use Rattle.sgf_tree.specs.declared.fault.MemoryFault.{MemoryFault}
-use Rattle.sgf_lines.specs.Lines.{Line, lines, last_number}
-use Rattle.sgf_lines.specs.Paths.{paths}
-use Rattle.sgf_lines.specs.Cursor.{CursorState, advanced, shown, IsLine}
-use Rattle.sgf_lines.specs.JudgedGames.{GameKind, not_go, bad_size, board, game_kind, root_properties}
-use Rattle.sgf_lines.specs.Walk.{before_root}
-use Rattle.sgf_lines.specs.Verdict.{judged_on}
-use Rattle.sgf_lines.specs.declared.line.LineRef.{LineRef}
+use Rattle.sgf_lines.specs.Lines.{Line, lines}
+use Rattle.sgf_lines.specs.Cursor.{CursorState, advanced}
+use Rattle.sgf_lines.specs.JudgedGames.{game_kind, root_properties}
+use Rattle.sgf_lines.specs.RunPlays.{plays_in}
 use Rattle.sgf_lines.specs.declared.options.Form.{Form}
 use Rattle.sgf_lines.specs.declared.options.Form.TheVariants.{List as list_form, Sgf as sgf_form, Gtp as gtp_form}
-use Rattle.sgf_lines.specs.declared.writer.Writer.{Writer}
-use Rattle.sgf_lines.specs.inner.PathTo.{IsPathTo, top}
-use Rattle.sgf_lines.specs.inner.Views.{IsShownAs}
-use Rattle.sgf_lines.specs.inner.Followed.{fresh_plays}
-use Rattle.sgf_lines.specs.inner.Following.{Continues, first_after, numbers_of, path_before}
-use Rattle.sgf_lines.specs.RunPlays.{plays_in}
-use Rattle.sgf_lines.specs.inner.Keeping.{KeepsBy, Keeps, KeepsAt, KeepsOnce, KeepsBefore, PlaysIn, PlaysLine, IsShared, HasPlays, left}
-use Rattle.sgf_lines.proofs.Lists.{Each, each_get}
+use Rattle.sgf_lines.specs.declared.run.Run.{Run}
+use Rattle.sgf_lines.specs.inner.Judging.{judging, back}
+use Rattle.sgf_lines.specs.inner.Recording.{open_record}
+use Rattle.sgf_lines.specs.inner.Pieces.{no_pieces}
+use Rattle.sgf_lines.specs.inner.Scripting.{empty_script, script_of, script_back, script_ended}
+use Rattle.sgf_lines.specs.inner.Following.{Continues, first_after, nodes_of, line_in, line_before, nodes_before, path_before}
+use Rattle.sgf_lines.specs.inner.Keeping.{judging_front, KeepsBy, HoldsBy, IsUnusedBy, Holds, PlaysIn, PlaysLine, IsShared, HasPlays, StillHeld, fresh_plays}
+use Rattle.sgf_lines.proofs.Along.{same_root}
 use Rattle.sgf_lines.proofs.Joins.{as_many}
-use Rattle.sgf_lines.proofs.PathsTo.{IsDescent, each_path}
-use Rattle.sgf_lines.proofs.Descending.{path_length}
-use Rattle.sgf_lines.proofs.Standings.{within_way}
-use Rattle.sgf_lines.proofs.Following.{after_new}
-use Rattle.sgf_lines.proofs.Recorded.{path_filled, line_shown_in}
-use Rattle.sgf_lines.proofs.Records.{path_within}
-use Rattle.sgf_lines.proofs.RaisedPlays.{within}
-
--- as many nodes are played as are judged, and these are among those of the line
-fresh_within : (nodes : List Node) (shared : ℕ) → fresh_plays nodes shared ≤ length nodes - shared
-fresh_within nodes shared = by (game_kind (root_properties nodes))
-  where
-    by : (o : GameKind) → length (judged_on o nodes) - shared ≤ length nodes - shared
-    by not_go = omega arith
-    by bad_size = omega arith
-    by (board side) = omega (arith, within (before_root side) nodes)
-
--- the line that the cursor shows once it went on
-line_on : (at new : CursorState) (line : LineRef) → new ≡ advanced at → IsLine new.games (new.index - 1) line → IsLine at.games at.index line
-line_on at new line is h =
-    let there : IsLine at.games (at.index + 1 - 1) line = rw is at h in
-    let less : at.index + 1 - 1 ≡ at.index = omega arith in
-    rw less at there
-
--- its path is the one before the new position
-path_on : (at : CursorState) (line : LineRef) → IsLine at.games at.index line → path_before (advanced at) ≡ line.path.now
-path_on at line h = let one : at.index + 1 ≡ suc at.index = add-one at.index in rw one (ap numbers_of h.path)
+use Rattle.sgf_lines.proofs.Judgements.{judging_back}
+use Rattle.sgf_lines.proofs.LineNodes.{named_in}
+use Rattle.sgf_lines.proofs.Recordings.{record_back}
+use Rattle.sgf_lines.proofs.Scripts.{script_cut}
 
 some_inj : (xs ys : List Node) → map Some xs ≡ map Some ys → xs ≡ ys
 some_inj [] [] e = refl
@@ -71,119 +45,144 @@ same_front f old new was nodes kept e g h =
     some_inj (take kept was) (take kept nodes)
     (sym (take-map Some kept was) ∙ ap (take kept) e ∙ take-map f kept old ∙ ap (map f) (sym front) ∙ sym (take-map f kept new) ∙ ap (take kept) (sym g) ∙ take-map Some kept nodes)
 
--- what the run kept, for the line that comes
-pub record Shares (w : Writer) (shared : ℕ) (nodes : List Node) : Type 0 where
-  pub old : List Node
-  pub held : 0 < shared → Keeps old w
-  pub within : shared ≤ length old
-  pub same : take shared old ≡ take shared nodes
+-- what is held of a line is held of another one that begins alike
+module _ (old nodes : List Node) (count : ℕ) (some : 0 < count) (within : count ≤ length old) (same : take count old ≡ take count nodes) where
+  kinds : game_kind (root_properties old) ≡ game_kind (root_properties nodes)
+  kinds = ap game_kind (same_root count old nodes some within same)
 
-keeps_on : (w : Writer) (form : Form) (nodes : List Node) → KeepsBy form nodes w → KeepsBy form nodes (record w { wrote = true })
-keeps_on w list_form nodes h = h
-keeps_on w sgf_form nodes h = h
-keeps_on w gtp_form nodes h = h
+  whole : take (length old) old ≡ old
+  whole = take_all (length old) old (omega arith)
 
-shares_with : (b : Bool) (at : CursorState) (w : Writer) (shared : ℕ) (line : LineRef) (l : Line) → KeepsOnce b at w → IsShared b at shared
-    → IsLine at.games at.index line → IsShownAs at.games l line → Shares w shared l.nodes
-shares_with true at w shared line l keeps is shows named =
-    let new : map Some l.nodes ≡ map (node_at at.games) (path_before (advanced at)) = named.nodes ∙ ap (map (node_at at.games)) (sym (path_on at line shows)) in
-    record {
-      old = keeps.nodes;
-      held = λ lt. keeps.keeps;
-      within = omega (arith, is.kept_within, as_many (node_at at.games) keeps.nodes (path_before at) keeps.named);
-      same = same_front (node_at at.games) (path_before at) (path_before (advanced at)) keeps.nodes l.nodes shared keeps.named new is;
-    }
-shares_with false at w shared line l keeps is shows named = record {
-  old = [];
-  held = λ lt. absurd (omega (arith, is));
-  within = omega (arith, is);
-  same = rw is refl;
-}
+  judged_same : (run : Run) → run.judge.judgement ≡ judging_front old (length old) → back count run.judge.judgement ≡ judging_front nodes count
+  judged_same run h =
+      ap (back count) (h ∙ ap (judging (game_kind (root_properties old))) whole) ∙ judging_back (game_kind (root_properties old)) old count within
+      ∙ ap (judging (game_kind (root_properties old))) same ∙ ap (λ k. judging k (take count nodes)) kinds
 
--- what is kept once a run has begun
-pub keeps_before : (at : CursorState) (w : Writer) → w.wrote ≡ true → KeepsAt at w → KeepsBefore at w
-keeps_before at w is h = subst (λ b. KeepsOnce b at w) (sym is) h
+  pub keeps : (form : Form) (run : Run) → HoldsBy form old run → KeepsBy form nodes count run
+  keeps list_form run h = judged_same run h
+  keeps sgf_form run h = rw h (record_back old count ∙ ap (λ ns. open_record ns) same)
+  keeps gtp_form run h = (
+    judged_same run h.0,
+    ap (script_back count) (h.1 ∙ ap (λ ns. script_ended (script_of (game_kind (root_properties old)) ns)) whole) ∙ script_cut (game_kind (root_properties old)) old count
+        ∙ ap (script_of (game_kind (root_properties old))) same ∙ ap (λ k. script_of k (take count nodes)) kinds,
+  )
 
--- there is room for its nodes
-each_last : (P : ℕ → Type 0) (n : ℕ) (ns : List ℕ) → Each P (n ∷ ns) → P (last_number (n ∷ ns))
-each_last P n [] h = h.0
-each_last P n (m ∷ ms) h = each_last P m ms h.1
+-- what holds of a run hangs on its values, and not on how many nodes it says to hold
+pub keeps_as : (form : Form) (nodes : List Node) (count : ℕ) (run : Run) (cursor : CursorState) (held : ℕ) → KeepsBy form nodes count run → KeepsBy form nodes count (record run { cursor = cursor; held = held })
+keeps_as list_form nodes count run cursor held h = h
+keeps_as sgf_form nodes count run cursor held h = h
+keeps_as gtp_form nodes count run cursor held h = h
 
-last_within : (c : Games) (k : ℕ) (line : LineRef) → IsLine c k line → (first_after line.path.now ≤ node_count c) × (length line.path.now ≤ first_after line.path.now)
-last_within c k line h =
-    let path = (shown line).path in
-    let descent : IsDescent c None path.numbers = each_get (λ p. IsDescent c None p.numbers) (paths c) k path (each_path c) h.path in
-    by path.numbers descent
-  where
-    by : (ns : List ℕ) → IsDescent c None ns → (first_after ns ≤ node_count c) × (length ns ≤ first_after ns)
-    by [] d = absurd (d.filled refl)
-    by (n ∷ ns) d =
-        let way : IsPathTo c (Some (last_number (n ∷ ns))) (n ∷ ns) = d.up [] top in
-        (omega (arith, each_last (λ n. n < node_count c) n ns (within_way way)), path_length way (last_number (n ∷ ns)) refl)
+pub unused_as : (form : Form) (run : Run) (cursor : CursorState) (held : ℕ) → IsUnusedBy form run → IsUnusedBy form (record run { cursor = cursor; held = held })
+unused_as list_form run cursor held h = h
+unused_as sgf_form run cursor held h = h
+unused_as gtp_form run cursor held h = h
 
-room_left : (b : Bool) (at : CursorState) (shared : ℕ) (line : LineRef) → IsShared b at shared → IsLine at.games at.index line
-    → (length line.path.now - shared) + left true (advanced at) ≤ left b at
-room_left true at shared line is shows =
-    let last = last_within at.games at.index line shows in
-    let path = path_on at line shows in
-    let old = path_before at in
-    let range = range_with_len (first_after old) (is.more + 1) in
-    let count : length line.path.now ≡ shared + (is.more + 1) =
-    ap length (sym path ∙ is.new_is) ∙ length-append (take shared old) range ∙ omega (arith, length-take-le shared old is.kept_within, length-range_with_len (first_after old) (is.more + 1)) in
-    let first : first_after (path_before (advanced at)) ≡ first_after old + (is.more + 1) = ap first_after is.new_is ∙ after_new old shared (first_after old) is.more in
-    omega (arith, last.0, count, first, ap first_after path)
-room_left false at shared line is shows =
-    let last = last_within at.games at.index line shows in
-    omega (arith, last.0, last.1, is, ap first_after (path_on at line shows))
-
--- how many nodes are known of a line that shares so many
-pub known_are : (b : Bool) (at new : CursorState) (shared known : ℕ) → new ≡ advanced at → Continues (path_before at) shared (path_before new) → MatchBool b (known ≡ shared) (known ≡ 0) → IsShared b at known
-known_are true at new shared known on is e =
-    subst (λ p. Continues (path_before at) known (path_before p)) on (subst (λ k. Continues (path_before at) k (path_before new)) (sym e) is)
-known_are false at new shared known on is e = e
+pub holds_as : (form : Form) (nodes : List Node) (run : Run) (held : ℕ) → HoldsBy form nodes run → HoldsBy form nodes (record run { held = held })
+holds_as list_form nodes run held h = h
+holds_as sgf_form nodes run held h = h
+holds_as gtp_form nodes run held h = h
 
 -- the cursor went on by a line
-module _ (c : Games) (at new : CursorState) (line : LineRef) (same : at.games ≡ c) (on : new ≡ advanced at) (shows : IsLine new.games (new.index - 1) line) where
-  here : IsLine at.games at.index line
-  here = line_on at new line on shows
+named : (at : CursorState) → map Some (nodes_before at) ≡ map (node_at at.games) (path_before at)
+named at = named_in at.games at.index
 
-  here_in : IsLine c at.index line
-  here_in = rw same at here
+pub line_next : (at : CursorState) → line_before (advanced at) ≡ slice_get (lines at.games) at.index
+line_next at = let next : at.index + 1 ≡ suc at.index = add-one at.index in ap (line_in at.games) next
 
-  pub line_next : (l : Line) × (slice_get (lines at.games) at.index ≡ Some l) × IsShownAs c l line
-  line_next = line_shown_in c at.games at.index line same here
+pub line_is : (at : CursorState) → 0 < at.index → line_before at ≡ slice_get (lines at.games) (at.index - 1)
+line_is at lt = by at.index refl lt
+  where
+    by : (k : ℕ) → at.index ≡ k → 0 < k → line_in at.games k ≡ slice_get (lines at.games) (k - 1)
+    by zero e lt = absurd (omega arith)
+    by (suc k) e lt = let before : suc k - 1 ≡ k = omega arith in ap (λ n. slice_get (lines at.games) n) (sym before)
 
-  pub next_filled : 0 < length line.path.now
-  next_filled = path_filled c at.index line here_in
+-- how many nodes are held still
+still_shared : (held shared still : ℕ) → 0 < held → StillHeld held shared still → still ≡ shared
+still_shared held shared still lt h = let is : MatchBool true (still ≡ shared) (still ≡ 0) = rw (lt-ltb 0 held lt) at h in is
 
-  pub next_within : All (λ n. n < node_count c) line.path.now
-  next_within = path_within c at.index line here_in
+still_none : (held shared still : ℕ) → held ≡ 0 → StillHeld held shared still → still ≡ 0
+still_none held shared still none h = let is : MatchBool false (still ≡ shared) (still ≡ 0) = rw (le-ltb 0 held (omega arith)) at h in is
 
-  module _ (b : Bool) (form : Form) (w : Writer) (shared : ℕ) (is : IsShared b at shared) where
-    pub next_room : (length line.path.now - shared) + left true new ≤ left b at
-    next_room = rw on (room_left b at shared line is here)
+module _ (run : Run) (h : Holds run) (new : CursorState) (shared still : ℕ) (moved : new ≡ advanced run.cursor) (continues : Continues (path_before run.cursor) shared (path_before new)) (held : StillHeld run.held shared still) where
+  many_old : length (nodes_before run.cursor) ≡ length (path_before run.cursor)
+  many_old = as_many (node_at run.cursor.games) (nodes_before run.cursor) (path_before run.cursor) (named run.cursor)
 
-    -- also once it has begun
-    pub next_shares : KeepsOnce b at w → (l : Line) → IsShownAs c l line → Shares (record w { wrote = true }) shared l.nodes
-    next_shares keeps l named =
-        let s = shares_with b at w shared line l keeps is here (rw (← same) at named) in
-        record { old = s.old; held = λ lt. keeps_on w w.form s.old (s.held lt); within = s.within; same = s.same }
+  many_new : length (nodes_before new) ≡ length (path_before new)
+  many_new = as_many (node_at new.games) (nodes_before new) (path_before new) (named new)
 
-    pub next_keeps : (l : Line) (new_w : Writer) → IsShownAs c l line → Keeps l.nodes new_w → KeepsAt new new_w
-    next_keeps l new_w named keeps =
-        let path : path_before new ≡ line.path.now = ap path_before on ∙ path_on at line here in
-        let games : new.games ≡ c = ap (λ (p : CursorState). p.games) on ∙ same in
-        record { nodes = l.nodes; named = rw (path, games) named.nodes; keeps = keeps }
+  longer : length (path_before new) ≡ shared + (continues.more + 1)
+  longer =
+      let range = range_with_len (first_after (path_before run.cursor)) (continues.more + 1) in
+      ap length continues.new_is ∙ length-append (take shared (path_before run.cursor)) range
+      ∙ omega (arith, length-take-le shared (path_before run.cursor) continues.kept_within, length-range_with_len (first_after (path_before run.cursor)) (continues.more + 1))
 
-    pub next_plays : (l : Line) → slice_get (lines at.games) at.index ≡ Some l → HasPlays form b at (plays_in form (fresh_plays l.nodes shared))
-    next_plays l found = record { line = l; found = found; shared = shared; shares = is; count_is = refl }
+  -- the next line has a node, and what is held is within it
+  pub some_node : 0 < length (nodes_before new)
+  some_node = omega (arith, many_new, longer)
+
+  still_least : still ≤ shared
+  still_least =
+      elim (cases_lt 0 run.held) [
+        | inl lt ↦ omega (arith, still_shared run.held shared still lt held)
+        | inr ge ↦ omega (arith, still_none run.held shared still (omega arith) held)
+      ]
+
+  pub still_within : still ≤ length (nodes_before new)
+  still_within = omega (arith, still_least, many_new, longer)
+
+  same_nodes : take shared (nodes_before run.cursor) ≡ take shared (nodes_before new)
+  same_nodes =
+      let named_new : map Some (nodes_before new) ≡ map (node_at run.cursor.games) (path_before new) = named new ∙ ap (λ (p : CursorState). map (node_at p.games) (path_before new)) moved in
+      same_front (node_at run.cursor.games) (path_before run.cursor) (path_before new) (nodes_before run.cursor) (nodes_before new) shared (named run.cursor) named_new continues
+
+  pub still_kept : 0 < still → KeepsBy run.form (nodes_before new) still (record run { cursor = new; held = 0 })
+  still_kept some =
+      elim (cases_lt 0 run.held) [
+        | inl lt ↦
+            let is = still_shared run.held shared still lt held in
+            let same : take still (nodes_before run.cursor) ≡ take still (nodes_before new) = rw is same_nodes in
+            keeps_as run.form (nodes_before new) still run new 0
+            (keeps (nodes_before run.cursor) (nodes_before new) still some (omega (arith, is, many_old, continues.kept_within)) same run.form run (h.line lt).1)
+        | inr ge ↦ absurd (omega (arith, still_none run.held shared still (omega arith) held))
+      ]
+
+  -- how many nodes of the line are played already
+  pub still_shares : IsShared (nat_lt 0 run.held) run.cursor still
+  still_shares =
+      elim (cases_lt 0 run.held) [
+        | inl lt ↦
+            let is = still_shared run.held shared still lt held in
+            let there : Continues (path_before run.cursor) shared (path_before (advanced run.cursor)) =
+            subst (λ (p : CursorState). Continues (path_before run.cursor) shared (path_before p)) moved continues in
+            let go : Continues (path_before run.cursor) still (path_before (advanced run.cursor)) = rw is there in
+            subst (λ b. IsShared b run.cursor still) (sym (lt-ltb 0 run.held lt)) go
+        | inr ge ↦ subst (λ b. IsShared b run.cursor still) (sym (le-ltb 0 run.held (omega arith))) (still_none run.held shared still (omega arith) held)
+      ]
+
+  -- the next line
+  pub record NextLine : Type 0 where
+    pub line : Line
+    pub found : slice_get (lines run.cursor.games) run.cursor.index ≡ Some line
+    pub nodes : nodes_before new ≡ line.nodes
+    pub before : line_before new ≡ Some line
+
+  pub the_line : NextLine
+  the_line = by (line_before new) refl
+    where
+      by : (o : Option Line) → line_before new ≡ o → NextLine
+      by None e = absurd (omega (arith, some_node, ap (λ o. length (nodes_of o)) e))
+      by (Some l) e = record { line = l; found = sym (ap line_before moved ∙ line_next run.cursor) ∙ e; nodes = ap nodes_of e; before = e }
+
+  pub plays_are : HasPlays run.form (nat_lt 0 run.held) run.cursor (plays_in run.form (fresh_plays (nodes_before new) still))
+  plays_are = record { line = the_line.line; found = the_line.found; shared = still; shares = still_shares; count_is = ap (λ ns. plays_in run.form (fresh_plays ns still)) the_line.nodes }
 
 -- what was counted for it
-pub plays_line : {A : Type 0} (form : Form) (b : Bool) (at : CursorState) (old new : ℕ) (nodes : List Node) (shared : ℕ) (u : A) → HasPlays form b at (plays_in form (fresh_plays nodes shared))
-    → PlaysIn {E = MemoryFault} form old new nodes shared (Ok u) → (n : ℕ) × HasPlays form b at n × (new ≡ old + n)
-plays_line list_form b at old new nodes shared u h counts = (fresh_plays nodes shared, h, counts.each)
-plays_line sgf_form b at old new nodes shared u h counts = (0, h, omega (arith, counts))
-plays_line gtp_form b at old new nodes shared u h counts = (fresh_plays nodes shared, h, counts.each)
+pub plays_line : {A : Type 0} (E : Type 0) (form : Form) (b : Bool) (at : CursorState) (old new : ℕ) (nodes : List Node) (shared : ℕ) (u : A) → HasPlays form b at (plays_in form (fresh_plays nodes shared))
+    → PlaysIn {E = E} form old new nodes shared (Ok u) → (n : ℕ) × HasPlays form b at n × (new ≡ old + n)
+plays_line E list_form b at old new nodes shared u h counts = (fresh_plays nodes shared, h, counts.each)
+plays_line E sgf_form b at old new nodes shared u h counts = (0, h, omega (arith, counts))
+plays_line E gtp_form b at old new nodes shared u h counts = (fresh_plays nodes shared, h, counts.each)
 
 pub plays_refused : {E F : Type 0} (A : Type 0) (form : Form) (b : Bool) (at : CursorState) (old new : ℕ) (nodes : List Node) (shared : ℕ) (e : E) (r : Result Bool F) → IsErr r → HasPlays form b at (plays_in form (fresh_plays nodes shared))
     → PlaysIn {A = A} form old new nodes shared (Err e) → PlaysLine form b at old new r
@@ -191,9 +190,3 @@ plays_refused A form b at old new nodes shared e (Ok x) bad h counts = absurd cc
 plays_refused A list_form b at old new nodes shared e (Err f) is h counts = inr (fresh_plays nodes shared, h, counts.not_fewer, counts.not_more)
 plays_refused A sgf_form b at old new nodes shared e (Err f) is h counts = inl counts
 plays_refused A gtp_form b at old new nodes shared e (Err f) is h counts = inr (fresh_plays nodes shared, h, counts.not_fewer, counts.not_more)
-
--- and not more than its nodes
-pub raises_within : {A E : Type 0} (form : Form) (old new : ℕ) (nodes : List Node) (shared : ℕ) (r : Result A E) → PlaysIn form old new nodes shared r → new ≤ old + (length nodes - shared)
-raises_within list_form old new nodes shared r counts = omega (arith, counts.not_more, fresh_within nodes shared)
-raises_within sgf_form old new nodes shared r counts = omega (arith, counts)
-raises_within gtp_form old new nodes shared r counts = omega (arith, counts.not_more, fresh_within nodes shared)

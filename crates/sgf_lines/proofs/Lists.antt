@@ -29,6 +29,10 @@ pub each_append : {A : Type 0} (P : A → Type 0) (xs ys : List A) → Each P xs
 each_append P [] ys h k = k
 each_append P (x ∷ xs) ys h k = (h.0, each_append P xs ys h.1 k)
 
+pub each_parts : {A : Type 0} (P : A → Type 0) (xs ys : List A) → Each P (xs ++ ys) → Each P xs × Each P ys
+each_parts P [] ys h = (tt, h)
+each_parts P (x ∷ xs) ys h = let rest = each_parts P xs ys h.1 in ((h.0, rest.0), rest.1)
+
 pub each_weaker : {A : Type 0} (P Q : A → Type 0) → ((x : A) → P x → Q x) → (xs : List A) → Each P xs → Each Q xs
 each_weaker P Q f [] h = tt
 each_weaker P Q f (x ∷ xs) h = (f x h.0, each_weaker P Q f xs h.1)

@@ -65,6 +65,14 @@ mapped : (limit : Option ℕ) (o : Option (List Line)) (ls : List Line) → opti
 mapped limit None ls e = absurd cc
 mapped limit (Some tail) ls e = (tail, refl, cc)
 
+-- the lines of a page stand side by side
+pub on_page : (c : Games) (o : Options) (asked : List Line) → page o c ≡ Some asked → (before after : List Line) × (lines c ≡ before ++ (asked ++ after))
+on_page c o asked e =
+    let m = mapped o.limit (lines_asked (lines c) o.after) asked e in
+    let f = front_of o.limit m.0 asked m.2 in
+    let t = tail_of (lines c) o.after m.0 m.1 in
+    (t.0, f.0, t.1 ∙ ap (λ xs. t.0 ++ xs) f.1)
+
 -- what comes after the last line of a page, and that it completes the page
 pub record GoesOn (o : Options) (c : Games) (front : List Line) (last : Line) : Type 0 where
   pub rest : List Line

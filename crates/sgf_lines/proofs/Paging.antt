@@ -1,5 +1,5 @@
 -- The loop that writes the lines of a page, one record after the other.
-use Rattle.std.proofs.Common.{◌≡◌, ℕ, ◌+◌, ◌<◌, ◌≤◌, List, [], ◌++◌, length, take, drop, slice_get, Option, Some, None, Result, Ok, Err, refl, sym, ap, ◌∙◌, arith, append-nil}
+use Rattle.std.proofs.Common.{◌≡◌, ℕ, ◌+◌, ◌<◌, ◌≤◌, List, ◌++◌, length, take, drop, slice_get, Option, Some, None, Result, Ok, Err, refl, sym, ap, ◌∙◌, arith}
 use Rattle.std.proofs.lemmas.Option.{slice_get_within}
 use Rattle.std.specs.Prelude.{unwrap_or}
 use Rattle.std.specs.Io.KnownBytes.{Appends}
@@ -9,7 +9,7 @@ use Rattle.sgf_tree.specs.Tree.{Games, node_count}
 use Rattle.sgf_lines.specs.Lines.{Line, lines}
 use Rattle.sgf_lines.specs.Page.{limited}
 use Rattle.sgf_lines.specs.Record.{record_of, output}
-use Rattle.sgf_lines.specs.Ends.{SinkState, Takes, TakesNothing}
+use Rattle.sgf_lines.specs.Ends.{SinkState, Delivers, TakesNothing}
 use Rattle.sgf_lines.specs.Cursor.{CursorState}
 use Rattle.sgf_lines.specs.inner.Running.{WritesLines, HasRecord}
 use Rattle.sgf_lines.specs.declared.options.Form.{Form}
@@ -104,10 +104,10 @@ for_options form c first asked limit old new result is h =
     length_dropped n xs = omega (arith, length-drop n xs)
 
 -- the flush after the last record was answered
-pub flushed : (form : Form) (ls : List Line) (old now new : SinkState) (k : ℕ) → WritesLines form ls old now (Ok k) → Takes now new [] → WritesLines form ls old new (Ok k)
+pub flushed : (form : Form) (ls : List Line) (old now new : SinkState) (k : ℕ) → WritesLines form ls old now (Ok k) → Delivers now new → WritesLines form ls old new (Ok k)
 flushed form ls old now new k h f = record {
   taken = h.taken;
-  takes = rw append-nil at (Appends-trans old.taken now.taken new.taken h.taken [] h.takes f.taken);
+  takes = Appends-kept old.taken now.taken new.taken h.taken h.takes f.taken;
   answers = h.answers;
 }
 

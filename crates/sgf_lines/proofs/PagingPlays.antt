@@ -4,6 +4,7 @@ use Rattle.std.proofs.lemmas.Option.{slice_get_within}
 use Rattle.std.specs.Prelude.{unwrap_or, filter}
 use Rattle.std.specs.List.{flat_map}
 use Rattle.std.proofs.Math.Seq.{take-add}
+use Rattle.std.proofs.lemmas.Bool.{cases_lt}
 use Rattle.std.proofs.lemmas.List.{take_all, length-take, length-drop}
 use Rattle.std.proofs.lemmas.Grind.{flat_map-append}
 use Rattle.sgf_tree.specs.Tree.{Games, node_count}
@@ -19,14 +20,14 @@ use Rattle.sgf_lines.specs.RunPlays.{plays_in, plays_of}
 use Rattle.sgf_lines.specs.declared.options.Form.{Form}
 use Rattle.sgf_lines.specs.declared.options.Form.TheVariants.{List as list_form, Sgf as sgf_form, Gtp as gtp_form}
 use Rattle.sgf_lines.specs.declared.fault.RunFault.{RunFault}
-use Rattle.sgf_lines.specs.declared.fault.RunFault.TheVariants.{Write, Memory}
+use Rattle.sgf_lines.specs.declared.fault.RunFault.TheVariants.{Read, TooLong, NotSgf, NoSuchLine, Write, Memory}
 use Rattle.sgf_lines.specs.inner.Following.{Continues, numbers_before}
 use Rattle.sgf_lines.specs.inner.Keeping.{IsShared, HasPlays, PlaysLine}
-use Rattle.sgf_lines.specs.inner.LinePlays.{PlaysLines}
+use Rattle.sgf_lines.specs.inner.LinePlays.{AnswersPlaysFor, PlaysLines}
 use Rattle.sgf_lines.proofs.Pages.{get_dropped, get_taken, limited_is}
 use Rattle.sgf_lines.proofs.LineCounts.{lines_within}
 use Rattle.sgf_lines.proofs.Different.{is_new, different-append}
-use Rattle.sgf_lines.proofs.PlayCounts.{first_plays, next_plays}
+use Rattle.sgf_lines.proofs.PlayCounts.{first_plays, next_plays, plays_within}
 use Rattle.sgf_lines.proofs.Paging.{page_from, IsSoFar}
 
 -- in a form that judges what is added is added, and in the other nothing is
@@ -76,6 +77,32 @@ module _ (c : Games) (rise : PlacesRise c) (first limit : ℕ) where
       let page = page_from c first limit in
       rw add-one (added_in form (length (all_judged_places (take (suc (suc k)) page))) (length (all_judged_places (take (suc k) page))) (length (judged_nodes line) - shared)
       (next_plays c rise first page stands k shared line e h))
+
+  -- no more than there are nodes
+  pub few : (form : Form) (k : ℕ) → k ≤ length (page_from c first limit) → plays_of form (take k (page_from c first limit)) ≤ node_count c
+  few list_form k le = plays_within c rise first (page_from c first limit) stands k le
+  few sgf_form k le = omega arith
+  few gtp_form k le = plays_within c rise first (page_from c first limit) stands k le
+
+  few_any : (form : Form) (k : ℕ) → plays_of form (take k (page_from c first limit)) ≤ node_count c
+  few_any form k =
+      let page = page_from c first limit in
+      elim (cases_lt (length page) k) [
+        | inl lt ↦ omega (arith, few form (length page) (omega arith), ap (plays_of form) (take_all k page (omega arith)), ap (plays_of form) (take_all (length page) page (omega arith)))
+        | inr ge ↦ few form k ge
+      ]
+
+  pub few_played : (form : Form) (new : ℕ) (result : Result ℕ RunFault) → PlaysLines form (page_from c first limit) 0 new result → new ≤ node_count c
+  few_played form new result h = omega (arith, h.rises, by result h.answers)
+    where
+      by : (r : Result ℕ RunFault) → AnswersPlaysFor form (page_from c first limit) h.plays r → h.plays ≤ node_count c
+      by (Ok k) a = omega (arith, a, few_any form (length (page_from c first limit)), ap (plays_of form) (take_all (length (page_from c first limit)) (page_from c first limit) (omega arith)))
+      by (Err Read) a = absurd a
+      by (Err TooLong) a = absurd a
+      by (Err (NotSgf at len)) a = absurd a
+      by (Err (NoSuchLine place)) a = absurd a
+      by (Err (Write k)) a = omega (arith, a.at_most, few_any form (k + 1))
+      by (Err (Memory k)) a = omega (arith, a.at_most, few_any form (k + 1))
 
 -- what a line shares with the one before it, by where the cursor stands
 shares_by : (c : Games) (rise : PlacesRise c) (first limit k : ℕ) (wrote : Bool) (at : CursorState) (shared : ℕ) → at.games ≡ c → at.index ≡ first + k → (k ≡ 0 → wrote ≡ false) → (0 < k → wrote ≡ true)

@@ -1,6 +1,6 @@
 -- The stones of a colouring in which every stone reaches empty, played one by one, black ones before white ones, make that
 -- colouring: nothing is captured on the way, since a stone reaches empty sooner where fewer stones stand.
-use Rattle.std.proofs.Common.{◌≡◌, ◌≢◌, ◌↔◌, ℕ, zero, suc, ◌+◌, ◌*◌, ◌<◌, ◌≤◌, List, [], ◌∷◌, ◌++◌, length, map, filter, Some, None, Bool, true, false, IsTrue, slice_get, codes, refl, sym, ap, ◌∙◌, arith, subst, inl, inr, ◌⊎◌, cond, length-set}
+use Rattle.std.proofs.Common.{◌≡◌, ◌≢◌, ◌↔◌, ℕ, zero, suc, ◌+◌, ◌*◌, ◌<◌, ◌≤◌, List, [], ◌∷◌, ◌++◌, length, map, filter, Some, Bool, true, false, IsTrue, slice_get, codes, refl, sym, ap, ◌∙◌, arith, subst, inl, inr, ◌⊎◌, cond, length-set}
 use Rattle.std.specs.List.{flat_map, range_with_len}
 use Rattle.std.proofs.lemmas.Bool.{cases_Bool, cases_eq, cases_lt}
 use Rattle.std.proofs.lemmas.List.{get_or-replicate, length-replicate}
@@ -18,10 +18,10 @@ use Rattle.go_board.specs.Reaching.{Leads, Reaches, reaches}
 use Rattle.go_board.specs.Clearing.{clear, play, HasUnreaching, has_unreaching}
 use Rattle.go_board.specs.Vertex.{vertex_of}
 use Rattle.sgf_lines.specs.Script.{colour_letter, vertex_text, play_command, stone_commands, colouring_commands}
-use Rattle.sgf_lines.specs.Replay.{after_command, after_row, after_text}
+use Rattle.sgf_lines.specs.Replay.{shows, refused, after_stone, after_command, after_row, after_text}
 use Rattle.sgf_lines.proofs.Lists.{Each}
-use Rattle.sgf_lines.proofs.ScriptRows.{IsWithin, CarriesBoard, takes_row, takes_nothing, takes_both, solid_within, within_both}
-use Rattle.sgf_lines.proofs.ScriptWords.{vertex_solid, play_reads}
+use Rattle.sgf_lines.proofs.ScriptRows.{IsWithin, Carries, takes_row, takes_nothing, takes_both, solid_within, within_both}
+use Rattle.sgf_lines.proofs.ScriptWords.{vertex_solid, point_names, play_reads}
 
 -- what the board's laws say
 pub record BoardLaws : Type 0 where
@@ -63,13 +63,14 @@ play_within : (side : ℕ) (k : Colour) (p : Point) → side ≤ 25 → IsOn sid
 play_within side BlackPlayer p small on = within_both (codes "play B ") (vertex_text (vertex_of p side)) (search) (solid_within (vertex_text (vertex_of p side)) (vertex_solid side p small on))
 play_within side WhitePlayer p small on = within_both (codes "play W ") (vertex_text (vertex_of p side)) (search) (solid_within (vertex_text (vertex_of p side)) (vertex_solid side p small on))
 
-pub takes_play : (side : ℕ) (board : Grid) (k : Colour) (p : Point) → side ≤ 25 → IsOn side p → cell_at board p ≡ Empty
-    → CarriesBoard side (Some board) (play_command side k (Stone p)) (Some (play board k p))
-takes_play side board k p small on empty rest =
-    let line = codes "play " ++ colour_letter k ++ codes " " ++ vertex_text (vertex_of p side) in
-    let played : after_row side (Some board) line ≡ Some (play board k p) =
-    ap (λ c. after_command side board c) (play_reads side k p small on) ∙ ap (λ c. cond (same_cell c Empty) (Some (play board k p)) None) empty in
-    takes_row side (Some board) line (play_within side k p small on) rest ∙ ap (λ b. after_text side b rest) played
+pub takes_play : (board : Grid) (k : Colour) (p : Point) → board.side ≤ 25 → IsOn board.side p → cell_at board p ≡ Empty
+    → Carries (shows board) (play_command board.side k (Stone p)) (shows (play board k p))
+takes_play board k p small on empty rest =
+    let line = codes "play " ++ colour_letter k ++ codes " " ++ vertex_text (vertex_of p board.side) in
+    let played : after_row (shows board) line ≡ shows (play board k p) =
+    ap (λ c. after_command (shows board) c) (play_reads board.side k p small on) ∙ ap (λ o. after_stone board k o) (point_names board.side p small on)
+    ∙ ap (λ c. cond (same_cell c Empty) (shows (play board k p)) refused) empty in
+    takes_row (shows board) line (play_within board.side k p small on) rest ∙ ap (λ b. after_text b rest) played
 
 module _ (laws : BoardLaws) where
   same_point : (side : ℕ) (p q : Point) → IsOn side p → IsOn side q → index_of side p ≡ index_of side q → p ≡ q
@@ -303,7 +304,7 @@ module _ (laws : BoardLaws) where
     record IsTaken (k : Colour) (h : Grid) (text : List ℕ) : Type 0 where
       board : Grid
       placed : IsPlaced board (turn_of k (g.side * g.side))
-      takes : CarriesBoard g.side (Some h) text (Some board)
+      takes : Carries (shows h) text (shows board)
 
     module _ (small : g.side ≤ 25) where
       take_stone : (k : Colour) (i : ℕ) (q : Point) (h : Grid) (ps : List Point) (is_stone : Bool) → i < g.side * g.side → IsOn g.side q → index_of g.side q ≡ i
@@ -319,12 +320,15 @@ module _ (laws : BoardLaws) where
           let e = rank_same k (cell_at g q) (index_of g.side q) is in let f = ap (λ j. turn_of k j) here in omega arith in
           let free : cell_at h q ≡ Empty = placed.left q on at_turn in
           let rest = goes_on next (placed_more h k i q low on here is placed) in
-          let one : CarriesBoard g.side (Some h) (play_command g.side k (Stone q)) (Some next) =
-          subst (λ b. CarriesBoard g.side (Some h) (play_command g.side k (Stone q)) (Some b)) made (takes_play g.side h k q small on free) in
+          let played : Carries (shows h) (play_command g.side k (Stone q)) (shows (play h k q)) =
+          subst (λ n. Carries (shows h) (play_command n k (Stone q)) (shows (play h k q))) placed.side
+          (takes_play h k q (rw placed.side small) (subst (λ n. IsOn n q) (sym placed.side) on) free) in
+          let one : Carries (shows h) (play_command g.side k (Stone q)) (shows next) =
+          subst (λ b. Carries (shows h) (play_command g.side k (Stone q)) (shows b)) made played in
           record {
             board = rest.board;
             placed = rest.placed;
-            takes = takes_both g.side (Some h) (Some next) (Some rest.board) (play_command g.side k (Stone q)) (lines_of k ps) one rest.takes;
+            takes = takes_both (shows h) (shows next) (shows rest.board) (play_command g.side k (Stone q)) (lines_of k ps) one rest.takes;
           }
       take_stone k i q h ps false low on here none placed goes_on =
           goes_on h (placed_same h k i q low on here (λ e. let same = same_itself (stone_of k) in let alike = ap (λ c. same_cell c (stone_of k)) e in cc) placed)
@@ -334,7 +338,7 @@ module _ (laws : BoardLaws) where
       unfolding lines_of
       take_stones k zero i h e placed =
           let at_end : i ≡ g.side * g.side = omega arith in
-          record { board = h; placed = subst (λ j. IsPlaced h (turn_of k j)) at_end placed; takes = takes_nothing g.side (Some h) }
+          record { board = h; placed = subst (λ j. IsPlaced h (turn_of k j)) at_end placed; takes = takes_nothing (shows h) }
       take_stones k (suc m) i h e placed =
           let q = point_at g.side i in
           let there : slice_get (points g.side) i ≡ Some q = point_listed i (omega arith) in
@@ -342,17 +346,18 @@ module _ (laws : BoardLaws) where
           take_stone k i q h (map (point_at g.side) (range_with_len (i + 1) m)) (same_cell (cell_at g q) (stone_of k)) (omega arith) is.0 (sym is.1) refl placed
           (λ next now. take_stones k m (i + 1) next (omega arith) now)
 
-      pub takes_board : (before : Grid) → CarriesBoard g.side (Some before) (colouring_commands g) (Some g)
+      pub takes_board : (before : Grid) → before.side ≡ g.side → Carries (shows before) (colouring_commands g) (shows g)
       unfolding lines_of points turn_of
-      takes_board before =
+      takes_board before alike =
           let count = g.side * g.side in
           let empty = empty_grid g.side in
           let black = take_stones BlackPlayer count 0 empty (omega arith) none_placed in
           let same : count ≡ count + 0 = omega arith in
           let white = take_stones WhitePlayer count 0 black.board (omega arith) (subst (λ n. IsPlaced black.board n) same black.placed) in
-          let cleared : CarriesBoard g.side (Some before) (codes "clear_board\n") (Some empty) = takes_row g.side (Some before) (codes "clear_board") (search) in
-          let half : CarriesBoard g.side (Some before) (codes "clear_board\n" ++ stone_commands g BlackPlayer) (Some black.board) =
-          takes_both g.side (Some before) (Some empty) (Some black.board) (codes "clear_board\n") (stone_commands g BlackPlayer) cleared black.takes in
-          let done : CarriesBoard g.side (Some before) (colouring_commands g) (Some white.board) =
-          takes_both g.side (Some before) (Some black.board) (Some white.board) (codes "clear_board\n" ++ stone_commands g BlackPlayer) (stone_commands g WhitePlayer) half white.takes in
-          subst (λ b. CarriesBoard g.side (Some before) (colouring_commands g) (Some b)) (all_placed white.board white.placed) done
+          let cleared : Carries (shows before) (codes "clear_board\n") (shows empty) =
+          subst (λ n. Carries (shows before) (codes "clear_board\n") (shows (empty_grid n))) alike (takes_row (shows before) (codes "clear_board") (search)) in
+          let half : Carries (shows before) (codes "clear_board\n" ++ stone_commands g BlackPlayer) (shows black.board) =
+          takes_both (shows before) (shows empty) (shows black.board) (codes "clear_board\n") (stone_commands g BlackPlayer) cleared black.takes in
+          let done : Carries (shows before) (colouring_commands g) (shows white.board) =
+          takes_both (shows before) (shows black.board) (shows white.board) (codes "clear_board\n" ++ stone_commands g BlackPlayer) (stone_commands g WhitePlayer) half white.takes in
+          subst (λ b. Carries (shows before) (colouring_commands g) (shows b)) (all_placed white.board white.placed) done

@@ -15,11 +15,6 @@ filled_length : (ns : List ℕ) → ns ≢ [] → 0 < length ns
 filled_length [] h = absurd (h refl)
 filled_length (n ∷ ns) h = omega arith
 
-pub path_filled : (c : Games) (k : ℕ) (line : LineRef) → IsLine c k line → 0 < length (shown line).path.numbers
-path_filled c k line h =
-    let way : IsDescent c None (shown line).path.numbers = each_get (λ p. IsDescent c None p.numbers) (paths c) k (shown line).path (each_path c) h.path in
-    filled_length (shown line).path.numbers way.filled
-
 line_shown : (c : Games) (k : ℕ) (line : LineRef) → IsLine c k line → (l : Line) × (slice_get (lines c) k ≡ Some l) × IsShownAs c l line
 line_shown c k line h =
     let f = line_at c k (shown line).path h.path in

@@ -1,12 +1,14 @@
 -- A script that has commands leads to the colouring at the end of its line's walk.
-use Rattle.std.proofs.Common.{◌≡◌, ℕ, ◌*◌, ◌<◌, ◌≤◌, List, [], ◌∷◌, ◌++◌, length, map, filter, fold, Option, Some, None, Bool, true, false, codes, refl, sym, ap, ◌∙◌, arith, subst, cond, append-nil, append_assoc, decimal, Result, Ok, Err, option_map, option_and_then, nat_lt}
+use Rattle.std.proofs.Common.{◌≡◌, ℕ, ◌*◌, ◌<◌, ◌≤◌, List, [], ◌∷◌, ◌++◌, length, map, fold, Option, Some, None, Bool, true, false, codes, refl, sym, ap, ◌∙◌, arith, subst, cond, append-nil, append_assoc, decimal, Result, Ok, Err, option_map, option_and_then, nat_lt, nat_le, ◌&&◌, ℤ, pos, negsuc}
 use Rattle.std.proofs.lemmas.Grind.{flat_map-append}
 use Rattle.std.proofs.lemmas.List.Folds.{list_any-append}
 use Rattle.std.specs.List.{flat_map, list_any}
 use Rattle.std.proofs.lemmas.List.{length-map, length-replicate}
 use Rattle.std.proofs.lemmas.Bool.{not-false, or_parts}
 use Rattle.std.proofs.lemmas.Bool.Decides.{nat_tests}
-use Rattle.sgf_tree.specs.Tree.{Node}
+use Rattle.sgf_tree.specs.Tree.{Property, Node}
+use Rattle.sgf_tree.specs.Number.{number_of}
+use Rattle.go_board.specs.declared.size.TheConstants.{MAX_SIDE}
 use Rattle.go_board.specs.declared.stones.Cell.{Cell}
 use Rattle.go_board.specs.declared.stones.Cell.TheVariants.{Empty}
 use Rattle.go_board.specs.declared.stones.Colour.{Colour}
@@ -28,17 +30,17 @@ use Rattle.go_board.specs.Reason.{must_move, is_occupied, is_repeat, reason_of}
 use Rattle.sgf_lines.specs.Lines.{Line}
 use Rattle.sgf_lines.specs.NodeContents.{Move, Stones, moves, stones, players}
 use Rattle.sgf_lines.specs.NodeValues.{is_pass, move_value, operations, last_player}
-use Rattle.sgf_lines.specs.JudgedGames.{board, game_kind, root_properties}
+use Rattle.sgf_lines.specs.JudgedGames.{not_go, board, is_go, side_from, side_of, game_kind_on, game_kind, root_properties}
 use Rattle.sgf_lines.specs.Step.{side_in, turn_step, move_step, setup_step, step_by, step}
 use Rattle.sgf_lines.specs.Walk.{TakenNode, IllegalNode, Walk, before_root, stepped, next_by, next, walk}
 use Rattle.sgf_lines.specs.ListRow.{list_row}
-use Rattle.sgf_lines.specs.Script.{comment_row, comment_text, comment_rows, play_command, colouring_commands, setup_commands, move_commands_by, move_commands, node_script, taken_script, leaves_unreaching_by, leaves_unreaching, has_no_commands, board_commands, commands_by, script}
+use Rattle.sgf_lines.specs.Script.{comment_row, comment_text, comment_rows, play_command, setup_commands, move_commands_by, move_commands, node_script, taken_script, leaves_unreaching_by, leaves_unreaching, has_no_commands, board_commands, commands_by, script}
 use Rattle.sgf_lines.specs.NodeContents.{first_value}
-use Rattle.sgf_lines.specs.Replay.{is_word, does_nothing, command_of, after_command, after_row, after_text, replayed}
+use Rattle.sgf_lines.specs.Replay.{Engine, no_board, sized, shows, refused, after_command, after_row, after_text, replayed}
 use Rattle.sgf_tree.proofs.Names.{not-found}
 use Rattle.sgf_lines.proofs.Lists.{Each}
-use Rattle.sgf_lines.proofs.ScriptRows.{IsWithin, CarriesBoard, takes_row, takes_nothing, takes_both, takes_comment, takes_text_rows, row_within, decimal_within, decimal_solid, within_both}
-use Rattle.sgf_lines.proofs.ScriptWords.{one_word}
+use Rattle.sgf_lines.proofs.ScriptRows.{IsWithin, Carries, takes_row, takes_nothing, takes_both, takes_comment, takes_text_rows, row_within, decimal_within, within_both}
+use Rattle.sgf_lines.proofs.ScriptWords.{size_reads}
 use Rattle.sgf_lines.proofs.Placing.{BoardLaws, is_same, takes_play, takes_board}
 
 -- ---- What the parts of a test tell.
@@ -88,26 +90,24 @@ point_on side (c ∷ r ∷ d ∷ more) p e = absurd cc
 abbrev IsFull : ℕ → Grid → Type 0
 IsFull side g = (g.side ≡ side) × (length g.cells ≡ side * side)
 
-pass_leaves : (side : ℕ) (now : Option Grid) (k : Colour) → CarriesBoard side now (play_command side k Pass) now
-pass_leaves side None Black = takes_row side None (codes "play B pass") (search)
-pass_leaves side None White = takes_row side None (codes "play W pass") (search)
-pass_leaves side (Some g) Black = takes_row side (Some g) (codes "play B pass") (search)
-pass_leaves side (Some g) White = takes_row side (Some g) (codes "play W pass") (search)
+pass_leaves : (side : ℕ) (engine : Engine) (k : Colour) → Carries engine (play_command side k Pass) engine
+pass_leaves side engine Black = takes_row engine (codes "play B pass") (search)
+pass_leaves side engine White = takes_row engine (codes "play W pass") (search)
 
 module _ (laws : BoardLaws) (side : ℕ) (small : side ≤ 25) where
   -- a step leads to a grid with a cell for each point, and its node's commands lead there
   record StepReplayed (s t : State) (ts : List Stones) (ms : List Move) : Type 0 where
     full : IsFull side t.colouring
-    middle : Option Grid
-    set : CarriesBoard side (Some s.colouring) (setup_commands t.colouring ts) middle
-    moved : CarriesBoard side middle (move_commands t.colouring.side ms) (Some t.colouring)
+    middle : Engine
+    set : Carries (shows s.colouring) (setup_commands t.colouring ts) middle
+    moved : Carries middle (move_commands t.colouring.side ms) (shows t.colouring)
 
   stays : (s t : State) → IsFull side s.colouring → t.colouring ≡ s.colouring → StepReplayed s t [] []
   stays s t full e = record {
     full = subst (λ g. IsFull side g) (sym e) full;
-    middle = Some s.colouring;
-    set = takes_nothing side (Some s.colouring);
-    moved = subst (λ g. CarriesBoard side (Some s.colouring) [] (Some g)) (sym e) (takes_nothing side (Some s.colouring));
+    middle = shows s.colouring;
+    set = takes_nothing (shows s.colouring);
+    moved = subst (λ g. Carries (shows s.colouring) [] (shows g)) (sym e) (takes_nothing (shows s.colouring));
   }
 
   play_full : (g : Grid) (k : Colour) (p : Point) → IsFull side g → IsFull side (play g k p)
@@ -148,14 +148,17 @@ module _ (laws : BoardLaws) (side : ℕ) (small : side ≤ 25) where
 
   -- the command of a play that is allowed
   plays_on : (s t : State) (k : Colour) (raw : List ℕ) (x : Play) → IsFull side s.colouring → move_value raw (side_in s) ≡ Some x → reason_of s k x ≡ None
-      → t ≡ turned s k x → CarriesBoard side (Some s.colouring) (play_command side k x) (Some t.colouring) × IsFull side t.colouring
+      → t ≡ turned s k x → Carries (shows s.colouring) (play_command side k x) (shows t.colouring) × IsFull side t.colouring
   plays_on s t k raw Pass full value none is =
       let same : t.colouring ≡ s.colouring = ap (λ u. u.colouring) is in
-      (subst (λ g. CarriesBoard side (Some s.colouring) (play_command side k Pass) (Some g)) (sym same) (pass_leaves side (Some s.colouring) k), subst (λ g. IsFull side g) (sym same) full)
+      (subst (λ g. Carries (shows s.colouring) (play_command side k Pass) (shows g)) (sym same) (pass_leaves side (shows s.colouring) k), subst (λ g. IsFull side g) (sym same) full)
   plays_on s t k raw (Stone p) full value none is =
       let same : t.colouring ≡ play s.colouring k p = ap (λ u. u.colouring) is in
-      let on : IsOn side p = subst (λ n. IsOn n p) full.0 (stone_on (side_in s) raw p value) in (
-        subst (λ g. CarriesBoard side (Some s.colouring) (play_command side k (Stone p)) (Some g)) (sym same) (takes_play side s.colouring k p small on (free_point s k p none)),
+      let on : IsOn s.colouring.side p = stone_on (side_in s) raw p value in
+      let played : Carries (shows s.colouring) (play_command side k (Stone p)) (shows (play s.colouring k p)) =
+      subst (λ n. Carries (shows s.colouring) (play_command n k (Stone p)) (shows (play s.colouring k p))) full.0
+      (takes_play s.colouring k p (rw full.0 small) on (free_point s k p none)) in (
+        subst (λ g. Carries (shows s.colouring) (play_command side k (Stone p)) (shows g)) (sym same) played,
         subst (λ g. IsFull side g) (sym same) (play_full s.colouring k p full),
       )
 
@@ -172,9 +175,9 @@ module _ (laws : BoardLaws) (side : ℕ) (small : side ≤ 25) where
       ∙ ap (λ n. play_command n m.player x) full.0 in
       record {
         full = does.1;
-        middle = Some s.colouring;
-        set = takes_nothing side (Some s.colouring);
-        moved = subst (λ text. CarriesBoard side (Some s.colouring) text (Some t.colouring)) (sym line) does.0;
+        middle = shows s.colouring;
+        set = takes_nothing (shows s.colouring);
+        moved = subst (λ text. Carries (shows s.colouring) text (shows t.colouring)) (sym line) does.0;
       }
 
   move_leads : (s t : State) (m : Move) (value : Option Play) → IsFull side s.colouring → move_value m.raw (side_in s) ≡ value
@@ -193,9 +196,9 @@ module _ (laws : BoardLaws) (side : ℕ) (small : side ≤ 25) where
       let low : t.colouring.side ≤ 25 = rw now.0 small in
       record {
         full = now;
-        middle = Some t.colouring;
-        set = subst (λ n. CarriesBoard n (Some s.colouring) (colouring_commands t.colouring) (Some t.colouring)) now.0 (takes_board laws t.colouring cells settled low s.colouring);
-        moved = takes_nothing side (Some t.colouring);
+        middle = shows t.colouring;
+        set = takes_board laws t.colouring cells settled low s.colouring (full.0 ∙ sym now.0);
+        moved = takes_nothing (shows t.colouring);
       }
 
   step_leads : (s t : State) (ms : List Move) (ts : List Stones) (ps : List (List ℕ)) → IsFull side s.colouring → leaves_unreaching_by t.colouring ts ≡ false
@@ -210,22 +213,22 @@ module _ (laws : BoardLaws) (side : ℕ) (small : side ≤ 25) where
   step_leads s t [] [] (p ∷ ps) full settled is = player_leads s t (last_player None (p ∷ ps)) full is
 
   node_leads : (s t : State) (n : Node) → IsFull side s.colouring → leaves_unreaching (record { node = n; after = t }) ≡ false → step s n ≡ Ok t
-      → CarriesBoard side (Some s.colouring) (node_script t n) (Some t.colouring) × IsFull side t.colouring
+      → Carries (shows s.colouring) (node_script t n) (shows t.colouring) × IsFull side t.colouring
   node_leads s t n full settled is =
       let leads = step_leads s t (moves n) (stones n) (players n) full settled is in
-      let comments = takes_text_rows side (Some s.colouring) (comment_text (first_value (codes "C") n.properties)) in
+      let comments = takes_text_rows (shows s.colouring) (comment_text (first_value (codes "C") n.properties)) in
       let start = comment_rows n in
       let middle = start ++ setup_commands t.colouring (stones n) in
-      let half : CarriesBoard side (Some s.colouring) middle leads.middle =
-      takes_both side (Some s.colouring) (Some s.colouring) leads.middle start (setup_commands t.colouring (stones n)) comments leads.set in
-      (takes_both side (Some s.colouring) leads.middle (Some t.colouring) middle (move_commands t.colouring.side (moves n)) half leads.moved, leads.full)
+      let half : Carries (shows s.colouring) middle leads.middle =
+      takes_both (shows s.colouring) (shows s.colouring) leads.middle start (setup_commands t.colouring (stones n)) comments leads.set in
+      (takes_both (shows s.colouring) leads.middle (shows t.colouring) middle (move_commands t.colouring.side (moves n)) half leads.moved, leads.full)
 
   -- ---- A walk.
 
   -- what the walk so far says in commands leads to its board
   abbrev IsSaid : Walk → Type 0
   IsSaid w = list_any leaves_unreaching w.taken ≡ false
-      → CarriesBoard side (Some (empty_grid side)) (flat_map taken_script w.taken) (Some w.state.colouring) × IsFull side w.state.colouring
+      → Carries (shows (empty_grid side)) (flat_map taken_script w.taken) (shows w.state.colouring) × IsFull side w.state.colouring
 
   stepped_said : (w : Walk) (n : Node) (result : Result State Reason) → step w.state n ≡ result → IsSaid w → IsSaid (stepped w n result)
   stepped_said w n (Err reason) e said = said
@@ -234,11 +237,11 @@ module _ (laws : BoardLaws) (side : ℕ) (small : side ≤ 25) where
       let parts = any_append leaves_unreaching w.taken (p ∷ []) settled in
       let before = said parts.0 in
       let one = node_leads w.state t n before.1 (or_parts (leaves_unreaching p) false parts.1).0 e in
-      let empty = Some (empty_grid side) in
-      let both = takes_both side empty (Some w.state.colouring) (Some t.colouring) (flat_map taken_script w.taken) (node_script t n) before.0 one.0 in
+      let empty = shows (empty_grid side) in
+      let both = takes_both empty (shows w.state.colouring) (shows t.colouring) (flat_map taken_script w.taken) (node_script t n) before.0 one.0 in
       let texts : flat_map taken_script (w.taken ++ p ∷ []) ≡ flat_map taken_script w.taken ++ node_script t n =
       flat_map-append taken_script w.taken (p ∷ []) ∙ ap (λ x. flat_map taken_script w.taken ++ x) (append-nil (node_script t n)) in
-      (subst (λ x. CarriesBoard side empty x (Some t.colouring)) (sym texts) both, one.1)
+      (subst (λ x. Carries empty x (shows t.colouring)) (sym texts) both, one.1)
 
   next_said : (w : Walk) (met : Option IllegalNode) (n : Node) → IsSaid w → IsSaid (next_by w met n)
   next_said w (Some met) n said = said
@@ -249,41 +252,65 @@ module _ (laws : BoardLaws) (side : ℕ) (small : side ≤ 25) where
   walk_said w (n ∷ ns) said = walk_said (next w n) ns (next_said w w.illegal n said)
 
   begun_said : IsSaid (before_root side)
-  begun_said = λ settled. (takes_nothing side (Some (empty_grid side)), (refl, length-replicate (side * side) Empty))
+  begun_said = λ settled. (takes_nothing (shows (empty_grid side)), (refl, length-replicate (side * side) Empty))
 
   -- ---- The whole script.
 
-  two_words : (word : List ℕ) → command_of side (codes "boardsize" ∷ filter is_word (word ∷ [])) ≡ does_nothing
-  two_words [] = refl
-  two_words (b ∷ bs) = refl
-
-  takes_commands : (now : Grid) → CarriesBoard side (Some now) (board_commands side) (Some (empty_grid side))
-  takes_commands now =
+  takes_commands : 1 ≤ side → Carries no_board (board_commands side) (shows (empty_grid side))
+  takes_commands least =
       let line = codes "boardsize " ++ decimal side in
       let within : Each IsWithin line = within_both (codes "boardsize ") (decimal side) (search) (decimal_within side) in
-      let read : after_row side (Some now) line ≡ Some now =
-      ap (λ ls. after_command side now (command_of side (codes "boardsize" ∷ filter is_word ls))) (one_word (decimal side) (decimal_solid side))
-      ∙ ap (λ c. after_command side now c) (two_words (decimal side)) in
-      let sized : CarriesBoard side (Some now) (line ++ (10 ∷ [])) (Some now) =
-      subst (λ b. CarriesBoard side (Some now) (line ++ (10 ∷ [])) b) read (takes_row side (Some now) line within) in
-      let cleared : CarriesBoard side (Some now) (codes "clear_board\n") (Some (empty_grid side)) = takes_row side (Some now) (codes "clear_board") (search) in
-      subst (λ x. CarriesBoard side (Some now) x (Some (empty_grid side))) (append_assoc line (10 ∷ []) (codes "clear_board\n"))
-      (takes_both side (Some now) (Some now) (Some (empty_grid side)) (line ++ (10 ∷ [])) (codes "clear_board\n") sized cleared)
+      let test : (nat_le 1 side && nat_le side MAX_VERTEX_SIDE) ≡ true = grind (arith, nat_tests, least, small) in
+      let read : after_row no_board line ≡ sized side =
+      ap (λ c. after_command no_board c) (size_reads side small) ∙ ap (λ b. cond b (sized side) refused) test in
+      let told : Carries no_board (line ++ (10 ∷ [])) (sized side) =
+      subst (λ b. Carries no_board (line ++ (10 ∷ [])) b) read (takes_row no_board line within) in
+      let cleared : Carries (sized side) (codes "clear_board\n") (shows (empty_grid side)) = takes_row (sized side) (codes "clear_board") (search) in
+      subst (λ x. Carries no_board x (shows (empty_grid side))) (append_assoc line (10 ∷ []) (codes "clear_board\n"))
+      (takes_both no_board (sized side) (shows (empty_grid side)) (line ++ (10 ∷ [])) (codes "clear_board\n") told cleared)
+
+-- a board has a point
+side_by : (test : Bool) (n side : ℕ) → (nat_le 1 n && nat_le n MAX_SIDE) ≡ test → cond test (Some n) None ≡ Some side → 1 ≤ side
+side_by true n side t e = let same : n ≡ side = cc in let le : 1 ≤ n = grind (arith, nat_tests) in omega arith
+side_by false n side t e = absurd cc
+
+side_given : (number : Option ℤ) (side : ℕ) → side_from number ≡ Some side → 1 ≤ side
+side_given None side e = absurd cc
+side_given (Some (negsuc n)) side e = absurd cc
+side_given (Some (pos n)) side e = side_by (nat_le 1 n && nat_le n MAX_SIDE) n side refl e
+
+side_said : (raw : Option (List ℕ)) (side : ℕ) → side_of raw ≡ Some side → 1 ≤ side
+side_said None side e = let same : 19 ≡ side = cc in omega arith
+side_said (Some raw) side e = side_given (number_of raw) side e
+
+side_on : (o : Option ℕ) (side : ℕ) → game_kind_on o ≡ board side → o ≡ Some side
+side_on None side e = absurd cc
+side_on (Some n) side e = let same : n ≡ side = cc in ap Some same
+
+side_least : (go : Bool) (o : Option ℕ) (side : ℕ) → cond go (game_kind_on o) not_go ≡ board side → o ≡ Some side
+side_least true o side e = side_on o side e
+side_least false o side e = absurd cc
+
+has_point : (properties : List Property) (side : ℕ) → game_kind properties ≡ board side → 1 ≤ side
+has_point properties side e =
+    let size = first_value (codes "SZ") properties in
+    side_said size side (side_least (is_go (first_value (codes "GM") properties)) (side_of size) side e)
 
 pub script_replayed : BoardLaws → (line : Line) (side : ℕ) → game_kind (root_properties line.nodes) ≡ board side
-    → has_no_commands side (walk side line.nodes) ≡ false → replayed side (script line) ≡ Some (walk side line.nodes).state.colouring
+    → has_no_commands side (walk side line.nodes) ≡ false → replayed (script line) ≡ shows (walk side line.nodes).state.colouring
 script_replayed laws line side opens says =
     let w = walk side line.nodes in
     let parts = or_parts (nat_lt MAX_VERTEX_SIDE side) (list_any leaves_unreaching w.taken) says in
     let small : side ≤ 25 = grind (arith, nat_tests, parts.0) in
-    let empty = Some (empty_grid side) in
+    let empty = shows (empty_grid side) in
     let said = walk_said laws side small (before_root side) line.nodes (begun_said laws side small) parts.1 in
     let played = flat_map taken_script w.taken in
-    let all : CarriesBoard side empty (board_commands side ++ played) (Some w.state.colouring) =
-    takes_both side empty empty (Some w.state.colouring) (board_commands side) played (takes_commands laws side small (empty_grid side)) said.0 in
+    let all : Carries no_board (board_commands side ++ played) (shows w.state.colouring) =
+    takes_both no_board empty (shows w.state.colouring) (board_commands side) played
+    (takes_commands laws side small (has_point (root_properties line.nodes) side opens)) said.0 in
     let commands : commands_by (game_kind (root_properties line.nodes)) line.nodes ≡ board_commands side ++ played =
     ap (λ o. commands_by o line.nodes) opens ∙ ap (λ b. cond b [] (board_commands side ++ played)) says in
-    let row : CarriesBoard side empty (comment_row (list_row line)) empty = takes_comment side empty (list_row line) (row_within line) in
-    let both : CarriesBoard side empty (comment_row (list_row line) ++ (board_commands side ++ played)) (Some w.state.colouring) =
-    takes_both side empty empty (Some w.state.colouring) (comment_row (list_row line)) (board_commands side ++ played) row all in
-    ap (λ x. after_text side empty (comment_row (list_row line) ++ x ++ codes "\n")) commands ∙ both (codes "\n")
+    let row : Carries no_board (comment_row (list_row line)) no_board = takes_comment no_board (list_row line) (row_within line) in
+    let both : Carries no_board (comment_row (list_row line) ++ (board_commands side ++ played)) (shows w.state.colouring) =
+    takes_both no_board no_board (shows w.state.colouring) (comment_row (list_row line)) (board_commands side ++ played) row all in
+    ap (λ x. after_text no_board (comment_row (list_row line) ++ x ++ codes "\n")) commands ∙ both (codes "\n")

@@ -1,24 +1,17 @@
 -- The answers of a run and of its parts.
-use Rattle.std.proofs.Common.{◌≡◌, ℕ, ◌+◌, ◌<◌, ◌≤◌, inr, List, [], ◌++◌, length, take, drop, slice_get, Option, Some, Result, Ok, Err, refl, sym, ap, subst, ◌∙◌, arith, add-one, append_assoc, append-nil, length-append}
+use Rattle.std.proofs.Common.{◌≡◌, ℕ, ◌+◌, ◌<◌, List, [], ◌++◌, length, take, drop, slice_get, Option, Some, Result, Ok, Err, refl, sym, ap, ◌∙◌, arith, add-one, append_assoc, append-nil, length-append}
 use Rattle.std.proofs.lemmas.Option.{slice_get_within}
 use Rattle.std.specs.List.{flat_map}
 use Rattle.std.specs.Io.KnownBytes.{Appends}
 use Rattle.std.proofs.KnownBytes.{Appends-nil}
 use Rattle.std.proofs.lemmas.List.{take_all, take-append-drop, length-take-le}
 use Rattle.std.proofs.lemmas.Grind.{flat_map-append}
-use Rattle.sgf_tree.specs.Tree.{Games}
-use Rattle.sgf_tree.specs.Spelling.{Spells}
-use Rattle.sgf_tree.specs.Refusal.{IsFaultyWhereNotSgf}
-use Rattle.sgf_tree.specs.declared.fault.TheConstants.{MAX_LENGTH}
-use Rattle.sgf_tree.specs.declared.fault.ReadFault.{ReadFault}
-use Rattle.sgf_tree.specs.declared.fault.ReadFault.TheVariants.{TooLong as TextTooLong, NotSgf as TextNotSgf, Memory as TextMemory}
 use Rattle.sgf_lines.specs.Lines.{Line}
 use Rattle.sgf_lines.specs.Record.{record_of, output}
 use Rattle.sgf_lines.specs.Ends.{SourceState, SinkState}
-use Rattle.sgf_lines.specs.Answer.{IsWhole, Answers, IsCutShort, IsRun, read_failures, write_failures}
-use Rattle.sgf_lines.specs.inner.Running.{AnswersReading, IsReading, IsSplit, IsSplitOf, AnswersLines, WritesLines, IsStart, unread}
+use Rattle.sgf_lines.specs.Answer.{IsCutShort, read_failures, write_failures}
+use Rattle.sgf_lines.specs.inner.Running.{AnswersReading, IsReading, AnswersLines, WritesLines}
 use Rattle.sgf_lines.specs.declared.options.Form.{Form}
-use Rattle.sgf_lines.specs.declared.options.Options.{Options}
 use Rattle.sgf_lines.specs.declared.fault.RunFault.{RunFault}
 use Rattle.sgf_lines.specs.declared.fault.RunFault.TheVariants.{Read, TooLong, NotSgf, NoSuchLine, Write, Memory}
 use Rattle.sgf_lines.proofs.Joins.{more_texts}
@@ -39,22 +32,6 @@ pub no_write : {A : Type 0} (source new_source : SourceState) (text : List ℕ) 
     → write_failures {A = A} (Err fault) ≡ 0
 no_write {A = A} source new_source text fault h = reading_no_write A h.given new_source.to_come text fault h.answers
 
--- where the source was read to its end, the answer is that for the text
-abbrev pub run_of_text : {A : Type 0} (o : Options) (source new_source : SourceState) (sink new_sink : SinkState) (text : List ℕ) (u : A) (result : Result ℕ RunFault)
-    → IsReading {A = A} source new_source text (Ok u) → IsSplit o text sink new_sink result → IsRun o source new_source sink new_sink result
-run_of_text o source new_source sink new_sink text u result h split =
-    let same : h.given ≡ text = sym h.answers.1 in
-    let whole : IsWhole text new_source.to_come = rw same at h.answers.0 in
-    let end = split new_source.to_come whole in
-    record {
-      given = text;
-      taken = end.taken;
-      gives = rw same at h.gives;
-      consumes = rw same at h.consumes;
-      takes = end.takes;
-      answers = end.answers;
-    }
-
 lines_no_read : (form : Form) (ls : List Line) (taken : List ℕ) (result : Result ℕ RunFault) → AnswersLines form ls taken result → read_failures result ≡ 0
 lines_no_read form ls taken (Ok k) h = refl
 lines_no_read form ls taken (Err Read) h = absurd h
@@ -66,32 +43,6 @@ lines_no_read form ls taken (Err (Memory k)) h = refl
 
 pub no_read : (form : Form) (ls : List Line) (sink new_sink : SinkState) (result : Result ℕ RunFault) → WritesLines form ls sink new_sink result → read_failures result ≡ 0
 no_read form ls sink new_sink result h = lines_no_read form ls h.taken result h.answers
-
-answers_start : (o : Options) (text : List ℕ) (to_come : Option (List ℕ)) (c : Games) (fault : RunFault) → Spells c text → IsWhole text to_come → IsStart c o.after (Err fault)
-    → Answers o text to_come [] (Err fault)
-answers_start o text to_come c Read spelled whole h = absurd h
-answers_start o text to_come c TooLong spelled whole h = absurd h
-answers_start o text to_come c (NotSgf at len) spelled whole h = absurd h
-answers_start o text to_come c (NoSuchLine place) spelled whole h = (whole, record { games = c; spelled = spelled; asked = h.0; none = h.1 }, refl)
-answers_start o text to_come c (Write k) spelled whole h = absurd h
-answers_start o text to_come c (Memory k) spelled whole h = inr (h, refl)
-
--- the run over a collection where no cursor stands before the page
-pub split_of_no_start : (o : Options) (c : Games) (sink : SinkState) (fault : RunFault) → ((text : List ℕ) → Spells c text → IsStart c o.after (Err fault)) → IsSplitOf o c sink sink (Err fault)
-split_of_no_start o c sink fault h = λ text spelled to_come whole.
-    record { taken = []; takes = appends_nothing sink.taken; answers = answers_start o text to_come c fault spelled whole (h text spelled) }
-
--- the run over a text that wasn't read
-pub split_of_unread : (o : Options) (text : List ℕ) (sink : SinkState) (fault : ReadFault) (met : RunFault) → met ≡ unread fault (length text) → length text ≤ MAX_LENGTH
-    → (fault ≡ TextTooLong → MAX_LENGTH < length text) → IsFaultyWhereNotSgf text fault → IsSplit o text sink sink (Err met)
-split_of_unread o text sink fault met is short long faulty = λ to_come whole.
-    record { taken = []; takes = appends_nothing sink.taken; answers = subst (λ f. Answers o text to_come [] (Err f)) (sym is) (by to_come fault long faulty whole) }
-  where
-    by : (to_come : Option (List ℕ)) (f : ReadFault) → (f ≡ TextTooLong → MAX_LENGTH < length text) → IsFaultyWhereNotSgf text f → IsWhole text to_come
-        → Answers o text to_come [] (Err (unread f (length text)))
-    by to_come TextTooLong long faulty whole = absurd (omega (arith, long refl, short))
-    by to_come (TextNotSgf at) long faulty whole = (whole, faulty, refl, refl)
-    by to_come TextMemory long faulty whole = inr (refl, refl)
 
 -- one record more
 pub one_more : (form : Form) (ls : List Line) (k : ℕ) (line : Line) → slice_get ls k ≡ Some line

@@ -1,10 +1,9 @@
 -- The rows of a script: what a text of whole rows does to the board, whatever follows it.
-use Rattle.std.proofs.Common.{◌≡◌, ℕ, zero, suc, ◌≤◌, ◌/◌, ◌%◌, List, [], ◌∷◌, ◌++◌, length, fold, Option, Some, None, Bool, true, false, codes, refl, ap, ◌∙◌, arith, append_assoc, decimal, cond, ◌==◌}
+use Rattle.std.proofs.Common.{◌≡◌, ℕ, zero, suc, ◌≤◌, ◌/◌, ◌%◌, List, [], ◌∷◌, ◌++◌, length, fold, Bool, true, false, codes, refl, ap, ◌∙◌, arith, append_assoc, decimal, cond, ◌==◌}
 use Rattle.std.specs.List.{flat_map, slice_split, onto_first}
 use Rattle.std.specs.Fmt.{digits, digits_onto, digit_glyph}
 use Rattle.std.proofs.lemmas.List.Splits.{slice_split_at}
 use Rattle.std.proofs.lemmas.List.Elements.{All-from_recursion}
-use Rattle.go_board.specs.Grid.{Grid}
 use Rattle.go_board.specs.Reason.{word_of}
 use Rattle.go_board.specs.declared.reason.Reason.{Reason}
 use Rattle.go_board.specs.declared.reason.Reason.TheVariants.{Mixed, TwoMoves, BadSetup, BadPoint, Over, Turn, Occupied, Repeat}
@@ -14,37 +13,36 @@ use Rattle.sgf_lines.specs.Lines.{Line, place_of}
 use Rattle.sgf_lines.specs.Verdict.{verdict}
 use Rattle.sgf_lines.specs.ListRow.{verdict_text, list_row}
 use Rattle.sgf_lines.specs.Script.{comment_row, text_rows}
-use Rattle.sgf_lines.specs.Replay.{after_row, after_text}
+use Rattle.sgf_lines.specs.Replay.{Engine, after_row, after_text}
 use Rattle.sgf_lines.proofs.Lists.{Each, each_append}
 
 -- the byte doesn't end a row
 abbrev pub IsWithin : ℕ → Type 0
 IsWithin b = (b == 10) ≡ false
 
--- a text of whole rows takes one board to another
-abbrev pub CarriesBoard : ℕ → Option Grid → List ℕ → Option Grid → Type 0
-CarriesBoard side before text after = (rest : List ℕ) → after_text side before (text ++ rest) ≡ after_text side after rest
+-- a text of whole rows takes an engine from one state to another
+abbrev pub Carries : Engine → List ℕ → Engine → Type 0
+Carries before text after = (rest : List ℕ) → after_text before (text ++ rest) ≡ after_text after rest
 
-pub takes_row : (side : ℕ) (before : Option Grid) (line : List ℕ) → Each IsWithin line → CarriesBoard side before (line ++ (10 ∷ [])) (after_row side before line)
-takes_row side before line h rest =
-    ap (λ t. after_text side before t) (append_assoc line (10 ∷ []) rest)
-    ∙ ap (λ ls. fold (after_row side) before ls) (slice_split_at (λ b. b == 10) line 10 rest (All-from_recursion IsWithin line h) refl)
+pub takes_row : (before : Engine) (line : List ℕ) → Each IsWithin line → Carries before (line ++ (10 ∷ [])) (after_row before line)
+takes_row before line h rest =
+    ap (λ t. after_text before t) (append_assoc line (10 ∷ []) rest)
+    ∙ ap (λ ls. fold after_row before ls) (slice_split_at (λ b. b == 10) line 10 rest (All-from_recursion IsWithin line h) refl)
 
-pub takes_nothing : (side : ℕ) (board : Option Grid) → CarriesBoard side board [] board
-takes_nothing side board rest = refl
+pub takes_nothing : (engine : Engine) → Carries engine [] engine
+takes_nothing engine rest = refl
 
-pub takes_both : (side : ℕ) (a b c : Option Grid) (t u : List ℕ) → CarriesBoard side a t b → CarriesBoard side b u c → CarriesBoard side a (t ++ u) c
-takes_both side a b c t u first then rest = ap (λ x. after_text side a x) (append_assoc t u rest) ∙ first (u ++ rest) ∙ then rest
+pub takes_both : (a b c : Engine) (t u : List ℕ) → Carries a t b → Carries b u c → Carries a (t ++ u) c
+takes_both a b c t u first then rest = ap (λ x. after_text a x) (append_assoc t u rest) ∙ first (u ++ rest) ∙ then rest
 
 -- ---- comments
 
-comment_leaves : (side : ℕ) (board : Option Grid) (piece : List ℕ) → after_row side board (codes "# " ++ piece) ≡ board
-comment_leaves side None piece = refl
-comment_leaves side (Some g) piece = refl
+comment_leaves : (engine : Engine) (piece : List ℕ) → after_row engine (codes "# " ++ piece) ≡ engine
+comment_leaves engine piece = refl
 
-pub takes_comment : (side : ℕ) (board : Option Grid) (piece : List ℕ) → Each IsWithin piece → CarriesBoard side board (comment_row piece) board
-takes_comment side board piece h rest =
-    takes_row side board (codes "# " ++ piece) (refl, (refl, h)) rest ∙ ap (λ b. after_text side b rest) (comment_leaves side board piece)
+pub takes_comment : (engine : Engine) (piece : List ℕ) → Each IsWithin piece → Carries engine (comment_row piece) engine
+takes_comment engine piece h rest =
+    takes_row engine (codes "# " ++ piece) (refl, (refl, h)) rest ∙ ap (λ b. after_text b rest) (comment_leaves engine piece)
 
 -- the pieces of a text that is cut at its line feeds have none
 onto_within : (b : ℕ) (pieces : List (List ℕ)) → IsWithin b → Each (λ p. Each IsWithin p) pieces → Each (λ p. Each IsWithin p) (onto_first b pieces)
@@ -60,14 +58,14 @@ pieces_within : (text : List ℕ) → Each (λ p. Each IsWithin p) (slice_split 
 pieces_within [] = (tt, tt)
 pieces_within (b ∷ bs) = pieces_by b bs (b == 10) refl (pieces_within bs)
 
-takes_comments : (side : ℕ) (board : Option Grid) (pieces : List (List ℕ)) → Each (λ p. Each IsWithin p) pieces → CarriesBoard side board (flat_map comment_row pieces) board
-takes_comments side board [] h = takes_nothing side board
-takes_comments side board (p ∷ ps) h =
-    takes_both side board board board (comment_row p) (flat_map comment_row ps) (takes_comment side board p h.0) (takes_comments side board ps h.1)
+takes_comments : (engine : Engine) (pieces : List (List ℕ)) → Each (λ p. Each IsWithin p) pieces → Carries engine (flat_map comment_row pieces) engine
+takes_comments engine [] h = takes_nothing engine
+takes_comments engine (p ∷ ps) h =
+    takes_both engine engine engine (comment_row p) (flat_map comment_row ps) (takes_comment engine p h.0) (takes_comments engine ps h.1)
 
-pub takes_text_rows : (side : ℕ) (board : Option Grid) (text : List ℕ) → CarriesBoard side board (text_rows text) board
-takes_text_rows side board [] = takes_nothing side board
-takes_text_rows side board (b ∷ bs) = takes_comments side board (slice_split (λ c. c == 10) (b ∷ bs)) (pieces_within (b ∷ bs))
+pub takes_text_rows : (engine : Engine) (text : List ℕ) → Carries engine (text_rows text) engine
+takes_text_rows engine [] = takes_nothing engine
+takes_text_rows engine (b ∷ bs) = takes_comments engine (slice_split (λ c. c == 10) (b ∷ bs)) (pieces_within (b ∷ bs))
 
 -- ---- the row
 

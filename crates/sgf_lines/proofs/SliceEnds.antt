@@ -1,11 +1,11 @@
--- What a source over a slice gives, and what a call for all of some bytes puts.
-use Rattle.std.proofs.Common.{◌≡◌, ℕ, ◌+◌, ◌-◌, ◌<◌, ◌≤◌, List, ◌++◌, length, take, drop, Some, refl, sym, ap, ◌∙◌, arith, length-append}
+-- What a source over a slice gives, and what calls for all of some bytes hand on.
+use Rattle.std.proofs.Common.{◌≡◌, ℕ, ◌+◌, ◌-◌, ◌<◌, ◌≤◌, List, ◌++◌, length, take, drop, Option, Some, refl, sym, ap, ◌∙◌, arith, length-append}
 use Rattle.std.specs.Prelude.{min}
 use Rattle.std.specs.Io.KnownBytes.{Appends}
 use Rattle.std.proofs.KnownBytes.{Appends-trans}
 use Rattle.std.proofs.Math.Seq.{take-add}
 use Rattle.std.proofs.lemmas.List.{nil_from_length, take-append-drop, length-take-le, length-drop, drop-drop, take-append-le, take_all}
-use Rattle.sgf_lines.specs.Ends.{SourceState, SinkState, Gives}
+use Rattle.sgf_lines.specs.Ends.{SourceState, Gives}
 
 -- how a source over a slice stands that has given g bytes
 abbrev stands : List ℕ → ℕ → SourceState
@@ -22,6 +22,7 @@ slice_gives bytes sl rest g n m room le is same count some =
     take-append-le n sl rest (omega (arith, long)) ∙ take_all n sl (omega (arith, long)) ∙ sl_is in (
       omega (arith, length-append sl rest, long),
       record {
+        never_failed = refl;
         failures = refl;
         given = take-add g n bytes ∙ ap (λ bs. take g bytes ++ bs) (sym front);
         to_come = sym (take-append-drop n (drop g bytes)) ∙ ap (λ bs. take n (drop g bytes) ++ bs) (drop-drop n g bytes) ∙ ap (λ bs. bs ++ drop (g + n) bytes) (sym front);
@@ -31,9 +32,9 @@ slice_gives bytes sl rest g n m room le is same count some =
       },
     )
 
--- a put goes on where the one before it ended
-pub puts_more : (old now new : SinkState) (bytes : List ℕ) (done n : ℕ) → Appends old.taken now.taken (take done bytes)
-    → Appends now.taken new.taken (take n (take (length bytes - done) (drop done bytes))) → Appends old.taken new.taken (take (done + n) bytes)
-puts_more old now new bytes done n front more =
+-- bytes go on where those before them ended
+pub goes_on : (old now new : Option (List ℕ)) (bytes : List ℕ) (done n : ℕ) → Appends old now (take done bytes)
+    → Appends now new (take n (take (length bytes - done) (drop done bytes))) → Appends old new (take (done + n) bytes)
+goes_on old now new bytes done n front more =
     let left : take (length bytes - done) (drop done bytes) ≡ drop done bytes = take_all (length bytes - done) (drop done bytes) (omega (arith, length-drop done bytes)) in
-    rw (take-add done n bytes) (Appends-trans old.taken now.taken new.taken (take done bytes) (take n (drop done bytes)) front (rw left at more))
+    rw (take-add done n bytes) (Appends-trans old now new (take done bytes) (take n (drop done bytes)) front (rw left at more))

@@ -1,22 +1,16 @@
 -- A walk along a line, node after node.
 use Rattle.std.proofs.Common.{◌≡◌, ℕ, zero, suc, ◌+◌, ◌≤◌, List, [], ◌∷◌, ◌++◌, length, take, drop, slice_get, Option, Some, None, Result, Ok, Err, refl, sym, ap, ◌∙◌, subst}
-use Rattle.std.specs.Prelude.{fold, IfOk, option_map}
+use Rattle.std.specs.Prelude.{fold, option_map}
 use Rattle.std.proofs.lemmas.List.Sums.{fold-append}
 use Rattle.std.proofs.lemmas.List.{take_all}
 use Rattle.sgf_tree.specs.Tree.{Node, Games}
 use Rattle.sgf_tree.specs.FileOrder.{OrderedNode, ordered_nodes, node_at, place_at}
-use Rattle.sgf_tree.specs.declared.fault.MemoryFault.{MemoryFault}
 use Rattle.go_board.specs.declared.reason.Reason.{Reason}
-use Rattle.go_board.specs.State.{State, States}
-use Rattle.sgf_lines.specs.declared.verdict.Verdict.{Verdict}
+use Rattle.go_board.specs.State.{State}
 use Rattle.sgf_lines.specs.declared.verdict.Verdict.TheVariants.{Illegal}
-use Rattle.sgf_lines.specs.declared.step.StepFault.{StepFault}
-use Rattle.sgf_lines.specs.declared.step.StepFault.TheVariants.{Illegal as IllegalStep, Memory as MemoryStep}
 use Rattle.sgf_lines.specs.Step.{step}
 use Rattle.sgf_lines.specs.Walk.{IllegalNode, Walk, before_root, stepped, next_by, next, walk}
 use Rattle.sgf_lines.specs.Verdict.{verdict_at, score_in}
-use Rattle.sgf_lines.specs.declared.step.TakenStep.{TakenStep}
-use Rattle.sgf_lines.specs.inner.Stepping.{IsStepped, ended_with}
 use Rattle.sgf_lines.proofs.Lists.{front_more}
 
 -- the walk has met no illegal node, and leads to that state
@@ -76,19 +70,6 @@ module _ (side : ℕ) (nodes : List Node) (i : ℕ) (s : State) (h : StandsAfter
       let all : take i nodes ≡ nodes = take_all i nodes le in
       let g : StandsAfter (walk side nodes) s = subst (λ ns. StandsAfter (walk side ns) s) all h in
       scores_there (walk side nodes) s g
-
--- a step that was refused ends the line with its verdict
-pub ends_line : (side : ℕ) (nodes : List Node) (i : ℕ) (old new : States) (n : Node) (fault : StepFault) (turns place : ℕ) (r : Result Verdict MemoryFault)
-    → StandsAfter (walk side (take i nodes)) old.present → slice_get nodes i ≡ Some n → IsStepped {A = TakenStep} (step old.present n) old new (Err fault) → turns ≡ new.present.turns → place ≡ n.place
-    → r ≡ ended_with fault turns place → IfOk r (λ v. v ≡ verdict_at (walk side nodes))
-ends_line side nodes i old new n fault turns place r h e is turns_are place_is result_is =
-    subst (λ q. IfOk q (λ v. v ≡ verdict_at (walk side nodes))) (sym result_is) (by fault is)
-  where
-    by : (f : StepFault) → IsStepped {A = TakenStep} (step old.present n) old new (Err f) → IfOk (ended_with f turns place) (λ v. v ≡ verdict_at (walk side nodes))
-    by (IllegalStep reason) is =
-        let same : turns ≡ old.present.turns = turns_are ∙ ap (λ (s : States). s.present.turns) is.1 in
-        ap (λ t. Illegal (t + 1) place reason) same ∙ ap (λ p. Illegal (old.present.turns + 1) p reason) place_is ∙ sym (illegal_at side nodes i old.present h n reason e is.0)
-    by MemoryStep is = tt
 
 -- the place of a node is that which it has
 pub place_of_node : (c : Games) (i : ℕ) (n : Node) (place : ℕ) → node_at c i ≡ Some n → place_at c i ≡ Some place → place ≡ n.place

@@ -1,5 +1,5 @@
 -- The answer of a run: what its source gave, what its sink took, and what the result says of both.
-use Rattle.std.specs.Prelude.{◌≡◌, ℕ, ◌+◌, ◌<◌, ◌≤◌, ◌⊎◌, List, [], ◌++◌, length, take, Option, Some, None, Result, Ok, Err}
+use Rattle.std.specs.Prelude.{◌≡◌, ℕ, ◌+◌, ◌<◌, ◌≤◌, ◌⊎◌, List, [], ◌++◌, length, take, Option, Some, None, Result, Ok, Err, OnOk}
 use Rattle.std.specs.Result.{result_err}
 use Rattle.std.specs.Io.KnownBytes.{Appends, Consumes, IsAtEnd}
 use Rattle.sgf_tree.specs.Tree.{Games}
@@ -9,7 +9,7 @@ pub use Rattle.sgf_tree.specs.declared.fault.TheConstants.{MAX_LENGTH}
 use Rattle.sgf_lines.specs.Lines.{Line, lines}
 use Rattle.sgf_lines.specs.Page.{page, lines_after}
 use Rattle.sgf_lines.specs.Record.{output}
-use Rattle.sgf_lines.specs.Ends.{SourceState, SinkState}
+use Rattle.sgf_lines.specs.Ends.{SourceState, SinkState, HasDelivered}
 use Rattle.sgf_lines.specs.declared.options.Form.{Form}
 use Rattle.sgf_lines.specs.declared.options.Options.{Options}
 use Rattle.sgf_lines.specs.declared.fault.RunFault.{RunFault}
@@ -57,7 +57,8 @@ Answers options given to_come taken (Err (Write count)) = IsWhole given to_come 
 Answers options given to_come taken (Err (Memory count)) =
     (IsWhole given to_come × ((page : List Line) × HasPage options given page × IsCutBetween options.form page count taken)) ⊎ ((count ≡ 0) × (taken ≡ []))
 
--- The answer of a run, by how it finds its ends and how it leaves them.
+-- The answer of a run, by how it finds its ends and how it leaves them. An end that failed fails for good, and each failure is counted,
+-- so where a count rises by one nothing was asked of that end after its failure.
 pub record IsRun (options : Options) (source new_source : SourceState) (sink new_sink : SinkState) (result : Result ℕ RunFault) : Type 0 where
   pub given : List ℕ
   pub taken : List ℕ
@@ -65,6 +66,7 @@ pub record IsRun (options : Options) (source new_source : SourceState) (sink new
   pub consumes : Consumes source.to_come new_source.to_come given
   pub takes : Appends sink.taken new_sink.taken taken
   pub answers : Answers options given new_source.to_come taken result
+  pub delivers : OnOk result (HasDelivered new_sink)
 
 -- how many failures of the source a fault tells of, and how many of the sink
 abbrev pub reads_failed : Option RunFault → ℕ

@@ -1,12 +1,12 @@
 -- The counts of a collection, and how they are written.
-use Rattle.std.specs.Prelude.{◌≡◌, ℕ, ◌<◌, ◌≤◌, List, ◌++◌, length, Option, Result, Ok, Err, codes, decimal}
+use Rattle.std.specs.Prelude.{◌≡◌, ℕ, ◌<◌, ◌≤◌, List, ◌++◌, length, Option, Result, Ok, Err, OnOk, codes, decimal}
 use Rattle.std.specs.Io.KnownBytes.{Appends, Consumes}
 use Rattle.sgf_tree.specs.Tree.{Games, game_count, node_count}
 use Rattle.sgf_tree.specs.Spelling.{Spells}
 use Rattle.sgf_tree.specs.Refusal.{IsFaultyAt}
 use Rattle.sgf_tree.specs.declared.fault.TheConstants.{MAX_LENGTH}
 use Rattle.sgf_lines.specs.Lines.{lines}
-use Rattle.sgf_lines.specs.Ends.{SourceState, SinkState}
+use Rattle.sgf_lines.specs.Ends.{SourceState, SinkState, HasDelivered}
 use Rattle.sgf_lines.specs.Answer.{IsWhole}
 use Rattle.sgf_lines.specs.declared.counting.Counts.{Counts}
 use Rattle.sgf_lines.specs.declared.fault.RunFault.{RunFault}
@@ -52,3 +52,4 @@ pub record IsWriting {A : Type 0} (row : List ℕ) (sink new_sink : SinkState) (
   pub taken : List ℕ
   pub takes : Appends sink.taken new_sink.taken taken
   pub answers : AnswersRow row taken result
+  pub delivers : OnOk result (HasDelivered new_sink)

@@ -9,8 +9,9 @@ pub record SourceState : Type 0 where
   pub given : Option (List ℕ)
   pub to_come : Option (List ℕ)
 
--- a source gave these bytes, and none only where no more are to come
+-- a source that had never failed gave these bytes, and none only where no more are to come
 pub record Gives (old new : SourceState) (bytes : List ℕ) : Type 0 where
+  pub never_failed : old.failures ≡ 0
   pub failures : new.failures ≡ old.failures
   pub given : Appends old.given new.given bytes
   pub to_come : Consumes old.to_come new.to_come bytes
@@ -27,20 +28,39 @@ abbrev pub IsGet : {E : Type 0} → SourceState → SourceState → List ℕ →
 IsGet old new buffer (Ok n) = (n ≤ length buffer) × Gives old new (take n buffer)
 IsGet old new buffer (Err _) = GivesNothing old new
 
--- A sink: how often it has failed, and the bytes that it has taken so far, which are none where it doesn't tell them.
+-- A sink: how often it has failed, the bytes that it has taken so far, and of these the front that it has delivered, which is
+-- handed on and no longer held back. Each list is none where the sink doesn't tell it; then nothing is said of it.
 pub record SinkState : Type 0 where
   pub failures : ℕ
   pub taken : Option (List ℕ)
+  pub delivered : Option (List ℕ)
 
--- a sink took these bytes
+-- what a sink tells as delivered is a front of what it tells as taken
+abbrev pub DeliversFront : SinkState → Type 0
+DeliversFront sink = (held : List ℕ) × Appends sink.delivered sink.taken held
+
+-- a sink has delivered all that it has taken
+abbrev pub HasDelivered : SinkState → Type 0
+HasDelivered sink = Keeps sink.delivered sink.taken
+
+-- a sink that had never failed took these bytes
 pub record Takes (old new : SinkState) (bytes : List ℕ) : Type 0 where
+  pub never_failed : old.failures ≡ 0
   pub failures : new.failures ≡ old.failures
   pub taken : Appends old.taken new.taken bytes
 
--- a sink failed: it counts that, and took nothing
+-- a sink failed: it counts that, and took nothing; where it had failed before, it delivered nothing either
 pub record TakesNothing (old new : SinkState) : Type 0 where
   pub failures : new.failures ≡ old.failures + 1
   pub taken : Keeps old.taken new.taken
+  pub final : 0 < old.failures → new.delivered ≡ old.delivered
+
+-- a sink that had never failed delivered all that it had taken, and took nothing
+pub record Delivers (old new : SinkState) : Type 0 where
+  pub never_failed : old.failures ≡ 0
+  pub failures : new.failures ≡ old.failures
+  pub taken : Keeps old.taken new.taken
+  pub delivered : HasDelivered new
 
 -- the answer of a sink that was handed bytes: how many at their front it took, which is at least one
 abbrev pub IsPut : {E : Type 0} → SinkState → SinkState → List ℕ → Result ℕ E → Type 0
@@ -49,5 +69,5 @@ IsPut old new bytes (Err _) = TakesNothing old new
 
 -- the answer of a sink that was asked to flush
 abbrev pub IsFlush : {A E : Type 0} → SinkState → SinkState → Result A E → Type 0
-IsFlush old new (Ok _) = Takes old new []
+IsFlush old new (Ok _) = Delivers old new
 IsFlush old new (Err _) = TakesNothing old new

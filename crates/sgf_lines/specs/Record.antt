@@ -2,10 +2,10 @@
 use Rattle.std.specs.Prelude.{ℕ, List, ◌++◌, codes}
 use Rattle.std.specs.List.{flat_map}
 pub use Rattle.sgf_tree.specs.Written.{value_text, property_text, node_text}
-use Rattle.sgf_tree.specs.Tree.{Node, Games}
+use Rattle.sgf_tree.specs.Tree.{Node}
 use Rattle.sgf_lines.specs.declared.options.Form.{Form}
 use Rattle.sgf_lines.specs.declared.options.Form.TheVariants.{List as list_form, Sgf as sgf_form, Gtp as gtp_form}
-use Rattle.sgf_lines.specs.Lines.{Line, lines}
+use Rattle.sgf_lines.specs.Lines.{Line}
 use Rattle.sgf_lines.specs.ListRow.{list_row}
 use Rattle.sgf_lines.specs.Script.{script}
 
@@ -24,7 +24,3 @@ record_of gtp_form line = script line
 -- the records of lines, joined in order
 abbrev pub output : Form → List Line → List ℕ
 output form lines = flat_map (record_of form) lines
-
--- the output in sgf form of a run over all lines of a collection
-abbrev pub sgf_output : Games → List ℕ
-sgf_output games = flat_map (λ line. sgf_record line.nodes) (lines games)

@@ -1,6 +1,6 @@
--- How an engine of the Go Text Protocol (GTP 2) follows a script, from the bytes of the script: a command a row, from
--- the top, on a board of a given side, where a stone is played by the Tromp-Taylor rules.
-use Rattle.std.specs.Prelude.{ℕ, Bool, true, false, ◌-◌, ◌==◌, ◌||◌, ◌&&◌, nat_le, nat_lt, if◌then◌else◌, Option, Some, None, option_and_then, List, [], ◌∷◌, filter, map, fold, codes, bytes_eq}
+-- How an engine of the Go Text Protocol (GTP 2) follows a script, from the bytes of the script: a command a row, from the top. It
+-- begins with no board, and plays stones by the Tromp-Taylor rules.
+use Rattle.std.specs.Prelude.{ℕ, Bool, true, false, ◌-◌, ◌==◌, ◌||◌, ◌&&◌, nat_le, nat_lt, if◌then◌else◌, Option, Some, None, option_map, option_and_then, List, [], ◌∷◌, filter, map, fold, codes, bytes_eq}
 use Rattle.std.specs.List.{slice_split, position}
 use Rattle.sgf_tree.specs.Bytes.{space, line_feed, capital_a, small_a, small_z}
 use Rattle.sgf_tree.specs.Number.{magnitude_of}
@@ -8,6 +8,8 @@ use Rattle.go_board.specs.declared.stones.Cell.TheVariants.{Empty}
 use Rattle.go_board.specs.declared.stones.Colour.{Colour}
 use Rattle.go_board.specs.declared.stones.Colour.TheVariants.{Black, White}
 use Rattle.go_board.specs.declared.points.Point.{Point}
+use Rattle.go_board.specs.declared.vertices.Vertex.{Vertex}
+use Rattle.go_board.specs.declared.vertices.TheConstants.{MAX_VERTEX_SIDE}
 use Rattle.go_board.specs.Colour.{same_cell}
 use Rattle.go_board.specs.Grid.{Grid, cell_at, empty_grid}
 use Rattle.go_board.specs.Clearing.{play}
@@ -41,53 +43,96 @@ colour_named word =
     if bytes_eq name (codes "B") || bytes_eq name (codes "BLACK") then Some Black
     else (if bytes_eq name (codes "W") || bytes_eq name (codes "WHITE") then Some White else None)
 
--- the point of that column from the left and that number from the bottom, from 1, where the board has it
+-- the vertex that a word names: the letter of its column and its number; `pass` names none
+abbrev pub vertex_named : List ℕ → Option Vertex
+vertex_named [] = None
+vertex_named (letter ∷ digits) = option_map (λ number. record { letter = capital letter; row = number }) (magnitude_of digits)
+
+-- what a row asks for: a size, an empty board, a stone, or nothing
+pub data Command : Type 0 where
+  sets_size : (side : ℕ) → Command
+  clears : Command
+  plays_stone : (colour : Colour) (vertex : Vertex) → Command
+  does_nothing : Command
+
+abbrev pub size_command : Option ℕ → Command
+size_command (Some side) = sets_size side
+size_command None = does_nothing
+
+abbrev pub play_command_of : Option Colour → Option Vertex → Command
+play_command_of (Some colour) (Some vertex) = plays_stone colour vertex
+play_command_of (Some colour) None = does_nothing
+play_command_of None vertex = does_nothing
+
+-- the command of words: `clear_board`, `boardsize` with a number, `play` with a colour and a vertex, or another, which does nothing
+abbrev pub command_of : List (List ℕ) → Command
+command_of [] = does_nothing
+command_of (name ∷ []) = if bytes_eq name (codes "clear_board") then clears else does_nothing
+command_of (name ∷ first ∷ []) =
+    if bytes_eq name (codes "boardsize") then size_command (magnitude_of first) else does_nothing
+command_of (name ∷ first ∷ second ∷ []) =
+    if bytes_eq name (codes "play") then play_command_of (colour_named first) (vertex_named second) else does_nothing
+command_of (name ∷ first ∷ second ∷ third ∷ more) = does_nothing
+
+-- an engine: it has no board before it is told a size; then a board of that side, on which anything may stand until it is
+-- cleared; then a board; and it follows nothing more once it has refused a command
+pub data Engine : Type 0 where
+  no_board : Engine
+  sized : (side : ℕ) → Engine
+  shows : (board : Grid) → Engine
+  refused : Engine
+
+-- a size is taken if the protocol has vertices for it
+abbrev pub resized : ℕ → Engine
+resized side = if nat_le 1 side && nat_le side MAX_VERTEX_SIDE then sized side else refused
+
+abbrev pub after_size : Engine → ℕ → Engine
+after_size no_board side = resized side
+after_size (sized old) side = resized side
+after_size (shows board) side = resized side
+after_size refused side = refused
+
+abbrev pub after_clear : Engine → Engine
+after_clear no_board = refused
+after_clear (sized side) = shows (empty_grid side)
+after_clear (shows board) = shows (empty_grid board.side)
+after_clear refused = refused
+
+-- the point of that column from the left and that number from the bottom, from 1, if the board has it
 abbrev pub point_there : ℕ → ℕ → ℕ → Option Point
 point_there side col number =
     if nat_lt col side && (nat_le 1 number && nat_le number side) then Some (record { col = col; row = side - number }) else None
 
--- the point that a word names: the letter of its column and its number from the bottom; `pass` names none
-abbrev pub point_named : ℕ → List ℕ → Option Point
-point_named side [] = None
-point_named side (letter ∷ digits) =
-    option_and_then (λ col. option_and_then (point_there side col) (magnitude_of digits))
-    (position (λ l. l == capital letter) column_letters)
+abbrev pub point_of : ℕ → Vertex → Option Point
+point_of side vertex =
+    option_and_then (λ col. point_there side col vertex.row) (position (λ l. l == vertex.letter) column_letters)
 
--- what a row does to the board: it clears it, plays a stone, or does nothing
-pub data Command : Type 0 where
-  clears : Command
-  plays_stone : (colour : Colour) (point : Point) → Command
-  does_nothing : Command
+-- a stone is played on an empty point of the board; any other is refused
+abbrev pub after_stone : Grid → Colour → Option Point → Engine
+after_stone board colour None = refused
+after_stone board colour (Some point) =
+    if same_cell (cell_at board point) Empty then shows (play board colour point) else refused
 
-abbrev pub play_of : Option Colour → Option Point → Command
-play_of (Some colour) (Some point) = plays_stone colour point
-play_of (Some colour) None = does_nothing
-play_of None point = does_nothing
+abbrev pub after_play : Engine → Colour → Vertex → Engine
+after_play no_board colour vertex = refused
+after_play (sized side) colour vertex = refused
+after_play (shows board) colour vertex = after_stone board colour (point_of board.side vertex)
+after_play refused colour vertex = refused
 
--- the command of words: `clear_board`, `play` with a colour and a point, or another
-abbrev pub command_of : ℕ → List (List ℕ) → Command
-command_of side [] = does_nothing
-command_of side (name ∷ []) = if bytes_eq name (codes "clear_board") then clears else does_nothing
-command_of side (name ∷ first ∷ []) = does_nothing
-command_of side (name ∷ first ∷ second ∷ []) =
-    if bytes_eq name (codes "play") then play_of (colour_named first) (point_named side second) else does_nothing
-command_of side (name ∷ first ∷ second ∷ third ∷ more) = does_nothing
-
--- the board after a command; none where a stone is played on a point that isn't empty
-abbrev pub after_command : ℕ → Grid → Command → Option Grid
-after_command side board clears = Some (empty_grid side)
-after_command side board (plays_stone colour point) =
-    if same_cell (cell_at board point) Empty then Some (play board colour point) else None
-after_command side board does_nothing = Some board
+abbrev pub after_command : Engine → Command → Engine
+after_command engine (sets_size side) = after_size engine side
+after_command engine clears = after_clear engine
+after_command engine (plays_stone colour vertex) = after_play engine colour vertex
+after_command engine does_nothing = engine
 
 -- one row later
-abbrev pub after_row : ℕ → Option Grid → List ℕ → Option Grid
-after_row side board row = option_and_then (λ (g : Grid). after_command side g (command_of side (words row))) board
+abbrev pub after_row : Engine → List ℕ → Engine
+after_row engine row = after_command engine (command_of (words row))
 
 -- the rows of a text followed from the top
-abbrev pub after_text : ℕ → Option Grid → List ℕ → Option Grid
-after_text side board text = fold (after_row side) board (slice_split (λ b. b == line_feed) text)
+abbrev pub after_text : Engine → List ℕ → Engine
+after_text engine text = fold after_row engine (slice_split (λ b. b == line_feed) text)
 
--- the board after a whole script, from an empty board; none where a stone is played on a point that isn't empty
-abbrev pub replayed : ℕ → List ℕ → Option Grid
-replayed side script = after_text side (Some (empty_grid side)) script
+-- an engine that begins with no board, after a whole script
+abbrev pub replayed : List ℕ → Engine
+replayed script = after_text no_board script

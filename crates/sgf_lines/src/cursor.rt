@@ -1,15 +1,16 @@
 //! Goes over the lines of play of a collection.
 
-ghost use Rattle.std.specs.Prelude.{◌≡◌, ◌+◌, ◌-◌, ◌<◌, ◌≤◌, ◌++◌, None, take, vec_len, slice_get, OnOk, OnErr, IfOk, IfErr, IfSome, IfNone, MatchOption};
+ghost use Rattle.std.specs.Prelude.{◌≡◌, ◌+◌, ◌-◌, ◌<◌, ◌≤◌, ◌++◌, None, Some, length, take, vec_len, slice_get, OnOk, OnErr, IfOk, IfErr, IfSome, IfNone, MatchOption};
 ghost use Rattle.std.specs.List.{range_with_len};
+ghost use Rattle.sgf_tree.specs.Tree.{Node, node_count};
 ghost use Rattle.sgf_lines.specs.Lines.{lines};
 ghost use Rattle.sgf_lines.specs.Cursor.{advanced, IsLine};
 ghost use Rattle.sgf_lines.specs.inner.PathTo.{IsLeafSearch};
-ghost use Rattle.sgf_lines.specs.inner.Following.{Continues, path_before, IsCutBack};
+ghost use Rattle.sgf_lines.specs.inner.Following.{Continues, path_before, nodes_before, IsCutBack};
 
 use crate::line::LineRef;
 use crate::seek::{SeekFault, leaf_at, write_path};
-use sgf_tree::{Collection, MemoryFault};
+use sgf_tree::{Collection, MemoryFault, NodeRef};
 use std::alloc::Global;
 use std::marker::Model;
 
@@ -101,6 +102,38 @@ impl<'c, 'a> Cursor<'c, 'a> {
         go_down(&mut self.path, shared, self.next, leaf)?;
         self.next = leaf + 1;
         Ok(Some(shared))
+    }
+
+    /// The collection that it goes over.
+    pub(crate) fn collection(&self) -> &'c Collection<'a>
+        ensures { result.now ≡ self.now.games }
+    {
+        self.collection
+    }
+
+    /// How many nodes the line before the cursor has; none before the first line.
+    pub(crate) fn len(&self) -> usize
+        ensures nodes { result ≡ length (nodes_before self.now) }
+        ensures short { result ≤ node_count self.now.games }
+        ensures small { result < usize.MAX }
+    {
+        self.path.len()
+    }
+
+    /// A node of the line before the cursor, by its index from 0; the root comes first.
+    pub(crate) fn node(&self, index: usize) -> NodeRef<'_, 'a>
+        requires { index < length (nodes_before self.now) }
+        ensures { slice_get (nodes_before self.now) index ≡ Some result }
+    {
+        self.collection.node(self.path[index])
+    }
+
+    /// The place of that node.
+    pub(crate) fn place(&self, index: usize) -> usize
+        requires { index < length (nodes_before self.now) }
+        ensures { (node : Node) → slice_get (nodes_before self.now) index ≡ Some node → result ≡ node.place }
+    {
+        self.collection.place(self.path[index])
     }
 
     /// The line before the cursor.

@@ -1,6 +1,6 @@
 //! Laws of the definitions. A function here does nothing: what it ensures is a law that is proved.
 
-ghost use Rattle.std.specs.Prelude.{◌≡◌, ◌≤◌, ◌∷◌, ◌++◌, ◌+◌, ◌⊎◌, ℕ, Err, false, List, [], Some, map, length};
+ghost use Rattle.std.specs.Prelude.{◌≡◌, ◌≢◌, ◌≤◌, ◌∷◌, ◌++◌, ◌+◌, ◌⊎◌, ℕ, Err, false, List, [], Some, map, length};
 ghost use Rattle.std.specs.List.{AllZip, flat_map};
 ghost use Rattle.std.specs.List.Sorted.{IsStrictlyIncreasing};
 ghost use Rattle.sgf_tree.specs.Appending.{raised, BeginsWithByteOrderMark};
@@ -11,9 +11,10 @@ ghost use Rattle.sgf_lines.specs.Paths.{paths, IsPathOf};
 ghost use Rattle.sgf_lines.specs.Page.{page};
 ghost use Rattle.sgf_lines.specs.declared.options.Options.{Options};
 ghost use Rattle.sgf_lines.specs.Plays.{touched_places, all_judged_places, node_places};
-ghost use Rattle.sgf_lines.specs.declared.options.Form.TheVariants.{List as list_form};
+ghost use Rattle.sgf_lines.specs.declared.options.Form.TheVariants.{List as list_form, Sgf as sgf_form};
 ghost use Rattle.sgf_lines.specs.Appending.{raised_record};
-ghost use Rattle.sgf_lines.specs.Record.{sgf_output, record_of};
+ghost use Rattle.sgf_lines.specs.Record.{output, record_of};
+ghost use Rattle.sgf_lines.specs.SplitAgain.{IsKept};
 ghost use Rattle.sgf_lines.specs.JudgedGames.{game_kind, root_properties, board};
 ghost use Rattle.sgf_tree.specs.Tree.{Node};
 ghost use Rattle.go_board.specs.declared.reason.Reason.{Reason};
@@ -23,7 +24,7 @@ ghost use Rattle.sgf_lines.specs.Step.{step};
 ghost use Rattle.sgf_lines.specs.Verdict.{score_in, verdict_by};
 ghost use Rattle.sgf_lines.specs.Walk.{walk, IsAfter, HasIllegal};
 ghost use Rattle.sgf_lines.specs.Script.{has_no_commands, script};
-ghost use Rattle.sgf_lines.specs.Replay.{replayed};
+ghost use Rattle.sgf_lines.specs.Replay.{shows, replayed};
 
 /// The places of the lines of a collection that some text spells rise strictly.
 /// So no line comes twice, and each is known by its place.
@@ -38,12 +39,24 @@ pub fn named()
     ensures { (games : Games) → AllZip (IsPathOf games) (lines games) (paths games) }
 {}
 
-/// The sgf output of a collection that some text spells is a text of the grammar, and its sgf output is the same bytes.
-/// So splitting an output again gives it again, where it is not longer than `MAX_LENGTH`.
+/// The sgf output of a page with a line is a text of the grammar, and its whole sgf output is the same bytes.
+/// So splitting an output again gives it again, if it is not longer than `MAX_LENGTH`.
 pub fn again()
-    ensures { (games : Games) (text : List ℕ) → Spells games text
-        → (again : Games) × Spells again (sgf_output games) × (sgf_output again ≡ sgf_output games) }
+    ensures { (games : Games) (text : List ℕ) → Spells games text → (options : Options) (asked : List Line)
+        → page options games ≡ Some asked → asked ≢ []
+        → (again : Games) × Spells again (output sgf_form asked) × (output sgf_form (lines again) ≡ output sgf_form asked) }
 {}
+
+/// Splitting doesn't change what the referee says. The lines of the sgf output of a page are the lines of the page in order, with
+/// the same nodes at other places and the same verdicts: an illegal node is named by its place in the output.
+/// So a library may be split first and judged later.
+pub fn kept()
+    ensures { (games others : Games) (text : List ℕ) → Spells games text → (options : Options) (asked : List Line)
+        → page options games ≡ Some asked → asked ≢ [] → Spells others (output sgf_form asked)
+        → AllZip IsKept asked (lines others) }
+{
+    sgf_tree::laws::one();
+}
 
 /// One text after another, in list form: where each spells games, and the second doesn't begin with a byte order mark, the two
 /// joined spell the games of both, and their rows are those of the first text, and then those of the second with its places
@@ -62,12 +75,13 @@ pub fn append()
 }
 
 /// The places that the lines of a collection touch are the places of all its nodes, in file order.
-/// On no page are more nodes judged than there are, so no run plays more.
+/// On no page are more nodes judged than its lines touch, and no more than there are, so no run plays more.
 pub fn touched()
     ensures places { (games : Games) (text : List ℕ) → Spells games text
         → touched_places (lines games) ≡ node_places games }
     ensures plays { (games : Games) (text : List ℕ) → Spells games text → (options : Options) (asked : List Line)
         → page options games ≡ Some asked → length (all_judged_places asked) ≤ node_count games }
+    ensures page { (asked : List Line) → length (all_judged_places asked) ≤ length (touched_places asked) }
 {
     sgf_tree::laws::places_rise();
 }
@@ -84,14 +98,14 @@ pub fn pages()
     sgf_tree::laws::places_rise();
 }
 
-/// A script that has commands, read from its bytes and followed from the top on an empty board of the line's side: no stone is
-/// played on a point that isn't empty, and the last board is the colouring of the judged line after the nodes before its
-/// first illegal one, or after all of them.
-/// So an engine that plays stones by the same rules, and refuses none of these, shows the position that was judged.
+/// A script that has commands, read from its bytes and followed from the top by an engine that begins with no board: it sets the
+/// size, it clears the board before the first stone, no stone is played on a point that isn't empty, and the last board is the
+/// colouring of the judged line after the nodes before its first illegal one, or after all of them.
+/// So an engine that plays stones by the same rules shows the position that was judged.
 pub fn replay()
     ensures { (line : Line) (side : ℕ) → game_kind (root_properties line.nodes) ≡ board side
         → has_no_commands side (walk side line.nodes) ≡ false
-        → replayed side (script line) ≡ Some (walk side line.nodes).state.colouring }
+        → replayed (script line) ≡ shows (walk side line.nodes).state.colouring }
 {
     go_board::laws::listing();
     go_board::laws::colouring();

@@ -7,62 +7,58 @@
 //! ```text
 //! let collection = sgf_tree::read(alloc, text)?;
 //! let mut cursor = Cursor::new(alloc, &collection);
-//! while let Some(line) = cursor.next()? {
+//! 'lines: while let Some(line) = cursor.next()? {
 //!     // line.path(), line.game(), line.place()
 //! }
+//! ```
+//!
+//! The loop ends, as each turn leaves one line less (`lines_in_memory` has it whole, with its proof):
+//!
+//! ```text
+//! decreases-lines l = length (lines l.cursor.games) - l.cursor.index
 //! ```
 //!
 //! | Module | What it has |
 //! |---|---|
 //! | `line`, `cursor`, `seek` | what is shown of a line; going over the lines of a collection; looking for the line with a place |
 //! | `options`, `fault` | what a run is asked for; the ways in which it may fail |
-//! | `verdict`, `judging` | what a referee says of a line; judging one line |
-//! | `game_kind`, `contents`, `without_setup`, `node_values` | what a root says of its game; what a node holds, and what its values say |
-//! | `step` | playing a node |
-//! | `record`, `list_row`, `script` | the text of a line's nodes; its row; the commands of a node |
-//! | `text`, `kept`, `commands` | pieces of text; what lines share of a text, and of a script |
-//! | `source`, `sink` | the ends of a run |
-//! | `run`, `writing`, `writer` | splitting what a source gives into records, which a sink takes; what is kept from line to line |
-//! | `followed`, `game`, `plays` | lines followed one after the other, over a game that is played on; the count of nodes played |
+//! | `verdict`, `judging` | what a referee says of a line; judging lines: |
+//! | `judging/one_line`, `judging/judge` | one line; a judge that goes along the nodes of a line, and back |
+//! | `judging/root`, `judging/contents`, `judging/step` | the board of a root's game; what a node holds; playing a node |
+//! | `node_values` | what the values of a node say |
+//! | `form` | the forms in which a line is written, and what lines share of a text |
+//! | `source`, `sink`, `buffered_sink` | the ends of a run |
+//! | `run`, `writing` | splitting what a source gives into records, which a sink takes, and what a run holds from line to line; putting bytes |
+//! | `plays` | the count of nodes played |
 //! | `counting` | the games, nodes and lines of what a source gives |
 //! | `laws` | what follows from the definitions |
 //!
-//! What a run writes is tried on the program (`tests/`), the other calls by the crate `failing_calls`.
+//! What a run writes is tried on the program (`tests/`), the other calls by the crate `sgf_lines_tests`.
 #![tactic(auto)]
 
-mod commands;
-mod contents;
+mod buffered_sink;
 mod counting;
 mod cursor;
 mod fault;
-mod followed;
-mod game;
-mod game_kind;
+mod form;
 mod judging;
-mod kept;
 pub mod laws;
 mod line;
-mod list_row;
 mod node_values;
 mod options;
 mod plays;
-mod record;
 mod run;
-mod script;
 mod seek;
 mod sink;
 mod source;
-mod step;
-mod text;
 mod verdict;
-mod without_setup;
-mod writer;
 mod writing;
 
+pub use buffered_sink::BufferedSink;
 pub use counting::{Counts, count, write_counts};
 pub use cursor::Cursor;
 pub use fault::RunFault;
-pub use judging::judge;
+pub use judging::one_line::judge;
 pub use line::LineRef;
 pub use options::{Form, Options};
 pub use plays::Plays;

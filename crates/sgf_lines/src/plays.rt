@@ -1,6 +1,6 @@
 //! How many nodes were played.
 
-ghost use Rattle.std.specs.Prelude.{◌≡◌, ◌<◌, ◌+◌};
+ghost use Rattle.std.specs.Prelude.{◌≡◌, ◌≤◌, ◌+◌};
 
 use std::marker::Model;
 
@@ -37,11 +37,11 @@ impl Plays {
         self.count
     }
 
-    /// One node more was played.
-    pub(crate) fn add_one(&mut self)
-        requires { self.old < u64.MAX }
-        ensures { self.new ≡ self.old + 1 }
+    /// So many nodes more were played.
+    pub(crate) fn add(&mut self, count: u64)
+        requires { self.old + count ≤ u64.MAX }
+        ensures { self.new ≡ self.old + count }
     {
-        self.count += 1;
+        self.count += count;
     }
 }

@@ -1,23 +1,35 @@
 //! A run: what a source gives is split into the records of its lines, which a sink takes.
 
-ghost use Rattle.std.specs.Prelude.{◌≡◌, ◌<◌, ◌≤◌, ◌+◌, ℕ, List, [], length, IfOk};
+ghost use Rattle.std.specs.Prelude.{◌≡◌, ◌<◌, ◌≤◌, ◌+◌, ◌++◌, ℕ, List, Some, None, [], length, take, drop, slice_get, nat_lt, option_map, IfOk, OnOk, MatchBool};
 ghost use Rattle.sgf_tree.specs.declared.fault.TheConstants.{MAX_LENGTH};
 ghost use Rattle.sgf_tree.specs.Spelling.{Spells};
+ghost use Rattle.sgf_tree.specs.Tree.{node_count};
+ghost use Rattle.sgf_lines.specs.Ends.{HasDelivered};
 ghost use Rattle.sgf_lines.specs.Answer.{IsRun, read_failures, write_failures};
+ghost use Rattle.sgf_lines.specs.Lines.{lines};
+ghost use Rattle.sgf_lines.specs.Record.{record_of};
 ghost use Rattle.sgf_lines.specs.RunPlays.{IsRunWithPlays};
-ghost use Rattle.sgf_lines.specs.inner.Running.{IsReading, IsSplit, IsSplitOf, IsStart};
-ghost use Rattle.sgf_lines.specs.inner.LinePlays.{PlaysSplit, PlaysSplitOf};
+ghost use Rattle.sgf_lines.specs.inner.Following.{line_before, nodes_before};
+ghost use Rattle.sgf_lines.specs.inner.Keeping.{Holds, HoldsBy, IsFresh, IsUnusedBy, KeepsBy, PlaysIn, PlaysLine, StillHeld, record_in};
+ghost use Rattle.sgf_lines.specs.inner.LinePlays.{PlaysLines};
+ghost use Rattle.sgf_lines.specs.inner.Running.{HasRecord, IsReading, IsStart, PutsAll, WritesLines};
 
 use crate::cursor::Cursor;
 use crate::fault::RunFault;
+use crate::form::judged::judge_line;
+use crate::form::pieces::Pieces;
+use crate::form::row::{push_list_row, push_list_row_comment};
+use crate::form::script::Script;
+use crate::form::{record, script};
+use crate::judging::judge::Judge;
 use crate::laws::rise;
-use crate::options::Options;
+use crate::options::{Form, Options};
 use crate::plays::Plays;
 use crate::seek::SeekFault;
-use crate::sink::Sink;
+use crate::sink::{Sink, SinkFault};
 use crate::source::Source;
-use crate::writing::deliver;
-use sgf_tree::{Collection, MAX_LENGTH, read};
+use crate::writing::put_all;
+use sgf_tree::{Collection, MAX_LENGTH, MemoryFault, read};
 use std::alloc::Global;
 
 /// How many bytes a source is asked for at once.
@@ -29,7 +41,7 @@ const CHUNK: usize = 65_536;
 /// The lines are those that follow the line with the place `options.after`, or all, and of these the first
 /// `options.limit`, or all; each is written in the form `options.form`, an earlier one first.
 /// A record is built whole before the first of its bytes is put.
-/// Unless a write failed or memory was refused, the sink is flushed once, after the last record, or where there is none.
+/// After `Ok` the sink was flushed once, after the last record, or where there is none.
 ///
 /// The faults come in this order: `Read` where the source failed, or `TooLong` where it gave too much, whichever comes first;
 /// `NotSgf`; `NoSuchLine`; `Write` where the sink failed.
@@ -79,9 +91,23 @@ pub fn split_counted<S: Source, T: Sink>(
 {
     let mut text = Vec::new(alloc);
     match read_all(source, &mut text) {
-        Ok(()) => split_text(alloc, &text, sink, options, plays),
-        Err(fault) => Err(fault),
+        Ok(()) => {}
+        Err(fault) => return Err(fault),
     }
+    let collection = match read(alloc, &text) {
+        Ok(collection) => collection,
+        Err(fault) => return Err(RunFault::unread(fault, text.len())),
+    };
+    let cursor = match cursor_after(alloc, &collection, options.after) {
+        Ok(cursor) => cursor,
+        Err(fault) => return Err(fault),
+    };
+    // There are no more lines than nodes.
+    let limit = options.limit.unwrap_or(collection.nodes() as u64);
+    let mut run = Run::new(alloc, cursor, options.form);
+    let result = run.write(limit, sink);
+    plays.add(run.judge.plays());
+    result
 }
 
 /// Appends all that a source gives to an empty text.
@@ -107,55 +133,6 @@ pub(crate) fn read_all<S: Source>(source: &mut S, text: &mut Vec<u8>) -> Result<
     }
 }
 
-/// Writes the records of the lines of the collection that a text spells.
-fn split_text<T: Sink>(
-    alloc: Global,
-    text: &[u8],
-    sink: &mut T,
-    options: &Options,
-    plays: &mut Plays,
-) -> Result<u64, RunFault>
-    requires short { length text.now ≤ MAX_LENGTH }
-    requires countable { (T.state sink.old).failures < u64.MAX }
-    requires plays_countable { plays.old + MAX_LENGTH ≤ u64.MAX }
-    ensures answer { IsSplit options.now text.now (T.state sink.old) (T.state sink.new) result }
-    ensures plays { PlaysSplit options.now text.now plays.old plays.new result }
-    ensures read_failures { read_failures result ≡ 0 }
-    ensures write_failures { (T.state sink.new).failures
-        ≡ (T.state sink.old).failures + write_failures result }
-{
-    match read(alloc, text) {
-        Ok(collection) => split_collection(alloc, &collection, sink, options, plays),
-        Err(fault) => Err(RunFault::unread(fault, text.len())),
-    }
-}
-
-/// Writes the records of the lines of a collection.
-fn split_collection<T: Sink>(
-    alloc: Global,
-    collection: &Collection<'_>,
-    sink: &mut T,
-    options: &Options,
-    plays: &mut Plays,
-) -> Result<u64, RunFault>
-    requires countable { (T.state sink.old).failures < u64.MAX }
-    requires plays_countable { plays.old + MAX_LENGTH ≤ u64.MAX }
-    ensures answer { IsSplitOf options.now collection.now (T.state sink.old) (T.state sink.new) result }
-    ensures plays { PlaysSplitOf options.now collection.now plays.old plays.new result }
-    ensures read_failures { read_failures result ≡ 0 }
-    ensures write_failures { (T.state sink.new).failures
-        ≡ (T.state sink.old).failures + write_failures result }
-{
-    match cursor_after(alloc, collection, options.after) {
-        Ok(mut cursor) => {
-            // There are no more nodes than bytes.
-            let _nodes = collection.nodes();
-            deliver(alloc, collection, &mut cursor, options, sink, plays)
-        }
-        Err(fault) => Err(fault),
-    }
-}
-
 /// A cursor after the line with a place, where one is asked for, else before the first line.
 fn cursor_after<'c, 'a>(
     alloc: Global,
@@ -178,4 +155,176 @@ fn cursor_after<'c, 'a>(
         Err(SeekFault::NoSuchLine { place }) => Err(RunFault::NoSuchLine { place }),
         Err(SeekFault::Memory) => Err(RunFault::Memory { lines: 0 }),
     }
+}
+
+/// What a run holds from one line to the next.
+#[derive(Drop)]
+pub(crate) struct Run<'c, 'a> {
+    cursor: Cursor<'c, 'a>,
+
+    form: Form,
+
+    /// How many nodes of the line before the cursor are held: all, or none before the first line and after a refusal of memory.
+    held: usize,
+
+    /// How that line stands judged, in the forms that judge.
+    judge: Judge,
+
+    /// Its text as a game, in sgf form.
+    game: Pieces,
+
+    /// Its commands, in gtp form.
+    script: Script,
+
+    /// What stands first in its record, in the forms that judge.
+    head: Vec<u8>,
+}
+
+impl<'c, 'a> Run<'c, 'a> {
+    /// A run over the lines after a cursor.
+    fn new(alloc: Global, cursor: Cursor<'c, 'a>, form: Form) -> Run<'c, 'a>
+        ensures cursor { result.cursor ≡ cursor.entry }
+        ensures form { result.form ≡ form }
+        ensures fresh { IsFresh result }
+    {
+        Run {
+            cursor,
+            form,
+            held: 0,
+            judge: Judge::new(alloc),
+            game: Pieces::new(alloc),
+            script: Script::new(alloc),
+            head: Vec::new(alloc),
+        }
+    }
+
+    /// Writes the records of the lines after the cursor, at most so many, and flushes the sink.
+    /// The answer is the number of lines that were written.
+    fn write<T: Sink>(&mut self, limit: u64, sink: &mut T) -> Result<u64, RunFault>
+        requires fresh { IsFresh self.old }
+        requires countable { (T.state sink.old).failures < u64.MAX }
+        ensures answer { WritesLines self.old.form (take limit (drop self.old.cursor.index (lines self.old.cursor.games)))
+            (T.state sink.old) (T.state sink.new) result }
+        ensures plays { PlaysLines self.old.form (take limit (drop self.old.cursor.index (lines self.old.cursor.games)))
+            0 self.new.judge.plays result }
+        ensures delivered { OnOk result (HasDelivered (T.state sink.new)) }
+        ensures failures { (T.state sink.new).failures
+            ≡ (T.state sink.old).failures + write_failures result }
+    {
+        let lines = match self.write_lines(limit, sink) {
+            Ok(lines) => lines,
+            Err(fault) => return Err(fault),
+        };
+        match sink.flush() {
+            Ok(()) => Ok(lines),
+            Err(SinkFault) => Err(RunFault::Write { lines }),
+        }
+    }
+
+    /// Writes those records.
+    fn write_lines<T: Sink>(&mut self, limit: u64, sink: &mut T) -> Result<u64, RunFault>
+        requires fresh { IsFresh self.old }
+        requires countable { (T.state sink.old).failures < u64.MAX }
+        ensures answer { WritesLines self.old.form (take limit (drop self.old.cursor.index (lines self.old.cursor.games)))
+            (T.state sink.old) (T.state sink.new) result }
+        ensures plays { PlaysLines self.old.form (take limit (drop self.old.cursor.index (lines self.old.cursor.games)))
+            0 self.new.judge.plays result }
+        ensures failures { (T.state sink.new).failures
+            ≡ (T.state sink.old).failures + write_failures result }
+    {
+        // Places rise, and nodes aren't more than bytes.
+        let _nodes = self.cursor.collection().nodes();
+        let mut lines = 0u64;
+        'page: while lines < limit {
+            match self.next() {
+                Ok(true) => {}
+                Ok(false) => return Ok(lines),
+                Err(MemoryFault) => return Err(RunFault::Memory { lines }),
+            }
+            match self.put(sink) {
+                Ok(()) => lines += 1,
+                Err(SinkFault) => return Err(RunFault::Write { lines }),
+            }
+        }
+        Ok(lines)
+    }
+
+    /// Goes on by one line, and makes its record; false where no line is left.
+    fn next(&mut self) -> Result<bool, MemoryFault>
+        requires holds { Holds self.old }
+        requires countable { self.old.judge.plays + node_count self.old.cursor.games < u64.MAX }
+        ensures made { IfOk result (λ found. MatchBool found
+            (HasRecord self.old.form self.old.cursor self.new.cursor (record_in self.new))
+            (slice_get (lines self.old.cursor.games) self.old.cursor.index ≡ None)) }
+        ensures holds { Holds self.new }
+        ensures form { self.new.form ≡ self.old.form }
+        ensures held { IfOk result (λ found. MatchBool found (0 < self.new.held) (self.new.held ≡ self.old.held)) }
+        ensures plays { PlaysLine self.old.form (nat_lt 0 self.old.held) self.old.cursor self.old.judge.plays self.new.judge.plays result }
+    {
+        let Some(shared) = self.cursor.advance()? else {
+            return Ok(false);
+        };
+        let held = self.still_held(shared);
+        let nodes = self.cursor.len();
+        self.held = 0;
+        self.make(held)?;
+        self.held = nodes;
+        Ok(true)
+    }
+
+    /// How many nodes are held of a line that shares so many with the one before it: none before the first line.
+    fn still_held(&self, shared: usize) -> usize
+        ensures { StillHeld self.now.held shared result }
+    {
+        if self.held > 0 { shared } else { 0 }
+    }
+
+    /// Makes the record of the line before the cursor, of whose nodes the first `held` are held.
+    fn make(&mut self, held: usize) -> Result<(), MemoryFault>
+        requires some_node { 0 < length (nodes_before self.old.cursor) }
+        requires some_line { 0 < self.old.cursor.index }
+        requires within { held ≤ length (nodes_before self.old.cursor) }
+        requires keeps { 0 < held → KeepsBy self.old.form (nodes_before self.old.cursor) held self.old }
+        requires unused { IsUnusedBy self.old.form self.old }
+        requires countable { self.old.judge.plays + length (nodes_before self.old.cursor) < u64.MAX }
+        ensures made { OnOk result (Some (record_in self.new) ≡ option_map (record_of self.old.form) (line_before self.old.cursor)) }
+        ensures holds { OnOk result (HoldsBy self.old.form (nodes_before self.old.cursor) self.new) }
+        ensures unused { IsUnusedBy self.old.form self.new }
+        ensures plays { PlaysIn self.old.form self.old.judge.plays self.new.judge.plays (nodes_before self.old.cursor) held result }
+        ensures cursor { self.new.cursor ≡ self.old.cursor }
+        ensures form { self.new.form ≡ self.old.form }
+        ensures held { self.new.held ≡ self.old.held }
+    {
+        match self.form {
+            Form::List => {
+                judge_line(&self.cursor, held, &mut self.judge)?;
+                self.head.clear();
+                push_list_row(&self.cursor.line(), self.judge.verdict(), &mut self.head)
+            }
+            Form::Sgf => record::follow(&self.cursor, held, &mut self.game),
+            Form::Gtp => {
+                script::follow(&self.cursor, held, &mut self.judge, &mut self.script)?;
+                self.head.clear();
+                push_list_row_comment(&self.cursor.line(), self.judge.verdict(), &mut self.head)
+            }
+        }
+    }
+
+    /// Puts the record that was made last. What its form doesn't use is empty.
+    fn put<T: Sink>(&self, sink: &mut T) -> Result<(), SinkFault>
+        requires countable { (T.state sink.old).failures < u64.MAX }
+        ensures { PutsAll (T.state sink.old) (T.state sink.new) (record_in self.now) result }
+    {
+        put_all(&self.head, sink)?;
+        put_both(self.game.text(), self.script.text(), sink)
+    }
+}
+
+/// Puts all of both.
+fn put_both<T: Sink>(first: &[u8], second: &[u8], sink: &mut T) -> Result<(), SinkFault>
+    requires countable { (T.state sink.old).failures < u64.MAX }
+    ensures { PutsAll (T.state sink.old) (T.state sink.new) (first.now ++ second.now) result }
+{
+    put_all(first, sink)?;
+    put_all(second, sink)
 }

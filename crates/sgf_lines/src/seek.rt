@@ -11,7 +11,7 @@ use thiserror::Error;
 
 /// Why a cursor was not put after a line.
 /// It is unchanged then.
-#[derive(Debug, Drop, PartialEq, Eq, Error)]
+#[derive(Clone, Copy, Debug, PartialEq, Eq, Error)]
 pub enum SeekFault {
     /// No line has this place: none ends at the node whose `;` has this offset, or no node has it.
     #[error("no line ends at {place}")]

@@ -1,7 +1,8 @@
 //! Where the bytes of a run go.
 
-ghost use Rattle.std.specs.Prelude.{◌≡◌, ◌<◌, ◌≤◌, List, ℕ, [], length, take, Some, None};
-ghost use Rattle.sgf_lines.specs.Ends.{SinkState, IsPut, IsFlush};
+ghost use Rattle.std.specs.Prelude.{◌≡◌, ◌<◌, ◌≤◌, List, ℕ, [], length, take, Some, None, IfSome, OnErr};
+ghost use Rattle.std.proofs.KnownBytes.{Appends-nil};
+ghost use Rattle.sgf_lines.specs.Ends.{SinkState, IsPut, IsFlush, DeliversFront};
 
 use std::io::Write;
 use thiserror::Error;
@@ -11,9 +12,11 @@ use thiserror::Error;
 #[error("the sink failed")]
 pub struct SinkFault;
 
-/// Takes bytes, in order.
+/// Takes bytes, in order, and hands them on.
+///
+/// A failure is final: a sink that has failed once fails again whatever it is asked, and hands nothing more on.
 pub trait Sink {
-    /// How often it has failed, and the bytes that it has taken.
+    /// How often it has failed, the bytes that it has taken, and of these the front that it has delivered.
     ghost state: { Self → SinkState };
 
     /// Takes bytes at the front of `bytes`, and answers how many; that is at least one.
@@ -24,9 +27,9 @@ pub trait Sink {
         requires countable { (state self.old).failures < u64.MAX }
         ensures { IsPut (state self.old) (state self.new) bytes.now result };
 
-    /// Passes on what it still holds back; it takes nothing.
+    /// Delivers all that it has taken; it takes nothing.
     ///
-    /// Where it fails, its count of failures rises by one.
+    /// Where it fails, its count of failures rises by one, and what it held back may be delivered in part.
     fn flush(&mut self) -> Result<(), SinkFault>
         requires countable { (state self.old).failures < u64.MAX }
         ensures { IsFlush (state self.old) (state self.new) result };
@@ -34,11 +37,14 @@ pub trait Sink {
     /// How often it has failed.
     fn failures(&self) -> u64
         ensures { result ≡ (state self.now).failures };
+
+    /// What is delivered is a front of what is taken.
+    ghost delivers_front: { (sink : Self) → DeliversFront (state sink) };
 }
 
 /// A sink over any writer, which may be a `&mut Vec<u8>`.
-/// Each write that fails counts as a failure, one that was interrupted and one of 0 bytes too, and so does each flush
-/// that fails.
+/// It holds nothing back itself: what it takes is handed on to the writer. Its flush flushes the writer.
+/// A write fails where it was interrupted, and where it wrote 0 bytes, too. After a failure the writer isn't called again.
 /// It tells the bytes that it has taken where the writer does.
 #[derive(Debug, Drop)]
 pub struct WriteSink<W: Write + Drop> {
@@ -49,7 +55,11 @@ pub struct WriteSink<W: Write + Drop> {
 impl<W: Write + Drop> WriteSink<W> {
     /// A sink that writes to the writer.
     pub fn new(writer: W) -> WriteSink<W>
-        ensures { ⟦<WriteSink<W> as Sink>⟧.state result ≡ record { failures = 0; taken = W.contents writer } }
+        ensures { ⟦<WriteSink<W> as Sink>⟧.state result ≡ record {
+          failures = 0;
+          taken = W.contents writer;
+          delivered = W.contents writer;
+        } }
     {
         WriteSink {
             writer,
@@ -66,26 +76,31 @@ impl<W: Write + Drop> WriteSink<W> {
 }
 
 impl<W: Write + Drop> Sink for WriteSink<W> {
-    ghost state = { λ s. record { failures = s.failures; taken = W.contents s.writer } };
+    ghost state = { λ s. record {
+      failures = s.failures;
+      taken = W.contents s.writer;
+      delivered = W.contents s.writer;
+    } };
+
+    ghost delivers_front = { λ s. ([], Appends-nil (W.contents s.writer)) };
 
     fn put(&mut self, bytes: &[u8]) -> Result<usize, SinkFault> {
-        match self.writer.write(bytes) {
-            Ok(0) | Err(_) => {
-                self.failures += 1;
-                Err(SinkFault)
+        if self.failures == 0 {
+            match self.writer.write(bytes) {
+                Ok(0) | Err(_) => {}
+                Ok(count) => return Ok(count),
             }
-            Ok(count) => Ok(count),
         }
+        self.failures += 1;
+        Err(SinkFault)
     }
 
     fn flush(&mut self) -> Result<(), SinkFault> {
-        match self.writer.flush() {
-            Ok(()) => Ok(()),
-            Err(_) => {
-                self.failures += 1;
-                Err(SinkFault)
-            }
+        if self.failures == 0 && self.writer.flush().is_ok() {
+            return Ok(());
         }
+        self.failures += 1;
+        Err(SinkFault)
     }
 
     fn failures(&self) -> u64 {
@@ -93,19 +108,20 @@ impl<W: Write + Drop> Sink for WriteSink<W> {
     }
 }
 
-/// A sink over an array, which takes no memory, and fails where the array is full.
-#[derive(Clone, Copy, Debug)]
+/// A sink over an array, which takes no memory, holds nothing back, and fails where the array is full.
+#[derive(Debug, Drop)]
 pub struct ArraySink<const N: usize> {
     bytes: [u8; N],
     taken: usize,
     failures: u64,
     ghost within: { taken ≤ N },
+    ghost full: { 0 < failures → taken ≡ N },
 }
 
 impl<const N: usize> ArraySink<N> {
     /// An empty sink with room for `N` bytes.
     pub fn new() -> ArraySink<N>
-        ensures { ⟦<ArraySink<N> as Sink>⟧.state result ≡ record { failures = 0; taken = Some [] } }
+        ensures { ⟦<ArraySink<N> as Sink>⟧.state result ≡ record { failures = 0; taken = Some []; delivered = Some [] } }
     {
         ArraySink {
             bytes: [0; N],
@@ -123,9 +139,20 @@ impl<const N: usize> ArraySink<N> {
 }
 
 impl<const N: usize> Sink for ArraySink<N> {
-    ghost state = { λ s. record { failures = s.failures; taken = Some (take s.taken s.bytes) } };
+    ghost state = { λ s. record {
+      failures = s.failures;
+      taken = Some (take s.taken s.bytes);
+      delivered = Some (take s.taken s.bytes);
+    } };
 
-    fn put(&mut self, bytes: &[u8]) -> Result<usize, SinkFault> {
+    ghost delivers_front = { λ s. ([], Appends-nil (Some (take s.taken s.bytes))) };
+
+    fn put(&mut self, bytes: &[u8]) -> Result<usize, SinkFault>
+        requires some { 0 < length bytes.now }
+        requires countable { (⟦<ArraySink<N> as Sink>⟧.state self.old).failures < u64.MAX }
+        ensures put { IsPut (⟦<ArraySink<N> as Sink>⟧.state self.old) (⟦<ArraySink<N> as Sink>⟧.state self.new) bytes.now result }
+        ensures full { OnErr result (IfSome (⟦<ArraySink<N> as Sink>⟧.state self.old).taken (λ taken. length taken ≡ N)) }
+    {
         let count = bytes.len().min(N - self.taken);
         if count == 0 {
             self.failures += 1;
@@ -138,7 +165,11 @@ impl<const N: usize> Sink for ArraySink<N> {
     }
 
     fn flush(&mut self) -> Result<(), SinkFault> {
-        Ok(())
+        if self.failures == 0 {
+            return Ok(());
+        }
+        self.failures += 1;
+        Err(SinkFault)
     }
 
     fn failures(&self) -> u64 {

@@ -12,6 +12,8 @@ use thiserror::Error;
 pub struct SourceFault;
 
 /// Gives bytes, in order, up to an end.
+///
+/// A failure is final: a source that has failed once fails again.
 pub trait Source {
     /// How often it has failed, the bytes that it has given, and those that are still to come.
     ghost state: { Self → SourceState };
@@ -31,7 +33,7 @@ pub trait Source {
 }
 
 /// A source over bytes in memory, which never fails and takes no memory.
-#[derive(Clone, Copy, Debug)]
+#[derive(Debug, Drop)]
 pub struct SliceSource<'a> {
     bytes: &'a [u8],
     given: usize,
@@ -68,7 +70,7 @@ impl<'a> Source for SliceSource<'a> {
 }
 
 /// A source over any reader.
-/// Each read that fails counts as a failure, one that was interrupted too.
+/// A read fails where it was interrupted, too. After a failure the reader isn't called again.
 /// It tells the bytes that are to come where the reader does.
 #[derive(Debug, Drop)]
 pub struct ReadSource<R: Read + Drop> {
@@ -93,13 +95,13 @@ impl<R: Read + Drop> Source for ReadSource<R> {
     ghost state = { λ s. record { failures = s.failures; given = None; to_come = R.remaining s.reader } };
 
     fn get(&mut self, buffer: &mut [u8]) -> Result<usize, SourceFault> {
-        match self.reader.read(buffer) {
-            Ok(count) => Ok(count),
-            Err(_) => {
-                self.failures += 1;
-                Err(SourceFault)
+        if self.failures == 0 {
+            if let Ok(count) = self.reader.read(buffer) {
+                return Ok(count);
             }
         }
+        self.failures += 1;
+        Err(SourceFault)
     }
 
     fn failures(&self) -> u64 {

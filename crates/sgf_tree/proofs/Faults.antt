@@ -4,7 +4,7 @@ use Rattle.std.proofs.lemmas.Bool.{cases_lt}
 use Rattle.std.proofs.lemmas.Option.{none-some, option_and_then_some}
 use Rattle.sgf_tree.specs.Tree.{Games}
 use Rattle.sgf_tree.specs.Spelling.{Spells}
-use Rattle.sgf_tree.specs.FirstFault.{Begins, IsFirstFault}
+use Rattle.sgf_tree.specs.FirstFault.{BeginsCollection, IsFirstFault}
 use Rattle.sgf_tree.specs.inner.Machine.{MachineState, start, next_state, run, accepted, collection_of}
 use Rattle.sgf_tree.proofs.Run.{run-append, run-front, run-take-refused, refused-front, collection-run, collection-refused}
 use Rattle.sgf_tree.proofs.AcceptedSpelled.{completed-spells}
@@ -18,20 +18,20 @@ spelled-runs c t h =
     option_and_then_some accepted (run 0 start t) c (spelled-accepted c t h) (λ z e f. (z, e))
 
 -- so is each front of one
-pub begins-runs : (t : List ℕ) → Begins t → (z : MachineState) × (run 0 start t ≡ Some z)
+pub begins-runs : (t : List ℕ) → BeginsCollection t → (z : MachineState) × (run 0 start t ≡ Some z)
 begins-runs t (more, c, all, h) =
     let (y, e) = spelled-runs c (t ++ more) h in
     option_and_then_some (λ next. run (0 + length t) next more) (run 0 start t) y (sym (run-append 0 start t more) ∙ e) (λ z f g. (z, f))
 
 -- a text that is taken to a state is such a front
-pub runs-begins : (t : List ℕ) (z : MachineState) → run 0 start t ≡ Some z → Begins t
+pub runs-begins : (t : List ℕ) (z : MachineState) → run 0 start t ≡ Some z → BeginsCollection t
 runs-begins t z h =
     let (more, all, k) = complete z (reached 0 start z t h tt) in
     let (c, f) = k (length (t ++ more)) (length t) (sym (length-append t more)) in
     (more, c, all, completed-spells c t more z h f)
 
 -- a front that is refused begins no text, nor does a longer one
-begins-below : (t : List ℕ) (at : ℕ) → run 0 start (take (at + 1) t) ≡ None → (n : ℕ) → Begins (take n t) → n ≤ at
+begins-below : (t : List ℕ) (at : ℕ) → run 0 start (take (at + 1) t) ≡ None → (n : ℕ) → BeginsCollection (take n t) → n ≤ at
 begins-below t at h n b = ⊎_elim (λ lt. absurd (longer lt)) (λ le. le) (cases_lt at n)
   where
     longer : at < n → ⊥

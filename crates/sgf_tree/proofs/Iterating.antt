@@ -75,15 +75,6 @@ module _ (s : List ℕ) (k : ℕ) (run : IsSpan is_white_space s 0 k) where
             | inr le ↦ absurd (white-none (white-all le) w (upper-not_white_space b h))
           ]
 
-  -- a property there
-  pub some-property : ArePropertiesIn s → k < length s → IsTrue (is_upper (get_or s k 0)) → properties_in s ≢ []
-  some-property held lt capital none = some held.properties held.rest held.spelled held.ends
-    where
-      some : (ps : List Property) (r : List ℕ) → AreProperties ps s r → NoPropertyFollows r → ⊥
-      some [] r no_property ends =
-          false≢true (sym (ends (get_or s k 0) (drop (k + 1) s) (white-to lt)).1 ∙ capital)
-      some (p ∷ ps) r are ends = let is = sym none ∙ properties-in are ends in absurd (cc)
-
   -- the properties in front stand after the white space
   pub past-white : ArePropertiesIn s → (properties_in s ≡ properties_in (drop k s)) × ArePropertiesIn (drop k s)
   past-white held = past held.properties held.rest held.spelled held.ends

@@ -5,6 +5,8 @@ pub mod Flat
 pub mod Lists
 pub mod OrderedNodes
 pub mod Names
+pub mod Decoding
+pub mod GoingOn
 pub mod ValueEnds
 pub mod ValueSpelled
 pub mod ValueUnits

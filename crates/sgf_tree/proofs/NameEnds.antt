@@ -34,13 +34,18 @@ name-longer t start end lt capital letters =
           absurd (false≢true (sym here ∙ or_left (is_upper (get_or t start 0)) (is_lower (get_or t start 0)) capital))
     ]
 
+pub name-begins : (t : List ℕ) (start end : ℕ) → start < length t → IsTrue (is_upper (get_or t start 0)) → IsSpan is_letter t start end
+    → slice_range t start end ≡ get_or t start 0 ∷ slice_range t (start + 1) end
+name-begins t start end lt capital letters =
+    let longer : start < end = name-longer t start end lt capital letters in
+    sym (span-join t start (start + 1) end (omega arith) (omega arith)) ∙ ap (λ s. s ++ slice_range t (start + 1) end) (span-one t start lt)
+
 pub name-reached : (t : List ℕ) (start end : ℕ) (n : Started) → start < length t → IsTrue (is_upper (get_or t start 0)) → IsSpan is_letter t start end
     → ComesTo t (start + 1) (in_name n (get_or t start 0 ∷ [])) → ComesTo t end (in_name n (name_in (slice_range t start end)))
 name-reached t start end n lt capital letters h =
     let b : ℕ = get_or t start 0 in
     let longer : start < end = name-longer t start end lt capital letters in
-    let parts : slice_range t start end ≡ (b ∷ []) ++ slice_range t (start + 1) end =
-    sym (span-join t start (start + 1) end (omega arith) (omega arith)) ∙ ap (λ s. s ++ slice_range t (start + 1) end) (span-one t start lt) in
+    let parts : slice_range t start end ≡ (b ∷ []) ++ slice_range t (start + 1) end = name-begins t start end lt capital letters in
     let name : name_in (slice_range t start end) ≡ (b ∷ []) ++ name_in (slice_range t (start + 1) end) =
     ap name_in parts ∙ filter-append is_upper (b ∷ []) (slice_range t (start + 1) end)
     ∙ ap (λ c. (if c then b ∷ [] else []) ++ name_in (slice_range t (start + 1) end)) capital in

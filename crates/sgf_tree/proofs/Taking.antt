@@ -1,32 +1,27 @@
 -- Taking the elements of a list off its front, one after another.
-use Rattle.std.proofs.Common.{◌≡◌, ℕ, suc, ◌+◌, ◌<◌, List, [], ◌∷◌, length, get_or, drop, slice_get, Option, Some, None, IsSome, MatchOption, refl, sym, ap, ◌∙◌, arith, add-one, length-drop}
-use Rattle.std.proofs.Math.Seq.{drop-cons}
+use Rattle.std.proofs.Common.{◌≡◌, ℕ, ◌<◌, List, [], ◌∷◌, ◌++◌, map, length, slice_get, Option, Some, None, sym, ap, ◌∙◌, arith, length-append}
+use Rattle.std.proofs.Math.Seq.{get_or-append_seam}
+use Rattle.std.proofs.lemmas.List.{length-map}
 use Rattle.std.proofs.lemmas.Option.{slice_get-get_or}
+use Rattle.std.specs.Iterator.{YieldsFirstBy, Yields, SkipsThenYields}
 
--- what a step over a list gives, where f shows what it answers
-abbrev pub IsStep : {A B : Type 0} → (B → A) → List A → Option B → List A → Type 0
-IsStep f old o new = MatchOption o ((old ≡ []) × (new ≡ [])) (λ x. old ≡ f x ∷ new)
+-- the element after a front
+after-front : {A : Type 0} (front : List A) (x : A) (rest : List A) → slice_get (front ++ x ∷ rest) (length front) ≡ Some x
+after-front front x rest =
+    let within : length front < length (front ++ x ∷ rest) = omega (arith, length-append front (x ∷ rest)) in
+    slice_get-get_or (front ++ x ∷ rest) (length front) x within ∙ ap Some (get_or-append_seam front x rest x)
 
-module _ {A B : Type 0} (f : B → A) (xs : List A) (i : ℕ) (lt : i < length xs) where
-  -- a step finds something while less than all was taken
-  pub step-some : (old new : List A) (o : Option B) → old ≡ drop i xs → IsStep f old o new → IsSome o
-  step-some old new None e h =
-      absurd (omega (arith, ap length (sym e ∙ h.0), length-drop i xs))
-  step-some old new (Some x) e h = refl
+-- a step gives an element that f shows
+module _ {A B : Type 0} (f : B → A) where
+  came : (s : List A) (xs : List B) (t : List A) → Yields (YieldsFirstBy f (λ (l : List A). l)) s xs t → s ≡ map f xs ++ t
+  came s [] t e = e
+  came s (x ∷ xs) t (j, step, rest) = step ∙ ap (λ u. f x ∷ u) (came j xs t rest)
 
-  taken : (old new : List A) (o : Option B) (x : B) → old ≡ drop i xs → IsStep f old o new → o ≡ Some x → f x ∷ new ≡ drop i xs
-  taken old new None x e h q = absurd (cc)
-  taken old new (Some y) x e h q =
-      let same : y ≡ x = cc in sym (ap (λ z. f z ∷ new) same) ∙ sym h ∙ e
-
-  -- it is element i, and the rest are left
-  pub step-element : (old new : List A) (o : Option B) (x : B) → old ≡ drop i xs → IsStep f old o new → o ≡ Some x → slice_get xs i ≡ Some (f x)
-  step-element old new o x e h q =
-      let both : f x ∷ new ≡ get_or xs i (f x) ∷ drop (suc i) xs = taken old new o x e h q ∙ drop-cons xs i (f x) lt in
-      let same : f x ≡ get_or xs i (f x) = cc in
-      slice_get-get_or xs i (f x) lt ∙ ap Some (sym same)
-
-  pub step-left : (old new : List A) (o : Option B) (x : B) → old ≡ drop i xs → IsStep f old o new → o ≡ Some x → new ≡ drop (i + 1) xs
-  step-left old new o x e h q =
-      let both : f x ∷ new ≡ get_or xs i (f x) ∷ drop (suc i) xs = taken old new o x e h q ∙ drop-cons xs i (f x) lt in
-      rw add-one (cc)
+  -- the element after so many is the one of that number
+  pub taken-at : (s : List A) (n : ℕ) (r : Option B) (u : List A) (x : B) → SkipsThenYields (YieldsFirstBy f (λ (l : List A). l)) s n r u → r ≡ Some x → slice_get s n ≡ Some (f x)
+  taken-at s n None u x ran is = absurd (cc)
+  taken-at s n (Some y) u x (xs, (t, went, step), count) is =
+      let all : s ≡ map f xs ++ (f y ∷ u) = came s xs t went ∙ ap (λ v. map f xs ++ v) step in
+      let same : f y ≡ f x = cc in
+      let long : length (map f xs) ≡ n = length-map xs f ∙ count in
+      ap (λ v. slice_get v n) all ∙ ap (slice_get (map f xs ++ f y ∷ u)) (sym long) ∙ after-front (map f xs) (f y) u ∙ ap Some same

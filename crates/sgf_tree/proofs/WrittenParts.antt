@@ -38,6 +38,16 @@ ends-run s k run other b u w e =
     nothing : {r x : List ℕ} → WhiteSpace r [] → ¬ WhiteSpace r (91 ∷ x)
     nothing v z = white-none v z refl
 
+-- the same further on
+pub ends-at : (t : List ℕ) (end next : ℕ) → IsSpan is_white_space t end next → (next < length t → get_or t next 0 ≢ 91) → NoValueFollows (drop end t)
+ends-at t end next white other =
+    ends-run (drop end t) (next - end) (run-drop is_white_space t end next white) (λ small e. other (omega (arith, white.rises, length-drop end t)) (sym (here small) ∙ e))
+  where
+    here : next - end < length (drop end t) → get_or (drop end t) (next - end) 0 ≡ get_or t next 0
+    here small =
+        let rises : end ≤ next = white.rises in
+        let to : end + (next - end) ≡ next = omega arith in get_or-drop end t (next - end) 0 ∙ ap (λ i. get_or t i 0) to
+
 -- the first property has one form
 head-same : {p q : Property} {qs : List Property} {s r m : List ℕ} → IsProperty p s r → NoValueFollows r → AreProperties (q ∷ qs) s m → NoPropertyFollows m
     → (q ≡ p) × AreProperties qs r m
@@ -58,7 +68,7 @@ head-same {qs = qs} {m = m} (property {b} {name} {v} {t = t} {u} {r = r} {vs = v
 upper-first : {p : Property} {s r : List ℕ} → IsProperty p s r → ¬ NoPropertyFollows s
 upper-first (property {b} {t = t} w h l first more) done = false≢true (sym (done b t w).1 ∙ h)
 
-left-after : {p : Property} {s r : List ℕ} → ArePropertiesIn s → IsProperty p s r → NoValueFollows r → (properties_in s ≡ p ∷ properties_in r) × ArePropertiesIn r
+pub left-after : {p : Property} {s r : List ℕ} → ArePropertiesIn s → IsProperty p s r → NoValueFollows r → (properties_in s ≡ p ∷ properties_in r) × ArePropertiesIn r
 left-after {p} {s} {r} held is ends = after held.properties held.rest held.spelled held.ends
   where
     after : (ps : List Property) (m : List ℕ) → AreProperties ps s m → NoPropertyFollows m → (properties_in s ≡ p ∷ properties_in r) × ArePropertiesIn r
@@ -131,16 +141,11 @@ module _ (t : List ℕ) where
             within = written.within;
             property = record { name = b ∷ name; first = v; more = vs };
             spelled = property starts capital letters first more;
-            ends = ends-run (drop end t) (next - end) (run-drop is_white_space t end next white) (λ small e. other (omega (arith, white.rises, length-drop end t)) (sym (here small) ∙ e));
+            ends = ends-at t end next white other;
             text =
                 sym (span-join t at name_end end low written.rises) ∙ ap (λ s. s ++ slice_range t name_end end) head
                 ∙ ap (λ s. (b ∷ name) ++ s) text;
           }
-        where
-          here : next - end < length (drop end t) → get_or (drop end t) (next - end) 0 ≡ get_or t next 0
-          here small =
-              let rises : end ≤ next = white.rises in
-              let to : end + (next - end) ≡ next = omega arith in get_or-drop end t (next - end) 0 ∙ ap (λ i. get_or t i 0) to
 
   pub front-none : (from : ℕ) → from ≤ length t → ArePropertiesIn (drop from t) → ArePropertiesWritten t from from
   front-none from le held =

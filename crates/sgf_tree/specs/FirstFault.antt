@@ -4,12 +4,12 @@ use Rattle.sgf_tree.specs.Tree.{Games}
 use Rattle.sgf_tree.specs.Spelling.{Spells}
 
 -- some bytes after it make it a text that spells a collection
-abbrev pub Begins : List ℕ → Type 0
-Begins front = (more : List ℕ) × (games : Games) × All (λ b. b < 256) more × Spells games (front ++ more)
+abbrev pub BeginsCollection : List ℕ → Type 0
+BeginsCollection front = (more : List ℕ) × (games : Games) × All (λ b. b < 256) more × Spells games (front ++ more)
 
 -- at is the greatest n for which the first n bytes of the text begin some text of the grammar; for a text of the grammar that is
 -- its length
 pub record IsFirstFault (text : List ℕ) (at : ℕ) : Type 0 where
   pub within : at ≤ length text
-  pub begins : Begins (take at text)
-  pub greatest : (n : ℕ) → n ≤ length text → Begins (take n text) → n ≤ at
+  pub begins : BeginsCollection (take at text)
+  pub greatest : (n : ℕ) → n ≤ length text → BeginsCollection (take n text) → n ≤ at

@@ -1,5 +1,5 @@
 -- The decoded text of a raw value (SGF FF[4], Text).
-use Rattle.std.specs.Prelude.{ℕ, Bool, ◌||◌, ◌&&◌, ◌==◌, if◌then◌else◌, List, [], ◌∷◌, ◌++◌}
+use Rattle.std.specs.Prelude.{◌≡◌, ◌≢◌, ℕ, Bool, false, IsTrue, ◌||◌, ◌&&◌, ◌==◌, if◌then◌else◌, List, [], ◌∷◌, ◌++◌}
 use Rattle.sgf_tree.specs.Bytes.{tab, line_feed, vertical_tab, form_feed, carriage_return, space, backslash}
 
 -- LF or CR
@@ -14,6 +14,27 @@ is_pair byte next = byte == carriage_return && next == line_feed || byte == line
 abbrev pub spaced : ℕ → ℕ
 spaced b = if b == tab || b == vertical_tab || b == form_feed then space else b
 
+-- the byte and the next one, if there is one, are not one line break
+abbrev pub MakesNoPair : ℕ → List ℕ → Type 0
+MakesNoPair byte [] = Unit {0}
+MakesNoPair byte (next ∷ rest) = is_pair byte next ≡ false
+
+-- The text of a raw value. Each row says what the front of the value gives, and after it comes the text of the rest.
+pub data IsDecoded : List ℕ → List ℕ → Type 0 where
+  -- nothing, or a `\` as the last byte: nothing
+  nothing : IsDecoded [] []
+  last_backslash : IsDecoded (backslash ∷ []) []
+  -- a `\` and a line break, of two bytes or one: nothing
+  escaped_pair : {first second : ℕ} {rest text : List ℕ} → IsTrue (is_pair first second) → IsDecoded rest text → IsDecoded (backslash ∷ first ∷ second ∷ rest) text
+  escaped_break : {byte : ℕ} {rest text : List ℕ} → IsTrue (is_break byte) → MakesNoPair byte rest → IsDecoded rest text → IsDecoded (backslash ∷ byte ∷ rest) text
+  -- a `\` and another byte: that byte, spaced
+  escaped_byte : {byte : ℕ} {rest text : List ℕ} → is_break byte ≡ false → IsDecoded rest text → IsDecoded (backslash ∷ byte ∷ rest) (spaced byte ∷ text)
+  -- a line break, of two bytes or one: an LF
+  pair : {first second : ℕ} {rest text : List ℕ} → IsTrue (is_pair first second) → IsDecoded rest text → IsDecoded (first ∷ second ∷ rest) (line_feed ∷ text)
+  line_break : {byte : ℕ} {rest text : List ℕ} → IsTrue (is_break byte) → MakesNoPair byte rest → IsDecoded rest text → IsDecoded (byte ∷ rest) (line_feed ∷ text)
+  -- another byte: that byte, spaced
+  plain_byte : {byte : ℕ} {rest text : List ℕ} → byte ≢ backslash → is_break byte ≡ false → IsDecoded rest text → IsDecoded (byte ∷ rest) (spaced byte ∷ text)
+
 -- what a byte gives that no `\` stands before: an LF for a line break, else `spaced` of the byte
 abbrev pub unescaped : ℕ → ℕ
 unescaped b = if is_break b then line_feed else spaced b
@@ -22,12 +43,7 @@ unescaped b = if is_break b then line_feed else spaced b
 abbrev pub after_backslash : ℕ → List ℕ
 after_backslash b = if is_break b then [] else spaced b ∷ []
 
--- The text, by the first of these cases that fits the front of the raw value:
---   nothing, or a `\` as the last byte: nothing;
---   a `\` and a line break: the text of the rest;
---   a `\` and a byte: `spaced` of that byte, and the text of the rest;
---   a line break: an LF and the text of the rest;
---   a byte: `spaced` of that byte, and the text of the rest.
+-- the text as a function, by the first row that fits the front
 abbrev pub text_of : List ℕ → List ℕ
 text_of [] = []
 text_of (byte ∷ []) = if byte == backslash then [] else unescaped byte ∷ []

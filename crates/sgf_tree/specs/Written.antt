@@ -1,5 +1,5 @@
 -- What the sgf form writes for a node: no white space between its parts, names in upper case, raw values as they stood.
-use Rattle.std.specs.Prelude.{◌≡◌, ◌≢◌, ℕ, List, [], ◌++◌, codes}
+use Rattle.std.specs.Prelude.{ℕ, List, ◌++◌, codes}
 use Rattle.std.specs.List.{flat_map}
 use Rattle.sgf_tree.specs.Tree.{Property, Node, values}
 
@@ -14,16 +14,3 @@ property_text p = p.name ++ flat_map value_text (values p)
 -- a node's `;` and its properties
 abbrev pub node_text : Node → List ℕ
 node_text n = codes ";" ++ flat_map property_text n.properties
-
--- properties were taken off the front of others, and that is their text
-pub record IsWrittenFront (old new : List Property) (text : List ℕ) : Type 0 where
-  pub taken : List Property
-  pub front : old ≡ taken ++ new
-  pub written : text ≡ flat_map property_text taken
-
--- the front of a node's text, up to the properties that are left, of which there is one at least
-pub record IsWrittenNode (node : Node) (left : List Property) (text : List ℕ) : Type 0 where
-  pub properties : List ℕ
-  pub front : IsWrittenFront node.properties left properties
-  pub written : text ≡ codes ";" ++ properties
-  pub some_left : left ≢ []

@@ -79,7 +79,7 @@ impl<'a> Collection<'a> {
     }
 
     /// Node `i`, counted from 0 in file order.
-    pub fn node(&self, i: usize) -> NodeRef<'_>
+    pub fn node(&self, i: usize) -> NodeRef<'_, 'a>
         requires { i < node_count self.now }
         ensures { node_at self.now i ≡ Some result }
     {

@@ -7,7 +7,7 @@ use thiserror::Error;
 pub const MAX_LENGTH: usize = 67_108_864;
 
 /// Why a text was not read.
-#[derive(Debug, Drop, Error)]
+#[derive(Clone, Copy, Debug, PartialEq, Eq, Error)]
 pub enum ReadFault {
     /// The text is longer than `MAX_LENGTH` bytes.
     #[error("the text is longer than {MAX_LENGTH} bytes")]
@@ -25,7 +25,7 @@ pub enum ReadFault {
 }
 
 /// More memory was wanted and refused. What the call was made on, or was to append to, is unchanged.
-#[derive(Debug, Drop, Error)]
+#[derive(Clone, Copy, Debug, PartialEq, Eq, Error)]
 #[error("out of memory")]
 pub struct MemoryFault;
 

@@ -2,29 +2,28 @@
 //! All steps over a node together cost what its text costs, however many properties and values it has.
 
 ghost use Rattle.std.specs.Prelude.{◌≡◌, ◌↔◌, ◌≤◌, ◌<◌, false, [], ◌∷◌, length, drop, slice_index, IsTrue, IfSome, MatchOption};
-ghost use Rattle.sgf_tree.specs.Written.{IsWrittenFront};
+ghost use Rattle.std.specs.Iterator.{YieldsFirst, YieldsFirstRef, item_count};
 ghost use Rattle.sgf_tree.specs.Spelling.{is_white_space, is_upper};
 ghost use Rattle.sgf_tree.specs.inner.Progress.{IsSpan};
-ghost use Rattle.sgf_tree.specs.inner.NodeText.{properties_in, ArePropertiesIn, values_in, AreValuesIn, AreValuesWritten, IsPropertyWritten, ArePropertiesWritten, IsValueAt, IsValuesEnd, IsNoPropValue};
+ghost use Rattle.sgf_tree.specs.inner.NodeText.{properties_in, ArePropertiesIn, values_in, AreValuesIn, IsWrittenFront, IsValueAt, IsValuesEnd, IsNoPropValue};
 ghost use Rattle.sgf_tree.specs.inner.KeptEnds.{AreKeptEnds};
 
 use crate::layout::LongValue;
 use crate::property::PropRef;
-use crate::reader::long::value_end;
-use crate::reader::scan::{
-    capitals_end, identifier_end, part, rest_from, skip_to_bracket, skip_white_space,
-};
+use crate::reader::scan::{identifier_end, part, rest_from, skip_to_bracket, skip_white_space};
+use crate::reader::value::value_end;
+use crate::written::written_properties_end;
 use std::marker::Model;
 
 /// The properties of a node that are left, in file order.
 /// No call on it takes memory.
 #[derive(Drop)]
-pub struct Properties<'a> {
+pub struct Properties<'c, 'a> {
     pub(crate) rest: &'a [u8],
-    pub(crate) long: &'a Vec<LongValue>,
+    pub(crate) long: &'c Vec<LongValue>,
 }
 
-impl<'a> Model for Properties<'a> {
+impl<'c, 'a> Model for Properties<'c, 'a> {
     ghost use Rattle.std.specs.Prelude.{List};
     ghost use Rattle.sgf_tree.specs.Tree.{Property};
     ghost use Rattle.sgf_tree.specs.inner.TreeCode.{properties_code};
@@ -41,10 +40,10 @@ impl<'a> Model for Properties<'a> {
     ghost invariant = { λ n. ArePropertiesIn n.rest.now × AreKeptEnds n.rest.now n.long.now.items };
 }
 
-impl<'a> Properties<'a> {
+impl<'c, 'a> Properties<'c, 'a> {
     /// The properties of a node, which begin at `at` in a text. `long` is what was kept of its long values.
     #[inline(always)]
-    pub(crate) fn new(text: &'a [u8], at: usize, long: &'a Vec<LongValue>) -> Properties<'a>
+    pub(crate) fn new(text: &'a [u8], at: usize, long: &'c Vec<LongValue>) -> Properties<'c, 'a>
         requires within { at ≤ length text.now }
         requires held { ArePropertiesIn (drop at text.now) }
         requires kept { AreKeptEnds text.now long.now.items }
@@ -54,21 +53,31 @@ impl<'a> Properties<'a> {
         Properties { rest, long }
     }
 
-    /// Whether none is left.
-    pub(crate) fn is_empty(&self) -> bool
-        ensures { IsTrue result ↔ self.now ≡ [] }
+    /// Takes off the properties in front that stand as the sgf form writes them, with no white space and no small letter
+    /// between their parts, and answers their text, without the white space before it.
+    /// It is empty where the first property doesn't stand so, and where none is left.
+    pub(crate) fn written(&mut self) -> &'a [u8]
+        ensures { IsWrittenFront self.old self.new result.now }
     {
         let text = self.rest;
         let start = skip_white_space(text, 0);
-        start == text.len() || !text[start].is_ascii_uppercase()
+        let end = written_properties_end(text, start, self.long);
+        self.rest = rest_from(text, end);
+        part(text, start, end)
     }
+}
+
+impl<'c, 'a> Iterator for Properties<'c, 'a> {
+    type Item = PropRef<'a>;
+
+    ghost next_gives = { YieldsFirst (λ left. left) };
+
+    ghost remaining = { item_count (λ left. left) };
 
     /// Takes off the next property.
     /// None after the last one, again and again.
     #[inline(always)]
-    pub fn next(&mut self) -> Option<PropRef<'a>>
-        ensures { MatchOption result ((self.old ≡ []) × (self.new ≡ [])) (λ p. self.old ≡ p ∷ self.new) }
-    {
+    fn next(&mut self) -> Option<PropRef<'a>> {
         let text = self.rest;
         let start = skip_white_space(text, 0);
         if start == text.len() || !text[start].is_ascii_uppercase() {
@@ -77,19 +86,6 @@ impl<'a> Properties<'a> {
         let (property, next) = property_at(text, start, self.long);
         self.rest = rest_from(text, next);
         Some(property)
-    }
-
-    /// Takes off the properties in front that stand as the sgf form writes them, with no white space and no small letter
-    /// between their parts, and answers their text, without the white space before it.
-    /// It is empty where the first property doesn't stand so, and where none is left.
-    pub fn written(&mut self) -> &'a [u8]
-        ensures { IsWrittenFront self.old self.new result.now }
-    {
-        let text = self.rest;
-        let start = skip_white_space(text, 0);
-        let end = written_properties_end(text, start, self.long);
-        self.rest = rest_from(text, end);
-        part(text, start, end)
     }
 }
 
@@ -129,12 +125,18 @@ impl<'a> Values<'a> {
             rest: more,
         }
     }
+}
+
+impl<'a> Iterator for Values<'a> {
+    type Item = &'a [u8];
+
+    ghost next_gives = { YieldsFirstRef (λ left. left) };
+
+    ghost remaining = { item_count (λ left. left) };
 
     /// Takes off the next raw value: the bytes between its `[` and its `]`, which are a part of the text that was read.
     /// None after the last one, again and again.
-    pub fn next(&mut self) -> Option<&'a [u8]>
-        ensures { MatchOption result ((self.old ≡ []) × (self.new ≡ [])) (λ v. self.old ≡ v.now ∷ self.new) }
-    {
+    fn next(&mut self) -> Option<&'a [u8]> {
         if let Some(first) = self.first {
             self.first = None;
             return Some(first);
@@ -227,55 +229,4 @@ fn far_values_end(text: &[u8], at: usize, long: &Vec<LongValue>) -> usize
         end = close + 1;
     }
     end
-}
-
-/// The end of the properties at `at`, as far as they stand as the sgf form writes them.
-pub(crate) fn written_properties_end(text: &[u8], at: usize, long: &Vec<LongValue>) -> usize
-    requires within { at ≤ length text.now }
-    requires held { ArePropertiesIn (drop at text.now) }
-    requires kept { AreKeptEnds text.now long.now.items }
-    ensures { ArePropertiesWritten text.now at result }
-{
-    let mut end = at;
-    'properties: while let Some(next) = written_end(text, end, long) {
-        end = next;
-    }
-    end
-}
-
-/// The end of the property at `at`.
-/// None where none is there, or one that doesn't stand as the sgf form writes it.
-fn written_end(text: &[u8], at: usize, long: &Vec<LongValue>) -> Option<usize>
-    requires within { at ≤ length text.now }
-    requires kept { AreKeptEnds text.now long.now.items }
-    ensures { IfSome result (IsPropertyWritten text.now at) }
-{
-    let name_end = capitals_end(text, at);
-    let Some(end) = written_values_end(text, name_end, long) else {
-        return None;
-    };
-    if name_end == at || end == name_end {
-        return None;
-    }
-    let next = skip_white_space(text, end);
-    if next < text.len() && text[next] == b'[' {
-        return None;
-    }
-    Some(end)
-}
-
-/// The end of the values at `at`, as far as they stand as the sgf form writes them, with nothing between them.
-fn written_values_end(text: &[u8], at: usize, long: &Vec<LongValue>) -> Option<usize>
-    requires within { at ≤ length text.now }
-    requires kept { AreKeptEnds text.now long.now.items }
-    ensures { IfSome result (AreValuesWritten text.now at) }
-{
-    let mut end = at;
-    'values: while end < text.len() && text[end] == b'[' {
-        let Some(close) = value_end(text, end + 1, Some(long)) else {
-            return None;
-        };
-        end = close + 1;
-    }
-    Some(end)
 }

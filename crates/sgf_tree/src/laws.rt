@@ -1,10 +1,11 @@
 //! Laws of the definitions. A function here does nothing: what it ensures is a law that is proved.
 
-ghost use Rattle.std.specs.Prelude.{◌≡◌, ℕ, List, ◌++◌, length};
+ghost use Rattle.std.specs.Prelude.{◌≡◌, ◌↔◌, ℕ, List, ◌++◌, length};
 ghost use Rattle.sgf_tree.specs.FileOrder.{PlacesRise};
 ghost use Rattle.sgf_tree.specs.Appending.{raised, BeginsWithByteOrderMark};
 ghost use Rattle.sgf_tree.specs.Spelling.{Spells};
 ghost use Rattle.sgf_tree.specs.Tree.{Games, joined};
+ghost use Rattle.sgf_tree.specs.Text.{IsDecoded, text_of};
 
 /// One text after another: where each spells games, and the second doesn't begin with a byte order mark, the two joined
 /// spell the games of the first followed by those of the second, with the second's places raised by the first text's length.
@@ -22,4 +23,10 @@ pub fn one()
 /// The places of the nodes of a collection that some text spells rise strictly in file order.
 pub fn places_rise()
     ensures { (games : Games) (text : List ℕ) → Spells games text → PlacesRise games }
+{}
+
+/// The function that computes the decoded text of a raw value agrees with the rows that say it (SGF FF\[4\], Text): each raw
+/// value has one text by them, and it is the function's.
+pub fn decoded()
+    ensures { (raw text : List ℕ) → IsDecoded raw text ↔ (text ≡ text_of raw) }
 {}

@@ -8,8 +8,7 @@
 //! ```text
 //! let collection = read(alloc, text)?;
 //! for i in 0..collection.nodes() {
-//!     let mut properties = collection.node(i).iter();
-//!     while let Some(property) = properties.next() {
+//!     for property in collection.node(i).iter() {
 //!         if property.is(b"C") {
 //!             push_text(property.value(0), &mut comments)?;
 //!         }
@@ -21,16 +20,18 @@
 //! |---|---|
 //! | `reader` | reading a text, and the first fault |
 //! | `reader/games`, `reader/properties` | reading nodes and games; reading the properties of a node |
-//! | `reader/long` | where raw values end, and keeping where the long ones do |
-//! | `reader/mark`, `reader/scan`, `reader/fault` | the byte order mark; where spans of a text end; why a text is not read on |
+//! | `reader/value` | what ends a raw value, and keeping where the long ones end |
+//! | `reader/mark`, `reader/scan` | the byte order mark; where spans of a text end |
+//! | `reader/fault` | why a text is not read on, and how the place of the first fault is found |
 //! | `collection`, `node`, `property` | looking into a collection that was read |
-//! | `iter` | steps forward over the properties of a node and the values of a property |
+//! | `iter` | the properties of a node and the values of a property, one after another |
+//! | `written` | writing a node as the sgf form does |
 //! | `layout` | the entries of the flat vectors that hold a collection |
 //! | `text`, `numbers` | the decoded text of a value; the value of a number |
 //! | `fault` | the ways in which a call may fail |
 //! | `laws` | what holds of all texts |
 //!
-//! Worked examples stand in the crate `tree_examples`, and those that the program shows in `tests/`.
+//! Worked examples stand in the crate `sgf_tree_tests`, and those that the program shows in `tests/`.
 #![tactic(auto)]
 
 mod collection;
@@ -43,6 +44,7 @@ mod numbers;
 mod property;
 mod reader;
 mod text;
+mod written;
 
 pub use collection::Collection;
 pub use fault::{MAX_LENGTH, MemoryFault, ReadFault};

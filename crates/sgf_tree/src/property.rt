@@ -1,6 +1,6 @@
 //! A property of a node.
 
-ghost use Rattle.std.specs.Prelude.{◌≡◌, ◌<◌, ◌≤◌, ◌↔◌, ◌++◌, length, slice_get, Some, IsTrue, IfSome, OnOk, OnErr};
+ghost use Rattle.std.specs.Prelude.{◌≡◌, ◌<◌, ◌↔◌, ◌∷◌, ◌++◌, ℕ, List, length, slice_get, Some, IsTrue, OnOk, OnErr};
 ghost use Rattle.sgf_tree.specs.Tree.{values};
 ghost use Rattle.sgf_tree.specs.inner.NodeText.{name_in};
 
@@ -25,42 +25,32 @@ impl<'a> Model for PropRef<'a> {
 
     ghost coded = { property_code };
 
-    ghost use Rattle.sgf_tree.specs.inner.NodeText.{name_in, values_in, AreValuesIn};
+    ghost use Rattle.sgf_tree.specs.inner.NodeText.{name_in, BeginsName, values_in, AreValuesIn};
 
     ghost view = { λ p. record { name = name_in p.identifier.now; first = p.first.now; more = values_in p.more.now } };
 
-    ghost invariant = { λ p. AreValuesIn p.more.now };
+    ghost invariant = { λ p. AreValuesIn p.more.now × BeginsName p.identifier.now };
 }
 
 impl<'a> PropRef<'a> {
+    /// The first letter of its name, by which a caller tells most names apart at once.
+    pub fn initial(&self) -> u8
+        ensures { (rest : List ℕ) × (self.now.name ≡ result ∷ rest) }
+    {
+        self.identifier[0]
+    }
+
     /// Whether `name` is its name.
     /// The name is the upper-case letters of the identifier: `GaMe` is named `GM` (this project's choice).
+    #[inline(always)]
     pub fn is(&self, name: &[u8]) -> bool
         ensures { IsTrue result ↔ (self.now.name ≡ name.now) }
     {
         let identifier = self.identifier;
-        let mut matched = 0;
-        for letter in identifier {
-            if letter.is_ascii_uppercase() {
-                if matched == name.len() || name[matched] != *letter {
-                    return false;
-                }
-                matched += 1;
-            }
-        }
-        matched == name.len()
-    }
-
-    /// Its name, where its identifier is one capital or two, as nearly all are, so that a caller can tell names apart at once.
-    /// None of each other property, whose name `is` compares.
-    pub fn short_name(&self) -> Option<&'a [u8]>
-        ensures { IfSome result (λ name. name.now ≡ self.now.name) }
-    {
-        let identifier = self.identifier;
         if is_short_name(identifier) {
-            Some(identifier)
+            identifier == name
         } else {
-            None
+            is_name_in(identifier, name)
         }
     }
 
@@ -92,30 +82,22 @@ impl<'a> PropRef<'a> {
     pub fn values(&self) -> usize
         ensures { result ≡ length (values self.now) }
     {
-        let mut left = Values::new(self.first, self.more);
-        let mut count = 0;
-        while let Some(_value) = left.next() {
-            count += 1;
-        }
-        count
+        let left = Values::new(self.first, self.more);
+        left.count()
     }
 
     /// Raw value `i`, counted from 0 in file order: the bytes between the `[` and the `]`.
-    /// It is a part of the text that was read.
+    /// It is a part of the text that was read, and lives as long as that.
     /// It goes over the values before it, so whoever wants them all takes `iter`.
     pub fn value(&self, i: usize) -> &'a [u8]
         requires { i < length (values self.now) }
         ensures { slice_get (values self.now) i ≡ Some result.now }
     {
-        let mut left = self.iter();
-        for _before in 0..i {
-            left.next().unwrap();
-        }
-        left.next().unwrap()
+        self.iter().nth(i).unwrap()
     }
 }
 
-/// Whether an identifier is one capital or two.
+/// Whether an identifier is one capital or two, as nearly all are: then it is the name.
 fn is_short_name(identifier: &[u8]) -> bool
     ensures { IsTrue result → name_in identifier.now ≡ identifier.now }
 {
@@ -124,4 +106,21 @@ fn is_short_name(identifier: &[u8]) -> bool
         [one, other] => one.is_ascii_uppercase() && other.is_ascii_uppercase(),
         _ => false,
     }
+}
+
+/// Whether the capitals of an identifier are that name.
+#[inline(never)]
+fn is_name_in(identifier: &[u8], name: &[u8]) -> bool
+    ensures { IsTrue result ↔ (name_in identifier.now ≡ name.now) }
+{
+    let mut matched = 0;
+    for letter in identifier {
+        if letter.is_ascii_uppercase() {
+            if matched == name.len() || name[matched] != *letter {
+                return false;
+            }
+            matched += 1;
+        }
+    }
+    matched == name.len()
 }

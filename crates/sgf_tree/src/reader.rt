@@ -12,10 +12,10 @@ ghost use Rattle.sgf_tree.specs.inner.GamesRead.{ReadsWhole};
 
 mod fault;
 mod games;
-pub(crate) mod long;
 mod mark;
 mod properties;
 pub(crate) mod scan;
+pub(crate) mod value;
 
 use crate::collection::Collection;
 use crate::fault::{MAX_LENGTH, ReadFault};

@@ -1,39 +1,44 @@
 -- A referee's states, from a past and from what it keeps of each earlier state besides.
-use Rattle.std.specs.Prelude.{◌≡◌, ℕ, ◌+◌, ◌≤◌, ◌<◌, Option, List, [], ◌∷◌, if◌then◌else◌, length, reverse, drop, false}
+use Rattle.std.specs.Prelude.{◌≡◌, ℕ, ◌+◌, ◌≤◌, false, Option, List, [], ◌∷◌, if◌then◌else◌, length, reverse}
 use Rattle.go_board.specs.declared.stones.Colour.{Colour}
 use Rattle.go_board.specs.declared.referee.plays.Play.{Play}
 use Rattle.go_board.specs.declared.referee.Earlier.{Earlier}
 use Rattle.go_board.specs.Colour.{opponent}
 use Rattle.go_board.specs.Grid.{Grid}
-use Rattle.go_board.specs.Past.{Held, newest_grid, present_stretch, HaveSide}
+use Rattle.go_board.specs.Past.{Held, PastColourings, newest_grid, present_stretch, HaveSide}
 use Rattle.go_board.specs.State.{State, States, starting, oldest_of, is_over}
 use Rattle.go_board.specs.Reason.{must_move, is_occupied}
 
 -- the state with that past
-abbrev pub state_of : List Held → Option Colour → ℕ → ℕ → State
-state_of held player passes turns =
+abbrev pub state_of : PastColourings → Option Colour → ℕ → ℕ → State
+state_of past player passes turns =
     record {
-      colouring = newest_grid held;
-      seen = present_stretch held;
+      colouring = newest_grid past;
+      seen = present_stretch past;
       player = player;
       passes = passes;
       turns = turns;
     }
 
+-- the past of the older colourings, if there are any
+abbrev pub past_of_older : PastColourings → List Held → PastColourings
+past_of_older past [] = past
+past_of_older past (first ∷ others) = record { newest = first; older = others }
+
 -- the past before the call of which this is kept
-abbrev pub held_before_call : List Held → Earlier → List Held
-held_before_call held kept = if kept.grew then drop 1 held else held
+abbrev pub past_before : PastColourings → Earlier → PastColourings
+past_before past kept = if kept.grew then past_of_older past past.older else past
 
 -- the earlier states, newest first
-abbrev pub states_before : List Held → List Earlier → List State
-states_before held [] = []
-states_before held (kept ∷ others) =
-    state_of (held_before_call held kept) kept.player kept.passes kept.turns ∷ states_before (held_before_call held kept) others
+abbrev pub states_before : PastColourings → List Earlier → List State
+states_before past [] = []
+states_before past (kept ∷ others) =
+    state_of (past_before past kept) kept.player kept.passes kept.turns ∷ states_before (past_before past kept) others
 
 -- the present state and the earlier ones; what is kept of these stands oldest first
-abbrev pub states_of : List Held → Option Colour → ℕ → ℕ → List Earlier → States
-states_of held player passes turns earlier =
-    record { present = state_of held player passes turns; earlier = states_before held (reverse earlier) }
+abbrev pub states_of : PastColourings → Option Colour → ℕ → ℕ → List Earlier → States
+states_of past player passes turns earlier =
+    record { present = state_of past player passes turns; earlier = states_before past (reverse earlier) }
 
 -- no reason but that of a repeat can forbid the turn
 abbrev pub MayOnlyRepeat : State → Colour → Play → Type 0
@@ -55,16 +60,13 @@ abbrev pub AreBounded : List Earlier → Type 0
 AreBounded [] = Unit {0}
 AreBounded (kept ∷ others) = (kept.passes ≤ 2) × (kept.turns ≤ length others) × AreBounded others
 
--- what a referee keeps, of its earlier states newest first: past colourings of one side, one more at least than calls that
--- made them grow; a spare board of that side, with the newest colouring where that is known; at most two passes, and
--- at most as many turns as earlier states; the oldest state is the starting one
-pub record IsRefereeKept (held : List Held) (spare : Grid) (SpareIsCurrent : Type 0) (player : Option Colour) (passes turns : ℕ) (earlier : List Earlier) : Type 0 where
-  pub one_side : HaveSide (newest_grid held).side held
-  pub enough : grown earlier < length held
-  pub spare_side : spare.side ≡ (newest_grid held).side
-  pub spare_is_current : SpareIsCurrent → spare ≡ newest_grid held
+-- what a referee keeps, of its earlier states newest first: past colourings of one side, at least as many older ones as calls
+-- that made them grow; at most two passes, and at most as many turns as earlier states; the oldest state is the starting one
+pub record IsRefereeKept (past : PastColourings) (player : Option Colour) (passes turns : ℕ) (earlier : List Earlier) : Type 0 where
+  pub one_side : HaveSide (newest_grid past).side past
+  pub enough : grown earlier ≤ length past.older
   pub few_passes : passes ≤ 2
   pub few_turns : turns ≤ length earlier
   pub bounded : AreBounded earlier
-  pub from_start : oldest_of (state_of held player passes turns) (states_before held earlier)
-      ≡ starting (newest_grid held).side
+  pub from_start : oldest_of (state_of past player passes turns) (states_before past earlier)
+      ≡ starting (newest_grid past).side

@@ -1,5 +1,5 @@
 -- Groups without liberties, grids once points were taken off, and grids on which every stone reaches empty.
-use Rattle.std.specs.Prelude.{◌≡◌, ◌≢◌, ◌⊎◌, Bool, false, ◌||◌, ◌&&◌, not, IsTrue, Option, Some, None, length}
+use Rattle.std.specs.Prelude.{◌≡◌, ◌≢◌, ◌⊎◌, Bool, ◌&&◌, not, IsTrue, length}
 use Rattle.go_board.specs.declared.stones.Cell.TheVariants.{Empty}
 use Rattle.go_board.specs.declared.stones.Colour.{Colour}
 use Rattle.go_board.specs.declared.points.Point.{Point}
@@ -8,7 +8,6 @@ use Rattle.go_board.specs.Point.{IsOn, AreAdjacent}
 use Rattle.go_board.specs.Grid.{Grid, cell_at}
 use Rattle.go_board.specs.Reaching.{Reaches, reaches}
 use Rattle.go_board.specs.Clearing.{clear}
-use Rattle.go_board.specs.inner.Neighbour.{left_of, right_of, above, below}
 
 -- the points that pass the test are stones of one colour, with each stone of that colour beside one of them, and no point
 -- beside them is empty
@@ -28,25 +27,9 @@ AllReach grid colour =
 abbrev pub is_shut : Grid → Colour → Point → Bool
 is_shut grid colour point = same_cell (cell_at grid point) (stone_of colour) && not (reaches grid Empty point)
 
--- whether a neighbour is there and empty
-abbrev pub is_free : Grid → Option Point → Bool
-is_free grid None = false
-is_free grid (Some neighbour) = same_cell (cell_at grid neighbour) Empty
-
--- whether one of the four neighbours of a point is empty
-unfoldable pub has_free_neighbour : Grid → Point → Bool
-has_free_neighbour grid point =
-    (is_free grid (left_of point) || is_free grid (right_of grid.side point))
-    || (is_free grid (above point) || is_free grid (below grid.side point))
-
 -- a stone of the colour on a point reaches empty
 abbrev pub ReachesIfStone : Grid → Colour → Point → Type 0
 ReachesIfStone grid colour point = cell_at grid point ≡ stone_of colour → Reaches grid Empty point
-
--- there is a point with a stone of the colour that reaches empty
-abbrev pub LivesAt : Grid → Colour → Option Point → Type 0
-LivesAt grid colour None = ⊥
-LivesAt grid colour (Some neighbour) = (cell_at grid neighbour ≡ stone_of colour) × Reaches grid Empty neighbour
 
 -- the stones of a colour beside a point reach empty
 abbrev pub ReachBeside : Grid → Colour → Point → Type 0

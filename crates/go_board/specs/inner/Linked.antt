@@ -1,26 +1,19 @@
 -- The group of a stone, as sets of points: the stones of its colour that are linked to it, and the liberties beside them.
-use Rattle.std.specs.Prelude.{◌≡◌, ◌≢◌, ◌⊎◌, ℕ, Bool, false, IsTrue, List, length}
+use Rattle.std.specs.Prelude.{◌≡◌, ◌⊎◌, ℕ, Bool, false, IsTrue, List, length}
 use Rattle.go_board.specs.declared.points.Point.{Point}
-use Rattle.go_board.specs.declared.stones.Colour.{Colour}
-use Rattle.go_board.specs.Colour.{stone_of}
 use Rattle.go_board.specs.Point.{IsOn, AreAdjacent}
-use Rattle.go_board.specs.Grid.{Grid, cell_at}
 use Rattle.go_board.specs.inner.Rows.{is_set, IsAmong, IsClosed, IsRowClosed}
-
--- the point is at that row and that column
-abbrev pub IsAt : ℕ → ℕ → Point → Type 0
-IsAt row col point = (point.row ≡ row) × (point.col ≡ col)
 
 -- a set that has the one point, and with a point each adjacent one that there is room for, has the other point, too
 abbrev pub IsLinked : (Point → Bool) → Point → Point → Type 0
 IsLinked room from point = (set : Point → Bool) → IsClosed room set → IsTrue (set from) → IsTrue (set point)
 
--- a stone is on the point, or it is that certain one
-abbrev pub IsFilled : List ℕ → List ℕ → Point → Point → Type 0
-IsFilled own others besides point = IsTrue (is_set own point) ⊎ (IsTrue (is_set others point) ⊎ (point ≡ besides))
+-- a stone is on the point
+abbrev pub IsFilled : List ℕ → List ℕ → Point → Type 0
+IsFilled own others point = IsTrue (is_set own point) ⊎ IsTrue (is_set others point)
 
--- an empty point, besides a certain one, beside a stone that is linked to the one on a point
-pub record IsLiberty (own others : List ℕ) (besides from point : Point) : Type 0 where
+-- an empty point beside a stone that is linked to the one on a point
+pub record IsLiberty (own others : List ℕ) (from point : Point) : Type 0 where
   pub stone : Point
   pub on_grid : IsOn (length own) point
   pub adjacent : AreAdjacent point stone
@@ -28,7 +21,6 @@ pub record IsLiberty (own others : List ℕ) (besides from point : Point) : Type
   pub linked : IsLinked (is_set own) from stone
   pub not_own : is_set own point ≡ false
   pub not_other : is_set others point ≡ false
-  pub another : point ≢ besides
 
 -- the stones of a group that are in one row
 pub record IsRowGroup (own : List ℕ) (from : Point) (group : List ℕ) : Type 0 where
@@ -39,15 +31,9 @@ pub record IsRowGroup (own : List ℕ) (from : Point) (group : List ℕ) : Type 
   pub closed : IsRowClosed (is_set own) (is_set group) from.row
 
 -- the group of the stone on a point, beside which all points are filled
-pub record IsShutIn (own others : List ℕ) (besides from : Point) (group : List ℕ) : Type 0 where
+pub record IsShutIn (own others : List ℕ) (from : Point) (group : List ℕ) : Type 0 where
   pub within : IsAmong (is_set group) (is_set own)
   pub start : IsTrue (is_set group from)
   pub closed : IsClosed (is_set own) (is_set group)
   pub filled : (point stone : Point) → IsOn (length own) point → AreAdjacent point stone → IsTrue (is_set group stone)
-      → IsFilled own others besides point
-
--- the other grid differs from the one on a point at most, and a stone of the colour there stays
-pub record IsSameBut (grid other : Grid) (colour : Colour) (besides : Point) : Type 0 where
-  pub same_side : other.side ≡ grid.side
-  pub elsewhere : (point : Point) → IsOn grid.side point → point ≢ besides → cell_at other point ≡ cell_at grid point
-  pub own : cell_at grid besides ≡ stone_of colour → cell_at other besides ≡ stone_of colour
+      → IsFilled own others point

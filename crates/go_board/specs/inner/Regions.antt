@@ -1,38 +1,47 @@
 -- Sets of a board's points by what stands on them, as rows of words.
-use Rattle.std.specs.Prelude.{◌≡◌, ◌<◌, ℕ, length, take, Bool, false, not, ◌&&◌, ◌||◌, IsTrue, Option, Some, None, List, count_by}
+use Rattle.std.specs.Prelude.{◌≡◌, ◌==◌, ◌*◌, ◌<◌, ◌≤◌, ℕ, length, take, Bool, not, ◌&&◌, ◌||◌, IsTrue, if◌then◌else◌, List, count_by}
 use Rattle.go_board.specs.declared.stones.Cell.{Cell}
-use Rattle.go_board.specs.declared.stones.Cell.TheVariants.{Black, White}
+use Rattle.go_board.specs.declared.stones.Cell.TheVariants.{Black, White, Empty}
 use Rattle.go_board.specs.declared.size.TheConstants.{MAX_ROWS}
 use Rattle.go_board.specs.declared.board.stone_rows.StoneRows.{StoneRows}
 use Rattle.go_board.specs.declared.points.Point.{Point}
 use Rattle.go_board.specs.Colour.{same_cell}
 use Rattle.go_board.specs.Point.{IsOn, AreAdjacent, points}
-use Rattle.go_board.specs.Grid.{Grid, cell_at}
+use Rattle.go_board.specs.Grid.{Grid, cell_at, grid_of}
 use Rattle.go_board.specs.Reaching.{reaches}
-use Rattle.go_board.specs.inner.Rows.{is_set}
+use Rattle.go_board.specs.inner.Rows.{has_bit, is_set}
 
 -- a cell is one of two
 abbrev pub is_either : Cell → Cell → Cell → Bool
 is_either cell one other = same_cell cell one || same_cell cell other
-
--- there is a cell, and it is that one
-abbrev pub is_there : Option Cell → Cell → Bool
-is_there None wanted = false
-is_there (Some cell) wanted = same_cell cell wanted
 
 -- the rows have exactly the points of the grid that pass a test
 pub record AreRowsOf (side : ℕ) (test : Point → Bool) (rows : List ℕ) : Type 0 where
   pub on : (point : Point) → IsOn side point → is_set rows point ≡ test point
   pub off : (point : Point) → IsTrue (is_set rows point) → IsOn side point
 
--- what is kept of the stones of a board beside its cells: where they are known, the rows are those of its stones
-pub record AreRowsKept (grid : Grid) (rows : StoneRows) : Type 0 where
+-- what stands on a point, by the rows of the stones
+abbrev pub stone_in : StoneRows → Point → Cell
+stone_in rows point =
+    if is_set rows.black point then Black else (if is_set rows.white point then White else Empty)
+
+-- the grid of that side with the stones of some rows
+abbrev pub grid_with : ℕ → StoneRows → Grid
+grid_with side rows = grid_of side (stone_in rows)
+
+-- the rows are those of the grid's stones, and there are enough of them
+pub record AreStones (grid : Grid) (rows : StoneRows) : Type 0 where
+  pub all : length grid.cells ≡ grid.side * grid.side
+  pub few : grid.side ≤ MAX_ROWS
   pub black_rows : length rows.black ≡ MAX_ROWS
   pub white_rows : length rows.white ≡ MAX_ROWS
-  pub black : IsTrue rows.known
-      → AreRowsOf grid.side (λ point. same_cell (cell_at grid point) Black) (take grid.side rows.black)
-  pub white : IsTrue rows.known
-      → AreRowsOf grid.side (λ point. same_cell (cell_at grid point) White) (take grid.side rows.white)
+  pub black : AreRowsOf grid.side (λ point. same_cell (cell_at grid point) Black) (take grid.side rows.black)
+  pub white : AreRowsOf grid.side (λ point. same_cell (cell_at grid point) White) (take grid.side rows.white)
+
+-- the grid with the points of a row in a set of columns coloured anew
+unfoldable pub with_columns : Grid → ℕ → ℕ → Cell → Grid
+with_columns grid row columns cell =
+    grid_of grid.side (λ point. if (point.row == row) && has_bit columns point.col then cell else cell_at grid point)
 
 -- a point of the wanted colour, or one of the own colour that reaches it
 abbrev pub reaches_through_own : Grid → Cell → Cell → Point → Bool

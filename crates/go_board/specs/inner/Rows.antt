@@ -1,5 +1,5 @@
 -- A set of points as a number for each row, with a bit for each column.
-use Rattle.std.specs.Prelude.{◌≡◌, ◌⊎◌, ℕ, zero, suc, ◌-◌, ◌+◌, ◌^◌, ◌<◌, ◌≤◌, Bool, ◌==◌, IsTrue, List, length, slice_index, sum_by}
+use Rattle.std.specs.Prelude.{◌≡◌, ◌⊎◌, ℕ, zero, suc, ◌-◌, ◌^◌, Bool, ◌==◌, IsTrue, List, slice_index, sum_by}
 use Rattle.std.specs.Int.{bit_at}
 use Rattle.go_board.specs.declared.points.Point.{Point}
 use Rattle.go_board.specs.Point.{DifferByOne, AreAdjacent}
@@ -45,21 +45,6 @@ abbrev pub IsTaken : List ℕ → List ℕ → ℕ → ℕ → Type 0
 IsTaken room rows row word =
     (col : ℕ) → IsTrue (has_bit (slice_index room row) col) → IsTrue (has_bit word col)
     → IsTrue (has_bit (slice_index rows row) col)
-
--- each row of the set has with a column each column beside it that there is room for
-abbrev pub AreWide : List ℕ → List ℕ → Type 0
-AreWide room rows =
-    (row : ℕ) → row < length rows → HasBeside (has_bit (slice_index room row)) (has_bit (slice_index rows row))
-
--- each of the first `count` rows has the columns of the row above it that there is room for
-abbrev pub TakeAbove : List ℕ → List ℕ → ℕ → Type 0
-TakeAbove room rows count =
-    (row : ℕ) → row < count → IsTaken room rows row (row_above rows row)
-
--- each row from the one on has the columns of the row below it that there is room for
-abbrev pub TakeBelow : List ℕ → List ℕ → ℕ → Type 0
-TakeBelow room rows start =
-    (row : ℕ) → start ≤ row → row < length rows → IsTaken room rows row (slice_index rows (row + 1))
 
 -- a column is in one of two rows, or beside one of the row between them
 abbrev pub IsInOrBeside : ℕ → ℕ → ℕ → ℕ → Type 0

@@ -1,7 +1,16 @@
-//! Colouring areas of a board.
+//! Colouring areas of a board, and emptying sets of its points.
+
+ghost use Rattle.std.specs.Prelude.{◌≡◌, ◌<◌, ◌≤◌, ℕ, ◌&&◌, IsTrue, length, nat_le};
+ghost use Rattle.go_board.specs.declared.points.Point.{Point};
+ghost use Rattle.go_board.specs.Point.{IsOn};
+ghost use Rattle.go_board.specs.inner.Groups.{IsWithout};
+ghost use Rattle.go_board.specs.inner.Rows.{has_bit, is_set};
 
 use crate::board::Board;
+use crate::board::stone_rows::has_column;
+use crate::points::Point;
 use crate::referee::SetupOp;
+use crate::stones::Cell;
 
 impl Board {
     ghost use Rattle.std.specs.Prelude.{◌≡◌, All, fold};
@@ -19,13 +28,12 @@ impl Board {
         }
     }
 
-    /// Colours the points of an area. A point alone is set, so that what is kept beside the cells stays known.
+    /// Colours the points of an area. A point alone is set, so that the print stays known.
     fn colour_area(&mut self, op: SetupOp)
         requires { IsRectOn self.old.side op.area }
         ensures { self.new ≡ with_area self.old op }
     {
-        // a field is read, so that the proof can use the invariant: every point has a cell
-        let _ = &self.size;
+        self.has_all_cells();
         if op.area.is_point() {
             self.set(op.area.first, op.cell);
         } else {
@@ -38,15 +46,47 @@ impl Board {
         requires { IsRectOn self.old.side op.area }
         ensures { self.new ≡ with_area self.old op }
     {
-        let side = usize::from(self.size.side());
-        let first = usize::from(op.area.first.col);
-        let last = usize::from(op.area.last.col);
-        for row in usize::from(op.area.first.row)..usize::from(op.area.last.row) + 1 {
-            let start = row * side;
-            self.cells[start + first..start + last + 1].fill(op.cell);
+        self.has_all_cells();
+        let columns = columns_between(op.area.first.col, op.area.last.col);
+        'rows: for row in op.area.first.row..op.area.last.row + 1 {
+            self.colour_columns(row, columns, op.cell);
         }
-        self.settled = false;
-        self.printed = false;
-        self.rows.known = false;
     }
+
+    /// Empties the points of a set. The print stays known.
+    pub(crate) fn empty_set(&mut self, rows: &[u64])
+        requires all { length rows.now ≡ self.old.side }
+        requires on_board { (p : Point) → IsTrue (is_set rows.now p) → IsOn self.old.side p }
+        ensures { IsWithout self.old self.new (λ p. IsTrue (is_set rows.now p)) }
+    {
+        self.has_all_cells();
+        'rows: for row in 0..self.size().side() {
+            self.empty_columns(row, rows[usize::from(row)]);
+        }
+    }
+
+    /// Empties columns of a row, one after another.
+    fn empty_columns(&mut self, row: u8, columns: u64)
+        requires { row < self.old.side }
+        ensures { IsWithout self.old self.new (λ p. (p.row ≡ row) × IsTrue (has_bit columns p.col)) }
+    {
+        self.has_all_cells();
+        if columns == 0 {
+            return;
+        }
+        'each: for col in 0..self.size().side() {
+            if has_column(columns, usize::from(col)) {
+                self.set(Point { col, row }, Cell::Empty);
+            }
+        }
+    }
+}
+
+/// The columns from one to another, both of them included.
+fn columns_between(first: u8, last: u8) -> u64
+    requires ordered { first ≤ last }
+    requires few { last < 63 }
+    ensures { (col : ℕ) → has_bit result col ≡ (nat_le first col && nat_le col last) }
+{
+    (1 << last + 1) - (1 << first)
 }

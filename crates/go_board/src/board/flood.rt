@@ -12,7 +12,7 @@ ghost use Rattle.go_board.specs.inner.Flood.{reaches_through, with_neighbour, wi
 use crate::board::Board;
 use crate::board::search::Search;
 use crate::marks::Marks;
-use crate::points::{FIRST, Point};
+use crate::points::Point;
 use crate::size::{MAX_POINTS, SMALL_POINTS, USUAL_POINTS};
 use crate::steps::Steps;
 use crate::stones::Cell;
@@ -64,12 +64,11 @@ impl Board {
         ensures { result ≡ with_colour self.now target }
     {
         let mut search = Search::<N>::new(self.size());
-        let mut point = FIRST;
-        for cell in self.cells() {
-            if *cell == target {
+        for index in 0..self.size().points() {
+            let point = Point::of_index(index, self.size());
+            if self.at(point) == target {
                 search.offer(point);
             }
-            point = point.following(self.size());
         }
         search
     }

@@ -2,18 +2,45 @@
 
 ghost use Rattle.std.specs.Prelude.{◌≡◌, ◌⊎◌, false, ℕ, ◌<◌, ◌≤◌, IsTrue, List, length};
 ghost use Rattle.go_board.specs.declared.points.Point.{Point};
+ghost use Rattle.go_board.specs.declared.stones.Cell.TheVariants.{Empty};
 ghost use Rattle.go_board.specs.declared.stones.Colour.{Colour};
 ghost use Rattle.go_board.specs.Colour.{opponent, same_cell, stone_of};
 ghost use Rattle.go_board.specs.Point.{IsOn, DifferByOne};
 ghost use Rattle.go_board.specs.Grid.{Grid, cell_at, with_cell};
+ghost use Rattle.go_board.specs.Clearing.{play};
 ghost use Rattle.go_board.specs.inner.Glance.{IsRowAt};
 ghost use Rattle.go_board.specs.inner.Groups.{AllLive};
 ghost use Rattle.go_board.specs.inner.Regions.{AreRowsOf};
 ghost use Rattle.go_board.specs.inner.Rows.{has_bit, IsInOrBeside};
 
+use crate::board::Board;
 use crate::board::regions::{other_columns, with_column};
 use crate::board::stone_rows::without_column;
 use crate::points::Point;
+use crate::stones::Colour;
+
+impl Board {
+    /// Whether a glance tells that a stone on an empty point captures nothing, and isn't captured itself: then the stone is all
+    /// that its move changes. It tells of most such stones, and not of all.
+    pub(crate) fn captures_nothing_at_a_glance(&self, colour: Colour, point: Point) -> bool
+        requires on_board { IsOn self.now.side point }
+        requires empty { cell_at self.now point ≡ Empty }
+        ensures { IsTrue result → play self.now colour point ≡ with_cell self.now point (stone_of colour) }
+    {
+        // a field is read, so that the proof can use the invariant: every point has a cell
+        let _ = &self.size;
+        self.is_settled() && self.all_live_at_a_glance(colour, point)
+    }
+
+    /// Whether a glance at the rows of the stones tells that a stone on a point leaves each group beside it a liberty, and has one.
+    fn all_live_at_a_glance(&self, colour: Colour, point: Point) -> bool
+        requires { IsOn self.now.side point }
+        ensures { IsTrue result → AllLive (with_cell self.now point (stone_of colour)) colour point }
+    {
+        self.has_all_cells();
+        leaves_all_alive(self.rows_of(colour), self.rows_of(colour.opponent()), point)
+    }
+}
 
 /// The columns of a row with a stone of the player, with one of the opponent, and with none. A row outside of the board has
 /// none of either.
@@ -34,7 +61,7 @@ struct Look {
 
 /// Whether a glance at the rows around a point tells that a stone of the player there has a liberty, by itself or by a stone
 /// beside it, and leaves each stone of the opponent beside it one of its own.
-pub(crate) fn leaves_all_alive(own: &[u64], others: &[u64], point: Point) -> bool
+fn leaves_all_alive(own: &[u64], others: &[u64], point: Point) -> bool
     requires same { length others.now ≡ length own.now }
     requires few { length own.now < 64 }
     requires on_board { IsOn (length own.now) point }

@@ -1,27 +1,24 @@
 //! Sets of a board's points by what stands on them, as rows of words, and what reaches what by filling these.
 
-ghost use Rattle.std.specs.Prelude.{◌≡◌, ◌≢◌, ◌↔◌, false, ℕ, ◌*◌, ◌<◌, ◌≤◌, ◌||◌, IsTrue, not, length, replicate, slice_get};
+ghost use Rattle.std.specs.Prelude.{◌≡◌, ◌≢◌, ◌↔◌, false, ℕ, ◌<◌, ◌≤◌, ◌||◌, IsTrue, not, length, replicate};
 ghost use Rattle.go_board.specs.declared.points.Point.{Point};
 ghost use Rattle.go_board.specs.declared.stones.Cell.TheVariants.{Black, White, Empty};
 ghost use Rattle.go_board.specs.Point.{IsOn};
-ghost use Rattle.go_board.specs.Colour.{opponent, same_cell, stone_of};
+ghost use Rattle.go_board.specs.Colour.{same_cell, stone_of};
 ghost use Rattle.go_board.specs.Grid.{cell_at};
 ghost use Rattle.go_board.specs.inner.Groups.{AllReach, is_shut};
 ghost use Rattle.go_board.specs.inner.Rows.{has_bit, is_set};
-ghost use Rattle.go_board.specs.inner.Regions.{is_there, AreRowsOf, IsDifference, AreBeside, reaches_through_own, count_apart};
+ghost use Rattle.go_board.specs.inner.Regions.{AreRowsOf, IsDifference, AreBeside, reaches_through_own, count_apart};
 
 use crate::board::Board;
-use crate::board::fill::{fill, fill_both, row_above, row_below};
+use crate::board::fill::{fill, row_above, row_below};
 use crate::board::group::columns_beside;
-use crate::size::{MAX_ROWS, Size};
-use crate::stones::{Cell, Colour};
+use crate::size::MAX_ROWS;
+use crate::stones::Colour;
 
 impl Board {
     /// The black points with the empty ones that reach black, and the white points with the empty ones that reach white.
-    /// `N` rows are enough for the board, here and below: few are made ready for a small one.
-    pub(crate) fn areas<const N: usize>(&self, black: &mut [u64], white: &mut [u64])
-        requires enough { self.now.side ≤ N }
-        requires at_most { N ≤ MAX_ROWS }
+    pub(crate) fn areas(&self, black: &mut [u64], white: &mut [u64])
         requires black { length black.old ≡ self.now.side }
         requires white { length white.old ≡ self.now.side }
         ensures black { AreRowsOf self.now.side (reaches_through_own self.now Empty Black) black.new }
@@ -29,112 +26,73 @@ impl Board {
         ensures black_rows { length black.new ≡ self.now.side }
         ensures white_rows { length white.new ≡ self.now.side }
     {
-        let (mut black_words, mut white_words) = (no_rows::<N>(), no_rows::<N>());
-        let size = self.size();
-        let side = usize::from(size.side());
+        let (mut black_words, mut white_words) = (no_rows(), no_rows());
+        let side = usize::from(self.size().side());
         let black_room = &mut black_words[..side];
         let white_room = &mut white_words[..side];
-        self.stones(black, white);
+        self.write_rows_of(Colour::Black, black);
+        self.write_rows_of(Colour::White, white);
         other_points(white, black_room);
         other_points(black, white_room);
-        fill_both(black, black_room, white, white_room);
+        fill(black, black_room);
+        fill(white, white_room);
     }
 
-    /// The black points and the white ones.
-    pub(crate) fn stones(&self, black: &mut [u64], white: &mut [u64])
-        requires black { length black.old ≡ self.now.side }
-        requires white { length white.old ≡ self.now.side }
-        ensures black { AreRowsOf self.now.side (λ p. same_cell (cell_at self.now p) Black) black.new }
-        ensures white { AreRowsOf self.now.side (λ p. same_cell (cell_at self.now p) White) white.new }
-        ensures black_rows { length black.new ≡ self.now.side }
-        ensures white_rows { length white.new ≡ self.now.side }
+    /// The points with a stone of a colour.
+    pub(crate) fn rows_of(&self, colour: Colour) -> &[u64]
+        ensures are { AreRowsOf self.now.side (λ p. same_cell (cell_at self.now p) (stone_of colour)) result.now }
+        ensures rows { length result.now ≡ self.now.side }
     {
-        if self.rows.known {
-            self.rows.write(black, white);
-        } else {
-            rows_of(self.cells(), self.size(), black, white);
+        let side = usize::from(self.size.side());
+        match colour {
+            Colour::Black => &self.rows.black[..side],
+            Colour::White => &self.rows.white[..side],
         }
     }
 
-    /// Whether all stones of a colour reach empty, from the points of that colour and those of the other.
-    pub(crate) fn all_reach<const N: usize>(
-        &self,
-        colour: Colour,
-        rows: &[u64],
-        others: &[u64],
-    ) -> bool
-        requires enough { self.now.side ≤ N }
-        requires at_most { N ≤ MAX_ROWS }
-        requires own { AreRowsOf self.now.side (λ p. same_cell (cell_at self.now p) (stone_of colour)) rows.now }
-        requires other { AreRowsOf self.now.side
-            (λ p. same_cell (cell_at self.now p) (stone_of (opponent colour))) others.now }
-        requires own_rows { length rows.now ≡ self.now.side }
-        requires other_rows { length others.now ≡ self.now.side }
+    /// Writes the points with a stone of a colour.
+    fn write_rows_of(&self, colour: Colour, rows: &mut [u64])
+        requires { length rows.old ≡ self.now.side }
+        ensures are { AreRowsOf self.now.side (λ p. same_cell (cell_at self.now p) (stone_of colour)) rows.new }
+        ensures rows { length rows.new ≡ self.now.side }
+    {
+        rows.copy_from_slice(self.rows_of(colour));
+    }
+
+    /// Whether all stones of a colour reach empty.
+    pub(crate) fn all_reach(&self, colour: Colour) -> bool
         ensures { IsTrue result ↔ AllReach self.now colour }
     {
-        let mut shut_words = no_rows::<N>();
-        let side = usize::from(self.size().side());
-        let shut = &mut shut_words[..side];
-        self.shut_among::<N>(colour, rows, others, shut);
+        let mut words = no_rows();
+        let shut = &mut words[..usize::from(self.size().side())];
+        self.shut_stones(colour, shut);
         is_none(shut)
     }
 
     /// The stones of a colour that don't reach empty.
-    pub(crate) fn shut_stones<const N: usize>(&self, colour: Colour, shut: &mut [u64])
-        requires enough { self.now.side ≤ N }
-        requires at_most { N ≤ MAX_ROWS }
-        requires rows { length shut.old ≡ self.now.side }
+    pub(crate) fn shut_stones(&self, colour: Colour, shut: &mut [u64])
+        requires { length shut.old ≡ self.now.side }
         ensures shut { AreRowsOf self.now.side (is_shut self.now colour) shut.new }
         ensures rows { length shut.new ≡ self.now.side }
     {
-        let (mut black_words, mut white_words) = (no_rows::<N>(), no_rows::<N>());
-        let side = usize::from(self.size().side());
-        let black = &mut black_words[..side];
-        let white = &mut white_words[..side];
-        self.stones(black, white);
-        match colour {
-            Colour::Black => self.shut_among::<N>(colour, black, white, shut),
-            Colour::White => self.shut_among::<N>(colour, white, black, shut),
-        }
-    }
-
-    /// The stones of a colour that don't reach empty, from the points of that colour and those of the other.
-    fn shut_among<const N: usize>(
-        &self,
-        colour: Colour,
-        rows: &[u64],
-        others: &[u64],
-        shut: &mut [u64],
-    )
-        requires enough { self.now.side ≤ N }
-        requires at_most { N ≤ MAX_ROWS }
-        requires own { AreRowsOf self.now.side (λ p. same_cell (cell_at self.now p) (stone_of colour)) rows.now }
-        requires other { AreRowsOf self.now.side
-            (λ p. same_cell (cell_at self.now p) (stone_of (opponent colour))) others.now }
-        requires own_rows { length rows.now ≡ self.now.side }
-        requires other_rows { length others.now ≡ self.now.side }
-        requires shut_rows { length shut.old ≡ self.now.side }
-        ensures shut { AreRowsOf self.now.side (is_shut self.now colour) shut.new }
-        ensures rows { length shut.new ≡ self.now.side }
-    {
-        // the contract alone needs the colour
-        let _ = colour;
-        let (mut room_words, mut empty_words) = (no_rows::<N>(), no_rows::<N>());
-        let mut reached_words = no_rows::<N>();
+        let own = self.rows_of(colour);
+        let others = self.rows_of(colour.opponent());
+        let (mut room_words, mut empty_words) = (no_rows(), no_rows());
+        let mut reached_words = no_rows();
         let side = usize::from(self.size().side());
         let room = &mut room_words[..side];
         let empty = &mut empty_words[..side];
         let reached = &mut reached_words[..side];
         other_points(others, room);
-        difference(room, rows, empty);
-        points_beside(rows, empty, reached);
+        difference(room, own, empty);
+        points_beside(own, empty, reached);
         // mostly each stone has an empty point beside it: then nothing is filled
-        difference(rows, reached, shut);
+        difference(own, reached, shut);
         if is_none(shut) {
             return;
         }
-        fill(reached, rows);
-        difference(rows, reached, shut);
+        fill(reached, own);
+        difference(own, reached, shut);
     }
 }
 
@@ -152,12 +110,11 @@ pub(crate) fn count_apart(rows: &[u64], others: &[u64]) -> u32
     count
 }
 
-/// So many rows, with no bit set.
-pub(crate) fn no_rows<const N: usize>() -> [u64; N]
-    requires { N ≤ MAX_ROWS }
-    ensures { result ≡ replicate N 0 }
+/// Rows with no bit set, enough for every board.
+pub(crate) fn no_rows() -> [u64; MAX_ROWS]
+    ensures { result ≡ replicate MAX_ROWS 0 }
 {
-    [0; N]
+    [0; MAX_ROWS]
 }
 
 /// The points of a board that aren't in a set.
@@ -179,40 +136,6 @@ pub(crate) fn other_columns(word: u64, side: usize) -> u64
     ensures off { (col : ℕ) → IsTrue (has_bit result col) → col < side }
 {
     ((1 << side) - 1) & !word
-}
-
-/// The points of a board with a black stone, and those with a white one.
-pub(crate) fn rows_of(cells: &[Cell], size: Size, black: &mut [u64], white: &mut [u64])
-    requires cells { length cells.now ≡ size * size }
-    requires black { length black.old ≡ size }
-    requires white { length white.old ≡ size }
-    ensures black { AreRowsOf size
-        (λ p. same_cell (cell_at (record { side = size; cells = cells.now }) p) Black) black.new }
-    ensures white { AreRowsOf size
-        (λ p. same_cell (cell_at (record { side = size; cells = cells.now }) p) White) white.new }
-{
-    let side = usize::from(size.side());
-    for row in 0..side {
-        let start = row * side;
-        let (black_row, white_row) = row_of(&cells[start..start + side]);
-        black[row] = black_row;
-        white[row] = white_row;
-    }
-}
-
-/// The columns of a row with a black stone, and those with a white one.
-pub(crate) fn row_of(cells: &[Cell]) -> (u64, u64)
-    requires { length cells.now ≤ 64 }
-    ensures black { (col : ℕ) → has_bit result.0 col ≡ is_there (slice_get cells.now col) Black }
-    ensures white { (col : ℕ) → has_bit result.1 col ≡ is_there (slice_get cells.now col) White }
-{
-    let mut black = 0;
-    let mut white = 0;
-    for (col, cell) in cells.iter().enumerate() {
-        black = with_column(black, col, *cell == Cell::Black);
-        white = with_column(white, col, *cell == Cell::White);
-    }
-    (black, white)
 }
 
 /// The word with the bit of a column set, if it is to be.

@@ -1,35 +1,36 @@
-//! Past colourings: the newest whole, and of each older one the changes that lead back to it.
+//! Past colourings, of which the newest is kept whole, and of each older one the changes that lead back to it.
 
-ghost use Rattle.std.specs.Prelude.{◌≡◌, ◌+◌, ◌-◌, ◌*◌, ◌<◌, ◌≤◌, ◌++◌, IsTrue, IsFalse, length, take, drop, reverse, slice_index_or, IfOk, OnOk, OnErr};
-ghost use Rattle.go_board.specs.declared.stones.Cell.TheVariants.{Black};
-ghost use Rattle.go_board.specs.Point.{IsOn, index_of};
-ghost use Rattle.go_board.specs.Grid.{cell_at, with_cell};
-ghost use Rattle.go_board.specs.inner.Changes.{after_changes, with_change, AreOn, IsChangeOn, AreAllOf, LeadsBack};
+ghost use Rattle.std.specs.Prelude.{◌≡◌, ◌<◌, ◌&&◌, ◌==◌, ℕ, IsTrue, OnOk, OnErr, if◌then◌else◌, length, take};
+ghost use Rattle.go_board.specs.Grid.{cell_at};
+ghost use Rattle.go_board.specs.inner.Changes.{after_changes, with_change, AreOn, IsChangeOn, MakeMore, differ, is_full, is_put_back};
+ghost use Rattle.go_board.specs.inner.Rows.{has_bit};
 
 use crate::board::Board;
+use crate::board::regions::other_columns;
 use crate::fault::MemoryFault;
-use crate::past::differences::next_difference;
-use crate::points::Point;
-use crate::size::Size;
-use crate::stones::Cell;
+use crate::stones::{Cell, Colour};
 use std::alloc::AllocError;
 
-/// A point and some points after it, row by row from the top, from left to right, and what stood on each of them before.
+/// Every such step keeps all points of the colouring before it, so that an older colouring is worked out from the next of
+/// these steps.
+pub(crate) const FULL: usize = 256;
+
+/// Points of a row, and what stood on each of them before.
 #[derive(Clone, Copy)]
 pub(crate) struct Change {
-    pub point: Point,
+    /// A bit for each column.
+    pub columns: u64,
+    pub row: u8,
     pub cell: Cell,
-    /// How many points there are after the first.
-    pub more: u8,
 }
 
 /// What is kept of an older colouring, besides its changes.
 #[derive(Clone, Copy)]
 pub(crate) struct Older {
+    /// How many changes there were before those that lead back to it from the colouring after it.
+    pub start: usize,
     /// How many older colourings its stretch has: none, where it begins one.
     pub older_in_stretch: u32,
-    /// How many changes lead back to it from the colouring after it.
-    pub changes: u16,
     /// Whether it is known that every stone reaches empty.
     pub settled: bool,
 }
@@ -40,130 +41,119 @@ pub(crate) fn take_back(board: &mut Board, changes: &[Change])
     ensures { board.new ≡ after_changes board.old changes.now }
 {
     for change in changes {
-        colour(board, change);
+        board.colour_columns(change.row, change.columns, change.cell);
     }
 }
 
-/// Colours the points of a change as they were before it.
-fn colour(board: &mut Board, change: &Change)
-    requires { IsChangeOn board.old.side change.now }
-    ensures { board.new ≡ with_change board.old change.now }
-{
-    let size = board.size();
-    let mut point = change.point;
-    board.set_unprinted(point, change.cell);
-    for after in 0..change.more {
-        point = point.following(size);
-        board.set_unprinted(point, change.cell);
-    }
-}
-
-/// Turns the changes from a start on round: those that were made one after another on a board lead back from the last to the
-/// first. A point that was coloured twice gets back last what stood there first.
-pub(crate) fn turn_round(changes: &mut Vec<Change>, start: usize)
-    requires { start ≤ length changes.old.items }
-    ensures { changes.new.items ≡ take start changes.old.items ++ reverse (drop start changes.old.items) }
-{
-    changes[start..].reverse();
-}
-
-/// Gives a board the colouring of another one, and adds changes that lead back; tells how many.
-pub(crate) fn follow(
-    board: &mut Board,
+/// Adds changes that lead back from the new board to the old one, or from any board to it, if all points are to be kept.
+pub(crate) fn lead_back(
+    old: &Board,
     new: &Board,
+    all: bool,
     changes: &mut Vec<Change>,
-) -> Result<u16, MemoryFault>
-    requires side { board.old.side ≡ new.now.side }
-    requires on_grid { AreOn board.old.side changes.old.items }
-    ensures there { OnOk result (board.new ≡ new.now) }
-    ensures count { IfOk result (λ count. count ≤ length changes.new.items) }
-    ensures back { IfOk result (λ count.
-        after_changes new.now (drop (length changes.new.items - count) changes.new.items) ≡ board.old) }
-    ensures front { IfOk result (λ count.
-        take (length changes.new.items - count) changes.new.items ≡ changes.old.items) }
-    ensures on_grid { OnOk result (AreOn board.old.side changes.new.items) }
-    ensures err { OnErr result (board.new ≡ board.old) }
-    ensures err_changes { OnErr result (changes.new.items ≡ changes.old.items) }
-{
-    let count = lead_back(board, new, changes)?;
-    board.copy_from(new);
-    Ok(count)
-}
-
-/// Adds changes that lead back from the new board to the old one, and tells how many.
-fn lead_back(old: &Board, new: &Board, changes: &mut Vec<Change>) -> Result<u16, MemoryFault>
-    requires side { old.now.side ≡ new.now.side }
-    requires on_grid { AreOn old.now.side changes.old.items }
-    ensures count { IfOk result (λ count. count ≤ length changes.new.items) }
-    ensures back { IfOk result (λ count.
-        after_changes new.now (drop (length changes.new.items - count) changes.new.items) ≡ old.now) }
-    ensures front { IfOk result (λ count.
-        take (length changes.new.items - count) changes.new.items ≡ changes.old.items) }
-    ensures on_grid { OnOk result (AreOn old.now.side changes.new.items) }
+) -> Result<(), MemoryFault>
+    requires { old.now.side ≡ new.now.side }
+    ensures ok { OnOk result (MakeMore old.now.side
+        (λ point cell. if is_put_back all old.now new.now point then cell_at old.now point else cell)
+        changes.old.items changes.new.items) }
     ensures err { OnErr result (changes.new.items ≡ changes.old.items) }
 {
     let start = changes.len();
-    if add_changes(old.size(), old.cells(), new.cells(), start, changes).is_err() {
+    if add_rows(old, new, all, changes).is_err() {
         changes.truncate(start);
         return Err(MemoryFault);
-    }
-    Ok((changes.len() - start) as u16)
-}
-
-/// Adds the changes that lead back from the new cells to the old ones.
-fn add_changes(
-    size: Size,
-    old: &[Cell],
-    new: &[Cell],
-    start: usize,
-    changes: &mut Vec<Change>,
-) -> Result<(), AllocError>
-    requires old { length old.now ≡ size * size }
-    requires new { length new.now ≡ size * size }
-    requires start { start ≡ length changes.old.items }
-    requires on_grid { AreOn size changes.old.items }
-    ensures ok { OnOk result (LeadsBack size old.now new.now start (size * size) changes.new.items) }
-    ensures front { take start changes.new.items ≡ changes.old.items }
-{
-    let mut index = next_difference(old, new, 0);
-    while index < old.len() {
-        let more = run_after(old, new, index);
-        changes.push(Change {
-            point: point_at(size, index),
-            cell: old[index],
-            more,
-        })?;
-        index = next_difference(old, new, index + usize::from(more) + 1);
     }
     Ok(())
 }
 
-/// How many points after one have the same old cell, and another new one; 255 at most.
-fn run_after(old: &[Cell], new: &[Cell], index: usize) -> u8
-    requires lengths { length new.now ≡ length old.now }
-    requires within { index < length old.now }
-    ensures within { index + result < length old.now }
-    ensures same { AreAllOf (slice_index_or old.now index Black) old.now index (result + 1) }
+/// The same, but that some changes may have been added where memory was refused.
+fn add_rows(
+    old: &Board,
+    new: &Board,
+    all: bool,
+    changes: &mut Vec<Change>,
+) -> Result<(), AllocError>
+    requires { old.now.side ≡ new.now.side }
+    ensures ok { OnOk result (MakeMore old.now.side
+        (λ point cell. if is_put_back all old.now new.now point then cell_at old.now point else cell)
+        changes.old.items changes.new.items) }
+    ensures front { take (length changes.old.items) changes.new.items ≡ changes.old.items }
 {
-    let cell = old[index];
-    let mut more: u8 = 0;
-    let mut next = index + 1;
-    while more < u8::MAX && next < old.len() && old[next] == cell && new[next] != cell {
-        more += 1;
-        next += 1;
+    for row in 0..old.size().side() {
+        let columns = columns_put_back(old, new, all, row);
+        add_row(old, row, columns, changes)?;
     }
-    more
+    Ok(())
 }
 
-/// The point of an index.
-fn point_at(size: Size, index: usize) -> Point
-    requires { index < size * size }
-    ensures on { IsOn size result }
-    ensures value { index_of size result ≡ index }
+/// Whether the step after so many others is to keep all points of the colouring before it.
+pub(crate) fn is_full(count: usize) -> bool
+    ensures { result ≡ is_full count }
 {
-    let side = usize::from(size.side());
-    Point {
-        col: (index % side) as u8,
-        row: (index / side) as u8,
+    count % FULL == FULL - 1
+}
+
+/// The columns of a row in which points are to be put back.
+fn columns_put_back(old: &Board, new: &Board, all: bool, row: u8) -> u64
+    requires side { old.now.side ≡ new.now.side }
+    requires row { row < old.now.side }
+    ensures within { (col : ℕ) → col < old.now.side
+        → has_bit result col ≡ is_put_back all old.now new.now (record { col = col; row = row }) }
+    ensures off { (col : ℕ) → IsTrue (has_bit result col) → col < old.now.side }
+{
+    old.has_all_cells();
+    if all {
+        return other_columns(0, usize::from(old.size().side()));
     }
+    let black = apart(
+        old.columns_of(row, Colour::Black),
+        new.columns_of(row, Colour::Black),
+    );
+    let white = apart(
+        old.columns_of(row, Colour::White),
+        new.columns_of(row, Colour::White),
+    );
+    black | white
+}
+
+/// The bits that one of two words has, and not the other.
+fn apart(word: u64, other: u64) -> u64
+    ensures { (col : ℕ) → has_bit result col ≡ differ (has_bit word col) (has_bit other col) }
+{
+    word ^ other
+}
+
+/// Adds changes that put the points of some columns of a row back.
+fn add_row(old: &Board, row: u8, columns: u64, changes: &mut Vec<Change>) -> Result<(), AllocError>
+    requires row { row < old.now.side }
+    requires columns { (col : ℕ) → IsTrue (has_bit columns col) → col < old.now.side }
+    ensures ok { OnOk result (MakeMore old.now.side
+        (λ point cell. if (point.row == row) && has_bit columns point.col then cell_at old.now point else cell)
+        changes.old.items changes.new.items) }
+    ensures front { take (length changes.old.items) changes.new.items ≡ changes.old.items }
+{
+    old.has_all_cells();
+    let black = old.columns_of(row, Colour::Black);
+    let white = old.columns_of(row, Colour::White);
+    add_columns(row, columns & black, Cell::Black, changes)?;
+    add_columns(row, columns & white, Cell::White, changes)?;
+    add_columns(row, columns & !black & !white, Cell::Empty, changes)
+}
+
+/// Adds a change, if it is of any points.
+fn add_columns(
+    row: u8,
+    columns: u64,
+    cell: Cell,
+    changes: &mut Vec<Change>,
+) -> Result<(), AllocError>
+    ensures ok { (side : ℕ) → IsChangeOn side (record { columns = columns; row = row; cell = cell })
+        → OnOk result (MakeMore side (λ point old. if (point.row == row) && has_bit columns point.col then cell else old)
+        changes.old.items changes.new.items) }
+    ensures front { take (length changes.old.items) changes.new.items ≡ changes.old.items }
+{
+    if columns != 0 {
+        changes.push(Change { columns, row, cell })?;
+    }
+    Ok(())
 }

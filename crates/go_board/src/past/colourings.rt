@@ -1,24 +1,20 @@
 //! Past colourings, of which the newest is kept whole, and of each older one the changes that lead back to it.
 
-ghost use Rattle.std.specs.Prelude.{◌≡◌, ◌+◌, ◌-◌, ◌*◌, ◌<◌, ◌≤◌, ◌↔◌, [], ◌∷◌, Some, true, false, All, fold, IsTrue, IsFalse, IfOk, OnOk, OnErr, if◌then◌else◌, length, map, take, drop};
+ghost use Rattle.std.specs.Prelude.{◌≡◌, ◌+◌, ◌-◌, ◌*◌, ◌<◌, ◌≤◌, ◌↔◌, ◌∷◌, Some, false, IsTrue, IfOk, OnOk, OnErr, if◌then◌else◌, length, map, take, drop};
 ghost use Rattle.go_board.specs.declared.stones.Cell.TheVariants.{Empty};
 ghost use Rattle.go_board.specs.Colour.{stone_of};
-ghost use Rattle.go_board.specs.Point.{IsOn, IsRectOn};
-ghost use Rattle.go_board.specs.Grid.{Grid, cell_at, with_cell, empty_grid};
+ghost use Rattle.go_board.specs.Point.{IsOn};
+ghost use Rattle.go_board.specs.Grid.{Grid, cell_at, with_cell};
 ghost use Rattle.go_board.specs.Clearing.{play};
-ghost use Rattle.go_board.specs.State.{with_area};
-ghost use Rattle.go_board.specs.Past.{Held, newest, newest_grid, present_stretch, HaveSide};
+ghost use Rattle.go_board.specs.Past.{Held, all_of, newest_grid, only, with_next, present_stretch};
+ghost use Rattle.go_board.specs.inner.Changes.{first_grid, is_full, IsEndOf, IsNumber};
 ghost use Rattle.go_board.specs.inner.Print.{print_of};
 
-use crate::board::{Board, nothing};
+use crate::board::Board;
+use crate::board::regions::with_column;
 use crate::fault::MemoryFault;
-use crate::past::captures::place_on;
-use crate::past::cells::take_cells_back;
-use crate::past::changes::{Change, Older, follow, take_back};
-use crate::past::setups::{are_few_points, set_points};
+use crate::past::changes::{Change, FULL, Older, is_full, lead_back, take_back};
 use crate::points::Point;
-use crate::referee::SetupOp;
-use crate::size::{MAX_POINTS, Size, USUAL_POINTS};
 use crate::stones::{Cell, Colour};
 use std::alloc::Global;
 use std::marker::Model;
@@ -39,15 +35,17 @@ pub(crate) struct Colourings {
 }
 
 impl Model for Colourings {
-    ghost use Rattle.std.specs.Prelude.{◌==◌, ◌∷◌, List, reverse};
-    ghost use Rattle.go_board.specs.Past.{Held};
+    ghost use Rattle.std.specs.Prelude.{◌==◌, reverse};
+    ghost use Rattle.go_board.specs.Past.{PastColourings};
 
-    ghost Value = { List Held };
+    ghost Value = { PastColourings };
 
     ghost use Rattle.go_board.specs.inner.Changes.{held_before, IsPast};
 
-    ghost view = { λ p. record { colouring = p.newest; begins = p.older_in_stretch == 0 }
-        ∷ held_before p.newest (reverse p.older.items) p.changes.items };
+    ghost view = { λ p. record {
+      newest = record { colouring = p.newest; begins = p.older_in_stretch == 0 };
+      older = held_before p.newest (reverse p.older.items) p.changes.items;
+    } };
 
     ghost invariant = { λ p. IsPast p.newest p.older_in_stretch p.older.items p.changes.items };
 }
@@ -55,7 +53,7 @@ impl Model for Colourings {
 impl Colourings {
     /// That one colouring, which begins a stretch.
     pub(crate) fn new(alloc: Global, board: &Board) -> Result<Colourings, MemoryFault>
-        ensures { IfOk result (λ past. past ≡ record { colouring = board.now; begins = true } ∷ []) }
+        ensures { IfOk result (λ past. past ≡ only board.now) }
     {
         Ok(Colourings {
             newest: board.copy(),
@@ -67,60 +65,41 @@ impl Colourings {
 
     /// The newest colouring.
     pub(crate) fn newest(&self) -> &Board
-        ensures { newest self.now ≡ Some result.now }
+        ensures { result.now ≡ newest_grid self.now }
     {
         &self.newest
     }
 
     /// The number of the first colouring of the present stretch.
     pub(crate) fn stretch_start(&self) -> usize
-        ensures below { result < length self.now }
+        ensures below { result < length (all_of self.now) }
         ensures stretch { present_stretch self.now
-            ≡ map (λ (h : Held). h.colouring) (take (length self.now - result) self.now) }
+            ≡ map (λ (h : Held). h.colouring) (take (length (all_of self.now) - result) (all_of self.now)) }
     {
         self.older.len() - self.older_in_stretch as usize
     }
 
     /// Whether that is the colouring of that number.
     pub(crate) fn is_at(&self, number: usize, board: &Board) -> bool
-        requires { number < length self.now }
-        ensures { IsTrue result ↔ (newest (drop (length self.now - 1 - number) self.now) ≡ Some board.now) }
+        requires { number < length (all_of self.now) }
+        ensures { IsTrue result ↔ IsNumber (all_of self.now) number board.now }
     {
-        if self.newest.size().points() <= USUAL_POINTS {
-            self.is_at_by::<USUAL_POINTS>(number, board)
-        } else {
-            self.is_at_by::<MAX_POINTS>(number, board)
-        }
+        let mut earlier = self.newest.copy();
+        self.go_back(number, &mut earlier);
+        board.same(&earlier)
     }
 
-    /// The same. There is room for the colouring in `N` cells.
-    fn is_at_by<const N: usize>(&self, number: usize, board: &Board) -> bool
-        requires number { number < length self.now }
-        requires room { (newest_grid self.now).side * (newest_grid self.now).side ≤ N }
-        requires at_most { N ≤ MAX_POINTS }
-        ensures { IsTrue result ↔ (newest (drop (length self.now - 1 - number) self.now) ≡ Some board.now) }
+    /// Takes the newest colouring back to that of a number, from the next full step after it if there is one.
+    fn go_back(&self, number: usize, board: &mut Board)
+        requires number { number < length (all_of self.now) }
+        requires newest { board.old ≡ newest_grid self.now }
+        ensures { IsNumber (all_of self.now) number board.new }
     {
-        let size = self.newest.size();
-        let mut room = nothing::<N>();
-        let cells = &mut room[..size.points()];
-        cells.copy_from_slice(self.newest.cells());
-        self.go_back(number, cells);
-        board.is_of(size, cells)
-    }
-
-    /// Takes the cells of the newest colouring back to those of the colouring of that number.
-    fn go_back(&self, number: usize, cells: &mut [Cell])
-        requires number { number < length self.now }
-        requires newest { cells.old ≡ (newest_grid self.now).cells }
-        requires all { length cells.old ≡ (newest_grid self.now).side * (newest_grid self.now).side }
-        ensures { newest (drop (length self.now - 1 - number) self.now)
-            ≡ Some (record { side = (newest_grid self.now).side; cells = cells.new }) }
-    {
-        let size = self.newest.size();
-        let mut end = self.changes.len();
-        for i in (number..self.older.len()).rev() {
-            let start = end - usize::from(self.older[i].changes);
-            take_cells_back(cells, size, &self.changes[start..end]);
+        board.has_all_cells();
+        let (from, mut end) = next_full(&self.older, self.changes.len(), number);
+        'steps: for i in (number..from).rev() {
+            let start = self.older[i].start;
+            take_back(board, &self.changes[start..end]);
             end = start;
         }
     }
@@ -128,21 +107,23 @@ impl Colourings {
     /// Adds a colouring, which begins a stretch or goes on in the present one. After a refusal nothing is changed. It
     /// is refused memory, too, for more than 4,294,967,296 colourings of one stretch.
     pub(crate) fn add(&mut self, board: &Board, begins: bool) -> Result<(), MemoryFault>
-        requires { HaveSide board.now.side self.old }
-        ensures ok { OnOk result (self.new
-            ≡ record { colouring = board.now; begins = begins } ∷ self.old) }
+        requires { (newest_grid self.old).side ≡ board.now.side }
+        ensures ok { OnOk result (self.new ≡ with_next self.old board.now begins) }
         ensures err { OnErr result (self.new ≡ self.old) }
     {
+        self.newest.has_all_cells();
+        board.has_all_cells();
         let older_in_stretch = next_older_in_stretch(self.older_in_stretch, begins)?;
         self.older.reserve(1)?;
-        let settled = self.newest.is_settled();
-        let changes = follow(&mut self.newest, board, &mut self.changes)?;
         let kept = Older {
+            start: self.changes.len(),
             older_in_stretch: self.older_in_stretch,
-            changes,
-            settled,
+            settled: self.newest.is_settled(),
         };
+        let all = is_full(self.older.len());
+        lead_back(&self.newest, board, all, &mut self.changes)?;
         self.older.push(kept).unwrap();
+        self.newest = board.copy();
         self.older_in_stretch = older_in_stretch;
         Ok(())
     }
@@ -160,112 +141,52 @@ impl Colourings {
         requires alone { play (newest_grid self.old) colour point
             ≡ with_cell (newest_grid self.old) point (stone_of colour) }
         requires print { print ≡ print_of (with_cell (newest_grid self.old) point (stone_of colour)).cells }
-        ensures ok { OnOk result (self.new ≡ record {
-          colouring = with_cell (newest_grid self.old) point (stone_of colour);
-          begins = false;
-        } ∷ self.old) }
+        ensures ok { OnOk result (self.new
+            ≡ with_next self.old (with_cell (newest_grid self.old) point (stone_of colour)) false) }
         ensures err { OnErr result (self.new ≡ self.old) }
     {
+        self.newest.has_all_cells();
+        if is_full(self.older.len()) {
+            let mut made = self.newest.copy();
+            made.place_alone(colour, point, print);
+            return self.add(&made, false);
+        }
         let older_in_stretch = next_older_in_stretch(self.older_in_stretch, false)?;
         self.older.reserve(1)?;
-        self.changes.reserve(1)?;
         let kept = Older {
+            start: self.changes.len(),
             older_in_stretch: self.older_in_stretch,
-            changes: 1,
             settled: self.newest.is_settled(),
         };
-        self.newest.place_alone(colour, point, print);
-        let change = Change {
-            point,
+        self.changes.push(Change {
+            columns: with_column(0, usize::from(point.col), true),
+            row: point.row,
             cell: Cell::Empty,
-            more: 0,
-        };
-        self.changes.push(change).unwrap();
+        })?;
+        self.newest.place_alone(colour, point, print);
         self.older.push(kept).unwrap();
         self.older_in_stretch = older_in_stretch;
         Ok(())
     }
 
-    /// Places a stone on an empty point of the newest colouring, and takes off what it captures, or, in suicide, its own group:
-    /// that colouring goes on in the present stretch. Tells whether it was done. It takes no memory, and is done only where
-    /// every stone is known to reach empty, and there is room for what is kept.
-    pub(crate) fn place(&mut self, colour: Colour, point: Point) -> bool
-        requires on_board { IsOn (newest_grid self.old).side point }
-        requires empty { cell_at (newest_grid self.old) point ≡ Empty }
-        ensures done { IsTrue result → self.new ≡ record {
-          colouring = play (newest_grid self.old) colour point;
-          begins = false;
-        } ∷ self.old }
-        ensures unchanged { IsFalse result → self.new ≡ self.old }
-    {
-        let Ok(older_in_stretch) = next_older_in_stretch(self.older_in_stretch, false) else {
-            return false;
-        };
-        if self.older.len() >= self.older.capacity() {
-            return false;
-        }
-        let settled = self.newest.is_settled();
-        let placed = place_on(&mut self.newest, colour, point, &mut self.changes);
-        let Some(changes) = placed else {
-            return false;
-        };
-        let kept = Older {
-            older_in_stretch: self.older_in_stretch,
-            changes,
-            settled,
-        };
-        self.older.push(kept).unwrap();
-        self.older_in_stretch = older_in_stretch;
-        true
-    }
-
-    /// Begins a stretch with the colouring that areas make which are coloured in order on the newest colouring. Tells whether it
-    /// was done: only where each area is a point, and they are few enough for their changes to be counted. If not, nothing is
-    /// changed.
-    pub(crate) fn set_up(&mut self, ops: &[SetupOp]) -> Result<bool, MemoryFault>
-        requires { All (λ op. IsRectOn (newest_grid self.old).side op.area) ops.now }
-        ensures ok { IfOk result (λ done. self.new ≡ (if done then
-            record { colouring = fold with_area (newest_grid self.old) ops.now; begins = true } ∷ self.old
-            else self.old)) }
-        ensures err { OnErr result (self.new ≡ self.old) }
-    {
-        if !are_few_points(ops) {
-            return Ok(false);
-        }
-        self.older.reserve(1)?;
-        self.changes.reserve(ops.len())?;
-        let settled = self.newest.is_settled();
-        let kept = Older {
-            older_in_stretch: self.older_in_stretch,
-            changes: set_points(&mut self.newest, ops, &mut self.changes),
-            settled,
-        };
-        self.newest.prepare();
-        self.older.push(kept).unwrap();
-        self.older_in_stretch = 0;
-        Ok(true)
-    }
-
     /// Takes the newest colouring back. The print is that of the colouring before it.
     pub(crate) fn pop(&mut self, print: u64)
-        requires some { 2 ≤ length self.old }
-        requires print { (g : Grid) → newest (drop 1 self.old) ≡ Some g → print ≡ print_of g.cells }
-        ensures { self.new ≡ drop 1 self.old }
+        requires some { 0 < length self.old.older }
+        requires print { (g : Grid) → first_grid self.old.older ≡ Some g → print ≡ print_of g.cells }
+        ensures { self.old.older ≡ self.new.newest ∷ self.new.older }
     {
         let kept = self.older.pop().unwrap();
-        let start = self.changes.len() - usize::from(kept.changes);
-        take_back(&mut self.newest, &self.changes[start..]);
+        take_back(&mut self.newest, &self.changes[kept.start..]);
         self.newest.restore(kept.settled, print);
-        self.changes.truncate(start);
+        self.changes.truncate(kept.start);
         self.older_in_stretch = kept.older_in_stretch;
     }
 
-    /// Forgets all colourings, and has that of the empty board of a size alone, which begins a stretch.
-    pub(crate) fn reset(&mut self, size: Size)
-        ensures some { 0 < length self.old }
-        ensures value { self.new ≡ record { colouring = empty_grid size; begins = true } ∷ [] }
+    /// Forgets all colourings, and has that one alone, which begins a stretch.
+    pub(crate) fn reset(&mut self, board: &Board)
+        ensures { self.new ≡ only board.now }
     {
-        self.newest.reset(size);
+        self.newest = board.copy();
         self.older_in_stretch = 0;
         self.older.clear();
         self.changes.clear();
@@ -280,4 +201,24 @@ fn next_older_in_stretch(older_in_stretch: u32, begins: bool) -> Result<u32, Mem
         return Ok(0);
     }
     older_in_stretch.checked_add(1).ok_or(MemoryFault)
+}
+
+/// The number of the colouring from which that of a number is worked out, and how many changes there were up to it: the next
+/// one before which a step kept all points, or else the newest one.
+fn next_full(older: &[Older], changes: usize, number: usize) -> (usize, usize)
+    requires { number ≤ length older.now }
+    ensures low { number ≤ result.0 }
+    ensures high { result.0 ≤ length older.now }
+    ensures full { result.0 < length older.now → (number < result.0) × IsTrue (is_full (result.0 - 1)) }
+    ensures end { IsEndOf older.now changes result.0 result.1 }
+{
+    if number / FULL >= older.len() / FULL {
+        return (older.len(), changes);
+    }
+    let from = (number / FULL + 1) * FULL;
+    if from < older.len() {
+        (from, older[from].start)
+    } else {
+        (from, changes)
+    }
 }

@@ -1,13 +1,14 @@
 //! The plain past: all colourings in one vector.
 
 ghost use Rattle.std.specs.Prelude.{◌≡◌, ◌*◌, ◌↔◌, length, IsTrue, Contains};
-ghost use Rattle.go_board.specs.Past.{present_stretch};
+ghost use Rattle.go_board.specs.Past.{stretch_of};
 ghost use Rattle.go_board.specs.inner.Entries.{entries};
 
 use crate::board::Board;
+use crate::board::cells::nothing;
 use crate::fault::MemoryFault;
 use crate::past::Past;
-use crate::size::Size;
+use crate::size::{MAX_POINTS, Size};
 use crate::stones::Cell;
 use std::alloc::Global;
 use std::marker::Model;
@@ -25,14 +26,16 @@ pub struct ListPast {
 }
 
 impl Model for ListPast {
-    ghost use Rattle.std.specs.Prelude.{◌≡◌, ◌*◌, ◌∷◌, List, length};
-    ghost use Rattle.go_board.specs.Past.{Held};
+    ghost use Rattle.std.specs.Prelude.{◌≡◌, ◌*◌, length};
+    ghost use Rattle.go_board.specs.Past.{PastColourings};
     ghost use Rattle.go_board.specs.inner.Entries.{entries};
 
-    ghost Value = { List Held };
+    ghost Value = { PastColourings };
 
-    ghost view = { λ p. record { colouring = p.newest; begins = p.begins }
-        ∷ entries p.newest.side p.cells.items p.begin_flags.items (length p.begin_flags.items) };
+    ghost view = { λ p. record {
+      newest = record { colouring = p.newest; begins = p.begins };
+      older = entries p.newest.side p.cells.items p.begin_flags.items (length p.begin_flags.items);
+    } };
 
     ghost invariant = { λ p. length p.cells.items ≡ length p.begin_flags.items * (p.newest.side * p.newest.side) };
 }
@@ -50,14 +53,17 @@ impl Past for ListPast {
     }
 
     fn holds(&self, board: &Board) -> bool {
-        self.newest.same(board)
-            || (!self.begins
-                && stretch_has(
-                    self.newest.size(),
-                    &self.cells,
-                    &self.begin_flags,
-                    board.cells(),
-                ))
+        if self.newest.same(board) {
+            return true;
+        }
+        if self.begins {
+            return false;
+        }
+        let size = board.size();
+        let mut room = nothing::<MAX_POINTS>();
+        let cells = &mut room[..size.points()];
+        board.write_cells(cells);
+        stretch_has(size, &self.cells, &self.begin_flags, cells)
     }
 
     fn newest(&self) -> &Board {
@@ -82,20 +88,23 @@ impl Past for ListPast {
 }
 
 impl ListPast {
-    ghost use Rattle.std.specs.Prelude.{◌≡◌, ◌∷◌, OnOk, OnErr};
-    ghost use Rattle.go_board.specs.Past.{HaveSide};
+    ghost use Rattle.std.specs.Prelude.{◌≡◌, OnOk, OnErr};
+    ghost use Rattle.go_board.specs.Past.{HaveSide, with_next};
 
     /// Adds a colouring, which begins a stretch or not.
     fn add(&mut self, board: &Board, begins: bool) -> Result<(), MemoryFault>
         requires { HaveSide board.now.side self.old }
-        ensures ok { OnOk result (self.new
-            ≡ record { colouring = board.now; begins = begins } ∷ self.old) }
+        ensures ok { OnOk result (self.new ≡ with_next self.old board.now begins) }
         ensures err { OnErr result (self.new ≡ self.old) }
     {
         self.begin_flags.reserve(1)?;
-        self.cells.extend_from_slice(self.newest.cells())?;
+        self.newest.has_all_cells();
+        let mut room = nothing::<MAX_POINTS>();
+        let cells = &mut room[..self.newest.size().points()];
+        self.newest.write_cells(cells);
+        self.cells.extend_from_slice(cells)?;
         self.begin_flags.push(self.begins).unwrap();
-        self.newest.copy_from(board);
+        self.newest = board.copy();
         self.begins = begins;
         Ok(())
     }
@@ -107,7 +116,7 @@ fn stretch_has(size: Size, all: &[Cell], begin_flags: &[bool], cells: &[Cell]) -
     requires all { length all.now ≡ length begin_flags.now * (size * size) }
     requires one { length cells.now ≡ size * size }
     ensures { IsTrue result
-        ↔ Contains (present_stretch (entries size all.now begin_flags.now (length begin_flags.now)))
+        ↔ Contains (stretch_of (entries size all.now begin_flags.now (length begin_flags.now)))
         (record { side = size; cells = cells.now }) }
 {
     let points = size.points();

@@ -3,11 +3,14 @@
 
 mod powers;
 
-ghost use Rattle.std.specs.Prelude.{◌≡◌, ◌<◌, ◌≤◌, length, slice_set};
+ghost use Rattle.std.specs.Prelude.{◌≡◌};
+ghost use Rattle.go_board.specs.Point.{IsOn};
+ghost use Rattle.go_board.specs.Grid.{with_cell};
 ghost use Rattle.go_board.specs.inner.Print.{code_of, print_of};
 
+use crate::board::Board;
 use crate::past::print::powers::power;
-use crate::size::MAX_POINTS;
+use crate::points::Point;
 use crate::stones::Cell;
 
 /// What each point's code is a digit of.
@@ -15,26 +18,30 @@ const BASE: u64 = 31;
 
 /// The print of a board's points, row by row from the top, from left to right: from 0, 31 times the number and the
 /// point's code (empty 0, black 1, white 2), modulo 2^64.
-pub(crate) fn print_of(cells: &[Cell]) -> u64
-    ensures { result ≡ print_of cells.now }
+pub(crate) fn print_of(board: &Board) -> u64
+    ensures { result ≡ print_of board.now.cells }
 {
+    board.has_all_cells();
+    let size = board.size();
     let mut print: u64 = 0;
-    for cell in cells {
-        print = print.wrapping_mul(BASE).wrapping_add(code_of(*cell));
+    for index in 0..size.points() {
+        let cell = board.at(Point::of_index(index, size));
+        print = print.wrapping_mul(BASE).wrapping_add(code_of(cell));
     }
     print
 }
 
-/// The print once the point at an index is coloured anew, from the print before.
-pub(crate) fn print_with(print: u64, cells: &[Cell], index: usize, new: Cell) -> u64
-    requires within { index < length cells.now }
-    requires few { length cells.now ≤ MAX_POINTS }
-    ensures { print ≡ print_of cells.now → result ≡ print_of (slice_set cells.now index new) }
+/// The print once a point is coloured anew, from the print before.
+pub(crate) fn print_with(print: u64, board: &Board, point: Point, new: Cell) -> u64
+    requires { IsOn board.now.side point }
+    ensures { print ≡ print_of board.now.cells → result ≡ print_of (with_cell board.now point new).cells }
 {
-    let weight = power(cells.len() - 1 - index);
+    board.has_all_cells();
+    let size = board.size();
+    let weight = power(size.points() - 1 - point.index(size));
     print
         .wrapping_add(code_of(new).wrapping_mul(weight))
-        .wrapping_sub(code_of(cells[index]).wrapping_mul(weight))
+        .wrapping_sub(code_of(board.at(point)).wrapping_mul(weight))
 }
 
 /// What a point adds to a print.

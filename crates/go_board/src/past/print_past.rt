@@ -1,22 +1,14 @@
 //! The past with prints.
 
-ghost use Rattle.std.specs.Prelude.{◌≡◌, ◌↔◌, IsTrue, Contains};
-ghost use Rattle.go_board.specs.Past.{present_stretch, HaveSide};
-
 use crate::board::Board;
 use crate::fault::MemoryFault;
 use crate::past::Past;
 use crate::past::colourings::Colourings;
 use crate::past::table::Table;
 use crate::points::Point;
-use crate::referee::SetupOp;
-use crate::size::Size;
 use crate::stones::Colour;
 use std::alloc::Global;
 use std::marker::Model;
-
-/// The print of a board on which nothing stands.
-const EMPTY_PRINT: u64 = 0;
 
 /// A past that keeps the newest colouring whole, and of each older one the changes that lead back to it. A colouring is
 /// looked up by its print, a number of 64 bits made of what stands on all its points, and only in the present stretch;
@@ -32,15 +24,15 @@ pub struct PrintPast {
 }
 
 impl Model for PrintPast {
-    ghost use Rattle.std.specs.Prelude.{◌≡◌, List, reverse};
-    ghost use Rattle.go_board.specs.Past.{Held};
+    ghost use Rattle.std.specs.Prelude.{◌≡◌, reverse};
+    ghost use Rattle.go_board.specs.Past.{PastColourings, all_of};
     ghost use Rattle.go_board.specs.inner.Print.{prints_of};
 
-    ghost Value = { List Held };
+    ghost Value = { PastColourings };
 
     ghost view = { λ p. p.colourings };
 
-    ghost invariant = { λ p. reverse p.prints ≡ prints_of p.colourings };
+    ghost invariant = { λ p. reverse p.prints ≡ prints_of (all_of p.colourings) };
 }
 
 impl Past for PrintPast {
@@ -78,24 +70,16 @@ impl Past for PrintPast {
         self.add(board, true)
     }
 
-    fn try_stone(&mut self, colour: Colour, point: Point) -> Result<bool, MemoryFault> {
+    fn play(&mut self, colour: Colour, point: Point) -> Result<bool, MemoryFault> {
         let newest = self.colourings.newest();
         if newest.captures_nothing_at_a_glance(colour, point) {
-            return self.try_alone(colour, point);
+            let print = newest.print_after(point, colour.stone());
+            if !self.has_print(print) {
+                self.add_stone(colour, point, print)?;
+                return Ok(true);
+            }
         }
-        self.try_captures(colour, point)
-    }
-
-    fn try_setup(&mut self, ops: &[SetupOp]) -> Result<bool, MemoryFault> {
-        let before = self.colourings.newest().print();
-        if !self.colourings.set_up(ops)? {
-            return Ok(false);
-        }
-        if self.prints.push(self.colourings.newest().print()).is_err() {
-            self.colourings.pop(before);
-            return Err(MemoryFault);
-        }
-        Ok(true)
+        self.play_on_copy(colour, point)
     }
 
     fn pop(&mut self) {
@@ -103,28 +87,27 @@ impl Past for PrintPast {
         self.colourings.pop(self.prints.newest());
     }
 
-    fn reset(&mut self, _alloc: Global, size: Size) -> Result<(), MemoryFault> {
-        self.colourings.reset(size);
-        self.prints.reset(EMPTY_PRINT);
+    fn reset(&mut self, _alloc: Global, board: &Board) -> Result<(), MemoryFault> {
+        self.colourings.reset(board);
+        self.prints.reset(board.print());
         Ok(())
     }
 }
 
 impl PrintPast {
-    ghost use Rattle.std.specs.Prelude.{◌≡◌, ◌∷◌, false, if◌then◌else◌, IsFalse, IfOk, OnOk, OnErr};
+    ghost use Rattle.std.specs.Prelude.{◌≡◌, ◌↔◌, false, if◌then◌else◌, IsFalse, IfOk, OnOk, OnErr, Contains};
     ghost use Rattle.go_board.specs.declared.stones.Cell.TheVariants.{Empty};
     ghost use Rattle.go_board.specs.Point.{IsOn};
     ghost use Rattle.go_board.specs.Colour.{stone_of};
     ghost use Rattle.go_board.specs.Grid.{Grid, cell_at, with_cell};
     ghost use Rattle.go_board.specs.Clearing.{play};
-    ghost use Rattle.go_board.specs.Past.{HaveSide, newest_grid};
+    ghost use Rattle.go_board.specs.Past.{newest_grid, with_next, present_stretch, HaveSide};
     ghost use Rattle.go_board.specs.inner.Print.{print_of};
 
     /// Adds a colouring, which begins a stretch or goes on in the present one.
     fn add(&mut self, board: &Board, begins: bool) -> Result<(), MemoryFault>
         requires { HaveSide board.now.side self.old }
-        ensures ok { OnOk result (self.new
-            ≡ record { colouring = board.now; begins = begins } ∷ self.old) }
+        ensures ok { OnOk result (self.new ≡ with_next self.old board.now begins) }
         ensures err { OnErr result (self.new ≡ self.old) }
     {
         self.prints.push(board.print())?;
@@ -135,32 +118,22 @@ impl PrintPast {
         Ok(())
     }
 
-    /// Tries a stone that captures nothing, whose print is worked out before it is placed.
-    fn try_alone(&mut self, colour: Colour, point: Point) -> Result<bool, MemoryFault>
+    /// Adds the colouring that a stone makes which captures nothing, of that print, to the present stretch.
+    fn add_stone(&mut self, colour: Colour, point: Point, print: u64) -> Result<(), MemoryFault>
         requires on_board { IsOn (newest_grid self.old).side point }
         requires empty { cell_at (newest_grid self.old) point ≡ Empty }
         requires alone { play (newest_grid self.old) colour point
             ≡ with_cell (newest_grid self.old) point (stone_of colour) }
-        ensures new { IfOk result (λ taken. IsTrue taken
-            → ¬ Contains (present_stretch self.old) (play (newest_grid self.old) colour point)) }
-        ensures ok { IfOk result (λ taken. self.new ≡ (if taken then
-            record { colouring = play (newest_grid self.old) colour point; begins = false } ∷ self.old
-            else self.old)) }
-        ensures refused { OnErr result
-            (¬ Contains (present_stretch self.old) (play (newest_grid self.old) colour point)) }
+        requires print { print ≡ print_of (with_cell (newest_grid self.old) point (stone_of colour)).cells }
+        ensures ok { OnOk result (self.new ≡ with_next self.old (play (newest_grid self.old) colour point) false) }
         ensures err { OnErr result (self.new ≡ self.old) }
     {
-        let newest = self.colourings.newest();
-        let print = newest.print_after(point, colour.stone());
-        if self.has_print(print) {
-            return Ok(false);
-        }
         self.prints.push(print)?;
         if self.colourings.add_stone(colour, point, print).is_err() {
             self.prints.pop();
             return Err(MemoryFault);
         }
-        Ok(true)
+        Ok(())
     }
 
     /// Whether a colouring of the present stretch has that print.
@@ -174,40 +147,27 @@ impl PrintPast {
             .is_some()
     }
 
-    /// Tries a stone that may capture: the colouring that it makes is made in place, and taken back where the present stretch
-    /// has its print. Tells whether it was added. No memory is asked for before the print is known to be new.
+    /// The same as `play`, on a copy of the newest board, where more than a glance is needed.
     #[inline(never)]
-    fn try_captures(&mut self, colour: Colour, point: Point) -> Result<bool, MemoryFault>
+    fn play_on_copy(&mut self, colour: Colour, point: Point) -> Result<bool, MemoryFault>
+        requires one_side { HaveSide (newest_grid self.old).side self.old }
         requires on_board { IsOn (newest_grid self.old).side point }
         requires empty { cell_at (newest_grid self.old) point ≡ Empty }
-        ensures new { IfOk result (λ taken. IsTrue taken
-            → ¬ Contains (present_stretch self.old) (play (newest_grid self.old) colour point)) }
-        ensures ok { IfOk result (λ taken. self.new ≡ (if taken then
-            record { colouring = play (newest_grid self.old) colour point; begins = false } ∷ self.old
+        ensures known { IfOk result (λ added. IsFalse added
+            ↔ Contains (present_stretch self.old) (play (newest_grid self.old) colour point)) }
+        ensures ok { IfOk result (λ added. self.new ≡ (if added
+            then with_next self.old (play (newest_grid self.old) colour point) false
             else self.old)) }
         ensures refused { OnErr result
             (¬ Contains (present_stretch self.old) (play (newest_grid self.old) colour point)) }
         ensures err { OnErr result (self.new ≡ self.old) }
     {
-        let before = self.colourings.newest().print();
-        let start = self.colourings.stretch_start();
-        if !self.colourings.place(colour, point) {
-            // a stone that captures nothing wasn't placed for want of room alone
-            if self.colourings.newest().captures_nothing(colour, point) {
-                return self.try_alone(colour, point);
-            }
+        let mut made = self.newest().copy();
+        made.place(colour, point);
+        if self.holds(&made) {
             return Ok(false);
         }
-        let print = self.colourings.newest().print();
-        let same = self.prints.last_between(print, start, self.prints.len());
-        if same.is_some() {
-            self.colourings.pop(before);
-            return Ok(false);
-        }
-        if self.prints.push(print).is_err() {
-            self.colourings.pop(before);
-            return Err(MemoryFault);
-        }
+        self.push(&made)?;
         Ok(true)
     }
 }

@@ -1,5 +1,6 @@
 //! A referee's next game.
 
+use crate::board::Board;
 use crate::fault::MemoryFault;
 use crate::past::Past;
 use crate::referee::Referee;
@@ -17,9 +18,8 @@ impl<P: Past> Referee<P> {
         ensures ok { OnOk result (self.new ≡ begun size) }
         ensures err { OnErr result (self.new ≡ self.old) }
     {
-        self.past.reset(*self.earlier.allocator(), size)?;
-        self.spare.reset(size);
-        self.spare_is_current = true;
+        self.past
+            .reset(*self.earlier.allocator(), &Board::empty(size))?;
         self.player = Some(Colour::Black);
         self.passes = 0;
         self.turns = 0;

@@ -2,7 +2,7 @@
 
 use crate::fault::MemoryFault;
 use crate::past::Past;
-use crate::referee::{Referee, SetupOp, bring_up_to_date};
+use crate::referee::{Referee, SetupOp};
 use crate::stones::Colour;
 
 impl<P: Past> Referee<P> {
@@ -49,36 +49,9 @@ impl<P: Past> Referee<P> {
         ensures err { OnErr result (self.new ≡ self.old) }
     {
         let present = self.present_kept(true);
-        if !self.past.try_setup(ops)? {
-            return self.begin_by_spare(ops, player);
-        }
-        if self.earlier.push(present).is_err() {
-            self.past.pop();
-            return Err(MemoryFault);
-        }
-        self.spare_is_current = false;
-        self.player = player;
-        self.passes = 0;
-        Ok(())
-    }
-
-    /// The same by the spare board, on which the areas are coloured.
-    #[inline(never)]
-    fn begin_by_spare(&mut self, ops: &[SetupOp], player: Option<Colour>) -> Result<(), MemoryFault>
-        requires { All (λ op. IsRectOn self.old.present.colouring.side op.area) ops.now }
-        ensures ok { OnOk result (self.new ≡ followed_by self.old
-            (with_setup self.old.present (fold with_area self.old.present.colouring ops.now) player)) }
-        ensures err { OnErr result (self.new ≡ self.old) }
-    {
-        bring_up_to_date(&mut self.spare, self.past.newest(), self.spare_is_current);
-        self.spare_is_current = false;
-        self.spare.colour_areas(ops);
-        self.spare.prepare();
-        let present = self.present_kept(true);
         self.earlier.reserve(1)?;
-        self.past.restart(&self.spare)?;
+        self.past.set_up(ops)?;
         self.earlier.push(present).unwrap();
-        self.spare_is_current = true;
         self.player = player;
         self.passes = 0;
         Ok(())

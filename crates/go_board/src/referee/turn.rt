@@ -87,14 +87,13 @@ impl<P: Past> Referee<P> {
         ensures err { OnErr result (self.new ≡ self.old) }
     {
         let present = self.present_kept(true);
-        if !self.past.try_stone(colour, point)? {
-            return self.take_by_spare(colour, point);
+        if !self.past.play(colour, point)? {
+            return Ok(false);
         }
         if self.earlier.push(present).is_err() {
             self.past.pop();
             return Err(MemoryFault);
         }
-        self.spare_is_current = false;
         self.player = Some(colour.opponent());
         self.passes = 0;
         self.turns += 1;

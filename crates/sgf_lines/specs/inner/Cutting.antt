@@ -1,9 +1,11 @@
 -- How the stones of a script are appended, point after point.
-use Rattle.std.specs.Prelude.{ℕ, if◌then◌else◌, List, [], ◌++◌, codes}
+use Rattle.std.specs.Prelude.{◌≡◌, ℕ, if◌then◌else◌, List, [], ◌++◌, codes, take}
+use Rattle.std.specs.List.{flat_map}
 use Rattle.go_board.specs.declared.stones.Colour.{Colour}
 use Rattle.go_board.specs.declared.points.Point.{Point}
 use Rattle.go_board.specs.declared.referee.plays.Play.TheVariants.{Stone}
 use Rattle.go_board.specs.Colour.{stone_of, same_cell}
+use Rattle.go_board.specs.Point.{points}
 use Rattle.go_board.specs.Grid.{Grid, cell_at}
 use Rattle.go_board.specs.declared.vertices.Vertex.{Vertex}
 use Rattle.sgf_lines.specs.Script.{colour_letter, vertex_text, play_command}
@@ -12,6 +14,11 @@ use Rattle.sgf_lines.specs.Script.{colour_letter, vertex_text, play_command}
 abbrev pub commands_at : Grid → Colour → Point → List ℕ
 commands_at grid colour point =
     if same_cell (cell_at grid point) (stone_of colour) then play_command grid.side colour (Stone point) else []
+
+-- the commands of the first points were appended to a text
+abbrev pub AreAppended : Grid → Colour → ℕ → List ℕ → List ℕ → Type 0
+AreAppended grid colour count before text =
+    text ≡ before ++ ([] ++ flat_map (commands_at grid colour) (take count (points grid.side)))
 
 -- the command of a pass, and that of a stone by its vertex
 abbrev pub pass_command : Colour → List ℕ

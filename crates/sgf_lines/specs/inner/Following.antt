@@ -1,8 +1,8 @@
 -- How a line's path follows from that of the line before it.
 use Rattle.std.specs.Prelude.{◌≡◌, ◌≢◌, ℕ, suc, zero, ◌+◌, ◌-◌, ◌<◌, ◌≤◌, List, [], ◌∷◌, ◌++◌, length, take, slice_get, Option, Some, None}
 use Rattle.std.specs.List.{range_with_len}
-use Rattle.sgf_tree.specs.Tree.{Games}
-use Rattle.sgf_lines.specs.Lines.{last_number}
+use Rattle.sgf_tree.specs.Tree.{Node, Games}
+use Rattle.sgf_lines.specs.Lines.{Line, lines, last_number}
 use Rattle.sgf_lines.specs.Paths.{Path, paths}
 use Rattle.sgf_lines.specs.Cursor.{CursorState}
 
@@ -28,6 +28,22 @@ numbers_before games (suc index) = numbers_of (slice_get (paths games) index)
 -- the nodes of the line before a cursor's next one; none before the first line
 abbrev pub path_before : CursorState → List ℕ
 path_before cursor = numbers_before cursor.games cursor.index
+
+-- the nodes of a line, the root first; none where there is no line
+abbrev pub nodes_of : Option Line → List Node
+nodes_of None = []
+nodes_of (Some line) = line.nodes
+
+abbrev pub line_in : Games → ℕ → Option Line
+line_in games zero = None
+line_in games (suc index) = slice_get (lines games) index
+
+-- the line before a cursor's next one, and its nodes; none before the first line
+abbrev pub line_before : CursorState → Option Line
+line_before cursor = line_in cursor.games cursor.index
+
+abbrev pub nodes_before : CursorState → List Node
+nodes_before cursor = nodes_of (line_before cursor)
 
 -- How many nodes at the front of a path end with the node `parent`, which stands last there; 0 where there is no parent.
 abbrev pub IsCutBack : List ℕ → Option ℕ → ℕ → Type 0

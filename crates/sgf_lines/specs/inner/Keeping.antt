@@ -1,76 +1,96 @@
--- What a run keeps from one line to the next, and how many nodes it plays for each.
-use Rattle.std.specs.Prelude.{◌≡◌, ◌⊎◌, ℕ, ◌+◌, ◌-◌, ◌≤◌, Bool, true, false, List, ◌++◌, codes, map, Some, slice_get, Result, Ok, Err}
-use Rattle.sgf_tree.specs.Tree.{Node, node_count}
-use Rattle.sgf_tree.specs.FileOrder.{node_at}
+-- What a run holds of the line before its cursor, and how many nodes it plays for each line.
+use Rattle.std.specs.Prelude.{◌≡◌, ◌⊎◌, ℕ, ◌+◌, ◌-◌, ◌<◌, ◌≤◌, Bool, true, false, List, [], ◌++◌, length, take, Some, slice_get, Result, Ok, Err, OnOk, MatchBool, nat_lt}
+use Rattle.std.specs.List.{concat}
+use Rattle.sgf_tree.specs.Tree.{Node}
 use Rattle.sgf_lines.specs.Lines.{Line, lines}
 use Rattle.sgf_lines.specs.Cursor.{CursorState, advanced}
+use Rattle.sgf_lines.specs.JudgedGames.{game_kind, root_properties}
+use Rattle.sgf_lines.specs.Verdict.{judged_on}
 use Rattle.sgf_lines.specs.RunPlays.{plays_in}
 use Rattle.sgf_lines.specs.declared.options.Form.{Form}
 use Rattle.sgf_lines.specs.declared.options.Form.TheVariants.{List as list_form, Sgf as sgf_form, Gtp as gtp_form}
-use Rattle.sgf_lines.specs.declared.writer.Writer.{Writer}
-use Rattle.sgf_lines.specs.inner.Kept.{IsKeptRecord}
-use Rattle.sgf_lines.specs.inner.Followed.{IsFollowed, followed_commands, PlaysFresh, fresh_plays}
-use Rattle.sgf_lines.specs.inner.Following.{Continues, first_after, path_before}
+use Rattle.sgf_lines.specs.declared.run.Run.{Run}
+use Rattle.sgf_lines.specs.inner.Pieces.{no_pieces, cut}
+use Rattle.sgf_lines.specs.inner.Recording.{open_record, whole_record}
+use Rattle.sgf_lines.specs.inner.Scripting.{ScriptState, empty_script, script_of, script_back, script_ended, script_text}
+use Rattle.sgf_lines.specs.inner.Judging.{Judgement, judging, back}
+use Rattle.sgf_lines.specs.inner.Following.{Continues, nodes_before, path_before}
+
+-- how a line stands judged after its first nodes, and its script after them
+abbrev pub judging_front : List Node → ℕ → Judgement
+judging_front nodes count = judging (game_kind (root_properties nodes)) (take count nodes)
+
+abbrev pub script_front : List Node → ℕ → ScriptState
+script_front nodes count = script_of (game_kind (root_properties nodes)) (take count nodes)
+
+-- what a run keeps of the first nodes of a line
+abbrev pub KeepsBy : Form → List Node → ℕ → Run → Type 0
+KeepsBy list_form nodes count run = back count run.judge.judgement ≡ judging_front nodes count
+KeepsBy sgf_form nodes count run = cut (count + 1) run.game ≡ open_record (take count nodes)
+KeepsBy gtp_form nodes count run = (back count run.judge.judgement ≡ judging_front nodes count) × (script_back count run.script ≡ script_front nodes count)
+
+-- what it holds of a line whose record it made
+abbrev pub HoldsBy : Form → List Node → Run → Type 0
+HoldsBy list_form nodes run = run.judge.judgement ≡ judging_front nodes (length nodes)
+HoldsBy sgf_form nodes run = run.game ≡ whole_record nodes
+HoldsBy gtp_form nodes run = (run.judge.judgement ≡ judging_front nodes (length nodes)) × (run.script ≡ script_ended (script_front nodes (length nodes)))
+
+-- what a form doesn't use is empty
+abbrev pub IsUnusedBy : Form → Run → Type 0
+IsUnusedBy list_form run = (run.game ≡ no_pieces) × (run.script ≡ empty_script)
+IsUnusedBy sgf_form run = (run.script ≡ empty_script) × (run.head.items ≡ [])
+IsUnusedBy gtp_form run = run.game ≡ no_pieces
+
+-- A run holds all nodes of the line before its cursor, or none.
+pub record Holds (run : Run) : Type 0 where
+  pub line : 0 < run.held → (run.held ≡ length (nodes_before run.cursor)) × HoldsBy run.form (nodes_before run.cursor) run
+  pub unused : IsUnusedBy run.form run
+
+-- a run that has written no line
+pub record IsFresh (run : Run) : Type 0 where
+  pub none : run.held ≡ 0
+  pub plays : run.judge.plays ≡ 0
+  pub holds : Holds run
 
 -- the record that was made last
-abbrev pub record_by : Form → Writer → List ℕ
-record_by list_form writer = writer.head.items
-record_by sgf_form writer = writer.nodes.text.items
-record_by gtp_form writer = writer.head.items ++ (followed_commands writer.followed ++ codes "\n")
+abbrev pub record_in : Run → List ℕ
+record_in run = run.head.items ++ ((concat run.game.pieces ++ run.game.begun) ++ script_text run.script)
 
-abbrev pub record_in : Writer → List ℕ
-record_in writer = record_by writer.form writer
+-- of a line that shares so many nodes with the one before it all these are held still, or none where none was held
+abbrev pub StillHeld : ℕ → ℕ → ℕ → Type 0
+StillHeld held shared still = MatchBool (nat_lt 0 held) (still ≡ shared) (still ≡ 0)
 
--- what is kept of the nodes of a line: where it is judged, the game played along them; else their text
-abbrev pub KeepsBy : Form → List Node → Writer → Type 0
-KeepsBy list_form nodes writer = IsFollowed false nodes writer.followed
-KeepsBy sgf_form nodes writer = IsKeptRecord nodes writer.nodes
-KeepsBy gtp_form nodes writer = IsFollowed true nodes writer.followed
+-- how many nodes are played for a line of which the first ones are played already
+abbrev pub fresh_plays : List Node → ℕ → ℕ
+fresh_plays nodes shared = length (judged_on (game_kind (root_properties nodes)) nodes) - shared
 
-abbrev pub Keeps : List Node → Writer → Type 0
-Keeps nodes writer = KeepsBy writer.form nodes writer
+-- plays went from `old` to `new` for that line: each of its fresh nodes counts, and not more than each where memory was refused
+pub record PlaysFresh {A E : Type 0} (old new : ℕ) (nodes : List Node) (shared : ℕ) (result : Result A E) : Type 0 where
+  pub not_fewer : old ≤ new
+  pub not_more : new ≤ old + fresh_plays nodes shared
+  pub each : OnOk result (new ≡ old + fresh_plays nodes shared)
 
--- it is kept of the line before a cursor's next one
-pub record KeepsAt (cursor : CursorState) (writer : Writer) : Type 0 where
-  pub nodes : List Node
-  pub named : map Some nodes ≡ map (node_at cursor.games) (path_before cursor)
-  pub keeps : Keeps nodes writer
-
--- once a run has written a line
-abbrev pub KeepsOnce : Bool → CursorState → Writer → Type 0
-KeepsOnce true cursor writer = KeepsAt cursor writer
-KeepsOnce false cursor writer = Unit {0}
-
-abbrev pub KeepsBefore : CursorState → Writer → Type 0
-KeepsBefore cursor writer = KeepsOnce writer.wrote cursor writer
-
--- plays went from `old` to `new` for the line of these nodes, of which the first `shared` are played already
 abbrev pub PlaysIn : {A E : Type 0} → Form → ℕ → ℕ → List Node → ℕ → Result A E → Type 0
 PlaysIn list_form old new nodes shared result = PlaysFresh old new nodes shared result
 PlaysIn sgf_form old new nodes shared result = new ≡ old
 PlaysIn gtp_form old new nodes shared result = PlaysFresh old new nodes shared result
 
--- how many nodes of a cursor's next line are played already: those that it shares with the line before it, if the run wrote that one
+-- of a cursor's next line as many nodes are played already as it shares with the line before it, if the run holds that one
 abbrev pub IsShared : Bool → CursorState → ℕ → Type 0
 IsShared true cursor shared = Continues (path_before cursor) shared (path_before (advanced cursor))
 IsShared false cursor shared = shared ≡ 0
 
 -- a cursor's next line, and how many of its nodes are played for it
-pub record HasPlays (form : Form) (wrote : Bool) (cursor : CursorState) (count : ℕ) : Type 0 where
+pub record HasPlays (form : Form) (holds : Bool) (cursor : CursorState) (count : ℕ) : Type 0 where
   pub line : Line
   pub found : slice_get (lines cursor.games) cursor.index ≡ Some line
   pub shared : ℕ
-  pub shares : IsShared wrote cursor shared
+  pub shares : IsShared holds cursor shared
   pub count_is : count ≡ plays_in form (fresh_plays line.nodes shared)
 
 -- plays went from `old` to `new` where a cursor's next line was to be written: those of that line, if there is one; none or some
 -- of them where memory was refused
 abbrev pub PlaysLine : {E : Type 0} → Form → Bool → CursorState → ℕ → ℕ → Result Bool E → Type 0
-PlaysLine form wrote cursor old new (Ok true) = (count : ℕ) × HasPlays form wrote cursor count × (new ≡ old + count)
-PlaysLine form wrote cursor old new (Ok false) = new ≡ old
-PlaysLine form wrote cursor old new (Err fault) = (new ≡ old) ⊎ ((count : ℕ) × HasPlays form wrote cursor count × (old ≤ new) × (new ≤ old + count))
-
--- how many nodes a run can still play: those after the line before a cursor's next one, or all before its first line
-abbrev pub left : Bool → CursorState → ℕ
-left true cursor = node_count cursor.games - first_after (path_before cursor)
-left false cursor = node_count cursor.games
+PlaysLine form holds cursor old new (Ok true) = (count : ℕ) × HasPlays form holds cursor count × (new ≡ old + count)
+PlaysLine form holds cursor old new (Ok false) = new ≡ old
+PlaysLine form holds cursor old new (Err fault) = (new ≡ old) ⊎ ((count : ℕ) × HasPlays form holds cursor count × (old ≤ new) × (new ≤ old + count))

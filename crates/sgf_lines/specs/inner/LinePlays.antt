@@ -1,12 +1,8 @@
 -- What the parts of a run say of the number of nodes that they played.
-use Rattle.std.specs.Prelude.{◌≡◌, ℕ, ◌+◌, List, Option, Result, Ok, Err}
-use Rattle.sgf_tree.specs.Tree.{Games}
-use Rattle.sgf_tree.specs.Spelling.{Spells}
+use Rattle.std.specs.Prelude.{◌≡◌, ℕ, ◌+◌, List, Result, Ok, Err}
 use Rattle.sgf_lines.specs.Lines.{Line}
-use Rattle.sgf_lines.specs.Answer.{IsWhole}
-use Rattle.sgf_lines.specs.RunPlays.{plays_of, ArePlaysFor, AnswersPlays}
+use Rattle.sgf_lines.specs.RunPlays.{plays_of, ArePlaysFor}
 use Rattle.sgf_lines.specs.declared.options.Form.{Form}
-use Rattle.sgf_lines.specs.declared.options.Options.{Options}
 use Rattle.sgf_lines.specs.declared.fault.RunFault.{RunFault}
 use Rattle.sgf_lines.specs.declared.fault.RunFault.TheVariants.{Read, TooLong, NotSgf, NoSuchLine, Write, Memory}
 
@@ -25,17 +21,3 @@ pub record PlaysLines (form : Form) (page : List Line) (old new : ℕ) (result :
   pub plays : ℕ
   pub rises : new ≡ old + plays
   pub answers : AnswersPlaysFor form page plays result
-
--- plays went from `old` to `new` in a run whose source gave this text
-pub record PlaysText (options : Options) (text : List ℕ) (to_come : Option (List ℕ)) (old new : ℕ) (result : Result ℕ RunFault) : Type 0 where
-  pub plays : ℕ
-  pub rises : new ≡ old + plays
-  pub answers : AnswersPlays options text to_come plays result
-
--- so they went, where the source is at its end
-abbrev pub PlaysSplit : Options → List ℕ → ℕ → ℕ → Result ℕ RunFault → Type 0
-PlaysSplit options text old new result = (to_come : Option (List ℕ)) → IsWhole text to_come → PlaysText options text to_come old new result
-
--- so they went, for each text that spells the collection
-abbrev pub PlaysSplitOf : Options → Games → ℕ → ℕ → Result ℕ RunFault → Type 0
-PlaysSplitOf options games old new result = (text : List ℕ) → Spells games text → PlaysSplit options text old new result

@@ -2,7 +2,6 @@
 use Rattle.std.specs.Prelude.{◌≡◌, ℕ, ◌<◌, ◌≤◌, ◌+◌, List, length, drop, take, Option, Some, None, Result, Ok, Err, slice_get}
 use Rattle.std.specs.Io.KnownBytes.{Appends, Consumes}
 use Rattle.sgf_tree.specs.Tree.{Games}
-use Rattle.sgf_tree.specs.Spelling.{Spells}
 use Rattle.sgf_tree.specs.declared.fault.TheConstants.{MAX_LENGTH}
 use Rattle.sgf_tree.specs.declared.fault.ReadFault.{ReadFault}
 use Rattle.sgf_tree.specs.declared.fault.ReadFault.TheVariants.{TooLong as TextTooLong, NotSgf as TextNotSgf, Memory as TextMemory}
@@ -11,9 +10,8 @@ use Rattle.sgf_lines.specs.Page.{lines_after, lines_asked}
 use Rattle.sgf_lines.specs.Record.{output, record_of}
 use Rattle.sgf_lines.specs.Ends.{SourceState, SinkState}
 use Rattle.sgf_lines.specs.Cursor.{CursorState, advanced}
-use Rattle.sgf_lines.specs.Answer.{IsWhole, Answers, IsCutShort, IsCutBetween}
+use Rattle.sgf_lines.specs.Answer.{IsWhole, IsCutShort, IsCutBetween}
 use Rattle.sgf_lines.specs.declared.options.Form.{Form}
-use Rattle.sgf_lines.specs.declared.options.Options.{Options}
 use Rattle.sgf_lines.specs.declared.fault.RunFault.{RunFault}
 use Rattle.sgf_lines.specs.declared.fault.RunFault.TheVariants.{Read, TooLong, NotSgf, NoSuchLine, Write, Memory}
 
@@ -38,21 +36,6 @@ abbrev pub unread : ReadFault → ℕ → RunFault
 unread TextTooLong len = TooLong
 unread (TextNotSgf at) len = NotSgf at len
 unread TextMemory len = Memory 0
-
--- the answer of a run whose source gave this text
-pub record Finishes (options : Options) (text : List ℕ) (to_come : Option (List ℕ)) (sink new_sink : SinkState) (result : Result ℕ RunFault) : Type 0 where
-  pub taken : List ℕ
-  pub takes : Appends sink.taken new_sink.taken taken
-  pub answers : Answers options text to_come taken result
-
--- that answer, where the source is at its end
-abbrev pub IsSplit : Options → List ℕ → SinkState → SinkState → Result ℕ RunFault → Type 0
-IsSplit options text sink new_sink result =
-    (to_come : Option (List ℕ)) → IsWhole text to_come → Finishes options text to_come sink new_sink result
-
--- that answer, for each text that spells the collection
-abbrev pub IsSplitOf : Options → Games → SinkState → SinkState → Result ℕ RunFault → Type 0
-IsSplitOf options games sink new_sink result = (text : List ℕ) → Spells games text → IsSplit options text sink new_sink result
 
 -- where a cursor stands before the page, or why there is none
 abbrev pub IsStart : Games → Option ℕ → Result CursorState RunFault → Type 0

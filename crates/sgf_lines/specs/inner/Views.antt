@@ -2,17 +2,9 @@
 use Rattle.std.specs.Prelude.{◌≡◌, ℕ, List, Some, map, drop}
 use Rattle.sgf_tree.specs.Tree.{Games}
 use Rattle.sgf_tree.specs.FileOrder.{node_at}
-use Rattle.sgf_lines.specs.declared.game_kind.GameKind.{GameKind as KindInMemory}
-use Rattle.sgf_lines.specs.declared.game_kind.GameKind.TheVariants.{NotGo, BadSize, Board}
 use Rattle.sgf_lines.specs.declared.line.LineRef.{LineRef}
-use Rattle.sgf_lines.specs.declared.list_row.Row.{Row}
+use Rattle.sgf_lines.specs.declared.form.row.Row.{Row}
 use Rattle.sgf_lines.specs.Lines.{Line, place_of}
-use Rattle.sgf_lines.specs.JudgedGames.{GameKind, not_go, bad_size, board}
-
-abbrev pub shown_game_kind : KindInMemory → GameKind
-shown_game_kind NotGo = not_go
-shown_game_kind BadSize = bad_size
-shown_game_kind (Board side) = board side
 
 -- a line's game, its place, and the numbers of its nodes
 pub record IsShownAs (games : Games) (line : Line) (shown : LineRef) : Type 0 where

@@ -1,11 +1,11 @@
 -- The properties and the raw values that stand at the front of a text, as functions, so that they may be what is seen of a
 -- part of the text. `ArePropertiesIn` and `AreValuesIn` tie them to the grammar.
-use Rattle.std.specs.Prelude.{◌≡◌, ◌≢◌, ℕ, zero, suc, ◌+◌, ◌<◌, ◌≤◌, Bool, false, ◌||◌, ◌==◌, if◌then◌else◌, List, [], ◌∷◌, length, drop, slice_range, filter, Option, None, Some}
+use Rattle.std.specs.Prelude.{◌≡◌, ◌≢◌, ℕ, zero, suc, ◌+◌, ◌<◌, ◌≤◌, Bool, false, ◌||◌, ◌==◌, if◌then◌else◌, List, [], ◌∷◌, ◌++◌, length, drop, slice_range, filter, IsTrue, Option, None, Some}
 use Rattle.std.specs.List.{flat_map}
 use Rattle.sgf_tree.specs.Bytes.{semicolon, open_bracket, backslash, close_bracket}
 use Rattle.sgf_tree.specs.Tree.{Property}
 use Rattle.sgf_tree.specs.Spelling.{WhiteSpace, is_white_space, is_upper, is_lower, IsPropValue, ArePropValues, IsProperty, AreProperties}
-use Rattle.sgf_tree.specs.Written.{value_text, property_text, IsWrittenFront}
+use Rattle.sgf_tree.specs.Written.{value_text, property_text}
 
 -- a letter of an identifier
 abbrev pub is_letter : ℕ → Bool
@@ -74,6 +74,10 @@ property_from name (first ∷ more) = record { name = name; first = first; more 
 abbrev pub name_in : List ℕ → List ℕ
 name_in identifier = filter is_upper identifier
 
+-- an identifier begins with a capital
+abbrev pub BeginsName : List ℕ → Type 0
+BeginsName identifier = (letter : ℕ) × (rest : List ℕ) × (identifier ≡ letter ∷ rest) × IsTrue (is_upper letter)
+
 -- up to so many properties, each after white space
 unfoldable pub properties_up_to : ℕ → List ℕ → List Property
 properties_up_to zero text = []
@@ -139,6 +143,16 @@ pub record IsPastValues (text rest : List ℕ) : Type 0 where
 pub record IsValuesEnd (text : List ℕ) (from end : ℕ) : Type 0 where
   pub within : end ≤ length text
   pub past : IsPastValues (drop from text) (drop end text)
+
+-- a list goes on after another
+abbrev pub GoesOn : List ℕ → List ℕ → Type 0
+GoesOn old new = (more : List ℕ) × (new ≡ old ++ more)
+
+-- properties were taken off the front of others, and that is their text
+pub record IsWrittenFront (old new : List Property) (text : List ℕ) : Type 0 where
+  pub taken : List Property
+  pub front : old ≡ taken ++ new
+  pub written : text ≡ flat_map property_text taken
 
 -- values stand from one offset to another as the sgf form writes them
 pub record AreValuesWritten (whole_text : List ℕ) (from end : ℕ) : Type 0 where

@@ -96,15 +96,21 @@ pub record IsShortFront (text : List ℕ) : Type 0 where
   pub bracket : slice_index text 2 ≡ open_bracket
   pub value : IsTwoPlain text 3
 
+-- white space begins at `at`, or none, and no `[` follows
+pub record IsPropertyEnd (text : List ℕ) (at : ℕ) : Type 0 where
+  pub next : ℕ
+  pub white_space : IsSpan is_white_space text at next
+  pub other : next < length text → slice_index text next ≢ open_bracket
+
+-- and then the end of the property
+pub record IsLoneFront (text : List ℕ) : Type 0 where
+  pub front : IsShortFront text
+  pub ends : IsPropertyEnd text 6
+
 -- and then the end of the node
 pub record IsLoneNode (text : List ℕ) : Type 0 where
   pub front : IsShortFront text
   pub ends : IsNodeEnd text 6
-
--- and then the name of another property
-pub record IsFrontOfMore (text : List ℕ) : Type 0 where
-  pub front : IsShortFront text
-  pub next : IsTrue (is_upper (slice_index text 6))
 
 -- no raw value begins at `at`
 abbrev pub SpellsNoValue : List ℕ → ℕ → Type 0

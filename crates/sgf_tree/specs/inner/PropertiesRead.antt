@@ -51,11 +51,6 @@ abbrev pub IsFaultInValue : List ℕ → ℕ → PartFault → Type 0
 IsFaultInValue text at fault =
     (node : Started) (name : List ℕ) (before : List (List ℕ)) → ComesTo text at (in_value node name before []) → IsTrueFault text fault
 
--- or after the `[` at `bracket`, which is that of a property's first value
-abbrev pub IsFaultInValues : List ℕ → ℕ → PartFault → Type 0
-IsFaultInValues text bracket fault =
-    (node : Started) (name : List ℕ) → ComesTo text (bracket + 1) (in_value node name [] []) → IsTrueFault text fault
-
 -- or after the letter at `start`, which began a name
 abbrev pub IsFaultInProperty : List ℕ → ℕ → PartFault → Type 0
 IsFaultInProperty text start fault =

@@ -12,7 +12,7 @@ ghost use Rattle.sgf_tree.specs.inner.GamesRead.{StandsBetween, IsNodeRead, Read
 use crate::fault::MAX_LENGTH;
 use crate::layout::{Link, LongValue, NodeEntry};
 use crate::reader::fault::PartFault;
-use crate::reader::properties::read_properties;
+use crate::reader::properties::{ends_at_once, read_properties};
 use crate::reader::scan::skip_white_space;
 
 /// Reads all games, of which the first `(` may stand at `at`.
@@ -121,7 +121,11 @@ fn read_node(
     ensures fault { IfErr result (IsFaultInNode text.now (place + 1)) }
     ensures kept { OnOk result (AreKeptEnds text.now long.new.items) }
 {
-    let end = read_properties(text, place + 1, long)?;
+    let end = if ends_at_once(text, place + 1) {
+        place + 1
+    } else {
+        read_properties(text, place + 1, long)?
+    };
     nodes.push(NodeEntry {
         place: place as u32,
         link,

@@ -1,15 +1,11 @@
 //! Where spans of a text end.
 
-ghost use Rattle.std.specs.Prelude.{◌≡◌, ◌+◌, ◌≤◌, ◌<◌, length, drop, slice_index, slice_range, IsTrue, IfSome, MatchOption};
+ghost use Rattle.std.specs.Prelude.{◌≡◌, ◌≤◌, ◌<◌, length, drop, slice_index, slice_range, IsTrue, IfSome};
 ghost use Rattle.sgf_tree.specs.Spelling.{is_white_space, is_upper};
 ghost use Rattle.sgf_tree.specs.inner.NodeText.{is_letter};
-ghost use Rattle.sgf_tree.specs.inner.Progress.{IsSpan, IsValueEnd, IsUnended, SpellsValue, SpellsNoValue, HasNoBracket, IsNextBracket, IsBareBracket, AreBackslashesBefore, AreEscapes, IsTwoPlain, IsNodeEnd, IsShortFront, IsLoneNode, IsFrontOfMore};
+ghost use Rattle.sgf_tree.specs.inner.Progress.{IsSpan, IsNodeEnd, IsPropertyEnd, IsShortFront, IsLoneNode, IsLoneFront};
 
-use memchr::memchr;
-use std::simd::prelude::*;
-
-/// How many bytes are looked at before a search, which costs more to begin: sizes, names and clock times are short.
-const NEAR: usize = 16;
+use crate::reader::value::is_two_plain;
 
 /// The text from an offset on.
 pub(crate) fn rest_from(text: &[u8], at: usize) -> &[u8]
@@ -136,11 +132,21 @@ pub(crate) fn is_lone_node(text: &[u8]) -> bool
     is_short_front(text) && ends_node(text, 6)
 }
 
-/// Whether the text begins with a node that begins as `;B[pd]C` does.
-pub(crate) fn is_front_of_more(text: &[u8]) -> bool
-    ensures { IsTrue result → IsFrontOfMore text.now }
+/// Whether the text begins with a node whose first property is written as `B[pd]` is, and has no other value.
+/// Where it answers no, nothing is known.
+pub(crate) fn is_lone_front(text: &[u8]) -> bool
+    ensures { IsTrue result → IsLoneFront text.now }
 {
-    is_short_front(text) && text[6].is_ascii_uppercase()
+    is_short_front(text) && ends_values(text, 6)
+}
+
+/// Whether the values of a property end at `at`: white space there, or none, and another byte than `[`.
+fn ends_values(text: &[u8], at: usize) -> bool
+    requires { at ≤ length text.now }
+    ensures { IsTrue result → IsPropertyEnd text.now at }
+{
+    let end = skip_white_space(text, at);
+    end == text.len() || text[end] != b'['
 }
 
 /// Whether the text begins with a `;` and a property that is written as `B[pd]` is, and goes on.
@@ -157,122 +163,4 @@ fn ends_node(text: &[u8], at: usize) -> bool
 {
     let end = skip_white_space(text, at);
     end < text.len() && text[end] < b'A'
-}
-
-/// The `]` that ends the raw value at `at`, where it is short, as most are.
-/// Where it answers None, nothing is known.
-#[inline(always)]
-pub(crate) fn short_value_end(text: &[u8], at: usize) -> Option<usize>
-    requires { at ≤ length text.now }
-    ensures read { IfSome result (IsValueEnd text.now at) }
-    ensures spelled { IfSome result (SpellsValue text.now at) }
-{
-    if is_two_plain(text, at) {
-        return Some(at + 2);
-    }
-    let near = near_value_end(text, at)?;
-    Some(near)
-}
-
-/// Whether the raw value at `at` is two bytes, as a point is, that stand for themselves.
-fn is_two_plain(text: &[u8], at: usize) -> bool
-    requires { at ≤ length text.now }
-    ensures { IsTrue result → IsTwoPlain text.now at }
-{
-    text.len() - at > 2
-        && text[at + 2] == b']'
-        && text[at] != b']'
-        && text[at] != b'\\'
-        && text[at + 1] != b']'
-        && text[at + 1] != b'\\'
-}
-
-/// The `]` that ends the raw value at `at`, where it is the first one, among the `NEAR` bytes there.
-/// Where it answers None, nothing is known.
-fn near_value_end(text: &[u8], at: usize) -> Option<usize>
-    requires { at ≤ length text.now }
-    ensures { IfSome result (IsBareBracket text.now at) }
-{
-    if text.len() - at < NEAR {
-        return None;
-    }
-    let bracket = near_bracket(text, at)?;
-    if bracket != at && text[bracket - 1] == b'\\' {
-        return None;
-    }
-    Some(bracket)
-}
-
-/// The first `]` among the `NEAR` bytes at `at`, all compared at once.
-fn near_bracket(text: &[u8], at: usize) -> Option<usize>
-    requires { at + NEAR ≤ length text.now }
-    ensures { MatchOption result (HasNoBracket text.now at (at + NEAR)) (λ end. IsNextBracket text.now at end) }
-{
-    let found = u8x16::from_slice(&text[at..])
-        .simd_eq(u8x16::splat(b']'))
-        .to_bitmask();
-    if found == 0 {
-        None
-    } else {
-        Some(at + found.trailing_zeros() as usize)
-    }
-}
-
-/// The `]` that ends the raw value at `at`, by searches.
-/// None where the text ends before it.
-///
-/// A `]` is escaped where an odd number of `\` stand directly before it. They are counted from the value's start on, or from the
-/// end of an escape on, since the bytes before belong to other units.
-#[inline(never)]
-pub(crate) fn far_value_end(text: &[u8], at: usize) -> Option<usize>
-    requires { at ≤ length text.now }
-    ensures read { MatchOption result (IsUnended text.now at) (λ end. IsValueEnd text.now at end) }
-    ensures spelled { MatchOption result (SpellsNoValue text.now at) (λ end. SpellsValue text.now at end) }
-{
-    let mut start = at;
-    'brackets: while let Some(bracket) = far_bracket(text, start) {
-        let escapes = bracket - first_escape(text, start, bracket);
-        if escapes % 2 == 0 {
-            return Some(bracket);
-        }
-        start = escapes_end(text, bracket + 1);
-    }
-    None
-}
-
-/// The first `]` from `at` on, by a search that costs something to begin.
-#[inline(never)]
-fn far_bracket(text: &[u8], at: usize) -> Option<usize>
-    requires { at ≤ length text.now }
-    ensures { MatchOption result (HasNoBracket text.now at (length text.now)) (λ end. IsNextBracket text.now at end) }
-{
-    match memchr(b']', &text[at..]) {
-        Some(further) => Some(at + further),
-        None => None,
-    }
-}
-
-/// The first of the `\` that stand directly before `end`, from `at` on, or `end` where none does.
-fn first_escape(text: &[u8], at: usize, end: usize) -> usize
-    requires rises { at ≤ end }
-    requires within { end ≤ length text.now }
-    ensures { AreBackslashesBefore text.now at result end }
-{
-    let mut first = end;
-    'escapes: while first != at && text[first - 1] == b'\\' {
-        first -= 1;
-    }
-    first
-}
-
-/// The end of the escapes that stand side by side at `at`.
-fn escapes_end(text: &[u8], at: usize) -> usize
-    requires { at ≤ length text.now }
-    ensures { AreEscapes text.now at result }
-{
-    let mut end = at;
-    'escapes: while text.len() - end > 1 && text[end] == b'\\' {
-        end += 2;
-    }
-    end
 }

@@ -56,10 +56,10 @@ returns-in_default-put_number-2-clause-answer g c =
 
 pub returns-in-Ok-flush-clause-answer : goal.returns-in-Ok-flush-clause-answer
 returns-in-Ok-flush-clause-answer g c =
-    row_flushed (counts_row c.args.counts.now) (g.T.Sink.state c.args.sink.now) (g.T.Sink.state c.put_number-3.new.sink) (g.T.Sink.state c.flush.new.self) tt
+    row_flushed (counts_row c.args.counts.now) (g.T.Sink.state c.args.sink.now) (g.T.Sink.state c.put_number-3.new.sink) _ tt
     (all_taken g (goal.at.returns-in-Ok-flush-clause-answer g c).After-flush) c.in-Ok-flush.ensures
 
 pub returns-in-Err-clause-answer : goal.returns-in-Err-clause-answer
 returns-in-Err-clause-answer g c =
-    row_not_flushed (counts_row c.args.counts.now) (g.T.Sink.state c.args.sink.now) (g.T.Sink.state c.put_number-3.new.sink) (g.T.Sink.state c.flush.new.self)
+    row_not_flushed (counts_row c.args.counts.now) (g.T.Sink.state c.args.sink.now) (g.T.Sink.state c.put_number-3.new.sink) _
     (all_taken g (goal.at.returns-in-Err-clause-answer g c).After-flush) c.in-Err.ensures

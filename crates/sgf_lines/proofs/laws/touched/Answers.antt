@@ -1,6 +1,7 @@
 -- The lines touch the nodes one after the other, and a page plays no more of them.
 use Rattle.sgf_lines.proofs.Touched.{touched_all}
 use Rattle.sgf_lines.proofs.PagePlays.{page_plays}
+use Rattle.sgf_lines.proofs.Distinct.{judged_touched}
 use Rattle.sgf_lines.proofs.laws.touched.Goals as goal
 
 pub returns-clause-places : goal.returns-clause-places
@@ -8,3 +9,6 @@ returns-clause-places c = λ games text spelled. touched_all games (c.places_ris
 
 pub returns-clause-plays : goal.returns-clause-plays
 returns-clause-plays c = λ games text spelled options ls is. page_plays games (c.places_rise.ensures games text spelled) options ls is
+
+pub returns-clause-page : goal.returns-clause-page
+returns-clause-page c = judged_touched

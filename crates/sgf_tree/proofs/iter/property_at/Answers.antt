@@ -1,5 +1,6 @@
-use Rattle.std.proofs.Common.{◌+◌, ℕ, List, Option, Some, None, IsSome, MatchOption, drop, slice_range, refl, subst}
+use Rattle.std.proofs.Common.{◌+◌, ◌∙◌, get_or, ℕ, List, Option, Some, None, IsSome, MatchOption, drop, slice_range, refl, subst}
 use Rattle.sgf_tree.specs.inner.NodeText.{IsNoPropValue, IsValueAt}
+use Rattle.sgf_tree.proofs.NameEnds.{name-begins}
 use Rattle.sgf_tree.proofs.Iterating.{IsNextProperty, value-there, next-property}
 use Rattle.sgf_tree.proofs.iter.property_at.Goals as goal
 use Rattle.sgf_tree.proofs.iter.property_at.Goals.{After-values_end-next}
@@ -30,7 +31,17 @@ found c =
     value.spelled c.values_end-next.ensures.past
 
 pub invariant_of-property : goal.invariant_of-property
-invariant_of-property c = rw c.rest_from.ensures (found (goal.at.invariant_of-property c).After-values_end-next).more
+invariant_of-property c =
+    let s = c.args.text.now in
+    let capital = c.requires.capital in (
+      rw c.rest_from.ensures (found (goal.at.invariant_of-property c).After-values_end-next).more,
+      (
+        get_or s c.args.start 0,
+        slice_range s (c.args.start + 1) c.identifier_end-end.result,
+        c.part.ensures ∙ name-begins s c.args.start c.identifier_end-end.result c.requires.within capital c.identifier_end-end.ensures,
+        capital,
+      ),
+    )
 
 pub returns-clause-left : goal.returns-clause-left
 returns-clause-left c = (found (goal.at.returns-clause-left c).After-values_end-next).left

@@ -3,25 +3,27 @@ use Rattle.go_board.proofs.RegionLemmas.{not_white, not_black, seed_is, room_is,
 use Rattle.go_board.proofs.board.Board.areas.Goals as goal
 
 pub returns-clause-black : goal.returns-clause-black
-returns-clause-black n c =
+returns-clause-black c =
     let g = c.args.self.now in
-    let rows = c.stones.new.black in
-    let others = c.stones.new.white in
+    let black = c.write_rows_of.new.rows in
+    let white = c.write_rows_of-2.new.rows in
+    let of_black = c.write_rows_of.ensures in
+    let of_white = c.write_rows_of-2.ensures in
     let room = c.other_points.new.others in
-    let is = c.stones.ensures in
-    AreRowsOf-filled g Empty Black room rows c.fill_both.new.black
-    (room_is g Black White not_white rows others room is.black is.white is.white_rows c.other_points.ensures)
-    (seed_is g Black White not_white rows others room is.black is.white is.white_rows c.other_points.ensures)
-    c.fill_both.ensures.black_grows c.fill_both.ensures.black_closed
+    AreRowsOf-filled g Empty Black room black c.fill.new.rows
+    (room_is g Black White not_white black white room of_black.are of_white.are of_white.rows c.other_points.ensures)
+    (seed_is g Black White not_white black white room of_black.are of_white.are of_white.rows c.other_points.ensures)
+    c.fill.ensures.grows c.fill.ensures.closed
 
 pub returns-clause-white : goal.returns-clause-white
-returns-clause-white n c =
+returns-clause-white c =
     let g = c.args.self.now in
-    let rows = c.stones.new.white in
-    let others = c.stones.new.black in
+    let black = c.write_rows_of.new.rows in
+    let white = c.write_rows_of-2.new.rows in
+    let of_black = c.write_rows_of.ensures in
+    let of_white = c.write_rows_of-2.ensures in
     let room = c.other_points-2.new.others in
-    let is = c.stones.ensures in
-    AreRowsOf-filled g Empty White room rows c.fill_both.new.white
-    (room_is g White Black not_black rows others room is.white is.black is.black_rows c.other_points-2.ensures)
-    (seed_is g White Black not_black rows others room is.white is.black is.black_rows c.other_points-2.ensures)
-    c.fill_both.ensures.white_grows c.fill_both.ensures.white_closed
+    AreRowsOf-filled g Empty White room white c.fill-2.new.rows
+    (room_is g White Black not_black white black room of_white.are of_black.are of_black.rows c.other_points-2.ensures)
+    (seed_is g White Black not_black white black room of_white.are of_black.are of_black.rows c.other_points-2.ensures)
+    c.fill-2.ensures.grows c.fill-2.ensures.closed

@@ -1,27 +1,25 @@
-use Rattle.std.proofs.Common.{◌≡◌, ◌*◌, arith, ap, sym, ◌∙◌, length, subst}
-use Rattle.std.proofs.lemmas.List.{length-replicate}
-use Rattle.go_board.specs.declared.stones.Cell.TheVariants.{Empty}
-use Rattle.go_board.specs.declared.size.TheConstants.{MAX_POINTS}
+use Rattle.std.proofs.Common.{◌≡◌, ◌*◌, ◌≤◌, arith, ap, sym, ◌∙◌, subst}
 use Rattle.go_board.specs.Grid.{Grid, empty_grid}
 use Rattle.go_board.specs.Clearing.{has_unreaching}
 use Rattle.go_board.specs.inner.Print.{print_of}
-use Rattle.go_board.specs.inner.Regions.{AreRowsKept}
+use Rattle.go_board.specs.inner.Regions.{AreStones, grid_with}
 use Rattle.go_board.proofs.PrintSetLemmas.{print-empty}
-use Rattle.go_board.proofs.FrontLemmas.{grid_in, grid_in-replicate}
+use Rattle.go_board.proofs.StoneRowsLemmas.{grid_is}
 use Rattle.go_board.proofs.SettledLemmas.{settled-empty_grid}
 use Rattle.go_board.proofs.board.Board.empty.Goals as goal
 
-empty_front : (c : goal.After-none) → grid_in c.args.size c.nothing.result ≡ empty_grid c.args.size
-empty_front c = grid_in-replicate c.args.size MAX_POINTS c.nothing.result c.nothing.ensures (omega arith)
+are : (c : goal.After-none) → AreStones (empty_grid c.args.size) c.none.result
+are c = let small : c.args.size ≤ 52 = omega (arith, c.side.ensures.value, c.side.ensures.at_most) in c.none.ensures c.args.size small
+
+is_empty : (c : goal.After-none) → grid_with c.args.size c.none.result ≡ empty_grid c.args.size
+is_empty c = grid_is (empty_grid c.args.size) c.none.result (are c)
 
 pub invariant_of-result : goal.invariant_of-result
 invariant_of-result c = (
-  ap length c.nothing.ensures ∙ length-replicate MAX_POINTS Empty,
-  omega arith,
-  λ _. ap has_unreaching (empty_front c) ∙ settled-empty_grid c.args.size,
-  λ _. sym (ap (λ (g : Grid). print_of g.cells) (empty_front c) ∙ print-empty (c.args.size * c.args.size)),
-  subst (λ g. AreRowsKept g c.none.result) (sym (empty_front c)) (c.none.ensures c.args.size (omega arith)),
+  subst (λ g. AreStones g c.none.result) (sym (is_empty c)) (are c),
+  λ _. ap has_unreaching (is_empty c) ∙ settled-empty_grid c.args.size,
+  λ _. sym (ap (λ (g : Grid). print_of g.cells) (is_empty c) ∙ print-empty (c.args.size * c.args.size)),
 )
 
 pub returns : goal.returns
-returns c = empty_front c
+returns c = is_empty c

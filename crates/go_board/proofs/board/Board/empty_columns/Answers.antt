@@ -1,33 +1,26 @@
-use Rattle.std.proofs.Common.{sym, subst, arith}
+use Rattle.std.proofs.Common.{◌≡◌, ◌+◌, ◌*◌, ◌∙◌, length, ap, arith, subst, sym}
+use Rattle.go_board.specs.Point.{IsOn}
 use Rattle.go_board.specs.inner.Groups.{IsWithout}
-use Rattle.go_board.proofs.SweepLemmas.{InTaken, lowest_left, next_part, next_smaller, taken_more}
+use Rattle.go_board.specs.inner.Rows.{has_bit}
+use Rattle.go_board.proofs.SweepLemmas.{InColumnsBefore, columns_more, columns_same}
 use Rattle.go_board.proofs.board.Board.empty_columns.Goals as goal
+use Rattle.go_board.proofs.board.Board.empty_columns.Goals.{then-has_column, else-has_column}
 
-pub set-requires : goal.set-requires
-set-requires c =
-    let l = c.columns in
-    let lowest = lowest_left c.args.columns l.left c.columns-test.true c.ranges.columns.fits l.invariant.part in
-    let below = c.requires.columns _ (l.invariant.part _ lowest.0) in
-    let side = l.invariant.taken.same_side in
-    (omega (arith, below, side), omega (arith, c.requires.row, side))
-
-pub without_column-left-requires : goal.without_column-left-requires
-without_column-left-requires c =
-    (lowest_left c.args.columns c.columns.left c.columns-test.true c.ranges.columns.fits c.columns.invariant.part).1
-
-pub columns-smaller : goal.columns-smaller
-columns-smaller c =
-    let l = c.columns in
-    let next = c.without_column-left in
-    next_smaller c.args.columns l.left next.result c.columns-test.true c.ranges.columns.fits l.invariant.part next.ensures.there next.ensures.elsewhere
-
-pub columns-preserved : goal.columns-preserved
-columns-preserved c =
-    let l = c.columns in
-    let g = c.args.self.now in
-    let next = c.without_column-left in
-    record {
-      part = next_part c.args.columns l.left next.result c.columns-test.true c.ranges.columns.fits l.invariant.part next.ensures.there next.ensures.elsewhere;
-      taken = subst (λ h. IsWithout g h (InTaken c.args.row c.args.columns next.result)) (sym c.set.ensures)
-          (taken_more c.args.columns l.left next.result c.columns-test.true c.ranges.columns.fits l.invariant.part next.ensures.there next.ensures.elsewhere g l.self c.args.row c.requires.columns c.requires.row l.invariant.taken);
-    }
+pub each-preserved : goal.each-preserved
+each-preserved c =
+    let col = c.each.col in
+    let row = c.args.row in
+    let columns = c.args.columns in
+    let h = c.each.self in
+    let so_far = c.each.invariant in
+    let bit : c.has_column.result ≡ has_bit columns col = c.has_column.ensures ∙ ap (has_bit columns) c.from.ensures in
+    let all : length h.cells ≡ h.side * h.side = so_far.all ∙ c.has_all_cells.ensures.all ∙ ap (λ n. n * n) (sym so_far.same_side) in
+    let on : IsOn h.side (record { col = col; row = row }) = (omega (arith, so_far.same_side, c.each-test.true), omega (arith, so_far.same_side, c.requires)) in
+    elim c.if-has_column.branch [
+      | then-has_column w ↦
+          subst (λ g. IsWithout c.args.self.now g (InColumnsBefore row columns (col + 1))) (sym (w.self-is ∙ w.set.ensures))
+          (columns_more c.args.self.now h row columns col all on (sym bit ∙ w.if-has_column.true) so_far)
+      | else-has_column w ↦
+          subst (λ g. IsWithout c.args.self.now g (InColumnsBefore row columns (col + 1))) (sym w.self-is)
+          (columns_same c.args.self.now h row columns col (sym bit ∙ w.if-has_column.false) so_far)
+    ]

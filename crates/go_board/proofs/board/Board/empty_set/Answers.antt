@@ -1,10 +1,12 @@
-use Rattle.std.proofs.Common.{slice_index, sym, true, ◌≡◌, ap, ◌∙◌, arith}
+use Rattle.std.proofs.Common.{slice_index, true, ◌≡◌, subst}
 use Rattle.go_board.specs.inner.Rows.{has_bit}
+use Rattle.go_board.specs.inner.Groups.{IsWithout}
+use Rattle.go_board.proofs.SweepLemmas.{rows_more}
 use Rattle.go_board.proofs.board.Board.empty_set.Goals as goal
 
-pub empty_columns-requires-clause-columns : goal.empty_columns-requires-clause-columns
-empty_columns-requires-clause-columns c = λ col is.
+pub rows-preserved : goal.rows-preserved
+rows-preserved c =
     let rows = c.args.rows.now in
-    let there : has_bit (slice_index rows c.rows.row) col ≡ true = ap (λ r. has_bit (slice_index rows r) col) (sym c.from.ensures) ∙ is in
-    let on = c.requires.on_board (record { col = col; row = c.rows.row }) there in
-    omega (arith, on.0, c.rows.invariant.same_side)
+    let row = c.rows.row in
+    rows_more c.args.self.now c.rows.self c.empty_columns.new.self rows row c.rows.invariant
+    (subst (λ r. IsWithout c.rows.self c.empty_columns.new.self (λ p. (p.row ≡ row) × (has_bit (slice_index rows r) p.col ≡ true))) c.from.ensures c.empty_columns.ensures)

@@ -1,18 +1,31 @@
 use Rattle.std.proofs.Common.{◌∙◌}
-use Rattle.go_board.proofs.StoneRowsLemmas.{AreStoneRows-known}
+use Rattle.go_board.proofs.GridLemmas.{Decides-same_cell}
+use Rattle.go_board.proofs.StoneGroupLemmas.{rows_of_opponent, Reaches-liberty, IsWithoutLiberty-shut}
 use Rattle.go_board.proofs.board.Board.group_has_liberty.Goals as goal
 
-pub rows_have_liberty-requires : goal.rows_have_liberty-requires
-rows_have_liberty-requires n c =
-    let are = AreStoneRows-known c.args.self.now _ c.self.inside.rows c.from-side.result c.self.view_is (c.from-side.ensures ∙ c.side.ensures.value) c.self.invariant.1 c.self.invariant.4 c.if-self.true in
-    record {
-      on_board = c.requires.on_board;
-      stone = c.requires.stone;
-      besides = c.requires.besides;
-      rows = c.requires.rows;
-      none = c.requires.none;
-      black_rows = are.black_rows;
-      white_rows = are.white_rows;
-      black = are.black;
-      white = are.white;
-    }
+pub has_liberty-requires-clause-stone : goal.has_liberty-requires-clause-stone
+has_liberty-requires-clause-stone c =
+    c.rows_of.ensures.are.on c.args.from c.requires.on_board ∙ (Decides-same_cell _ _).1 c.requires.stone
+
+pub returns-clause-lives : goal.returns-clause-lives
+returns-clause-lives c = λ lives.
+    let g = c.args.self.now in
+    let k = c.args.colour in
+    let found = c.has_liberty.ensures.lives lives in
+    Reaches-liberty g k c.rows_of.result.now c.rows_of-2.result.now c.args.from c.rows_of.ensures.rows c.rows_of.ensures.are
+    (rows_of_opponent g k c.opponent.result c.rows_of-2.result.now c.opponent.ensures c.rows_of-2.ensures.are)
+    c.requires.on_board c.requires.stone found.0 found.1
+
+pub returns-clause-shut : goal.returns-clause-shut
+returns-clause-shut c = λ none.
+    let g = c.args.self.now in
+    let k = c.args.colour in
+    IsWithoutLiberty-shut g k c.rows_of.result.now c.rows_of-2.result.now c.args.from c.rows_of.ensures.rows c.rows_of.ensures.are
+    (rows_of_opponent g k c.opponent.result c.rows_of-2.result.now c.opponent.ensures c.rows_of-2.ensures.are)
+    _ (c.has_liberty.ensures.shut none)
+
+pub returns-clause-start : goal.returns-clause-start
+returns-clause-start c = λ none. (c.has_liberty.ensures.shut none).start
+
+pub returns-clause-on_grid : goal.returns-clause-on_grid
+returns-clause-on_grid c = λ none p is. c.rows_of.ensures.are.off p ((c.has_liberty.ensures.shut none).within p is)

@@ -1,8 +1,8 @@
-use Rattle.std.proofs.Common.{arith, ap, subst, refl, ◌∙◌}
+use Rattle.std.proofs.Common.{ap, subst, refl, ◌∙◌}
 use Rattle.go_board.specs.Colour.{stone_of}
 use Rattle.go_board.specs.Grid.{with_cell}
 use Rattle.go_board.specs.inner.Groups.{LosesShut, ReachBeside}
-use Rattle.go_board.proofs.FrontLemmas.{length-grid_in}
+use Rattle.go_board.proofs.StoneRowsLemmas.{all_cells}
 use Rattle.go_board.proofs.MoveLemmas.{captured_is_play}
 use Rattle.go_board.proofs.board.Board.place_settled.Goals as goal
 
@@ -12,7 +12,7 @@ returns c =
     let k = c.args.colour in
     let p = c.args.point in
     let i = c.self.inside in
-    let all = length-grid_in i.size i.cells g c.self.view_is (omega (arith, c.self.invariant)) in
+    let all = all_cells i.size i.rows g c.self.view_is in
     let here = c.set.ensures ∙ ap (with_cell g p) c.stone.ensures in
     let around = c.capture_around in
     captured_is_play g around.new.self c.capture.new.self p k c.requires.on_board all c.requires.settled

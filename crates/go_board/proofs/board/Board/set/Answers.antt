@@ -1,34 +1,14 @@
-use Rattle.std.proofs.Common.{◌<◌, ◌≤◌, ◌≡◌, ◌*◌, length, take, set, ap, sym, refl, subst, arith, ◌∙◌}
-use Rattle.std.proofs.Math.Seq.{take-set-lt}
-use Rattle.std.proofs.lemmas.List.{length-set, length-take-le}
-use Rattle.go_board.specs.Point.{IsOn}
+use Rattle.std.proofs.Common.{sym, ap, ◌∙◌}
 use Rattle.go_board.specs.Grid.{Grid}
 use Rattle.go_board.specs.inner.Print.{print_of}
-use Rattle.go_board.specs.inner.Regions.{AreRowsKept}
-use Rattle.go_board.proofs.FrontLemmas.{grid_in, grid_in-set}
 use Rattle.go_board.proofs.board.Board.set.Goals as goal
-
-pub returns : goal.returns
-returns c =
-    grid_in-set c.self.inside.size c.self.inside.cells c.args.self.now c.args.point c.args.cell c.index-index.result c.self.view_is c.index-index.ensures.value c.index-index.ensures.within
 
 pub invariant_of-self : goal.invariant_of-self
 invariant_of-self c =
-    let i = c.self.inside in
-    let index = c.index-index.result in
-    let below : index < i.size * i.size = c.index-index.ensures.within in (
-      length-set i.cells index c.args.cell ∙ c.self.invariant.0,
-      c.self.invariant.1,
-      λ settled. cc,
+    let new = c.self-2 in (
+      new.invariant.0,
+      new.invariant.1,
       λ printed.
-          c.print_with-self-inside.ensures (c.self.invariant.3 printed ∙ ap (λ n. print_of (take n i.cells)) (sym c.points-points.ensures.value))
-          ∙ ap (λ n. print_of (set (take n i.cells) index c.args.cell)) c.points-points.ensures.value
-          ∙ ap print_of (sym (take-set-lt (i.size * i.size) i.cells index c.args.cell below)),
-      let g = grid_in i.size i.cells in
-          let on_board : IsOn i.size c.args.point = subst (λ (h : Grid). IsOn h.side c.args.point) (sym c.self.view_is) c.requires in
-          let all : length g.cells ≡ i.size * i.size = length-take-le (i.size * i.size) i.cells (omega (arith, c.self.invariant.0, c.self.invariant.1)) in
-          let small : i.size ≤ 52 = omega (arith, c.points-points.type_inv) in
-          subst (λ h. AreRowsKept h c.set.new.self)
-          (sym (grid_in-set i.size i.cells g c.args.point c.args.cell index refl c.index-index.ensures.value below))
-          (c.set.ensures g on_board all small c.self.invariant.4),
+          c.print_with-print.ensures (c.self.invariant.2 printed ∙ ap (λ (g : Grid). print_of g.cells) c.self.view_is)
+          ∙ ap (λ (g : Grid). print_of g.cells) (sym (new.view_is ∙ c.set_unprinted.ensures)),
     )

@@ -1,29 +1,24 @@
-use Rattle.std.proofs.Common.{◌<◌, ◌≤◌, ◌≡◌, ◌*◌, length, sym, refl, subst, arith, ◌∙◌}
-use Rattle.std.proofs.lemmas.List.{length-set, length-take-le}
-use Rattle.go_board.specs.Point.{IsOn}
-use Rattle.go_board.specs.Grid.{Grid}
-use Rattle.go_board.specs.inner.Regions.{AreRowsKept}
-use Rattle.go_board.proofs.FrontLemmas.{grid_in, grid_in-set}
+use Rattle.std.proofs.Common.{◌≡◌, inl, inr, true, ◌∙◌, refl, subst, arith, sym}
+use Rattle.std.proofs.Math.Bool.{or-true}
+use Rattle.std.proofs.lemmas.Bool.{false≢true}
+use Rattle.go_board.specs.inner.Rows.{has_bit}
+use Rattle.go_board.proofs.WordLemmas.{from_more, has_bit-zero}
+use Rattle.go_board.proofs.StoneRowsLemmas.{one_coloured}
 use Rattle.go_board.proofs.board.Board.set_unprinted.Goals as goal
+
+pub colour_columns-requires-clause-columns : goal.colour_columns-requires-clause-columns
+colour_columns-requires-clause-columns c = λ k is.
+    let e = c.with_column-column.ensures in
+    elim (from_more _ _ _ e.there e.elsewhere k is) [
+      | inl none ↦ absurd (false≢true (sym (has_bit-zero k) ∙ none))
+      | inr at ↦ omega (arith, at, c.from.ensures, c.requires.0)
+    ]
 
 pub returns : goal.returns
 returns c =
-    grid_in-set c.self.inside.size c.self.inside.cells c.args.self.now c.args.point c.args.cell c.index-index.result c.self.view_is c.index-index.ensures.value c.index-index.ensures.within
-
-pub invariant_of-self : goal.invariant_of-self
-invariant_of-self c =
-    let i = c.self.inside in
-    let index = c.index-index.result in
-    let below : index < i.size * i.size = c.index-index.ensures.within in (
-      length-set i.cells index c.args.cell ∙ c.self.invariant.0,
-      c.self.invariant.1,
-      λ settled. cc,
-      λ printed. cc,
-      let g = grid_in i.size i.cells in
-          let on_board : IsOn i.size c.args.point = subst (λ (h : Grid). IsOn h.side c.args.point) (sym c.self.view_is) c.requires in
-          let all : length g.cells ≡ i.size * i.size = length-take-le (i.size * i.size) i.cells (omega (arith, c.self.invariant.0, c.self.invariant.1)) in
-          let small : i.size ≤ 52 = omega (arith, c.side.ensures.value, c.side.ensures.at_most) in
-          subst (λ h. AreRowsKept h c.set.new.self)
-          (sym (grid_in-set i.size i.cells g c.args.point c.args.cell index refl c.index-index.ensures.value below))
-          (c.set.ensures g on_board all small c.self.invariant.4),
-    )
+    let e = c.with_column-column.ensures in
+    let columns = c.with_column-column.result in
+    c.colour_columns.ensures
+    ∙ one_coloured c.args.self.now c.args.point c.args.point.row columns c.args.cell c.requires c.has_all_cells.ensures.all refl
+    (subst (λ k. has_bit columns k ≡ true) c.from.ensures (e.there ∙ or-true _))
+    (λ k other. e.elsewhere k (λ at. other (at ∙ c.from.ensures)) ∙ has_bit-zero k)

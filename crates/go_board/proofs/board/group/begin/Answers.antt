@@ -12,7 +12,7 @@ grow_row-requires-clause-within c =
     let old = c.args.group.now in
     let word = c.with_column.result in
     let there : has_bit word from.col ≡ true = ap (has_bit word) (sym c.from.ensures) ∙ c.with_column.ensures.there ∙ or-true (has_bit 0 c.from.result) in
-    first_within own own from from old (set old c.from-row.result word) old word c.requires.none c.requires.on_board.1 there
+    first_within own own from old (set old c.from-row.result word) old word c.requires.none c.requires.on_board.1 there
     (λ k other. c.with_column.ensures.elsewhere k (λ e. other (e ∙ c.from.ensures)) ∙ has_bit-zero k)
     (ap (λ r. set old r word) c.from-row.ensures)
     c.requires.stone
@@ -24,7 +24,7 @@ returns c =
     let old = c.args.group.now in
     let word = c.with_column.result in
     let there : has_bit word from.col ≡ true = ap (has_bit word) (sym c.from.ensures) ∙ c.with_column.ensures.there ∙ or-true (has_bit 0 c.from.result) in
-    IsRowGroup-grown own own from from old (set old c.from-row.result word) c.grow_row.new.rows word c.requires.none c.requires.on_board.1 there
+    IsRowGroup-grown own own from old (set old c.from-row.result word) c.grow_row.new.rows word c.requires.none c.requires.on_board.1 there
     (λ k other. c.with_column.ensures.elsewhere k (λ e. other (e ∙ c.from.ensures)) ∙ has_bit-zero k)
     (ap (λ r. set old r word) c.from-row.ensures)
     c.requires.stone c.grow_row.ensures.grows

@@ -1,4 +1,4 @@
-use Rattle.std.proofs.Common.{◌+◌, sym, ap, subst, arith, slice_index}
+use Rattle.std.proofs.Common.{◌+◌, subst, arith, slice_index}
 use Rattle.go_board.specs.inner.Rows.{IsInOrBeside}
 use Rattle.go_board.specs.declared.points.Point.{Point}
 use Rattle.go_board.proofs.LinkedLemmas.{adjacent-from}
@@ -10,8 +10,7 @@ returns-clause-some c = λ some.
     let row = c.args.row in
     let both = c.meet.ensures.some some in
     let col = both.0 in
-    let left = c.without_point.ensures.left col both.2 in
-    let free = c.free_columns-free.ensures.free col left.0 in
+    let free = c.free_columns-free.ensures.free col both.2 in
     let near = c.columns_beside-beside.ensures.from col both.1 in
     let at = subst (λ a. IsInOrBeside a (slice_index group row) (slice_index group (row + 1)) col) c.row_above.ensures (subst (λ b. IsInOrBeside c.row_above.result (slice_index group row) b col) c.row_below.ensures near) in
     let found = adjacent-from group row col at in
@@ -23,5 +22,4 @@ returns-clause-some c = λ some.
       found.2,
       free.1,
       free.2,
-      λ same. left.1 (sym (ap (λ (x : Point). x.row) same), sym (ap (λ (x : Point). x.col) same)),
     )

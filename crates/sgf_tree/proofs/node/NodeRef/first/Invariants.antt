@@ -1,9 +1,6 @@
-use Rattle.std.proofs.Common.{◌≡◌, length, find}
+use Rattle.std.proofs.Common.{◌≡◌, find}
 use Rattle.std.specs.Str.{bytes_eq}
 use Rattle.sgf_tree.proofs.node.NodeRef.first.Given as goal
 
 abbrev pub invariant-loop-property : goal.invariant-loop-property
-invariant-loop-property l = find (λ p. bytes_eq p.name l.name) l.self.properties ≡ find (λ p. bytes_eq p.name l.name) l.left
-
-abbrev pub decreases-loop-property : goal.decreases-loop-property
-decreases-loop-property l = length l.left
+invariant-loop-property l = find (λ p. bytes_eq p.name l.name) l.self.properties ≡ find (λ p. bytes_eq p.name l.name) l.property-iterator

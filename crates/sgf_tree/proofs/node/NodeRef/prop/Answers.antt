@@ -1,22 +1,8 @@
-use Rattle.std.proofs.Common.{◌≡◌, arith}
+use Rattle.std.proofs.Common.{ap, slice_get, ◌∙◌, sym}
 use Rattle.sgf_tree.specs.Tree.{Property}
-use Rattle.sgf_tree.proofs.Taking.{step-some, step-element, step-left}
+use Rattle.sgf_tree.proofs.Taking.{taken-at}
 use Rattle.sgf_tree.proofs.node.NodeRef.prop.Goals as goal
-
-pub unwrap-requires : goal.unwrap-requires
-unwrap-requires c =
-    step-some (λ (p : Property). p) c.args.self.now.properties c.loop-before._before (omega arith) _ _ _ c.loop-before.invariant c.next.ensures
-
-pub loop-before-preserved : goal.loop-before-preserved
-loop-before-preserved c =
-    step-left (λ (p : Property). p) c.args.self.now.properties c.loop-before._before (omega arith) _ _ _ _ c.loop-before.invariant c.next.ensures c.unwrap.ensures
-
-pub unwrap-requires-2 : goal.unwrap-requires-2
-unwrap-requires-2 c =
-    step-some (λ (p : Property). p) c.args.self.now.properties c.loop-before._before (omega arith) _ _ _ c.loop-before.invariant c.next-2.ensures
 
 pub returns : goal.returns
 returns c =
-    let all : c.loop-before._before ≡ c.args.i = omega arith in
-    rw (← all)
-    (step-element (λ (p : Property). p) c.args.self.now.properties c.loop-before._before (omega arith) _ _ _ _ c.loop-before.invariant c.next-2.ensures c.unwrap-2.ensures)
+    ap (λ ps. slice_get ps c.args.i) (sym c.iter.ensures) ∙ taken-at (λ (p : Property). p) c.iter.result c.args.i c.nth.result c.nth.new.self c.unwrap.result c.nth.ensures.ran c.unwrap.ensures

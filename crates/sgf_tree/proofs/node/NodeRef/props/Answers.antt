@@ -1,5 +1,4 @@
-use Rattle.std.proofs.Common.{ap, length, length-drop, arith, rules}
-use Rattle.sgf_tree.specs.Tree.{Node}
+use Rattle.std.proofs.Common.{ap, inl, length, length-drop, arith}
 use Rattle.sgf_tree.proofs.Iterating.{count-properties-held}
 use Rattle.sgf_tree.proofs.node.NodeRef.props.Goals as goal
 
@@ -10,9 +9,6 @@ new-left-requires c = record {
   kept = c.self.invariant.1;
 }
 
-pub overflow_add-count : goal.overflow_add-count
-overflow_add-count c =
-    omega (arith, c.self.told, c.loop-property.invariant, ap length c.in-Some.ensures, count-properties-held c.self.invariant.0.properties, length-drop 1 c.self.inside.text.now, ap (λ (n : Node). length n.properties) c.self.view_is)
-
-pub loop-property-preserved : goal.loop-property-preserved
-loop-property-preserved c = search rules
+pub count-requires-clause-fits : goal.count-requires-clause-fits
+count-requires-clause-fits c =
+    inl (omega (arith, c.self.told, ap length c.new-left.ensures, count-properties-held c.self.invariant.0.properties, length-drop 1 c.self.inside.text.now))

@@ -1,14 +1,12 @@
-use Rattle.std.proofs.Common.{◌≢◌, ◌<◌, length, get_or, slice_range, arith}
-use Rattle.std.proofs.Common.{ℕ, Result, Ok, Err, IfOk, IfErr}
-use Rattle.sgf_tree.specs.inner.PropertiesRead.{AreValuesRead, IsPropertyRead, IsFaultInValues, IsFaultInProperty}
-use Rattle.sgf_tree.specs.declared.reader.fault.PartFault.{PartFault}
-use Rattle.std.proofs.Common.{◌+◌, [], ◌∷◌, slice_index}
-use Rattle.sgf_tree.specs.inner.Machine.{Started, in_name}
+use Rattle.std.proofs.Common.{◌≡◌, ◌≢◌, ◌<◌, ◌+◌, [], ◌∷◌, length, get_or, slice_range, slice_index, arith}
+use Rattle.std.proofs.lemmas.Result.{err_from_is_err_and}
+use Rattle.sgf_tree.specs.inner.Machine.{Started, in_name, in_value}
 use Rattle.sgf_tree.specs.inner.Progress.{ComesTo}
 use Rattle.sgf_tree.specs.inner.NodeText.{name_in}
 use Rattle.sgf_tree.proofs.NameEnds.{StandsAfterName, name-reached, name-after, name-faulty, name-value}
+use Rattle.sgf_tree.proofs.ValuesRead.{ValuesBefore, values-step, values-more, values-done}
 use Rattle.sgf_tree.proofs.reader.properties.read_property.Goals as goal
-use Rattle.sgf_tree.proofs.reader.properties.read_property.Goals.{After-skip_to_bracket-bracket, then-bracket-text-via-then-bracket-text, then-bracket-text-via-else-bracket-text+then-text-bracket-ne91}
+use Rattle.sgf_tree.proofs.reader.properties.read_property.Goals.{After-skip_to_bracket-bracket, After-skip_white_space-at, then-bracket-text-via-then-bracket-text, then-bracket-text-via-else-bracket-text+then-text-bracket-ne91, then-at-text-via-then-at-text, then-at-text-via-else-at-text+then-text-at-ne91}
 
 -- the name is read
 after : (c : After-skip_to_bracket-bracket) (n : Started) → ComesTo c.args.text.now (c.args.start + 1) (in_name n (slice_index c.args.text.now c.args.start ∷ []))
@@ -29,31 +27,51 @@ returns-then-bracket-text-clause-fault c n h =
     ] in
     name-faulty t at n _ (after (goal.at.returns-then-bracket-text-clause-fault c).After-skip_to_bracket-bracket n h) c.skip_to_bracket-bracket.ensures.within other
 
--- what holds of an answer gives what else holds of it
-ok-gives : {P Q : ℕ → Type 0} (r : Result ℕ PartFault) → ((x : ℕ) → P x → Q x) → IfOk r P → IfOk r Q
-ok-gives (Ok x) f h = f x h
-ok-gives (Err e) f h = h
+-- the machine comes to the first value
+value : (c : After-skip_to_bracket-bracket) → let t = c.args.text.now in let at = c.skip_to_bracket-bracket.result in
+    at < length t → get_or t at 0 ≡ 91 → (n : Started) → ComesTo t (c.args.start + 1) (in_name n (slice_index t c.args.start ∷ []))
+    → ComesTo t (at + 1) (in_value n (name_in (slice_range t c.args.start c.identifier_end.result)) [] [])
+value c lt e n h = name-value c.args.text.now c.skip_to_bracket-bracket.result n _ (after c n h) lt e
 
-err-gives : {P Q : PartFault → Type 0} (r : Result ℕ PartFault) → ((e : PartFault) → P e → Q e) → IfErr r P → IfErr r Q
-err-gives (Ok x) f h = h
-err-gives (Err e) f h = f e h
+-- a value more was read
+read : (c : After-skip_white_space-at) → ValuesBefore c.args.text.now c.skip_to_bracket-bracket.result c.skip_white_space-at.result
+read c =
+    values-step c.args.text.now c.skip_to_bracket-bracket.result c.values.at c.in_ok-end.end c.skip_white_space-at.result c.values.invariant.so_far c.in_ok-end.ensures.read c.skip_white_space-at.ensures
 
-pub returns-clause-read : goal.returns-clause-read
-returns-clause-read c =
+pub returns-in_err-end-clause-fault : goal.returns-in_err-end-clause-fault
+returns-in_err-end-clause-fault c =
+    let p = err_from_is_err_and c.from_residual.result c.from_residual.ensures.1 in
+    let lt : c.skip_to_bracket-bracket.result < length c.args.text.now = omega (arith, c.skip_to_bracket-bracket.ensures.within) in
+    rw (p.1, p.2)
+    (λ n h.
+    let at = c.values.invariant.so_far.reached n _ (value (goal.at.returns-in_err-end-clause-fault c).After-skip_to_bracket-bracket lt c.if-text-bracket-ne91.false n h) in
+    c.in_err-end.ensures.fault n at.0 at.1 at.2)
+
+pub returns-then-at-text-clause-read : goal.returns-then-at-text-clause-read
+returns-then-at-text-clause-read c =
+    let at = c.skip_white_space-at.result in
     let t = c.args.text.now in
-    ok-gives {P = AreValuesRead t c.skip_to_bracket-bracket.result} {Q = IsPropertyRead t c.args.start} c.read_values.result
-    (λ end read.
+    let bracket = c.skip_to_bracket-bracket.result in
+    let lt : bracket < length t = omega (arith, c.skip_to_bracket-bracket.ensures.within) in
+    let other : at < length t → get_or t at 0 ≢ 91 = elim c.then-at-text.branch [
+      | then-at-text-via-then-at-text w ↦ λ lt. absurd (omega (arith, w.if-at-text.true))
+      | then-at-text-via-else-at-text+then-text-at-ne91 w ↦ λ _. w.if-text-at-ne91.true
+    ] in
+    let values = values-done t bracket at (read (goal.at.returns-then-at-text-clause-read c).After-skip_white_space-at) other in
     record {
-      rises = omega (arith, read.rises, c.identifier_end.ensures.rises, c.skip_to_bracket-bracket.ensures.rises);
-      within = read.within;
-      stops = read.stops;
-      reached = λ n h. read.reached n _ (name-value t c.skip_to_bracket-bracket.result n _ (after (goal.at.returns-clause-read c).After-skip_to_bracket-bracket n h) (omega (arith, c.skip_to_bracket-bracket.ensures.within)) c.if-text-bracket-ne91.false);
-    })
-    c.read_values.ensures.read
+      rises = omega (arith, values.rises, c.identifier_end.ensures.rises, c.skip_to_bracket-bracket.ensures.rises);
+      within = values.within;
+      stops = values.stops;
+      reached = λ n h. values.reached n _ (value (goal.at.returns-then-at-text-clause-read c).After-skip_to_bracket-bracket lt c.if-text-bracket-ne91.false n h);
+    }
 
-pub returns-clause-fault : goal.returns-clause-fault
-returns-clause-fault c =
+pub values-preserved : goal.values-preserved
+values-preserved c =
+    let at = c.skip_white_space-at.result in
     let t = c.args.text.now in
-    err-gives {P = IsFaultInValues t c.skip_to_bracket-bracket.result} {Q = IsFaultInProperty t c.args.start} c.read_values.result
-    (λ e fault n h. fault n _ (name-value t c.skip_to_bracket-bracket.result n _ (after (goal.at.returns-clause-fault c).After-skip_to_bracket-bracket n h) (omega (arith, c.skip_to_bracket-bracket.ensures.within)) c.if-text-bracket-ne91.false))
-    c.read_values.ensures.fault
+    let lt : at < length t = omega (arith, c.skip_white_space-at.ensures.within) in
+    record {
+      within = lt;
+      so_far = values-more t c.skip_to_bracket-bracket.result at (read (goal.at.values-preserved c).After-skip_white_space-at) lt c.if-text-at-ne91.false;
+      kept = c.in_ok-end.ensures.kept;
+    }

@@ -1,4 +1,4 @@
-use Rattle.std.proofs.Common.{◌≡◌, ◌++◌, ◌-◌, [], ◌∷◌, length, rules}
+use Rattle.std.proofs.Common.{◌≡◌, ◌++◌, [], ◌∷◌, rules}
 use Rattle.std.proofs.lemmas.List.{take_rest}
 use Rattle.go_board.proofs.ColouringsLemmas.{past-pop}
 use Rattle.go_board.proofs.past.colourings.Colourings.pop.Goals as goal
@@ -8,7 +8,6 @@ invariant_of-self c =
     let p = c.self.inside in
     let o = c.unwrap-kept.result in
     let parts : p.older.items ≡ c.pop.new.self.items ++ o ∷ [] = search rules in
-    let start : c.len.result - c.from.result ≡ length p.changes.items - o.changes = search rules in
     let less = past-pop p.newest p.older_in_stretch p.older.items c.pop.new.self.items o p.changes.items parts c.self.invariant in
-    let board = rw (c.deref.ensures.value, take_rest p.changes.items (c.len.result - c.from.result), start) at c.take_back.ensures in
-    rw (c.restore.ensures, board, c.truncate.ensures.items, start) less
+    let board = rw (c.deref.ensures.value, take_rest p.changes.items o.start) at c.take_back.ensures in
+    rw (c.restore.ensures, board, c.truncate.ensures.items) less

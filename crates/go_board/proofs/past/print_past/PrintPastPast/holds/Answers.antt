@@ -1,8 +1,10 @@
-use Rattle.std.proofs.Common.{◌≡◌, ℕ, ◌<◌, ◌≤◌, inl, inr, length, sym, ◌∙◌, refl, arith}
+use Rattle.std.proofs.Common.{◌≡◌, ℕ, ◌<◌, ◌≤◌, inl, inr, length, Contains, IsTrue, ◌↔◌, true, false, subst, sym, ◌∙◌, refl, arith}
 use Rattle.std.proofs.lemmas.Bool.{false≢true}
 use Rattle.std.proofs.lemmas.Bool.{cases_lt, cases_eq}
 use Rattle.go_board.specs.inner.Print.{print_of}
-use Rattle.go_board.proofs.PrintPastLemmas.{IsNumber, missing, seen, unseen, same_length}
+use Rattle.go_board.specs.Past.{PastColourings, all_of, present_stretch}
+use Rattle.go_board.specs.inner.Changes.{IsNumber}
+use Rattle.go_board.proofs.PrintPastLemmas.{missing, seen, unseen, same_length}
 use Rattle.go_board.proofs.past.print_past.PrintPastPast.holds.Goals as goal
 
 pub returns-then-is_at : goal.returns-then-is_at
@@ -10,9 +12,9 @@ returns-then-is_at c =
     let p = c.self.inside in
     let found = c.in-Some.ensures in
     let at = c.is_at.ensures.0 c.if-is_at.true in
-    let below : c.in-Some.number < length p.colourings = omega (arith, found.1, c.loop-number.invariant.within, same_length p.colourings p.prints c.self.invariant) in
-    rw (← c.self.view_is)
-    (λ _. seen p.colourings p.prints c.self.invariant c.stretch_start-start.result c.in-Some.number c.args.board.now c.stretch_start-start.ensures.stretch found.0 below at, λ _. refl)
+    let below : c.in-Some.number < length (all_of p.colourings) = omega (arith, found.1, c.loop-number.invariant.within, same_length (all_of p.colourings) p.prints c.self.invariant) in
+    subst (λ (past : PastColourings). IsTrue true ↔ Contains (present_stretch past) c.args.board.now) c.self.view_is
+    (λ _. seen (all_of p.colourings) p.prints c.self.invariant c.stretch_start-start.result c.in-Some.number c.args.board.now c.stretch_start-start.ensures.stretch found.0 below at, λ _. refl)
 
 pub loop-number-preserved : goal.loop-number-preserved
 loop-number-preserved c =
@@ -27,7 +29,7 @@ loop-number-preserved c =
             | inr after ↦ c.loop-number.invariant.none y after high at
             | inl before ↦ elim (cases_eq y number) [
               | inl e ↦ false≢true (sym c.if-is_at.false ∙ c.is_at.ensures.1 (rw e at at))
-              | inr other ↦ missing p.colourings p.prints c.self.invariant y c.print-print.result c.args.board.now print high (found.3 y (omega (arith, low, other)) before) at
+              | inr other ↦ missing (all_of p.colourings) p.prints c.self.invariant y c.print-print.result c.args.board.now print high (found.3 y (omega (arith, low, other)) before) at
             ]
           ];
     }
@@ -37,10 +39,10 @@ returns c =
     let p = c.self.inside in
     let print : c.print-print.result ≡ print_of c.args.board.now.cells = c.print-print.ensures in
     let start = c.stretch_start-start.result in
-    let never : (y : ℕ) → start ≤ y → y < length p.colourings → IsNumber p.colourings y c.args.board.now → ⊥ = λ y low high at.
+    let never : (y : ℕ) → start ≤ y → y < length (all_of p.colourings) → IsNumber (all_of p.colourings) y c.args.board.now → ⊥ = λ y low high at.
     elim (cases_lt y c.loop-number.end) [
       | inr after ↦ c.loop-number.invariant.none y after high at
-      | inl before ↦ missing p.colourings p.prints c.self.invariant y c.print-print.result c.args.board.now print high (c.in_default.ensures y low before) at
+      | inl before ↦ missing (all_of p.colourings) p.prints c.self.invariant y c.print-print.result c.args.board.now print high (c.in_default.ensures y low before) at
     ] in
-    rw (← c.self.view_is)
-    (λ t. absurd (false≢true t), λ has. absurd (unseen p.colourings p.prints c.self.invariant start c.args.board.now c.stretch_start-start.ensures.stretch never has))
+    subst (λ (past : PastColourings). IsTrue false ↔ Contains (present_stretch past) c.args.board.now) c.self.view_is
+    (λ t. absurd (false≢true t), λ has. absurd (unseen (all_of p.colourings) p.prints c.self.invariant start c.args.board.now c.stretch_start-start.ensures.stretch never has))

@@ -1,0 +1,138 @@
+-- Filling a set of points: the rows that wait, and those that don't.
+use Rattle.std.proofs.Common.{◌≡◌, ◌≢◌, ◌⊎◌, inl, inr, ℕ, ◌+◌, ◌^◌, ◌<◌, ◌||◌, Bool, true, false, not, nat_eq, List, length, slice_index, bit_and, w64, refl, sym, ap, ◌∙◌, subst, arith}
+use Rattle.std.specs.Int.{bit_not}
+use Rattle.std.proofs.lemmas.Bool.{and_from, or_left, or_right, cases_eq, cases_Bool, false≢true, true≢false}
+use Rattle.std.proofs.lemmas.Bool.Decides.{Decides-eqb}
+use Rattle.go_board.specs.Point.{DifferByOne}
+use Rattle.go_board.specs.inner.Rows.{has_bit, is_set, IsPart, IsTaken, IsAmong, IsClosed, IsRowClosed, Grows}
+use Rattle.go_board.proofs.WordLemmas.{in_the_other, has_bit-and, has_bit-without, has_bit-zero, column_below}
+use Rattle.go_board.specs.inner.Fill.{IsFilledBut}
+use Rattle.go_board.proofs.GrowLemmas.{row_below, Grows-twice}
+
+-- a word that isn't told from 0
+zero_of : (n : ℕ) → not (nat_eq n 0) ≡ false → n ≡ 0
+zero_of n none =
+    elim (cases_Bool (nat_eq n 0))
+    [ inl is ↦ (Decides-eqb n 0).0 is | inr other ↦ absurd (true≢false (sym (ap not other) ∙ none)) ]
+
+-- nothing of a word is lacked
+pub none_lacking : (word room here : ℕ) → room < 2 ^ 64 → here < 2 ^ 64 → not (nat_eq (bit_and (bit_and word room) (bit_not w64 here)) 0) ≡ false → (col : ℕ) → has_bit room col ≡ true → has_bit word col ≡ true → has_bit here col ≡ true
+none_lacking word room here low_room low_here none col there is =
+    in_the_other (has_bit (bit_and word room) col) (has_bit here col) (has_bit-and word room col ∙ and_from _ _ is there)
+    (sym (has_bit-without (bit_and word room) here col low_here (column_below 64 room col low_room there))
+    ∙ ap (λ n. has_bit n col) (zero_of (bit_and (bit_and word room) (bit_not w64 here)) none) ∙ has_bit-zero col)
+
+-- a set of rows with one more, if it is to be
+module _ (word next col : ℕ) (b : Bool) (there : has_bit next col ≡ (has_bit word col || b)) where
+  pub taken_with : has_bit next col ≡ false → b ≡ false
+  taken_with none = elim (cases_Bool b) [ inl is ↦ absurd (false≢true (sym none ∙ there ∙ or_right _ _ is)) | inr out ↦ out ]
+
+  pub part_with : ((k : ℕ) → k ≢ col → has_bit next k ≡ has_bit word k) → IsPart (has_bit word) (has_bit next)
+  part_with elsewhere k is =
+      elim (cases_eq k col) [
+        | inl same ↦ ap (has_bit next) same ∙ there ∙ or_left _ _ (ap (has_bit word) (sym same) ∙ is)
+        | inr other ↦ elsewhere k other ∙ is
+      ]
+
+  pub from_with : ((k : ℕ) → k ≢ col → has_bit next k ≡ has_bit word k) → (k : ℕ) → has_bit next k ≡ true → (has_bit word k ≡ true) ⊎ (k ≡ col)
+  from_with elsewhere k is = elim (cases_eq k col) [ inl same ↦ inr same | inr other ↦ inl (sym (elsewhere k other) ∙ is) ]
+
+-- with no row that waits, all is filled
+pub IsClosed-all : (room first rows : List ℕ) (waiting : ℕ) → IsFilledBut room first rows waiting → waiting ≡ 0 → IsClosed (is_set room) (is_set rows)
+IsClosed-all room first rows waiting done none =
+    λ p q adjacent there is.
+    done.closed p.row (row_below room p there) (ap (λ w. has_bit w p.row) none ∙ has_bit-zero p.row) p q refl adjacent there is
+
+-- where another row grew of which a row lacks nothing, the row is closed as before
+pub closed_still : (room rows next : List ℕ) (row r : ℕ) → IsAmong (is_set rows) (is_set next) → ((k : ℕ) → k ≢ row → slice_index next k ≡ slice_index rows k) → r ≢ row → IsRowClosed (is_set room) (is_set rows) r → (DifferByOne r row → IsTaken room next r (slice_index next row)) → IsRowClosed (is_set room) (is_set next) r
+closed_still room rows next row r kept others other was taken =
+    λ p q same adjacent there is.
+    elim (cases_eq q.row row) [
+      | inl at ↦
+          elim adjacent [
+            | inr line ↦ absurd (other (sym same ∙ line.0 ∙ at))
+            | inl column ↦
+                let beside : DifferByOne r row = subst (λ k. DifferByOne k row) same (subst (DifferByOne p.row) at column.1) in
+                let here : has_bit (slice_index next row) q.col ≡ true = ap (λ k. has_bit (slice_index next k) q.col) (sym at) ∙ is in
+                ap (λ k. has_bit (slice_index next k) p.col) same
+                ∙ taken beside p.col
+                (ap (λ k. has_bit (slice_index room k) p.col) (sym same) ∙ there)
+                (ap (has_bit (slice_index next row)) column.0 ∙ here)
+          ]
+      | inr elsewhere_row ↦ kept p (was p q same adjacent there (ap (λ w. has_bit w q.col) (sym (others q.row elsewhere_row)) ∙ is))
+    ]
+
+-- one row grown
+module _ (room first rows next : List ℕ) (waiting left row : ℕ) (was : IsFilledBut room first rows waiting) (gone : has_bit left row ≡ false) (elsewhere : (k : ℕ) → k ≢ row → has_bit left k ≡ has_bit waiting k) (long : length next ≡ length rows) (grows : Grows (is_set room) (is_set rows) (is_set next)) (closed : IsRowClosed (is_set room) (is_set next) row) where
+  still_in : (r : ℕ) → has_bit left r ≡ true → r < length room
+  still_in r is =
+      elim (cases_eq r row) [
+        | inl same ↦ absurd (false≢true (sym gone ∙ ap (has_bit left) (sym same) ∙ is))
+        | inr other ↦ was.rows_in r (sym (elsewhere r other) ∙ is)
+      ]
+
+  twice : Grows (is_set room) (is_set first) (is_set next)
+  twice = record {
+    within = grows.within;
+    kept = λ p is. grows.kept p (was.grows.kept p is);
+    least = λ set shut part. grows.least set shut (was.grows.least set shut part);
+  }
+
+  -- it had all that there is beside it
+  pub filled_same : next ≡ rows → IsFilledBut room first next left
+  filled_same same = record {
+    all = long ∙ was.all;
+    grows = twice;
+    rows_in = still_in;
+    closed = λ r below none.
+        elim (cases_eq r row) [
+          | inl e ↦ subst (IsRowClosed (is_set room) (is_set next)) (sym e) closed
+          | inr other ↦
+              subst (λ rs. IsRowClosed (is_set room) (is_set rs) r) (sym same) (was.closed r below (sym (elsewhere r other) ∙ none))
+        ];
+  }
+
+  -- the rows beside it that lack a point of it wait
+  pub filled_more : (after : ℕ) → ((k : ℕ) → k ≢ row → slice_index next k ≡ slice_index rows k) → IsPart (has_bit left) (has_bit after) → ((r : ℕ) → has_bit after r ≡ true → (has_bit left r ≡ true) ⊎ (r < length next)) → ((r : ℕ) → DifferByOne r row → r < length next → has_bit after r ≡ false → IsTaken room next r (slice_index next row)) → IsFilledBut room first next after
+  filled_more after others kept from taken = record {
+    all = long ∙ was.all;
+    grows = twice;
+    rows_in = λ r is. elim (from r is) [ inl old ↦ still_in r old | inr below ↦ subst (λ n. r < n) (long ∙ was.all) below ];
+    closed = λ r below none.
+        elim (cases_eq r row) [
+          | inl e ↦ subst (IsRowClosed (is_set room) (is_set next)) (sym e) closed
+          | inr other ↦
+              closed_still room rows next row r grows.kept others other (was.closed r below (sym (elsewhere r other) ∙ not_left r none))
+              (λ differ. taken r differ (subst (λ n. r < n) (sym (long ∙ was.all)) below) none)
+        ];
+  }
+    where
+      not_left : (r : ℕ) → has_bit after r ≡ false → has_bit left r ≡ false
+      not_left r none =
+          elim (cases_Bool (has_bit left r)) [ inl is ↦ absurd (false≢true (sym none ∙ kept r is)) | inr out ↦ out ]
+
+-- the first rows are filled, but for some that wait
+pub record AreFilledTo (room first rows : List ℕ) (waiting count : ℕ) : Type 0 where
+  pub all : length rows ≡ length room
+  pub grows : Grows (is_set room) (is_set first) (is_set rows)
+  pub rows_in : (row : ℕ) → has_bit waiting row ≡ true → row < length room
+  pub closed : (row : ℕ) → row < count → has_bit waiting row ≡ false → IsRowClosed (is_set room) (is_set rows) row
+
+-- one row more
+pub filled_to_more : (room first rows next : List ℕ) (waiting after row : ℕ) → row < length rows → AreFilledTo room first rows waiting row → length next ≡ length rows → Grows (is_set room) (is_set rows) (is_set next) → IsRowClosed (is_set room) (is_set next) row → ((k : ℕ) → k ≢ row → slice_index next k ≡ slice_index rows k) → IsPart (has_bit waiting) (has_bit after) → ((r : ℕ) → has_bit after r ≡ true → (has_bit waiting r ≡ true) ⊎ (r + 1 ≡ row)) → ((r : ℕ) → r + 1 ≡ row → has_bit after r ≡ false → IsTaken room next r (slice_index next row)) → AreFilledTo room first next after (row + 1)
+filled_to_more room first rows next waiting after row within was long grows closed others kept from taken = record {
+  all = long ∙ was.all;
+  grows = Grows-twice room first rows next was.grows grows;
+  rows_in = λ r is. elim (from r is) [ inl old ↦ was.rows_in r old | inr before ↦ omega (arith, before, within, was.all) ];
+  closed = λ r below none.
+      elim (cases_eq r row) [
+        | inl e ↦ subst (IsRowClosed (is_set room) (is_set next)) (sym e) closed
+        | inr other ↦
+            closed_still room rows next row r grows.kept others other (was.closed r (omega (arith, below, other)) (not_waiting r none))
+            (λ differ. elim differ [ inl before ↦ taken r before none | inr after_it ↦ absurd (omega (arith, after_it, below)) ])
+      ];
+}
+  where
+    not_waiting : (r : ℕ) → has_bit after r ≡ false → has_bit waiting r ≡ false
+    not_waiting r none =
+        elim (cases_Bool (has_bit waiting r)) [ inl is ↦ absurd (false≢true (sym none ∙ kept r is)) | inr out ↦ out ]

@@ -1,0 +1,10 @@
+use Rattle.std.proofs.Common.{◌≡◌, ◌<◌, ℕ, length, get_or}
+use Rattle.go_board.specs.declared.stones.Cell.TheVariants.{Empty}
+use Rattle.go_board.proofs.board.Board.set_cells.Given as goal
+
+abbrev pub invariant-loop-index : goal.invariant-loop-index
+invariant-loop-index l = record {
+  same_side : l.self.side ≡ l.initial.self.side;
+  all : length l.self.cells ≡ length l.cells;
+  written : (k : ℕ) → k < l.index → get_or l.self.cells k Empty ≡ get_or l.cells k Empty;
+}

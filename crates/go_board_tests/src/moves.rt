@@ -1,0 +1,83 @@
+//! Moves in turn, on boards where every stone is known to reach empty, and a move after points were set.
+
+use go_board::{Board, Cell, Colour, Point, Size};
+use std::process::Abort;
+
+/// Plays on an empty point of the board.
+fn play(rt: &impl Abort, board: &mut Board, colour: Colour, col: u8, row: u8) {
+    let side = board.size().side();
+    assert!(rt; col < side && row < side, "column {col}, row {row}");
+    let point = Point { col, row };
+    assert!(rt; board.at(point) == Cell::Empty, "column {col}, row {row}");
+    board.place(colour, point);
+}
+
+fn empty(rt: &impl Abort, side: u8) -> Board {
+    Board::empty(Size::new(side).expect(rt, "the side of a board"))
+}
+
+/// How many stones of each colour there are.
+fn stones(board: &Board) -> (usize, usize) {
+    let (mut black, mut white) = (0usize, 0usize);
+    for row in 0..board.size().side() {
+        for col in 0..board.size().side() {
+            match board.at(Point { col, row }) {
+                Cell::Black => black = black.saturating_add(1),
+                Cell::White => white = white.saturating_add(1),
+                Cell::Empty => {}
+            }
+        }
+    }
+    (black, white)
+}
+
+/// Moves one after the other, how many stones of each colour stand after each, and why.
+const MOVES: [(Colour, u8, u8, (usize, usize), &str); 7] = [
+    (Colour::Black, 1, 0, (1, 0), "one stone"),
+    (Colour::White, 0, 0, (1, 1), "one liberty is left"),
+    (Colour::Black, 0, 1, (2, 0), "no liberty is left"),
+    (Colour::White, 0, 0, (2, 0), "it has no liberty"),
+    (Colour::White, 2, 0, (2, 1), "one liberty is left"),
+    (Colour::White, 1, 1, (2, 2), "liberties are left"),
+    (Colour::White, 0, 0, (1, 3), "the opponent's first"),
+];
+
+/// Stones that are set on an empty board.
+const SET: [(u8, u8, Cell); 3] = [
+    (0, 0, Cell::White),
+    (1, 0, Cell::Black),
+    (0, 1, Cell::Black),
+];
+
+#[test]
+fn captures(rt: HostRuntime) {
+    let mut board = empty(&rt, 3);
+    for &(colour, col, row, left, why) in &MOVES {
+        play(&rt, &mut board, colour, col, row);
+        assert!(rt; stones(&board) == left, "{why}");
+    }
+}
+
+#[test]
+fn large_group(rt: HostRuntime) {
+    let mut board = empty(&rt, 9);
+    for index in 0..80 {
+        play(&rt, &mut board, Colour::Black, index % 9, index / 9);
+    }
+    assert_eq!(rt; stones(&board), (80, 0));
+    play(&rt, &mut board, Colour::White, 8, 8);
+    assert_eq!(rt; stones(&board), (0, 1));
+}
+
+#[test]
+fn after_setting(rt: HostRuntime) {
+    let mut board = empty(&rt, 9);
+    for &(col, row, cell) in &SET {
+        let side = board.size().side();
+        assert!(rt; col < side && row < side);
+        board.set(Point { col, row }, cell);
+    }
+    assert!(rt; stones(&board) == (2, 1));
+    play(&rt, &mut board, Colour::Black, 8, 8);
+    assert!(rt; stones(&board) == (3, 0), "a stone far away had no liberty");
+}

@@ -1,0 +1,76 @@
+//! Worked examples of a past.
+
+ghost use Rattle.std.specs.Prelude.{◌≡◌};
+ghost use Rattle.go_board.specs.Past.{only, HaveSide};
+ghost use Rattle.go_board.specs.Point.{IsOn};
+
+use crate::given::{at, size};
+use go_board::{Board, Cell, ListPast, MemoryFault, Past, Point, PrintPast};
+use std::alloc::Global;
+use std::process::Abort;
+use std::test::Fail;
+
+/// The board with one stone more.
+fn with_stone(board: &Board, point: Point, cell: Cell) -> Board
+    requires { IsOn board.now.side point }
+    ensures { result.side ≡ board.now.side }
+{
+    let mut copy = board.copy();
+    copy.set(point, cell);
+    copy
+}
+
+/// Whether the present stretch has the last board alone, where it was begun anew with it, and else the other two alone.
+fn has_alone<P: Past>(past: &P, anew: bool, empty: &Board, black: &Board, white: &Board) -> bool
+    requires empty { HaveSide empty.now.side (P.held past.now) }
+    requires black { HaveSide black.now.side (P.held past.now) }
+    requires white { HaveSide white.now.side (P.held past.now) }
+{
+    past.holds(empty) != anew && past.holds(black) != anew && past.holds(white) == anew
+}
+
+/// A stretch that is begun anew hides the colouring before it and the empty one, until it is taken back.
+fn begins_anew<P: Past>(rt: &impl Abort, past: &mut P, empty: &Board) -> Result<(), MemoryFault>
+    requires side { empty.now.side ≡ 3 }
+    requires one { P.held past.old ≡ only empty.now }
+{
+    let black = with_stone(empty, at(0, 0), Cell::Black);
+    let white = with_stone(empty, at(1, 1), Cell::White);
+    past.push(&black)?;
+    assert!(rt; past.holds(empty));
+    past.restart(&white)?;
+    assert!(rt; has_alone(past, true, empty, &black, &white));
+    past.pop();
+    assert!(rt; has_alone(past, false, empty, &black, &white));
+    assert!(rt; past.newest().same(&black));
+    Ok(())
+}
+
+/// A past of the empty board, in which a stretch is begun anew.
+fn past_begins_anew<P: Past>(rt: &impl Abort, alloc: Global) -> Result<(), MemoryFault> {
+    let empty = Board::empty(size(rt, 3));
+    let mut past = P::new(alloc, &empty)?;
+    begins_anew(rt, &mut past, &empty)
+}
+
+/// Two colourings whose prints have the same low bits are two.
+fn prints_alike<P: Past>(rt: &impl Abort, alloc: Global) -> Result<(), Fail> {
+    let empty = Board::empty(size(rt, 25));
+    let inner = with_stone(&empty, at(12, 4), Cell::Black);
+    let last = with_stone(&empty, at(24, 24), Cell::Black);
+    let past = P::new(alloc, &inner)?;
+    assert!(rt; past.holds(&inner) && !past.holds(&last));
+    Ok(())
+}
+
+#[test]
+fn list_past(rt: HostRuntime) -> Result<(), Fail> {
+    past_begins_anew::<ListPast>(&rt, rt.alloc())?;
+    prints_alike::<ListPast>(&rt, rt.alloc())
+}
+
+#[test]
+fn print_past(rt: HostRuntime) -> Result<(), Fail> {
+    past_begins_anew::<PrintPast>(&rt, rt.alloc())?;
+    prints_alike::<PrintPast>(&rt, rt.alloc())
+}

@@ -1,0 +1,7 @@
+-- Each turn leaves one line less.
+use Rattle.std.proofs.Common.{length, ◌-◌}
+use Rattle.sgf_lines.specs.Lines.{lines}
+use Rattle.lines_in_memory.proofs.longest_line.Given as goal
+
+abbrev pub decreases-lines : goal.decreases-lines
+decreases-lines l = length (lines l.cursor.games) - l.cursor.index

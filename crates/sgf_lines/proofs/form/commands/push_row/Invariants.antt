@@ -1,0 +1,9 @@
+-- The stones of the columns so far are appended, too.
+use Rattle.std.proofs.Common.{ℕ, List, ◌*◌, ◌+◌}
+use Rattle.sgf_lines.specs.inner.Cutting.{AreAppended}
+use Rattle.sgf_lines.proofs.form.commands.push_row.Given as goal
+
+abbrev pub invariant-columns : goal.invariant-columns
+invariant-columns l =
+    (before : List ℕ) → AreAppended l.board l.colour (l.row * l.board.side) before l.fn.output.items
+    → AreAppended l.board l.colour (l.row * l.board.side + l.col) before l.output.items

@@ -1,0 +1,7 @@
+-- The stones of the rows so far are appended.
+use Rattle.std.proofs.Common.{◌*◌}
+use Rattle.sgf_lines.specs.inner.Cutting.{AreAppended}
+use Rattle.sgf_lines.proofs.form.commands.push_stones.Given as goal
+
+abbrev pub invariant-rows : goal.invariant-rows
+invariant-rows l = AreAppended l.board l.colour (l.row * l.board.side) l.fn.output.items l.output.items

@@ -1,0 +1,11 @@
+use Rattle.std.proofs.Common.{◌≤◌, length, decimal, rules, arith}
+use Rattle.std.proofs.lemmas.Fmt.{length-decimal-le}
+use Rattle.sgf_lines.proofs.form.row.Row.put_number.Goals as goal
+
+pub write_digits-self-requires : goal.write_digits-self-requires
+write_digits-self-requires c = search (rules, length-decimal-le 20)
+
+pub returns-clause-room : goal.returns-clause-room
+returns-clause-room c =
+    let short : length (decimal c.args.number) ≤ 20 = search (rules, length-decimal-le 20) in
+    omega (arith, short, c.write_digits-self.ensures.start)

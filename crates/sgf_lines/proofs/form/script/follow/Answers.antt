@@ -1,0 +1,79 @@
+-- One node more is judged and said, until all are.
+use Rattle.std.proofs.Common.{◌≡◌, ◌≤◌, length, take, inl, inr, sym, ap, ◌∙◌, arith}
+use Rattle.std.proofs.lemmas.Bool.{cases_lt}
+use Rattle.std.proofs.lemmas.List.{take_all}
+use Rattle.std.proofs.lemmas.Result.{on_ok_weaker}
+use Rattle.sgf_lines.specs.JudgedGames.{game_kind, root_properties}
+use Rattle.sgf_lines.specs.inner.Following.{nodes_before}
+use Rattle.sgf_lines.specs.inner.Judging.{board_in}
+use Rattle.sgf_lines.specs.inner.Scripting.{said_after, script_of, script_on, script_ended}
+use Rattle.sgf_lines.specs.inner.Keeping.{judging_front, script_front}
+use Rattle.sgf_lines.proofs.Lists.{front_more}
+use Rattle.sgf_lines.proofs.Scripts.{script_begins, script_more, lettered}
+use Rattle.sgf_lines.proofs.JudgedLines.{judges_begun, judges_on, judged_all, stopped, fresh_all, fresh_of_err}
+use Rattle.sgf_lines.proofs.form.script.follow.Goals as goal
+
+pub loop-index-init : goal.loop-index-init
+loop-index-init c =
+    let nodes = nodes_before c.args.cursor.now in
+    let kind = game_kind (root_properties nodes) in
+    record {
+      judges = judges_begun nodes c.args.held c.args.judge.now.plays c.begin_or_go_back.new.judge c.in_ok-begin_or_go_back.ensures.judged c.in_ok-begin_or_go_back.ensures.plays;
+      says =
+          elim (cases_lt 0 c.args.held) [
+            | inl some ↦ c.in_ok-keep.ensures.some some ∙ c.requires.said some
+            | inr none ↦
+                let zero : c.args.held ≡ 0 = omega arith in
+                c.in_ok-keep.ensures.none zero ∙ ap (λ j. script_on (board_in j)) (c.in_ok-begin_or_go_back.ensures.judged ∙ ap (judging_front nodes) zero) ∙ script_begins kind
+                ∙ ap (script_front nodes) (sym zero)
+          ];
+    }
+
+pub take-requires-clause-place : goal.take-requires-clause-place
+take-requires-clause-place c = c.place.ensures c.node.result c.node.ensures
+
+pub take-requires-clause-countable : goal.take-requires-clause-countable
+take-requires-clause-countable c = omega (arith, c.loop-index.invariant.judges.few, c.requires.countable, c.loop-index-test.true, c.len-end.ensures.nodes, c.loop-index.auto.index)
+
+pub take-requires-clause-letters : goal.take-requires-clause-letters
+take-requires-clause-letters c =
+    let nodes = nodes_before c.args.cursor.now in
+    rw (c.loop-index.invariant.says, c.loop-index.invariant.judges.judged) (lettered (game_kind (root_properties nodes)) (take c.loop-index.index nodes))
+
+pub loop-index-preserved : goal.loop-index-preserved
+loop-index-preserved c =
+    let nodes = nodes_before c.args.cursor.now in
+    let kind = game_kind (root_properties nodes) in
+    let i = c.loop-index.index in
+    record {
+      judges = judges_on nodes c.args.held c.args.judge.now.plays i c.loop-index.judge c.loop-index.invariant.judges c.loop-index.auto.index c.node.result c.node.ensures
+          c.take.new.judge c.in_ok-take.ensures.judged c.in_ok-take.ensures.plays;
+      says = c.in_ok-take.ensures.said ∙ ap (λ s. said_after s c.loop-index.judge.judgement c.node.result) c.loop-index.invariant.says
+          ∙ ap (λ j. said_after (script_front nodes i) j c.node.result) c.loop-index.invariant.judges.judged
+          ∙ script_more kind (take i nodes) c.node.result ∙ ap (script_of kind) (sym (front_more nodes i c.node.result c.node.ensures));
+    }
+
+pub returns-clause-judged : goal.returns-clause-judged
+returns-clause-judged c =
+    let nodes = nodes_before c.args.cursor.now in
+    let past : length nodes ≤ c.loop-index.index = omega (arith, c.loop-index-test.false, c.len-end.ensures.nodes) in
+    on_ok_weaker c.end.result (λ _. judged_all nodes c.args.held c.args.judge.now.plays c.loop-index.index c.loop-index.judge c.loop-index.invariant.judges past) c.end.ensures
+
+pub returns-clause-said : goal.returns-clause-said
+returns-clause-said c =
+    let nodes = nodes_before c.args.cursor.now in
+    let kind = game_kind (root_properties nodes) in
+    let past : length nodes ≤ c.loop-index.index = omega (arith, c.loop-index-test.false, c.len-end.ensures.nodes) in
+    let whole = take_all c.loop-index.index nodes past ∙ sym (take_all (length nodes) nodes (omega arith)) in
+    on_ok_weaker c.end.result (λ is. is ∙ ap script_ended (c.loop-index.invariant.says ∙ ap (script_of kind) whole)) c.end.ensures
+
+pub returns-clause-plays : goal.returns-clause-plays
+returns-clause-plays c =
+    let nodes = nodes_before c.args.cursor.now in
+    fresh_all nodes c.args.held c.args.judge.now.plays c.loop-index.index c.loop-index.judge c.end.result c.loop-index.invariant.judges (omega (arith, c.loop-index-test.false, c.len-end.ensures.nodes)) c.requires.within
+
+pub returns-in_err-take-clause-plays : goal.returns-in_err-take-clause-plays
+returns-in_err-take-clause-plays c =
+    fresh_of_err (Unit {0}) c.in_err-take.field-0 c.from_residual-in_err-take.result c.from_residual-in_err-take.ensures.0
+    (stopped (nodes_before c.args.cursor.now) c.args.held c.args.judge.now.plays c.loop-index.index c.loop-index.judge c.loop-index.invariant.judges c.loop-index.auto.index c.node.result c.node.ensures
+    c.in_err-take.field-0 c.take.new.judge.plays c.requires.within c.in_err-take.ensures.not_fewer c.in_err-take.ensures.not_more)

@@ -1,0 +1,11 @@
+-- What is told is what the properties hold that were taken off.
+use Rattle.std.proofs.Common.{◌≡◌, ◌++◌, List, length}
+use Rattle.sgf_tree.specs.Tree.{Property}
+use Rattle.sgf_lines.specs.inner.Gathered.{IsGathered}
+use Rattle.sgf_lines.proofs.judging.contents.gathered.Given as goal
+
+abbrev pub invariant-loop-property : goal.invariant-loop-property
+invariant-loop-property l = (front : List Property) × IsGathered l.size front l.operations.items l.contents × (front ++ l.left ≡ l.node.properties)
+
+abbrev pub decreases-loop-property : goal.decreases-loop-property
+decreases-loop-property l = length l.left

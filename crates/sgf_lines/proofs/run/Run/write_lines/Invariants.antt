@@ -1,0 +1,19 @@
+-- So many records were written, the cursor stands after their lines, and the run holds the last of these.
+use Rattle.std.proofs.Common.{take, ◌≡◌, ◌+◌, ◌-◌, ◌<◌, true, false, nat_lt}
+use Rattle.sgf_lines.specs.inner.Keeping.{Holds}
+use Rattle.sgf_lines.specs.RunPlays.{plays_of}
+use Rattle.sgf_lines.proofs.Paging.{IsSoFar, page_from}
+use Rattle.sgf_lines.proofs.run.Run.write_lines.Given as goal
+
+abbrev pub invariant-page : goal.invariant-page
+invariant-page g l = record {
+  written : IsSoFar l.fn.self.form l.fn.self.cursor.games l.fn.self.cursor.index l.limit (g.T.Sink.state l.fn.sink) l.lines l.self.cursor (g.T.Sink.state l.sink);
+  form : l.self.form ≡ l.fn.self.form;
+  first : l.lines ≡ 0 → nat_lt 0 l.self.held ≡ false;
+  later : 0 < l.lines → nat_lt 0 l.self.held ≡ true;
+  holds : Holds l.self;
+  plays : l.self.judge.plays ≡ 0 + plays_of l.fn.self.form (take l.lines (page_from l.fn.self.cursor.games l.fn.self.cursor.index l.limit));
+}
+
+abbrev pub decreases-page : goal.decreases-page
+decreases-page g l = l.limit - l.lines

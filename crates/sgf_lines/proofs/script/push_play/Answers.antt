@@ -1,8 +1,0 @@
-use Rattle.std.proofs.Common.{◌<◌, sym, subst}
-use Rattle.go_board.specs.declared.vertices.Vertex.{Vertex}
-use Rattle.sgf_lines.proofs.PlayCommands.{row-below}
-use Rattle.sgf_lines.proofs.script.push_play.Goals as goal
-
-pub push_stone-requires : goal.push_stone-requires
-push_stone-requires c =
-    subst (λ (v : Vertex). v.row < 100) (sym c.vertex.ensures) (row-below c.in-Stone.point c.args.size c.requires.letters)

@@ -1,0 +1,13 @@
+-- Going back over a referee's states.
+use Rattle.std.specs.Prelude.{ℕ, nat_le, if◌then◌else◌, List, [], ◌∷◌, length}
+use Rattle.go_board.specs.State.{State, States}
+
+-- the states of a referee when it had accepted at most so many setups and turns
+abbrev pub back_from : State → List State → ℕ → States
+back_from present [] depth = record { present = present; earlier = [] }
+back_from present (earlier ∷ others) depth =
+    if nat_le (length (earlier ∷ others)) depth then record { present = present; earlier = earlier ∷ others }
+    else back_from earlier others depth
+
+abbrev pub back_to : States → ℕ → States
+back_to states depth = back_from states.present states.earlier depth

@@ -1,0 +1,144 @@
+-- How a line stands judged after its first nodes.
+use Rattle.std.specs.Prelude.{◌≡◌, ◌<◌, ◌+◌, ℕ, Option, Some, None, List, [], ◌∷◌, fold, length, nat_le, if◌then◌else◌, unwrap_or, codes, option_copied, Result, Ok, Err}
+use Rattle.sgf_tree.specs.Tree.{Node}
+use Rattle.go_board.specs.declared.stones.Colour.{Colour}
+use Rattle.go_board.specs.declared.reason.Reason.{Reason}
+use Rattle.go_board.specs.declared.fault.TurnFault.{TurnFault}
+use Rattle.go_board.specs.declared.fault.TurnFault.TheVariants.{Illegal as IllegalTurn, Memory}
+use Rattle.go_board.specs.declared.referee.plays.SetupOp.{SetupOp}
+use Rattle.go_board.specs.Grid.{Grid}
+use Rattle.go_board.specs.State.{State, States, begun, followed_by, IsPlayOn}
+use Rattle.sgf_lines.specs.NodeContents.{Move, Stones, moves, stones, first_value}
+use Rattle.sgf_lines.specs.NodeValues.{move_value}
+use Rattle.sgf_lines.specs.JudgedGames.{GameKind, not_go, bad_size, board}
+use Rattle.sgf_lines.specs.Step.{step}
+use Rattle.sgf_lines.specs.Walk.{TakenNode}
+use Rattle.sgf_lines.specs.Verdict.{score_in}
+use Rattle.sgf_lines.specs.declared.verdict.Verdict.{Verdict}
+use Rattle.sgf_lines.specs.declared.verdict.Verdict.TheVariants.{Illegal, NotGo, BadSize}
+use Rattle.sgf_lines.specs.declared.judging.step.Effect.{Effect}
+use Rattle.sgf_lines.specs.declared.judging.step.Effect.TheVariants.{Nothing, Stones as stones_set, Play as one_play}
+use Rattle.sgf_lines.specs.declared.judging.step.TakenStep.{TakenStep}
+use Rattle.sgf_lines.specs.inner.Back.{back_to}
+
+-- a game isn't judged, for which this is the verdict; or a referee has these states, one more than nodes that were allowed, and
+-- once a node wasn't the verdict is known
+pub data Judgement : Type 0 where
+  unjudged : (told : Verdict) → Judgement
+  judged : (states : States) → (ended : Option Verdict) → Judgement
+
+-- how a line stands judged, and how many nodes were played
+pub record Judging : Type 0 where
+  pub judgement : Judgement
+  pub plays : ℕ
+
+-- what a root says of its game's size, or the verdict of its lines
+abbrev pub size_said : GameKind → Result ℕ Verdict
+size_said not_go = Err NotGo
+size_said bad_size = Err BadSize
+size_said (board side) = Ok side
+
+-- before the root
+abbrev pub begun_game : GameKind → Judgement
+begun_game not_go = unjudged NotGo
+begun_game bad_size = unjudged BadSize
+begun_game (board side) = judged (begun side) None
+
+-- a step that was taken adds a state, and where it was refused, the line ends
+abbrev pub stepped : States → Node → Result State Reason → Judgement
+stepped states node (Ok state) = judged (followed_by states state) None
+stepped states node (Err reason) = judged states (Some (Illegal (states.present.turns + 1) node.place reason))
+
+-- one node more
+abbrev pub after : Judgement → Node → Judgement
+after (unjudged told) node = unjudged told
+after (judged states (Some told)) node = judged states (Some told)
+after (judged states None) node = stepped states node (step states.present node)
+
+-- after nodes
+abbrev pub judging : GameKind → List Node → Judgement
+judging kind nodes = fold after (begun_game kind) nodes
+
+-- back to the first nodes: an illegal node that is behind them is forgotten
+abbrev pub back : ℕ → Judgement → Judgement
+back count (unjudged told) = unjudged told
+back count (judged states ended) = if nat_le count (length states.earlier) then judged (back_to states count) None else judged states ended
+
+abbrev pub verdict_in : Judgement → Verdict
+verdict_in (unjudged told) = told
+verdict_in (judged states (Some told)) = told
+verdict_in (judged states None) = score_in states.present
+
+-- the present board, where there is one
+abbrev pub board_in : Judgement → Option Grid
+board_in (unjudged told) = None
+board_in (judged states ended) = Some states.present.colouring
+
+-- the state that a step leads to
+abbrev pub state_of : Result State Reason → Option State
+state_of (Ok state) = Some state
+state_of (Err reason) = None
+
+-- the state to which a node leads; none where it isn't allowed, or nothing is played any more
+abbrev pub state_after : Judgement → Node → Option State
+state_after (unjudged told) node = None
+state_after (judged states (Some told)) node = None
+state_after (judged states None) node = state_of (step states.present node)
+
+-- the node with that state, if there is one
+abbrev pub taken_by : Option State → Node → List TakenNode
+taken_by None node = []
+taken_by (Some state) node = record { node = node; after = state } ∷ []
+
+-- how many nodes are played for the next node
+abbrev pub next_plays : Judgement → ℕ
+next_plays (unjudged told) = 0
+next_plays (judged states (Some told)) = 0
+next_plays (judged states None) = 1
+
+-- what a judge in memory says
+abbrev pub judgement_of : Option Verdict → Option States → Judgement
+judgement_of ended None = unjudged (unwrap_or ended NotGo)
+judgement_of ended (Some states) = judged states ended
+
+-- the referee takes the step that was to be taken, or refuses it for its reason and is unchanged, or is refused memory and is unchanged
+abbrev pub IsStepped : {A : Type 0} → Result State Reason → States → States → Result A TurnFault → Type 0
+IsStepped step old new (Ok _) = (step ≡ Ok new.present) × (new ≡ followed_by old new.present)
+IsStepped step old new (Err (IllegalTurn reason)) = (step ≡ Err reason) × (new ≡ old)
+IsStepped step old new (Err Memory) = new ≡ old
+
+-- the effect of moves and stones on a board of that side
+abbrev pub IsEffectBy : ℕ → List Move → List Stones → Effect → Type 0
+IsEffectBy side moves stones Nothing = (moves ≡ []) × (stones ≡ [])
+IsEffectBy side moves stones stones_set = (moves ≡ []) × (0 < length stones)
+IsEffectBy side moves stones (one_play colour play) =
+    (stones ≡ []) × IsPlayOn side play
+    × ((raw : List ℕ) × (moves ≡ record { player = colour; raw = raw } ∷ []) × (move_value raw side ≡ Some play))
+
+abbrev pub IsEffect : ℕ → Node → Effect → Type 0
+IsEffect side node effect = IsEffectBy side (moves node) (stones node) effect
+
+-- the effect of one move
+abbrev pub IsMoveOf : ℕ → Colour → List ℕ → Effect → Type 0
+IsMoveOf side colour raw effect = IsEffectBy side (record { player = colour; raw = raw } ∷ []) [] effect
+
+-- the effect of a setup
+abbrev pub setup_effect : List SetupOp → Effect
+setup_effect [] = Nothing
+setup_effect (op ∷ ops) = stones_set
+
+-- the step of a node has that effect, and the node has that comment
+pub record IsStepOf (side : ℕ) (node : Node) (taken : TakenStep) : Type 0 where
+  pub effect_is : IsEffect side node taken.effect
+  pub comment_is : option_copied taken.comment ≡ first_value (codes "C") node.properties
+
+-- the side of its board
+abbrev pub side_in : Judgement → ℕ
+side_in (unjudged told) = 0
+side_in (judged states ended) = states.present.colouring.side
+
+-- what is told of the next node: its step if that was taken
+abbrev pub IsTakenFrom : Judgement → Node → Option TakenStep → Type 0
+IsTakenFrom judgement node None = state_after judgement node ≡ None
+IsTakenFrom judgement node (Some taken) =
+    (state : State) × (state_after judgement node ≡ Some state) × IsStepOf (side_in judgement) node taken

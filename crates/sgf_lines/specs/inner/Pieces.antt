@@ -1,0 +1,37 @@
+-- A text in pieces, by the offsets where they end.
+use Rattle.std.specs.Prelude.{ℕ, ◌-◌, ◌≤◌, List, [], ◌∷◌, ◌++◌, length, take, drop}
+
+-- pieces of text, one after the other, and what is begun after them
+pub record PiecesState : Type 0 where
+  pub pieces : List (List ℕ)
+  pub begun : List ℕ
+
+abbrev pub no_pieces : PiecesState
+no_pieces = record { pieces = []; begun = [] }
+
+-- more is begun
+abbrev pub pushed : PiecesState → List ℕ → PiecesState
+pushed old more = record { pieces = old.pieces; begun = old.begun ++ more }
+
+-- what was begun is a piece
+abbrev pub closed : PiecesState → PiecesState
+closed old = record { pieces = old.pieces ++ old.begun ∷ []; begun = [] }
+
+-- the first pieces alone
+abbrev pub cut : ℕ → PiecesState → PiecesState
+cut count old = record { pieces = take count old.pieces; begun = [] }
+
+-- the pieces of a text that stands at the offset `start`, by their ends
+abbrev pub pieces_from : ℕ → List ℕ → List ℕ → List (List ℕ)
+pieces_from start [] text = []
+pieces_from start (end ∷ ends) text = take (end - start) text ∷ pieces_from end ends (drop (end - start) text)
+
+-- what stands after them
+abbrev pub rest_from : ℕ → List ℕ → List ℕ → List ℕ
+rest_from start [] text = text
+rest_from start (end ∷ ends) text = rest_from end ends (drop (end - start) text)
+
+-- ends that don't fall, and are within the text
+abbrev pub AreEnds : ℕ → List ℕ → List ℕ → Type 0
+AreEnds start [] text = Unit {0}
+AreEnds start (end ∷ ends) text = (start ≤ end) × (end - start ≤ length text) × AreEnds end ends (drop (end - start) text)

@@ -1,0 +1,195 @@
+//! The commands of a node in the script of a line (Go Text Protocol, version 2).
+
+ghost use Rattle.std.specs.Prelude.{◌≡◌, ℕ, List, [], ◌∷◌, ◌++◌, ◌+◌, ◌≤◌, ◌<◌, ◌*◌, OnOk, option_copied};
+ghost use Rattle.go_board.specs.Point.{IsOn};
+ghost use Rattle.go_board.specs.State.{IsPlayOn};
+ghost use Rattle.sgf_lines.specs.Script.{text_rows, comment_row, comment_text, colour_letter, play_command, stone_commands, colouring_commands, board_commands};
+ghost use Rattle.sgf_lines.specs.inner.Cutting.{commands_at, AreAppended, pass_command, stone_command};
+ghost use Rattle.sgf_lines.specs.inner.Scripting.{IsPlayable, step_script};
+
+use crate::form::text::{push_bytes, push_number};
+use crate::judging::step::{Effect, TakenStep};
+use go_board::{Board, Colour, MAX_VERTEX_SIDE, Play, Point, Size, Vertex, vertex};
+use memchr::memchr;
+use sgf_tree::{MemoryFault, push_text};
+
+/// Appends the commands before those of the first node: the size of the board, and that it is cleared.
+pub(crate) fn push_board_commands(size: Size, output: &mut Vec<u8>) -> Result<(), MemoryFault>
+    ensures { OnOk result (output.new.items ≡ output.old.items ++ board_commands size) }
+{
+    push_bytes(b"boardsize ", output)?;
+    push_number(u64::from(size.side()), output)?;
+    push_bytes(b"\nclear_board\n", output)
+}
+
+/// Appends what a step that was taken adds to the script of a line, where it left that board.
+pub(crate) fn push_step(
+    step: TakenStep<'_>,
+    board: &Board,
+    output: &mut Vec<u8>,
+) -> Result<(), MemoryFault>
+    requires letters { board.now.side ≤ MAX_VERTEX_SIDE }
+    requires playable { IsPlayable board.now.side step.effect }
+    ensures { OnOk result (output.new.items ≡ output.old.items ++ step_script board.now step.entry) }
+{
+    push_comment(step.comment, output)?;
+    match step.effect {
+        Effect::Nothing => Ok(()),
+        Effect::Stones => push_board(board, output),
+        Effect::Play(colour, play) => push_play(board.size(), colour, play, output),
+    }
+}
+
+/// Appends a comment, a row for each piece of its text that line feeds part; none where there is none.
+fn push_comment(comment: Option<&[u8]>, output: &mut Vec<u8>) -> Result<(), MemoryFault>
+    ensures { OnOk result (output.new.items ≡ output.old.items ++ text_rows (comment_text (option_copied comment.entry))) }
+{
+    let Some(raw) = comment else {
+        return Ok(());
+    };
+    let mut text = Vec::new(*output.allocator());
+    push_text(raw, &mut text)?;
+    push_text_rows(&text, output)
+}
+
+/// Appends a comment row for each piece of a text that is cut at its line feeds; none for an empty text.
+fn push_text_rows(text: &[u8], output: &mut Vec<u8>) -> Result<(), MemoryFault>
+    ensures { OnOk result (output.new.items ≡ output.old.items ++ text_rows text.now) }
+{
+    if text.is_empty() {
+        return Ok(());
+    }
+    let mut rest = text;
+    'pieces: while let Some(end) = memchr(b'\n', rest) {
+        push_comment_row(&rest[..end], output)?;
+        rest = &rest[end + 1..];
+    }
+    push_comment_row(rest, output)
+}
+
+/// Appends a row that is a comment.
+fn push_comment_row(piece: &[u8], output: &mut Vec<u8>) -> Result<(), MemoryFault>
+    ensures { OnOk result (output.new.items ≡ output.old.items ++ comment_row piece.now) }
+{
+    push_bytes(b"# ", output)?;
+    push_bytes(piece, output)?;
+    push_bytes(b"\n", output)
+}
+
+/// Appends a whole board: that it is cleared, then all black stones, then all white ones.
+fn push_board(board: &Board, output: &mut Vec<u8>) -> Result<(), MemoryFault>
+    requires { board.now.side ≤ MAX_VERTEX_SIDE }
+    ensures { OnOk result (output.new.items ≡ output.old.items ++ colouring_commands board.now) }
+{
+    push_bytes(b"clear_board\n", output)?;
+    push_stones(board, Colour::Black, output)?;
+    push_stones(board, Colour::White, output)
+}
+
+/// Appends the stones of a colour, row by row from the top, from left to right.
+fn push_stones(board: &Board, colour: Colour, output: &mut Vec<u8>) -> Result<(), MemoryFault>
+    requires { board.now.side ≤ MAX_VERTEX_SIDE }
+    ensures { OnOk result (output.new.items ≡ output.old.items ++ stone_commands board.now colour) }
+{
+    'rows: for row in 0..board.size().side() {
+        push_row(board, row, colour, output)?;
+    }
+    Ok(())
+}
+
+/// Appends the stones of a colour in a row, from left to right, where those of the rows above it were appended.
+fn push_row(board: &Board, row: u8, colour: Colour, output: &mut Vec<u8>) -> Result<(), MemoryFault>
+    requires letters { board.now.side ≤ MAX_VERTEX_SIDE }
+    requires row { row < board.now.side }
+    ensures { (before : List ℕ) → AreAppended board.now colour (row * board.now.side) before output.old.items
+        → OnOk result (AreAppended board.now colour ((row + 1) * board.now.side) before output.new.items) }
+{
+    'columns: for col in 0..board.size().side() {
+        push_point(board, Point { col, row }, colour, output)?;
+    }
+    Ok(())
+}
+
+/// Appends the stone on a point, if it has that colour.
+fn push_point(
+    board: &Board,
+    point: Point,
+    colour: Colour,
+    output: &mut Vec<u8>,
+) -> Result<(), MemoryFault>
+    requires letters { board.now.side ≤ MAX_VERTEX_SIDE }
+    requires on_board { IsOn board.now.side point }
+    ensures { OnOk result (output.new.items ≡ output.old.items ++ commands_at board.now colour point) }
+{
+    if board.at(point) == colour.stone() {
+        push_play(board.size(), colour, Play::Stone(point), output)
+    } else {
+        Ok(())
+    }
+}
+
+/// Appends a play command. It is laid out first and appended at once, since most nodes add one.
+fn push_play(
+    size: Size,
+    colour: Colour,
+    play: Play,
+    output: &mut Vec<u8>,
+) -> Result<(), MemoryFault>
+    requires letters { size ≤ MAX_VERTEX_SIDE }
+    requires on_board { IsPlayOn size play }
+    ensures { OnOk result (output.new.items ≡ output.old.items ++ play_command size colour play) }
+{
+    match play {
+        Play::Pass => push_pass(colour, output),
+        Play::Stone(point) => push_stone(colour, vertex(point, size), output),
+    }
+}
+
+/// Appends the play command of a pass.
+fn push_pass(colour: Colour, output: &mut Vec<u8>) -> Result<(), MemoryFault>
+    ensures { OnOk result (output.new.items ≡ output.old.items ++ pass_command colour) }
+{
+    let player = letter_of(colour);
+    push_bytes(
+        &[
+            b'p', b'l', b'a', b'y', b' ', player, b' ', b'p', b'a', b's', b's', b'\n',
+        ],
+        output,
+    )
+}
+
+/// Appends the play command of a stone.
+fn push_stone(colour: Colour, vertex: Vertex, output: &mut Vec<u8>) -> Result<(), MemoryFault>
+    requires { vertex.row < 100 }
+    ensures { OnOk result (output.new.items ≡ output.old.items ++ stone_command colour vertex) }
+{
+    let player = letter_of(colour);
+    let column = vertex.letter;
+    let tens = b'0' + vertex.row / 10;
+    let ones = b'0' + vertex.row % 10;
+    if vertex.row < 10 {
+        push_bytes(
+            &[
+                b'p', b'l', b'a', b'y', b' ', player, b' ', column, ones, b'\n',
+            ],
+            output,
+        )
+    } else {
+        push_bytes(
+            &[
+                b'p', b'l', b'a', b'y', b' ', player, b' ', column, tens, ones, b'\n',
+            ],
+            output,
+        )
+    }
+}
+
+/// A player's letter.
+fn letter_of(colour: Colour) -> u8
+    ensures { result ∷ [] ≡ colour_letter colour }
+{
+    match colour {
+        Colour::Black => b'B',
+        Colour::White => b'W',
+    }
+}

@@ -1,0 +1,50 @@
+//! A line is judged from where it leaves the line before it.
+
+ghost use Rattle.std.specs.Prelude.{◌≡◌, ◌+◌, ◌<◌, ◌≤◌, length, OnOk};
+ghost use Rattle.sgf_lines.specs.inner.Following.{nodes_before};
+ghost use Rattle.sgf_lines.specs.inner.Judging.{back};
+ghost use Rattle.sgf_lines.specs.inner.Keeping.{judging_front, PlaysFresh};
+
+use crate::cursor::Cursor;
+use crate::judging::judge::Judge;
+use sgf_tree::MemoryFault;
+
+/// Judges the line before the cursor, of whose nodes the first `held` are judged already.
+/// After a refusal of memory nothing is said of how it stands.
+pub(crate) fn judge_line(
+    cursor: &Cursor<'_, '_>,
+    held: usize,
+    judge: &mut Judge,
+) -> Result<(), MemoryFault>
+    requires some_node { 0 < length (nodes_before cursor.now) }
+    requires within { held ≤ length (nodes_before cursor.now) }
+    requires judged { 0 < held → back held judge.old.judgement ≡ judging_front (nodes_before cursor.now) held }
+    requires countable { judge.old.plays + length (nodes_before cursor.now) < u64.MAX }
+    ensures judged { OnOk result (judge.new.judgement ≡ judging_front (nodes_before cursor.now) (length (nodes_before cursor.now))) }
+    ensures plays { PlaysFresh judge.old.plays judge.new.plays (nodes_before cursor.now) held result }
+{
+    let end = cursor.len();
+    begin_or_go_back(cursor, held, judge)?;
+    for index in held..end {
+        judge.take(&cursor.node(index), cursor.place(index))?;
+    }
+    Ok(())
+}
+
+/// Goes back to the first `held` nodes of the line before the cursor; where there are none, the line's game begins.
+pub(crate) fn begin_or_go_back(
+    cursor: &Cursor<'_, '_>,
+    held: usize,
+    judge: &mut Judge,
+) -> Result<(), MemoryFault>
+    requires some_node { 0 < length (nodes_before cursor.now) }
+    requires judged { 0 < held → back held judge.old.judgement ≡ judging_front (nodes_before cursor.now) held }
+    ensures judged { OnOk result (judge.new.judgement ≡ judging_front (nodes_before cursor.now) held) }
+    ensures plays { judge.new.plays ≡ judge.old.plays }
+{
+    if held == 0 {
+        return judge.begin(&cursor.node(0));
+    }
+    judge.cut_back(held);
+    Ok(())
+}

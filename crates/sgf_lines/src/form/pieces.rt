@@ -1,0 +1,92 @@
+//! A text in pieces, kept for what the next line shares of it.
+
+ghost use Rattle.std.specs.Prelude.{◌≡◌, ◌++◌, length, OnOk, OnErr};
+ghost use Rattle.std.specs.List.{concat};
+ghost use Rattle.sgf_lines.specs.Record.{node_text};
+ghost use Rattle.sgf_lines.specs.inner.Pieces.{no_pieces, pushed, closed, cut};
+
+use sgf_tree::{MemoryFault, NodeRef};
+use std::alloc::Global;
+use std::marker::Model;
+
+/// A text of pieces, one after the other, and of what is begun after them.
+/// It can be cut back to any number of the first pieces.
+#[derive(Drop)]
+pub(crate) struct Pieces {
+    text: Vec<u8>,
+
+    /// Where each piece ends.
+    ends: Vec<usize>,
+}
+
+impl Model for Pieces {
+    ghost use Rattle.sgf_lines.specs.inner.Pieces.{PiecesState, pieces_from, rest_from, AreEnds};
+
+    ghost Value = { PiecesState };
+
+    ghost view = { λ s. record { pieces = pieces_from 0 s.ends.items s.text.items; begun = rest_from 0 s.ends.items s.text.items } };
+
+    ghost invariant = { λ s. AreEnds 0 s.ends.items s.text.items };
+}
+
+impl Pieces {
+    /// No piece, and nothing begun.
+    pub(crate) fn new(alloc: Global) -> Pieces
+        ensures { result ≡ no_pieces }
+    {
+        Pieces {
+            text: Vec::new(alloc),
+            ends: Vec::new(alloc),
+        }
+    }
+
+    /// How many pieces there are.
+    pub(crate) fn count(&self) -> usize
+        ensures { result ≡ length self.now.pieces }
+    {
+        self.ends.len()
+    }
+
+    /// Appends a node as the sgf form writes it.
+    pub(crate) fn push_node(&mut self, node: &NodeRef<'_, '_>) -> Result<(), MemoryFault>
+        ensures pushed { OnOk result (self.new ≡ pushed self.old (node_text node.now)) }
+        ensures unchanged { OnErr result (self.new ≡ self.old) }
+    {
+        node.push_to(&mut self.text)?;
+        Ok(())
+    }
+
+    /// Appends to what is begun.
+    pub(crate) fn push(&mut self, bytes: &[u8]) -> Result<(), MemoryFault>
+        ensures pushed { OnOk result (self.new ≡ pushed self.old bytes.now) }
+        ensures unchanged { OnErr result (self.new ≡ self.old) }
+    {
+        self.text.extend_from_slice(bytes)?;
+        Ok(())
+    }
+
+    /// Makes a piece of what is begun.
+    pub(crate) fn close(&mut self) -> Result<(), MemoryFault>
+        ensures closed { OnOk result (self.new ≡ closed self.old) }
+        ensures unchanged { OnErr result (self.new ≡ self.old) }
+    {
+        self.ends.push(self.text.len())?;
+        Ok(())
+    }
+
+    /// Goes back to the first `count` pieces, or to all; nothing is begun after them.
+    pub(crate) fn cut_back(&mut self, count: usize)
+        ensures { self.new ≡ cut count self.old }
+    {
+        self.ends.truncate(count);
+        let end = self.ends.last().copied().unwrap_or(0);
+        self.text.truncate(end);
+    }
+
+    /// The whole text.
+    pub(crate) fn text(&self) -> &[u8]
+        ensures { result.now ≡ concat self.now.pieces ++ self.now.begun }
+    {
+        &self.text
+    }
+}

@@ -1,0 +1,44 @@
+//! The record of a line in sgf form.
+
+ghost use Rattle.std.specs.Prelude.{◌≡◌, ◌<◌, ◌≤◌, ◌+◌, [], length, take, OnOk};
+ghost use Rattle.sgf_lines.specs.inner.Following.{nodes_before};
+ghost use Rattle.sgf_lines.specs.inner.Pieces.{cut};
+ghost use Rattle.sgf_lines.specs.inner.Recording.{open_record, whole_record};
+
+use crate::cursor::Cursor;
+use crate::form::pieces::Pieces;
+use sgf_tree::MemoryFault;
+
+/// Goes on to the record of the line before the cursor, of whose nodes the first `held` are held.
+/// It is a piece for each node after one for the parenthesis, and its end, which the next line cuts off.
+/// After a refusal of memory nothing is said of it.
+pub(crate) fn follow(
+    cursor: &Cursor<'_, '_>,
+    held: usize,
+    kept: &mut Pieces,
+) -> Result<(), MemoryFault>
+    requires within { held ≤ length (nodes_before cursor.now) }
+    requires keeps { 0 < held → cut (held + 1) kept.old ≡ open_record (take held (nodes_before cursor.now)) }
+    ensures { OnOk result (kept.new ≡ whole_record (nodes_before cursor.now)) }
+{
+    let end = cursor.len();
+    if held == 0 {
+        begin(kept)?;
+    } else {
+        kept.cut_back(held + 1);
+    }
+    for index in held..end {
+        kept.push_node(&cursor.node(index))?;
+        kept.close()?;
+    }
+    kept.push(b")\n")
+}
+
+/// Begins a record anew, by its parenthesis.
+fn begin(kept: &mut Pieces) -> Result<(), MemoryFault>
+    ensures { OnOk result (kept.new ≡ open_record []) }
+{
+    kept.cut_back(0);
+    kept.push(b"(")?;
+    kept.close()
+}

@@ -1,0 +1,202 @@
+//! The script of a line in gtp form.
+
+ghost use Rattle.std.specs.Prelude.{◌≡◌, ◌+◌, ◌<◌, ◌≤◌, false, length, OnOk};
+ghost use Rattle.sgf_lines.specs.inner.Following.{nodes_before};
+ghost use Rattle.sgf_lines.specs.inner.Judging.{back, after, next_plays, board_in};
+ghost use Rattle.sgf_lines.specs.inner.Keeping.{judging_front, script_front, PlaysFresh};
+ghost use Rattle.sgf_lines.specs.inner.Scripting.{IsLettered, IsPlayable, empty_script, is_unreaching, no_script, said_after, said_on, script_back, script_begun, script_ended, script_on, script_text, step_script};
+
+use crate::cursor::Cursor;
+use crate::form::commands::{push_board_commands, push_step};
+use crate::form::judged::begin_or_go_back;
+use crate::form::pieces::Pieces;
+use crate::judging::judge::Judge;
+use crate::judging::step::{Effect, TakenStep};
+use go_board::{Board, MAX_VERTEX_SIDE, Size};
+use sgf_tree::{MemoryFault, NodeRef};
+use std::alloc::Global;
+use std::marker::Model;
+
+/// The commands of a line's nodes.
+#[derive(Drop)]
+pub(crate) struct Script {
+    /// Those that begin a game on the board, and then a piece for each node that was taken.
+    pieces: Pieces,
+
+    /// Whether the line can't be said in commands: it isn't judged, its board has more columns than there are letters of vertices, or
+    /// the setup of the node after the pieces leaves a stone without a liberty.
+    silent: bool,
+
+    /// A buffer for the commands of a node.
+    words: Vec<u8>,
+}
+
+impl Model for Script {
+    ghost use Rattle.sgf_lines.specs.inner.Scripting.{ScriptState};
+
+    ghost Value = { ScriptState };
+
+    ghost view = { λ s. record { text = s.pieces; silent = s.silent } };
+}
+
+impl Script {
+    /// Before any line.
+    pub(crate) fn new(alloc: Global) -> Script
+        ensures { result ≡ empty_script }
+    {
+        Script {
+            pieces: Pieces::new(alloc),
+            silent: false,
+            words: Vec::new(alloc),
+        }
+    }
+
+    /// Goes over to a line that isn't judged.
+    fn silence(&mut self)
+        ensures { self.new ≡ no_script }
+    {
+        self.pieces.cut_back(0);
+        self.silent = true;
+    }
+
+    /// Begins the commands of a game on a board of that size.
+    fn begin(&mut self, size: Size) -> Result<(), MemoryFault>
+        ensures { OnOk result (self.new ≡ script_begun size) }
+    {
+        self.silence();
+        if size.side() <= MAX_VERTEX_SIDE {
+            self.words.clear();
+            push_board_commands(size, &mut self.words)?;
+            self.pieces.push(&self.words)?;
+            self.pieces.close()?;
+            self.silent = false;
+        }
+        Ok(())
+    }
+
+    /// Goes on by a node, whose step was taken and left that board.
+    fn say(&mut self, step: TakenStep<'_>, board: &Board) -> Result<(), MemoryFault>
+        requires letters { self.old.silent ≡ false → board.now.side ≤ MAX_VERTEX_SIDE }
+        requires playable { IsPlayable board.now.side step.effect }
+        ensures { OnOk result (self.new ≡ said_on self.old (is_unreaching board.now step.entry.effect) (step_script board.now step.entry)) }
+    {
+        if self.silent {
+            return Ok(());
+        }
+        if leaves_unreaching(step.effect, board) {
+            self.silent = true;
+            return Ok(());
+        }
+        self.words.clear();
+        push_step(step, board, &mut self.words)?;
+        self.pieces.push(&self.words)?;
+        self.pieces.close()
+    }
+
+    /// Goes on by a node of that place, which is judged first.
+    fn take(
+        &mut self,
+        node: &NodeRef<'_, '_>,
+        place: usize,
+        judge: &mut Judge,
+    ) -> Result<(), MemoryFault>
+        requires place { place ≡ node.now.place }
+        requires countable { judge.old.plays < u64.MAX }
+        requires letters { IsLettered self.old (board_in judge.old.judgement) }
+        ensures judged { OnOk result (judge.new.judgement ≡ after judge.old.judgement node.now) }
+        ensures said { OnOk result (self.new ≡ said_after self.old judge.old.judgement node.now) }
+        ensures plays { OnOk result (judge.new.plays ≡ judge.old.plays + next_plays judge.old.judgement) }
+        ensures not_fewer { judge.old.plays ≤ judge.new.plays }
+        ensures not_more { judge.new.plays ≤ judge.old.plays + next_plays judge.old.judgement }
+    {
+        let Some(step) = judge.take(node, place)? else {
+            return Ok(());
+        };
+        match judge.board() {
+            Some(board) => self.say(step, board),
+            None => Ok(()),
+        }
+    }
+
+    /// Goes back to the first `count` nodes.
+    fn cut_back(&mut self, count: usize)
+        requires { count < usize.MAX }
+        ensures { self.new ≡ script_back count self.old }
+    {
+        self.silent = self.silent && self.pieces.count() < count + 1;
+        self.pieces.cut_back(count + 1);
+    }
+
+    /// Appends the row that ends it, which the next line cuts off.
+    fn end(&mut self) -> Result<(), MemoryFault>
+        ensures { OnOk result (self.new ≡ script_ended self.old) }
+    {
+        self.pieces.push(b"\n")
+    }
+
+    /// What is put of it.
+    pub(crate) fn text(&self) -> &[u8]
+        ensures { result.now ≡ script_text self.now }
+    {
+        if self.silent {
+            b"\n"
+        } else {
+            self.pieces.text()
+        }
+    }
+}
+
+/// Goes on to the script of the line before the cursor, of whose nodes the first `held` are held, and judges that line.
+/// After a refusal of memory nothing is said of it.
+pub(crate) fn follow(
+    cursor: &Cursor<'_, '_>,
+    held: usize,
+    judge: &mut Judge,
+    script: &mut Script,
+) -> Result<(), MemoryFault>
+    requires some_node { 0 < length (nodes_before cursor.now) }
+    requires within { held ≤ length (nodes_before cursor.now) }
+    requires judged { 0 < held → back held judge.old.judgement ≡ judging_front (nodes_before cursor.now) held }
+    requires said { 0 < held → script_back held script.old ≡ script_front (nodes_before cursor.now) held }
+    requires countable { judge.old.plays + length (nodes_before cursor.now) < u64.MAX }
+    ensures judged { OnOk result (judge.new.judgement ≡ judging_front (nodes_before cursor.now) (length (nodes_before cursor.now))) }
+    ensures said { OnOk result (script.new ≡ script_ended (script_front (nodes_before cursor.now) (length (nodes_before cursor.now)))) }
+    ensures plays { PlaysFresh judge.old.plays judge.new.plays (nodes_before cursor.now) held result }
+{
+    let end = cursor.len();
+    begin_or_go_back(cursor, held, judge)?;
+    keep(held, judge, script)?;
+    for index in held..end {
+        script.take(&cursor.node(index), cursor.place(index), judge)?;
+    }
+    script.end()
+}
+
+/// Keeps the commands of the first `held` nodes; where there are none, those of the game begin that is judged.
+fn keep(held: usize, judge: &Judge, script: &mut Script) -> Result<(), MemoryFault>
+    requires { held < usize.MAX }
+    ensures none { held ≡ 0 → OnOk result (script.new ≡ script_on (board_in judge.now.judgement)) }
+    ensures some { 0 < held → OnOk result (script.new ≡ script_back held script.old) }
+{
+    if held > 0 {
+        script.cut_back(held);
+        return Ok(());
+    }
+    match judge.board() {
+        Some(board) => script.begin(board.size()),
+        None => {
+            script.silence();
+            Ok(())
+        }
+    }
+}
+
+/// Whether the setup of a node with that effect leaves a stone without a liberty.
+fn leaves_unreaching(effect: Effect, board: &Board) -> bool
+    ensures { result ≡ is_unreaching board.now effect }
+{
+    match effect {
+        Effect::Stones => board.has_unreaching(),
+        Effect::Nothing | Effect::Play(..) => false,
+    }
+}

@@ -1,0 +1,238 @@
+//! What a node holds for the referee and for a script: moves, stones and players (SGF FF[4], move and setup properties), and
+//! a comment. It is gathered in one pass over the node's properties.
+
+ghost use Rattle.std.specs.Prelude.{◌≡◌, ◌∷◌, ◌++◌, [], ℕ, List, Option, IfOk, OnOk, option_copied, option_map, Some};
+ghost use Rattle.sgf_tree.specs.Tree.{Property, lone_property, values};
+ghost use Rattle.go_board.specs.declared.stones.Colour.{Colour};
+ghost use Rattle.sgf_lines.specs.NodeContents.{Move, moves_by, stones_of};
+ghost use Rattle.sgf_lines.specs.NodeValues.{last_player as last_player_rule};
+ghost use Rattle.sgf_lines.specs.inner.Gathered.{AreMoves, AddsAreas, IsGathered, first_comment, kind_of as kind_of_rule, setup_with_stones, setup_with_player};
+
+use crate::node_values::player_value;
+use go_board::{Cell, Colour, SetupOp, Size, rect};
+use sgf_tree::{MemoryFault, NodeRef, PropRef, Properties};
+
+/// The moves of a node, as far as a step asks for them.
+#[derive(Clone, Copy)]
+pub(crate) enum Moves<'a> {
+    Nothing,
+    /// One move: the player, and the raw value that says where.
+    One(Colour, &'a [u8]),
+    /// Two moves or more.
+    Several,
+}
+
+/// What the stones and the players of a node set up.
+#[derive(Clone, Copy)]
+pub(crate) enum Setup {
+    /// There are neither stones nor players.
+    Nothing,
+    /// Each value names a rectangle of the board or a player, of whom this is the last.
+    Meant(Option<Colour>),
+    /// Some value of AB, AW or AE names no rectangle of the board, or some value of PL no player.
+    Faulty,
+}
+
+/// What a node holds for the referee and for a script.
+#[derive(Clone, Copy)]
+pub(crate) struct Contents<'a> {
+    pub(crate) moves: Moves<'a>,
+    pub(crate) setup: Setup,
+    /// The first value of its first C.
+    pub(crate) comment: Option<&'a [u8]>,
+}
+
+/// What the values of a property are.
+#[derive(Clone, Copy)]
+pub(crate) enum Kind {
+    Move(Colour),
+    Stones(Cell),
+    Player,
+    Comment,
+}
+
+/// What a node holds, on a board of that size. `operations` has then what its values of AB, AW and AE set up, in order.
+pub(crate) fn gathered<'a>(
+    node: &NodeRef<'_, 'a>,
+    size: Size,
+    operations: &mut Vec<SetupOp>,
+) -> Result<Contents<'a>, MemoryFault>
+    ensures { IfOk result (IsGathered size node.now.properties operations.new.items) }
+{
+    operations.clear();
+    let (mut contents, mut left) = Contents::of_front(node);
+    while let Some(property) = left.next() {
+        contents.take(&property, size, operations)?;
+    }
+    Ok(contents)
+}
+
+impl<'a> Contents<'a> {
+    /// What no property holds.
+    fn nothing() -> Contents<'a>
+        ensures { (side : ℕ) → IsGathered side [] [] result }
+    {
+        Contents {
+            moves: Moves::Nothing,
+            setup: Setup::Nothing,
+            comment: None,
+        }
+    }
+
+    /// What a property holds that has a name of one letter and one value.
+    fn of_lone(letter: u8, raw: &'a [u8]) -> Contents<'a>
+        ensures { (side : ℕ) → IsGathered side (lone_property letter raw.now ∷ []) [] result }
+    {
+        match letter {
+            b'B' => Contents {
+                moves: Moves::One(Colour::Black, raw),
+                setup: Setup::Nothing,
+                comment: None,
+            },
+            b'W' => Contents {
+                moves: Moves::One(Colour::White, raw),
+                setup: Setup::Nothing,
+                comment: None,
+            },
+            b'C' => Contents {
+                moves: Moves::Nothing,
+                setup: Setup::Nothing,
+                comment: Some(raw),
+            },
+            _ => Contents {
+                moves: Moves::Nothing,
+                setup: Setup::Nothing,
+                comment: None,
+            },
+        }
+    }
+
+    /// What a front of a node's properties holds, and the properties that are left.
+    fn of_front<'c>(node: &NodeRef<'c, 'a>) -> (Contents<'a>, Properties<'c, 'a>)
+        ensures { (front : List Property) × ((side : ℕ) → IsGathered side front [] result.0)
+            × (front ++ result.1 ≡ node.now.properties) }
+    {
+        let (told, left) = node.front();
+        match told {
+            Some((letter, raw)) => (Contents::of_lone(letter, raw), left),
+            None => (Contents::nothing(), left),
+        }
+    }
+
+    /// Takes what a property holds.
+    fn take(
+        &mut self,
+        property: &PropRef<'a>,
+        size: Size,
+        operations: &mut Vec<SetupOp>,
+    ) -> Result<(), MemoryFault>
+        ensures { (front : List Property) → IsGathered size front operations.old.items self.old
+            → OnOk result (IsGathered size (front ++ property.now ∷ []) operations.new.items self.new) }
+    {
+        match kind_of(property) {
+            Some(Kind::Move(colour)) => self.moves = with_moves(self.moves, colour, property),
+            Some(Kind::Stones(cell)) => {
+                let good = push_areas(cell, property, size, operations)?;
+                self.setup = with_stones(self.setup, good);
+            }
+            Some(Kind::Player) => self.setup = with_player(self.setup, last_player(property)),
+            Some(Kind::Comment) => self.comment = first_comment(self.comment, property),
+            None => {}
+        }
+        Ok(())
+    }
+}
+
+/// These moves and those of a property.
+#[tactic(auto, using(crate::proofs::Gathered::two_at_least))]
+fn with_moves<'a>(moves: Moves<'a>, colour: Colour, property: &PropRef<'a>) -> Moves<'a>
+    ensures { (ms : List Move) → AreMoves moves.entry ms → AreMoves result (ms ++ moves_by colour property.now) }
+{
+    let mut values = property.iter();
+    let raw = values.next().unwrap();
+    match moves {
+        Moves::Nothing => match values.next() {
+            None => Moves::One(colour, raw),
+            Some(_) => Moves::Several,
+        },
+        Moves::One(..) | Moves::Several => Moves::Several,
+    }
+}
+
+/// The comment that was met, else that of a property.
+fn first_comment<'a>(comment: Option<&'a [u8]>, property: &PropRef<'a>) -> Option<&'a [u8]>
+    ensures { option_copied result ≡ first_comment (option_copied comment.entry) property.now.first }
+{
+    match comment {
+        Some(met) => Some(met),
+        None => Some(property.value(0)),
+    }
+}
+
+/// Appends the operations of a property's stones, and tells whether each of its values names a rectangle of the board.
+fn push_areas(
+    cell: Cell,
+    property: &PropRef<'_>,
+    size: Size,
+    operations: &mut Vec<SetupOp>,
+) -> Result<bool, MemoryFault>
+    ensures { IfOk result (AddsAreas size (stones_of cell property.now) operations.old.items operations.new.items) }
+{
+    let mut values = property.iter();
+    while let Some(raw) = values.next() {
+        let Some(area) = rect(raw, size) else {
+            return Ok(false);
+        };
+        operations.push(SetupOp { cell, area })?;
+    }
+    Ok(true)
+}
+
+/// A setup with more stones, of which `good` tells whether each names a rectangle of the board.
+fn with_stones(setup: Setup, good: bool) -> Setup
+    ensures { result ≡ setup_with_stones setup good }
+{
+    match (setup, good) {
+        (Setup::Faulty, _) | (_, false) => Setup::Faulty,
+        (Setup::Nothing, true) => Setup::Meant(None),
+        (Setup::Meant(player), true) => Setup::Meant(player),
+    }
+}
+
+/// A setup with more players, of whom this is the last; None where one of the values names none.
+fn with_player(setup: Setup, last: Option<Colour>) -> Setup
+    ensures { result ≡ setup_with_player setup last }
+{
+    match (setup, last) {
+        (Setup::Faulty, _) | (_, None) => Setup::Faulty,
+        (_, Some(player)) => Setup::Meant(Some(player)),
+    }
+}
+
+/// The player that the values of a property name last; None where one of them names none.
+fn last_player(property: &PropRef<'_>) -> Option<Colour>
+    ensures { (before : Option Colour) → last_player_rule before (values property.now) ≡ option_map Some result }
+{
+    let mut values = property.iter();
+    let mut last = player_value(values.next().unwrap())?;
+    while let Some(raw) = values.next() {
+        last = player_value(raw)?;
+    }
+    Some(last)
+}
+
+/// What the values of a property are; none where they are nothing for the referee nor for a script.
+fn kind_of(property: &PropRef<'_>) -> Option<Kind>
+    ensures { result ≡ kind_of_rule property.now }
+{
+    match property.initial() {
+        b'B' if property.is(b"B") => Some(Kind::Move(Colour::Black)),
+        b'W' if property.is(b"W") => Some(Kind::Move(Colour::White)),
+        b'C' if property.is(b"C") => Some(Kind::Comment),
+        b'P' if property.is(b"PL") => Some(Kind::Player),
+        b'A' if property.is(b"AB") => Some(Kind::Stones(Cell::Black)),
+        b'A' if property.is(b"AW") => Some(Kind::Stones(Cell::White)),
+        b'A' if property.is(b"AE") => Some(Kind::Stones(Cell::Empty)),
+        _ => None,
+    }
+}

@@ -1,0 +1,206 @@
+//! A judge goes along the nodes of a line, and back to where the next line leaves it.
+
+ghost use Rattle.std.specs.Prelude.{◌≡◌, ◌+◌, ◌<◌, OnOk, OnErr, IfOk, option_copied};
+ghost use Rattle.go_board.specs.State.{begun};
+ghost use Rattle.sgf_lines.specs.inner.Back.{back_to};
+ghost use Rattle.sgf_lines.specs.Verdict.{score_in};
+ghost use Rattle.sgf_lines.specs.JudgedGames.{game_kind, board};
+
+use crate::judging::root::board_size;
+use crate::judging::step::{TakenStep, take_step};
+use crate::verdict::Verdict;
+use go_board::{Board, Past, PrintPast, Referee, SetupOp, Size, TurnFault};
+use sgf_tree::{MemoryFault, NodeRef};
+use std::alloc::Global;
+use std::marker::Model;
+
+/// Judges a line node after node, by one referee. It is seen as how the line stands judged, and the number of nodes that were
+/// played.
+#[derive(Drop)]
+pub(crate) struct Judge {
+    /// None where the game isn't judged. Each node that is allowed adds one state.
+    referee: Option<Referee<PrintPast>>,
+
+    /// A buffer for what a node sets up.
+    operations: Vec<SetupOp>,
+
+    /// The verdict, once it is known before the line's last node.
+    ended: Option<Verdict>,
+
+    plays: u64,
+}
+
+impl Model for Judge {
+    ghost use Rattle.sgf_lines.specs.inner.Judging.{Judging, judgement_of};
+
+    ghost Value = { Judging };
+
+    ghost view = { λ j. record { judgement = judgement_of j.ended j.referee; plays = j.plays } };
+}
+
+impl Judge {
+    ghost use Rattle.sgf_lines.specs.declared.verdict.Verdict.TheVariants.{NotGo};
+    ghost use Rattle.sgf_lines.specs.inner.Judging.{unjudged, begun_game, after, next_plays, IsTakenFrom, back, verdict_in, board_in};
+
+    /// A judge before the first game.
+    pub(crate) fn new(alloc: Global) -> Judge
+        ensures { result ≡ record { judgement = unjudged NotGo; plays = 0 } }
+    {
+        Judge {
+            referee: None,
+            operations: Vec::new(alloc),
+            ended: None,
+            plays: 0,
+        }
+    }
+
+    /// Begins the game of a root, before it.
+    /// After a refusal of memory nothing is changed.
+    pub(crate) fn begin(&mut self, root: &NodeRef<'_, '_>) -> Result<(), MemoryFault>
+        ensures begun { OnOk result (self.new.judgement ≡ begun_game (game_kind root.now.properties)) }
+        ensures plays { self.new.plays ≡ self.old.plays }
+        ensures unchanged { OnErr result (self.new ≡ self.old) }
+    {
+        match board_size(root) {
+            Ok(size) => self.begin_on(size),
+            Err(verdict) => {
+                self.referee = None;
+                self.ended = Some(verdict);
+                Ok(())
+            }
+        }
+    }
+
+    /// Begins a game on a board of that size. A referee that is there begins it in place.
+    fn begin_on(&mut self, size: Size) -> Result<(), MemoryFault>
+        ensures begun { OnOk result (self.new.judgement ≡ begun_game (board size)) }
+        ensures plays { self.new.plays ≡ self.old.plays }
+        ensures unchanged { OnErr result (self.new ≡ self.old) }
+    {
+        match &mut self.referee {
+            Some(referee) => {
+                // No `From` may be given here between the faults of two other crates.
+                let Ok(()) = referee.reset(size) else {
+                    return Err(MemoryFault);
+                };
+            }
+            None => self.referee = Some(new_referee(*self.operations.allocator(), size)?),
+        }
+        self.ended = None;
+        Ok(())
+    }
+
+    /// Takes one node more, of that place, and tells its step; None where it isn't taken, as the node isn't allowed or the line has
+    /// ended before it.
+    /// After a refusal of memory nothing is changed.
+    pub(crate) fn take<'a>(
+        &mut self,
+        node: &NodeRef<'_, 'a>,
+        place: usize,
+    ) -> Result<Option<TakenStep<'a>>, MemoryFault>
+        requires place { place ≡ node.now.place }
+        requires countable { self.old.plays < u64.MAX }
+        ensures judged { OnOk result (self.new.judgement ≡ after self.old.judgement node.now) }
+        ensures plays { OnOk result (self.new.plays ≡ self.old.plays + next_plays self.old.judgement) }
+        ensures step { IfOk result (IsTakenFrom self.old.judgement node.now) }
+        ensures unchanged { OnErr result (self.new ≡ self.old) }
+    {
+        let Some(referee) = &mut self.referee else {
+            return Ok(None);
+        };
+        if let Some(_) = self.ended {
+            return Ok(None);
+        }
+        match take_step(referee, node, &mut self.operations) {
+            Ok(step) => {
+                self.plays += 1;
+                Ok(Some(step))
+            }
+            Err(TurnFault::Illegal(reason)) => {
+                self.plays += 1;
+                let turn = referee.turns() + 1;
+                self.ended = Some(Verdict::Illegal {
+                    turn,
+                    place,
+                    reason,
+                });
+                Ok(None)
+            }
+            Err(TurnFault::Memory) => Err(MemoryFault),
+        }
+    }
+
+    /// Goes back to the first `count` nodes.
+    pub(crate) fn cut_back(&mut self, count: usize)
+        ensures judged { self.new.judgement ≡ back count self.old.judgement }
+        ensures plays { self.new.plays ≡ self.old.plays }
+    {
+        if let Some(referee) = &mut self.referee {
+            if count <= referee.depth() {
+                self.ended = None;
+                undo_to(referee, count);
+            }
+        }
+    }
+
+    /// The verdict of the line.
+    pub(crate) fn verdict(&self) -> Verdict
+        ensures { result ≡ verdict_in self.now.judgement }
+    {
+        match (self.ended, &self.referee) {
+            (Some(verdict), _) => verdict,
+            (None, Some(referee)) => score(referee),
+            (None, None) => Verdict::NotGo,
+        }
+    }
+
+    /// The present board; None where the game isn't judged.
+    pub(crate) fn board(&self) -> Option<&Board>
+        ensures { option_copied result ≡ board_in self.now.judgement }
+    {
+        match &self.referee {
+            Some(referee) => Some(referee.board()),
+            None => None,
+        }
+    }
+
+    /// How many nodes were played.
+    pub(crate) fn plays(&self) -> u64
+        ensures { result ≡ self.now.plays }
+    {
+        self.plays
+    }
+}
+
+/// A referee of a game on a board of that size. It is kept apart, since it has whole boards at hand, for which a call makes room even
+/// where no game is made.
+#[inline(never)]
+fn new_referee(alloc: Global, size: Size) -> Result<Referee<PrintPast>, MemoryFault>
+    ensures { IfOk result (λ referee. referee ≡ begun size) }
+{
+    match Referee::new(alloc, size) {
+        Ok(referee) => Ok(referee),
+        Err(_) => Err(MemoryFault),
+    }
+}
+
+/// Takes states back until only the first `depth` of those before the present one are left.
+pub(crate) fn undo_to(referee: &mut Referee<PrintPast>, depth: usize)
+    ensures { referee.new ≡ back_to referee.old depth }
+{
+    'undo: while depth < referee.depth() {
+        referee.undo();
+    }
+}
+
+/// The area scores of the present board, and whether the game is over.
+pub(crate) fn score<P: Past>(referee: &Referee<P>) -> Verdict
+    ensures { result ≡ score_in referee.now.present }
+{
+    let (black, white) = referee.score();
+    Verdict::Score {
+        black,
+        white,
+        over: referee.over(),
+    }
+}

@@ -1,0 +1,60 @@
+//! Which games are judged: those of Go, on a square board of a size that there is (SGF FF[4], GM and SZ).
+
+ghost use Rattle.std.specs.Prelude.{◌≡◌, option_copied};
+ghost use Rattle.sgf_lines.specs.NodeContents.{first_value as first_value_rule};
+ghost use Rattle.sgf_lines.specs.JudgedGames.{is_go as is_go_rule, side_of, game_kind};
+ghost use Rattle.sgf_lines.specs.inner.Judging.{size_said};
+
+use crate::verdict::Verdict;
+use go_board::{MAX_SIDE, Size};
+use sgf_tree::{NodeRef, number};
+
+/// The side of a board where SZ is absent.
+const USUAL_SIDE: i64 = 19;
+
+/// The size of the board of a root's game; else the verdict of each line of that game, which isn't judged. Another game comes
+/// before a faulty size.
+pub(crate) fn board_size(root: &NodeRef<'_, '_>) -> Result<Size, Verdict>
+    ensures { result ≡ size_said (game_kind root.now.properties) }
+{
+    if !is_go(first_value(root, b"GM")) {
+        return Err(Verdict::NotGo);
+    }
+    match size(first_value(root, b"SZ")) {
+        Some(size) => Ok(size),
+        None => Err(Verdict::BadSize),
+    }
+}
+
+/// The first value of a node's first property of that name.
+fn first_value<'a>(node: &NodeRef<'_, 'a>, name: &[u8]) -> Option<&'a [u8]>
+    ensures { option_copied result ≡ first_value_rule name.now node.now.properties }
+{
+    let property = node.first(name)?;
+    Some(property.value(0))
+}
+
+/// Whether a value of GM, or none, is that of Go: the number 1.
+fn is_go(game: Option<&[u8]>) -> bool
+    ensures { result ≡ is_go_rule (option_copied game.entry) }
+{
+    match game {
+        None => true,
+        Some(raw) => number(raw) == Some(1),
+    }
+}
+
+/// The size that a value of SZ gives, or none: a number that is the side of a board.
+fn size(value: Option<&[u8]>) -> Option<Size>
+    ensures { result ≡ side_of (option_copied value.entry) }
+{
+    let side = match value {
+        None => USUAL_SIDE,
+        Some(raw) => number(raw)?,
+    };
+    if 1 <= side && side <= i64::from(MAX_SIDE) {
+        Size::new(side as u8)
+    } else {
+        None
+    }
+}

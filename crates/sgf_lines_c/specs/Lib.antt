@@ -1,0 +1,6 @@
+-- What the contracts of the two calls reach.
+pub mod Status
+pub mod Asked
+pub mod SplitAnswer
+pub mod CountAnswer
+pub mod inner

@@ -1,0 +1,55 @@
+//! What a caller asks for.
+
+ghost use Rattle.std.specs.Prelude.{◌≡◌};
+ghost use Rattle.sgf_lines_c.specs.Asked.{options_of, given, form_of};
+
+use sgf_lines::{Form, Options};
+
+/// Which lines of play are written, and how: the options of a run, as a caller in C hands them in.
+#[repr(C)]
+#[derive(Clone, Copy)]
+pub struct Asked {
+    /// How each line is written: 0 as a row of the list, 1 as a game (SGF FF[4]), 2 as a script (Go Text Protocol, version 2).
+    pub form: u32,
+    /// Whether `after` counts.
+    pub has_after: bool,
+    /// Whether `limit` counts.
+    pub has_limit: bool,
+    /// Only the lines that follow the line with this place, the offset of the `;` of its last node.
+    pub after: u64,
+    /// At most so many lines, the first ones of those.
+    pub limit: u64,
+}
+
+impl Asked {
+    /// The options that are asked for; none where no form has the number.
+    pub(crate) fn options(&self) -> Option<Options>
+        ensures { result ≡ options_of self.now }
+    {
+        let form = form_of_number(self.form)?;
+        Some(Options {
+            form,
+            after: given_number(self.has_after, self.after),
+            limit: given_number(self.has_limit, self.limit),
+        })
+    }
+}
+
+/// The form with this number, if there is one.
+fn form_of_number(number: u32) -> Option<Form>
+    ensures { result ≡ form_of number }
+{
+    match number {
+        0 => Some(Form::List),
+        1 => Some(Form::Sgf),
+        2 => Some(Form::Gtp),
+        _ => None,
+    }
+}
+
+/// The number, if it counts.
+fn given_number(counts: bool, number: u64) -> Option<u64>
+    ensures { result ≡ given counts number }
+{
+    if counts { Some(number) } else { None }
+}

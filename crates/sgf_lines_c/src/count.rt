@@ -1,0 +1,58 @@
+//! Counting what a text in memory holds.
+
+ghost use Rattle.std.specs.Prelude.{ℕ, List, Err};
+ghost use Rattle.sgf_lines_c.specs.CountAnswer.{IsCount, Says};
+ghost use Rattle.sgf_lines_c.specs.inner.Running.{IsCountOf};
+
+use crate::answer::CountAnswer;
+use crate::status::Status;
+use sgf_lines::{RunFault, SliceSource, count};
+use std::alloc::Global;
+
+/// Counts the games, nodes and lines of the collection that the text spells (SGF FF[4], EBNF), and answers the number of its status.
+///
+/// - `Done`: `games`, `nodes` and `lines`.
+/// - `NotSgf`, `EndsEarly`: `at` is the offset of the first faulty byte, or the length of the text.
+/// - `TooLong`, `OutOfMemory`: no number.
+#[unsafe(no_mangle)]
+pub extern "C" fn sgf_lines_count(alloc: Global, text: &[u8], answer: &mut CountAnswer) -> u32
+    ensures { IsCount text.now answer.new result }
+{
+    let (status, told) = count_text(alloc, text);
+    *answer = told;
+    status.number()
+}
+
+/// Counts what a text holds.
+fn count_text(alloc: Global, text: &[u8]) -> (Status, CountAnswer)
+    ensures { Says text.now result.1 result.0 }
+{
+    let mut source = SliceSource::new(text);
+    match count(alloc, &mut source) {
+        Ok(counts) => (
+            Status::Done,
+            CountAnswer {
+                games: counts.games,
+                nodes: counts.nodes,
+                lines: counts.lines,
+                at: 0,
+            },
+        ),
+        Err(fault) => refusal(fault),
+    }
+}
+
+/// What is told of a count that failed whose source is a text in memory, which never fails.
+fn refusal(fault: RunFault) -> (Status, CountAnswer)
+    ensures { (text : List ℕ) → IsCountOf text (Err fault) → Says text result.1 result.0 }
+{
+    match fault {
+        RunFault::TooLong => (Status::TooLong, CountAnswer::at(0)),
+        RunFault::NotSgf { at, len } if at == len => (
+            Status::EndsEarly,
+            CountAnswer::at(at as u64),
+        ),
+        RunFault::NotSgf { at, .. } => (Status::NotSgf, CountAnswer::at(at as u64)),
+        _ => (Status::OutOfMemory, CountAnswer::at(0)),
+    }
+}

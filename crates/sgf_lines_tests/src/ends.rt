@@ -1,0 +1,231 @@
+//! Runs between ends that give or take little at a time, and fail.
+
+ghost use Rattle.std.specs.Prelude.{◌≡◌, ◌≤◌, None, []};
+
+use crate::runs::{FIRST, SECOND};
+use crate::seen::Seen;
+use crate::tree::TWO;
+use sgf_lines::{
+    ArraySink, Form, Options, RunFault, Sink, SinkFault, SliceSource, Source, SourceFault, count,
+    split,
+};
+use std::alloc::Global;
+
+/// All lines as rows.
+const ROWS: Options = Options {
+    form: Form::List,
+    after: None,
+    limit: None,
+};
+
+/// How many bytes the two rows have.
+const LENGTH: usize = FIRST.len() + SECOND.len();
+
+/// Makes the runs.
+pub fn calls(alloc: Global, seen: &mut Seen) {
+    for calls in 0..TWO.len() + 2 {
+        source_fails(alloc, calls, seen);
+        count_fails(alloc, calls, seen);
+    }
+    for step in [1, 7, 64] {
+        for room in 0..LENGTH + 1 {
+            flush_fails(alloc, step, room, seen);
+            sink_fails(alloc, step, room, seen);
+        }
+    }
+    array_is_full(alloc, seen);
+}
+
+/// A source that gives one byte of a text a call, so often, and then fails.
+#[derive(Drop)]
+struct Trickle<'a> {
+    left: &'a [u8],
+    calls: usize,
+    failures: u64,
+}
+
+/// A source of the game of two lines.
+fn byte_by_byte(calls: usize) -> Trickle<'static>
+    ensures { result.failures ≡ 0 }
+{
+    Trickle {
+        left: TWO,
+        calls,
+        failures: 0,
+    }
+}
+
+impl Source for Trickle<'_> {
+    ghost state = { λ s. record { failures = s.failures; given = None; to_come = None } };
+
+    fn get(&mut self, buffer: &mut [u8]) -> Result<usize, SourceFault> {
+        if self.calls == 0 || self.failures > 0 {
+            self.failures += 1;
+            return Err(SourceFault);
+        }
+        self.calls -= 1;
+        let Some((first, rest)) = self.left.split_first() else {
+            return Ok(0);
+        };
+        buffer[0] = *first;
+        self.left = rest;
+        Ok(1)
+    }
+
+    fn failures(&self) -> u64 {
+        self.failures
+    }
+}
+
+/// A run from a source that fails after so many calls: it fails, and nothing is written, unless the source comes to its end.
+fn source_fails(alloc: Global, calls: usize, seen: &mut Seen) {
+    seen.call();
+    let mut source = byte_by_byte(calls);
+    let mut sink = ArraySink::<64>::new();
+    let answer = split(alloc, &mut source, &mut sink, &ROWS);
+    let fails = calls <= TWO.len();
+    let written = sink.as_slice().len();
+    match answer {
+        Err(RunFault::Memory { .. }) => seen.want(),
+        Err(RunFault::Read) => seen.right(fails && written == 0, "a failed read"),
+        Ok(2) => seen.right(!fails && written == LENGTH, "a byte a read"),
+        _ => seen.wrong("a run whose source fails"),
+    }
+}
+
+/// A count from such a source.
+fn count_fails(alloc: Global, calls: usize, seen: &mut Seen) {
+    seen.call();
+    let mut source = byte_by_byte(calls);
+    let fails = calls <= TWO.len();
+    match count(alloc, &mut source) {
+        Err(RunFault::Memory { .. }) => seen.want(),
+        Err(RunFault::Read) => seen.right(fails, "a failed read of a count"),
+        Ok(counts) => seen.right(!fails && counts.lines == 2, "a count by a byte a read"),
+        Err(_) => seen.wrong("a count whose source fails"),
+    }
+}
+
+/// A sink that takes at most `step` bytes a call and `room` bytes in all, and then fails, as its flush may.
+#[derive(Drop)]
+struct Narrow {
+    bytes: [u8; 64],
+    taken: usize,
+    step: usize,
+    room: usize,
+    can_flush: bool,
+    failures: u64,
+    ghost within: { taken ≤ 64 },
+}
+
+/// A sink that has taken nothing.
+fn sink_of(step: usize, room: usize, can_flush: bool) -> Narrow
+    ensures { result.failures ≡ 0 }
+{
+    Narrow {
+        bytes: [0; 64],
+        taken: 0,
+        step,
+        room,
+        can_flush,
+        failures: 0,
+    }
+}
+
+impl Sink for Narrow {
+    ghost state = { λ s. record { failures = s.failures; taken = None; delivered = None } };
+
+    ghost delivers_front = { λ _. ([], tt) };
+
+    fn put(&mut self, bytes: &[u8]) -> Result<usize, SinkFault> {
+        let count = bytes
+            .len()
+            .min(self.step)
+            .min(self.room)
+            .min(64 - self.taken);
+        if count == 0 || self.failures > 0 {
+            self.failures += 1;
+            return Err(SinkFault);
+        }
+        self.bytes[self.taken..self.taken + count].copy_from_slice(&bytes[..count]);
+        self.taken += count;
+        self.room -= count;
+        Ok(count)
+    }
+
+    fn flush(&mut self) -> Result<(), SinkFault> {
+        if self.can_flush && self.failures == 0 {
+            return Ok(());
+        }
+        self.failures += 1;
+        Err(SinkFault)
+    }
+
+    fn failures(&self) -> u64 {
+        self.failures
+    }
+}
+
+/// A run to a sink with that room, whose flush fails: what fits stands, and the fault names the whole records of it.
+fn flush_fails(alloc: Global, step: usize, room: usize, seen: &mut Seen) {
+    seen.call();
+    let mut source = SliceSource::new(TWO);
+    let mut sink = sink_of(step, room, false);
+    match split(alloc, &mut source, &mut sink, &ROWS) {
+        Err(RunFault::Memory { .. }) => seen.want(),
+        Err(RunFault::Write { lines }) => {
+            seen.right(lines == whole(room), "the lines before a failed write");
+            let fits = is_front(&sink.bytes[..sink.taken], room);
+            seen.right(fits, "what stands after a failed write");
+        }
+        _ => seen.wrong("a run whose sink fails"),
+    }
+}
+
+/// A run to a sink with that room: it fails unless all fits.
+fn sink_fails(alloc: Global, step: usize, room: usize, seen: &mut Seen) {
+    seen.call();
+    let mut source = SliceSource::new(TWO);
+    let mut sink = sink_of(step, room, true);
+    let fits = room >= LENGTH;
+    match split(alloc, &mut source, &mut sink, &ROWS) {
+        Err(RunFault::Memory { .. }) => seen.want(),
+        Err(RunFault::Write { lines }) => {
+            seen.right(lines == whole(room) && !fits, "a failed write")
+        }
+        Ok(lines) => seen.right(lines == 2 && fits, "little at a time"),
+        Err(_) => seen.wrong("a run whose sink is narrow"),
+    }
+}
+
+/// A run to an array that the second row doesn't fit into, which takes what it has room for.
+fn array_is_full(alloc: Global, seen: &mut Seen) {
+    seen.call();
+    let mut source = SliceSource::new(TWO);
+    let mut sink = ArraySink::<30>::new();
+    match split(alloc, &mut source, &mut sink, &ROWS) {
+        Err(RunFault::Memory { .. }) => seen.want(),
+        Err(RunFault::Write { lines }) => {
+            let fits = is_front(sink.as_slice(), 30);
+            seen.right(lines == 1 && fits, "a full array");
+        }
+        _ => seen.wrong("a run to an array that is too short"),
+    }
+}
+
+/// How many whole rows so many bytes have room for.
+fn whole(room: usize) -> u64 {
+    u64::from(room >= FIRST.len()) + u64::from(room >= LENGTH)
+}
+
+/// Whether these are the first bytes of the two rows, so many.
+fn is_front(bytes: &[u8], count: usize) -> bool {
+    if bytes.len() != count || count > LENGTH {
+        return false;
+    }
+    if count <= FIRST.len() {
+        return bytes == &FIRST[..count];
+    }
+    let (first, second) = bytes.split_at(FIRST.len());
+    first == FIRST && second == &SECOND[..second.len()]
+}

@@ -1,0 +1,192 @@
+//! The calls of `sgf_lines` on a collection that was read, and its counts.
+
+use crate::page::Page;
+use crate::seen::Seen;
+use crate::tree::{TWO, collection};
+use go_board::Reason;
+use sgf_lines::{
+    ArraySink, Counts, Cursor, LineRef, RunFault, SeekFault, SliceSource, Verdict, count, judge,
+    write_counts,
+};
+use sgf_tree::Collection;
+use std::alloc::Global;
+
+/// A game that a ko taken back at place 45 ends, of three nodes.
+const KO: &[u8] = b"(;SZ[4]AB[ba][ab][bc]AW[ca][db][cc][bb];B[cb];W[bb])";
+
+/// Makes the calls.
+pub fn calls(alloc: Global, seen: &mut Seen) {
+    two_lines(alloc, seen);
+    ko(alloc, seen);
+    counts(alloc, seen);
+}
+
+/// Goes over the game of two lines, and judges the first.
+fn two_lines(alloc: Global, seen: &mut Seen) {
+    let Ok(two) = collection(alloc, TWO, seen) else {
+        return;
+    };
+    goes_over(alloc, &two, seen);
+    let score = Verdict::Score {
+        black: 9,
+        white: 0,
+        over: false,
+    };
+    judged(alloc, &two, 1, score, seen);
+}
+
+/// Judges the line that a ko ends.
+fn ko(alloc: Global, seen: &mut Seen) {
+    let Ok(ko) = collection(alloc, KO, seen) else {
+        return;
+    };
+    let repeat = Verdict::Illegal {
+        turn: 2,
+        place: 45,
+        reason: Reason::Repeat,
+    };
+    judged(alloc, &ko, 2, repeat, seen);
+}
+
+/// Goes over the lines of the game of two lines, and looks for places.
+fn goes_over(alloc: Global, two: &Collection<'_>, seen: &mut Seen) {
+    let mut cursor = Cursor::new(alloc, two);
+    both(&mut cursor, seen);
+    cursor = Cursor::new(alloc, two);
+    places(&mut cursor, seen);
+    cursor = Cursor::new(alloc, two);
+    next(&mut cursor, Some((&[0, 1], 8)), seen);
+    // A refused search leaves the cursor where it was: before the second line.
+    if cursor.seek_after(22).is_err() {
+        seen.want();
+    } else {
+        cursor = Cursor::new(alloc, two);
+        next(&mut cursor, Some((&[0, 1], 8)), seen);
+    }
+    next(&mut cursor, Some((&[0, 2, 3], 22)), seen);
+}
+
+/// Goes over both lines, and to the end twice.
+fn both(cursor: &mut Cursor<'_, '_>, seen: &mut Seen) {
+    next(cursor, Some((&[0, 1], 8)), seen);
+    next(cursor, Some((&[0, 2, 3], 22)), seen);
+    next(cursor, None, seen);
+    next(cursor, None, seen);
+}
+
+/// Goes after the places of both lines, and after one of no line.
+fn places(cursor: &mut Cursor<'_, '_>, seen: &mut Seen) {
+    seek(cursor, 8, true, seen);
+    next(cursor, Some((&[0, 2, 3], 22)), seen);
+    seek(cursor, 16, false, seen);
+    next(cursor, None, seen);
+    seek(cursor, 22, true, seen);
+    next(cursor, None, seen);
+}
+
+/// A line by its path and its place.
+type Line<'a> = Option<(&'a [usize], usize)>;
+
+/// Goes on by one line, and once more where memory was refused, which gives the same line then.
+fn next(cursor: &mut Cursor<'_, '_>, line: Line<'_>, seen: &mut Seen) {
+    seen.call();
+    if let Ok(given) = cursor.next() {
+        return seen.right(is_line(given, line), "a line");
+    }
+    seen.want();
+    match cursor.next() {
+        Ok(given) => seen.right(is_line(given, line), "a line after a refused one"),
+        Err(_) => seen.wrong("a line was refused twice"),
+    }
+}
+
+/// Whether it is that line of the first game, or none where that is none.
+fn is_line(given: Option<LineRef<'_>>, line: Line<'_>) -> bool {
+    match (given, line) {
+        (Some(given), Some((path, place))) => {
+            given.path() == path && given.game() == 1 && given.place() == place
+        }
+        (None, None) => true,
+        _ => false,
+    }
+}
+
+/// Goes after a place, which is that of a line or of none, and once more where memory was refused.
+fn seek(cursor: &mut Cursor<'_, '_>, place: u64, is_line: bool, seen: &mut Seen) {
+    seen.call();
+    let sought = match cursor.seek_after(place) {
+        Err(SeekFault::Memory) => {
+            seen.want();
+            cursor.seek_after(place)
+        }
+        sought => sought,
+    };
+    match sought {
+        Ok(()) => seen.right(is_line, "a place of no line"),
+        Err(SeekFault::NoSuchLine { place: named }) => {
+            seen.right(!is_line && named == place, "a place")
+        }
+        Err(SeekFault::Memory) => seen.wrong("a place was refused twice"),
+    }
+}
+
+/// Judges the line that ends in a leaf, and once more where memory was refused.
+fn judged(
+    alloc: Global,
+    collection: &Collection<'_>,
+    leaf: usize,
+    verdict: Verdict,
+    seen: &mut Seen,
+) {
+    if leaf >= collection.nodes() || !collection.is_leaf(leaf) {
+        return seen.wrong("no leaf");
+    }
+    seen.call();
+    if let Ok(given) = judge(alloc, collection, leaf) {
+        return seen.right(given == verdict, "a verdict");
+    }
+    seen.want();
+    match judge(alloc, collection, leaf) {
+        Ok(given) => seen.right(given == verdict, "a verdict after a refused one"),
+        Err(_) => seen.wrong("a verdict was refused twice"),
+    }
+}
+
+/// Counts the game of two lines, and once more where memory was refused; writes the counts, which takes none.
+fn counts(alloc: Global, seen: &mut Seen) {
+    let mut source = SliceSource::new(TWO);
+    seen.call();
+    let counted = match count(alloc, &mut source) {
+        Err(RunFault::Memory { lines: 0 }) => {
+            seen.want();
+            let mut source = SliceSource::new(TWO);
+            count(alloc, &mut source)
+        }
+        counted => counted,
+    };
+    let counts = Counts {
+        games: 1,
+        nodes: 4,
+        lines: 2,
+    };
+    seen.right(counted == Ok(counts), "counts");
+    let mut page = Page::new();
+    seen.call();
+    let written = write_counts(&mut page, &counts);
+    seen.right(written == Ok(()), "counts written");
+    let is_row = page.as_slice() == b"1 4 2\n".as_slice();
+    seen.right(is_row, "the row of counts");
+    seen.right(page.flushes() == 1, "one flush of counts");
+    counts_without_room(&counts, seen);
+}
+
+/// Writes counts to an array that their row doesn't fit into.
+fn counts_without_room(counts: &Counts, seen: &mut Seen) {
+    let mut sink = ArraySink::<3>::new();
+    seen.call();
+    let written = write_counts(&mut sink, counts);
+    let is_told = written == Err(RunFault::Write { lines: 0 });
+    seen.right(is_told, "counts without room");
+    let is_front = sink.as_slice() == b"1 4".as_slice();
+    seen.right(is_front, "the front of the row of counts");
+}

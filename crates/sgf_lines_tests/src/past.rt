@@ -1,0 +1,121 @@
+//! Calls of a past that take memory: `new`, `push`, `restart`. Those of `play` and `set_up` are a run's (`tests/refused.sh`).
+
+ghost use Rattle.std.specs.Prelude.{◌≡◌, true, false, IfOk, OnOk};
+ghost use Rattle.go_board.specs.Past.{only, with_next, HaveSide};
+ghost use Rattle.go_board.specs.Point.{IsOn};
+
+use crate::seen::Seen;
+use go_board::{Board, Cell, MemoryFault, Past, Point, Size};
+use std::alloc::Global;
+
+/// Adds a colouring to a past's stretch and begins another with a third, and takes that back.
+pub fn calls<P: Past>(alloc: Global, seen: &mut Seen) {
+    let Some(size) = Size::new(3) else {
+        return seen.wrong("no board of side 3");
+    };
+    let empty = Board::empty(size);
+    let black = with_stone(&empty, Point { col: 0, row: 0 }, Cell::Black);
+    let white = with_stone(&empty, Point { col: 1, row: 1 }, Cell::White);
+    if let Ok(mut past) = begin::<P>(alloc, &empty, seen) {
+        grows(&mut past, &empty, &black, &white, seen);
+    }
+}
+
+/// Adds black to a past of the empty board alone, begins a stretch with white, and takes that back.
+fn grows<P: Past>(past: &mut P, empty: &Board, black: &Board, white: &Board, seen: &mut Seen)
+    requires past { P.held past.old ≡ only empty.now }
+    requires black { black.now.side ≡ empty.now.side }
+    requires white { white.now.side ≡ empty.now.side }
+{
+    let Ok(()) = push(past, empty, black, seen) else {
+        return;
+    };
+    seen.right(past.holds(empty), "a past after a push");
+    let Ok(()) = restart(past, empty, black, white, seen) else {
+        return;
+    };
+    let holds_earlier = past.holds(empty) || past.holds(black);
+    seen.right(!holds_earlier, "a stretch before a restart");
+    seen.right(past.holds(white), "a stretch after a restart");
+    past.pop();
+    let holds_both = past.holds(empty) && past.holds(black);
+    seen.right(holds_both, "a past after a pop");
+    seen.right(!past.holds(white), "what was taken back");
+}
+
+/// The board with one stone more.
+fn with_stone(board: &Board, point: Point, cell: Cell) -> Board
+    requires { IsOn board.now.side point }
+    ensures { result.side ≡ board.now.side }
+{
+    let mut copy = board.copy();
+    copy.set(point, cell);
+    copy
+}
+
+/// A past of that colouring, asked for once more where memory was refused.
+fn begin<P: Past>(alloc: Global, board: &Board, seen: &mut Seen) -> Result<P, MemoryFault>
+    ensures { IfOk result (λ past. P.held past ≡ only board.now) }
+{
+    seen.call();
+    if let Ok(past) = P::new(alloc, board) {
+        return Ok(past);
+    }
+    seen.want();
+    let again = P::new(alloc, board);
+    seen.right(again.is_ok(), "a past asked for again");
+    again
+}
+
+/// Adds a colouring to a past of another one, and once more where memory was refused; nothing was added then.
+fn push<P: Past>(
+    past: &mut P,
+    only: &Board,
+    board: &Board,
+    seen: &mut Seen,
+) -> Result<(), MemoryFault>
+    requires past { HaveSide board.now.side (P.held past.old) }
+    requires only { HaveSide only.now.side (P.held past.old) }
+    ensures { OnOk result (P.held past.new ≡ with_next (P.held past.old) board.now false) }
+{
+    seen.call();
+    if past.push(board).is_ok() {
+        return Ok(());
+    }
+    seen.want();
+    let is_newest = past.newest().same(only);
+    seen.right(is_newest, "the newest colouring after a refused push");
+    let holds_one = past.holds(only) && !past.holds(board);
+    seen.right(holds_one, "a past after a refused push");
+    let again = past.push(board);
+    seen.right(again.is_ok(), "a push asked for again");
+    again
+}
+
+/// Begins a stretch, and once more where memory was refused; the past is the same then.
+fn restart<P: Past>(
+    past: &mut P,
+    first: &Board,
+    second: &Board,
+    board: &Board,
+    seen: &mut Seen,
+) -> Result<(), MemoryFault>
+    requires past { HaveSide board.now.side (P.held past.old) }
+    requires first { HaveSide first.now.side (P.held past.old) }
+    requires second { HaveSide second.now.side (P.held past.old) }
+    ensures { OnOk result (P.held past.new ≡ with_next (P.held past.old) board.now true) }
+{
+    seen.call();
+    if past.restart(board).is_ok() {
+        return Ok(());
+    }
+    seen.want();
+    let is_newest = past.newest().same(second);
+    seen.right(is_newest, "the newest colouring after a refused restart");
+    let holds_both = past.holds(first) && past.holds(second);
+    seen.right(holds_both, "a stretch after a refused restart");
+    seen.right(!past.holds(board), "a past after a refused restart");
+    let again = past.restart(board);
+    seen.right(again.is_ok(), "a restart asked for again");
+    again
+}

@@ -1,0 +1,15 @@
+use Rattle.std.proofs.Common.{◌∷◌, ◌∙◌, ap, sym, get_or, length, filter, if◌then◌else◌, arith}
+use Rattle.sgf_tree.specs.Spelling.{is_upper}
+use Rattle.sgf_tree.specs.Tree.{Property}
+use Rattle.sgf_tree.proofs.property.PropRef.initial.Goals as goal
+
+pub bounds-self-inside-0 : goal.bounds-self-inside-0
+bounds-self-inside-0 c = let (letter, rest, is, capital) = c.self.invariant.1 in omega (arith, ap length is)
+
+pub returns : goal.returns
+returns c =
+    let (letter, rest, is, capital) = c.self.invariant.1 in (
+      filter is_upper rest,
+      ap (λ (p : Property). p.name) (sym c.self.view_is) ∙ ap (filter is_upper) is ∙ ap (λ b. if b then letter ∷ filter is_upper rest else filter is_upper rest) capital
+          ∙ ap (λ l. l ∷ filter is_upper rest) (ap (λ s. get_or s 0 0) (sym is)),
+    )

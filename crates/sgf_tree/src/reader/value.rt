@@ -1,0 +1,238 @@
+//! Where raw values end: at the first `]` that no `\` escapes. Nothing else in the crate says what ends a value.
+//! A long one is searched for its end once, when it is read: its length is kept for those who step over it later.
+
+ghost use Rattle.std.specs.Prelude.{◌≡◌, ◌≤◌, ◌+◌, length, IsTrue, IfSome, IfOk, IfErr, OnOk, MatchOption};
+ghost use Rattle.sgf_tree.specs.inner.Progress.{IsValueEnd, IsUnended, SpellsValue, SpellsNoValue, HasNoBracket, IsNextBracket, IsBareBracket, AreBackslashesBefore, AreEscapes, IsTwoPlain};
+ghost use Rattle.sgf_tree.specs.inner.PropertiesRead.{IsFaultInValue};
+ghost use Rattle.sgf_tree.specs.inner.KeptEnds.{IsRawValueAt, AreKeptEnds};
+
+use crate::fault::MAX_LENGTH;
+use crate::layout::LongValue;
+use crate::reader::fault::PartFault;
+use memchr::memchr;
+use std::simd::prelude::*;
+
+/// How many bytes are looked at before a search, which costs more to begin: sizes, names and clock times are short.
+const NEAR: usize = 16;
+
+/// How many bytes a value has at least whose length is kept: more than nearly all comments have, so that few are, and enough
+/// that a search costs more than a look-up.
+const LONG: usize = 4096;
+
+/// Reads the raw value at `at`.
+/// The result is where its `]` stands.
+pub(crate) fn read_value(
+    text: &[u8],
+    at: usize,
+    long: &mut Vec<LongValue>,
+) -> Result<usize, PartFault>
+    requires short { length text.now ≤ MAX_LENGTH }
+    requires within { at ≤ length text.now }
+    requires kept { AreKeptEnds text.now long.old.items }
+    ensures read { IfOk result (IsValueEnd text.now at) }
+    ensures fault { IfErr result (IsFaultInValue text.now at) }
+    ensures kept { OnOk result (AreKeptEnds text.now long.new.items) }
+{
+    match short_value_end(text, at) {
+        Some(end) => Ok(end),
+        None => read_far_value(text, at, long),
+    }
+}
+
+/// Reads the raw value at `at`, by searches, and keeps its length where it is long.
+/// The result is where its `]` stands.
+#[inline(never)]
+fn read_far_value(text: &[u8], at: usize, long: &mut Vec<LongValue>) -> Result<usize, PartFault>
+    requires short { length text.now ≤ MAX_LENGTH }
+    requires within { at ≤ length text.now }
+    requires kept { AreKeptEnds text.now long.old.items }
+    ensures read { IfOk result (IsValueEnd text.now at) }
+    ensures fault { IfErr result (IsFaultInValue text.now at) }
+    ensures kept { OnOk result (AreKeptEnds text.now long.new.items) }
+{
+    let Some(end) = far_value_end(text, at) else {
+        return Err(PartFault::NotSgf(text.len()));
+    };
+    let bytes = end - at;
+    if bytes >= LONG {
+        long.push(LongValue {
+            left: (text.len() - at) as u32,
+            bytes: bytes as u32,
+        })?;
+    }
+    Ok(end)
+}
+
+/// The `]` that ends the raw value at `at`.
+/// None where the text ends before it.
+///
+/// What was kept is handed over as a vector, as it goes through many hands and is looked at by few: so it is one word.
+pub(crate) fn value_end(text: &[u8], at: usize, long: Option<&Vec<LongValue>>) -> Option<usize>
+    requires within { at ≤ length text.now }
+    requires kept { IfSome long (λ kept. AreKeptEnds text.now kept.now.items) }
+    ensures { MatchOption result (SpellsNoValue text.now at) (IsRawValueAt text.now at) }
+{
+    match short_value_end(text, at) {
+        Some(end) => Some(end),
+        None => far_end(text, at, long),
+    }
+}
+
+/// The `]` that ends the raw value at `at`, by what was kept, or by searches.
+/// None where the text ends before it.
+#[inline(never)]
+fn far_end(text: &[u8], at: usize, long: Option<&Vec<LongValue>>) -> Option<usize>
+    requires within { at ≤ length text.now }
+    requires kept { IfSome long (λ kept. AreKeptEnds text.now kept.now.items) }
+    ensures { MatchOption result (SpellsNoValue text.now at) (IsRawValueAt text.now at) }
+{
+    if let Some(long) = long {
+        if let Some(end) = kept_end(text, at, long) {
+            return Some(end);
+        }
+    }
+    far_value_end(text, at)
+}
+
+/// The `]` that ends the raw value at `at`, where its length was kept.
+/// Where it answers None, nothing is known.
+fn kept_end(text: &[u8], at: usize, long: &[LongValue]) -> Option<usize>
+    requires within { at ≤ length text.now }
+    requires kept { AreKeptEnds text.now long.now }
+    ensures { IfSome result (IsRawValueAt text.now at) }
+{
+    let left = text.len() - at;
+    let mut low = 0;
+    let mut high = long.len();
+    'halves: while low < high {
+        let middle = low + (high - low) / 2;
+        if long[middle].left as usize > left {
+            low = middle + 1;
+        } else {
+            high = middle;
+        }
+    }
+    if low < long.len() && long[low].left as usize == left {
+        Some(at + long[low].bytes as usize)
+    } else {
+        None
+    }
+}
+
+/// The `]` that ends the raw value at `at`, where it is short, as most are.
+/// Where it answers None, nothing is known.
+#[inline(always)]
+fn short_value_end(text: &[u8], at: usize) -> Option<usize>
+    requires { at ≤ length text.now }
+    ensures read { IfSome result (IsValueEnd text.now at) }
+    ensures spelled { IfSome result (SpellsValue text.now at) }
+{
+    if is_two_plain(text, at) {
+        return Some(at + 2);
+    }
+    let near = near_value_end(text, at)?;
+    Some(near)
+}
+
+/// Whether the raw value at `at` is two bytes, as a point is, that stand for themselves.
+pub(crate) fn is_two_plain(text: &[u8], at: usize) -> bool
+    requires { at ≤ length text.now }
+    ensures { IsTrue result → IsTwoPlain text.now at }
+{
+    text.len() - at > 2
+        && text[at + 2] == b']'
+        && text[at] != b']'
+        && text[at] != b'\\'
+        && text[at + 1] != b']'
+        && text[at + 1] != b'\\'
+}
+
+/// The `]` that ends the raw value at `at`, where it is the first one, among the `NEAR` bytes there.
+/// Where it answers None, nothing is known.
+fn near_value_end(text: &[u8], at: usize) -> Option<usize>
+    requires { at ≤ length text.now }
+    ensures { IfSome result (IsBareBracket text.now at) }
+{
+    if text.len() - at < NEAR {
+        return None;
+    }
+    let bracket = near_bracket(text, at)?;
+    if bracket != at && text[bracket - 1] == b'\\' {
+        return None;
+    }
+    Some(bracket)
+}
+
+/// The first `]` among the `NEAR` bytes at `at`, all compared at once.
+fn near_bracket(text: &[u8], at: usize) -> Option<usize>
+    requires { at + NEAR ≤ length text.now }
+    ensures { MatchOption result (HasNoBracket text.now at (at + NEAR)) (λ end. IsNextBracket text.now at end) }
+{
+    let found = u8x16::from_slice(&text[at..])
+        .simd_eq(u8x16::splat(b']'))
+        .to_bitmask();
+    if found == 0 {
+        None
+    } else {
+        Some(at + found.trailing_zeros() as usize)
+    }
+}
+
+/// The `]` that ends the raw value at `at`, by searches.
+/// None where the text ends before it.
+///
+/// A `]` is escaped where an odd number of `\` stand directly before it. They are counted from the value's start on, or from the
+/// end of an escape on, since the bytes before belong to other units.
+#[inline(never)]
+fn far_value_end(text: &[u8], at: usize) -> Option<usize>
+    requires { at ≤ length text.now }
+    ensures read { MatchOption result (IsUnended text.now at) (λ end. IsValueEnd text.now at end) }
+    ensures spelled { MatchOption result (SpellsNoValue text.now at) (λ end. SpellsValue text.now at end) }
+{
+    let mut start = at;
+    'brackets: while let Some(bracket) = far_bracket(text, start) {
+        let escapes = bracket - first_escape(text, start, bracket);
+        if escapes % 2 == 0 {
+            return Some(bracket);
+        }
+        start = escapes_end(text, bracket + 1);
+    }
+    None
+}
+
+/// The first `]` from `at` on, by a search that costs something to begin.
+#[inline(never)]
+fn far_bracket(text: &[u8], at: usize) -> Option<usize>
+    requires { at ≤ length text.now }
+    ensures { MatchOption result (HasNoBracket text.now at (length text.now)) (λ end. IsNextBracket text.now at end) }
+{
+    match memchr(b']', &text[at..]) {
+        Some(further) => Some(at + further),
+        None => None,
+    }
+}
+
+/// The first of the `\` that stand directly before `end`, from `at` on, or `end` where none does.
+fn first_escape(text: &[u8], at: usize, end: usize) -> usize
+    requires rises { at ≤ end }
+    requires within { end ≤ length text.now }
+    ensures { AreBackslashesBefore text.now at result end }
+{
+    let mut first = end;
+    'escapes: while first != at && text[first - 1] == b'\\' {
+        first -= 1;
+    }
+    first
+}
+
+/// The end of the escapes that stand side by side at `at`.
+fn escapes_end(text: &[u8], at: usize) -> usize
+    requires { at ≤ length text.now }
+    ensures { AreEscapes text.now at result }
+{
+    let mut end = at;
+    'escapes: while text.len() - end > 1 && text[end] == b'\\' {
+        end += 2;
+    }
+    end
+}

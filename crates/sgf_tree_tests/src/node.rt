@@ -1,0 +1,103 @@
+//! Nodes: which tell their first property at a glance, which no clause says, and how the sgf form writes them.
+
+use sgf_tree::{Collection, NodeRef, Properties, read};
+use std::alloc::Global;
+
+/// Whether a node tells its first property at a glance, how many are left after that, and what the sgf form writes for it.
+type Look = (bool, usize, &'static str);
+
+/// How many properties are left.
+fn count(left: Properties<'_, '_>) -> usize {
+    let mut count = 0usize;
+    for _property in left {
+        count = count.saturating_add(1);
+    }
+    count
+}
+
+/// The node looks so.
+fn looks(alloc: Global, node: &NodeRef<'_, '_>, want: Look) -> bool {
+    let (told, left) = node.front();
+    let mut text = Vec::new(alloc);
+    told.is_some() == want.0
+        && count(left) == want.1
+        && node.push_to(&mut text).is_ok()
+        && text.as_slice() == want.2.as_bytes()
+}
+
+/// The text's first node looks so.
+fn gives(alloc: Global, text: &str, want: Look) -> bool {
+    match read(alloc, text.as_bytes()) {
+        Ok(collection) => collection.nodes() > 0 && looks(alloc, &collection.node(0), want),
+        Err(_) => false,
+    }
+}
+
+#[test]
+fn nodes_at_a_glance(rt: HostRuntime) {
+    const NODES: [(&str, Look); 29] = [
+        ("(;B[pd])", (true, 0, ";B[pd]")),
+        ("(;B[pd];)", (true, 0, ";B[pd]")),
+        ("(;B[pd] \n;)", (true, 0, ";B[pd]")),
+        ("(;W[[:](;))", (true, 0, ";W[[:]")),
+        ("(;B[pd]BL[60])", (true, 1, ";B[pd]BL[60]")),
+        ("(;W[[:]C[x]C[y];)", (true, 2, ";W[[:]C[x]C[y]")),
+        ("(;B[pd]Cc [x])", (true, 1, ";B[pd]C[x]")),
+        ("(;B[pd]C[x])", (true, 1, ";B[pd]C[x]")),
+        ("(;B[pd] C[x])", (true, 1, ";B[pd]C[x]")),
+        ("(;B[pd][dp])", (false, 1, ";B[pd][dp]")),
+        ("(;B[pd] [dp])", (false, 1, ";B[pd][dp]")),
+        ("(;B[pd][dp]C[x])", (false, 2, ";B[pd][dp]C[x]")),
+        ("(;)", (false, 0, ";")),
+        ("(;B[])", (false, 1, ";B[]")),
+        ("(;B[p])", (false, 1, ";B[p]")),
+        ("(;B[pdq])", (false, 1, ";B[pdq]")),
+        ("(;B[pdq]C[x])", (false, 2, ";B[pdq]C[x]")),
+        ("(;B[\\d])", (false, 1, ";B[\\d]")),
+        ("(;B[\\d]C[x])", (false, 2, ";B[\\d]C[x]")),
+        ("(;B[p\\]])", (false, 1, ";B[p\\]]")),
+        ("(;AB[pd])", (false, 1, ";AB[pd]")),
+        ("(;AB[pd]C[x])", (false, 2, ";AB[pd]C[x]")),
+        ("(; B[pd])", (false, 1, ";B[pd]")),
+        ("(; B[pd]C[x])", (false, 2, ";B[pd]C[x]")),
+        ("(;B [pd])", (false, 1, ";B[pd]")),
+        ("(;GaMe[1]B[aa])", (false, 2, ";GM[1]B[aa]")),
+        (
+            "(;B[aa]C[x\\]][y] W[bb])",
+            (true, 2, ";B[aa]C[x\\]][y]W[bb]"),
+        ),
+        ("(;B[aa]AB[a] [b])", (true, 1, ";B[aa]AB[a][b]")),
+        ("(;\nB[aa]PL[W]\n)", (false, 2, ";B[aa]PL[W]")),
+    ];
+    for &(text, want) in &NODES {
+        assert!(rt; gives(rt.alloc(), text, want), "of {text:?}");
+    }
+}
+
+/// The properties of the root: how many there are, how many values they have, and how many bytes these have.
+fn sizes(collection: &Collection<'_>) -> (usize, usize, usize) {
+    let mut values = 0usize;
+    let mut bytes = 0usize;
+    if collection.nodes() == 0 {
+        return (0, 0, 0);
+    }
+    let root = collection.node(0);
+    for property in root.iter() {
+        values = values.saturating_add(property.values());
+        for value in property.iter() {
+            bytes = bytes.saturating_add(value.len());
+        }
+    }
+    (root.props(), values, bytes)
+}
+
+#[test]
+fn properties_one_after_another(rt: HostRuntime) {
+    let read = read(rt.alloc(), b"(;GM[1]AB[aa] [bb]\n[cc:dd]C[x\\]];B[ee])");
+    assert!(rt;
+        match read {
+            Ok(collection) => sizes(&collection) == (3, 5, 13),
+            Err(_) => false,
+        }
+    );
+}

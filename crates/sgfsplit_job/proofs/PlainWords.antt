@@ -1,0 +1,198 @@
+-- What clap makes of plain words, in the words of the job.
+use Rattle.std.proofs.Common.{◌≡◌, ◌∙◌, ◌<◌, ◌≤◌, ◌^◌, ◌==◌, inl, inr, ℕ, Bool, true, false, cond, List, [], ◌∷◌, map, drop, refl, sym, ap, subst, arith, codes, Option, Some, None, Result, Ok, Err}
+use Rattle.std.specs.Prelude.{IfSome, option_map, unwrap_or}
+use Rattle.std.specs.Borrow.{Bor}
+use Rattle.std.specs.List.{list_any}
+use Rattle.std.specs.Str.Parse.{IsNumeral, ParsesUnsigned, digits_value, without_leading_plus}
+use Rattle.std.proofs.lemmas.Bool.{ne_eqb}
+use Rattle.std.proofs.lemmas.Str.Parse.{digit_from_value, numerals_by_value, tells_digits, digits_value_short}
+use Rattle.clap.specs.Matches.{ReadsOne}
+use Rattle.clap.specs.Takes.{takes}
+use Rattle.clap.specs.Matches.{subcommand_name_of}
+use Rattle.clap.specs.Simple.{subcommand_of, subcommand_rows, subcommand_rows_of}
+use Rattle.clap.specs.declared.parser.matches.ArgMatches.{ArgMatches}
+use Rattle.clap.specs.declared.parser.matches.ArgMatches.TheViews.{out-ArgMatches, out-SubCommand}
+use Rattle.clap.specs.declared.parser.matches.SubCommand.{SubCommand}
+use Rattle.std.specs.Prelude.{Box}
+use Rattle.std.specs.Box.{box_value}
+use Rattle.clap.specs.Walk.{Row, first_of, rows_after}
+use Rattle.clap.specs.Values.{same_text}
+use Rattle.clap.specs.declared.builder.value_parser.ValueParser.TheVariants.{Unsigned}
+use Rattle.clap.proofs.ValueTestLemmas.{Accepts-accepts}
+use Rattle.sgf_lines.specs.declared.options.Form.{Form}
+use Rattle.sgf_lines.specs.declared.options.Form.TheVariants as form
+use Rattle.sgfsplit_job.specs.CommandLine.{FormNames, forms, names_of, program_app}
+use Rattle.sgfsplit_job.specs.PlainWords.{ArePlainWords, IsFileWord, IsNameWord, IsNumberWord, SplitWords, Word, count_words, file_words, split_words, form_word, hyphen}
+use Rattle.sgfsplit_job.specs.inner.Found.{HoldSplitWords, form_named, rows_found}
+use Rattle.sgfsplit_job.proofs.CommandLine.{AreAccepted, IsNoOption, accepts_form, accepts_number, after_row, count_entered, count_level, count_row, count_rules, count_taken, file_row, form_row, limit_row, split_entered, split_level, split_rows_are, split_rules, split_taken, words_after}
+
+-- ---- names
+
+two_is_none : (xs : List ℕ) (x : ℕ) → (x == hyphen) ≡ false → IsNoOption (x ∷ xs)
+two_is_none xs x e = record { two = rw e refl; long = rw e refl; short = rw e refl }
+
+pub name_plain : (word : Word) → IsNameWord word → IsNoOption word
+name_plain [] h = absurd h
+name_plain (x ∷ xs) h = two_is_none xs x (ne_eqb x hyphen h)
+
+pub file_plain : (word : Word) → IsFileWord word → IsNoOption word
+file_plain word (inl h) = name_plain word h
+file_plain word (inr e) = subst IsNoOption (sym e) (record { two = refl; long = refl; short = refl })
+
+pub form_plain : (f : Form) → IsNoOption (form_word f)
+form_plain form.List = record { two = refl; long = refl; short = refl }
+form_plain form.Sgf = record { two = refl; long = refl; short = refl }
+form_plain form.Gtp = record { two = refl; long = refl; short = refl }
+
+-- ---- forms
+
+accepted_as : (names : List (Bor (List ℕ))) (word : Word) → list_any (λ name. same_text false name.now word) names ≡ list_any (λ name. same_text false name word) (map (λ name. name.now) names)
+accepted_as [] word = refl
+accepted_as (x ∷ xs) word = rw (accepted_as xs word) refl
+
+pub form_accepted : (names : FormNames) → names_of names ≡ forms → (f : Form) → accepts_form names (form_word f) ≡ true
+form_accepted names e f = accepted_as names.now (form_word f) ∙ ap (λ all. list_any (λ name. same_text false name (form_word f)) all) e ∙ go f
+  where
+    go : (f : Form) → list_any (λ name. same_text false name (form_word f)) forms ≡ true
+    go form.List = refl
+    go form.Sgf = refl
+    go form.Gtp = refl
+
+-- ---- numbers
+
+pub no_plus : (word : Word) → IsNumberWord word → without_leading_plus word ≡ word
+no_plus [] h = refl
+no_plus (d ∷ ds) h =
+    let plus : (d == 43) ≡ false = ne_eqb _ _ (λ e. omega (arith, digit_from_value d h.2.0)) in
+    ap (λ (b : Bool). drop (cond b 1 0) (d ∷ ds)) plus
+
+pub number_small : (word : Word) → IsNumberWord word → digits_value 10 word < 10 ^ 18
+number_small word h = digits_value_short (numerals_by_value _ tells_digits) word 18 h.2 h.1
+
+pub number_accepted : (word : Word) → IsNumberWord word → accepts_number word ≡ true
+number_accepted word h =
+    let same = no_plus word h in
+    let small = number_small word h in
+    let numeral : IsNumeral 10 (without_leading_plus word) = rw same (h.0, h.2) in
+    let fits : digits_value 10 (without_leading_plus word) < 2 ^ 64 = rw same (omega arith) in
+    let most : digits_value 10 (without_leading_plus word) ≤ 18446744073709551615 = rw same (omega arith) in
+    Accepts-accepts false (Unsigned 0 18446744073709551615) word (numeral, fits, omega arith, most)
+
+pub number_plain : (word : Word) → IsNumberWord word → IsNoOption word
+number_plain [] h = absurd (omega (arith, h.0))
+number_plain (d ∷ ds) h = two_is_none ds d (ne_eqb _ _ (λ e. omega (arith, digit_from_value d h.2.0)))
+
+-- what `get_one` reads of a number
+pub number_read : (E : Type 0) (G : List ℕ → Result ℕ E → Type 0) (word : Word) (r : Option ℕ) → ReadsOne G word r
+    → ((u : List ℕ) (x : Result ℕ E) → G u x → ParsesUnsigned 64 10 u x) → IsNumberWord word → r ≡ Some (digits_value 10 word)
+number_read E G word (Some v) read only h =
+    let parsed = only word (Ok v) read in
+    ap Some (parsed.1 ∙ ap (digits_value 10) (no_plus word h))
+number_read E G word None read only h =
+    let same = no_plus word h in
+    let small = number_small word h in
+    let numeral : IsNumeral 10 (without_leading_plus word) = rw same (h.0, h.2) in
+    let fits : digits_value 10 (without_leading_plus word) < 2 ^ 64 = rw same (omega arith) in
+    absurd (only word (Err read.0) read.1 (numeral, fits))
+
+-- ---- whole command lines
+
+some_mapped : (f : Option Form) (P : Word → Type 0) → ((g : Form) → P (form_word g)) → IfSome (option_map form_word f) P
+some_mapped None P h = tt
+some_mapped (Some g) P h = h g
+
+each_some : (w : Option Word) (P Q : Word → Type 0) → ((x : Word) → P x → Q x) → IfSome w P → IfSome w Q
+each_some None P Q f h = tt
+each_some (Some x) P Q f h = f x h
+
+module _ (names : FormNames) (are : names_of names ≡ forms) where
+  abbrev after_split : SplitWords → List Word
+  after_split given = words_after (option_map form_word given.form) given.after given.limit given.file
+
+  accepted : (given : SplitWords) → ArePlainWords given → AreAccepted names (option_map form_word given.form) given.after given.limit given.file
+  accepted given plain = record {
+    list = form_accepted names are form.List;
+    form_accepted = some_mapped given.form (λ v. accepts_form names v ≡ true) (form_accepted names are);
+    after_accepted = each_some given.after IsNumberWord (λ v. accepts_number v ≡ true) number_accepted plain.after;
+    limit_accepted = each_some given.limit IsNumberWord (λ v. accepts_number v ≡ true) number_accepted plain.limit;
+    form_plain = some_mapped given.form IsNoOption form_plain;
+    after_plain = each_some given.after IsNumberWord IsNoOption number_plain plain.after;
+    limit_plain = each_some given.limit IsNumberWord IsNoOption number_plain plain.limit;
+    file_plain = each_some given.file IsFileWord IsNoOption file_plain plain.file;
+  }
+
+  pub split_words_taken : (name : Word) (given : SplitWords) → ArePlainWords given → takes (program_app names) (split_words name given) ≡ true
+  split_words_taken name given plain =
+      split_taken names name (after_split given)
+      (split_level names (option_map form_word given.form) given.after given.limit given.file (accepted given plain))
+
+  pub split_words_entered : (name : Word) (given : SplitWords) → ArePlainWords given
+      → (rows : List Row) × (subcommand_of (program_app names) (split_words name given) ≡ Some (codes "split", rows)) × HoldSplitWords given rows
+  split_words_entered name given plain =
+      let f = option_map form_word given.form in
+      let all = split_rows_are names f given.after given.limit given.file (accepted given plain) in
+      let named : (g : Option Form) → unwrap_or (option_map form_word g) (codes "list") ≡ form_word (unwrap_or g form.List) = λ g. unnamed g in (
+        rows_after (split_rules names) [] (after_split given),
+        split_entered names name (after_split given),
+        rw all (record {
+          form = form_row names f given.after given.limit given.file ∙ ap Some (named given.form);
+          after = after_row names f given.after given.limit given.file;
+          limit = limit_row names f given.after given.limit given.file;
+          file = file_row names f given.after given.limit given.file;
+        }),
+      )
+    where
+      unnamed : (g : Option Form) → unwrap_or (option_map form_word g) (codes "list") ≡ form_word (unwrap_or g form.List)
+      unnamed None = refl
+      unnamed (Some g) = refl
+
+  pub count_words_taken : (name : Word) (file : Option Word) → IfSome file IsFileWord → takes (program_app names) (count_words name file) ≡ true
+  count_words_taken name file plain =
+      count_taken names name (file_words file) (count_level names file (each_some file IsFileWord IsNoOption file_plain plain))
+
+  pub count_words_entered : (name : Word) (file : Option Word)
+      → subcommand_of (program_app names) (count_words name file) ≡ Some (codes "count", rows_after (count_rules names) [] (file_words file))
+  count_words_entered name file = count_entered names name (file_words file)
+
+  pub count_words_hold : (file : Option Word) → IfSome file IsFileWord → first_of (codes "file") (rows_after (count_rules names) [] (file_words file)) ≡ file
+  count_words_hold file plain = count_row names file (each_some file IsFileWord IsNoOption file_plain plain)
+
+-- ---- what a getter gave
+
+-- the word after what was given
+pub given_word : (o : Option (Bor (List ℕ))) (x : Bor (List ℕ)) (w : Word) → option_map (λ s. s.now) o ≡ Some w → o ≡ Some x → x.now ≡ w
+given_word None x w e is = cc
+given_word (Some y) x w e is = cc
+
+pub nothing_given : (o : Option (Bor (List ℕ))) (w : Option Word) → option_map (λ s. s.now) o ≡ w → o ≡ None → w ≡ None
+nothing_given None w e is = sym e
+nothing_given (Some y) w e is = cc
+
+pub named_again : (f : Form) → form_named (form_word f) ≡ f
+named_again form.List = refl
+named_again form.Sgf = refl
+named_again form.Gtp = refl
+
+pub word_given : (o : Option (Bor (List ℕ))) (w : Option Word) (x : Bor (List ℕ)) → option_map (λ s. s.now) o ≡ w → o ≡ Some x → w ≡ Some x.now
+word_given o w x e is = sym e ∙ ap (option_map (λ s. s.now)) is
+
+-- ---- the subcommand that was entered
+
+names_are : {Z : Type 0} (o : Option (Box SubCommand Z)) → option_map (λ b. (out-SubCommand (box_value b)).name.now) o ≡ option_map (λ p. p.0) (subcommand_rows o)
+names_are None = refl
+names_are (Some b) = refl
+
+pub entered_name : (m : ArgMatches) (name : Word) (rows : List Row) → subcommand_rows_of m ≡ Some (name, rows) → subcommand_name_of m ≡ Some name
+entered_name m name rows e = names_are (out-ArgMatches m).subcommand ∙ ap (option_map (λ (p : Word × List Row). p.0)) e
+
+pub same_rows : (o : Option (Bor Word × Bor ArgMatches)) (s : Option (Word × List Row)) (p : Bor Word × Bor ArgMatches) (q : Word × List Row)
+    → option_map (λ p. rows_found p.1.now) o ≡ option_map (λ p. p.1) s → o ≡ Some p → s ≡ Some q → q.1 ≡ rows_found p.1.now
+same_rows o s p q e is sub =
+    let both : Some (rows_found p.1.now) ≡ Some q.1 = sym (ap (option_map (λ (p : Bor Word × Bor ArgMatches). rows_found p.1.now)) is) ∙ e ∙ ap (option_map (λ (p : Word × List Row). p.1)) sub in
+    cc
+
+pub same_name : (o : Option (Bor Word × Bor ArgMatches)) (name : Option Word) (p : Bor Word × Bor ArgMatches) (w : Word)
+    → option_map (λ p. p.0.now) o ≡ name → o ≡ Some p → name ≡ Some w → p.0.now ≡ w
+same_name o name p w e is sub =
+    let both : Some p.0.now ≡ Some w = sym (ap (option_map (λ (p : Bor Word × Bor ArgMatches). p.0.now)) is) ∙ e ∙ sub in
+    cc

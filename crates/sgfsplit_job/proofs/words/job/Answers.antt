@@ -1,0 +1,63 @@
+use Rattle.std.proofs.Common.{◌∙◌, ap, ap₂, map, string_bytes, refl, subst, sym, Option}
+use Rattle.std.proofs.lemmas.Result.{err_from_is_err_and}
+use Rattle.clap.specs.Faults.{fault_of, is_simple_and_free}
+use Rattle.clap.specs.Simple.{is_simple, subcommand_of}
+use Rattle.clap.specs.Takes.{takes}
+use Rattle.sgfsplit_job.specs.PlainWords.{CountsFile, Word, file_of}
+use Rattle.sgfsplit_job.proofs.CommandLine.{app_free, app_simple}
+use Rattle.sgfsplit_job.proofs.PlainWords.{split_words_taken, split_words_entered, count_words_taken, count_words_entered, count_words_hold}
+use Rattle.sgfsplit_job.proofs.words.job.Goals as goal
+
+-- clap takes plain words, so it refuses them only for want of memory
+pub returns-in_default : goal.returns-in_default
+returns-in_default c =
+    let command = c.in_ok-command.ensures in
+    record {
+      split = λ name given plain are.
+          let taken = ap₂ takes command.2 are ∙ split_words_taken command.0 command.1 name given plain in
+          absurd (c.in_default.not-OutOfMemory (c.kind.ensures ∙ c.in-Err.ensures.passes taken));
+      count = λ name file plain are.
+          let taken = ap₂ takes command.2 are ∙ count_words_taken command.0 command.1 name file plain in
+          absurd (c.in_default.not-OutOfMemory (c.kind.ensures ∙ c.in-Err.ensures.passes taken));
+      faultless = tt;
+    }
+
+pub returns-clause-split : goal.returns-clause-split
+returns-clause-split c = λ name given plain are.
+    let command = c.in_ok-command.ensures in
+    let entered = split_words_entered command.0 command.1 name given plain in
+    let matches = c.in-Ok.ensures.matches (ap is_simple command.2 ∙ app_simple command.0) in
+    c.in_ok-found_job.ensures.split given entered.0 plain (matches.1 ∙ (ap₂ subcommand_of command.2 are ∙ entered.1)) entered.2
+
+pub returns-clause-count : goal.returns-clause-count
+returns-clause-count c = λ name file plain are.
+    let command = c.in_ok-command.ensures in
+    let matches = c.in-Ok.ensures.matches (ap is_simple command.2 ∙ app_simple command.0) in
+    let counts = c.in_ok-found_job.ensures.count _ (matches.1 ∙ (ap₂ subcommand_of command.2 are ∙ count_words_entered command.0 command.1 name file)) in
+    subst (λ (f : Option Word). CountsFile (file_of f) c.in_ok-found_job.field-0) (count_words_hold command.0 command.1 file plain) counts
+
+-- an Ok of clap comes only where it finds no fault
+pub returns-clause-faultless : goal.returns-clause-faultless
+returns-clause-faultless c =
+    let command = c.in_ok-command.ensures in
+    let free = ap is_simple_and_free command.2 ∙ app_free command.0 in
+    (command.0, command.1, ap (λ a. fault_of a (map string_bytes c.args.words.now)) (sym command.2) ∙ c.in-Ok.ensures.kinds free)
+
+-- where memory was refused
+pub returns-in_err-command-clause-split : goal.returns-in_err-command-clause-split
+returns-in_err-command-clause-split c = λ name given plain are. let p = err_from_is_err_and c.from_residual.result c.from_residual.ensures.1 in rw (p.1, p.2) refl
+
+pub returns-in_err-command-clause-count : goal.returns-in_err-command-clause-count
+returns-in_err-command-clause-count c = λ name file plain are. let p = err_from_is_err_and c.from_residual.result c.from_residual.ensures.1 in rw (p.1, p.2) refl
+
+pub returns-in_err-found_job-clause-split : goal.returns-in_err-found_job-clause-split
+returns-in_err-found_job-clause-split c = λ name given plain are. let p = err_from_is_err_and c.from_residual-in_err-found_job.result c.from_residual-in_err-found_job.ensures.1 in rw (p.1, p.2) refl
+
+pub returns-in_err-found_job-clause-count : goal.returns-in_err-found_job-clause-count
+returns-in_err-found_job-clause-count c = λ name file plain are. let p = err_from_is_err_and c.from_residual-in_err-found_job.result c.from_residual-in_err-found_job.ensures.1 in rw (p.1, p.2) refl
+
+pub returns-in-OutOfMemory-clause-split : goal.returns-in-OutOfMemory-clause-split
+returns-in-OutOfMemory-clause-split c = λ name given plain are. refl
+
+pub returns-in-OutOfMemory-clause-count : goal.returns-in-OutOfMemory-clause-count
+returns-in-OutOfMemory-clause-count c = λ name file plain are. refl

@@ -1,0 +1,33 @@
+-- Why the program ends with another status than 0: the status, and the row on standard error.
+use Rattle.std.specs.Prelude.{ℕ, ◌++◌, ◌==◌, List, codes, decimal, if◌then◌else◌}
+use Rattle.sgf_lines.specs.Answer.{MAX_LENGTH}
+use Rattle.sgf_lines.specs.declared.fault.RunFault.TheVariants.{Read, TooLong, NotSgf, NoSuchLine, Write, Memory}
+use Rattle.sgfsplit_job.specs.declared.fault.Fault.{Fault}
+use Rattle.sgfsplit_job.specs.declared.fault.Fault.TheVariants.{Open, NotUtf8, Run}
+
+-- 1 where the input is refused or no line has the place that is asked for, 2 where a word isn't UTF-8, 3 where FILE can't be opened or a read, a write or
+-- the flush failed, 4 for want of memory
+abbrev pub status_of : Fault → ℕ
+status_of Open = 3
+status_of NotUtf8 = 2
+status_of (Run Read) = 3
+status_of (Run TooLong) = 1
+status_of (Run (NotSgf at len)) = 1
+status_of (Run (NoSuchLine place)) = 1
+status_of (Run (Write lines)) = 3
+status_of (Run (Memory lines)) = 4
+
+abbrev pub message_of : Fault → List ℕ
+message_of Open = codes "open failed"
+message_of NotUtf8 = codes "a word isn't UTF-8"
+message_of (Run Read) = codes "read failed"
+message_of (Run TooLong) = codes "input is longer than " ++ decimal MAX_LENGTH ++ codes " bytes"
+message_of (Run (NotSgf at len)) =
+    codes "byte " ++ decimal at ++ (if at == len then codes ": input ends too early" else codes ": not SGF")
+message_of (Run (NoSuchLine place)) = codes "no line ends at " ++ decimal place
+message_of (Run (Write lines)) = codes "write failed"
+message_of (Run (Memory lines)) = codes "out of memory"
+
+-- the row, with its line feed
+abbrev pub fault_row : Fault → List ℕ
+fault_row fault = codes "sgfsplit: " ++ message_of fault ++ codes "\n"

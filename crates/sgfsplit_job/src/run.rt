@@ -1,0 +1,131 @@
+//! Doing a job, and showing what the command line's parser says: what comes in, what goes out, the status, and the row on standard error.
+
+ghost use Rattle.std.specs.Prelude.{◌≡◌, ◌<◌, ◌+◌, ℕ, Some, OnOk};
+ghost use Rattle.std.specs.Result.{result_err};
+ghost use Rattle.sgf_lines.specs.Answer.{reads_failed, writes_failed};
+ghost use Rattle.sgf_lines.specs.Ends.{HasDelivered};
+ghost use Rattle.sgf_lines.specs.declared.fault.RunFault.TheVariants.{Memory};
+ghost use Rattle.sgfsplit_job.specs.Fault.{fault_row, status_of};
+ghost use Rattle.sgfsplit_job.specs.Act.{DoesJob, FlushesAfter, IsAct, Shows, TakesText, Tells};
+
+use crate::fault::Fault;
+use crate::request::Job;
+use clap::Error;
+use sgf_lines::{RunFault, Sink, Source, count, split, write_counts};
+use std::alloc::Global;
+
+/// Does a job, tells its fault, if there is one, and answers the exit status.
+///
+/// With status 0 the output has delivered all that it took. Else it holds what was written before the fault; after want of memory it is
+/// flushed, whatever that answers, so that whole records are delivered.
+/// The row of a fault goes to `faults`, which is flushed, and with status 0 none does; where `faults` fails, the status is the same.
+pub fn act<S: Source, T: Sink, E: Sink>(
+    alloc: Global,
+    job: &Job,
+    source: &mut S,
+    output: &mut T,
+    faults: &mut E,
+) -> u8
+    requires source_counts { (S.state source.old).failures < u64.MAX }
+    requires output_counts { (T.state output.old).failures < u64.MAX }
+    requires faults_count { (E.state faults.old).failures < u64.MAX }
+    ensures { IsAct job.now (S.state source.old) (S.state source.new) (T.state output.old) (T.state output.new)
+        (E.state faults.old) (E.state faults.new) result }
+{
+    match do_job(alloc, job, source, output) {
+        Ok(()) => 0,
+        Err(fault) => {
+            flush_after(&fault, output);
+            tell(&Fault::Run(fault), faults)
+        }
+    }
+}
+
+/// Does the job over the source and the output, whole or up to a fault.
+fn do_job<S: Source, T: Sink>(
+    alloc: Global,
+    job: &Job,
+    source: &mut S,
+    output: &mut T,
+) -> Result<(), RunFault>
+    requires source_counts { (S.state source.old).failures < u64.MAX }
+    requires output_counts { (T.state output.old).failures < u64.MAX }
+    ensures does { DoesJob job.now (S.state source.old) (S.state source.new)
+        (T.state output.old) (T.state output.new) (result_err result) }
+    ensures delivered { OnOk result (HasDelivered (T.state output.new)) }
+    ensures reads { (S.state source.new).failures ≡ (S.state source.old).failures + reads_failed (result_err result) }
+    ensures writes { (T.state output.new).failures ≡ (T.state output.old).failures + writes_failed (result_err result) }
+{
+    match job {
+        Job::Split { options, .. } => match split(alloc, source, output, options) {
+            Ok(_) => Ok(()),
+            Err(fault) => Err(fault),
+        },
+        Job::Count { .. } => match count(alloc, source) {
+            Ok(counts) => write_counts(output, &counts),
+            Err(fault) => Err(fault),
+        },
+    }
+}
+
+/// After want of memory, flushes the output, whatever that answers. After another fault it leaves it alone.
+fn flush_after<T: Sink>(fault: &RunFault, output: &mut T)
+    requires { (lines : ℕ) → fault.now ≡ Memory lines → (T.state output.old).failures < u64.MAX }
+    ensures { FlushesAfter (Some fault.now) (T.state output.old) (T.state output.new) }
+{
+    match fault {
+        RunFault::Memory { .. } => {
+            let _ = output.flush();
+        }
+        RunFault::Read
+        | RunFault::TooLong
+        | RunFault::NotSgf { .. }
+        | RunFault::NoSuchLine { .. }
+        | RunFault::Write { .. } => {}
+    }
+}
+
+/// Tells a fault: puts its row on the sink for faults, and answers its status.
+/// Where that sink fails, no more of the row is put, and the status is the same.
+pub fn tell<E: Sink>(fault: &Fault, faults: &mut E) -> u8
+    requires { (E.state faults.old).failures < u64.MAX }
+    ensures { Tells fault.now (E.state faults.old) (E.state faults.new) result }
+{
+    let _ = put_text(fault.row().as_bytes(), faults);
+    fault.status()
+}
+
+/// Shows a text of the command line's parser, and answers the exit status: help goes to `output`, with status 0; what is wrong with the
+/// words goes to `faults`, with status 2, also where that fails. Help that can't be written is a failed write.
+pub fn show<T: Sink, E: Sink>(alloc: Global, error: &Error, output: &mut T, faults: &mut E) -> u8
+    requires output_counts { (T.state output.old).failures < u64.MAX }
+    requires faults_count { (E.state faults.old).failures < u64.MAX }
+    ensures { Shows (T.state output.old) (T.state output.new) (E.state faults.old) (E.state faults.new) result }
+{
+    let Ok(text) = format!(in alloc; "{error}") else {
+        return tell(&Fault::OUT_OF_MEMORY, faults);
+    };
+    if error.exit_code() != 0 {
+        let _ = put_text(text.as_bytes(), faults);
+        return 2;
+    }
+    if put_text(text.as_bytes(), output) {
+        return 0;
+    }
+    tell(&Fault::Run(RunFault::Write { lines: 0 }), faults)
+}
+
+/// Puts a text whole and flushes it, or puts it up to the first failure; tells whether it was put and flushed.
+fn put_text<T: Sink>(text: &[u8], sink: &mut T) -> bool
+    requires { (T.state sink.old).failures < u64.MAX }
+    ensures { TakesText text.now (T.state sink.old) (T.state sink.new) result }
+{
+    let mut rest = text;
+    while !rest.is_empty() {
+        let Ok(count) = sink.put(rest) else {
+            return false;
+        };
+        rest = &rest[count..];
+    }
+    sink.flush().is_ok()
+}

@@ -1,0 +1,149 @@
+//! The job that the words of a command line ask for.
+
+ghost use Rattle.std.specs.Prelude.{◌≡◌, true, ℕ, List, Some, None, Option, option_map, map, IfOk, IfSome, OnOk, MatchResult, codes, string_bytes};
+ghost use Rattle.std.specs.Str.Parse.{digits_value};
+ghost use Rattle.clap.specs.Matches.{has_subcommand};
+ghost use Rattle.clap.specs.Simple.{subcommand_rows_of};
+ghost use Rattle.clap.specs.Walk.{Row, first_of, one_of};
+ghost use Rattle.sgf_lines.specs.declared.options.Form.{Form};
+ghost use Rattle.sgfsplit_job.specs.CommandLine.{AreFaultless};
+ghost use Rattle.sgfsplit_job.specs.PlainWords.{Word, SplitWords, ArePlainWords, IsNumberWord, IsFileWord, SplitsBy, CountsFile, form_word, file_of as file_of_rule, options_of, split_words, count_words};
+ghost use Rattle.sgfsplit_job.specs.inner.Found.{rows_found, form_named, HoldSplitWords};
+
+use crate::command::command;
+use crate::request::{Job, JobFault};
+use clap::ArgMatches;
+use clap::error::ErrorKind;
+use sgf_lines::{Form, Options};
+use std::alloc::{AllocError, Global};
+
+/// The job that the words ask for, the program's own name first.
+///
+/// A number is at most 18,446,744,073,709,551,615. What isn't a job of `sgfsplit split` or `sgfsplit count` is
+/// `JobFault::Words`, with clap's text and status; so are the words that ask for help.
+pub fn job<'a>(alloc: Global, words: &'a [String]) -> Result<Job, JobFault>
+    // Each option there or not, in the order of the help, and FILE or none.
+    ensures split { (name : Word) (given : SplitWords) → ArePlainWords given
+        → map string_bytes words.now ≡ split_words name given
+        → MatchResult result (SplitsBy (options_of given) (file_of_rule given.file)) (λ fault. fault ≡ JobFault.Memory) }
+    ensures count { (name : Word) (file : Option Word) → IfSome file IsFileWord
+        → map string_bytes words.now ≡ count_words name file
+        → MatchResult result (CountsFile (file_of_rule file)) (λ fault. fault ≡ JobFault.Memory) }
+    ensures faultless { OnOk result (AreFaultless (map string_bytes words.now)) }
+{
+    let command = command(alloc)?;
+    let found = match command.try_get_matches_from(words) {
+        Ok(found) => found,
+        Err(error) => {
+            return match error.kind() {
+                ErrorKind::OutOfMemory => Err(JobFault::Memory),
+                _ => Err(JobFault::Words(error)),
+            };
+        }
+    };
+    Ok(found_job(alloc, &found)?)
+}
+
+/// The job of the words that clap took.
+fn found_job(alloc: Global, found: &ArgMatches) -> Result<Job, AllocError>
+    requires { has_subcommand found.now ≡ true }
+    ensures split { IfOk result (λ job. (words : SplitWords) (rows : List Row) → ArePlainWords words
+        → subcommand_rows_of found.now ≡ Some (codes "split", rows) → HoldSplitWords words rows
+        → SplitsBy (options_of words) (file_of_rule words.file) job) }
+    ensures count { IfOk result (λ job. (rows : List Row)
+        → subcommand_rows_of found.now ≡ Some (codes "count", rows)
+        → CountsFile (file_of_rule (first_of (codes "file") rows)) job) }
+{
+    match found.subcommand() {
+        Some((name, found)) => command_job(alloc, name, found),
+        None => unreachable!(),
+    }
+}
+
+/// The job of a command and the words after it.
+fn command_job(alloc: Global, name: &str, found: &ArgMatches) -> Result<Job, AllocError>
+    ensures split { IfOk result (λ job. name.now ≡ codes "split" → (words : SplitWords) → ArePlainWords words
+        → HoldSplitWords words (rows_found found.now) → SplitsBy (options_of words) (file_of_rule words.file) job) }
+    ensures count { IfOk result (λ job. name.now ≡ codes "count"
+        → CountsFile (file_of_rule (first_of (codes "file") (rows_found found.now))) job) }
+{
+    if name == "count" {
+        return count_job(alloc, found);
+    }
+    split_job(alloc, found)
+}
+
+/// The job of the words after `split`.
+fn split_job(alloc: Global, found: &ArgMatches) -> Result<Job, AllocError>
+    ensures { IfOk result (λ job. (words : SplitWords) → ArePlainWords words → HoldSplitWords words (rows_found found.now)
+        → SplitsBy (options_of words) (file_of_rule words.file) job) }
+{
+    let options = Options {
+        form: form_given(found),
+        after: number_given(found, "after"),
+        limit: number_given(found, "limit"),
+    };
+    let file = file_given(alloc, found)?;
+    Ok(Job::Split { options, file })
+}
+
+/// The job of the words after `count`.
+fn count_job(alloc: Global, found: &ArgMatches) -> Result<Job, AllocError>
+    ensures { IfOk result (CountsFile (file_of_rule (first_of (codes "file") (rows_found found.now)))) }
+{
+    let file = file_given(alloc, found)?;
+    Ok(Job::Count { file })
+}
+
+/// The form that `--form` names.
+fn form_given(found: &ArgMatches) -> Form
+    ensures { (form : Form) → first_of (codes "form") (rows_found found.now) ≡ Some (form_word form) → result ≡ form }
+{
+    match found.get_str("form") {
+        Some(word) => form_named(word),
+        None => Form::List,
+    }
+}
+
+/// The form of this name.
+fn form_named(word: &str) -> Form
+    ensures { result ≡ form_named word.now }
+{
+    if word == "sgf" {
+        Form::Sgf
+    } else if word == "gtp" {
+        Form::Gtp
+    } else {
+        Form::List
+    }
+}
+
+/// The number that an option gives.
+fn number_given(found: &ArgMatches, name: &str) -> Option<u64>
+    ensures none { one_of name.now (rows_found found.now) ≡ None → result ≡ None }
+    ensures some { (word : Word) → IsNumberWord word → one_of name.now (rows_found found.now) ≡ Some word
+        → result ≡ Some (digits_value 10 word) }
+{
+    found.get_one::<u64>(name)
+}
+
+/// The file that the words name; none for standard input.
+fn file_given(alloc: Global, found: &ArgMatches) -> Result<Option<String>, AllocError>
+    ensures { IfOk result (λ file. option_map string_bytes file
+        ≡ file_of_rule (first_of (codes "file") (rows_found found.now))) }
+{
+    match found.get_str("file") {
+        Some(word) => file_of(alloc, word),
+        None => Ok(None),
+    }
+}
+
+/// The file that FILE names; none, for standard input, where it is `-`.
+fn file_of(alloc: Global, word: &str) -> Result<Option<String>, AllocError>
+    ensures { IfOk result (λ file. option_map string_bytes file ≡ file_of_rule (Some word.now)) }
+{
+    if word == "-" {
+        return Ok(None);
+    }
+    Ok(Some(String::from_str(alloc, word)?))
+}

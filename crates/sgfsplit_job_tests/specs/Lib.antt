@@ -1,0 +1,2 @@
+-- What the contract of the example says.
+pub mod InMemory

@@ -1,0 +1,71 @@
+//! A reader and a writer that count their calls, and may fail.
+
+use std::io;
+use std::io::{ErrorKind, Read, Write};
+
+/// A reader of a text that fails at one of its calls, from 1, as where it is interrupted.
+#[derive(Drop)]
+pub(crate) struct Reads<'a> {
+    pub(crate) left: &'a [u8],
+    pub(crate) calls: u32,
+    pub(crate) fails_at: u32,
+}
+
+impl Read for Reads<'_> {
+    fn read(&mut self, buffer: &mut [u8]) -> io::Result<usize> {
+        self.calls = self.calls.saturating_add(1);
+        if self.calls == self.fails_at {
+            return Err(io::Error::from(ErrorKind::Interrupted));
+        }
+        let count = self.left.len().min(buffer.len());
+        let (front, rest) = self.left.split_at(count);
+        buffer[..count].copy_from_slice(front);
+        self.left = rest;
+        Ok(count)
+    }
+}
+
+/// A writer that takes at most `most` bytes a call and fails at one of its writes, from 1, or at each flush.
+#[derive(Drop)]
+pub(crate) struct Writes {
+    pub(crate) calls: u32,
+    pub(crate) flushes: u32,
+    pub(crate) bytes: usize,
+    pub(crate) most: usize,
+    pub(crate) fails_at: u32,
+    pub(crate) can_flush: bool,
+}
+
+impl Writes {
+    /// A writer of which nothing was asked, that doesn't fail.
+    pub(crate) fn new() -> Writes {
+        Writes {
+            calls: 0,
+            flushes: 0,
+            bytes: 0,
+            most: usize::MAX,
+            fails_at: 0,
+            can_flush: true,
+        }
+    }
+}
+
+impl Write for Writes {
+    fn write(&mut self, bytes: &[u8]) -> io::Result<usize> {
+        self.calls = self.calls.saturating_add(1);
+        if self.calls == self.fails_at {
+            return Err(io::Error::from(ErrorKind::Interrupted));
+        }
+        let count = bytes.len().min(self.most);
+        self.bytes = self.bytes.saturating_add(count);
+        Ok(count)
+    }
+
+    fn flush(&mut self) -> io::Result<()> {
+        self.flushes = self.flushes.saturating_add(1);
+        if self.can_flush {
+            return Ok(());
+        }
+        Err(io::Error::from(ErrorKind::Interrupted))
+    }
+}

@@ -1,0 +1,49 @@
+#!/usr/bin/env python3
+"""files.py [--form sgf|gtp|list] [-0] OUT FILE|FOLDER..
+
+Writes each line of play to a file of its own, named by its place:
+OUT/dir/name/PLACE.sgf for dir/name.sgf, or PLACE.gtp, or PLACE.list. Comments
+may hold anything. A file that stands already with the right bytes stays as it
+is, so a run that was stopped goes on when it is called again, and a changed
+game is written anew.
+
+  files.py lines library
+  files.py --form gtp scripts library
+
+Files of lines that are gone stay: remove OUT to begin anew. Status 1: a file
+was refused.
+"""
+import os
+from itertools import zip_longest
+
+import sgfsplit
+
+
+def write_lines(name, folder, form):
+    for row, record in zip_longest(sgfsplit.rows(name), sgfsplit.records(name, form)):
+        path = os.path.join(folder, f"{row.place}.{form}")
+        if not holds(path, record):
+            with sgfsplit.written(path) as file:
+                file.write(record)
+
+
+def holds(path, record):
+    """Whether the file at the path has exactly these bytes."""
+    try:
+        with open(path, "rb") as file:
+            return os.fstat(file.fileno()).st_size == len(record) and file.read() == record
+    except OSError:
+        return False
+
+
+def main(job):
+    form = job.options.get("--form", "sgf")
+    if form not in ("sgf", "gtp", "list"):
+        raise sgfsplit.Words("--form wants sgf, gtp or list")
+    for name, folder in job.outputs(job.first[0], "", is_apart=True):
+        with job.going_on():
+            write_lines(name, folder, form)
+
+
+if __name__ == "__main__":
+    sgfsplit.start(main, __doc__, values=("--form",), first=1)

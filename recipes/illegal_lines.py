@@ -1,0 +1,49 @@
+#!/usr/bin/env python3
+"""illegal_lines.py [-0] FILE|FOLDER..
+
+The lines of play in which the referee finds an illegal node. Each row has the
+place of that node, the turn, what is played or set up there, and the reason,
+as compilers write it, so that editors jump there:
+FILE:LINE:COLUMN: turn TURN: B[tt]: over
+
+  illegal_lines.py library
+  illegal_lines.py library | sed 's/.*: //' | sort | uniq -c
+                                 how often each reason comes
+  illegal_lines.py library | uniq -c
+                                 how many lines each node spoils
+
+Status 1: a file was refused. An illegal line alone is no reason for it.
+"""
+import goboard
+import sgfsplit
+
+MOVES = ("B", "W")
+SETUPS = ("AB", "AW", "AE", "PL")
+SHOWN = {"mixed": MOVES + SETUPS, "bad-setup": SETUPS}
+MOST = 60
+
+
+def told(node, reason):
+    """The properties of a node that the reason speaks of, in one row, cut where they are long."""
+    text = "".join(name + "".join(f"[{value.decode('utf-8', 'replace')}]" for value in values)
+                   for name, values in node if name in SHOWN.get(reason, MOVES))
+    return sgfsplit.shown(text if len(text) <= MOST else text[:MOST] + "..")
+
+
+def main(job):
+    for name in job.files():
+        with job.going_on():
+            text = place_of = None
+            for row in sgfsplit.rows(name):
+                if row.verdict != "illegal":
+                    continue
+                if text is None:
+                    text = sgfsplit.text_of(name)
+                    place_of = sgfsplit.Places(text)
+                line, column = place_of(row.fault)
+                node = next(goboard.nodes(text, row.fault))
+                print(f"{sgfsplit.shown(name)}:{line}:{column}: turn {row.turn}: {told(node, row.reason)}: {row.reason}")
+
+
+if __name__ == "__main__":
+    sgfsplit.start(main, __doc__)

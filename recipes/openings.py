@@ -1,0 +1,85 @@
+#!/usr/bin/env python3
+"""openings.py [--games] [--symmetry] [--setup] [--csv] [-0] N FILE|FOLDER..
+
+An opening table: the first N moves of each line of play and how many lines
+begin so, the most frequent first. A row is COUNT SIDE MOVE.., with moves as
+B-Q16 or W-pass.
+
+  openings.py 4 library | head
+  openings.py --games 4 library  games, not lines, so that a game with many
+                                 variations counts once for each opening
+  openings.py --symmetry 4 library
+                                 the eight views of a board count as one, the
+                                 one that begins in the upper right
+  openings.py --setup 4 library  lines with stones set up before these moves
+                                 count as `setup`; else they are left out
+  openings.py --csv 4 library    count,side and a column for each move
+
+Only moves that are really made count. A line with an illegal node counts up to
+it, one without a move or that isn't judged not at all. On sides past 25 a
+point is its two letters in SGF. Status 1: a file was refused.
+"""
+import csv
+import sys
+from collections import Counter
+
+import goboard
+import sgfsplit
+
+VIEWS = [(flip, across, down) for flip in (False, True) for across in (False, True) for down in (False, True)]
+
+
+def viewed(point, view, side):
+    """A point of the board in another view: mirrored at the diagonal, from left to right, from top to bottom."""
+    if point is None:
+        return None
+    flip, across, down = view
+    col, row = point[::-1] if flip else point
+    return side - 1 - col if across else col, side - 1 - row if down else row
+
+
+def upper_right(moves, side):
+    """The moves in the view whose first move that tells the views apart is furthest to the right, and then furthest up."""
+    key = lambda view: [(0, 0) if point is None else (-point[0], point[1]) for _, point in view]
+    return min(([(colour, viewed(point, view, side)) for colour, point in moves] for view in VIEWS), key=key)
+
+
+def opening(line, count, options):
+    """The side and the first moves of a line of play as words, or None where it doesn't count."""
+    side, moves = line.board.side, line.moves[:count]
+    if line.set_ups and line.set_ups[0][0] < count:
+        return (str(side), "setup") if "--setup" in options else None
+    if not moves:
+        return None
+    if "--symmetry" in options:
+        moves = upper_right(moves, side)
+    return (str(side), *(f"{colour}-{goboard.vertex_of(point, side)}" for colour, point in moves))
+
+
+def openings(job, count):
+    """How often each opening comes."""
+    counts, by_games = Counter(), "--games" in job.options
+    for name in job.files():
+        with job.going_on():
+            seen = set()
+            for row, line in goboard.lines(name, most=count):
+                words = opening(line, count, job.options)
+                if words is not None and not (by_games and (row.game, words) in seen):
+                    counts[words] += 1
+                    seen.add((row.game, words))
+    return counts
+
+
+def main(job):
+    count = sgfsplit.number_of(job.first[0], 1, 1000, "N is how many moves")
+    table = sorted(((often, *words) for words, often in openings(job, count).items()), key=lambda row: (-row[0], row[1:]))
+    if "--csv" in job.options:
+        head = ("count", "side", *(f"move {number}" for number in range(1, count + 1)))
+        csv.writer(sys.stdout, lineterminator="\n").writerows([head] + [row + ("",) * (len(head) - len(row)) for row in table])
+    else:
+        for row in table:
+            print(*row)
+
+
+if __name__ == "__main__":
+    sgfsplit.start(main, __doc__, flags=("--games", "--symmetry", "--setup", "--csv"), first=1)

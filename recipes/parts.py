@@ -1,0 +1,62 @@
+#!/usr/bin/env python3
+"""parts.py [--most BYTES] [-0] FILE|FOLDER..
+
+Writes the rows of a collection of any size. sgfsplit takes 64 MiB at a time,
+so the text is cut between games. Appending one collection to another leaves
+the rows of the first as they are, and raises in those of the second each place
+by the length of the first and each game's number by its games. So the rows of
+the parts, raised, are the rows of the whole. Each file's rows follow those of
+the one before.
+
+  parts.py huge.sgf > rows.txt
+  parts.py --most 1000000 huge.sgf > rows.txt
+                                 the greatest part; 67108864 without it
+
+A single game of more than 64 MiB stays refused. Status 1: a file was refused;
+the rows of the parts before the fault are written.
+"""
+import subprocess
+
+import goboard
+import sgfsplit
+
+
+def parts(text, most):
+    """Where each part begins and ends, and its number of games; a part ends after a game, the last one with the text."""
+    begin = end = depth = count = 0
+    for place, after in goboard.tokens(text, 0, goboard.PARENTHESES):
+        byte = text[place:place + 1]
+        depth += {b"(": 1, b")": -1}.get(byte, 0)
+        if byte == b")" and depth == 0:
+            if after - begin > most and count > 0:
+                yield begin, end, count
+                begin, count = end, 0
+            end = after
+            count += 1
+    yield begin, len(text), count
+
+
+def rows_of(name, most):
+    """The rows of a file of any size."""
+    text, games_before = sgfsplit.text_of(name), 0
+    for begin, end, count in parts(text, most):
+        run = subprocess.run([sgfsplit.program(), "split"], input=text[begin:end], stdout=subprocess.PIPE, stderr=subprocess.PIPE)
+        if run.returncode:
+            raise sgfsplit.Refused(sgfsplit.fault_of(name, run.returncode, run.stderr, begin))
+        for line in run.stdout.splitlines():
+            row = sgfsplit.Row.read(line)
+            fault = None if row.fault is None else row.fault + begin
+            yield row._replace(place=row.place + begin, game=row.game + games_before, fault=fault)
+        games_before += count
+
+
+def main(job):
+    most = sgfsplit.number_of(job.options.get("--most", str(sgfsplit.LIMIT)), 1, sgfsplit.LIMIT, "--most wants how many bytes")
+    for name in job.files():
+        with job.going_on():
+            for row in rows_of(name, most):
+                print(row)
+
+
+if __name__ == "__main__":
+    sgfsplit.start(main, __doc__, values=("--most",))

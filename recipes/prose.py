@@ -1,0 +1,67 @@
+#!/usr/bin/env python3
+"""prose.py < mail.txt | sgfsplit split
+prose.py [-0] OUT FILE|FOLDER..
+
+Overwrites what stands around the games of a text, such as mail headers, an
+introduction or a signature, by spaces. Line feeds stay, and so does every
+place: a fault is named where it stands in the mail. A game begins at `(`
+before a `;` and ends with its `)`. One that is cut off goes on to the end of
+the text, so it is refused at its true byte. OUT/dir/name.sgf gets the text of
+dir/name.sgf, and OUT/dir/mail.txt.sgf that of dir/mail.txt.
+
+  prose.py < mail.txt | sgfsplit split
+  prose.py clean mails/*.txt && verdicts.py clean
+
+What looks like a game in the prose, as a `(;` does, is taken for one, and the
+program refuses it. Status 1: a file was refused.
+"""
+import re
+import sys
+
+import goboard
+import sgfsplit
+
+BEGIN = re.compile(rb"\([ \t\n\r\v\f]*;")
+
+
+def games(text):
+    """Where each game begins and ends."""
+    at = 0
+    while begin := BEGIN.search(text, at):
+        depth, at = 0, len(text)
+        for place, end in goboard.tokens(text, begin.start(), goboard.PARENTHESES):
+            depth += {b"(": 1, b")": -1}.get(text[place:end], 0)
+            if depth == 0:
+                at = end
+                break
+        yield begin.start(), at
+
+
+def without_prose(text):
+    """The pieces of the text, with spaces for what stands around its games, but line feeds and a byte order mark at its start."""
+    last = 3 if text[:3] == b"\xef\xbb\xbf" else 0
+    yield text[:last]
+    for begin, end in games(text):
+        yield blank(text[last:begin])
+        yield text[begin:end]
+        last = end
+    yield blank(text[last:])
+
+
+def blank(prose):
+    return re.sub(rb"[^\n]", b" ", prose)
+
+
+def main(job):
+    if not job.first:
+        sys.stdout.buffer.writelines(without_prose(sys.stdin.buffer.read()))
+        return
+    for name, path in job.outputs(job.first[0], ".sgf", is_apart=True):
+        with job.going_on():
+            text = sgfsplit.text_of(name)
+            with sgfsplit.written(path) as file:
+                file.writelines(without_prose(text))
+
+
+if __name__ == "__main__":
+    sgfsplit.start(main, __doc__, first=1, is_filter=True)

@@ -1,0 +1,428 @@
+"""What the tools of this folder share, and a module for scripts of your own: it hands files to the program sgfsplit, and gives its
+rows as named tuples and its records one by one.
+
+    import sgfsplit
+    for row in sgfsplit.rows("game.sgf"):
+        print(row.place, row.verdict, row.black, row.white)
+    for record in sgfsplit.records("game.sgf", "sgf"):
+        print(len(record))
+
+A file that can't be opened or is refused raises Refused, whose text is the row that says so: FILE:LINE:COLUMN: not SGF. Names are str, as
+os.fsdecode gives them. The program is the one that the variable SGFSPLIT names, else PROGRAM. Boards and nodes are in goboard.py.
+"""
+import contextlib
+import fcntl
+import functools
+import hashlib
+import mmap
+import os
+import re
+import shutil
+import signal
+import stat
+import subprocess
+import sys
+import tempfile
+from typing import NamedTuple, Optional
+
+PROGRAM = "sgfsplit"  # a name to look for in PATH; make install writes the path from this file's folder
+LIMIT = 67108864  # the most bytes that the program takes
+PIECE = 1 << 20
+ESCAPE, VALUE = re.compile(rb"\\.", re.DOTALL), re.compile(rb"\[[^\]]*\]")
+PIPES = {}
+CONTROLS = {"\n": "\\n", "\t": "\\t", "\\": "\\\\"}
+
+
+class Refused(Exception):
+    """A file gives no lines of play, or its output can't be kept. The text is one row that begins with the file's name."""
+
+
+class Trouble(Exception):
+    """Nothing can be done, as where the program isn't there. The text is one row."""
+
+
+class Row(NamedTuple):
+    """A row of the list form. What a verdict doesn't have is None; the reason of `unjudged` is what isn't judged."""
+    place: int
+    game: int
+    nodes: int
+    verdict: str
+    black: Optional[int] = None
+    white: Optional[int] = None
+    ended: Optional[str] = None
+    turn: Optional[int] = None
+    fault: Optional[int] = None
+    reason: Optional[str] = None
+
+    @classmethod
+    def read(cls, line):
+        """The row that stands in a line of bytes."""
+        place, game, nodes, verdict, *more = line.decode().split()
+        row = cls(int(place), int(game), int(nodes), verdict)
+        if verdict == "score":
+            return row._replace(black=int(more[0]), white=int(more[1]), ended=more[2])
+        if verdict == "illegal":
+            return row._replace(turn=int(more[0]), fault=int(more[1]), reason=more[2])
+        return row._replace(reason=more[0])
+
+    def __str__(self):
+        """The row as the program writes it."""
+        words = [self.place, self.game, self.nodes, self.verdict, self.black, self.white, self.ended, self.turn, self.fault, self.reason]
+        return " ".join(str(word) for word in words if word is not None)
+
+
+class Places:
+    """Tells a place, an offset in bytes from 0, as line and column, both from 1. Columns are bytes. Places that rise cost one pass."""
+
+    def __init__(self, text):
+        self.text, self.at, self.line = text, 0, 1
+
+    def __call__(self, place):
+        if place < self.at:
+            self.at, self.line = 0, 1
+        for begin in range(self.at, place, PIECE):
+            self.line += self.text[begin:min(begin + PIECE, place)].count(b"\n")
+        self.at = place
+        return self.line, place - self.text.rfind(b"\n", 0, place)
+
+
+@functools.lru_cache(maxsize=None)
+def program():
+    """The path of the program, once it has shown that it is ours."""
+    name = os.environ.get("SGFSPLIT")
+    if not name:
+        name = os.path.join(os.path.dirname(os.path.realpath(__file__)), PROGRAM) if os.sep in PROGRAM else PROGRAM
+    path = shutil.which(name)
+    if path is None:
+        raise Trouble(f"no program {shown(name)}; the variable SGFSPLIT may name one")
+    path = os.path.abspath(path)
+    if not is_ours(path):
+        raise Trouble(f"{shown(path)}: this is another sgfsplit, perhaps that of Debian's sgf2dg")
+    return path
+
+
+def is_ours(path):
+    """Whether the program counts one game, one node and one line in `(;)`."""
+    command = [path, "count"]
+    try:
+        with subprocess.Popen(command, stdin=subprocess.PIPE, stdout=subprocess.PIPE, stderr=subprocess.DEVNULL, cwd=os.sep) as asked:
+            with contextlib.suppress(BrokenPipeError):
+                asked.stdin.write(b"(;)")
+                asked.stdin.close()
+            answer = asked.stdout.read(7)
+            asked.kill()
+    except OSError as error:
+        raise Trouble(f"{shown(path)}: {error.strerror}") from error
+    return answer == b"1 1 1\n"
+
+
+def shown(name):
+    """A name as it stands in a row of text: control characters as \\n or \\x1b, and so \\ as \\\\."""
+    return re.sub(r"[\x00-\x1f\x7f-\x9f\\]", lambda found: CONTROLS.get(found[0], f"\\x{ord(found[0]):02x}"), name)
+
+
+def opened(name):
+    """The file, opened to be read as bytes. A pipe, which can be read once, is copied at the first time."""
+    try:
+        if name in PIPES:
+            return open(PIPES[name].name, "rb")
+        file = open(name, "rb")
+        if not stat.S_ISFIFO(os.fstat(file.fileno()).st_mode):
+            return file
+        with file:
+            PIPES[name] = tempfile.NamedTemporaryFile()
+            shutil.copyfileobj(file, PIPES[name])
+            PIPES[name].flush()
+        return open(PIPES[name].name, "rb")
+    except OSError as error:
+        raise Refused(f"{shown(name)}: {error.strerror}") from error
+
+
+def text_of(name):
+    """The bytes of a file of any size, mapped where the system can."""
+    with opened(name) as file:
+        try:
+            return mmap.mmap(file.fileno(), 0, access=mmap.ACCESS_READ)
+        except (OSError, ValueError):
+            return file.read()
+
+
+def fault_of(name, status, fault, begin=0):
+    """The row that says why the program ended with this status. `begin` is the place of the text's first byte in the file."""
+    if status < 0:
+        return f"{shown(name)}: the program was ended by signal {-status}"
+    said = fault.decode("utf-8", "replace").strip().split(": ", 1)[-1]
+    place = re.fullmatch(r"byte (\d+): (.*)", said)
+    if place is None:
+        return f"{shown(name)}: {said}"
+    line, column = Places(text_of(name))(int(place[1]) + begin)
+    return f"{shown(name)}:{line}:{column}: {place[2]}"
+
+
+@contextlib.contextmanager
+def output(name, *words):
+    """What the program writes about a file, as a stream of bytes. Raises Refused at the end where the program refused the file; it has
+    written nothing then, or whole records where the system failed."""
+    with opened(name) as text, subprocess.Popen([program(), *words], stdin=text, stdout=subprocess.PIPE, stderr=subprocess.PIPE) as run:
+        try:
+            yield run.stdout
+            fault = run.stderr.read()
+        except BaseException:
+            run.kill()
+            raise
+    if run.returncode:
+        raise Refused(fault_of(name, run.returncode, fault))
+
+
+def write_rows(file, name, after=None):
+    """Has the program write the rows of a file to an open file."""
+    file.flush()
+    with opened(name) as text:
+        run = subprocess.run([program(), "split", *page(after, None)], stdin=text, stdout=file, stderr=subprocess.PIPE)
+    if run.returncode:
+        raise Refused(fault_of(name, run.returncode, run.stderr))
+
+
+def page(after, limit):
+    """The words that ask for the lines after the one with a place, and for so many of them at most."""
+    return [word for option, number in (("--after", after), ("--limit", limit)) if number is not None for word in (option, str(number))]
+
+
+def rows(name, after=None, limit=None):
+    """The row of each line of play of a file, in file order."""
+    with output(name, "split", *page(after, limit)) as lines:
+        for line in lines:
+            yield Row.read(line)
+
+
+def records(name, form="sgf", after=None, limit=None):
+    """The record of each line of play of a file in a form, list, sgf or gtp, in file order. Values may hold line feeds and brackets."""
+    ends = {"list": lambda line, inside: True, "gtp": lambda line, inside: line == b"\n", "sgf": lambda line, inside: not inside}[form]
+    with output(name, "split", "--form", form, *page(after, limit)) as lines:
+        record, inside = [], False
+        for line in lines:
+            record.append(line)
+            inside = form == "sgf" and is_inside(line, inside)
+            if ends(line, inside):
+                yield b"".join(record)
+                record = []
+
+
+def is_inside(line, inside):
+    """Whether a value is open after a line of the sgf form, whose line feeds stand in values and after games alone."""
+    line = ESCAPE.sub(b"", line)
+    if inside:
+        _, closed, line = line.partition(b"]")
+        if not closed:
+            return True
+    return b"[" in VALUE.sub(b"", line)
+
+
+def locked(path):
+    """The file at the path, opened for bytes at its end, once no other process has it so."""
+    while True:
+        file = open(os.open(path, os.O_RDWR | os.O_CREAT | os.O_APPEND | os.O_NOFOLLOW, 0o666), "ab")
+        fcntl.flock(file, fcntl.LOCK_EX)
+        if is_same(path, file.fileno()):
+            return file
+        file.close()
+
+
+@contextlib.contextmanager
+def written(path):
+    """A file to write to, which stands beside `path` and takes its name once all is written. The folders above it are made. What a killed
+    run left beside it is written over."""
+    folder, name = os.path.split(path)
+    beside = os.path.join(folder, f".{hashlib.blake2b(os.fsencode(name), digest_size=8).hexdigest()}.part")
+    try:
+        os.makedirs(folder or os.curdir, exist_ok=True)
+        with locked(beside) as file:
+            try:
+                file.truncate(0)
+                yield file
+                file.flush()
+                os.replace(beside, path)
+            except BaseException:
+                os.unlink(beside)
+                raise
+    except OSError as error:
+        raise Refused(f"{shown(path)}: {error.strerror}") from error
+
+
+class Words(Exception):
+    """The words of a tool are wrong. The text says what about them."""
+
+
+class Job:
+    """One call of a tool: its options, its first words, and its files; and whether a file was refused."""
+
+    def __init__(self, options, first, names):
+        self.options, self.first, self.names, self.status = options, first, names, 0
+        self.left_out = None
+
+    def refuse(self, row):
+        """Says that a file was refused. The tool goes on, and ends with status 1."""
+        sys.stdout.flush()
+        print(row, file=sys.stderr, flush=True)
+        self.status = 1
+
+    @contextlib.contextmanager
+    def going_on(self):
+        """Work on one file, which may be refused."""
+        try:
+            yield
+        except Refused as refused:
+            self.refuse(refused)
+
+    def files(self):
+        """The name of each file: the words themselves, and each .sgf file below a folder."""
+        for name in self.names:
+            if os.path.isdir(name):
+                yield from self.below(name)
+            else:
+                yield name
+
+    def below(self, folder):
+        """The .sgf files below a folder in the order of their names, without those below `left_out`, where a tool's own outputs stand."""
+        told = lambda error: self.refuse(f"{shown(error.filename)}: {error.strerror}")
+        for path, folders, names in os.walk(folder, onerror=told):
+            inner = [(name, os.path.join(path, name)) for name in folders]
+            folders[:] = sorted((name for name, whole in inner if not is_same(whole, self.left_out)), key=os.fsencode)
+            for name in sorted(names, key=os.fsencode):
+                whole = os.path.join(path, name)
+                if not name.lower().endswith(".sgf"):
+                    continue
+                if os.path.exists(whole) and not os.path.isfile(whole):
+                    self.refuse(f"{shown(whole)}: not a file")
+                else:
+                    yield whole
+
+    def outputs(self, out, ending, is_apart=False):
+        """The name of each file, and the path below the folder `out` at which what is made of it is kept: out/dir/name.ending. `is_apart` says
+        that no file may stand below `out`, since what is written there could take its place."""
+        self.left_out = out
+        taken = {}
+        for name in self.files():
+            if is_apart and is_below(name, out):
+                self.refuse(f"{shown(name)}: it stands below the folder {shown(out)}, in which files are written")
+                continue
+            path = kept(out, name, ending)
+            first = taken.setdefault(path, name)
+            if first is name:
+                yield name, path
+            elif not is_same(first, name):
+                self.refuse(f"{shown(name)}: left out, since what {shown(first)} gives is kept at {shown(path)}")
+
+
+def is_same(path, other):
+    """Whether two paths lead to the same file."""
+    try:
+        return other is not None and os.path.samefile(path, other)
+    except OSError:
+        return False
+
+
+def is_below(path, folder):
+    """Whether a path leads to what stands below a folder."""
+    folder = os.path.realpath(folder)
+    return os.path.commonpath([os.path.realpath(path), folder]) == folder
+
+
+def kept(out, name, ending):
+    """The path out/dir/name.ending for a file dir/name.sgf. A name that doesn't end in .sgf stays whole, and so do `.sgf` and `...sgf`,
+    since what is left of them is a folder's name. The path never leaves `out`."""
+    path = os.path.normpath(name)
+    if os.path.isabs(path) or path.split(os.sep)[0] == os.pardir:
+        path = os.path.relpath(os.path.abspath(path), os.sep)
+    folder, last = os.path.split(path)
+    if last.endswith(".sgf") and last[:-4] not in ("", os.curdir, os.pardir):
+        last = last[:-4]
+    return os.path.join(out, folder, last + ending)
+
+
+def number_of(word, least, most, what):
+    """The number that a word says, from `least` to `most`; `what` tells it where the word is wrong."""
+    if not re.fullmatch("[0-9]{1,18}", word) or not least <= int(word) <= most:
+        raise Words(f"{what}, from {least} to {most}")
+    return int(word)
+
+
+def options_of(words, flags, values):
+    """The options that stand at the front of a command line, and how many words they are. They end at the first other word, or at `--`, so
+    that no name after it is taken for one. A word that is an option and also the name of a file here is refused, but before a `--`."""
+    options, at, known = {}, 0, {"-h", "--help", "-0", *flags, *values}
+    is_sure = "--" in words and not os.path.lexists("--")
+    while at < len(words) and words[at].startswith("-") and words[at] != "-":
+        whole = words[at]
+        option, sign, value = whole.partition("=")
+        is_option = whole == "--" or option in known and (not sign or option in values)
+        is_name = os.path.lexists(whole) and not is_sure
+        if is_name and is_option:
+            raise Words(f"{shown(whole)} is an option and a file's name; write ./ before the name, or -- after the options")
+        if is_name:
+            break
+        if not is_option:
+            raise Words(f"no option {shown(whole)}")
+        at += 1
+        if whole == "--":
+            break
+        if option in values and not sign:
+            if at == len(words):
+                raise Words(f"{option} wants a word after it")
+            value, at = words[at], at + 1
+        options[option] = value
+    return options, at
+
+
+def job_of(words, flags, values, first, is_filter):
+    """The job of a command line, or None if it asks for help."""
+    options, at = options_of(words, flags, values)
+    if "-h" in options or "--help" in options:
+        return None
+    if is_filter and not words:
+        return Job({}, [], [])
+    names = words[at + first:]
+    if len(words) - at < first or not names and "-0" not in options:
+        raise Words("too few words")
+    if "-0" in options:
+        names += [os.fsdecode(name) for name in sys.stdin.buffer.read().split(b"\0") if name]
+    return Job(options, words[at:at + first], names)
+
+
+def ended(tool, usage, *takes):
+    """Does what the command line asks for. Gives the status, and the row that says why it isn't 0."""
+    try:
+        job = job_of(sys.argv[1:], *takes)
+        if job is None:
+            print(usage.strip())
+        else:
+            tool(job)
+        sys.stdout.flush()
+        return (0 if job is None else job.status), None
+    except Words as wrong:
+        me = os.path.basename(sys.argv[0])
+        return 2, f"{wrong} ({me} -h says what it takes)"
+    except Trouble as trouble:
+        return 3, trouble
+    except OSError as error:
+        os.dup2(os.open(os.devnull, os.O_WRONLY), sys.stdout.fileno())  # what can't be written isn't tried again
+        told = error.strerror if error.filename is None else f"{shown(os.fsdecode(error.filename))}: {error.strerror}"
+        return (0, None) if isinstance(error, BrokenPipeError) else (3, told)
+    except KeyboardInterrupt:
+        return 130, None
+
+
+def start(tool, usage, flags=(), values=(), first=0, is_filter=False):
+    """Runs a tool: hands it the Job of the command line, and ends with its status. Flags are options alone, values have a word after them,
+    `first` words come before the names of files, and a filter is called without words too.
+    1: a file was refused; 2: wrong words; 3: the program or the system failed."""
+    if None in (sys.stdin, sys.stdout, sys.stderr):
+        status, fault = 3, "a standard stream is closed"
+    else:
+        signal.signal(signal.SIGTERM, lambda number, frame: sys.exit(128 + number))
+        for stream in (sys.stdout, sys.stderr):
+            stream.reconfigure(encoding=sys.getfilesystemencoding(), errors="surrogateescape")
+        status, fault = ended(tool, usage, flags, values, first, is_filter)
+    if fault is not None:
+        print(f"{os.path.basename(sys.argv[0])}: {fault}", file=sys.stderr)
+    sys.exit(status)

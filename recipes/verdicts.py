@@ -1,0 +1,95 @@
+#!/usr/bin/env python3
+"""verdicts.py [--csv|--json|--sqlite DB] [-0] FILE|FOLDER..
+
+One table for a library, a row for each line of play: file, place, game, nodes,
+verdict, black, white, ended, turn, fault (the place of the illegal node) and
+reason. What a verdict doesn't have is `-` in columns, empty in CSV, and null
+in JSON and SQLite.
+
+  verdicts.py library                      as columns
+  verdicts.py --csv library > table.csv
+  verdicts.py --json library               each row an object
+  verdicts.py --sqlite games.db library    the table `lines` of a database
+
+SQLite's table is filled in one transaction. Said again, a file's rows take the
+place of its old ones. A name that isn't UTF-8 is a BLOB there. Status 1: a
+file was refused.
+"""
+import contextlib
+import csv
+import json
+import os
+import sqlite3
+import sys
+
+import sgfsplit
+
+COLUMNS = ("file", *sgfsplit.Row._fields)
+WIDTHS = (9, 6, 6, 8, 5, 5, 5, 5, 9, 9)
+FORMS = ("--csv", "--json", "--sqlite")
+
+
+def table(job):
+    """Each row of each file, with the file's name before it."""
+    for name in job.files():
+        with job.going_on():
+            for row in sgfsplit.rows(name):
+                yield (name, *row)
+
+
+def as_columns(job):
+    files = list(job.files())
+    job.names, widest = files, max([len(sgfsplit.shown(name)) for name in files], default=4)
+    for name, *cells in head_and(table(job)):
+        words = ("-" if cell is None else str(cell) for cell in cells)
+        print(sgfsplit.shown(name).ljust(widest), *(word.rjust(width) for word, width in zip(words, WIDTHS)))
+
+
+def head_and(rows):
+    yield COLUMNS
+    yield from rows
+
+
+def as_csv(job):
+    csv.writer(sys.stdout, lineterminator="\n").writerows(head_and(table(job)))
+
+
+def as_json(job):
+    for row in table(job):
+        print(json.dumps(dict(zip(COLUMNS, row))))
+
+
+def as_sqlite(job):
+    with contextlib.closing(sqlite3.connect(job.options["--sqlite"], isolation_level=None)) as base:
+        base.execute("BEGIN IMMEDIATE")
+        base.execute(f"CREATE TABLE IF NOT EXISTS lines ({', '.join(COLUMNS)}, PRIMARY KEY (file, place))")
+        for name in job.files():
+            key = as_text(name)
+            base.execute("DELETE FROM lines WHERE file = ?", (key,))
+            with job.going_on():
+                rows = list(sgfsplit.rows(name))
+                base.executemany(f"INSERT INTO lines VALUES ({', '.join('?' * len(COLUMNS))})", ((key, *row) for row in rows))
+        base.execute("COMMIT")
+
+
+def as_text(name):
+    """The name, or its bytes where it isn't UTF-8."""
+    try:
+        name.encode()
+        return name
+    except UnicodeEncodeError:
+        return os.fsencode(name)
+
+
+def main(job):
+    forms = [form for form in FORMS if form in job.options]
+    if len(forms) > 1:
+        raise sgfsplit.Words(f"{forms[0]} or {forms[1]}, not both")
+    try:
+        {"--csv": as_csv, "--json": as_json, "--sqlite": as_sqlite, None: as_columns}[forms[0] if forms else None](job)
+    except sqlite3.Error as error:
+        raise sgfsplit.Trouble(f"{sgfsplit.shown(job.options['--sqlite'])}: {error}") from error
+
+
+if __name__ == "__main__":
+    sgfsplit.start(main, __doc__, flags=("--csv", "--json"), values=("--sqlite",))

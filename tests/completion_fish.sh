@@ -1,0 +1,20 @@
+#!/usr/bin/env bash
+# What fish offers for the words of the program.
+. "$(dirname "$0")/lib.sh"
+needs fish
+touch game.sgf
+
+# wants WANTED LINE: what is offered for the last word of the line.
+wants() {
+    local want=$1 line=$2 got
+    got=$(HOME=$work fish --no-config -c "source '$top/completion/sgfsplit.fish'; complete -C '$line'" | cut -f 1 | sort | tr '\n' ' ')
+    [ "$got" = "${want:+$want }" ] || failed "offered for '$line': $got"
+}
+
+wants 'count split' 'sgfsplit '
+wants '--after --form --help --limit' 'sgfsplit split --'
+wants 'gtp list sgf' 'sgfsplit split --form '
+wants '--form=gtp --form=list --form=sgf' 'sgfsplit split --form='
+wants '' 'sgfsplit split --limit '
+wants 'game.sgf' 'sgfsplit split --form sgf g'
+wants 'game.sgf' 'sgfsplit count g'

@@ -1,0 +1,82 @@
+#!/usr/bin/env bash
+# The table of a library: columns, CSV, objects and SQLite have the same cells; said again, SQLite has no doubles, and a file that changed
+# or is now refused keeps no old row.
+. "$(dirname "$0")/lib.sh"
+needs python3 sqlite3
+tool=$top/recipes/verdicts.py
+cp -R "$top/examples" games
+printf '(;SZ[2];B[];W[])' > games/over.sgf
+
+cat > want <<'WANT'
+file,place,game,nodes,verdict,black,white,ended,turn,fault,reason
+games/corner.sgf,95,1,4,score,2,1,open,,,
+games/corner.sgf,159,1,5,score,2,2,open,,,
+games/corner.sgf,170,1,4,score,2,1,open,,,
+games/corner.sgf,237,1,3,score,1,1,open,,,
+games/handicap.sgf,53,1,4,score,3,2,open,,,
+games/handicap.sgf,68,1,5,score,4,2,open,,,
+games/illegal.sgf,45,1,3,illegal,,,,1,45,mixed
+games/illegal.sgf,87,1,2,illegal,,,,1,87,two-moves
+games/illegal.sgf,113,1,2,illegal,,,,1,113,bad-setup
+games/illegal.sgf,150,1,2,illegal,,,,1,150,bad-point
+games/illegal.sgf,194,1,4,illegal,,,,3,194,over
+games/illegal.sgf,237,1,2,illegal,,,,1,237,turn
+games/illegal.sgf,273,1,3,illegal,,,,2,273,occupied
+games/illegal.sgf,309,1,3,illegal,,,,1,309,repeat
+games/illegal.sgf,366,2,1,unjudged,,,,,,game
+games/illegal.sgf,390,3,1,unjudged,,,,,,size
+games/ko.sgf,123,1,3,illegal,,,,2,123,repeat
+games/ko.sgf,185,1,5,score,5,7,open,,,
+games/over.sgf,11,1,3,score,0,0,over,,,
+games/two_games.sgf,24,1,3,score,1,1,open,,,
+games/two_games.sgf,32,1,3,score,9,0,open,,,
+games/two_games.sgf,68,2,3,score,2,1,open,,,
+WANT
+"$tool" --csv games > got
+same want got
+"$tool" games | sed 's/  */,/g; s/,-/,/g' > got
+same want got "the table as columns"
+tail -n +2 want > cells
+"$tool" --json games | python3 -c '
+import json, sys
+for line in sys.stdin:
+    print(*("" if cell is None else cell for cell in json.loads(line).values()), sep=",")' > got
+same cells got "the objects"
+"$tool" --json games | head -n 1 > got
+echo '{"file": "games/corner.sgf", "place": 95, "game": 1, "nodes": 4, "verdict": "score", "black": 2, "white": 1, "ended": "open",' \
+    '"turn": null, "fault": null, "reason": null}' > want
+same want got
+
+table() { sqlite3 -csv games.db 'SELECT * FROM lines ORDER BY file, place' | tr -d '\r"'; }
+for _ in 1 2 3; do
+    "$tool" --sqlite games.db games
+    table > got
+    same cells got "the table in SQLite"
+done
+sqlite3 games.db "SELECT typeof(place), typeof(black), typeof(file), count(*) FROM lines WHERE black > white" > got
+echo 'integer|integer|text|6' > want.types
+same want.types got "what the cells are"
+
+# A file that lost a line, one that is refused now, and one that isn't named.
+printf '(;SZ[2];B[aa])' > games/over.sgf
+printf '(' > games/ko.sgf
+if "$tool" --sqlite games.db games/over.sgf games/ko.sgf 2> faults; then failed "a refused file isn't in the status"; fi
+echo 'games/ko.sgf:1:2: input ends too early' > want
+same want faults
+grep -v -e ko.sgf cells | sed 's/over.sgf,11,.*/over.sgf,7,1,2,score,4,0,open,,,/' > want
+table > got
+same want got
+
+# A run that ends before its time leaves the table as it was.
+cp games.db before.db
+mkdir more
+for number in $(seq 200); do cp games/corner.sgf "more/$number.sgf"; done
+timeout -s KILL 0.3 "$tool" --sqlite games.db more games 2> /dev/null || true
+table > got
+same want got "the table after a killed run"
+
+# A comma, a quote and a line feed in a name stay in its cell.
+cp games/over.sgf $'a,"b"\nc.sgf'
+"$tool" --csv $'a,"b"\nc.sgf' | tail -n +2 > got
+printf '"a,""b""\nc.sgf",7,1,2,score,4,0,open,,,\n' > want
+same want got

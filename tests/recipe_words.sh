@@ -1,0 +1,102 @@
+#!/usr/bin/env bash
+# What each tool does with its words, with files that aren't there, with a reader that leaves, with a full device, and without our program.
+. "$(dirname "$0")/lib.sh"
+needs python3 gnugo
+cp "$top/examples/ko.sgf" ko.sgf
+mkdir folder
+cp "$top"/examples/*.sgf folder
+declare -A first=([library]=out [go_on]=rows [files]=lines [openings]=2 [prose]=clean)
+
+# ends STATUS NAME COMMAND..: the command ends so, and says at most one row, which is no traceback.
+ends() {
+    local wanted=$1 name=$2 status=0
+    shift 2
+    "$@" > out.txt 2> err.txt || status=$?
+    [ "$status" = "$wanted" ] || failed "$name: status $status, not $wanted: $(cat err.txt)"
+    [ "$(wc -l < err.txt)" -le 1 ] && ! grep -q Traceback err.txt || failed "$name: $(cat err.txt)"
+}
+
+long=$(printf '%05000d' 0 | tr 0 9)
+tools=0
+for path in "$top"/recipes/*.py; do
+    [ -x "$path" ] || continue
+    tool=$(basename "$path" .py)
+    tools=$((tools + 1))
+    words=(${first[$tool]-})
+    ends 0 "$tool -h" "$path" -h
+    grep -q "^  $tool.py " out.txt && head -n 1 out.txt | grep -q "^$tool.py " || failed "$tool -h has no example"
+    [ "$tool" = prose ] || ends 2 "$tool without words" "$path"
+    ends 2 "$tool with a wrong option" "$path" --nix "${words[@]}" ko.sgf
+    grep -q "^$tool.py: no option --nix" err.txt || failed "$tool says $(cat err.txt)"
+    case $tool in
+        picture) ends 2 'picture of two files' "$path" ko.sgf ko.sgf; ends 2 'a long place' "$path" --line "$long" ko.sgf ;;
+        openings) ends 2 'no number' "$path" ko.sgf folder; ends 2 'no move' "$path" 0 ko.sgf ;;
+        files) ends 2 'a wrong form' "$path" --form=list,sgf lines ko.sgf; ends 2 'no form' "$path" --form ;;
+        parts) ends 2 'a wrong number' "$path" --most 67108865 ko.sgf ;;
+        verdicts) ends 2 'two forms' "$path" --csv --json ko.sgf; ends 3 'no table' "$path" --sqlite ko.sgf ko.sgf ;;
+        go_on) ends 2 'rows of a folder' "$path" rows folder; rm -f rows ;;
+    esac
+    ends 1 "$tool without its file" "$path" "${words[@]}" nix.sgf
+    [ "$(cat err.txt)" = 'nix.sgf: No such file or directory' ] || failed "$tool says $(cat err.txt)"
+    if [ "$tool" != prose ]; then
+        SGFSPLIT=./nix ends 3 "$tool without its program" "$path" "${words[@]}" ko.sgf
+        grep -q "no program ./nix" err.txt || failed "$tool says $(cat err.txt)"
+        SGFSPLIT=/bin/true ends 3 "$tool with another program" "$path" "${words[@]}" ko.sgf
+        grep -q "/bin/true: this is another sgfsplit, perhaps that of Debian's sgf2dg$" err.txt || failed "$tool says $(cat err.txt)"
+    fi
+    # A pipe is read once, and is a file like another; but not of a library, whose files are split elsewhere.
+    mkfifo kp.sgf
+    cat ko.sgf > kp.sgf &
+    case $tool in
+        library) ends 1 'library of a pipe' "$path" out kp.sgf; cat kp.sgf > out.txt ;;
+        *)
+            ends 0 "$tool of a pipe" "$path" "${words[@]}" kp.sgf
+            sed 's/kp/ko/g' out.txt > want
+            rm -rf rows
+            ends 0 "$tool of a file" "$path" "${words[@]}" ko.sgf
+            same want out.txt "what $tool says of a pipe"
+            ;;
+    esac
+    wait
+    rm -rf kp.sgf out rows
+    # A reader that leaves after a byte, with more to come than a pipe holds; and a device that is full.
+    for _ in $(seq 60); do echo folder; done | tr '\n' '\0' > many
+    case $tool in
+        library | files | go_on) ;;
+        prose) head -c 1000000 /dev/zero | { "$path" 2> err.txt; echo $? > status; } | head -c 1 > out.txt ;;
+        picture) { "$path" folder/corner.sgf 2> err.txt; echo $? > status; } | head -c 1 > out.txt ;;
+        *) { "$path" -0 "${words[@]}" < many 2> err.txt; echo $? > status; } | head -c 1 > out.txt ;;
+    esac
+    [ ! -s err.txt ] || case $tool in library | files | go_on) ;; *) failed "$tool | head: $(cat err.txt)" ;; esac
+    [ ! -e status ] || [ "$(cat status)" = 0 ] || failed "$tool | head: status $(cat status)"
+    case $tool in
+        library | files | go_on) ;;
+        openings) ends 3 "$tool on a full device" bash -c '"$0" 2 folder/corner.sgf > /dev/full' "$path" ;;
+        prose) ends 3 'prose on a full device' bash -c '"$0" < ko.sgf > /dev/full' "$path" ;;
+        *) ends 3 "$tool on a full device" bash -c '"$0" "$@" > /dev/full' "$path" "${words[@]}" folder/ko.sgf ;;
+    esac
+    rm -rf out rows lines clean status
+done
+[ "$tools" = 10 ] || failed "$tools tools"
+
+# The program by its name in PATH, at a path with a space, and after a folder that isn't there.
+mkdir 'bin with a space'
+ln -s "$SGFSPLIT" 'bin with a space/sgfsplit'
+"$SGFSPLIT" split ko.sgf > want
+env -u SGFSPLIT PATH="$work/nix:$work/bin with a space:$PATH" "$top/recipes/parts.py" ko.sgf > got
+same want got
+SGFSPLIT='bin with a space/sgfsplit' "$top/recipes/parts.py" ko.sgf > got
+same want got
+
+# Files that can't be read are named, and the others go on.
+printf 'x' > bad.sgf
+mkfifo folder/pipe.sgf
+ln -s nix folder/gone.sgf
+cat > want <<'WANT'
+bad.sgf:1:1: not SGF
+folder/gone.sgf: No such file or directory
+folder/pipe.sgf: not a file
+WANT
+if "$top/recipes/illegal_lines.py" bad.sgf folder > got 2> faults; then failed "the refused files aren't in the status"; fi
+same want faults
+[ "$(wc -l < got)" = 9 ] || failed "the other files have $(wc -l < got) rows"
