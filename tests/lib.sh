@@ -3,7 +3,7 @@
 set -euo pipefail
 top=$(cd "$(dirname "${BASH_SOURCE[0]}")/.." && pwd)
 export SGFSPLIT=${SGFSPLIT:-$top/crates/sgfsplit/out/sgfsplit}
-export LC_ALL=C
+export LC_ALL=C HOME=${HOME:-/} SHELL=${SHELL:-/bin/sh}  # GNU Parallel asks for both, and a bare environment has neither
 PATH=$PATH:/usr/games
 work=$(mktemp -d)
 trap 'rm -rf "$work"' EXIT

@@ -138,12 +138,12 @@ for path, folders, files in os.walk(b".."):
         sys.exit(f"a name was run: {path}, {files}")
 PYTHON
 
-# A machine that is reached as ssh would reach it: by a shell that takes the words together as a command.
+# A machine that is reached as ssh would reach it: by a shell, named in SHELL, that takes the words together as a command.
 cat > ssh <<'SSH'
 #!/bin/sh
 until [ "$1" = -- ]; do shift; done
 shift
-exec sh -c "$*"
+SHELL=/bin/sh exec sh -c "$*"
 SSH
 chmod +x ssh
 PARALLEL_SSH=$work/ssh python3 hostile.py "$top"
