@@ -5,7 +5,7 @@ use Rattle.sgf_lines.specs.declared.options.Form.TheVariants.{List as list_form,
 use Rattle.sgf_lines.specs.declared.options.Options.{Options}
 use Rattle.sgf_lines_c.specs.declared.asked.Asked.{Asked}
 
--- the form with this number; none where no form has it
+-- the form with this number; None if no form has it
 abbrev pub form_of : ℕ → Option Form
 form_of number =
     if number == 0 then Some list_form else (if number == 1 then Some sgf_form else (if number == 2 then Some gtp_form else None))
@@ -14,7 +14,7 @@ form_of number =
 abbrev pub given : Bool → ℕ → Option ℕ
 given counts number = if counts then Some number else None
 
--- the options that are asked for; none where no form has the number
+-- the options of the run; None if no form has the number
 abbrev pub options_of : Asked → Option Options
 options_of asked =
     option_map (λ form. record { form = form; after = given asked.has_after asked.after; limit = given asked.has_limit asked.limit }) (form_of asked.form)

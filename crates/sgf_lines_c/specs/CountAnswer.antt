@@ -1,4 +1,4 @@
--- The answer of a count: what it says of the text, and what is told.
+-- What a count reports, and what that says of the text.
 use Rattle.std.specs.Prelude.{◌≡◌, ℕ, ◌<◌, ◌≤◌, List, length}
 use Rattle.sgf_tree.specs.Tree.{Games, game_count, node_count}
 use Rattle.sgf_tree.specs.Spelling.{Spells}
@@ -18,7 +18,7 @@ told_of games = record { games = game_count games; nodes = node_count games; lin
 abbrev pub fault_told : ℕ → CountAnswer
 fault_told at = record { games = 0; nodes = 0; lines = 0; at = at }
 
--- what each status says
+-- what each status says of the text and the answer
 abbrev pub Says : List ℕ → CountAnswer → Status → Type 0
 Says text answer Done = (length text ≤ MAX_LENGTH) × ((games : Games) × Spells games text × (answer ≡ told_of games))
 Says text answer NotSgf = (length text ≤ MAX_LENGTH) × IsFaultyAt text answer.at × (answer.at < length text) × (answer ≡ fault_told answer.at)
@@ -29,7 +29,7 @@ Says text answer UnknownForm = ⊥
 Says text answer RoomTooSmall = ⊥
 Says text answer OutOfMemory = answer ≡ fault_told 0
 
--- The answer of a count, which ended with this number.
+-- The answer of a count that returned this number.
 pub record IsCount (text : List ℕ) (answer : CountAnswer) (number : ℕ) : Type 0 where
   pub status : Status
   pub number_is : number ≡ number_of status

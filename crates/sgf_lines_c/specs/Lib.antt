@@ -1,4 +1,4 @@
--- What the contracts of the two calls reach.
+-- What the contracts of the two calls cite.
 pub mod Status
 pub mod Asked
 pub mod SplitAnswer

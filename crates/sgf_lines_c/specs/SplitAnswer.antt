@@ -1,4 +1,4 @@
--- The answer of a split: what it says of the text, what stands in the caller's room, and what is told.
+-- What a split reports, what that says of the text, and what the caller's room holds.
 use Rattle.std.specs.Prelude.{◌≡◌, ℕ, ◌<◌, ◌≤◌, ◌⊎◌, List, ◌++◌, length, drop, Option, Some, None}
 use Rattle.sgf_tree.specs.Refusal.{IsFaultyAt}
 use Rattle.sgf_lines.specs.Lines.{Line}
@@ -15,11 +15,11 @@ use Rattle.sgf_lines_c.specs.Status.{number_of}
 abbrev pub told : ℕ → ℕ → ℕ → Answer
 told lines bytes at = record { lines = lines; bytes = bytes; at = at }
 
--- what is told of the records of these lines
+-- what is reported of the records of these lines
 abbrev pub told_of : Options → List Line → Answer
 told_of options page = told (length page) (length (output options.form page)) 0
 
--- the records of the page, which the room has after the call: they stand at its front, and the rest of it is as it was
+-- After the call the page's records are at the front of the room, and the rest of the room is unchanged.
 pub record IsDone (options : Options) (text old_room new_room : List ℕ) (answer : Answer) : Type 0 where
   pub page : List Line
   pub page_is : HasPage options text page
@@ -36,12 +36,12 @@ pub record NeedsRoom (options : Options) (text room : List ℕ) (answer : Answer
   pub too_small : length room < length (output options.form page)
   pub told_is : answer ≡ told_of options page
 
--- the page has at least as many lines as there was memory for; or the text wasn't split yet
+-- The page has at least as many lines as there was memory for; or the text wasn't split yet, and the count is 0.
 abbrev pub IsPartOf : Options → List ℕ → ℕ → Type 0
 IsPartOf options text count =
     ((length text ≤ MAX_LENGTH) × ((page : List Line) × HasPage options text page × (count ≤ length page))) ⊎ (count ≡ 0)
 
--- What each status says, of the options of a run.
+-- What each status says, given the options of a run.
 abbrev pub Says : Options → List ℕ → List ℕ → List ℕ → Answer → Status → Type 0
 Says options text old_room new_room answer Done = IsDone options text old_room new_room answer
 Says options text old_room new_room answer NotSgf =
@@ -56,12 +56,12 @@ Says options text old_room new_room answer RoomTooSmall = NeedsRoom options text
 Says options text old_room new_room answer OutOfMemory =
     IsPartOf options text answer.lines × (answer ≡ told answer.lines 0 0) × (new_room ≡ old_room)
 
--- What each status says, of what a caller asked for: only where that names no form, the form is unknown.
+-- What each status says, given what a caller asked for. The status is `UnknownForm` exactly if the number names no form.
 abbrev pub Answers : Option Options → List ℕ → List ℕ → List ℕ → Answer → Status → Type 0
 Answers None text old_room new_room answer status = (status ≡ UnknownForm) × (answer ≡ told 0 0 0) × (new_room ≡ old_room)
 Answers (Some options) text old_room new_room answer status = Says options text old_room new_room answer status
 
--- The answer of a split, which ended with this number.
+-- The answer of a split that returned this number.
 pub record IsSplit (asked : Asked) (text old_room new_room : List ℕ) (answer : Answer) (number : ℕ) : Type 0 where
   pub status : Status
   pub number_is : number ≡ number_of status

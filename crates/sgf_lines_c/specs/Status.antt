@@ -1,4 +1,4 @@
--- How a call ended, as the number that a caller in C gets.
+-- The number that a caller in C gets for each status.
 use Rattle.std.specs.Prelude.{ℕ}
 use Rattle.sgf_lines_c.specs.declared.status.Status.{Status}
 use Rattle.sgf_lines_c.specs.declared.status.Status.TheVariants.{Done, NotSgf, EndsEarly, TooLong, NoSuchLine, UnknownForm, RoomTooSmall, OutOfMemory}

@@ -1,30 +1,32 @@
-//! What is told of a split and of a count.
+//! What a split and a count report to the caller.
 
 ghost use Rattle.std.specs.Prelude.{◌≡◌};
 ghost use Rattle.sgf_lines_c.specs.SplitAnswer.{told};
 ghost use Rattle.sgf_lines_c.specs.CountAnswer.{fault_told};
 
-/// What is told of a split. A number that its status has no use for is 0.
+/// What a split reports. A number without a meaning under the status is 0.
 #[repr(C)]
 #[derive(Clone, Copy)]
 pub struct Answer {
-    /// How many lines the records are of; or, for want of memory, how many of them there was memory for.
+    /// After `Done` and `RoomTooSmall`: how many lines the records are of. After `OutOfMemory`: for how many of them there was
+    /// memory.
     pub lines: u64,
-    /// How many bytes the records have.
+    /// After `Done` and `RoomTooSmall`: how many bytes the records have.
     pub bytes: u64,
-    /// The offset of the first faulty byte, from 0; or the place that no line has.
+    /// After `NotSgf` and `EndsEarly`: the offset in bytes, from 0, of the first faulty byte, or the length of the text. After
+    /// `NoSuchLine`: the place that was asked for.
     pub at: u64,
 }
 
 impl Answer {
-    /// Tells nothing.
+    /// An answer without numbers.
     pub(crate) fn nothing() -> Answer
         ensures { result ≡ told 0 0 0 }
     {
         Answer::at(0)
     }
 
-    /// Tells of a place.
+    /// An answer with a place alone.
     pub(crate) fn at(at: u64) -> Answer
         ensures { result ≡ told 0 0 at }
     {
@@ -35,7 +37,7 @@ impl Answer {
         }
     }
 
-    /// Tells of so many lines.
+    /// An answer with a number of lines alone.
     pub(crate) fn lines(lines: u64) -> Answer
         ensures { result ≡ told lines 0 0 }
     {
@@ -47,7 +49,7 @@ impl Answer {
     }
 }
 
-/// What is told of a count. A number that its status has no use for is 0.
+/// What a count reports. A number without a meaning under the status is 0.
 #[repr(C)]
 #[derive(Clone, Copy)]
 pub struct CountAnswer {
@@ -57,12 +59,12 @@ pub struct CountAnswer {
     pub nodes: u64,
     /// The number of lines of play.
     pub lines: u64,
-    /// The offset of the first faulty byte, from 0.
+    /// After `NotSgf` and `EndsEarly`: the offset in bytes, from 0, of the first faulty byte, or the length of the text.
     pub at: u64,
 }
 
 impl CountAnswer {
-    /// Tells of a place.
+    /// An answer with a place alone.
     pub(crate) fn at(at: u64) -> CountAnswer
         ensures { result ≡ fault_told at }
     {

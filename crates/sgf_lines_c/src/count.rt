@@ -1,4 +1,4 @@
-//! Counting what a text in memory holds.
+//! Counting the games, nodes and lines of a text in memory.
 
 ghost use Rattle.std.specs.Prelude.{ℕ, List, Err};
 ghost use Rattle.sgf_lines_c.specs.CountAnswer.{IsCount, Says};
@@ -9,11 +9,12 @@ use crate::status::Status;
 use sgf_lines::{RunFault, SliceSource, count};
 use std::alloc::Global;
 
-/// Counts the games, nodes and lines of the collection that the text spells (SGF FF[4], EBNF), and answers the number of its status.
+/// Counts the games, nodes and lines of the collection that the text spells (SGF FF[4], EBNF). Returns the number of a `Status`.
 ///
-/// - `Done`: `games`, `nodes` and `lines`.
-/// - `NotSgf`, `EndsEarly`: `at` is the offset of the first faulty byte, or the length of the text.
-/// - `TooLong`, `OutOfMemory`: no number.
+/// - `Done`: `games`, `nodes` and `lines` are the counts.
+/// - `NotSgf`: `at` is the offset in bytes, from 0, of the first faulty byte.
+/// - `EndsEarly`: `at` is the length of the text.
+/// - `TooLong`, `OutOfMemory`: every number is 0.
 #[unsafe(no_mangle)]
 pub extern "C" fn sgf_lines_count(alloc: Global, text: &[u8], answer: &mut CountAnswer) -> u32
     ensures { IsCount text.now answer.new result }
@@ -23,7 +24,7 @@ pub extern "C" fn sgf_lines_count(alloc: Global, text: &[u8], answer: &mut Count
     status.number()
 }
 
-/// Counts what a text holds.
+/// Counts the games, nodes and lines of a text.
 fn count_text(alloc: Global, text: &[u8]) -> (Status, CountAnswer)
     ensures { Says text.now result.1 result.0 }
 {
@@ -42,7 +43,7 @@ fn count_text(alloc: Global, text: &[u8]) -> (Status, CountAnswer)
     }
 }
 
-/// What is told of a count that failed whose source is a text in memory, which never fails.
+/// What a failed count reports. The source is a text in memory, which never fails.
 fn refusal(fault: RunFault) -> (Status, CountAnswer)
     ensures { (text : List ℕ) → IsCountOf text (Err fault) → Says text result.1 result.0 }
 {

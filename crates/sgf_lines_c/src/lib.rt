@@ -1,14 +1,14 @@
 //! The lines of play of an SGF collection, for programs in C and in what calls C.
 //!
-//! A thin static library over `sgf_lines`. `include/sgf_lines.h` declares what it exports, and says it in C's terms.
-//! It keeps nothing between two calls, so any number of threads may call it at once. It opens nothing and writes nothing but what the
-//! caller hands in for writing. Memory comes from the C library's `malloc`, and all of it is given back before a call returns.
+//! A thin static library over `sgf_lines`. `include/sgf_lines.h` declares what it exports, and describes it in C's terms.
+//! It keeps nothing between two calls, so any number of threads may call it at once. It opens nothing, and writes only to what
+//! the caller passes for writing. Memory comes from the C library's `malloc`, and all of it is freed before a call returns.
 //!
 //! | Module | What it has |
 //! |---|---|
 //! | `split`, `count` | the two calls |
 //! | `asked` | what a caller asks for |
-//! | `answer` | what is told of a split and of a count |
+//! | `answer` | what a split and a count report |
 //! | `status` | how a call ended |
 #![tactic(auto)]
 

@@ -11,17 +11,19 @@ use crate::status::Status;
 use sgf_lines::{Options, RunFault, SliceSource, WriteSink, split};
 use std::alloc::Global;
 
-/// Writes the records of the lines that are asked for, of the collection that the text spells (SGF FF[4], EBNF), to the front of
-/// the room, and answers the number of its status.
+/// Splits the collection that the text spells (SGF FF[4], EBNF). Writes the records of the lines asked for to the front of the
+/// room, and returns the number of a `Status`.
 ///
-/// - `Done`: the records stand in the room. `lines` and `bytes` say of how many lines they are, and how many bytes they have.
-/// - `RoomTooSmall`: the same two numbers, so `bytes` says how much room they need.
-/// - `NotSgf`, `EndsEarly`: `at` is the offset of the first faulty byte, or the length of the text.
-/// - `TooLong`, `UnknownForm`: no number.
+/// - `Done`: the records are at the front of the room, and the rest of it is unchanged. `lines` is the number of their lines,
+///   `bytes` their length.
+/// - `RoomTooSmall`: the same two numbers. So `bytes` is the room that the records need.
+/// - `NotSgf`: `at` is the offset in bytes, from 0, of the first faulty byte.
+/// - `EndsEarly`: `at` is the length of the text.
+/// - `TooLong`, `UnknownForm`: every number is 0.
 /// - `NoSuchLine`: `at` is the place that was asked for.
-/// - `OutOfMemory`: there was memory for the records of the first `lines` lines, or it was refused before (0).
+/// - `OutOfMemory`: there was memory for the records of the first `lines` lines; 0 if it was refused before the first.
 ///
-/// After each status but `Done` the room is as it was.
+/// After each status but `Done` the room is unchanged.
 #[unsafe(no_mangle)]
 pub extern "C" fn sgf_lines_split(
     alloc: Global,
@@ -40,7 +42,7 @@ pub extern "C" fn sgf_lines_split(
     status.number()
 }
 
-/// Writes the records of the lines that the options ask for to the front of the room.
+/// Writes the records of the lines that the options select to the front of the room.
 fn split_into(alloc: Global, text: &[u8], options: &Options, room: &mut [u8]) -> (Status, Answer)
     ensures { Says options.now text.now room.old room.new result.1 result.0 }
 {
@@ -52,7 +54,7 @@ fn split_into(alloc: Global, text: &[u8], options: &Options, room: &mut [u8]) ->
     }
 }
 
-/// Puts the records of so many lines at the front of the room, if they fit.
+/// Puts the records at the front of the room if they fit. `lines` is the number of their lines.
 fn put(records: &[u8], lines: u64, room: &mut [u8]) -> (Status, Answer)
     ensures { Puts records.now room.old room.new result.0 × (result.1 ≡ told lines (length records.now) 0) }
 {
@@ -69,8 +71,8 @@ fn put(records: &[u8], lines: u64, room: &mut [u8]) -> (Status, Answer)
     (Status::Done, told)
 }
 
-/// What is told of a run that failed whose source is a text in memory and whose sink is a vector. Such a source never fails,
-/// and such a sink only where memory is refused.
+/// What a failed run reports. Its source is a text in memory, which never fails. Its sink is a vector, which fails only if memory
+/// is refused.
 fn refusal(fault: RunFault) -> (Status, Answer)
     ensures { (options : Options) → (text taken room : List ℕ)
         → IsRunOf options text taken (Err fault) → Says options text room room result.1 result.0 }

@@ -6,21 +6,21 @@ ghost use Rattle.sgf_lines_c.specs.Status.{number_of};
 /// How a call ended.
 #[derive(Clone, Copy)]
 pub enum Status {
-    /// All was done that was asked.
+    /// The call did all that was asked.
     Done,
-    /// The text is no collection (SGF FF[4], EBNF), and some byte of it is the first that none can have there.
+    /// The text isn't a collection (SGF FF[4], EBNF), and has a first byte that no collection can have there.
     NotSgf,
-    /// The text is no collection, and each of its bytes may stand there: it ends too early.
+    /// The text isn't a collection, but some collection begins with it: it ends too early.
     EndsEarly,
     /// The text has more than `sgf_lines::MAX_LENGTH` bytes.
     TooLong,
-    /// No line ends at the place that was asked for.
+    /// No line has the place that was asked for.
     NoSuchLine,
     /// No form has the number that was asked for.
     UnknownForm,
     /// The records have more bytes than the room.
     RoomTooSmall,
-    /// More memory was wanted and refused.
+    /// Memory was refused.
     OutOfMemory,
 }
 
