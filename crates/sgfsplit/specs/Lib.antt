@@ -1,2 +1,2 @@
--- What the contracts of the program say.
+-- What the contracts of the program cite.
 pub mod Program
