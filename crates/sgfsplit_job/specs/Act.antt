@@ -1,4 +1,4 @@
--- What doing a job comes to: the bytes read and written, the status, and the row on standard error.
+-- What doing a job does: the bytes read and written, the status, and the row on standard error.
 use Rattle.std.specs.Prelude.{◌≡◌, ◌⊎◌, ℕ, ◌+◌, Bool, true, false, List, ◌++◌, Option, Some, None, Result, Ok, Err, String}
 use Rattle.std.specs.declared.alloc.Global.{Global}
 use Rattle.std.specs.Result.{result_err}
@@ -15,48 +15,48 @@ use Rattle.sgfsplit_job.specs.declared.fault.Fault.TheVariants.{Run}
 use Rattle.sgfsplit_job.specs.declared.request.Job.{Job}
 use Rattle.sgfsplit_job.specs.declared.request.Job.TheVariants.{Split, Count}
 
--- the counts are written where the counting gave them
+-- the counts are written if the counting gave them; else its fault is the fault, and nothing is written
 abbrev pub WritesCounts : Result Counts RunFault → SinkState → SinkState → Option RunFault → Type 0
 WritesCounts (Ok counts) output new_output fault =
     (written : Result (Unit {0}) RunFault) × IsWriting (counts_row counts) output new_output written × (fault ≡ result_err written)
 WritesCounts (Err met) output new_output fault = (new_output ≡ output) × (fault ≡ Some met)
 
--- A job was done over a source and a sink, whole or up to a fault: a split has the answer of a run, by its options, and a
--- count that of a count.
+-- A job was done over a source and a sink, to its end or up to a fault. A split has the result of a run with its options, and a
+-- count has the result of a count.
 abbrev pub DoesJob : Job → SourceState → SourceState → SinkState → SinkState → Option RunFault → Type 0
 DoesJob (Split options file) source new_source output new_output fault =
     (result : Result ℕ RunFault) × IsRun options source new_source output new_output result × (fault ≡ result_err result)
 DoesJob (Count file) source new_source output new_output fault =
     (counted : Result Counts RunFault) × IsCount source new_source counted × WritesCounts counted output new_output fault
 
--- a sink was flushed, whatever that answered: it delivered all that it had taken, or failed
+-- a sink was flushed, whatever the flush returned: it delivered all that it had taken, or it failed
 abbrev pub FlushesAnyway : SinkState → SinkState → Type 0
 FlushesAnyway old new = Delivers old new ⊎ TakesNothing old new
 
--- after want of memory the sink is flushed; else nothing more is done with it
+-- after refused memory the sink is flushed; else nothing more is done with it
 abbrev pub FlushesAfter : Option RunFault → SinkState → SinkState → Type 0
 FlushesAfter (Some (Memory lines)) old new = FlushesAnyway old new
 FlushesAfter _ old new = new ≡ old
 
--- a sink took the text and delivered it, or took a front of it where it failed
+-- A sink took the text and delivered it; or it took a prefix of the text, perhaps all of it, and failed.
 abbrev pub TakesText : List ℕ → SinkState → SinkState → Bool → Type 0
 TakesText text old new true = Appends old.taken new.taken text × (new.failures ≡ old.failures) × HasDelivered new
 TakesText text old new false =
     (front : List ℕ) × (rest : List ℕ) × (text ≡ front ++ rest) × Appends old.taken new.taken front × (new.failures ≡ old.failures + 1)
 
--- how a fault is told: by its status, and its row on the sink for faults
+-- how a fault is reported: by its status, and by its row on the sink for faults
 pub record Tells (fault : Fault) (old new : SinkState) (status : ℕ) : Type 0 where
   pub status_is : status ≡ status_of fault
   pub row : (whole : Bool) × TakesText (fault_row fault) old new whole
 
--- how a run's end is told: with no fault by status 0 and no row
+-- how the end of a run is reported: if there is no fault, by status 0 and no row
 abbrev pub TellsEnd : Option RunFault → SinkState → SinkState → ℕ → Type 0
 TellsEnd None old new status = (status ≡ 0) × (new ≡ old)
 TellsEnd (Some fault) old new status = Tells (Run fault) old new status
 
--- A job was done: what it read and wrote, how its end was told, and that with status 0 all that it wrote is delivered. An end that failed
--- fails for good, and each failure is counted: so the counts say that nothing was asked of the source or the output after its failure, but
--- for the flush that follows want of memory.
+-- A job was done: what it read and wrote, how its end was reported, and that with status 0 all that it wrote is delivered. A
+-- source or a sink that failed fails for good, and each failure is counted. So the counts say that nothing was asked of the
+-- source or the output after its failure. The one exception is the flush after refused memory.
 pub record IsAct (job : Job) (source new_source : SourceState) (output new_output faults new_faults : SinkState) (status : ℕ) : Type 0 where
   pub fault : Option RunFault
   pub written : SinkState
@@ -67,8 +67,8 @@ pub record IsAct (job : Job) (source new_source : SourceState) (output new_outpu
   pub tells : TellsEnd fault faults new_faults status
   pub delivers : status ≡ 0 → HasDelivered new_output
 
--- A text of the command line's parser was shown: help on the output, with status 0, or where the output failed as a failed write; what is
--- wrong with the words on the sink for faults, with status 2, also where that failed. Or memory was wanted for it.
+-- Clap's text was shown. Help goes to the output, with status 0; if the output fails, that is reported as a failed write. An
+-- error about the words goes to the sink for faults, with status 2, even if that sink fails. Or memory for the text was refused.
 abbrev pub Shows : SinkState → SinkState → SinkState → SinkState → ℕ → Type 0
 Shows output new_output faults new_faults status =
     ((text : List ℕ) × TakesText text output new_output true × (new_faults ≡ faults) × (status ≡ 0))
@@ -76,7 +76,7 @@ Shows output new_output faults new_faults status =
     ⊎ ((text : List ℕ) × (whole : Bool) × TakesText text faults new_faults whole × (new_output ≡ output) × (status ≡ 2))
     ⊎ ((new_output ≡ output) × Tells (Run (Memory 0)) faults new_faults status)
 
--- the file that a job names
+-- the file that a job names; None for standard input
 abbrev pub job_file : Job → Option (String Global)
 job_file (Split options file) = file
 job_file (Count file) = file

@@ -13,7 +13,7 @@ FormNames = Bor (List (Bor (List ℕ)))
 abbrev pub names_of : FormNames → List (List ℕ)
 names_of names = map (λ name. name.now) names.now
 
--- `--form FORM`: one of these names, and `list` where it isn't given
+-- `--form FORM`: one of these names; `list` if it isn't given
 abbrev pub form_rule : FormNames → Rule
 form_rule names = record (new_rule (codes "form")) {
   long = Some (codes "form");
@@ -22,7 +22,7 @@ form_rule names = record (new_rule (codes "form")) {
   defaults = codes "list" ∷ [];
 }
 
--- an option that takes a number of 64 bits
+-- an option that takes a 64-bit number
 abbrev pub number_rule : List ℕ → Rule
 number_rule name = record (new_rule name) {
   long = Some name;
@@ -34,7 +34,7 @@ number_rule name = record (new_rule name) {
 abbrev pub file_rule : Rule
 file_rule = record (new_rule (codes "file")) { value_names = 1 }
 
--- `sgfsplit`, which wants a subcommand
+-- `sgfsplit`, which needs a subcommand
 abbrev pub program_alone : App
 program_alone = on_top (λ s. record s { subcommand_required = true }) (new_app (codes "sgfsplit"))
 
@@ -52,7 +52,7 @@ count_app = with_rule (new_app (codes "count")) file_rule
 abbrev pub program_app : FormNames → App
 program_app names = with_subcommand (with_subcommand program_alone (split_app names).top) count_app.top
 
--- the forms that `--form` takes
+-- the names that `--form` takes
 abbrev pub forms : List (List ℕ)
 forms = codes "list" ∷ codes "sgf" ∷ codes "gtp" ∷ []
 

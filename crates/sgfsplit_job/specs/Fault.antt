@@ -1,12 +1,12 @@
--- Why the program ends with another status than 0: the status, and the row on standard error.
+-- Why the program ends with a status other than 0: the status, and the row on standard error.
 use Rattle.std.specs.Prelude.{ℕ, ◌++◌, ◌==◌, List, codes, decimal, if◌then◌else◌}
 use Rattle.sgf_lines.specs.Answer.{MAX_LENGTH}
 use Rattle.sgf_lines.specs.declared.fault.RunFault.TheVariants.{Read, TooLong, NotSgf, NoSuchLine, Write, Memory}
 use Rattle.sgfsplit_job.specs.declared.fault.Fault.{Fault}
 use Rattle.sgfsplit_job.specs.declared.fault.Fault.TheVariants.{Open, NotUtf8, Run}
 
--- 1 where the input is refused or no line has the place that is asked for, 2 where a word isn't UTF-8, 3 where FILE can't be opened or a read, a write or
--- the flush failed, 4 for want of memory
+-- 1: the input is refused, or no line has the place that was asked for. 2: a word isn't UTF-8. 3: FILE can't be opened, or a
+-- read, a write or the flush failed. 4: memory was refused.
 abbrev pub status_of : Fault → ℕ
 status_of Open = 3
 status_of NotUtf8 = 2

@@ -35,12 +35,12 @@ IsNameWord (first ∷ rest) = first ≢ hyphen
 abbrev pub IsFileWord : Word → Type 0
 IsFileWord word = IsNameWord word ⊎ (word ≡ codes "-")
 
--- the file that FILE names: none, for standard input, where there is no FILE or it is `-`
+-- the file that FILE names: None, for standard input, if there is no FILE or it is `-`
 abbrev pub file_of : Option Word → Option Word
 file_of None = None
 file_of (Some word) = if bytes_eq word (codes "-") then None else Some word
 
--- what stands after `split`: each option there or not, and FILE or none
+-- what follows `split`: each option or none, and FILE or none
 pub record SplitWords : Type 0 where
   pub form : Option Form
   pub after : Option Word
@@ -52,7 +52,7 @@ pub record ArePlainWords (words : SplitWords) : Type 0 where
   pub limit : IfSome words.limit IsNumberWord
   pub file : IfSome words.file IsFileWord
 
--- an option and its value, where it is given
+-- an option and its value; nothing if it isn't given
 abbrev pub option_words : Word → Option Word → List Word
 option_words option None = []
 option_words option (Some value) = option ∷ value ∷ []
@@ -61,7 +61,7 @@ abbrev pub file_words : Option Word → List Word
 file_words None = []
 file_words (Some file) = file ∷ []
 
--- a name of the program, `split`, the options in this order, FILE
+-- the program's name, `split`, the options in this order, FILE
 abbrev pub split_words : Word → SplitWords → List Word
 split_words name words =
     name ∷ codes "split"
@@ -69,11 +69,11 @@ split_words name words =
     ++ (option_words (codes "--after") words.after
     ++ (option_words (codes "--limit") words.limit ++ file_words words.file)))
 
--- a name of the program, `count`, FILE
+-- the program's name, `count`, FILE
 abbrev pub count_words : Word → Option Word → List Word
 count_words name file = name ∷ codes "count" ∷ file_words file
 
--- the options that the words give: `list` where no form is named
+-- the options that the words give; the form is `list` if none is named
 abbrev pub options_of : SplitWords → Options
 options_of words = record {
   form = unwrap_or words.form form.List;
@@ -81,12 +81,12 @@ options_of words = record {
   limit = option_map (digits_value 10) words.limit;
 }
 
--- the job is to split the file of this name by these options
+-- the job is to split the file with this name, by these options
 abbrev pub SplitsBy : Options → Option Word → Job → Type 0
 SplitsBy options file (Split o f) = (o ≡ options) × (option_map string_bytes f ≡ file)
 SplitsBy options file (Count f) = ⊥
 
--- the job is to count the file of this name
+-- the job is to count the file with this name
 abbrev pub CountsFile : Option Word → Job → Type 0
 CountsFile file (Split o f) = ⊥
 CountsFile file (Count f) = option_map string_bytes f ≡ file

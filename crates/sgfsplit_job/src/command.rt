@@ -13,10 +13,10 @@ ghost use Rattle.sgfsplit_job.specs.CommandLine.{FormNames, names_of, forms, for
 use clap::{Arg, Command, value_parser};
 use std::alloc::{AllocError, Global};
 
-/// The forms of a record that `--form` takes.
+/// The names that `--form` takes.
 const FORMS: [&str; 3] = ["list", "sgf", "gtp"];
 
-/// What stands after the list of commands in the program's help. Its last row has the version, as the file VERSION.
+/// The text after the list of commands in the program's help. Its last row has the version of the file VERSION.
 const EXAMPLE: &str = "\
 Example:
   sgfsplit split --form sgf joseki.sgf > lines.sgf
@@ -31,7 +31,7 @@ memory.
 
 sgfsplit 0.2";
 
-/// What stands after the options in the help of `split`.
+/// The text after the options in the help of `split`.
 const SPLIT_EXAMPLE: &str = "\
 Forms:
   list  a row for each line: PLACE GAME NODES VERDICT
@@ -67,7 +67,7 @@ the comments of a file from elsewhere away before an engine reads the script:
   sgfsplit split --form gtp game.sgf | grep -v '^#' | gnugo --mode gtp
 Escape sequences for terminals pass through the sgf and gtp forms.";
 
-/// What stands after the options in the help of `count`.
+/// The text after the options in the help of `count`.
 const COUNT_EXAMPLE: &str = "\
 Example:
   sgfsplit count joseki.sgf
@@ -133,7 +133,7 @@ fn form_option<'a>(alloc: Global) -> Arg<'a>
         .value_parser(FORMS.as_slice())
 }
 
-/// An option that takes a number of 64 bits.
+/// An option that takes a 64-bit number.
 fn number_option<'a>(alloc: Global, name: &'a str, value_name: &'a str, help: &'a str) -> Arg<'a>
     ensures rule { rule_of result ≡ number_rule name.entry.now }
     ensures local { result.global ≡ false }

@@ -1,11 +1,11 @@
-//! Why the program ends with another status than 0: the status, and the row on standard error.
+//! Why the program ends with a status other than 0: the status, and the row on standard error.
 
 ghost use Rattle.std.specs.Prelude.{◌≡◌, ◌<◌, ◌≤◌, ◌+◌, ◌++◌, length};
 
 use crate::short_text::ShortText;
 use sgf_lines::{MAX_LENGTH, RunFault, Sink};
 
-/// Why the program ends with another status than 0.
+/// Why the program ends with a status other than 0.
 #[derive(Clone, Copy, Debug, PartialEq, Eq)]
 pub enum Fault {
     /// FILE can't be opened.
@@ -17,14 +17,18 @@ pub enum Fault {
 }
 
 impl Fault {
-    /// Want of memory before anything was written.
+    /// Memory was refused before anything was written.
     pub const OUT_OF_MEMORY: Fault = Fault::Run(RunFault::Memory { lines: 0 });
 
     ghost use Rattle.sgfsplit_job.specs.Fault.{status_of, message_of, fault_row};
     ghost use Rattle.sgfsplit_job.specs.inner.ShortText.{short_text, number_text};
 
-    /// The exit status: 1 where the input is refused or no line has the place that is asked for, 2 where a word isn't UTF-8, 3 where FILE can't be
-    /// opened or a read, a write or the flush failed, 4 for want of memory.
+    /// The exit status:
+    ///
+    /// - 1: the input is refused, or no line has the place that was asked for.
+    /// - 2: a word isn't UTF-8.
+    /// - 3: FILE can't be opened, or a read, a write or the flush failed.
+    /// - 4: memory was refused.
     pub fn status(&self) -> u8
         ensures { result ≡ status_of self.now }
     {

@@ -1,8 +1,8 @@
-//! The job of `sgfsplit`, which the program does between its streams: a collection is split into its lines of play, or counted.
+//! The jobs of `sgfsplit`: a collection is split into its lines of play, or counted. The program does them between its streams.
 //!
-//! - `command` has the command line as clap sees it, `words` reads the job from the words, `request` is what they ask for.
-//! - `run` does a job over a source and two sinks, and answers the status.
-//! - `fault` has the status and the row of each fault, `short_text` builds such a row without memory.
+//! - `command` describes the command line to clap. `words` reads the job from the words. `request` has the types of jobs.
+//! - `run` does a job over a source and two sinks, and returns the status.
+//! - `fault` has the status and the row of each fault. `short_text` builds such a row without allocating memory.
 #![tactic(auto)]
 
 mod command;

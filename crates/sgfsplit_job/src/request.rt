@@ -8,7 +8,7 @@ use clap::Error;
 use sgf_lines::Options;
 use std::alloc::AllocError;
 
-/// What the words ask for. A file is named by its path, and none is standard input.
+/// What the words ask for. A file is named by its path; None is standard input.
 #[derive(Debug, Drop)]
 pub enum Job {
     /// Write the lines of play of a collection.
@@ -23,7 +23,7 @@ pub enum Job {
 }
 
 impl Job {
-    /// The name of the file; none for standard input.
+    /// The path of the file; None for standard input.
     pub fn file(&self) -> Option<&str>
         ensures { option_map (λ name. name.now) result ≡ option_map string_bytes (job_file self.now) }
     {
@@ -41,9 +41,9 @@ impl Job {
 /// Why there is no job.
 #[derive(Debug, Drop)]
 pub enum JobFault {
-    /// The words are none of the program's, or ask for help: clap's text and status.
+    /// The words aren't a job of the program, or ask for help. The error has clap's text and status.
     Words(Error),
-    /// More memory was wanted and refused.
+    /// Memory was refused.
     Memory,
 }
 

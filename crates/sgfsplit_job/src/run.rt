@@ -1,4 +1,4 @@
-//! Doing a job, and showing what the command line's parser says: what comes in, what goes out, the status, and the row on standard error.
+//! Doing a job, and showing clap's text: what is read and written, the exit status, and the row on standard error.
 
 ghost use Rattle.std.specs.Prelude.{◌≡◌, ◌<◌, ◌+◌, ℕ, Some, OnOk};
 ghost use Rattle.std.specs.Result.{result_err};
@@ -14,11 +14,13 @@ use clap::Error;
 use sgf_lines::{RunFault, Sink, Source, count, split, write_counts};
 use std::alloc::Global;
 
-/// Does a job, tells its fault, if there is one, and answers the exit status.
+/// Does a job, reports its fault if there is one, and returns the exit status.
 ///
-/// With status 0 the output has delivered all that it took. Else it holds what was written before the fault; after want of memory it is
-/// flushed, whatever that answers, so that whole records are delivered.
-/// The row of a fault goes to `faults`, which is flushed, and with status 0 none does; where `faults` fails, the status is the same.
+/// With status 0 the output has delivered all that it took, and `faults` is unchanged. With another status the output holds what
+/// was written before the fault. After refused memory it is flushed, whatever the flush returns: whole records are then
+/// delivered.
+///
+/// The row of a fault goes to `faults`, which is flushed. If `faults` fails, the status is the same.
 pub fn act<S: Source, T: Sink, E: Sink>(
     alloc: Global,
     job: &Job,
@@ -41,7 +43,7 @@ pub fn act<S: Source, T: Sink, E: Sink>(
     }
 }
 
-/// Does the job over the source and the output, whole or up to a fault.
+/// Does the job over the source and the output, to its end or up to a fault.
 fn do_job<S: Source, T: Sink>(
     alloc: Global,
     job: &Job,
@@ -68,7 +70,7 @@ fn do_job<S: Source, T: Sink>(
     }
 }
 
-/// After want of memory, flushes the output, whatever that answers. After another fault it leaves it alone.
+/// After refused memory, flushes the output, whatever the flush returns. After another fault, leaves it alone.
 fn flush_after<T: Sink>(fault: &RunFault, output: &mut T)
     requires { (lines : ℕ) → fault.now ≡ Memory lines → (T.state output.old).failures < u64.MAX }
     ensures { FlushesAfter (Some fault.now) (T.state output.old) (T.state output.new) }
@@ -85,8 +87,8 @@ fn flush_after<T: Sink>(fault: &RunFault, output: &mut T)
     }
 }
 
-/// Tells a fault: puts its row on the sink for faults, and answers its status.
-/// Where that sink fails, no more of the row is put, and the status is the same.
+/// Reports a fault: puts its row on the sink for faults, flushes that sink, and returns the status of the fault.
+/// If that sink fails, no more of the row is put, and the status is the same.
 pub fn tell<E: Sink>(fault: &Fault, faults: &mut E) -> u8
     requires { (E.state faults.old).failures < u64.MAX }
     ensures { Tells fault.now (E.state faults.old) (E.state faults.new) result }
@@ -95,8 +97,11 @@ pub fn tell<E: Sink>(fault: &Fault, faults: &mut E) -> u8
     fault.status()
 }
 
-/// Shows a text of the command line's parser, and answers the exit status: help goes to `output`, with status 0; what is wrong with the
-/// words goes to `faults`, with status 2, also where that fails. Help that can't be written is a failed write.
+/// Shows clap's text, and returns the exit status. Help goes to `output`, with status 0. An error about the words goes to
+/// `faults`, with status 2, even if `faults` fails.
+///
+/// Help that can't be written is reported as a failed write, with status 3. If memory for the text is refused, that is reported
+/// with status 4.
 pub fn show<T: Sink, E: Sink>(alloc: Global, error: &Error, output: &mut T, faults: &mut E) -> u8
     requires output_counts { (T.state output.old).failures < u64.MAX }
     requires faults_count { (E.state faults.old).failures < u64.MAX }
@@ -115,7 +120,7 @@ pub fn show<T: Sink, E: Sink>(alloc: Global, error: &Error, output: &mut T, faul
     tell(&Fault::Run(RunFault::Write { lines: 0 }), faults)
 }
 
-/// Puts a text whole and flushes it, or puts it up to the first failure; tells whether it was put and flushed.
+/// Puts a whole text and flushes the sink, or stops at the first failure. Returns whether all was put and flushed.
 fn put_text<T: Sink>(text: &[u8], sink: &mut T) -> bool
     requires { (T.state sink.old).failures < u64.MAX }
     ensures { TakesText text.now (T.state sink.old) (T.state sink.new) result }

@@ -1,10 +1,10 @@
-//! A short text that is built without memory.
+//! A short text that is built without allocating memory.
 
 ghost use Rattle.std.specs.Prelude.{◌≡◌, ◌≤◌, ◌+◌, ◌++◌, [], length};
 
 use itoa::Buffer;
 
-/// How many bytes there is room for.
+/// The number of bytes that there is room for.
 const ROOM: usize = 120;
 
 /// A short text.
@@ -38,7 +38,7 @@ impl ShortText {
         self.length = end;
     }
 
-    /// Appends a number in decimal, where there is one.
+    /// Appends a number in decimal digits, if there is one.
     pub(crate) fn push_number(&mut self, number: Option<u64>)
         requires room { length (short_text self.old) + 40 ≤ 120 }
         ensures text { short_text self.new ≡ short_text self.old ++ number_text number }
@@ -50,7 +50,7 @@ impl ShortText {
         }
     }
 
-    /// Its bytes.
+    /// The bytes of the text.
     pub(crate) fn as_bytes(&self) -> &[u8]
         ensures { result.now ≡ short_text self.now }
     {

@@ -17,12 +17,13 @@ use clap::error::ErrorKind;
 use sgf_lines::{Form, Options};
 use std::alloc::{AllocError, Global};
 
-/// The job that the words ask for, the program's own name first.
+/// The job that the words ask for. The first word is the program's own name.
 ///
-/// A number is at most 18,446,744,073,709,551,615. What isn't a job of `sgfsplit split` or `sgfsplit count` is
-/// `JobFault::Words`, with clap's text and status; so are the words that ask for help.
+/// A number is at most 18,446,744,073,709,551,615. Words that aren't a job of `sgfsplit split` or `sgfsplit count` are refused
+/// with `JobFault::Words`, which has clap's text and status. So are words that ask for help. Refused memory is
+/// `JobFault::Memory`.
 pub fn job<'a>(alloc: Global, words: &'a [String]) -> Result<Job, JobFault>
-    // Each option there or not, in the order of the help, and FILE or none.
+    // Each option is given or not, in the order of the help. FILE is given or not.
     ensures split { (name : Word) (given : SplitWords) → ArePlainWords given
         → map string_bytes words.now ≡ split_words name given
         → MatchResult result (SplitsBy (options_of given) (file_of_rule given.file)) (λ fault. fault ≡ JobFault.Memory) }
@@ -44,7 +45,7 @@ pub fn job<'a>(alloc: Global, words: &'a [String]) -> Result<Job, JobFault>
     Ok(found_job(alloc, &found)?)
 }
 
-/// The job of the words that clap took.
+/// The job of the words that clap accepted.
 fn found_job(alloc: Global, found: &ArgMatches) -> Result<Job, AllocError>
     requires { has_subcommand found.now ≡ true }
     ensures split { IfOk result (λ job. (words : SplitWords) (rows : List Row) → ArePlainWords words
@@ -105,7 +106,7 @@ fn form_given(found: &ArgMatches) -> Form
     }
 }
 
-/// The form of this name.
+/// The form with this name: List unless it is `sgf` or `gtp`.
 fn form_named(word: &str) -> Form
     ensures { result ≡ form_named word.now }
 {
@@ -118,7 +119,7 @@ fn form_named(word: &str) -> Form
     }
 }
 
-/// The number that an option gives.
+/// The number that an option gives; None if the option isn't there.
 fn number_given(found: &ArgMatches, name: &str) -> Option<u64>
     ensures none { one_of name.now (rows_found found.now) ≡ None → result ≡ None }
     ensures some { (word : Word) → IsNumberWord word → one_of name.now (rows_found found.now) ≡ Some word
@@ -127,7 +128,7 @@ fn number_given(found: &ArgMatches, name: &str) -> Option<u64>
     found.get_one::<u64>(name)
 }
 
-/// The file that the words name; none for standard input.
+/// The file that the words name; None for standard input.
 fn file_given(alloc: Global, found: &ArgMatches) -> Result<Option<String>, AllocError>
     ensures { IfOk result (λ file. option_map string_bytes file
         ≡ file_of_rule (first_of (codes "file") (rows_found found.now))) }
@@ -138,7 +139,7 @@ fn file_given(alloc: Global, found: &ArgMatches) -> Result<Option<String>, Alloc
     }
 }
 
-/// The file that FILE names; none, for standard input, where it is `-`.
+/// The file that FILE names; None, for standard input, if it is `-`.
 fn file_of(alloc: Global, word: &str) -> Result<Option<String>, AllocError>
     ensures { IfOk result (λ file. option_map string_bytes file ≡ file_of_rule (Some word.now)) }
 {

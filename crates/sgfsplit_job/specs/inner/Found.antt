@@ -11,7 +11,7 @@ use Rattle.sgfsplit_job.specs.PlainWords.{SplitWords, Word, form_word}
 abbrev pub rows_found : ArgMatches → List Row
 rows_found found = rows_of (found_of found)
 
--- the form of a name
+-- the form with this name
 abbrev pub form_named : Word → Form
 form_named word = if bytes_eq word (codes "sgf") then form.Sgf else (if bytes_eq word (codes "gtp") then form.Gtp else form.List)
 
