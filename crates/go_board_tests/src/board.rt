@@ -12,7 +12,7 @@ const W: Cell = Cell::White;
 
 const E: Cell = Cell::Empty;
 
-/// A board of side 3, by its points row by row from the top.
+/// A board of side 3 with these cells, row by row from the top.
 fn three(rt: &impl Abort, cells: [Cell; 9]) -> Board
     ensures { result.side ≡ 3 }
 {
@@ -23,7 +23,7 @@ fn three(rt: &impl Abort, cells: [Cell; 9]) -> Board
     board
 }
 
-/// Which points of a board of side 3 are marked, row by row from the top.
+/// For each point of a board of side 3, whether it is marked: row by row from the top.
 fn marked(marks: &Marks) -> [bool; 9]
     requires { marks.now.side ≡ 3 }
 {

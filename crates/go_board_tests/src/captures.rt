@@ -1,4 +1,4 @@
-//! Games with captures: both pasts give the same answers, and an undo gives each board back.
+//! Games with captures: both pasts must return the same results, and an undo must restore each board.
 
 use crate::given::{at, size};
 use crate::referee::{answers, turn, undo};
@@ -7,20 +7,20 @@ use std::alloc::Global;
 use std::process::Abort;
 use std::test::Fail;
 
-/// The number after one in a row of numbers in which no order is easily seen.
+/// The number after one in a pseudorandom sequence.
 fn next_number(number: u64) -> u64 {
     number
         .wrapping_mul(6_364_136_223_846_793_005)
         .wrapping_add(1_442_695_040_888_963_407)
 }
 
-/// A column or a row that a number stands for.
+/// The column or the row that a number stands for.
 fn coordinate(rt: &impl Abort, number: u64, side: u8) -> u8 {
     assert!(rt; side > 0);
     ((number >> 40) % u64::from(side)) as u8
 }
 
-/// Stones on points by chance, which both pasts must answer alike.
+/// Plays stones on pseudorandom points, over both pasts. Both must return the same results.
 fn play_in_step(
     rt: &impl Abort,
     listed: &mut Referee<ListPast>,
@@ -49,7 +49,7 @@ fn play_in_step(
     }
 }
 
-/// All turns are taken back over both pasts, which must give the same boards, and the empty one at last.
+/// Takes back all turns over both pasts. The boards must be the same, and the last one empty.
 fn undo_in_step(
     rt: &impl Abort,
     listed: &mut Referee<ListPast>,
@@ -75,7 +75,7 @@ fn undo_in_step(
     assert!(rt; printed.score() == (0, 0));
 }
 
-/// Stones on points by chance, over two pasts in step, and then all of them taken back.
+/// Plays stones on pseudorandom points over both pasts in step, and then takes all of them back.
 fn same_game(rt: &impl Abort, alloc: Global, side: u8, tries: u32) -> Result<(), Fail> {
     let mut listed = Referee::<ListPast>::new(alloc, size(rt, side))?;
     let mut printed = Referee::<PrintPast>::new(alloc, size(rt, side))?;
@@ -84,7 +84,7 @@ fn same_game(rt: &impl Abort, alloc: Global, side: u8, tries: u32) -> Result<(),
     Ok(())
 }
 
-/// The stones that lead to a ko: the last of them takes the one before it.
+/// The stones that lead to a ko: the last of them captures the one before it.
 const INTO_KO: [(Colour, u8, u8); 9] = [
     (Colour::Black, 1, 0),
     (Colour::White, 2, 0),
@@ -97,7 +97,7 @@ const INTO_KO: [(Colour, u8, u8); 9] = [
     (Colour::Black, 2, 1),
 ];
 
-/// The stone that was taken last can't be taken back at once, and a refused try leaves the board as it was.
+/// The stone that captured last can't be captured back at once, and the refused turn leaves the board unchanged.
 fn no_taking_back<P: Past>(rt: &impl Abort, game: &mut Referee<P>) {
     let taken = game.board().copy();
     let repeat = Err(TurnFault::Illegal(Reason::Repeat));
@@ -108,7 +108,7 @@ fn no_taking_back<P: Past>(rt: &impl Abort, game: &mut Referee<P>) {
     assert!(rt; game.board().same(&taken));
 }
 
-/// A ko, in which a stone is taken and can't be taken back.
+/// A ko: a stone is captured, and its capturer can't be captured back at once.
 fn ko<P: Past>(rt: &impl Abort, alloc: Global) -> Result<(), Fail> {
     let mut game = Referee::<P>::new(alloc, size(rt, 4))?;
     for &(colour, col, row) in &INTO_KO {
@@ -118,7 +118,7 @@ fn ko<P: Past>(rt: &impl Abort, alloc: Global) -> Result<(), Fail> {
     Ok(())
 }
 
-/// Eighty black stones fill a board of side 9 but for its last point, while White passes.
+/// Fills a board of side 9 with eighty black stones, up to its last point, while White passes.
 fn fill_but_one<P: Past>(rt: &impl Abort, game: &mut Referee<P>) {
     for index in 0..80u8 {
         if index > 0 {
@@ -129,7 +129,7 @@ fn fill_but_one<P: Past>(rt: &impl Abort, game: &mut Referee<P>) {
     }
 }
 
-/// The stone on the last point takes all the others, and they are put back.
+/// The stone on the last point captures all the others. An undo restores them.
 fn takes_all_others<P: Past>(rt: &impl Abort, game: &mut Referee<P>) {
     answers(rt, game, Colour::White, Play::Stone(at(8, 8)), Ok(()));
     assert!(rt; game.score() == (0, 81));
@@ -137,7 +137,7 @@ fn takes_all_others<P: Past>(rt: &impl Abort, game: &mut Referee<P>) {
     assert!(rt; game.score() == (81, 0));
 }
 
-/// Eighty stones are taken at once, and put back.
+/// Eighty stones are captured at once, and restored.
 fn large_capture<P: Past>(rt: &impl Abort, alloc: Global) -> Result<(), Fail> {
     let mut game = Referee::<P>::new(alloc, size(rt, 9))?;
     fill_but_one(rt, &mut game);

@@ -1,11 +1,11 @@
-//! Points and sizes that tests are given.
+//! Points and sizes for the tests.
 
 ghost use Rattle.std.specs.Prelude.{◌≡◌};
 
 use go_board::{Point, Size};
 use std::process::Abort;
 
-/// The point of a column and a row, from 0.
+/// The point with this column and row, both from 0.
 pub(crate) fn at(col: u8, row: u8) -> Point
     ensures column { result.col ≡ col }
     ensures row { result.row ≡ row }
@@ -13,7 +13,7 @@ pub(crate) fn at(col: u8, row: u8) -> Point
     Point { col, row }
 }
 
-/// A size that there is.
+/// The size with this side, which must be one that boards can have.
 pub(crate) fn size(rt: &impl Abort, side: u8) -> Size
     ensures { result ≡ side }
 {

@@ -1,14 +1,14 @@
-//! Worked examples of `go_board`, called as by any program that stands on it.
+//! Worked examples of `go_board`, which call it as any other crate does.
 //!
-//! They stand beside that crate and not within: a crate that has tests is proved once more with them.
+//! They are in a crate of their own because a crate with tests is proved once more with them.
 //!
 //! | Module | Examples of |
 //! |---|---|
 //! | `size`, `values`, `vertices` | sides, the values that name points and rectangles, points as the Go Text Protocol writes them |
 //! | `board` | reaching, clearing, scores, moves and copies |
-//! | `moves` | moves one after the other, and after points were set |
-//! | `past` | a stretch that is begun anew, and prints that are alike |
-//! | `referee` | turns, setup, undo, another game; the texts of the faults |
+//! | `moves` | moves one after the other, and a move after points were set |
+//! | `past` | a stretch that begins anew, and prints with the same low bits |
+//! | `referee` | turns, setup, undo, another game; the messages of the faults |
 //! | `captures` | games with captures over both pasts |
 //! | `given` | points and sizes for the others |
 #![tactic(auto)]

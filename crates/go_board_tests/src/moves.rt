@@ -1,9 +1,9 @@
-//! Moves in turn, on boards where every stone is known to reach empty, and a move after points were set.
+//! Moves one after the other, on boards whose stones are all known to reach empty; and a move after points were set.
 
 use go_board::{Board, Cell, Colour, Point, Size};
 use std::process::Abort;
 
-/// Plays on an empty point of the board.
+/// Plays a stone on an empty point of the board.
 fn play(rt: &impl Abort, board: &mut Board, colour: Colour, col: u8, row: u8) {
     let side = board.size().side();
     assert!(rt; col < side && row < side, "column {col}, row {row}");
@@ -16,7 +16,7 @@ fn empty(rt: &impl Abort, side: u8) -> Board {
     Board::empty(Size::new(side).expect(rt, "the side of a board"))
 }
 
-/// How many stones of each colour there are.
+/// How many black and how many white stones there are.
 fn stones(board: &Board) -> (usize, usize) {
     let (mut black, mut white) = (0usize, 0usize);
     for row in 0..board.size().side() {
@@ -31,7 +31,7 @@ fn stones(board: &Board) -> (usize, usize) {
     (black, white)
 }
 
-/// Moves one after the other, how many stones of each colour stand after each, and why.
+/// Moves one after the other; how many stones of each colour stand after each, and why.
 const MOVES: [(Colour, u8, u8, (usize, usize), &str); 7] = [
     (Colour::Black, 1, 0, (1, 0), "one stone"),
     (Colour::White, 0, 0, (1, 1), "one liberty is left"),

@@ -9,7 +9,7 @@ use std::alloc::Global;
 use std::process::Abort;
 use std::test::Fail;
 
-/// Takes a turn, and says why it isn't taken. A stone must be on the board.
+/// Takes a turn, and returns why it isn't allowed, if so. A stone must be on the board.
 pub(crate) fn turn<P: Past>(
     rt: &impl Abort,
     referee: &mut Referee<P>,
@@ -23,7 +23,7 @@ pub(crate) fn turn<P: Past>(
     referee.turn(colour, play)
 }
 
-/// Takes a turn, which must be answered so.
+/// Takes a turn, which must have this result.
 pub(crate) fn answers<P: Past>(
     rt: &impl Abort,
     referee: &mut Referee<P>,
@@ -37,7 +37,7 @@ pub(crate) fn answers<P: Past>(
     );
 }
 
-/// The referee must have taken so many turns, hold so many calls that can be undone, and give this score.
+/// The referee must have made this many turns, hold this many calls that can be undone, and give this score.
 fn stands<P: Past>(
     rt: &impl Abort,
     referee: &Referee<P>,
@@ -48,7 +48,7 @@ fn stands<P: Past>(
     assert!(rt; referee.turns() == turns && referee.depth() == depth && referee.score() == score);
 }
 
-/// Colours an area, which must be on the board, and lets either player move.
+/// Colours an area, which must be on the board. Then either player may move.
 fn set_area<P: Past>(
     rt: &impl Abort,
     referee: &mut Referee<P>,
@@ -62,7 +62,7 @@ fn set_area<P: Past>(
     referee.setup(&[SetupOp { cell, area }], None)
 }
 
-/// Takes the newest call back.
+/// Takes back the newest call.
 pub(crate) fn undo<P: Past>(rt: &impl Abort, referee: &mut Referee<P>) {
     assert!(rt; referee.depth() > 0);
     referee.undo();
@@ -72,7 +72,7 @@ fn illegal(reason: Reason) -> Result<(), TurnFault> {
     Err(TurnFault::Illegal(reason))
 }
 
-/// Black must move first, on one point every stone repeats the empty board, and two passes end the game.
+/// On one point: Black must move first, every stone repeats the empty board, and two passes end the game.
 fn on_one<P: Past>(rt: &impl Abort, alloc: Global) -> Result<(), Fail> {
     let mut game = Referee::<P>::new(alloc, size(rt, 1))?;
     let pass = Play::Pass;
@@ -92,7 +92,7 @@ fn on_one<P: Past>(rt: &impl Abort, alloc: Global) -> Result<(), Fail> {
     Ok(())
 }
 
-/// Setup colours an area, lets either player move and is taken back whole.
+/// A setup colours an area, lets either player move, and is taken back as a whole.
 fn on_three<P: Past>(rt: &impl Abort, alloc: Global) -> Result<(), Fail> {
     let mut game = Referee::<P>::new(alloc, size(rt, 3))?;
     let top = Rect {
@@ -121,7 +121,7 @@ fn on_three<P: Past>(rt: &impl Abort, alloc: Global) -> Result<(), Fail> {
     Ok(())
 }
 
-/// A setup of the player alone, and then one stone that owns the board.
+/// A setup of the player alone, and then one stone that owns the whole board.
 fn player_alone<P: Past>(rt: &impl Abort, alloc: Global) -> Result<(), Fail> {
     let mut game = Referee::<P>::new(alloc, size(rt, 3))?;
     game.setup(&[], Some(Colour::White))?;
@@ -130,7 +130,7 @@ fn player_alone<P: Past>(rt: &impl Abort, alloc: Global) -> Result<(), Fail> {
     Ok(())
 }
 
-/// A referee that begins another game of that size after two turns is as a new one.
+/// A referee that begins another game of the same size after two turns is like a new one.
 fn begins_again<P: Past>(
     rt: &impl Abort,
     game: &mut Referee<P>,
@@ -144,7 +144,7 @@ fn begins_again<P: Past>(
     Ok(())
 }
 
-/// A referee that begins another game, of another size or of the same, is as a new one.
+/// A referee that begins another game, of another size or of the same, is like a new one.
 fn another_game<P: Past>(rt: &impl Abort, alloc: Global) -> Result<(), Fail> {
     let mut game = Referee::<P>::new(alloc, size(rt, 3))?;
     for side in [2, 5, 5] {
@@ -153,7 +153,7 @@ fn another_game<P: Past>(rt: &impl Abort, alloc: Global) -> Result<(), Fail> {
     Ok(())
 }
 
-/// The examples, over one kind of past.
+/// The examples, with one kind of past.
 fn examples<P: Past>(rt: &impl Abort, alloc: Global) -> Result<(), Fail> {
     on_one::<P>(rt, alloc)?;
     on_three::<P>(rt, alloc)?;

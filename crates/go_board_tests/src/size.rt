@@ -2,7 +2,7 @@
 
 use go_board::{MAX_SIDE, Size};
 
-/// Sides, and whether there is a board of it.
+/// Sides, and whether a board can have each.
 const SIDES: [(u8, bool); 6] = [
     (0, false),
     (1, true),

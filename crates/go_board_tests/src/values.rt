@@ -3,7 +3,7 @@
 use crate::given::size;
 use go_board::{Point, Rect, point, rect};
 
-/// Values, the side of a board, and the point of it that they name.
+/// Values, the side of a board, and the point that each names there.
 const POINTS: [(&str, u8, Option<Point>); 11] = [
     ("aa", 1, Some(Point { col: 0, row: 0 })),
     ("ba", 1, None),
@@ -18,7 +18,7 @@ const POINTS: [(&str, u8, Option<Point>); 11] = [
     ("ZZ", 52, Some(Point { col: 51, row: 51 })),
 ];
 
-/// Values, and the rectangle of a board of side 3 that they name.
+/// Values, and the rectangle that each names on a board of side 3.
 const RECTANGLES: [(&str, Option<Rect>); 7] = [
     (
         "bb",

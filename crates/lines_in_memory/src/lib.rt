@@ -1,4 +1,5 @@
-//! How `sgf_lines` is used by a program that has a text in memory: it wants the records of its lines there, or goes over the lines itself.
+//! How a program uses `sgf_lines` with a text in memory: it gets the records of the lines in memory, or goes over the lines
+//! itself.
 #![tactic(auto)]
 
 ghost use Rattle.std.specs.Prelude.{◌≡◌, List, IfOk};
@@ -13,7 +14,7 @@ use std::alloc::Global;
 #[cfg(test)]
 mod tests;
 
-/// The records of the lines that the options ask for, of the collection that a text spells.
+/// The records of the lines that the options select, of the collection that the text spells (SGF FF[4]).
 /// See `sgf_lines::split` for the faults.
 pub fn records(alloc: Global, text: &[u8], options: &Options) -> Result<Vec<u8>, RunFault>
     ensures { IfOk result (λ records. (ls : List Line)
@@ -27,7 +28,7 @@ pub fn records(alloc: Global, text: &[u8], options: &Options) -> Result<Vec<u8>,
     }
 }
 
-/// How many nodes the longest line of a collection has.
+/// The number of nodes of the longest line of a collection; 0 if it has no line.
 pub fn longest_line(alloc: Global, collection: &Collection<'_>) -> Result<usize, MemoryFault> {
     let mut cursor = Cursor::new(alloc, collection);
     let mut longest = 0;

@@ -1,4 +1,4 @@
-//! Runs between ends that give or take little at a time, and fail.
+//! Runs whose source or sink takes or gives little at a time, and fails.
 
 ghost use Rattle.std.specs.Prelude.{◌≡◌, ◌≤◌, None, []};
 
@@ -11,14 +11,14 @@ use sgf_lines::{
 };
 use std::alloc::Global;
 
-/// All lines as rows.
+/// The options for all lines as rows.
 const ROWS: Options = Options {
     form: Form::List,
     after: None,
     limit: None,
 };
 
-/// How many bytes the two rows have.
+/// The length of the two rows in bytes.
 const LENGTH: usize = FIRST.len() + SECOND.len();
 
 /// Makes the runs.
@@ -36,7 +36,7 @@ pub fn calls(alloc: Global, seen: &mut Seen) {
     array_is_full(alloc, seen);
 }
 
-/// A source that gives one byte of a text a call, so often, and then fails.
+/// A source that gives one byte of a text at each call, for `calls` calls, and then fails.
 #[derive(Drop)]
 struct Trickle<'a> {
     left: &'a [u8],
@@ -44,7 +44,7 @@ struct Trickle<'a> {
     failures: u64,
 }
 
-/// A source of the game of two lines.
+/// Such a source of the game of two lines.
 fn byte_by_byte(calls: usize) -> Trickle<'static>
     ensures { result.failures ≡ 0 }
 {
@@ -77,7 +77,8 @@ impl Source for Trickle<'_> {
     }
 }
 
-/// A run from a source that fails after so many calls: it fails, and nothing is written, unless the source comes to its end.
+/// A run from a source that fails after so many calls. The run fails and writes nothing, unless the source gets to its end
+/// before.
 fn source_fails(alloc: Global, calls: usize, seen: &mut Seen) {
     seen.call();
     let mut source = byte_by_byte(calls);
@@ -106,7 +107,7 @@ fn count_fails(alloc: Global, calls: usize, seen: &mut Seen) {
     }
 }
 
-/// A sink that takes at most `step` bytes a call and `room` bytes in all, and then fails, as its flush may.
+/// A sink that takes at most `step` bytes at a call and `room` bytes in all, and then fails. Its flush may fail, too.
 #[derive(Drop)]
 struct Narrow {
     bytes: [u8; 64],
@@ -118,7 +119,7 @@ struct Narrow {
     ghost within: { taken ≤ 64 },
 }
 
-/// A sink that has taken nothing.
+/// Such a sink, which has taken nothing.
 fn sink_of(step: usize, room: usize, can_flush: bool) -> Narrow
     ensures { result.failures ≡ 0 }
 {
@@ -166,7 +167,7 @@ impl Sink for Narrow {
     }
 }
 
-/// A run to a sink with that room, whose flush fails: what fits stands, and the fault names the whole records of it.
+/// A run to a sink with this room whose flush fails. The sink has what fits, and the fault gives the number of its whole records.
 fn flush_fails(alloc: Global, step: usize, room: usize, seen: &mut Seen) {
     seen.call();
     let mut source = SliceSource::new(TWO);
@@ -182,7 +183,7 @@ fn flush_fails(alloc: Global, step: usize, room: usize, seen: &mut Seen) {
     }
 }
 
-/// A run to a sink with that room: it fails unless all fits.
+/// A run to a sink with this room. It fails unless all fits.
 fn sink_fails(alloc: Global, step: usize, room: usize, seen: &mut Seen) {
     seen.call();
     let mut source = SliceSource::new(TWO);
@@ -198,7 +199,7 @@ fn sink_fails(alloc: Global, step: usize, room: usize, seen: &mut Seen) {
     }
 }
 
-/// A run to an array that the second row doesn't fit into, which takes what it has room for.
+/// A run to an array in which the second row doesn't fit. The array takes what it has room for.
 fn array_is_full(alloc: Global, seen: &mut Seen) {
     seen.call();
     let mut source = SliceSource::new(TWO);
@@ -213,12 +214,12 @@ fn array_is_full(alloc: Global, seen: &mut Seen) {
     }
 }
 
-/// How many whole rows so many bytes have room for.
+/// How many whole rows fit into this many bytes.
 fn whole(room: usize) -> u64 {
     u64::from(room >= FIRST.len()) + u64::from(room >= LENGTH)
 }
 
-/// Whether these are the first bytes of the two rows, so many.
+/// Whether these are the first `count` bytes of the two rows.
 fn is_front(bytes: &[u8], count: usize) -> bool {
     if bytes.len() != count || count > LENGTH {
         return false;

@@ -1,4 +1,4 @@
-//! The calls of `sgf_lines` on a collection that was read, and its counts.
+//! The calls of `sgf_lines` on a collection, and counts.
 
 use crate::page::Page;
 use crate::seen::Seen;
@@ -11,7 +11,7 @@ use sgf_lines::{
 use sgf_tree::Collection;
 use std::alloc::Global;
 
-/// A game that a ko taken back at place 45 ends, of three nodes.
+/// A game of three nodes, whose last node, at place 45, retakes a ko.
 const KO: &[u8] = b"(;SZ[4]AB[ba][ab][bc]AW[ca][db][cc][bb];B[cb];W[bb])";
 
 /// Makes the calls.
@@ -35,7 +35,7 @@ fn two_lines(alloc: Global, seen: &mut Seen) {
     judged(alloc, &two, 1, score, seen);
 }
 
-/// Judges the line that a ko ends.
+/// Judges the line that ends with an illegal retake of a ko.
 fn ko(alloc: Global, seen: &mut Seen) {
     let Ok(ko) = collection(alloc, KO, seen) else {
         return;
@@ -48,7 +48,7 @@ fn ko(alloc: Global, seen: &mut Seen) {
     judged(alloc, &ko, 2, repeat, seen);
 }
 
-/// Goes over the lines of the game of two lines, and looks for places.
+/// Goes over the lines of the game of two lines, and seeks places.
 fn goes_over(alloc: Global, two: &Collection<'_>, seen: &mut Seen) {
     let mut cursor = Cursor::new(alloc, two);
     both(&mut cursor, seen);
@@ -56,7 +56,7 @@ fn goes_over(alloc: Global, two: &Collection<'_>, seen: &mut Seen) {
     places(&mut cursor, seen);
     cursor = Cursor::new(alloc, two);
     next(&mut cursor, Some((&[0, 1], 8)), seen);
-    // A refused search leaves the cursor where it was: before the second line.
+    // A refused seek leaves the cursor where it was: before the second line.
     if cursor.seek_after(22).is_err() {
         seen.want();
     } else {
@@ -66,7 +66,7 @@ fn goes_over(alloc: Global, two: &Collection<'_>, seen: &mut Seen) {
     next(&mut cursor, Some((&[0, 2, 3], 22)), seen);
 }
 
-/// Goes over both lines, and to the end twice.
+/// Goes over both lines, and on to the end twice.
 fn both(cursor: &mut Cursor<'_, '_>, seen: &mut Seen) {
     next(cursor, Some((&[0, 1], 8)), seen);
     next(cursor, Some((&[0, 2, 3], 22)), seen);
@@ -74,7 +74,7 @@ fn both(cursor: &mut Cursor<'_, '_>, seen: &mut Seen) {
     next(cursor, None, seen);
 }
 
-/// Goes after the places of both lines, and after one of no line.
+/// Seeks the places of both lines, and a place that no line has.
 fn places(cursor: &mut Cursor<'_, '_>, seen: &mut Seen) {
     seek(cursor, 8, true, seen);
     next(cursor, Some((&[0, 2, 3], 22)), seen);
@@ -84,10 +84,10 @@ fn places(cursor: &mut Cursor<'_, '_>, seen: &mut Seen) {
     next(cursor, None, seen);
 }
 
-/// A line by its path and its place.
+/// The path and the place of a line, if there is one.
 type Line<'a> = Option<(&'a [usize], usize)>;
 
-/// Goes on by one line, and once more where memory was refused, which gives the same line then.
+/// Goes on by one line. If memory was refused, goes on once more, which must give the same line.
 fn next(cursor: &mut Cursor<'_, '_>, line: Line<'_>, seen: &mut Seen) {
     seen.call();
     if let Ok(given) = cursor.next() {
@@ -100,7 +100,7 @@ fn next(cursor: &mut Cursor<'_, '_>, line: Line<'_>, seen: &mut Seen) {
     }
 }
 
-/// Whether it is that line of the first game, or none where that is none.
+/// Whether it is that line of the first game; for None, whether there is no line.
 fn is_line(given: Option<LineRef<'_>>, line: Line<'_>) -> bool {
     match (given, line) {
         (Some(given), Some((path, place))) => {
@@ -111,7 +111,7 @@ fn is_line(given: Option<LineRef<'_>>, line: Line<'_>) -> bool {
     }
 }
 
-/// Goes after a place, which is that of a line or of none, and once more where memory was refused.
+/// Seeks a place, which is a line's or no line's. If memory was refused, seeks once more.
 fn seek(cursor: &mut Cursor<'_, '_>, place: u64, is_line: bool, seen: &mut Seen) {
     seen.call();
     let sought = match cursor.seek_after(place) {
@@ -130,7 +130,7 @@ fn seek(cursor: &mut Cursor<'_, '_>, place: u64, is_line: bool, seen: &mut Seen)
     }
 }
 
-/// Judges the line that ends in a leaf, and once more where memory was refused.
+/// Judges the line that ends in a leaf. If memory was refused, judges it once more.
 fn judged(
     alloc: Global,
     collection: &Collection<'_>,
@@ -152,7 +152,7 @@ fn judged(
     }
 }
 
-/// Counts the game of two lines, and once more where memory was refused; writes the counts, which takes none.
+/// Counts the game of two lines, once more if memory was refused. Writes the counts, which takes no memory.
 fn counts(alloc: Global, seen: &mut Seen) {
     let mut source = SliceSource::new(TWO);
     seen.call();
@@ -180,7 +180,7 @@ fn counts(alloc: Global, seen: &mut Seen) {
     counts_without_room(&counts, seen);
 }
 
-/// Writes counts to an array that their row doesn't fit into.
+/// Writes counts to an array in which their row doesn't fit.
 fn counts_without_room(counts: &Counts, seen: &mut Seen) {
     let mut sink = ArraySink::<3>::new();
     seen.call();

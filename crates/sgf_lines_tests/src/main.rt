@@ -1,14 +1,15 @@
-//! Calls of the libraries whose memory is refused, or whose ends fail.
+//! Calls of the libraries whose memory is refused, or whose sources and sinks fail.
 //!
-//! The program is run with its Nth request for memory refused, for N = 1, 2, .. (`tests/failing_calls.sh`). A call then
-//! gives its answer with ample memory, or its want of memory: then what it was called on is unchanged, and the same call made
-//! again gives that answer. A run leaves whole records in its sink then; one between ends that fail (`ends`) is made once.
-//! Texts and the ends of runs lie in arrays, so that only the calls ask for memory.
+//! The program is run with its Nth request for memory refused, for N = 1, 2, .. (`tests/failing_calls.sh`). Each call then
+//! returns the result that it has with ample memory, or reports that memory was refused. In the second case what it was called on
+//! is unchanged, and the same call made again returns that result. A run leaves whole records in its sink in that case. Runs
+//! whose ends fail (`ends`) are made once. Texts, and what the runs read and write, lie in arrays, so only the calls ask for
+//! memory.
 //!
-//! Status 0: every call gave its answer at once. Status 4: some call wanted memory, and all was as it should be. Status 1:
-//! something was wrong, which standard error names.
+//! Status 0: every call returned its result at once. Status 4: memory was refused to some call, and all was as expected. Status
+//! 1: something was wrong, and standard error says what.
 //!
-//! - `seen` counts the calls, and names what was wrong.
+//! - `seen` counts the calls, and keeps what was wrong.
 //! - `tree` has the calls of `sgf_tree`, `past` and `referee` those of `go_board`, `lines` and `runs` those of `sgf_lines`.
 //! - `page` is a sink over an array that counts its flushes.
 //! - `ends` has runs whose source or sink gives or takes little at a time, and fails.
@@ -43,7 +44,7 @@ fn main(rt: HostRuntime) -> ExitCode {
     }
 }
 
-/// Makes all calls, over both pasts.
+/// Makes all calls, with both kinds of past.
 fn all_calls(alloc: Global, seen: &mut Seen) {
     tree::calls(alloc, seen);
     past::calls::<ListPast>(alloc, seen);

@@ -15,7 +15,7 @@ pub struct Page {
 impl Page {
     ghost use Rattle.std.specs.Prelude.{◌≡◌};
 
-    /// An empty one.
+    /// An empty sink.
     pub fn new() -> Page
         ensures { (⟦<Page as Sink>⟧.state result).failures ≡ 0 }
     {
@@ -25,12 +25,12 @@ impl Page {
         }
     }
 
-    /// The bytes that it has taken.
+    /// The bytes taken so far.
     pub fn as_slice(&self) -> &[u8] {
         self.bytes.as_slice()
     }
 
-    /// How often it was flushed.
+    /// How often the sink was flushed.
     pub fn flushes(&self) -> u32 {
         self.flushes
     }

@@ -1,4 +1,4 @@
-//! Calls of a past that take memory: `new`, `push`, `restart`. Those of `play` and `set_up` are a run's (`tests/refused.sh`).
+//! Calls of a past that ask for memory: `new`, `push`, `restart`. `tests/refused.sh` covers `play` and `set_up` by whole runs.
 
 ghost use Rattle.std.specs.Prelude.{◌≡◌, true, false, IfOk, OnOk};
 ghost use Rattle.go_board.specs.Past.{only, with_next, HaveSide};
@@ -8,7 +8,7 @@ use crate::seen::Seen;
 use go_board::{Board, Cell, MemoryFault, Past, Point, Size};
 use std::alloc::Global;
 
-/// Adds a colouring to a past's stretch and begins another with a third, and takes that back.
+/// Adds a colouring to a past's stretch, begins another stretch with a third colouring, and takes that back.
 pub fn calls<P: Past>(alloc: Global, seen: &mut Seen) {
     let Some(size) = Size::new(3) else {
         return seen.wrong("no board of side 3");
@@ -43,7 +43,7 @@ fn grows<P: Past>(past: &mut P, empty: &Board, black: &Board, white: &Board, see
     seen.right(!past.holds(white), "what was taken back");
 }
 
-/// The board with one stone more.
+/// The board with one more stone.
 fn with_stone(board: &Board, point: Point, cell: Cell) -> Board
     requires { IsOn board.now.side point }
     ensures { result.side ≡ board.now.side }
@@ -53,7 +53,7 @@ fn with_stone(board: &Board, point: Point, cell: Cell) -> Board
     copy
 }
 
-/// A past of that colouring, asked for once more where memory was refused.
+/// A past of that colouring. If memory was refused, it is made once more.
 fn begin<P: Past>(alloc: Global, board: &Board, seen: &mut Seen) -> Result<P, MemoryFault>
     ensures { IfOk result (λ past. P.held past ≡ only board.now) }
 {
@@ -67,7 +67,7 @@ fn begin<P: Past>(alloc: Global, board: &Board, seen: &mut Seen) -> Result<P, Me
     again
 }
 
-/// Adds a colouring to a past of another one, and once more where memory was refused; nothing was added then.
+/// Adds a colouring to a past of another one. If memory was refused, nothing may be added, and it is added once more.
 fn push<P: Past>(
     past: &mut P,
     only: &Board,
@@ -92,7 +92,7 @@ fn push<P: Past>(
     again
 }
 
-/// Begins a stretch, and once more where memory was refused; the past is the same then.
+/// Begins a stretch. If memory was refused, the past must be unchanged, and the stretch is begun once more.
 fn restart<P: Past>(
     past: &mut P,
     first: &Board,

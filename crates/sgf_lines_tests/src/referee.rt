@@ -1,4 +1,4 @@
-//! Calls of a referee that take memory, `new`, `turn`, `setup` and `stay`, and `reset`, which takes none over these pasts.
+//! Calls of a referee that ask for memory: `new`, `turn`, `setup` and `stay`. Also `reset`, which asks for none with these pasts.
 
 use crate::seen::Seen;
 use go_board::{
@@ -21,10 +21,10 @@ fn on_one<P: Past>(alloc: Global, seen: &mut Seen) {
     }
 }
 
-/// What a player plays, and what the game says of it, with the turns made then and whether it is over.
+/// What a player plays and the result; then the number of turns made, and whether the game is over.
 type Answered = (Colour, Play, Result<(), Reason>, u64, bool);
 
-/// Black must move first, on one point every stone repeats the empty board, and two passes end the game.
+/// On one point: Black must move first, every stone repeats the empty board, and two passes end the game.
 const PASSES: [Answered; 5] = [
     (Colour::Black, CORNER, Err(Reason::Repeat), 0, false),
     (Colour::White, Play::Pass, Err(Reason::Turn), 0, false),
@@ -33,7 +33,7 @@ const PASSES: [Answered; 5] = [
     (Colour::Black, Play::Pass, Err(Reason::Over), 2, true),
 ];
 
-/// Plays those turns, takes the last pass back, and begins another game.
+/// Takes those turns, takes back the last pass, and begins another game.
 fn passes_twice<P: Past>(game: &mut Referee<P>, seen: &mut Seen) {
     for &(colour, play, answer, turns, over) in &PASSES {
         turn(game, colour, play, answer, seen);
@@ -47,21 +47,21 @@ fn passes_twice<P: Past>(game: &mut Referee<P>, seen: &mut Seen) {
     begin_another(game, seen);
 }
 
-/// Plays a game on three by three points, beside one that stays as it begins.
+/// Plays a game on three by three points, beside a game that stays at its beginning.
 fn on_three<P: Past>(alloc: Global, seen: &mut Seen) {
     if let Some(start) = begin::<P>(alloc, 3, seen) {
         on_three_beside(alloc, &start, seen);
     }
 }
 
-/// Plays a game on three by three points, beside this one.
+/// Plays a game on three by three points, beside the given one.
 fn on_three_beside<P: Past>(alloc: Global, start: &Referee<P>, seen: &mut Seen) {
     if let Some(mut game) = begin::<P>(alloc, 3, seen) {
         sets_up(&mut game, start, seen);
     }
 }
 
-/// Setup colours an area, lets either player move and is taken back whole.
+/// A setup colours an area, lets either player move, and is taken back as a whole.
 fn sets_up<P: Past>(game: &mut Referee<P>, start: &Referee<P>, seen: &mut Seen) {
     set_top_up(game, seen);
     let middle = Play::Stone(Point { col: 1, row: 1 });
@@ -77,7 +77,7 @@ fn sets_up<P: Past>(game: &mut Referee<P>, start: &Referee<P>, seen: &mut Seen) 
     turn(game, Colour::White, Play::Pass, Err(Reason::Turn), seen);
 }
 
-/// What a referee shows.
+/// What can be seen of a referee.
 #[derive(Drop)]
 struct Shown {
     board: Board,
@@ -107,7 +107,7 @@ impl Shown {
     }
 }
 
-/// A referee, asked for once more where memory was refused.
+/// A referee. If memory was refused, it is made once more.
 fn begin<P: Past>(alloc: Global, side: u8, seen: &mut Seen) -> Option<Referee<P>> {
     let Some(size) = Size::new(side) else {
         seen.wrong("no board of the side");
@@ -123,8 +123,8 @@ fn begin<P: Past>(alloc: Global, side: u8, seen: &mut Seen) -> Option<Referee<P>
     again.ok()
 }
 
-/// Takes a turn, and once more where memory was refused; the game is the same then, as it is where a reason forbids the
-/// turn, which takes no memory.
+/// Takes a turn. If memory was refused, the game must be unchanged, and the turn is taken once more. If a reason forbids the
+/// turn, the game must be unchanged, too; that takes no memory.
 fn turn<P: Past>(
     game: &mut Referee<P>,
     colour: Colour,
@@ -136,7 +136,7 @@ fn turn<P: Past>(
     turn_from(&before, game, colour, play, answer, seen);
 }
 
-/// Takes a turn of a game of which it is known what it shows, and once more where memory was refused.
+/// Takes a turn in a game that showed `before`. If memory was refused, takes it once more.
 fn turn_from<P: Past>(
     before: &Shown,
     game: &mut Referee<P>,
@@ -171,13 +171,14 @@ fn turn_from<P: Past>(
     }
 }
 
-/// Sets white stones up on the top row of three points, and once more where memory was refused; the game is the same then.
+/// Sets up white stones on the top row of three points. If memory was refused, the game must be unchanged, and they are set up
+/// once more.
 fn set_top_up<P: Past>(game: &mut Referee<P>, seen: &mut Seen) {
     let before = Shown::of(game);
     set_top_up_from(&before, game, seen);
 }
 
-/// Sets those stones up in a game of which it is known what it shows.
+/// Sets up those stones in a game that showed `before`.
 fn set_top_up_from<P: Past>(before: &Shown, game: &mut Referee<P>, seen: &mut Seen) {
     if game.board().size().side() < 3 {
         return seen.wrong("a board of fewer than three columns");
@@ -199,14 +200,13 @@ fn set_top_up_from<P: Past>(before: &Shown, game: &mut Referee<P>, seen: &mut Se
     seen.right(game.depth() == 1, "a game after a setup");
 }
 
-/// Keeps the present state once more, and takes that back.
+/// Adds the present state once more, and takes that back.
 fn stay<P: Past>(game: &mut Referee<P>, seen: &mut Seen) {
     let before = Shown::of(game);
     stay_from(&before, game, seen);
 }
 
-/// The same in a game of which it is known what it shows. The call is made once more where memory was refused; the game is
-/// the same then.
+/// The same in a game that showed `before`. If memory was refused, the game must be unchanged, and the call is made once more.
 fn stay_from<P: Past>(before: &Shown, game: &mut Referee<P>, seen: &mut Seen) {
     seen.call();
     if game.stay().is_err() {
@@ -222,7 +222,7 @@ fn stay_from<P: Past>(before: &Shown, game: &mut Referee<P>, seen: &mut Seen) {
     );
 }
 
-/// Takes the newest call back.
+/// Takes back the newest call.
 fn undo<P: Past>(game: &mut Referee<P>, seen: &mut Seen) {
     if game.depth() == 0 {
         return seen.wrong("nothing to take back");
@@ -230,7 +230,7 @@ fn undo<P: Past>(game: &mut Referee<P>, seen: &mut Seen) {
     game.undo();
 }
 
-/// Begins another game, which takes no memory over these pasts.
+/// Begins another game, which asks for no memory with these pasts.
 fn begin_another<P: Past>(game: &mut Referee<P>, seen: &mut Seen) {
     let size = game.board().size();
     seen.call();

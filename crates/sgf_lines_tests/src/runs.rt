@@ -9,7 +9,7 @@ use std::alloc::Global;
 /// A game with setup, a comment of two lines, a pass and a stone.
 const COMMENT: &[u8] = b"(;SZ[5]AB[ab][ba]AW[cc]C[one\ntwo];W[];B[ee])";
 
-/// Two lines that share a node that isn't allowed.
+/// Two lines that share an illegal node.
 const ILLEGAL: &[u8] = b"(;SZ[1];B[aa](;W[])(;C[x]))";
 
 const ILLEGAL_ROWS: [&[u8]; 2] = [
@@ -53,14 +53,14 @@ pub const SECOND: &[u8] = b"22 1 3 score 1 1 open\n";
 const SCRIPT: &[u8] =
     b"# 37 1 3 score 4 1 open\nboardsize 5\nclear_board\n# one\n# two\nclear_board\nplay B B5\nplay B A4\nplay W C3\nplay W pass\nplay B E1\n\n";
 
-/// What is run, and what it writes.
+/// What a run reads, and what it writes.
 #[derive(Clone, Copy)]
 struct Run<'a> {
     text: &'a [u8],
     options: Options,
-    /// Its records, in order.
+    /// The records, in order.
     records: &'a [&'a [u8]],
-    /// How many nodes are played for the first none, one, two .. of them.
+    /// How many nodes are played for the first 0, 1, 2 .. records.
     plays: &'a [u64],
 }
 
@@ -115,8 +115,8 @@ fn pages(alloc: Global, seen: &mut Seen) {
     }
 }
 
-/// Splits a text, and once more where memory was refused: exactly the whole records of the first lines stand then, and no
-/// flush was made.
+/// Splits a text. If memory was refused, the sink must hold exactly the whole records of the first lines, and not be flushed.
+/// Then splits once more.
 fn splits(alloc: Global, run: Run<'_>, seen: &mut Seen) {
     seen.call();
     let mut source = SliceSource::new(run.text);
@@ -131,7 +131,8 @@ fn splits(alloc: Global, run: Run<'_>, seen: &mut Seen) {
     is_whole(answer, &page, run, seen);
 }
 
-/// The same, asked for its plays: where memory was refused, those of the lines that stand, and of the next at most.
+/// The same with a count of plays. If memory was refused, the count must be at least the plays for the lines written, and at most
+/// those for one more line.
 fn splits_with_plays(alloc: Global, run: Run<'_>, seen: &mut Seen) {
     seen.call();
     let mut source = SliceSource::new(run.text);
@@ -154,7 +155,7 @@ fn splits_with_plays(alloc: Global, run: Run<'_>, seen: &mut Seen) {
     is_whole_with_plays(answer, &page, &plays, run, seen);
 }
 
-/// How many nodes are played for the first records, so many.
+/// How many nodes are played for the first `lines` records.
 fn plays_of(run: Run<'_>, lines: u64) -> u64 {
     match run.plays.get(lines as usize) {
         Some(plays) => *plays,
@@ -162,7 +163,7 @@ fn plays_of(run: Run<'_>, lines: u64) -> u64 {
     }
 }
 
-/// The run wrote the first records, so many, and didn't flush.
+/// The run must have written the first `lines` records, and not flushed.
 fn is_cut(lines: u64, page: &Page, run: Run<'_>, seen: &mut Seen) {
     seen.want();
     seen.right(page.flushes() == 0, "a flush after refused memory");
@@ -170,7 +171,7 @@ fn is_cut(lines: u64, page: &Page, run: Run<'_>, seen: &mut Seen) {
     seen.right(are_first, "records after refused memory");
 }
 
-/// The run wrote all records, flushed once, and told their plays.
+/// The run must have written all records, flushed once, and counted their plays.
 fn is_whole_with_plays(
     answer: Result<u64, RunFault>,
     page: &Page,
@@ -183,7 +184,7 @@ fn is_whole_with_plays(
     seen.right(plays.count() == all, "the plays");
 }
 
-/// The run wrote all records, and flushed once.
+/// The run must have written all records, and flushed once.
 fn is_whole(answer: Result<u64, RunFault>, page: &Page, run: Run<'_>, seen: &mut Seen) {
     let lines = run.records.len() as u64;
     seen.right(answer == Ok(lines), "the answer of a run");
@@ -192,7 +193,7 @@ fn is_whole(answer: Result<u64, RunFault>, page: &Page, run: Run<'_>, seen: &mut
     seen.right(page.flushes() == 1, "one flush");
 }
 
-/// Whether these bytes are exactly the first records, so many.
+/// Whether these bytes are exactly the first `lines` records.
 fn has_first(bytes: &[u8], records: &[&[u8]], lines: u64) -> bool {
     if lines > records.len() as u64 {
         return false;

@@ -1,8 +1,8 @@
-//! What was seen of the calls.
+//! What was seen at the calls.
 
 use std::fmt;
 
-/// How many calls were made, how many of them wanted memory at first, and what was wrong first.
+/// How many calls were made, to how many of them memory was refused, and what was wrong first.
 #[derive(Drop)]
 pub struct Seen {
     calls: u32,
@@ -20,24 +20,24 @@ impl Seen {
         }
     }
 
-    /// A call is made.
+    /// Counts a call.
     pub fn call(&mut self) {
         self.calls = self.calls.saturating_add(1);
     }
 
-    /// The call was refused memory.
+    /// Counts a call to which memory was refused.
     pub fn want(&mut self) {
         self.wants = self.wants.saturating_add(1);
     }
 
-    /// It is wrong unless it holds.
+    /// Unless it holds, keeps what was wrong.
     pub fn right(&mut self, holds: bool, what: &'static str) {
         if !holds {
             self.wrong(what);
         }
     }
 
-    /// It is wrong.
+    /// Keeps what was wrong, if nothing was wrong before.
     pub fn wrong(&mut self, what: &'static str) {
         if self.wrong.is_none() {
             self.wrong = Some(what);
@@ -49,7 +49,7 @@ impl Seen {
         self.wrong
     }
 
-    /// The exit status where nothing was wrong.
+    /// The exit status if nothing was wrong.
     pub fn status(&self) -> u8 {
         if self.wants == 0 { 0 } else { 4 }
     }

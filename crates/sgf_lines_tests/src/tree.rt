@@ -1,10 +1,10 @@
-//! The calls of `sgf_tree` that take memory.
+//! The calls of `sgf_tree` that ask for memory.
 
 use crate::seen::Seen;
 use sgf_tree::{Collection, NodeRef, PropRef, ReadFault, push_text, read};
 use std::alloc::Global;
 
-/// A game of two lines, which end at the places 8 and 22.
+/// A game of two lines, which have the places 8 and 22.
 pub const TWO: &[u8] = b"(;SZ[3](;B[aa])(;B[bb];W[aa]))";
 
 /// Its nodes: the parent, the place, whether it is a leaf, and the last node below it.
@@ -44,13 +44,13 @@ fn two(alloc: Global, seen: &mut Seen) {
     }
 }
 
-/// A game without a node is faulty at its second byte.
+/// A game without a node is faulty at byte 1.
 fn first_fault(alloc: Global, seen: &mut Seen) {
     let at = faulty_byte(alloc, b"(B[aa])", seen);
     seen.right(at == Some(1), "the first fault");
 }
 
-/// Each front of the game of two lines but the whole ends too early.
+/// Each proper prefix of the game of two lines ends too early.
 fn fronts(alloc: Global, seen: &mut Seen) {
     for length in 0..TWO.len() {
         let at = faulty_byte(alloc, &TWO[..length], seen);
@@ -58,7 +58,7 @@ fn fronts(alloc: Global, seen: &mut Seen) {
     }
 }
 
-/// The first faulty byte of a text, counted from 0; none where it is read.
+/// The offset of the first faulty byte of a text, from 0; None if the text is read.
 fn faulty_byte(alloc: Global, text: &[u8], seen: &mut Seen) -> Option<usize> {
     match reading(alloc, text, seen) {
         Err(ReadFault::NotSgf { at }) => Some(at),
@@ -66,7 +66,7 @@ fn faulty_byte(alloc: Global, text: &[u8], seen: &mut Seen) -> Option<usize> {
     }
 }
 
-/// Reads a text, and once more where memory was refused.
+/// Reads a text, once more if memory was refused.
 fn reading<'a>(
     alloc: Global,
     text: &'a [u8],
@@ -132,7 +132,8 @@ fn name(collection: &Collection<'_>, out: &mut Vec<u8>, seen: &mut Seen) {
     seen.right(out.as_slice() == b"xGM;GM[1]".as_slice(), "a node appended");
 }
 
-/// Appends a name to a vector of these bytes, and once more where memory was refused; the vector has the same bytes then.
+/// Appends a name to a vector with these bytes. If memory was refused, the vector must be unchanged, and the name is appended
+/// once more.
 fn append_name(property: &PropRef<'_>, before: &[u8], out: &mut Vec<u8>, seen: &mut Seen) {
     seen.call();
     if property.push_name(out).is_err() {
@@ -142,7 +143,8 @@ fn append_name(property: &PropRef<'_>, before: &[u8], out: &mut Vec<u8>, seen: &
     }
 }
 
-/// Appends a node to a vector of these bytes, and once more where memory was refused; the vector has the same bytes then.
+/// Appends a node to a vector with these bytes. If memory was refused, the vector must be unchanged, and the node is appended
+/// once more.
 fn append_node(node: &NodeRef<'_, '_>, before: &[u8], out: &mut Vec<u8>, seen: &mut Seen) {
     seen.call();
     if node.push_to(out).is_err() {
@@ -152,7 +154,7 @@ fn append_node(node: &NodeRef<'_, '_>, before: &[u8], out: &mut Vec<u8>, seen: &
     }
 }
 
-/// Appends decoded texts, each to an empty vector and then to itself.
+/// Appends decoded texts, each to an empty vector and then once more.
 fn texts(alloc: Global, seen: &mut Seen) {
     for (raw, text) in TEXTS {
         let mut out = Vec::new(alloc);
@@ -160,7 +162,7 @@ fn texts(alloc: Global, seen: &mut Seen) {
     }
 }
 
-/// Appends a decoded text to an empty vector and then to itself.
+/// Appends a decoded text to an empty vector, and then once more.
 fn text_twice(raw: &[u8], text: &[u8], out: &mut Vec<u8>, seen: &mut Seen) {
     append_text(raw, b"", out, seen);
     seen.right(out.as_slice() == text, "a decoded text");
@@ -170,7 +172,8 @@ fn text_twice(raw: &[u8], text: &[u8], out: &mut Vec<u8>, seen: &mut Seen) {
     seen.right(is_twice, "a decoded text after another");
 }
 
-/// Appends a decoded text to a vector of these bytes, and once more where memory was refused; the vector has the same bytes then.
+/// Appends a decoded text to a vector with these bytes. If memory was refused, the vector must be unchanged, and the text is
+/// appended once more.
 fn append_text(raw: &[u8], before: &[u8], out: &mut Vec<u8>, seen: &mut Seen) {
     seen.call();
     if push_text(raw, out).is_err() {

@@ -1,13 +1,14 @@
-//! Worked examples of `sgf_tree`, called as by any program that stands on it: nodes, names, values and numbers.
+//! Worked examples of `sgf_tree`, which call it as any other crate does: nodes, names, values and numbers.
 //!
-//! They stand beside that crate and not within: a crate that has tests is proved once more with them. First faults, places, values and
-//! decoded text are tried on the program itself (`tests/program.sh`, `tests/values.sh`), parents and the last nodes below in `sgf_lines_tests`.
+//! They are in a crate of their own because a crate with tests is proved once more with them. Tests of the program cover first
+//! faults, places, values and decoded text (`tests/program.sh`, `tests/values.sh`). `sgf_lines_tests` covers parents and the last
+//! nodes below.
 //!
 //! | Module | Examples of |
 //! |---|---|
-//! | `node` | which nodes tell their first property at a glance, what the sgf form writes, and properties one after another |
+//! | `node` | for which nodes `front` returns a property, what the sgf form writes, and properties one after another |
 //! | `property` | names, and values that outlive their collection |
-//! | `numbers` | numbers, and what is none |
+//! | `numbers` | values that are numbers, and values that aren't |
 #![tactic(auto)]
 
 #[cfg(test)]

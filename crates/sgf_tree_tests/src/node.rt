@@ -1,9 +1,9 @@
-//! Nodes: which tell their first property at a glance, which no clause says, and how the sgf form writes them.
+//! Nodes: for which of them `front` returns a property, which no clause says, and how the sgf form writes them.
 
 use sgf_tree::{Collection, NodeRef, Properties, read};
 use std::alloc::Global;
 
-/// Whether a node tells its first property at a glance, how many are left after that, and what the sgf form writes for it.
+/// Whether `front` returns the first property, how many properties are left after it, and what the sgf form writes for the node.
 type Look = (bool, usize, &'static str);
 
 /// How many properties are left.
@@ -15,7 +15,7 @@ fn count(left: Properties<'_, '_>) -> usize {
     count
 }
 
-/// The node looks so.
+/// Whether the node is as wanted.
 fn looks(alloc: Global, node: &NodeRef<'_, '_>, want: Look) -> bool {
     let (told, left) = node.front();
     let mut text = Vec::new(alloc);
@@ -25,7 +25,7 @@ fn looks(alloc: Global, node: &NodeRef<'_, '_>, want: Look) -> bool {
         && text.as_slice() == want.2.as_bytes()
 }
 
-/// The text's first node looks so.
+/// Whether the text's first node is as wanted.
 fn gives(alloc: Global, text: &str, want: Look) -> bool {
     match read(alloc, text.as_bytes()) {
         Ok(collection) => collection.nodes() > 0 && looks(alloc, &collection.node(0), want),
@@ -74,7 +74,7 @@ fn nodes_at_a_glance(rt: HostRuntime) {
     }
 }
 
-/// The properties of the root: how many there are, how many values they have, and how many bytes these have.
+/// Of the root: how many properties it has, how many values they have, and how many bytes these have.
 fn sizes(collection: &Collection<'_>) -> (usize, usize, usize) {
     let mut values = 0usize;
     let mut bytes = 0usize;

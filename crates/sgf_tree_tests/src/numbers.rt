@@ -1,4 +1,4 @@
-//! Numbers, and what is none.
+//! Values that are numbers, and values that aren't.
 
 use sgf_tree::number;
 

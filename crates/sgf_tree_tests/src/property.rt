@@ -1,9 +1,10 @@
-//! Names of properties, the capitals of what is written; and values, which are parts of the text and live as long as it does.
+//! Names of properties, which are the capitals of the written identifiers; and values, which are parts of the text and live as
+//! long as it does.
 
 use sgf_tree::read;
 use std::alloc::Global;
 
-/// The first property of the text's first node has this name, and none of the others.
+/// Whether the first property of the text's first node has this name, and none of the others.
 fn gives(alloc: Global, text: &str, name: &str, others: &[&str]) -> bool {
     match read(alloc, text.as_bytes()) {
         Ok(collection) => {
@@ -30,7 +31,7 @@ fn names(rt: HostRuntime) {
     }
 }
 
-/// The first value of the root's property of that name. Its collection is gone by then: the value is a part of the text.
+/// The first value of the root's property with that name. The collection is dropped by then: the value is a part of the text.
 fn value_of<'a>(alloc: Global, text: &'a [u8], name: &[u8]) -> Option<&'a [u8]> {
     match read(alloc, text) {
         Ok(collection) => {

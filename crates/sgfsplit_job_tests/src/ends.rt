@@ -3,7 +3,7 @@
 use std::io;
 use std::io::{ErrorKind, Read, Write};
 
-/// A reader of a text that fails at one of its calls, from 1, as where it is interrupted.
+/// A reader of a text. One of its calls, counted from 1, fails as if it was interrupted.
 #[derive(Drop)]
 pub(crate) struct Reads<'a> {
     pub(crate) left: &'a [u8],
@@ -25,7 +25,7 @@ impl Read for Reads<'_> {
     }
 }
 
-/// A writer that takes at most `most` bytes a call and fails at one of its writes, from 1, or at each flush.
+/// A writer that takes at most `most` bytes at a call. One of its writes, counted from 1, fails, or each flush does.
 #[derive(Drop)]
 pub(crate) struct Writes {
     pub(crate) calls: u32,
@@ -37,7 +37,7 @@ pub(crate) struct Writes {
 }
 
 impl Writes {
-    /// A writer of which nothing was asked, that doesn't fail.
+    /// A writer that doesn't fail, before its first call.
     pub(crate) fn new() -> Writes {
         Writes {
             calls: 0,

@@ -1,4 +1,4 @@
-//! A job over a text in memory, as the program does it over its streams.
+//! A job over a text in memory, done as the program does it over its streams.
 
 ghost use Rattle.std.specs.Prelude.{IfOk};
 ghost use Rattle.sgfsplit_job_tests.specs.InMemory.{HasWritten};
@@ -7,14 +7,14 @@ use sgf_lines::{BufferedSink, SliceSource, WriteSink};
 use sgfsplit_job::{Job, act};
 use std::alloc::{AllocError, Global};
 
-/// What a job came to: the exit status, and what was written.
+/// The result of a job: the exit status, and what was written.
 #[derive(Drop)]
 pub struct Done {
     pub status: u8,
     pub written: Vec<u8>,
 }
 
-/// Does a job over a text. With status 0 all that was asked for is written, whole.
+/// Does a job over a text. With status 0 all that was asked for is written.
 pub fn done_in_memory(alloc: Global, job: &Job, text: &[u8]) -> Result<Done, AllocError>
     ensures { IfOk result (λ done. HasWritten job.now text.now done.status done.written.items) }
 {

@@ -21,7 +21,7 @@ fn split(form: Form) -> Job {
     }
 }
 
-/// Does a job as the program does, and answers the status.
+/// Does a job as the program does, and returns the status.
 fn status(
     alloc: Global,
     job: &Job,
@@ -35,7 +35,7 @@ fn status(
     Ok(act(alloc, job, &mut source, &mut output, &mut faults))
 }
 
-/// A reader of a text that fails at that call.
+/// A reader of a text that fails at this call.
 fn reads(text: &[u8], fails_at: u32) -> Reads<'_> {
     Reads {
         left: text,

@@ -1,12 +1,12 @@
-//! Examples of `sgfsplit_job`: a job over a text in memory, proved to write what was asked for; and tests between ends whose calls are counted,
-//! and which may fail, of what no clause says of the calls that a job makes.
+//! Examples of `sgfsplit_job`. A job over a text in memory is proved to write what was asked for. Tests check what no clause
+//! says: how many calls a job makes on its reader and its writers. These count their calls, and may fail.
 //!
 //! | Module | What it has |
 //! |---|---|
 //! | `in_memory` | a job over a text in memory, done as the program does it over its streams |
 //! | `ends` | a reader and a writer that count their calls, and may fail |
 //! | `jobs` | jobs between them: how many calls are made, and that none follows a failure |
-//! | `words` | the jobs of words |
+//! | `words` | the jobs that words ask for |
 #![tactic(auto)]
 
 #[cfg(test)]

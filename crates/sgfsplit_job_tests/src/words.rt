@@ -1,4 +1,4 @@
-//! The jobs of words.
+//! The jobs that words ask for.
 
 use sgf_lines::{Form, Options};
 use sgfsplit_job::{Job, job};
