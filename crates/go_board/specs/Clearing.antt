@@ -10,23 +10,24 @@ use Rattle.go_board.specs.Point.{IsOn, points}
 use Rattle.go_board.specs.Grid.{Grid, cell_at, with_cell, grid_of}
 use Rattle.go_board.specs.Reaching.{Reaches, reaches}
 
--- what stands on a point once a colour was cleared: nothing, where it has that colour and doesn't reach empty
+-- What stands on a point after a colour was cleared: nothing if it had that colour and didn't reach empty, else what stood there.
 unfoldable pub cleared_cell : Grid → Colour → Point → Cell
 cleared_cell grid colour point =
     if same_cell (cell_at grid point) (stone_of colour) && not (reaches grid Empty point) then Empty
     else cell_at grid point
 
--- the grid once a colour's groups without a liberty were taken off: all points of the colour that don't reach empty are
--- made empty, each tested on the grid as it was
+-- The grid after a colour was cleared, so its groups without a liberty were taken off. Each point of the colour that doesn't
+-- reach empty is made empty. All points are tested on the grid as it was.
 unfoldable pub clear : Grid → Colour → Grid
 clear grid colour = grid_of grid.side (cleared_cell grid colour)
 
--- playing a stone: the point takes the player's colour, then the opponent's colour is cleared, which captures, and then
--- the player's own, which is suicide: legal, but for the stone alone, which brings the colouring before it back (Reason.antt)
+-- Playing a stone: the point takes the player's colour. Then the opponent's colour is cleared, which captures. Then the player's
+-- own colour is cleared, which is suicide. Suicide is legal, except of the stone alone, which restores the colouring before it
+-- (Reason.antt).
 unfoldable pub play : Grid → Colour → Point → Grid
 play grid colour point = clear (clear (with_cell grid point (stone_of colour)) (opponent colour)) colour
 
--- some stone has no liberty: it doesn't reach empty
+-- some stone has no liberty, so it doesn't reach empty
 abbrev pub HasUnreaching : Grid → Type 0
 HasUnreaching grid =
     (point : Point) × IsOn grid.side point × (cell_at grid point ≢ Empty) × (¬ (Reaches grid Empty point))

@@ -15,7 +15,7 @@ abbrev pub stone_of : Colour → Cell
 stone_of BlackPlayer = Black
 stone_of WhitePlayer = White
 
--- whether two points are coloured alike
+-- whether two points have the same colour
 abbrev pub same_cell : Cell → Cell → Bool
 same_cell Black Black = true
 same_cell White White = true

@@ -14,14 +14,14 @@ pub record Grid : Type 0 where
 abbrev pub cell_at : Grid → Point → Cell
 cell_at grid point = slice_index_or grid.cells (index_of grid.side point) Empty
 
--- the grid of that side on which nothing stands
+-- the empty grid of that side
 abbrev pub empty_grid : ℕ → Grid
 empty_grid side = record { side = side; cells = replicate (side * side) Empty }
 
--- the grid with that one point coloured anew
+-- the grid with the cell on that one point
 abbrev pub with_cell : Grid → Point → Cell → Grid
 with_cell grid point cell = record grid { cells = slice_set grid.cells (index_of grid.side point) cell }
 
--- the grid of that side whose points are coloured by a function
+-- the grid of that side whose points are coloured by the function
 abbrev pub grid_of : ℕ → (Point → Cell) → Grid
 grid_of side colour = record { side = side; cells = map colour (points side) }

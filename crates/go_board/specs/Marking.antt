@@ -3,7 +3,7 @@ use Rattle.std.specs.Prelude.{ℕ, Bool, false, List, map, count_by, slice_index
 use Rattle.go_board.specs.declared.points.Point.{Point}
 use Rattle.go_board.specs.Point.{index_of, points}
 
--- the side, and a mark or none for each point, row by row from the top, from left to right
+-- the side, and for each point whether it is marked: row by row from the top, from left to right
 pub record Marking : Type 0 where
   pub side : ℕ
   pub marks : List Bool

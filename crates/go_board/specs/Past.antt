@@ -1,5 +1,5 @@
--- The past colourings of a game, each with whether it begins a stretch. Positional superko looks at the present stretch alone:
--- what it forbids is in Reason.antt.
+-- The past colourings of a game, each with whether it begins a stretch. Positional superko looks at the present stretch alone.
+-- Reason.antt defines what it forbids.
 use Rattle.std.specs.Prelude.{◌≡◌, ℕ, Bool, true, List, [], ◌∷◌, if◌then◌else◌}
 use Rattle.go_board.specs.Grid.{Grid}
 
@@ -8,7 +8,7 @@ pub record Held : Type 0 where
   pub colouring : Grid
   pub begins : Bool
 
--- the past colourings: the newest, and those before it, newest first
+-- the newest past colouring, and the older ones, newest first
 pub record PastColourings : Type 0 where
   pub newest : Held
   pub older : List Held
@@ -25,12 +25,12 @@ newest_grid past = past.newest.colouring
 abbrev pub only : Grid → PastColourings
 only grid = record { newest = record { colouring = grid; begins = true }; older = [] }
 
--- one colouring more, which begins a stretch or goes on in the present one
+-- one more colouring, which begins a stretch or continues the present one
 abbrev pub with_next : PastColourings → Grid → Bool → PastColourings
 with_next past grid begins =
     record { newest = record { colouring = grid; begins = begins }; older = all_of past }
 
--- the colourings of the newest stretch: the newest one that begins a stretch, and all after it
+-- the colourings of the newest stretch, newest first: back to the first one that begins a stretch
 abbrev pub stretch_of : List Held → List Grid
 stretch_of [] = []
 stretch_of (first ∷ others) = first.colouring ∷ (if first.begins then [] else stretch_of others)

@@ -8,11 +8,11 @@ use Rattle.go_board.specs.declared.points.Rect.{Rect}
 abbrev pub IsOn : ℕ → Point → Type 0
 IsOn side point = (point.col < side) × (point.row < side)
 
--- one of the two numbers is the other and one more
+-- one of the two numbers is the other plus 1
 abbrev pub DifferByOne : ℕ → ℕ → Type 0
 DifferByOne a b = (a + 1 ≡ b) ⊎ (b + 1 ≡ a)
 
--- side by side in a column or in a row
+-- the points are side by side, in a column or in a row
 abbrev pub AreAdjacent : Point → Point → Type 0
 AreAdjacent point other =
     ((point.col ≡ other.col) × DifferByOne point.row other.row)
@@ -29,7 +29,7 @@ abbrev pub IsRectOn : ℕ → Rect → Type 0
 IsRectOn side rect =
     IsOn side rect.first × IsOn side rect.last × (rect.first.col ≤ rect.last.col) × (rect.first.row ≤ rect.last.row)
 
--- the index of a point in a list that goes row by row from the top, from left to right
+-- the index of a point, from 0, in the list of the points row by row from the top, from left to right
 abbrev pub index_of : ℕ → Point → ℕ
 index_of side point = point.row * side + point.col
 

@@ -1,6 +1,6 @@
--- Reaching a colour, as the Tromp-Taylor rules say it: by a path of adjacent points of the point's own colour. The empty
--- points beside a group are its liberties: a stone reaches empty where its group has one. A point of that colour reaches
--- it too, by itself (this project's choice; clearing and the score don't ask it).
+-- Reaching a colour, as the Tromp-Taylor rules define it: by a path of adjacent points of the point's own colour. The empty
+-- points beside a group are its liberties: a stone reaches empty if its group has one. A point of the wanted colour reaches it by
+-- itself. That is this project's choice; clearing and the score don't depend on it.
 use Rattle.std.specs.Prelude.{◌≡◌, ℕ, zero, suc, ◌*◌, Bool, ◌&&◌, ◌||◌, List, [], ◌∷◌}
 use Rattle.std.specs.List.{list_any}
 use Rattle.go_board.specs.declared.stones.Cell.{Cell}
@@ -10,8 +10,8 @@ use Rattle.go_board.specs.Point.{IsOn, AreAdjacent, are_adjacent, points}
 use Rattle.go_board.specs.Grid.{Grid, cell_at}
 use Rattle.go_board.specs.Marking.{Marking, is_marked, marking_of}
 
--- from the point the path leads to one of the wanted colour: each of its points is on the grid and adjacent to the one
--- before, and all but the last have the colour own
+-- The path leads from the point to one of the wanted colour. Each of its points is on the grid and adjacent to the one before.
+-- All points but the last have the colour `own`.
 abbrev pub Leads : Grid → Cell → Cell → Point → List Point → Type 0
 Leads grid own wanted point [] = IsOn grid.side point × (cell_at grid point ≡ wanted)
 Leads grid own wanted point (next ∷ path) =
@@ -21,9 +21,9 @@ Leads grid own wanted point (next ∷ path) =
 abbrev pub Reaches : Grid → Cell → Point → Type 0
 Reaches grid wanted point = (path : List Point) × Leads grid (cell_at grid point) wanted point path
 
--- Below, the same as a function that computes; the laws say that the two agree for points of the grid.
+-- Below, the same as a function that computes; the laws say that the two agree on the points of the grid.
 
--- the next point stands beside the point, is marked, and has the point's colour or the wanted one
+-- the next point is beside the point, is marked, and has the point's colour or the wanted one
 abbrev pub leads_on : Grid → Cell → Marking → Point → Point → Bool
 leads_on grid wanted marking point next =
     are_adjacent point next
@@ -36,11 +36,11 @@ spread grid wanted marking =
     marking_of grid.side
     (λ point. is_marked marking point || list_any (leads_on grid wanted marking point) (points grid.side))
 
--- the points that reach the wanted colour in at most so many steps
+-- the points that reach the wanted colour in at most this many steps
 unfoldable pub reaching_within : Grid → Cell → ℕ → Marking
 reaching_within grid wanted zero = marking_of grid.side (λ point. same_cell (cell_at grid point) wanted)
 reaching_within grid wanted (suc steps) = spread grid wanted (reaching_within grid wanted steps)
 
--- the point reaches the wanted colour: a path need not have more steps than the grid has points
+-- the point reaches the wanted colour; a path needs no more steps than the grid has points
 unfoldable pub reaches : Grid → Cell → Point → Bool
 reaches grid wanted point = is_marked (reaching_within grid wanted (grid.side * grid.side)) point

@@ -14,9 +14,12 @@ use Rattle.go_board.specs.Grid.{Grid, cell_at}
 use Rattle.go_board.specs.Clearing.{play}
 use Rattle.go_board.specs.State.{State, is_over}
 
--- the reason holds of the turn: two passes in a row ended the game; it is the other player's turn; the point isn't
--- empty; the colouring that the stone makes was there since the last setup of stones, whoever moved then (positional
--- superko); the reasons of whole nodes hold of no turn
+-- The reason holds of the turn:
+-- - Over: two passes in a row ended the game.
+-- - Turn: the other player must move.
+-- - Occupied: the point isn't empty.
+-- - Repeat: the colouring that the stone makes was there since the last setup of stones, whoever moved then (positional superko).
+-- The reasons of whole nodes hold of no turn.
 abbrev pub Forbids : State → Colour → Play → Reason → Type 0
 Forbids state colour turn Over = state.passes ≡ 2
 Forbids state colour turn Turn = state.player ≡ Some (opponent colour)
@@ -40,12 +43,12 @@ rank_of Turn = 5
 rank_of Occupied = 6
 rank_of Repeat = 7
 
--- the reason holds of the turn, and none before it does
+-- the reason holds of the turn, and no reason before it does
 pub record IsFirstReason (state : State) (colour : Colour) (turn : Play) (reason : Reason) : Type 0 where
   pub holds : Forbids state colour turn reason
   pub first : (other : Reason) → rank_of other < rank_of reason → ¬ Forbids state colour turn other
 
--- a colouring of the stretch has a stone on the point, and the one after it has none
+-- Somewhere in the stretch a colouring has a stone on the point, and the one after it has none. The list is newest first.
 abbrev pub WasEmptied : Point → List Grid → Type 0
 WasEmptied point [] = ⊥
 WasEmptied point (later ∷ []) = ⊥
@@ -63,7 +66,7 @@ must_move (Some player) colour = same_cell (stone_of player) (stone_of colour)
 abbrev pub same_grid : Grid → Grid → Bool
 same_grid grid other = (grid.side == other.side) && pointwise same_cell grid.cells other.cells
 
--- the point that a turn's stone is played on isn't empty
+-- the turn is a stone on a point that isn't empty
 abbrev pub is_occupied : State → Play → Bool
 is_occupied state Pass = false
 is_occupied state (Stone point) = not (same_cell (cell_at state.colouring point) Empty)
@@ -81,7 +84,7 @@ reason_of state colour turn =
     else (if is_occupied state turn then Some Occupied
     else (if is_repeat state colour turn then Some Repeat else None)))
 
--- the word that a reason is written as
+-- the word that is written for a reason
 abbrev pub word_of : Reason → List ℕ
 word_of Mixed = codes "mixed"
 word_of TwoMoves = codes "two-moves"

@@ -8,7 +8,7 @@ use Rattle.go_board.specs.Point.{points}
 use Rattle.go_board.specs.Grid.{Grid, cell_at}
 use Rattle.go_board.specs.Reaching.{Reaches, reaches}
 
--- a point counts for a player where it has her colour, or is empty and reaches her colour and not the other's
+-- A point counts for a player if it has her colour, or if it is empty and reaches her colour and not the other's.
 abbrev pub CountsFor : Grid → Colour → Point → Type 0
 CountsFor grid colour point =
     (cell_at grid point ≡ stone_of colour)
@@ -23,6 +23,6 @@ counts_for grid colour point =
     || (same_cell (cell_at grid point) Empty
     && (reaches grid (stone_of colour) point && not (reaches grid (stone_of (opponent colour)) point)))
 
--- a player's score is how many points count for her
+-- a player's score: how many points count for her
 unfoldable pub score_of : Grid → Colour → ℕ
 score_of grid colour = count_by (counts_for grid colour) (points grid.side)

@@ -1,4 +1,4 @@
--- The state of a game, and what setups and turns make of it (Tromp-Taylor; setup by SGF FF[4]).
+-- The state of a game, and what setups and turns do to it (Tromp-Taylor; setup by SGF FF[4]).
 use Rattle.std.specs.Prelude.{◌≡◌, ℕ, ◌+◌, Bool, ◌&&◌, ◌==◌, nat_le, if◌then◌else◌, Option, Some, List, [], ◌∷◌, fold}
 use Rattle.go_board.specs.declared.stones.Colour.{Colour}
 use Rattle.go_board.specs.declared.stones.Colour.TheVariants.{Black}
@@ -12,9 +12,12 @@ use Rattle.go_board.specs.Point.{IsOn}
 use Rattle.go_board.specs.Grid.{Grid, cell_at, empty_grid, grid_of}
 use Rattle.go_board.specs.Clearing.{play}
 
--- a state: the colouring; the colourings since the last setup of stones or since the beginning, the present one among
--- them, newest first; the player who must move, or none where either may; how many passes in a row were made last; how
--- many turns were made
+-- A state:
+-- - the colouring;
+-- - the colourings since the last setup of stones or since the beginning, newest first, the present one among them;
+-- - the player who must move, or None if either may;
+-- - how many passes in a row were made last;
+-- - how many turns were made.
 pub record State : Type 0 where
   pub colouring : Grid
   pub seen : List Grid
@@ -37,9 +40,9 @@ is_in area point =
 unfoldable pub with_area : Grid → SetupOp → Grid
 with_area grid op = grid_of grid.side (λ point. if is_in op.area point then op.cell else cell_at grid point)
 
--- the state after a setup: its areas are coloured in order, nothing is captured, and the colourings begin anew, so that a
--- ko doesn't reach back over a setup; no passes count, and the player who must move is the one given, or none; with no
--- areas the player is set and all else stays
+-- The state after a setup. Its areas are coloured in order, and nothing is captured. The colourings begin anew, so a ko doesn't
+-- reach back over a setup. Passes are 0, and the player who must move is the given one, or None. If there are no areas, the
+-- player is set and all else stays.
 abbrev pub set_up : State → List SetupOp → Option Colour → State
 set_up state [] player = record state { player = player }
 set_up state (op ∷ ops) player =
@@ -51,7 +54,7 @@ abbrev pub IsPlayOn : ℕ → Play → Type 0
 IsPlayOn side Pass = Unit {0}
 IsPlayOn side (Stone point) = IsOn side point
 
--- the state after a player's turn: a pass, or a stone with its captures, or suicide
+-- the state after a player's turn: a pass, or a stone with its captures or its suicide
 abbrev pub turned : State → Colour → Play → State
 turned state colour Pass =
     record state { player = Some (opponent colour); passes = state.passes + 1; turns = state.turns + 1 }
@@ -80,15 +83,15 @@ pub record States : Type 0 where
 abbrev pub begun : ℕ → States
 begun side = record { present = starting side; earlier = [] }
 
--- the oldest of a state and those before it
+-- the oldest among a state and those before it
 abbrev pub oldest_of : State → List State → State
 oldest_of state [] = state
 oldest_of state (earlier ∷ others) = oldest_of earlier others
 
--- the oldest state is that in which a game begins
+-- the oldest state is the one in which a game begins
 abbrev pub HaveBegun : States → Type 0
 HaveBegun states = oldest_of states.present states.earlier ≡ starting states.present.colouring.side
 
--- the states, and then a new present one; undo is the way back from these to `states`
+-- the states, followed by a new present one; undo leads back from these to `states`
 abbrev pub followed_by : States → State → States
 followed_by states state = record { present = state; earlier = states.present ∷ states.earlier }

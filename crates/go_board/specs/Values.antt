@@ -1,5 +1,5 @@
--- The property values of SGF FF[4] that name points. Which value is a pass, as `tt` is, is said where moves are read: the
--- NodeValues.antt of sgf_lines.
+-- The property values of SGF FF[4] that name points. Which values are passes, as `tt` may be, is defined in NodeValues.antt of
+-- sgf_lines, for the values of moves.
 use Rattle.std.specs.Prelude.{ℕ, ◌-◌, ◌+◌, ◌&&◌, ◌==◌, nat_lt, nat_le, if◌then◌else◌, Option, Some, None, option_and_then, List, [], ◌∷◌}
 use Rattle.go_board.specs.declared.points.Point.{Point}
 use Rattle.go_board.specs.declared.points.Rect.{Rect}
@@ -26,7 +26,7 @@ letter_value letter =
     if nat_le small_a letter && nat_le letter small_z then Some (letter - small_a)
     else (if nat_le capital_a letter && nat_le letter capital_z then Some (letter - capital_a + 26) else None)
 
--- the same on a board of that side, which has no further columns and rows
+-- the same on a board of that side: None if the column or row isn't on it
 abbrev pub coordinate : ℕ → ℕ → Option ℕ
 coordinate side letter =
     option_and_then (λ index. if nat_lt index side then Some index else None) (letter_value letter)
@@ -37,7 +37,7 @@ point_of side col_letter row_letter =
     option_and_then (λ col. option_and_then (λ row. Some (record { col = col; row = row })) (coordinate side row_letter))
     (coordinate side col_letter)
 
--- the rectangle of these corners, where the first is the upper left one
+-- the rectangle with these corners; None unless the first is the upper left one
 abbrev pub rect_of : Point → Point → Option Rect
 rect_of first last =
     if nat_le first.col last.col && nat_le first.row last.row then Some (record { first = first; last = last }) else None

@@ -4,7 +4,7 @@
 //!
 //! | Module | Examples of |
 //! |---|---|
-//! | `size`, `values`, `vertices` | sides, the values that name points and rectangles, points as the Go Text Protocol writes them |
+//! | `size`, `values`, `vertices` | sides, values that name points and rectangles, points as the Go Text Protocol writes them |
 //! | `board` | reaching, clearing, scores, moves and copies |
 //! | `moves` | moves one after the other, and a move after points were set |
 //! | `past` | a stretch that begins anew, and prints with the same low bits |

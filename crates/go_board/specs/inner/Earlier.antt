@@ -1,4 +1,4 @@
--- A referee's states, from a past and from what it keeps of each earlier state besides.
+-- A referee's states, made from a past and from what else the referee keeps of each earlier state.
 use Rattle.std.specs.Prelude.{◌≡◌, ℕ, ◌+◌, ◌≤◌, false, Option, List, [], ◌∷◌, if◌then◌else◌, length, reverse}
 use Rattle.go_board.specs.declared.stones.Colour.{Colour}
 use Rattle.go_board.specs.declared.referee.plays.Play.{Play}
@@ -25,7 +25,7 @@ abbrev pub past_of_older : PastColourings → List Held → PastColourings
 past_of_older past [] = past
 past_of_older past (first ∷ others) = record { newest = first; older = others }
 
--- the past before the call of which this is kept
+-- the past before the call that this was kept at
 abbrev pub past_before : PastColourings → Earlier → PastColourings
 past_before past kept = if kept.grew then past_of_older past past.older else past
 
@@ -35,17 +35,17 @@ states_before past [] = []
 states_before past (kept ∷ others) =
     state_of (past_before past kept) kept.player kept.passes kept.turns ∷ states_before (past_before past kept) others
 
--- the present state and the earlier ones; what is kept of these stands oldest first
+-- the present state and the earlier ones; what is kept of the earlier ones stands oldest first
 abbrev pub states_of : PastColourings → Option Colour → ℕ → ℕ → List Earlier → States
 states_of past player passes turns earlier =
     record { present = state_of past player passes turns; earlier = states_before past (reverse earlier) }
 
--- no reason but that of a repeat can forbid the turn
+-- no reason but Repeat can forbid the turn
 abbrev pub MayOnlyRepeat : State → Colour → Play → Type 0
 MayOnlyRepeat state colour turn =
     (is_over state ≡ false) × (must_move state.player (opponent colour) ≡ false) × (is_occupied state turn ≡ false)
 
--- the state once a setup made a colouring
+-- the state after a setup that made this colouring
 abbrev pub with_setup : State → Grid → Option Colour → State
 with_setup state grid player =
     record { colouring = grid; seen = grid ∷ []; player = player; passes = 0; turns = state.turns }
@@ -60,8 +60,9 @@ abbrev pub AreBounded : List Earlier → Type 0
 AreBounded [] = Unit {0}
 AreBounded (kept ∷ others) = (kept.passes ≤ 2) × (kept.turns ≤ length others) × AreBounded others
 
--- what a referee keeps, of its earlier states newest first: past colourings of one side, at least as many older ones as calls
--- that made them grow; at most two passes, and at most as many turns as earlier states; the oldest state is the starting one
+-- What a referee keeps, with its earlier states newest first. The past colourings have one side. At least as many of them are
+-- older ones as calls made the past grow. There are at most two passes, and at most as many turns as earlier states. The oldest
+-- state is the starting one.
 pub record IsRefereeKept (past : PastColourings) (player : Option Colour) (passes turns : ℕ) (earlier : List Earlier) : Type 0 where
   pub one_side : HaveSide (newest_grid past).side past
   pub enough : grown earlier ≤ length past.older

@@ -2,7 +2,7 @@
 use Rattle.std.specs.Prelude.{◌≡◌, ℕ, ◌<◌, false, IsTrue, List, length}
 use Rattle.go_board.specs.inner.Rows.{has_bit, is_set, IsRowClosed, Grows}
 
--- the rows are filled from the first ones, but for some that wait
+-- `rows` was filled from `first` within `room`. Each row is closed, except for some that wait.
 pub record IsFilledBut (room first rows : List ℕ) (waiting : ℕ) : Type 0 where
   pub all : length rows ≡ length room
   pub grows : Grows (is_set room) (is_set first) (is_set rows)

@@ -1,4 +1,4 @@
--- The steps of a flood: a point's neighbours, each added to the points found where it reaches a colour through the point.
+-- The steps of a flood: each neighbour of a point is added to the points found if it reaches a colour through the point.
 use Rattle.std.specs.Prelude.{Bool, ◌||◌, Option, Some, None, if◌then◌else◌, List, [], ◌∷◌}
 use Rattle.go_board.specs.declared.stones.Cell.{Cell}
 use Rattle.go_board.specs.declared.points.Point.{Point}
@@ -8,19 +8,19 @@ use Rattle.go_board.specs.Grid.{Grid, cell_at}
 use Rattle.go_board.specs.inner.Neighbour.{left_of, right_of, above, below}
 use Rattle.go_board.specs.inner.Search.{Searched, nothing_found, with_found}
 
--- whether a neighbour of a point reaches the wanted colour through the point, which reaches it: the point has that colour,
--- or the neighbour has the point's
+-- Whether a neighbour of a point reaches the wanted colour through the point, which reaches it. It does if the point has the
+-- wanted colour, or if the two have the same colour.
 abbrev pub reaches_through : Grid → Cell → Point → Point → Bool
 reaches_through grid wanted point neighbour =
     same_cell (cell_at grid point) wanted || same_cell (cell_at grid neighbour) (cell_at grid point)
 
--- a neighbour of a point is found, if there is one and it reaches the wanted colour through the point
+-- the search after a neighbour was found, if there is one and it reaches the wanted colour through the point
 unfoldable pub with_neighbour : Grid → Cell → Point → Option Point → Searched → Searched
 with_neighbour grid wanted point None search = search
 with_neighbour grid wanted point (Some neighbour) search =
     if reaches_through grid wanted point neighbour then with_found search neighbour else search
 
--- all four neighbours of a point are dealt with
+-- the search after all four neighbours of a point were looked at
 unfoldable pub with_neighbours : Grid → Cell → Point → Searched → Searched
 with_neighbours grid wanted point search =
     with_neighbour grid wanted point (below grid.side point)

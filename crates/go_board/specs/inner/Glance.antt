@@ -1,5 +1,5 @@
--- What the words of bits around a point tell of a stone on it. The rows around it are counted from the second one above
--- it: 0 and 1 are above it, 2 is its own, 3 and 4 are below it.
+-- What the words of bits around a point say about a stone on it. The rows around it are counted from the second row above it: 0
+-- and 1 are above it, 2 is its own, 3 and 4 are below it.
 use Rattle.std.specs.Prelude.{◌≡◌, ℕ, ◌+◌, false, IsTrue, List, length}
 use Rattle.go_board.specs.declared.points.Point.{Point}
 use Rattle.go_board.specs.declared.board.glance.RowStones.{RowStones}

@@ -1,4 +1,4 @@
--- Groups without liberties, grids once points were taken off, and grids on which every stone reaches empty.
+-- Groups without liberties, grids after points were taken off, and grids on which every stone reaches empty.
 use Rattle.std.specs.Prelude.{◌≡◌, ◌≢◌, ◌⊎◌, Bool, ◌&&◌, not, IsTrue, length}
 use Rattle.go_board.specs.declared.stones.Cell.TheVariants.{Empty}
 use Rattle.go_board.specs.declared.stones.Colour.{Colour}
@@ -9,8 +9,8 @@ use Rattle.go_board.specs.Grid.{Grid, cell_at}
 use Rattle.go_board.specs.Reaching.{Reaches, reaches}
 use Rattle.go_board.specs.Clearing.{clear}
 
--- the points that pass the test are stones of one colour, with each stone of that colour beside one of them, and no point
--- beside them is empty
+-- The points that pass the test are stones of one colour. Each stone of that colour beside one of them passes, too. No point
+-- beside them is empty.
 pub record IsWithoutLiberty (grid : Grid) (colour : Colour) (test : Point → Bool) : Type 0 where
   pub stones : (point : Point) → IsOn grid.side point → IsTrue (test point) → cell_at grid point ≡ stone_of colour
   pub shut : (point neighbour : Point) → IsOn grid.side point → IsOn grid.side neighbour → AreAdjacent point neighbour
@@ -36,20 +36,19 @@ abbrev pub ReachBeside : Grid → Colour → Point → Type 0
 ReachBeside grid colour point =
     (neighbour : Point) → IsOn grid.side neighbour → AreAdjacent point neighbour → ReachesIfStone grid colour neighbour
 
--- once a stone of a colour is on a point, it reaches empty, and so do the opponent's stones beside it: then nothing is
--- captured
+-- A stone of the colour on the point reaches empty, and so do the opponent's stones beside it. So nothing is captured.
 abbrev pub AllLive : Grid → Colour → Point → Type 0
 AllLive grid colour point = ReachesIfStone grid colour point × ReachBeside grid (opponent colour) point
 
--- the grid after is the one before with the points that are meant emptied
+-- `after` is `before` with the points of `Gone` emptied
 pub record IsWithout (before after : Grid) (Gone : Point → Type 0) : Type 0 where
   pub same_side : after.side ≡ before.side
   pub all : length after.cells ≡ length before.cells
   pub emptied : (point : Point) → IsOn before.side point → Gone point → cell_at after point ≡ Empty
   pub kept : (point : Point) → IsOn before.side point → (¬ Gone point) → cell_at after point ≡ cell_at before point
 
--- the grid after is the one before without some stones of a colour: what reached empty still does, and clearing the
--- colour gives the same grid
+-- `after` is `before` without some stones of a colour. What reached empty still does, and clearing the colour gives the same
+-- grid.
 pub record LosesShut (before after : Grid) (colour : Colour) : Type 0 where
   pub same_side : after.side ≡ before.side
   pub all : length after.cells ≡ length before.cells

@@ -1,10 +1,10 @@
--- The group of a stone, as sets of points: the stones of its colour that are linked to it, and the liberties beside them.
+-- The group of a stone, as sets of points: the stones of its colour that are linked to it, and their liberties.
 use Rattle.std.specs.Prelude.{◌≡◌, ◌⊎◌, ℕ, Bool, false, IsTrue, List, length}
 use Rattle.go_board.specs.declared.points.Point.{Point}
 use Rattle.go_board.specs.Point.{IsOn, AreAdjacent}
 use Rattle.go_board.specs.inner.Rows.{is_set, IsAmong, IsClosed, IsRowClosed}
 
--- a set that has the one point, and with a point each adjacent one that there is room for, has the other point, too
+-- Every set that has the one point and is closed within the room has the other point, too.
 abbrev pub IsLinked : (Point → Bool) → Point → Point → Type 0
 IsLinked room from point = (set : Point → Bool) → IsClosed room set → IsTrue (set from) → IsTrue (set point)
 
@@ -12,7 +12,7 @@ IsLinked room from point = (set : Point → Bool) → IsClosed room set → IsTr
 abbrev pub IsFilled : List ℕ → List ℕ → Point → Type 0
 IsFilled own others point = IsTrue (is_set own point) ⊎ IsTrue (is_set others point)
 
--- an empty point beside a stone that is linked to the one on a point
+-- an empty point beside a stone that is linked to the stone on `from`
 pub record IsLiberty (own others : List ℕ) (from point : Point) : Type 0 where
   pub stone : Point
   pub on_grid : IsOn (length own) point
@@ -22,7 +22,7 @@ pub record IsLiberty (own others : List ℕ) (from point : Point) : Type 0 where
   pub not_own : is_set own point ≡ false
   pub not_other : is_set others point ≡ false
 
--- the stones of a group that are in one row
+-- the stones of a group, all in one row
 pub record IsRowGroup (own : List ℕ) (from : Point) (group : List ℕ) : Type 0 where
   pub within : IsAmong (is_set group) (is_set own)
   pub start : IsTrue (is_set group from)
@@ -30,7 +30,7 @@ pub record IsRowGroup (own : List ℕ) (from : Point) (group : List ℕ) : Type 
   pub one_row : (point : Point) → IsTrue (is_set group point) → point.row ≡ from.row
   pub closed : IsRowClosed (is_set own) (is_set group) from.row
 
--- the group of the stone on a point, beside which all points are filled
+-- the group of the stone on a point; all points beside the group are filled
 pub record IsShutIn (own others : List ℕ) (from : Point) (group : List ℕ) : Type 0 where
   pub within : IsAmong (is_set group) (is_set own)
   pub start : IsTrue (is_set group from)

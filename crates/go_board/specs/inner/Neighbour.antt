@@ -1,4 +1,4 @@
--- The four neighbours of a point, where they are on the grid.
+-- The four neighbours of a point; None if a neighbour isn't on the grid.
 use Rattle.std.specs.Prelude.{ℕ, ◌+◌, ◌-◌, nat_lt, Option, Some, None, if◌then◌else◌}
 use Rattle.go_board.specs.declared.points.Point.{Point}
 

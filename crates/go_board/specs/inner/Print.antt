@@ -1,4 +1,4 @@
--- The print of a colouring: one number made of what stands on all its points.
+-- The print of a colouring: one number made from what stands on all its points.
 use Rattle.std.specs.Prelude.{ℕ, ◌+◌, ◌*◌, ◌%◌, ◌^◌, List, [], ◌∷◌, map}
 use Rattle.go_board.specs.declared.stones.Cell.{Cell}
 use Rattle.go_board.specs.declared.stones.Cell.TheVariants.{Black, White, Empty}
@@ -9,12 +9,12 @@ code_of Empty = 0
 code_of Black = 1
 code_of White = 2
 
--- the codes as the digits of a number in base 31, after the digits of another one
+-- the codes as the digits of a number in base 31, after the digits of another number
 abbrev pub digits_after : ℕ → List Cell → ℕ
 digits_after number [] = number
 digits_after number (cell ∷ cells) = digits_after (31 * number + code_of cell) cells
 
--- the print, of 64 bits
+-- the print, a 64-bit number
 abbrev pub print_of : List Cell → ℕ
 print_of cells = digits_after 0 cells % 2 ^ 64
 

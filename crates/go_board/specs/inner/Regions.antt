@@ -11,7 +11,7 @@ use Rattle.go_board.specs.Grid.{Grid, cell_at, grid_of}
 use Rattle.go_board.specs.Reaching.{reaches}
 use Rattle.go_board.specs.inner.Rows.{has_bit, is_set}
 
--- a cell is one of two
+-- the cell is one of the two
 abbrev pub is_either : Cell → Cell → Cell → Bool
 is_either cell one other = same_cell cell one || same_cell cell other
 
@@ -38,26 +38,26 @@ pub record AreStones (grid : Grid) (rows : StoneRows) : Type 0 where
   pub black : AreRowsOf grid.side (λ point. same_cell (cell_at grid point) Black) (take grid.side rows.black)
   pub white : AreRowsOf grid.side (λ point. same_cell (cell_at grid point) White) (take grid.side rows.white)
 
--- the grid with the points of a row in a set of columns coloured anew
+-- the grid with the cell on the points of a row that are in a set of columns
 unfoldable pub with_columns : Grid → ℕ → ℕ → Cell → Grid
 with_columns grid row columns cell =
     grid_of grid.side (λ point. if (point.row == row) && has_bit columns point.col then cell else cell_at grid point)
 
--- a point of the wanted colour, or one of the own colour that reaches it
+-- a point of the wanted colour, or one of the colour `own` that reaches it
 abbrev pub reaches_through_own : Grid → Cell → Cell → Point → Bool
 reaches_through_own grid own wanted point = is_either (cell_at grid point) own wanted && reaches grid wanted point
 
--- how many points of a square are set in the one and not in the other
+-- how many points of a square are set in one and not in the other
 unfoldable pub count_apart : ℕ → List ℕ → List ℕ → ℕ
 count_apart side rows others = count_by (λ point. is_set rows point && not (is_set others point)) (points side)
 
--- the points of the one set that aren't in the other
+-- the points of one set that aren't in the other
 pub record IsDifference (rows others left : List ℕ) : Type 0 where
   pub on : (point : Point) → point.row < length rows → point.col < 64
       → is_set left point ≡ (is_set rows point && not (is_set others point))
   pub off : (point : Point) → IsTrue (is_set left point) → IsTrue (is_set rows point)
 
--- the points of the one set beside a point of the other
+-- the points of one set that are beside a point of the other
 pub record AreBeside (rows others beside : List ℕ) : Type 0 where
   pub from : (point : Point) → IsTrue (is_set beside point)
       → IsTrue (is_set rows point) × ((neighbour : Point) × AreAdjacent point neighbour × IsTrue (is_set others neighbour))

@@ -12,41 +12,41 @@ has_bit word col = bit_at word col == 1
 abbrev pub is_set : List ℕ → Point → Bool
 is_set rows point = has_bit (slice_index rows point.row) point.col
 
--- the row above one, with no bit above the first
+-- the row above a row; above the first row no bit is set
 abbrev pub row_above : List ℕ → ℕ → ℕ
 row_above rows zero = 0
 row_above rows (suc row) = slice_index rows row
 
 -- Sets of columns of one row.
 
--- each column of the one set is in the other
+-- each column of `some` is in `all`
 abbrev pub IsPart : (ℕ → Bool) → (ℕ → Bool) → Type 0
 IsPart some all = (col : ℕ) → IsTrue (some col) → IsTrue (all col)
 
--- with a column the set has each column beside it that there is room for
+-- the set has each column of the room that is beside one of its columns
 abbrev pub HasBeside : (ℕ → Bool) → (ℕ → Bool) → Type 0
 HasBeside room set =
     (col beside : ℕ) → DifferByOne col beside → IsTrue (room col) → IsTrue (set beside) → IsTrue (set col)
 
--- with a column the set has the next one, if there is room for it
+-- the set has each column of the room that is next after one of its columns
 abbrev pub HasNext : (ℕ → Bool) → (ℕ → Bool) → Type 0
 HasNext room set = (col : ℕ) → IsTrue (set col) → IsTrue (room (suc col)) → IsTrue (set (suc col))
 
--- a word is the seed and columns that each closed set with the seed has, too, all of them within the room, and as wide as it
--- can be towards the next columns
+-- A word is the seed, and columns that each closed set with the seed also has. All of them are within the room. Towards the next
+-- columns the word is as wide as it can be.
 pub record IsWidened (room seed word : ℕ) : Type 0 where
   pub within : IsPart (has_bit word) (has_bit room)
   pub kept : IsPart (has_bit seed) (has_bit word)
   pub next : HasNext (has_bit room) (has_bit word)
   pub least : (set : ℕ → Bool) → HasBeside (has_bit room) set → IsPart (has_bit seed) set → IsPart (has_bit word) set
 
--- a row has those columns of a word that there is room for
+-- a row has those columns of a word that the room has
 abbrev pub IsTaken : List ℕ → List ℕ → ℕ → ℕ → Type 0
 IsTaken room rows row word =
     (col : ℕ) → IsTrue (has_bit (slice_index room row) col) → IsTrue (has_bit word col)
     → IsTrue (has_bit (slice_index rows row) col)
 
--- a column is in one of two rows, or beside one of the row between them
+-- a column is in one of two rows, or beside a column of the row between them
 abbrev pub IsInOrBeside : ℕ → ℕ → ℕ → ℕ → Type 0
 IsInOrBeside above here below col =
     IsTrue (has_bit above col)
@@ -54,11 +54,11 @@ IsInOrBeside above here below col =
 
 -- Sets of points.
 
--- each point of the one set is in the other
+-- each point of `some` is in `all`
 abbrev pub IsAmong : (Point → Bool) → (Point → Bool) → Type 0
 IsAmong some all = (point : Point) → IsTrue (some point) → IsTrue (all point)
 
--- with a point the set has each adjacent point that there is room for
+-- the set has each point of the room that is adjacent to one of its points
 abbrev pub IsClosed : (Point → Bool) → (Point → Bool) → Type 0
 IsClosed room set =
     (point other : Point) → AreAdjacent point other → IsTrue (room point) → IsTrue (set other) → IsTrue (set point)
@@ -69,12 +69,12 @@ IsRowClosed room set row =
     (point other : Point) → point.row ≡ row → AreAdjacent point other
     → IsTrue (room point) → IsTrue (set other) → IsTrue (set point)
 
--- new is old and points that each closed set with old has, too, all of them within the room
+-- `new` is `old`, and points that each closed set with `old` also has. All of them are within the room.
 pub record Grows (room old new : Point → Bool) : Type 0 where
   pub within : IsAmong new room
   pub kept : IsAmong old new
   pub least : (set : Point → Bool) → IsClosed room set → IsAmong old set → IsAmong new set
 
--- what the words lack to be full: less, the more bits are set
+-- what the words lack to be full: the more bits are set, the less they lack
 abbrev pub lacking : List ℕ → ℕ
 lacking rows = sum_by (λ word. 2 ^ 64 - word) rows

@@ -4,7 +4,7 @@ use Rattle.go_board.specs.declared.points.Point.{Point}
 use Rattle.go_board.specs.Point.{IsOn, index_of}
 use Rattle.go_board.specs.Marking.{Marking, is_marked, marked_count}
 
--- the marked points, the same as a list in the order they were found, and how many were taken from its front
+-- the marked points; the same points as a list, in the order in which they were found; how many were taken from its front
 pub record Searched : Type 0 where
   pub marking : Marking
   pub found : List Point
@@ -22,13 +22,14 @@ with_mark marking point = record marking { marks = slice_set marking.marks (inde
 abbrev pub nothing_found : ℕ → Searched
 nothing_found side = record { marking = no_marks side; found = []; taken = 0 }
 
--- a point was found, perhaps not for the first time
+-- the search after a point was found, perhaps not for the first time
 abbrev pub with_found : Searched → Point → Searched
 with_found search point =
     if is_marked search.marking point then search
     else record { marking = with_mark search.marking point; found = search.found ++ point ∷ []; taken = search.taken }
 
--- what every search keeps: as many marks as points found, and these are on the grid and marked
+-- What holds of every search: as many points are marked as were found, and those are on the grid and marked. No more are taken
+-- than found.
 pub record IsSound (search : Searched) : Type 0 where
   pub all_marks : length search.marking.marks ≡ search.marking.side * search.marking.side
   pub counted : marked_count search.marking ≡ length search.found
@@ -36,6 +37,6 @@ pub record IsSound (search : Searched) : Type 0 where
   pub on_grid : All (IsOn search.marking.side) search.found
   pub marked : All (λ point. IsTrue (is_marked search.marking point)) search.found
 
--- a search with so much room can find so many points more; with room for all points of the grid, always
+-- a search with this much room can find this many more points; with room for all points of the grid it always can
 abbrev pub HasRoom : ℕ → ℕ → Searched → Type 0
 HasRoom room more search = (search.marking.side * search.marking.side ≤ room) ⊎ (length search.found + more ≤ room)

@@ -1,40 +1,40 @@
--- A list of prints, oldest first, in which those with one key are linked. A number in a link or a head is one more than
--- an index; 0 stands for none.
+-- A list of prints, oldest first, in which those with the same key are linked. A number in a link or a head is an index plus 1; 0
+-- means none.
 use Rattle.std.specs.Prelude.{◌≡◌, ◌≢◌, ℕ, ◌-◌, ◌*◌, ◌/◌, ◌%◌, ◌^◌, ◌<◌, ◌≤◌, Option, Some, None, List, length, slice_index, bit_and, bit_xor}
 
--- a number of 64 bits whose low half depends on all bits of another one
+-- a 64-bit number whose low half depends on all bits of another one
 abbrev pub folded : ℕ → ℕ
 folded word = bit_xor word (word / 2 ^ 32)
 
--- A print is linear in the cells, so that moves can be chosen whose prints have the same low bits. Its key depends on all bits of it,
--- and isn't linear.
+-- A print is linear in the cells, so moves can be chosen whose prints have the same low bits. A key depends on all bits of its
+-- print, and isn't linear.
 abbrev pub scattered : ℕ → ℕ
 scattered print = folded (folded print * 15485907386658061715 % 2 ^ 64)
 
--- a print's key in a table of that many heads
+-- a print's key in a table with this many heads
 abbrev pub key_of : ℕ → ℕ → ℕ
 key_of size print = bit_and (scattered print) (size - 1)
 
--- the number of the newest of the first `count` prints that has the key
+-- the number of the newest of the first `count` prints that has the key; 0 if none has it
 pub record IsNewest (size : ℕ) (prints : List ℕ) (count key number : ℕ) : Type 0 where
   pub within : number ≤ count
   pub there : 0 < number → key_of size (slice_index prints (number - 1)) ≡ key
   pub newest : (index : ℕ) → number ≤ index → index < count → key_of size (slice_index prints index) ≢ key
 
--- the first `count` prints are linked: each head has the newest of its key, and each link the newest before it of the
--- same key
+-- The first `count` prints are linked. Each head has the newest print of its key. Each link has the newest earlier print of the
+-- same key.
 pub record AreLinked (prints : List ℕ) (count : ℕ) (heads links : List ℕ) : Type 0 where
   pub by_head : (key : ℕ) → key < length heads → IsNewest (length heads) prints count key (slice_index heads key)
   pub by_link : (index : ℕ) → index < count
       → IsNewest (length heads) prints index (key_of (length heads) (slice_index prints index)) (slice_index links index)
 
--- a table of those prints
+-- a table of these prints
 pub record IsTable (heads prints links : List ℕ) : Type 0 where
   pub some : 0 < length heads
   pub one_each : length links ≡ length prints
   pub linked : AreLinked prints (length prints) heads links
 
--- the index of the last print of a range that is that one, none where the range doesn't have it
+-- the index of the last print of a range that equals `print`; None if the range doesn't have it
 abbrev pub IsLastOf : List ℕ → ℕ → ℕ → ℕ → Option ℕ → Type 0
 IsLastOf prints print start end None = (index : ℕ) → start ≤ index → index < end → slice_index prints index ≢ print
 IsLastOf prints print start end (Some last) =
