@@ -1,18 +1,18 @@
--- A collection further on in a text, for the law of one text after another.
+-- A collection that stands further on in a text, for the law of one text after another.
 use Rattle.std.specs.Prelude.{◌≡◌, ℕ, ◌+◌, List, [], ◌∷◌, map, take}
 use Rattle.sgf_tree.specs.Bytes.{byte_ef, byte_bb, byte_bf}
 use Rattle.sgf_tree.specs.Tree.{Node, Games, no_games, game}
 
--- a node `by` bytes further on
+-- the node, `by` bytes further on
 abbrev pub raised_node : ℕ → Node → Node
 raised_node by node = record { place = by + node.place; properties = node.properties }
 
--- games `by` bytes further on
+-- the games, `by` bytes further on
 abbrev pub raised : ℕ → Games → Games
 raised by no_games = no_games
 raised by (game first more below after) =
     game (raised_node by first) (map (raised_node by) more) (raised by below) (raised by after)
 
--- the first bytes are the UTF-8 byte order mark
+-- the text begins with the UTF-8 byte order mark
 abbrev pub BeginsWithByteOrderMark : List ℕ → Type 0
 BeginsWithByteOrderMark text = take 3 text ≡ byte_ef ∷ byte_bb ∷ byte_bf ∷ []

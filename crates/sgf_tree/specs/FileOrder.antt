@@ -1,21 +1,21 @@
--- The nodes of a collection in file order, which number them from 0.
+-- The nodes of a collection in file order, numbered from 0.
 use Rattle.std.specs.Prelude.{◌≡◌, ◌≢◌, ℕ, ◌+◌, ◌-◌, ◌<◌, ◌≤◌, Bool, true, false, if◌then◌else◌, nat_lt, List, [], ◌∷◌, ◌++◌, length, slice_get, Option, Some, None, option_map}
 use Rattle.sgf_tree.specs.Tree.{Node, Games, no_games, game, node_count}
 
--- a node, the number of the node before it on its line (none for the root of a game of the collection), and whether it
--- is the first after a `(`
+-- A node; the number of the node before it on its line (None for the root of a game of the collection); whether it is the first
+-- after a `(`.
 pub record OrderedNode : Type 0 where
   pub node : Node
   pub parent : Option ℕ
   pub opens : Bool
 
--- the further nodes of a game, where `last` is the number of the node before them
+-- the further nodes of a game; `last` is the number of the node before them
 abbrev pub further_nodes : ℕ → List Node → List OrderedNode
 further_nodes last [] = []
 further_nodes last (node ∷ rest) = record { node = node; parent = Some last; opens = false } ∷ further_nodes (last + 1) rest
 
--- the nodes of games whose first node has the number `number` and follows `parent`: a game's own nodes, those of the
--- games below its last own node, and those of the games after it
+-- The nodes of some games. Their first node has the number `number` and follows `parent`. For each game come its own nodes, those
+-- of the games below its last own node, and those of the games after it.
 abbrev pub nodes_from : ℕ → Option ℕ → Games → List OrderedNode
 nodes_from number parent no_games = []
 nodes_from number parent (game first more below after) =
@@ -28,7 +28,7 @@ nodes_from number parent (game first more below after) =
 abbrev pub ordered_nodes : Games → List OrderedNode
 ordered_nodes games = nodes_from 0 None games
 
--- the node of a number, and the number of the node before it on its line
+-- the node with a number, its place, and the number of the node before it on its line
 abbrev pub node_at : Games → ℕ → Option Node
 node_at games number = option_map (λ ordered. ordered.node) (slice_get (ordered_nodes games) number)
 
@@ -38,18 +38,18 @@ place_at games number = option_map (λ ordered. ordered.node.place) (slice_get (
 abbrev pub parent_at : Games → ℕ → Option (Option ℕ)
 parent_at games number = option_map (λ ordered. ordered.parent) (slice_get (ordered_nodes games) number)
 
--- no node follows that node on a line
+-- no node follows this node on a line
 abbrev pub IsLeaf : Games → ℕ → Type 0
 IsLeaf games number = (other : ℕ) → parent_at games other ≢ Some (Some number)
 
--- the number of the game that has that node, from 1
+-- the number, from 1, of the game that has this node
 abbrev pub game_of : Games → ℕ → ℕ
 game_of no_games number = 0
 game_of (game first more below after) number =
     let size = 1 + length more + node_count below in
     if nat_lt number size then 1 else 1 + game_of after (number - size)
 
--- a number is that of the node `number`, or of a node below it
+-- the other number is that of the node `number`, or of a node below it
 pub data IsAtOrBelow (games : Games) (number : ℕ) : ℕ → Type 0 where
   itself : IsAtOrBelow games number number
   below : {parent child : ℕ} → parent_at games child ≡ Some (Some parent) → IsAtOrBelow games number parent → IsAtOrBelow games number child

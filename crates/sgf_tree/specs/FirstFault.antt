@@ -1,14 +1,14 @@
--- Where a text stops being the front of any text of the grammar (this project's choice).
+-- Up to where a text can still become a text of the grammar (this project's choice).
 use Rattle.std.specs.Prelude.{ℕ, ◌<◌, ◌≤◌, List, ◌++◌, length, take, All}
 use Rattle.sgf_tree.specs.Tree.{Games}
 use Rattle.sgf_tree.specs.Spelling.{Spells}
 
--- some bytes after it make it a text that spells a collection
+-- with some bytes after it, it spells a collection
 abbrev pub BeginsCollection : List ℕ → Type 0
 BeginsCollection front = (more : List ℕ) × (games : Games) × All (λ b. b < 256) more × Spells games (front ++ more)
 
--- at is the greatest n for which the first n bytes of the text begin some text of the grammar; for a text of the grammar that is
--- its length
+-- `at` is the greatest n for which the first n bytes of the text begin some text of the grammar. For a text of the grammar that
+-- is its length.
 pub record IsFirstFault (text : List ℕ) (at : ℕ) : Type 0 where
   pub within : at ≤ length text
   pub begins : BeginsCollection (take at text)

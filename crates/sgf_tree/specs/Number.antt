@@ -1,4 +1,4 @@
--- The value of a number (SGF FF[4]: Number = [ "+" | "-" ] Digit { Digit }; at most 18 digits is this project's choice).
+-- The value of a number (SGF FF[4]: Number = [ "+" | "-" ] Digit { Digit }). The limit of 18 digits is this project's choice.
 use Rattle.std.specs.Prelude.{ℕ, ◌+◌, ◌-◌, ◌*◌, ◌^◌, ◌==◌, nat_le, ◌&&◌, Bool, if◌then◌else◌, List, [], ◌∷◌, length, ℤ, pos, neg_ℤ, Option, Some, None, option_map}
 use Rattle.std.specs.List.{list_all}
 use Rattle.sgf_tree.specs.Bytes.{plus, minus, digit_zero, digit_nine}
@@ -19,7 +19,7 @@ are_digits ds = nat_le 1 (length ds) && nat_le (length ds) 18 && list_all is_dig
 abbrev pub magnitude_of : List ℕ → Option ℕ
 magnitude_of ds = if are_digits ds then Some (decimal_value ds) else None
 
--- `+` or `-` or no sign, and digits
+-- `+`, `-` or no sign, and then digits
 abbrev pub number_of : List ℕ → Option ℤ
 number_of [] = None
 number_of (first ∷ rest) =

@@ -1,10 +1,10 @@
--- What stands between the brackets of a value (SGF FF[4], ValueType and Escaping): units, as many as one likes. None is a
--- bare `]`, so they end at the first `]` that no `\` escapes, for which IsPropValue (Spelling) asks next. s is what is left of
--- the text before them, and r what is left after them.
+-- What stands between the brackets of a value (SGF FF[4], ValueType and Escaping): any number of units. No unit is a bare `]`, so
+-- they end at the first `]` that no `\` escapes. IsPropValue (Spelling) requires that `]` next. `s` is what is left of the text
+-- before the units, and `r` what is left after them.
 use Rattle.std.specs.Prelude.{◌≢◌, ℕ, List, [], ◌∷◌}
 use Rattle.sgf_tree.specs.Bytes.{backslash, close_bracket}
 
--- a raw value: units, each one byte other than `]` and `\`, or a `\` and any byte
+-- a raw value: units, each of which is one byte other than `]` and `\`, or a `\` and any byte
 pub data IsValue : List ℕ → List ℕ → List ℕ → Type 0 where
   no_unit : {s : List ℕ} → IsValue [] s s
   plain : {b : ℕ} {value s r : List ℕ} → b ≢ close_bracket → b ≢ backslash → IsValue value s r → IsValue (b ∷ value) (b ∷ s) r

@@ -1,4 +1,4 @@
--- What a refusal to read says of the text.
+-- What a failure to read says of the text.
 use Rattle.std.specs.Prelude.{ℕ, List}
 use Rattle.sgf_tree.specs.Tree.{Games}
 use Rattle.sgf_tree.specs.Spelling.{Spells}
@@ -6,12 +6,12 @@ use Rattle.sgf_tree.specs.FirstFault.{IsFirstFault}
 use Rattle.sgf_tree.specs.declared.fault.ReadFault.{ReadFault}
 use Rattle.sgf_tree.specs.declared.fault.ReadFault.TheVariants.{TooLong, NotSgf, Memory}
 
--- no collection is spelled by it, and its first fault is at that offset
+-- no collection is spelled by the text, and its first fault is at that offset
 pub record IsFaultyAt (text : List ℕ) (at : ℕ) : Type 0 where
   pub unspelled : (games : Games) → ¬ Spells games text
   pub first_fault : IsFirstFault text at
 
--- that the text is not of the grammar is said only where it isn't
+-- if the fault says that the text isn't SGF, the text is faulty there
 abbrev pub IsFaultyWhereNotSgf : List ℕ → ReadFault → Type 0
 IsFaultyWhereNotSgf text TooLong = Unit {0}
 IsFaultyWhereNotSgf text (NotSgf at) = IsFaultyAt text at

@@ -1,6 +1,6 @@
--- Which texts spell a collection: the EBNF of SGF FF[4] down to the brackets of a value; what stands in these is any
--- bytes, with escapes (`RawValue.antt`). In each relation s is what is left of the text before a thing, and r what is left after it;
--- t, u and w, or words, are what is left between its parts.
+-- Which texts spell a collection: the EBNF of SGF FF[4] down to the brackets of a value. Between these stand any bytes, with
+-- escapes (`RawValue.antt`). In each relation `s` is what is left of the text before a thing, and `r` what is left after it. `t`,
+-- `u`, `w` and the names with several letters are what is left between its parts.
 use Rattle.std.specs.Prelude.{◌≡◌, ℕ, ◌+◌, Bool, ◌||◌, ◌&&◌, ◌==◌, nat_le, IsTrue, List, [], ◌∷◌, length}
 use Rattle.sgf_tree.specs.Bytes.{tab, line_feed, vertical_tab, form_feed, carriage_return, space, open_parenthesis, close_parenthesis, semicolon, capital_a, capital_z, open_bracket, close_bracket, small_a, small_z, byte_ef, byte_bb, byte_bf}
 use Rattle.sgf_tree.specs.RawValue.{IsValue}
@@ -23,7 +23,7 @@ pub data WhiteSpace : List ℕ → List ℕ → Type 0 where
   no_white_space : {s : List ℕ} → WhiteSpace s s
   white_space : {b : ℕ} {s r : List ℕ} → IsTrue (is_white_space b) → WhiteSpace s r → WhiteSpace (b ∷ s) r
 
--- letters, of which the upper-case ones are the name (that lower-case ones are skipped is this project's choice)
+-- letters; the upper-case ones are the name (skipping lower-case ones is this project's choice)
 pub data Letters : List ℕ → List ℕ → List ℕ → Type 0 where
   no_letter : {s : List ℕ} → Letters [] s s
   upper : {b : ℕ} {name s r : List ℕ} → IsTrue (is_upper b) → Letters name s r → Letters (b ∷ name) (b ∷ s) r
@@ -49,7 +49,7 @@ pub data AreProperties : List Property → List ℕ → List ℕ → Type 0 wher
   no_property : {s : List ℕ} → AreProperties [] s s
   properties : {p : Property} {ps : List Property} {s t r : List ℕ} → IsProperty p s t → AreProperties ps t r → AreProperties (p ∷ ps) s r
 
--- Node = ";" { Property }; its place is the number of bytes before the `;` in a text of `whole` bytes
+-- Node = ";" { Property }. Its place is the number of bytes before the `;`, in a text of `whole` bytes.
 pub data IsNode (whole : ℕ) : Node → List ℕ → List ℕ → Type 0 where
   node : {place : ℕ} {ps : List Property} {s t r : List ℕ} → WhiteSpace s (semicolon ∷ t) → place + length (semicolon ∷ t) ≡ whole → AreProperties ps t r
       → IsNode whole (record { place = place; properties = ps }) s r
@@ -67,12 +67,12 @@ pub data AreGames (whole : ℕ) : Games → List ℕ → List ℕ → Type 0 whe
       → AreGames whole below children end → WhiteSpace end (close_parenthesis ∷ outside) → AreGames whole after outside r
       → AreGames whole (game first more below after) s r
 
--- the UTF-8 byte order mark, once at the very start, or nothing (this project's choice)
+-- the UTF-8 byte order mark, at most once, at the very start (this project's choice)
 pub data ByteOrderMark : List ℕ → List ℕ → Type 0 where
   no_byte_order_mark : {s : List ℕ} → ByteOrderMark s s
   byte_order_mark : {s : List ℕ} → ByteOrderMark (byte_ef ∷ byte_bb ∷ byte_bf ∷ s) s
 
--- Collection = GameTree { GameTree }, then white space up to the end: the text t spells the collection c
+-- Collection = GameTree { GameTree }, then white space up to the end: the text `t` spells the collection
 pub data Spells : Games → List ℕ → Type 0 where
   spells : {first : Node} {more : List Node} {below after : Games} {t s r : List ℕ}
       → ByteOrderMark t s → AreGames (length t) (game first more below after) s r → WhiteSpace r []

@@ -6,20 +6,20 @@ use Rattle.sgf_tree.specs.Bytes.{tab, line_feed, vertical_tab, form_feed, carria
 abbrev pub is_break : ℕ → Bool
 is_break b = b == line_feed || b == carriage_return
 
--- CR LF or LF CR, which side by side are one line break (this project's choice, taken from the left)
+-- CR LF or LF CR: such a pair is one line break (this project's choice; pairs are taken from the left)
 abbrev pub is_pair : ℕ → ℕ → Bool
 is_pair byte next = byte == carriage_return && next == line_feed || byte == line_feed && next == carriage_return
 
--- tab, vertical tab and form feed give a space, every other byte itself
+-- tab, vertical tab and form feed become a space; every other byte stays
 abbrev pub spaced : ℕ → ℕ
 spaced b = if b == tab || b == vertical_tab || b == form_feed then space else b
 
--- the byte and the next one, if there is one, are not one line break
+-- the byte and the next one, if there is one, aren't a pair
 abbrev pub MakesNoPair : ℕ → List ℕ → Type 0
 MakesNoPair byte [] = Unit {0}
 MakesNoPair byte (next ∷ rest) = is_pair byte next ≡ false
 
--- The text of a raw value. Each row says what the front of the value gives, and after it comes the text of the rest.
+-- The text of a raw value. Each row says what the first bytes of the value become. The text of the rest follows it.
 pub data IsDecoded : List ℕ → List ℕ → Type 0 where
   -- nothing, or a `\` as the last byte: nothing
   nothing : IsDecoded [] []
@@ -35,15 +35,15 @@ pub data IsDecoded : List ℕ → List ℕ → Type 0 where
   -- another byte: that byte, spaced
   plain_byte : {byte : ℕ} {rest text : List ℕ} → byte ≢ backslash → is_break byte ≡ false → IsDecoded rest text → IsDecoded (byte ∷ rest) (spaced byte ∷ text)
 
--- what a byte gives that no `\` stands before: an LF for a line break, else `spaced` of the byte
+-- what a byte becomes that no `\` escapes: an LF for a line break, else `spaced` of the byte
 abbrev pub unescaped : ℕ → ℕ
 unescaped b = if is_break b then line_feed else spaced b
 
--- what a byte after a `\` gives: nothing for a line break, else `spaced` of the byte
+-- what a byte after a `\` becomes: nothing for a line break, else `spaced` of the byte
 abbrev pub after_backslash : ℕ → List ℕ
 after_backslash b = if is_break b then [] else spaced b ∷ []
 
--- the text as a function, by the first row that fits the front
+-- the text as a function, by the first row that fits
 abbrev pub text_of : List ℕ → List ℕ
 text_of [] = []
 text_of (byte ∷ []) = if byte == backslash then [] else unescaped byte ∷ []

@@ -1,7 +1,7 @@
 -- What a Smart Game Format text holds: a collection of game trees (SGF FF[4], EBNF).
 use Rattle.std.specs.Prelude.{ℕ, ◌+◌, List, [], ◌∷◌, length}
 
--- a property: its name and its raw values, of which there is at least one
+-- a property: its name, and its raw values, at least one
 pub record Property : Type 0 where
   pub name : List ℕ
   pub first : List ℕ
@@ -11,18 +11,18 @@ pub record Property : Type 0 where
 abbrev pub values : Property → List (List ℕ)
 values p = p.first ∷ p.more
 
--- the property of a name of one letter and one raw value
+-- the property with a name of one letter and with one raw value
 abbrev pub lone_property : ℕ → List ℕ → Property
 lone_property letter value = record { name = letter ∷ []; first = value; more = [] }
 
--- a node: its place, which is the offset of its `;` in the text, and its properties
+-- a node: its place (the offset of its `;` in the text, in bytes from 0), and its properties
 pub record Node : Type 0 where
   pub place : ℕ
   pub properties : List Property
 
--- Games that stand side by side. A game (a GameTree of SGF, at any depth) has a first node, more nodes after it, and the
--- games below them, each of which begins a variation; then come the games after it. A node that none follows is a leaf.
--- Only the games of the collection itself, which stand below none, are counted and numbered.
+-- Games that stand side by side. A game (a GameTree of SGF, at any depth) has a first node, more nodes after it, and the games
+-- below them, each of which begins a variation. Then come the games after it. A node that no node follows is a leaf. Only the
+-- games of the collection itself are counted and numbered, not those below others.
 pub data Games : Type 0 where
   no_games : Games
   game : (first : Node) (more : List Node) (below after : Games) → Games
@@ -38,7 +38,7 @@ node_count no_games = 0
 node_count (game first more below after) =
     1 + length more + node_count below + node_count after
 
--- games, and further games after them
+-- the games, and then further games
 abbrev pub joined : Games → Games → Games
 joined no_games others = others
 joined (game first more below after) others = game first more below (joined after others)

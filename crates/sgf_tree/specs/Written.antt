@@ -1,9 +1,9 @@
--- What the sgf form writes for a node: no white space between its parts, names in upper case, raw values as they stood.
+-- What the sgf form writes for a node: no white space between its parts, names in upper case, raw values as they are in the text.
 use Rattle.std.specs.Prelude.{ℕ, List, ◌++◌, codes}
 use Rattle.std.specs.List.{flat_map}
 use Rattle.sgf_tree.specs.Tree.{Property, Node, values}
 
--- a raw value between brackets
+-- a raw value between its brackets
 abbrev pub value_text : List ℕ → List ℕ
 value_text value = codes "[" ++ value ++ codes "]"
 

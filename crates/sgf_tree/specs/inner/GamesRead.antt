@@ -1,4 +1,4 @@
--- How the nodes and games of a text were read: the words of the contracts in `reader::games`.
+-- How the nodes and games of a text were read: words of the contracts in `reader::games`.
 use Rattle.std.specs.Prelude.{◌≡◌, ℕ, ◌+◌, ◌-◌, ◌<◌, ◌≤◌, ◌⊎◌, Bool, true, false, List, [], ◌∷◌, ◌++◌, length, map, take, drop, replicate, All, slice_get, slice_index, Option, Some, None, option_map}
 use Rattle.sgf_tree.specs.Tree.{Games, no_games, game, game_count, node_count}
 use Rattle.sgf_tree.specs.Spelling.{is_white_space}
@@ -12,12 +12,12 @@ use Rattle.sgf_tree.specs.declared.layout.Link.TheVariants.{Root, Variation, Nex
 use Rattle.sgf_tree.specs.declared.layout.NodeEntry.{NodeEntry}
 use Rattle.sgf_tree.specs.declared.reader.fault.PartFault.{PartFault}
 
--- how many nodes whole and open games have
+-- how many nodes the whole and the open games have
 abbrev pub open_count : Games → List OpenGame → ℕ
 open_count closed [] = node_count closed
 open_count closed (inmost ∷ outer) = open_count closed outer + 1 + length inmost.more + node_count inmost.below
 
--- the last own node of the innermost open game
+-- the number of the last own node of the innermost open game
 abbrev pub tip : Games → List OpenGame → Option ℕ
 tip closed [] = None
 tip closed (inmost ∷ outer) = Some (open_count closed outer + length inmost.more)
@@ -28,25 +28,25 @@ own_nodes number parent open_game =
     let last = number + length open_game.more in
     record { node = open_game.first; parent = parent; opens = true } ∷ further_nodes number open_game.more ++ nodes_from (last + 1) (Some last) open_game.below
 
--- the ordered nodes of whole and open games
+-- the ordered nodes of the whole and the open games
 abbrev pub open_nodes : Games → List OpenGame → List OrderedNode
 open_nodes closed [] = nodes_from 0 None closed
 open_nodes closed (inmost ∷ outer) = open_nodes closed outer ++ own_nodes (open_count closed outer) (tip closed outer) inmost
 
--- of each node in file order the last one below it, where the first one has the number `number`
+-- for each node in file order, the last node below it; the first node has the number `number`
 abbrev pub lasts : ℕ → Games → List ℕ
 lasts number no_games = []
 lasts number (game first more below after) =
     let next = number + 1 + length more in
     replicate (1 + length more) (number + length more + node_count below) ++ lasts next below ++ lasts (next + node_count below) after
 
--- the same for whole and open games, with 0 for an open game's own nodes
+-- the same for the whole and the open games, with 0 for an open game's own nodes
 abbrev pub open_lasts : Games → List OpenGame → List ℕ
 open_lasts closed [] = lasts 0 closed
 open_lasts closed (inmost ∷ outer) =
     open_lasts closed outer ++ replicate (1 + length inmost.more) 0 ++ lasts (open_count closed outer + 1 + length inmost.more) inmost.below
 
--- a node is a root, and that is the number of its game, which is one of the closed games or the next one
+-- the node is a root, and this is the number of its game, which is one of the closed games or the next one
 abbrev pub IsRootOf : Games → ℕ → ℕ → Type 0
 IsRootOf closed node_number game_number =
     ((node_number < node_count closed) × (game_of closed node_number ≡ game_number)) ⊎ ((node_number ≡ node_count closed) × (game_number ≡ game_count closed + 1))
@@ -58,13 +58,13 @@ pub record HoldStack (text : List ℕ) (stack : Stack) (nodes : List NodeEntry) 
   pub places_within : All (λ (n : NodeEntry). n.place < length text) nodes
   pub roots : (node_number : ℕ) (entry : NodeEntry) (game_number : ℕ) → slice_get nodes node_number ≡ Some entry → entry.link ≡ Root game_number → IsRootOf stack.closed node_number game_number
 
--- the link of the first node of a game that begins at the stack
+-- the link of the first node of a game that begins when the machine has this stack
 abbrev pub IsOpening : Stack → Link → Type 0
 IsOpening stack (Root game_number) = (stack.unclosed ≡ []) × (game_number ≡ game_count stack.closed + 1)
 IsOpening stack (Variation parent) = tip stack.closed stack.unclosed ≡ Some parent
 IsOpening stack Next = ⊥
 
--- the machine has the games of the stack, and a `(`, a `)` or the end of the text may come
+-- the machine has the games of the stack, and a `(`, a `)` or the end of the text may come next
 pub record StandsBetween (text : List ℕ) (at : ℕ) (stack : Stack) : Type 0 where
   pub state : MachineState
   pub reached : ComesTo text at state
@@ -72,47 +72,48 @@ pub record StandsBetween (text : List ℕ) (at : ℕ) (stack : Stack) : Type 0 w
   pub end : accepted state ≡ accepted (after_game stack)
   pub not_white_space : at < length text → is_white_space (slice_index text at) ≡ false
 
--- the node whose `;` stands at `place` was read up to `end`
+-- the node whose `;` is at `place` was read up to `end`
 pub record IsNodeRead (text : List ℕ) (place end : ℕ) (link : Link) (old new : List NodeEntry) : Type 0 where
   pub properties : ArePropertiesRead text (place + 1) end
   pub pushed : new ≡ old ++ record { place = place; link = link; last_below = 0 } ∷ []
 
--- the nodes of a game that began at the stack were read up to `end`
+-- the own nodes of a game that began at this stack were read up to `end`
 pub record IsSequenceRead (text : List ℕ) (end : ℕ) (stack : Stack) (nodes : List NodeEntry) : Type 0 where
   pub last : OpenGame
   pub stands : StandsBetween text end (record { closed = stack.closed; unclosed = last ∷ stack.unclosed })
   pub held : HoldStack text (record { closed = stack.closed; unclosed = last ∷ stack.unclosed }) nodes
   pub nothing_below : last.below ≡ no_games
 
--- whether the node of an entry is the first after a `(`
+-- whether the node with this number is the first after a `(`
 abbrev pub opens_at : List NodeEntry → ℕ → Option Bool
 opens_at nodes number = option_map (λ (n : NodeEntry). opens_by n.link) (slice_get nodes number)
 
--- the own nodes of a game
+-- the nodes from `first` to `last` are the own nodes of a game
 pub record AreOwnNodes (nodes : List NodeEntry) (first last : ℕ) : Type 0 where
   pub rises : first ≤ last
   pub begins : opens_at nodes first ≡ Some true
   pub goes_on : (number : ℕ) → first < number → number ≤ last → opens_at nodes number ≡ Some false
 
--- the node without the number of the last one below it
+-- the entry without the number of the last node below it
 abbrev pub without_last : NodeEntry → NodeEntry
 without_last entry = record { place = entry.place; link = entry.link; last_below = 0 }
 
--- the nodes from first to last got the number of the last node, and nothing else changed; the parent is that of the first
+-- The nodes from `first` to `last` got the number of the last node, and nothing else changed. `parent` is the parent of the
+-- first.
 pub record ClosesGame (old new : List NodeEntry) (first last : ℕ) (parent : Option ℕ) : Type 0 where
   pub same : map without_last new ≡ map without_last old
   pub lasts_are : map (λ (n : NodeEntry). n.last_below) new
       ≡ take first (map (λ (n : NodeEntry). n.last_below) old) ++ replicate (last + 1 - first) (length old - 1) ++ drop (last + 1) (map (λ (n : NodeEntry). n.last_below) old)
   pub parent_is : option_map (λ (n : NodeEntry). parent_by n.link first) (slice_get old first) ≡ Some parent
 
--- a text that spells the collection `games` was read, which the entries hold
+-- a text that spells the collection `games` was read, and the entries hold it
 pub record IsRead (text : List ℕ) (games : Games) (nodes : List NodeEntry) : Type 0 where
   pub reached : MachineState
   pub whole : ComesTo text (length text) reached
   pub accepts : accepted reached ≡ Some games
   pub held : HoldStack text (record { closed = games; unclosed = [] }) nodes
 
--- what may stand before the first game was read: the byte order mark, or nothing
+-- what may come before the first game was read: the byte order mark, or nothing
 pub record IsMarkRead (text : List ℕ) (at : ℕ) : Type 0 where
   pub within : at ≤ length text
   pub state : MachineState
@@ -121,16 +122,16 @@ pub record IsMarkRead (text : List ℕ) (at : ℕ) : Type 0 where
       → next_state at state (slice_index text at) ≡ between_games (record { closed = no_games; unclosed = [] }) (slice_index text at)
   pub end : accepted state ≡ accepted (after_game (record { closed = no_games; unclosed = [] }))
 
--- where the machine has the games of a stack and stands after a `(` at `at`, the game's own nodes were read up to `end`
+-- If the machine has the games of a stack, and is after a `(` at `at`, then the game's own nodes were read up to `end`.
 abbrev pub ReadsSequence : List ℕ → ℕ → ℕ → Link → List NodeEntry → List NodeEntry → Type 0
 ReadsSequence text at end link old new =
     (stack : Stack) → ComesTo text at (opened stack) → HoldStack text stack old → IsOpening stack link → IsSequenceRead text end stack new
 
--- there a fault is the first one of the text
+-- in the same case, the fault is the first one of the text
 abbrev pub IsFaultInSequence : List ℕ → ℕ → Link → List NodeEntry → PartFault → Type 0
 IsFaultInSequence text at link old fault =
     (stack : Stack) → ComesTo text at (opened stack) → HoldStack text stack old → IsOpening stack link → IsTrueFault text fault
 
--- a whole text was read, and has so many games
+-- a whole text was read, and has this many games
 abbrev pub ReadsWhole : List ℕ → List NodeEntry → ℕ → Type 0
 ReadsWhole text new count = (games : Games) × (count ≡ game_count games) × IsRead text games new

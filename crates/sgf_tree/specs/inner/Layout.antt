@@ -1,4 +1,4 @@
--- How a flat vector holds the collection that a text spells. A node's properties are read from the text again.
+-- How a flat vector holds the collection that a text spells. The properties of a node are read from the text again.
 use Rattle.std.specs.Prelude.{◌≡◌, ℕ, ◌+◌, ◌-◌, ◌<◌, ◌≤◌, Bool, true, false, List, [], ◌∷◌, length, map, All, slice_get, Option, Some, None, unwrap_or}
 use Rattle.sgf_tree.specs.Tree.{Games, no_games, game_count}
 use Rattle.sgf_tree.specs.FileOrder.{OrderedNode, ordered_nodes, game_of, IsLastBelow}
@@ -9,17 +9,17 @@ use Rattle.sgf_tree.specs.declared.layout.Link.{Link}
 use Rattle.sgf_tree.specs.declared.layout.Link.TheVariants.{Root, Variation, Next}
 use Rattle.sgf_tree.specs.declared.layout.NodeEntry.{NodeEntry}
 
--- the collection that a text spells, and none where it spells none
+-- the collection that a text spells; no games if it spells none
 abbrev pub games_in : List ℕ → Games
 games_in text = unwrap_or (collection_of text) no_games
 
--- the parent that a link gives to the node of a number
+-- the parent that a link gives to the node with this number
 abbrev pub parent_by : Link → ℕ → Option ℕ
 parent_by (Root game) number = None
 parent_by (Variation parent) number = Some parent
 parent_by Next number = Some (number - 1)
 
--- whether a link is that of the first node after a `(`
+-- whether the link is for the first node after a `(`
 abbrev pub opens_by : Link → Bool
 opens_by (Root game) = true
 opens_by (Variation parent) = true
@@ -34,11 +34,11 @@ pub record Outline : Type 0 where
 abbrev pub outline : OrderedNode → Outline
 outline ordered = record { place = ordered.node.place; parent = ordered.parent; opens = ordered.opens }
 
--- what an entry says of the node of a number
+-- what an entry says of the node with this number
 abbrev pub outline_by : ℕ → NodeEntry → Outline
 outline_by number entry = record { place = entry.place; parent = parent_by entry.link number; opens = opens_by entry.link }
 
--- what entries say of the nodes from a number on
+-- what entries say of the nodes from this number on
 abbrev pub outlines_by : ℕ → List NodeEntry → List Outline
 outlines_by number [] = []
 outlines_by number (entry ∷ rest) = outline_by number entry ∷ outlines_by (number + 1) rest

@@ -1,23 +1,24 @@
--- A machine that reads a text byte by byte and keeps the games so far as trees. It stands between the code and the
--- grammar: the code follows it, and the laws in proofs/ say that it ends with exactly the collection that the text spells.
+-- A machine that reads a text byte by byte, and keeps the games so far as trees. It connects the code and the grammar: the code
+-- follows it, and the laws in proofs/ say that it ends with exactly the collection that the text spells.
 use Rattle.std.specs.Prelude.{ℕ, ◌+◌, Bool, true, false, if◌then◌else◌, ◌==◌, List, [], ◌∷◌, ◌++◌, Option, Some, None, option_and_then}
 use Rattle.sgf_tree.specs.Tree.{Property, Node, Games, no_games, game, values}
 pub use Rattle.sgf_tree.specs.Tree.{joined}
 use Rattle.sgf_tree.specs.Bytes.{open_parenthesis, close_parenthesis, semicolon, open_bracket, backslash, close_bracket, byte_ef, byte_bb, byte_bf}
 use Rattle.sgf_tree.specs.Spelling.{is_white_space, is_upper, is_lower}
 
--- a game whose `)` has not come: its nodes so far, and the games below them so far
+-- a game whose `)` hasn't come yet: its nodes so far, and the games below them so far
 pub record OpenGame : Type 0 where
   pub first : Node
   pub more : List Node
   pub below : Games
 
--- the games that are whole, and the open ones, the innermost first
+-- the whole games, and the open ones, innermost first
 pub record Stack : Type 0 where
   pub closed : Games
   pub unclosed : List OpenGame
 
--- a node whose end has not come: the games before it, whether it is the first after a `(`, and its properties so far
+-- a node whose end hasn't come yet: the games before it, whether it is the first after a `(`, its place, and its properties so
+-- far
 pub record Started : Type 0 where
   pub stack : Stack
   pub opens : Bool
@@ -37,7 +38,7 @@ pub data MachineState : Type 0 where
   after_value : (node : Started) (property : Property) → MachineState
   after_game : (stack : Stack) → MachineState
 
--- a property of the values before and one more
+-- a property with the values before and one more
 abbrev pub property_of : List ℕ → List (List ℕ) → List ℕ → Property
 property_of name [] value = record { name = name; first = value; more = [] }
 property_of name (first ∷ rest) value = record { name = name; first = first; more = rest ++ value ∷ [] }
@@ -47,7 +48,7 @@ abbrev pub with_property : Started → Property → Started
 with_property node property =
     record { stack = node.stack; opens = node.opens; place = node.place; properties = node.properties ++ property ∷ [] }
 
--- a node at the end of the innermost open game
+-- the node is added at the end of the innermost open game
 abbrev pub add_node : List OpenGame → Node → List OpenGame
 add_node [] node = []
 add_node (inmost ∷ outer) node = record { first = inmost.first; more = inmost.more ++ node ∷ []; below = inmost.below } ∷ outer
@@ -65,11 +66,11 @@ ended node =
       unclosed = if node.opens then new_game whole_node ∷ node.stack.unclosed else add_node node.stack.unclosed whole_node;
     }
 
--- the innermost open game as a whole one
+-- the open game as a whole one
 abbrev pub whole_game : OpenGame → Games
 whole_game open_game = game open_game.first open_game.more open_game.below no_games
 
--- the innermost open game becomes the last game below the one around it, or the last of all
+-- the innermost open game becomes the last game below the one around it; without one around it, the last game of all
 abbrev pub close_in : Games → List OpenGame → Option MachineState
 close_in closed [] = None
 close_in closed (inmost ∷ []) = Some (after_game (record { closed = joined closed (whole_game inmost); unclosed = [] }))
@@ -83,11 +84,11 @@ close_in closed (inmost ∷ around ∷ outer) =
 abbrev pub close : Stack → Option MachineState
 close stack = close_in stack.closed stack.unclosed
 
--- a node that begins at an offset
+-- a node that begins at this offset
 abbrev pub new_node : Stack → Bool → ℕ → MachineState
 new_node stack opens at = in_node (record { stack = stack; opens = opens; place = at; properties = [] })
 
--- the byte that stands where a node may end
+-- the byte comes where a node may end
 abbrev pub after_node : ℕ → Stack → ℕ → Option MachineState
 after_node at stack byte =
     if byte == semicolon then Some (new_node stack false at)
@@ -95,7 +96,7 @@ after_node at stack byte =
     else (if byte == close_parenthesis then close stack
     else None))
 
--- white space, a `(` or a `)` after a game, or before the first one
+-- white space, a `(` or a `)`, after a game or before the first one
 abbrev pub between_games : Stack → ℕ → Option MachineState
 between_games stack byte =
     if is_white_space byte then Some (after_game stack)
@@ -103,7 +104,7 @@ between_games stack byte =
     else (if byte == close_parenthesis then close stack
     else None))
 
--- the byte at an offset takes a state to the next one, or is refused
+-- the byte at an offset takes a state to the next one; None if it is refused
 unfoldable pub next_state : ℕ → MachineState → ℕ → Option MachineState
 next_state at start byte = if byte == byte_ef then Some first_of_mark else between_games (record { closed = no_games; unclosed = [] }) byte
 next_state at first_of_mark byte = if byte == byte_bb then Some second_of_mark else None
@@ -138,22 +139,22 @@ next_state at (after_value node property) byte =
     else after_node at (ended (with_property node property)) byte))
 next_state at (after_game stack) byte = between_games stack byte
 
--- the bytes from an offset on take a state to this one, or one of them is refused
+-- the bytes from an offset on take a state to this one; None if one of them is refused
 unfoldable pub run : ℕ → MachineState → List ℕ → Option MachineState
 run at state [] = Some state
 run at state (byte ∷ rest) = option_and_then (λ next. run (at + 1) next rest) (next_state at state byte)
 
--- the whole games, where there is one and none is open
+-- the whole games, if there is at least one and none is open
 abbrev pub whole_games : Games → List OpenGame → Option Games
 whole_games no_games unclosed = None
 whole_games (game first more below after) [] = Some (game first more below after)
 whole_games (game first more below after) (inmost ∷ outer) = None
 
--- the collection of a text that ends in this state, where it may end there
+-- the collection of a text that ends in this state; None if it can't end there
 unfoldable pub accepted : MachineState → Option Games
 accepted (after_game stack) = whole_games stack.closed stack.unclosed
 accepted _ = None
 
--- the collection of a text
+-- the collection that a text spells; None if it spells none
 unfoldable pub collection_of : List ℕ → Option Games
 collection_of text = option_and_then accepted (run 0 start text)

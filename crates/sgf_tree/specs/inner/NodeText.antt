@@ -1,5 +1,5 @@
--- The properties and the raw values that stand at the front of a text, as functions, so that they may be what is seen of a
--- part of the text. `ArePropertiesIn` and `AreValuesIn` tie them to the grammar.
+-- The properties and the raw values at the front of a text, as functions, so that they can be the view of a part of the text.
+-- `ArePropertiesIn` and `AreValuesIn` tie them to the grammar.
 use Rattle.std.specs.Prelude.{◌≡◌, ◌≢◌, ℕ, zero, suc, ◌+◌, ◌<◌, ◌≤◌, Bool, false, ◌||◌, ◌==◌, if◌then◌else◌, List, [], ◌∷◌, ◌++◌, length, drop, slice_range, filter, IsTrue, Option, None, Some}
 use Rattle.std.specs.List.{flat_map}
 use Rattle.sgf_tree.specs.Bytes.{semicolon, open_bracket, backslash, close_bracket}
@@ -11,7 +11,7 @@ use Rattle.sgf_tree.specs.Written.{value_text, property_text}
 abbrev pub is_letter : ℕ → Bool
 is_letter byte = is_upper byte || is_lower byte
 
--- what is left after the elements in front that pass a test
+-- what is left after the first elements that pass a test
 unfoldable pub left_after : (ℕ → Bool) → List ℕ → List ℕ
 left_after test [] = []
 left_after test (byte ∷ rest) = if test byte then left_after test rest else byte ∷ rest
@@ -21,7 +21,7 @@ unfoldable pub front : (ℕ → Bool) → List ℕ → List ℕ
 front test [] = []
 front test (byte ∷ rest) = if test byte then byte ∷ front test rest else []
 
--- the raw value in front of the `]` that ends it
+-- the raw value up to the `]` that ends it
 unfoldable pub raw_value : List ℕ → List ℕ
 raw_value [] = []
 raw_value (byte ∷ []) = []
@@ -39,33 +39,33 @@ after_raw_value (byte ∷ next ∷ rest) =
     else (if byte == backslash then after_raw_value rest
     else after_raw_value (next ∷ rest))
 
--- what a function gives of a first byte and the bytes after it, and `none` where there is no byte
+-- what the function returns for the first byte and the bytes after it; `none` if there is no byte
 abbrev pub by_front : {A : Type 0} → (ℕ → List ℕ → A) → A → List ℕ → A
 by_front function none [] = none
 by_front function none (byte ∷ rest) = function byte rest
 
--- up to so many values, each after white space and a `[`
+-- up to `count` values, each after white space and a `[`
 unfoldable pub values_up_to : ℕ → List ℕ → List (List ℕ)
 values_up_to zero text = []
 values_up_to (suc count) text =
     by_front (λ byte rest. if byte == open_bracket then raw_value rest ∷ values_up_to count (after_raw_value rest) else []) [] (left_after is_white_space text)
 
--- what is left after them
+-- what is left after those
 unfoldable pub after_values_up_to : ℕ → List ℕ → List ℕ
 after_values_up_to zero text = text
 after_values_up_to (suc count) text =
     by_front (λ byte rest. if byte == open_bracket then after_values_up_to count (after_raw_value rest) else text) text (left_after is_white_space text)
 
--- all values in front
+-- all values at the front
 unfoldable pub values_in : List ℕ → List (List ℕ)
 values_in text = values_up_to (length text) text
 
--- the values that are left, of which the first may be known
+-- the values that are left; the first may be known already
 abbrev pub values_left : Option (List ℕ) → List (List ℕ) → List (List ℕ)
 values_left None values = values
 values_left (Some first) values = first ∷ values
 
--- the property of a name and raw values, of which there is one at least
+-- the property with this name and these raw values; there must be at least one value
 abbrev pub property_from : List ℕ → List (List ℕ) → Property
 property_from name [] = record { name = name; first = []; more = [] }
 property_from name (first ∷ more) = record { name = name; first = first; more = more }
@@ -74,11 +74,11 @@ property_from name (first ∷ more) = record { name = name; first = first; more 
 abbrev pub name_in : List ℕ → List ℕ
 name_in identifier = filter is_upper identifier
 
--- an identifier begins with a capital
+-- the identifier begins with a capital
 abbrev pub BeginsName : List ℕ → Type 0
 BeginsName identifier = (letter : ℕ) × (rest : List ℕ) × (identifier ≡ letter ∷ rest) × IsTrue (is_upper letter)
 
--- up to so many properties, each after white space
+-- up to `count` properties, each after white space
 unfoldable pub properties_up_to : ℕ → List ℕ → List Property
 properties_up_to zero text = []
 properties_up_to (suc count) text =
@@ -91,7 +91,7 @@ properties_up_to (suc count) text =
     []
     (left_after is_white_space text)
 
--- all properties in front
+-- all properties at the front
 unfoldable pub properties_in : List ℕ → List Property
 properties_in text = properties_up_to (length text) text
 
@@ -103,14 +103,14 @@ NoValueFollows text = (byte : ℕ) (rest : List ℕ) → WhiteSpace text (byte �
 abbrev pub NoPropertyFollows : List ℕ → Type 0
 NoPropertyFollows text = (byte : ℕ) (rest : List ℕ) → WhiteSpace text (byte ∷ rest) → (byte ≢ open_bracket) × (is_upper byte ≡ false)
 
--- whole values stand in front
+-- whole values stand at the front
 pub record AreValuesIn (text : List ℕ) : Type 0 where
   pub values : List (List ℕ)
   pub rest : List ℕ
   pub spelled : ArePropValues values text rest
   pub ends : NoValueFollows rest
 
--- whole properties, up to the end of a node
+-- whole properties stand at the front, up to the end of a node
 pub record ArePropertiesIn (text : List ℕ) : Type 0 where
   pub properties : List Property
   pub rest : List ℕ
@@ -122,39 +122,39 @@ pub record IsNodeIn (text : List ℕ) : Type 0 where
   pub begins : text ≡ semicolon ∷ drop 1 text
   pub properties : ArePropertiesIn (drop 1 text)
 
--- no value is in front
+-- no value stands at the front
 abbrev pub IsNoPropValue : List ℕ → Type 0
 IsNoPropValue text = (value rest : List ℕ) → ¬ IsPropValue value text rest
 
--- a value stands between two offsets, after white space and a `[`, and a `]` after it
+-- A value stands from `start` up to `close`, where its `]` is. Before it come white space and a `[`.
 pub record IsValueAt (text : List ℕ) (from start close : ℕ) : Type 0 where
   pub begins : from < start
   pub rises : start ≤ close
   pub within : close < length text
   pub spelled : IsPropValue (slice_range text start close) (drop from text) (drop (close + 1) text)
 
--- what is left after as many values as there are in front
+-- what is left after all values at the front
 pub record IsPastValues (text rest : List ℕ) : Type 0 where
   pub values : List (List ℕ)
   pub spelled : ArePropValues values text rest
   pub none_left : IsNoPropValue rest
 
--- the same, by the offset where it begins
+-- the same, as the offset where it begins
 pub record IsValuesEnd (text : List ℕ) (from end : ℕ) : Type 0 where
   pub within : end ≤ length text
   pub past : IsPastValues (drop from text) (drop end text)
 
--- a list goes on after another
+-- the new list is the old one and more
 abbrev pub GoesOn : List ℕ → List ℕ → Type 0
 GoesOn old new = (more : List ℕ) × (new ≡ old ++ more)
 
--- properties were taken off the front of others, and that is their text
+-- properties were taken off the front of others, and `text` is what the sgf form writes for them
 pub record IsWrittenFront (old new : List Property) (text : List ℕ) : Type 0 where
   pub taken : List Property
   pub front : old ≡ taken ++ new
   pub written : text ≡ flat_map property_text taken
 
--- values stand from one offset to another as the sgf form writes them
+-- from one offset to the other, values stand just as the sgf form writes them
 pub record AreValuesWritten (whole_text : List ℕ) (from end : ℕ) : Type 0 where
   pub rises : from ≤ end
   pub within : end ≤ length whole_text
@@ -162,7 +162,7 @@ pub record AreValuesWritten (whole_text : List ℕ) (from end : ℕ) : Type 0 wh
   pub spelled : ArePropValues values (drop from whole_text) (drop end whole_text)
   pub text : slice_range whole_text from end ≡ flat_map value_text values
 
--- and so does a whole property
+-- the same for a whole property
 pub record IsPropertyWritten (whole_text : List ℕ) (at end : ℕ) : Type 0 where
   pub rises : at < end
   pub within : end ≤ length whole_text
@@ -171,7 +171,7 @@ pub record IsPropertyWritten (whole_text : List ℕ) (at end : ℕ) : Type 0 whe
   pub ends : NoValueFollows (drop end whole_text)
   pub text : slice_range whole_text at end ≡ property_text property
 
--- and so do the properties up to an offset, after which the others stand
+-- the same for the properties up to an offset, with the other properties after it
 pub record ArePropertiesWritten (whole_text : List ℕ) (from end : ℕ) : Type 0 where
   pub rises : from ≤ end
   pub within : end ≤ length whole_text

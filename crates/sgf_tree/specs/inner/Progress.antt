@@ -1,4 +1,4 @@
--- How far a text was read: the words of the contracts inside `reader`.
+-- How far a text was read: words of the contracts inside `reader`.
 use Rattle.std.specs.Prelude.{◌≡◌, ◌≢◌, ℕ, ◌+◌, ◌-◌, ◌*◌, ◌<◌, ◌≤◌, Bool, false, not, ◌&&◌, ◌==◌, List, [], ◌∷◌, length, slice_index, slice_range, take, drop, Some, IsTrue}
 use Rattle.sgf_tree.specs.Bytes.{capital_a, open_bracket, backslash, close_bracket}
 use Rattle.sgf_tree.specs.RawValue.{IsValue}
@@ -12,7 +12,7 @@ use Rattle.sgf_tree.specs.declared.reader.fault.PartFault.TheVariants.{NotSgf, M
 abbrev pub ComesTo : List ℕ → ℕ → MachineState → Type 0
 ComesTo text at state = run 0 start (take at text) ≡ Some state
 
--- a fault is at the first one of the text
+-- the fault is the first one of the text, unless memory was refused
 abbrev pub IsTrueFault : List ℕ → PartFault → Type 0
 IsTrueFault text (NotSgf at) = IsFaultyAt text at
 IsTrueFault text Memory = Unit {0}
@@ -28,7 +28,7 @@ pub record IsSpan (test : ℕ → Bool) (text : List ℕ) (at end : ℕ) : Type 
 abbrev pub is_plain : ℕ → Bool
 is_plain byte = not (byte == close_bracket) && not (byte == backslash)
 
--- the bytes from `at` to `end` are such
+-- the bytes from `at` to `end` are plain
 pub record ArePlain (text : List ℕ) (at end : ℕ) : Type 0 where
   pub rises : at ≤ end
   pub within : end ≤ length text
@@ -38,33 +38,33 @@ pub record ArePlain (text : List ℕ) (at end : ℕ) : Type 0 where
 abbrev pub HasNoBracket : List ℕ → ℕ → ℕ → Type 0
 HasNoBracket text at end = (index : ℕ) → at ≤ index → index < end → slice_index text index ≢ close_bracket
 
--- the first `]` from `at` on stands at `end`
+-- the first `]` from `at` on is at `end`
 pub record IsNextBracket (text : List ℕ) (at end : ℕ) : Type 0 where
   pub rises : at ≤ end
   pub within : end < length text
   pub bracket : slice_index text end ≡ close_bracket
   pub before : HasNoBracket text at end
 
--- and no `\` stands directly before it
+-- the same, and no `\` is directly before it
 pub record IsBareBracket (text : List ℕ) (at end : ℕ) : Type 0 where
   pub next : IsNextBracket text at end
   pub bare : at < end → slice_index text (end - 1) ≢ backslash
 
--- as many `\` as stand directly before `end`, from `at` on, are those from `first` to `end`
+-- The bytes from `first` to `end` are all the `\` that stand directly before `end`, from `at` on.
 pub record AreBackslashesBefore (text : List ℕ) (at first end : ℕ) : Type 0 where
   pub low : at ≤ first
   pub rises : first ≤ end
   pub escapes : (index : ℕ) → first ≤ index → index < end → slice_index text index ≡ backslash
   pub begins : at < first → slice_index text (first - 1) ≢ backslash
 
--- escapes, a `\` and a byte each, stand side by side from `at` to `end`
+-- escapes, each of a `\` and a byte, stand side by side from `at` to `end`
 pub record AreEscapes (text : List ℕ) (at end : ℕ) : Type 0 where
   pub within : end ≤ length text
   pub count : ℕ
   pub bytes : end ≡ at + 2 * count
   pub each : (index : ℕ) → index < count → slice_index text (at + 2 * index) ≡ backslash
 
--- the raw value that begins at `at` ends at `end`, where its `]` stands
+-- the raw value that begins at `at` ends at `end`, where its `]` is
 pub record IsValueEnd (text : List ℕ) (at end : ℕ) : Type 0 where
   pub rises : at ≤ end
   pub within : end < length text
@@ -72,7 +72,7 @@ pub record IsValueEnd (text : List ℕ) (at end : ℕ) : Type 0 where
   pub value : (node : Started) (name : List ℕ) (before : List (List ℕ)) → ComesTo text at (in_value node name before [])
       → ComesTo text end (in_value node name before (slice_range text at end))
 
--- its bytes are units of a value, up to the `]`
+-- the bytes from `at` to `end` are units of a value
 abbrev pub SpellsValue : List ℕ → ℕ → ℕ → Type 0
 SpellsValue text at end = IsValue (slice_range text at end) (drop at text) (drop end text)
 
@@ -82,32 +82,32 @@ pub record IsTwoPlain (text : List ℕ) (at : ℕ) : Type 0 where
   pub plain : ArePlain text at (at + 2)
   pub bracket : slice_index text (at + 2) ≡ close_bracket
 
--- white space begins at `at`, or none, and a byte that is less than each letter and each bracket follows
+-- white space, or none, begins at `at`, and a byte follows that is less than every letter and bracket
 pub record IsNodeEnd (text : List ℕ) (at : ℕ) : Type 0 where
   pub next : ℕ
   pub white_space : IsSpan is_white_space text at next
   pub inside : next < length text
   pub below : slice_index text next < capital_a
 
--- a `;`, one capital and two plain bytes between brackets, with nothing between them, and one byte more
+-- a `;`, one capital, two plain bytes between brackets, with nothing in between; then at least one more byte
 pub record IsShortFront (text : List ℕ) : Type 0 where
   pub within : 6 < length text
   pub capital : IsTrue (is_upper (slice_index text 1))
   pub bracket : slice_index text 2 ≡ open_bracket
   pub value : IsTwoPlain text 3
 
--- white space begins at `at`, or none, and no `[` follows
+-- white space, or none, begins at `at`, and no `[` follows
 pub record IsPropertyEnd (text : List ℕ) (at : ℕ) : Type 0 where
   pub next : ℕ
   pub white_space : IsSpan is_white_space text at next
   pub other : next < length text → slice_index text next ≢ open_bracket
 
--- and then the end of the property
+-- the same front, and then the property ends
 pub record IsLoneFront (text : List ℕ) : Type 0 where
   pub front : IsShortFront text
   pub ends : IsPropertyEnd text 6
 
--- and then the end of the node
+-- the same front, and then the node ends
 pub record IsLoneNode (text : List ℕ) : Type 0 where
   pub front : IsShortFront text
   pub ends : IsNodeEnd text 6
@@ -116,7 +116,7 @@ pub record IsLoneNode (text : List ℕ) : Type 0 where
 abbrev pub SpellsNoValue : List ℕ → ℕ → Type 0
 SpellsNoValue text at = (value rest : List ℕ) → ¬ IsValue value (drop at text) (close_bracket ∷ rest)
 
--- it doesn't end in the text
+-- a raw value that begins at `at` doesn't end in the text
 abbrev pub IsUnended : List ℕ → ℕ → Type 0
 IsUnended text at =
     (node : Started) (name : List ℕ) (before : List (List ℕ)) → ComesTo text at (in_value node name before []) → IsFaultyAt text (length text)

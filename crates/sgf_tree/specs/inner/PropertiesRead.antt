@@ -1,4 +1,4 @@
--- How the properties of a node were read: the words of the contracts in `reader::properties`.
+-- How the properties of a node were read: words of the contracts in `reader::properties`.
 use Rattle.std.specs.Prelude.{◌≡◌, ◌≢◌, ℕ, ◌+◌, ◌<◌, ◌≤◌, false, List, [], ◌∷◌, length, slice_index, None}
 use Rattle.sgf_tree.specs.Bytes.{open_bracket}
 use Rattle.sgf_tree.specs.Tree.{Property}
@@ -11,7 +11,7 @@ use Rattle.sgf_tree.specs.declared.reader.fault.PartFault.{PartFault}
 abbrev pub StopsValues : List ℕ → ℕ → Type 0
 StopsValues text end = end < length text → (is_white_space (slice_index text end) ≡ false) × (slice_index text end ≢ open_bracket)
 
--- the values of a property, of which the first `[` stands at `bracket`, were read up to `end`
+-- the values of a property were read up to `end`; its first `[` is at `bracket`
 pub record AreValuesRead (text : List ℕ) (bracket end : ℕ) : Type 0 where
   pub rises : bracket < end
   pub within : end ≤ length text
@@ -27,7 +27,7 @@ pub record IsPropertyRead (text : List ℕ) (start end : ℕ) : Type 0 where
   pub reached : (node : Started) → ComesTo text (start + 1) (in_name node (slice_index text start ∷ []))
       → (property : Property) × ComesTo text end (after_value node property)
 
--- a node, to which nothing is added but what may stand after a node, is read up to `end`
+-- a node was read up to `end`; there only what may come after a node may follow
 pub record StandsAfterNode (text : List ℕ) (end : ℕ) (whole : Started) : Type 0 where
   pub state : MachineState
   pub reached : ComesTo text end state
@@ -46,16 +46,16 @@ pub record ArePropertiesRead (text : List ℕ) (at end : ℕ) : Type 0 where
   pub reached : (node : Started) → node.properties ≡ [] → ComesTo text at (in_node node)
       → (properties : List Property) × StandsAfterNode text end (with_properties node properties)
 
--- a fault is the first one of the text, if the machine stood at `at`, after a `[`
+-- if the machine was at `at` after a `[`, the fault is the first one of the text
 abbrev pub IsFaultInValue : List ℕ → ℕ → PartFault → Type 0
 IsFaultInValue text at fault =
     (node : Started) (name : List ℕ) (before : List (List ℕ)) → ComesTo text at (in_value node name before []) → IsTrueFault text fault
 
--- or after the letter at `start`, which began a name
+-- the same after the letter at `start`, which began a name
 abbrev pub IsFaultInProperty : List ℕ → ℕ → PartFault → Type 0
 IsFaultInProperty text start fault =
     (node : Started) → ComesTo text (start + 1) (in_name node (slice_index text start ∷ [])) → IsTrueFault text fault
 
--- or in a node without properties at `at`
+-- the same in a node without properties at `at`
 abbrev pub IsFaultInNode : List ℕ → ℕ → PartFault → Type 0
 IsFaultInNode text at fault = (node : Started) → node.properties ≡ [] → ComesTo text at (in_node node) → IsTrueFault text fault

@@ -1,5 +1,5 @@
--- How a collection is stored as a list, so that it may be the value of a model: of each games a token, before those
--- below and those after. It says nothing of what a text means.
+-- How a collection is stored as a list, so that it can be the value of a model. For each game a token comes first, then those of
+-- the games below it, then those of the games after it. This says nothing of what a text means.
 use Rattle.std.specs.Prelude.{◌≡◌, ℕ, List, [], ◌∷◌, ◌++◌, Option, Some, None, refl}
 use Rattle.std.specs.Coded.{Coded, code_by, coded×, coded_ℕ, coded_list, coded_option}
 use Rattle.std.proofs.Common.{◌∙◌, ap, sym, append_assoc, append-nil}
@@ -24,7 +24,7 @@ abbrev pub node_code : Coded Node
 node_code =
     code_by (ℕ × List Property) (coded× coded_ℕ (coded_list property_code)) (λ n. (n.place, n.properties)) (λ parts. record { place = parts.0; properties = parts.1 }) (λ _. refl)
 
--- a game's own nodes, or that there is no game
+-- a game's own nodes; None if there is no game
 abbrev pub Token : Type 0
 Token = Option (Node × List Node)
 
@@ -32,19 +32,19 @@ abbrev pub tokens : Games → List Token
 tokens no_games = None ∷ []
 tokens (game first more below after) = Some (first, more) ∷ (tokens below ++ tokens after)
 
--- a game of its own nodes, over the two games that come next
+-- a game with these own nodes, over the next two games
 abbrev pub over_next : Node → List Node → List Games → List Games
 over_next first more (below ∷ after ∷ rest) = game first more below after ∷ rest
 over_next first more (below ∷ []) = []
 over_next first more [] = []
 
--- the games of a list of tokens, read from its right end
+-- the games of a list of tokens, read from the right end
 abbrev pub games_of : List Token → List Games
 games_of [] = []
 games_of (None ∷ rest) = no_games ∷ games_of rest
 games_of (Some own ∷ rest) = over_next own.0 own.1 (games_of rest)
 
--- the first of them
+-- the first of these games
 abbrev pub first_games : List Games → Games
 first_games [] = no_games
 first_games (games ∷ rest) = games
