@@ -1,4 +1,4 @@
--- The answer of a run: what its source gave, what its sink took, and what the result says of both.
+-- The result of a run: what it says of the bytes that the source gave and that the sink took.
 use Rattle.std.specs.Prelude.{◌≡◌, ℕ, ◌+◌, ◌<◌, ◌≤◌, ◌⊎◌, List, [], ◌++◌, length, take, Option, Some, None, Result, Ok, Err, OnOk}
 use Rattle.std.specs.Result.{result_err}
 use Rattle.std.specs.Io.KnownBytes.{Appends, Consumes, IsAtEnd}
@@ -20,20 +20,20 @@ pub record IsWhole (given : List ℕ) (to_come : Option (List ℕ)) : Type 0 whe
   pub at_end : IsAtEnd to_come
   pub within : length given ≤ MAX_LENGTH
 
--- what the source gave spells a collection of which these lines are the page
+-- what the source gave spells a collection, and these lines are the page of it
 pub record HasPage (options : Options) (given : List ℕ) (asked : List Line) : Type 0 where
   pub games : Games
   pub spelled : Spells games given
   pub page_is : page options games ≡ Some asked
 
--- what the source gave spells a collection that has no line with the place that is asked for
+-- what the source gave spells a collection, and no line of it has the place that is asked for
 pub record HasNoLine (options : Options) (given : List ℕ) (place : ℕ) : Type 0 where
   pub games : Games
   pub spelled : Spells games given
   pub asked : options.after ≡ Some place
   pub none : lines_after (lines games) place ≡ None
 
--- a front of the output: the records of the first `count` lines whole, and of the next less than the whole
+-- A prefix of the output: the records of the first `count` lines whole, and less than the whole of the next.
 pub record IsCutShort (form : Form) (page : List Line) (count : ℕ) (taken : List ℕ) : Type 0 where
   pub front : (rest : List ℕ) × (output form page ≡ taken ++ rest)
   pub lines : count ≤ length page
@@ -45,7 +45,7 @@ pub record IsCutBetween (form : Form) (page : List Line) (count : ℕ) (taken : 
   pub lines : count ≤ length page
   pub taken_is : taken ≡ output form (take count page)
 
--- What holds of the bytes that the source gave, of those that are to come, and of the bytes that the sink took.
+-- What each result says of the bytes that the source gave, of those still to come, and of the bytes that the sink took.
 abbrev pub Answers : Options → List ℕ → Option (List ℕ) → List ℕ → Result ℕ RunFault → Type 0
 Answers options given to_come taken (Ok count) =
     IsWhole given to_come × ((page : List Line) × HasPage options given page × (taken ≡ output options.form page) × (count ≡ length page))
@@ -57,8 +57,8 @@ Answers options given to_come taken (Err (Write count)) = IsWhole given to_come 
 Answers options given to_come taken (Err (Memory count)) =
     (IsWhole given to_come × ((page : List Line) × HasPage options given page × IsCutBetween options.form page count taken)) ⊎ ((count ≡ 0) × (taken ≡ []))
 
--- The answer of a run, by how it finds its ends and how it leaves them. An end that failed fails for good, and each failure is counted,
--- so where a count rises by one nothing was asked of that end after its failure.
+-- The result of a run, with the source and the sink before and after it. A source or a sink that failed fails for good, and each
+-- failure is counted. So if such a count rises by one, nothing was asked of that end after its failure.
 pub record IsRun (options : Options) (source new_source : SourceState) (sink new_sink : SinkState) (result : Result ℕ RunFault) : Type 0 where
   pub given : List ℕ
   pub taken : List ℕ
@@ -68,7 +68,7 @@ pub record IsRun (options : Options) (source new_source : SourceState) (sink new
   pub answers : Answers options given new_source.to_come taken result
   pub delivers : OnOk result (HasDelivered new_sink)
 
--- how many failures of the source a fault tells of, and how many of the sink
+-- how many failures of the source a fault stands for, and how many of the sink
 abbrev pub reads_failed : Option RunFault → ℕ
 reads_failed (Some Read) = 1
 reads_failed _ = 0
@@ -77,7 +77,7 @@ abbrev pub writes_failed : Option RunFault → ℕ
 writes_failed (Some (Write lines)) = 1
 writes_failed _ = 0
 
--- the same of a result
+-- the same for a result
 abbrev pub read_failures : {A : Type 0} → Result A RunFault → ℕ
 read_failures result = reads_failed (result_err result)
 

@@ -6,15 +6,15 @@ use Rattle.sgf_lines.specs.Lines.{Line, place_of}
 use Rattle.sgf_lines.specs.ListRow.{row_text}
 use Rattle.sgf_lines.specs.Verdict.{verdict}
 
--- a verdict on a line that stands `by` bytes further on: the place of an illegal node is raised by so many
+-- the verdict on a line that stands `by` bytes further on: the place of an illegal node is raised by `by`
 abbrev pub raised_verdict : ℕ → Verdict → Verdict
 raised_verdict by (Score black white over) = Score black white over
 raised_verdict by (Illegal turn place reason) = Illegal turn (by + place) reason
 raised_verdict by NotGo = NotGo
 raised_verdict by BadSize = BadSize
 
--- the record in list form of a line that stands `by` bytes further on, after so many games: its place and that of an
--- illegal node are raised by the bytes, and the number of its game by the games
+-- The list record of a line that stands `by` bytes further on, after `games` more games. Its place and that of an illegal node
+-- are raised by the bytes, and the number of its game by the games.
 abbrev pub raised_record : ℕ → ℕ → Line → List ℕ
 raised_record by games line =
     row_text (by + place_of line) (games + line.game_number) (length line.nodes) (raised_verdict by (verdict line)) ++ codes "\n"

@@ -12,7 +12,7 @@ use Rattle.sgf_lines.specs.declared.counting.Counts.{Counts}
 use Rattle.sgf_lines.specs.declared.fault.RunFault.{RunFault}
 use Rattle.sgf_lines.specs.declared.fault.RunFault.TheVariants.{Read, TooLong, NotSgf, NoSuchLine, Write, Memory}
 
--- the games of a collection, its nodes at every depth, and its lines
+-- how many games a collection has, how many nodes at every depth, and how many lines
 abbrev pub counts_of : Games → Counts
 counts_of games = record { games = game_count games; nodes = node_count games; lines = length (lines games) }
 
@@ -20,7 +20,7 @@ counts_of games = record { games = game_count games; nodes = node_count games; l
 abbrev pub counts_row : Counts → List ℕ
 counts_row counts = decimal counts.games ++ codes " " ++ decimal counts.nodes ++ codes " " ++ decimal counts.lines ++ codes "\n"
 
--- What holds of the bytes that the source gave, and of those that are to come.
+-- What each result says of the bytes that the source gave, and of those still to come.
 abbrev pub AnswersCount : List ℕ → Option (List ℕ) → Result Counts RunFault → Type 0
 AnswersCount given to_come (Ok counts) = IsWhole given to_come × ((games : Games) × Spells games given × (counts ≡ counts_of games))
 AnswersCount given to_come (Err Read) = length given ≤ MAX_LENGTH
@@ -30,14 +30,14 @@ AnswersCount given to_come (Err (NoSuchLine place)) = ⊥
 AnswersCount given to_come (Err (Write count)) = ⊥
 AnswersCount given to_come (Err (Memory count)) = count ≡ 0
 
--- The answer of a count, by how it finds its source and how it leaves it.
+-- The result of a count, with the source before and after it.
 pub record IsCount (source new_source : SourceState) (result : Result Counts RunFault) : Type 0 where
   pub given : List ℕ
   pub gives : Appends source.given new_source.given given
   pub consumes : Consumes source.to_come new_source.to_come given
   pub answers : AnswersCount given new_source.to_come result
 
--- what a sink took of a row: all of it, or a front of it
+-- what a sink took of a row: all of it, or a prefix of it
 abbrev pub AnswersRow : {A : Type 0} → List ℕ → List ℕ → Result A RunFault → Type 0
 AnswersRow row taken (Ok _) = taken ≡ row
 AnswersRow row taken (Err Read) = ⊥
@@ -47,7 +47,7 @@ AnswersRow row taken (Err (NoSuchLine place)) = ⊥
 AnswersRow row taken (Err (Write count)) = (count ≡ 0) × ((rest : List ℕ) × (row ≡ taken ++ rest))
 AnswersRow row taken (Err (Memory count)) = ⊥
 
--- The answer of writing a row, by how it finds its sink and how it leaves it.
+-- The result of writing a row, with the sink before and after it.
 pub record IsWriting {A : Type 0} (row : List ℕ) (sink new_sink : SinkState) (result : Result A RunFault) : Type 0 where
   pub taken : List ℕ
   pub takes : Appends sink.taken new_sink.taken taken

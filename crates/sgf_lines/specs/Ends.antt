@@ -1,15 +1,15 @@
--- What the two ends of a run, its source and its sink, show to contracts, and what their calls do.
+-- What the source and the sink of a run show to contracts, and what their calls do.
 use Rattle.std.specs.Prelude.{◌≡◌, ℕ, ◌+◌, ◌<◌, ◌≤◌, List, [], length, take, Option, Result, Ok, Err}
 use Rattle.std.specs.Io.KnownBytes.{Keeps, Appends, Consumes, IsAtEnd}
 
--- A source: how often it has failed, the bytes that it has given so far, and those that are still to come.
--- Each list is none where the source doesn't tell it; then nothing is said of it.
+-- A source: how often it has failed, the bytes that it has given so far, and those still to come. A
+-- list is None if the source doesn't report it. Contracts say nothing of that list then.
 pub record SourceState : Type 0 where
   pub failures : ℕ
   pub given : Option (List ℕ)
   pub to_come : Option (List ℕ)
 
--- a source that had never failed gave these bytes, and none only where no more are to come
+-- a source that had never failed gave these bytes; it gives none only if no more are to come
 pub record Gives (old new : SourceState) (bytes : List ℕ) : Type 0 where
   pub never_failed : old.failures ≡ 0
   pub failures : new.failures ≡ old.failures
@@ -17,25 +17,26 @@ pub record Gives (old new : SourceState) (bytes : List ℕ) : Type 0 where
   pub to_come : Consumes old.to_come new.to_come bytes
   pub none_at_end : bytes ≡ [] → IsAtEnd new.to_come
 
--- a source failed: it counts that, and gave nothing
+-- a source failed: it counted that, and gave nothing
 pub record GivesNothing (old new : SourceState) : Type 0 where
   pub failures : new.failures ≡ old.failures + 1
   pub given : Keeps old.given new.given
   pub to_come : Keeps old.to_come new.to_come
 
--- the answer of a source that was asked to fill a buffer: how many bytes at the buffer's front it gave
+-- the result of a source that was asked to fill a buffer: how many bytes it put at the buffer's front
 abbrev pub IsGet : {E : Type 0} → SourceState → SourceState → List ℕ → Result ℕ E → Type 0
 IsGet old new buffer (Ok n) = (n ≤ length buffer) × Gives old new (take n buffer)
 IsGet old new buffer (Err _) = GivesNothing old new
 
--- A sink: how often it has failed, the bytes that it has taken so far, and of these the front that it has delivered, which is
--- handed on and no longer held back. Each list is none where the sink doesn't tell it; then nothing is said of it.
+-- A sink: how often it has failed, the bytes that it has taken so far, and the prefix of these
+-- that it has delivered. Delivered bytes were handed on, and are no longer held back. A list is
+-- None if the sink doesn't report it. Contracts say nothing of that list then.
 pub record SinkState : Type 0 where
   pub failures : ℕ
   pub taken : Option (List ℕ)
   pub delivered : Option (List ℕ)
 
--- what a sink tells as delivered is a front of what it tells as taken
+-- the bytes that a sink reports as delivered are a prefix of those that it reports as taken
 abbrev pub DeliversFront : SinkState → Type 0
 DeliversFront sink = (held : List ℕ) × Appends sink.delivered sink.taken held
 
@@ -49,7 +50,7 @@ pub record Takes (old new : SinkState) (bytes : List ℕ) : Type 0 where
   pub failures : new.failures ≡ old.failures
   pub taken : Appends old.taken new.taken bytes
 
--- a sink failed: it counts that, and took nothing; where it had failed before, it delivered nothing either
+-- a sink failed: it counted that, and took nothing; if it had failed before, it delivered nothing either
 pub record TakesNothing (old new : SinkState) : Type 0 where
   pub failures : new.failures ≡ old.failures + 1
   pub taken : Keeps old.taken new.taken
@@ -62,12 +63,12 @@ pub record Delivers (old new : SinkState) : Type 0 where
   pub taken : Keeps old.taken new.taken
   pub delivered : HasDelivered new
 
--- the answer of a sink that was handed bytes: how many at their front it took, which is at least one
+-- the result of a sink that was given bytes: how many of them it took, from their front, at least one
 abbrev pub IsPut : {E : Type 0} → SinkState → SinkState → List ℕ → Result ℕ E → Type 0
 IsPut old new bytes (Ok n) = (0 < n) × (n ≤ length bytes) × Takes old new (take n bytes)
 IsPut old new bytes (Err _) = TakesNothing old new
 
--- the answer of a sink that was asked to flush
+-- the result of a sink that was asked to flush
 abbrev pub IsFlush : {A E : Type 0} → SinkState → SinkState → Result A E → Type 0
 IsFlush old new (Ok _) = Delivers old new
 IsFlush old new (Err _) = TakesNothing old new

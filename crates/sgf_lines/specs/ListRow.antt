@@ -6,7 +6,8 @@ use Rattle.sgf_lines.specs.declared.verdict.Verdict.TheVariants.{Score, Illegal,
 use Rattle.sgf_lines.specs.Lines.{Line, place_of}
 use Rattle.sgf_lines.specs.Verdict.{verdict}
 
--- a verdict in words; the scores are Black's and White's, and the numbers of an illegal line the turn and the place of its illegal node
+-- A verdict in words. The scores are Black's, then White's. For an illegal
+-- line: the turn, the place of the illegal node, the reason.
 abbrev pub verdict_text : Verdict → List ℕ
 verdict_text (Score black white over) =
     codes "score " ++ decimal black ++ codes " " ++ decimal white ++ (if over then codes " over" else codes " open")
@@ -15,7 +16,7 @@ verdict_text (Illegal turn place reason) =
 verdict_text NotGo = codes "unjudged game"
 verdict_text BadSize = codes "unjudged size"
 
--- the row of a line with this place, in the game of this number, with so many nodes and this verdict; no line feed
+-- the row of a line with this place, game number, number of nodes and verdict; without a line feed
 abbrev pub row_text : ℕ → ℕ → ℕ → Verdict → List ℕ
 row_text place game_number count told =
     decimal place ++ codes " " ++ decimal game_number ++ codes " " ++ decimal count ++ codes " " ++ verdict_text told

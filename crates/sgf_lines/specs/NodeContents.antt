@@ -7,11 +7,11 @@ use Rattle.go_board.specs.declared.stones.Colour.TheVariants.{Black, White}
 use Rattle.go_board.specs.declared.stones.Cell.{Cell}
 use Rattle.go_board.specs.declared.stones.Cell.TheVariants.{Black as BlackStone, White as WhiteStone, Empty}
 
--- the property has that name
+-- the property has this name
 abbrev pub is_named : List ℕ → Property → Bool
 is_named name property = bytes_eq property.name name
 
--- a move: the player, and the raw value that says where
+-- a move: the player, and the raw value that names the point or the pass
 pub record Move : Type 0 where
   pub player : Colour
   pub raw : List ℕ
@@ -30,16 +30,16 @@ moves_in property =
 abbrev pub moves : Node → List Move
 moves node = flat_map moves_in node.properties
 
--- stones of a setup, a value of AB, AW or AE: what points become, and the raw value that says which points
+-- stones of a setup, from a value of AB, AW or AE: what the points become, and the raw value that names the points
 pub record Stones : Type 0 where
   pub cell : Cell
   pub raw : List ℕ
 
--- the values of a property as stones of that kind
+-- the values of a property as stones of this kind
 abbrev pub stones_of : Cell → Property → List Stones
 stones_of cell property = map (λ raw. record { cell = cell; raw = raw }) (values property)
 
--- the stones of a property: AB adds black ones and AW white ones, AE makes points empty
+-- the stones of a property: AB adds black ones, AW adds white ones, AE makes points empty
 abbrev pub stones_in : Property → List Stones
 stones_in property =
     if is_named (codes "AB") property then stones_of BlackStone property
@@ -58,6 +58,6 @@ players_in property = if is_named (codes "PL") property then values property els
 abbrev pub players : Node → List (List ℕ)
 players node = flat_map players_in node.properties
 
--- the first value of the first property of that name
+-- the first value of the first property with this name; None if there is none
 abbrev pub first_value : List ℕ → List Property → Option (List ℕ)
 first_value name properties = option_map (λ property. property.first) (find (is_named name) properties)

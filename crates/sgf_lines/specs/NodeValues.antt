@@ -8,7 +8,7 @@ use Rattle.go_board.specs.declared.referee.plays.SetupOp.{SetupOp}
 use Rattle.go_board.specs.Values.{point_value, rect_value}
 use Rattle.sgf_lines.specs.NodeContents.{Stones}
 
--- a pass is the empty value, or `tt` on a board of side 19 at most
+-- a pass is the empty value, or `tt` on a board of side 19 or less
 abbrev pub is_pass : List ℕ → ℕ → Bool
 is_pass raw side = (length raw == 0) || (bytes_eq raw (codes "tt") && nat_le side 19)
 
@@ -16,7 +16,7 @@ is_pass raw side = (length raw == 0) || (bytes_eq raw (codes "tt") && nat_le sid
 abbrev pub move_value : List ℕ → ℕ → Option Play
 move_value raw side = if is_pass raw side then Some Pass else option_map Stone (point_value raw side)
 
--- the player that a colour names
+-- the player that a colour value names
 abbrev pub player_value : List ℕ → Option Colour
 player_value raw =
     if bytes_eq raw (codes "B") then Some Black
@@ -26,13 +26,13 @@ player_value raw =
 abbrev pub operation : Stones → ℕ → Option SetupOp
 operation value side = option_map (λ area. record { cell = value.cell; area = area }) (rect_value value.raw side)
 
--- the operations that such values name, in order; none where one of them names no rectangle of the board
+-- the operations that such values name, in order; None if one of them names no rectangle of the board
 abbrev pub operations : List Stones → ℕ → Option (List SetupOp)
 operations [] side = Some []
 operations (value ∷ values) side =
     option_and_then (λ op. option_map (λ ops. op ∷ ops) (operations values side)) (operation value side)
 
--- the last player named, after one who was named before or none; nothing where one of the values names no player
+-- the last player named, or `before` if there are no values; None if one of the values names no player
 abbrev pub last_player : Option Colour → List (List ℕ) → Option (Option Colour)
 last_player before [] = Some before
 last_player before (raw ∷ raws) = option_and_then (λ colour. last_player (Some colour) raws) (player_value raw)

@@ -1,11 +1,11 @@
--- The lines of play again, with the nodes' numbers in file order in place of the nodes.
+-- The lines of play again, by the numbers of their nodes in file order.
 use Rattle.std.specs.Prelude.{◌≡◌, ℕ, ◌+◌, List, [], ◌∷◌, ◌++◌, length, map, Some}
 use Rattle.std.specs.List.{range_with_len}
 use Rattle.sgf_tree.specs.Tree.{Games, no_games, game, node_count}
 use Rattle.sgf_tree.specs.FileOrder.{node_at}
 use Rattle.sgf_lines.specs.Lines.{Line, through, last_number}
 
--- the variations through games whose first node has the number `first_number`
+-- the variations through games, by numbers; the first node has the number `first_number`
 abbrev pub number_lines : ℕ → Games → List (List ℕ)
 number_lines first_number no_games = []
 number_lines first_number (game first more below after) =
@@ -13,16 +13,16 @@ number_lines first_number (game first more below after) =
     through (first_number ∷ range_with_len (first_number + 1) (length more)) (number_lines (last + 1) below)
     ++ number_lines (last + 1 + node_count below) after
 
--- a line by numbers: that of its game, counted from 1, and those of its nodes, counted from 0, the root first
+-- a line by numbers: that of its game, from 1, and those of its nodes, from 0, the root first
 pub record Path : Type 0 where
   pub game_number : ℕ
   pub numbers : List ℕ
 
--- the paths of the game of this number, by the numbers of their nodes
+-- the paths of the game with this number, by the numbers of their nodes
 abbrev pub paths_of_game : ℕ → List (List ℕ) → List Path
 paths_of_game number variations = map (λ numbers. record { game_number = number; numbers = numbers }) variations
 
--- the paths of games, of which the first has this number and begins at the node `first_number`
+-- the paths of games; the first game has this number, and its first node the number `first_number`
 abbrev pub paths_from : ℕ → ℕ → Games → List Path
 paths_from number first_number no_games = []
 paths_from number first_number (game first more below after) =

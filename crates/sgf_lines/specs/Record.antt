@@ -1,4 +1,4 @@
--- The record of a line: what is written for it, in each form; and the output of a run, the records of lines one after the other.
+-- The record of a line: what is written for it, in each form. The output of a run: the records of its lines, one after the other.
 use Rattle.std.specs.Prelude.{ℕ, List, ◌++◌, codes}
 use Rattle.std.specs.List.{flat_map}
 pub use Rattle.sgf_tree.specs.Written.{value_text, property_text, node_text}
@@ -9,7 +9,7 @@ use Rattle.sgf_lines.specs.Lines.{Line}
 use Rattle.sgf_lines.specs.ListRow.{list_row}
 use Rattle.sgf_lines.specs.Script.{script}
 
--- The line as a game of its own (SGF FF[4], with no white space between its parts).
+-- The line as a game of its own (SGF FF[4], without white space between its parts).
 
 -- the nodes between parentheses, and a line feed
 abbrev pub sgf_record : List Node → List ℕ

@@ -1,5 +1,5 @@
--- How an engine of the Go Text Protocol (GTP 2) follows a script, from the bytes of the script: a command a row, from the top. It
--- begins with no board, and plays stones by the Tromp-Taylor rules.
+-- How an engine of the Go Text Protocol (GTP 2) follows a script, worked out from the bytes of the script: one command per row,
+-- from the top. The engine begins without a board, and plays stones by the Tromp-Taylor rules.
 use Rattle.std.specs.Prelude.{ℕ, Bool, true, false, ◌-◌, ◌==◌, ◌||◌, ◌&&◌, nat_le, nat_lt, if◌then◌else◌, Option, Some, None, option_map, option_and_then, List, [], ◌∷◌, filter, map, fold, codes, bytes_eq}
 use Rattle.std.specs.List.{slice_split, position}
 use Rattle.sgf_tree.specs.Bytes.{space, line_feed, capital_a, small_a, small_z}
@@ -19,7 +19,7 @@ use Rattle.go_board.specs.Vertex.{column_letters}
 abbrev pub number_sign : ℕ
 number_sign = 35
 
--- what stands before a comment, which a `#` begins
+-- what stands before a comment; a `#` begins a comment
 abbrev pub before_comment : List ℕ → List ℕ
 before_comment [] = []
 before_comment (b ∷ bs) = if b == number_sign then [] else b ∷ before_comment bs
@@ -64,7 +64,7 @@ play_command_of (Some colour) (Some vertex) = plays_stone colour vertex
 play_command_of (Some colour) None = does_nothing
 play_command_of None vertex = does_nothing
 
--- the command of words: `clear_board`, `boardsize` with a number, `play` with a colour and a vertex, or another, which does nothing
+-- the command of words: `clear_board`, `boardsize` with a number, `play` with a colour and a vertex; any other does nothing
 abbrev pub command_of : List (List ℕ) → Command
 command_of [] = does_nothing
 command_of (name ∷ []) = if bytes_eq name (codes "clear_board") then clears else does_nothing
@@ -74,15 +74,15 @@ command_of (name ∷ first ∷ second ∷ []) =
     if bytes_eq name (codes "play") then play_command_of (colour_named first) (vertex_named second) else does_nothing
 command_of (name ∷ first ∷ second ∷ third ∷ more) = does_nothing
 
--- an engine: it has no board before it is told a size; then a board of that side, on which anything may stand until it is
--- cleared; then a board; and it follows nothing more once it has refused a command
+-- An engine. It has no board before it gets a size. Then it has a board of that side, on which anything may stand until the board
+-- is cleared. Then it shows a board. Once it has refused a command, it follows no more.
 pub data Engine : Type 0 where
   no_board : Engine
   sized : (side : ℕ) → Engine
   shows : (board : Grid) → Engine
   refused : Engine
 
--- a size is taken if the protocol has vertices for it
+-- a size is accepted if the protocol has vertices for it
 abbrev pub resized : ℕ → Engine
 resized side = if nat_le 1 side && nat_le side MAX_VERTEX_SIDE then sized side else refused
 
@@ -98,7 +98,7 @@ after_clear (sized side) = shows (empty_grid side)
 after_clear (shows board) = shows (empty_grid board.side)
 after_clear refused = refused
 
--- the point of that column from the left and that number from the bottom, from 1, if the board has it
+-- the point with this column from the left, from 0, and this number from the bottom, from 1; None if the board doesn't have it
 abbrev pub point_there : ℕ → ℕ → ℕ → Option Point
 point_there side col number =
     if nat_lt col side && (nat_le 1 number && nat_le number side) then Some (record { col = col; row = side - number }) else None
@@ -125,14 +125,14 @@ after_command engine clears = after_clear engine
 after_command engine (plays_stone colour vertex) = after_play engine colour vertex
 after_command engine does_nothing = engine
 
--- one row later
+-- after one more row
 abbrev pub after_row : Engine → List ℕ → Engine
 after_row engine row = after_command engine (command_of (words row))
 
--- the rows of a text followed from the top
+-- after the rows of a text, from the top
 abbrev pub after_text : Engine → List ℕ → Engine
 after_text engine text = fold after_row engine (slice_split (λ b. b == line_feed) text)
 
--- an engine that begins with no board, after a whole script
+-- after a whole script, for an engine that begins without a board
 abbrev pub replayed : List ℕ → Engine
 replayed script = after_text no_board script

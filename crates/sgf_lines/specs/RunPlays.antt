@@ -1,4 +1,4 @@
--- A run that is asked how many nodes it played: what the result says of them, beside what it says of the bytes.
+-- A run that counts the nodes that it plays: what its result says of them, besides what it says of the bytes.
 use Rattle.std.specs.Prelude.{◌≡◌, ℕ, ◌+◌, ◌≤◌, ◌⊎◌, List, length, take, Option, Result, Ok, Err}
 use Rattle.sgf_lines.specs.Lines.{Line}
 use Rattle.sgf_lines.specs.Plays.{all_judged_places}
@@ -10,13 +10,13 @@ use Rattle.sgf_lines.specs.declared.options.Options.{Options}
 use Rattle.sgf_lines.specs.declared.fault.RunFault.{RunFault}
 use Rattle.sgf_lines.specs.declared.fault.RunFault.TheVariants.{Read, TooLong, NotSgf, NoSuchLine, Write, Memory}
 
--- of so many judged nodes how many are played: in sgf form, which has no verdict, none
+-- of `count` judged nodes, how many are played: none in the sgf form, which has no verdict
 abbrev pub plays_in : Form → ℕ → ℕ
 plays_in list_form count = count
 plays_in sgf_form count = 0
 plays_in gtp_form count = count
 
--- how many nodes are played for these lines: each node that is judged on some of them, once
+-- how many nodes are played for these lines: each node that is judged on at least one of them, once
 abbrev pub plays_of : Form → List Line → ℕ
 plays_of form lines = plays_in form (length (all_judged_places lines))
 
@@ -25,7 +25,7 @@ pub record ArePlaysFor (form : Form) (page : List Line) (count plays : ℕ) : Ty
   pub at_least : plays_of form (take count page) ≤ plays
   pub at_most : plays ≤ plays_of form (take (count + 1) page)
 
--- What holds of the number of nodes that were played, with a case for each answer, as `Answers` has them for the bytes.
+-- What each result says of the number of nodes that were played, as `Answers` says it of the bytes.
 abbrev pub AnswersPlays : Options → List ℕ → Option (List ℕ) → ℕ → Result ℕ RunFault → Type 0
 AnswersPlays options given to_come plays (Ok count) = (page : List Line) × HasPage options given page × (plays ≡ plays_of options.form page)
 AnswersPlays options given to_come plays (Err Read) = plays ≡ 0
@@ -36,7 +36,7 @@ AnswersPlays options given to_come plays (Err (Write count)) = (page : List Line
 AnswersPlays options given to_come plays (Err (Memory count)) =
     (IsWhole given to_come × ((page : List Line) × HasPage options given page × ArePlaysFor options.form page count plays)) ⊎ ((count ≡ 0) × (plays ≡ 0))
 
--- The answer of a run, where the plays went from `old` to `new`.
+-- The result of a run in which the plays went from `old` to `new`.
 pub record IsRunWithPlays (options : Options) (source new_source : SourceState) (sink new_sink : SinkState) (old new : ℕ) (result : Result ℕ RunFault) : Type 0 where
   pub run : IsRun options source new_source sink new_sink result
   pub plays : ℕ

@@ -1,4 +1,4 @@
--- The script of a line: commands of the Go Text Protocol (GTP 2), which put the line on a board.
+-- The script of a line: commands of the Go Text Protocol (GTP 2) that put the line on a board.
 use Rattle.std.specs.Prelude.{ℕ, Bool, false, ◌==◌, ◌||◌, nat_lt, if◌then◌else◌, Option, Some, None, List, [], ◌∷◌, ◌++◌, filter, codes, decimal}
 use Rattle.std.specs.List.{flat_map, list_any, slice_split}
 use Rattle.sgf_tree.specs.Tree.{Node}
@@ -28,17 +28,17 @@ use Rattle.sgf_lines.specs.ListRow.{list_row}
 abbrev pub comment_row : List ℕ → List ℕ
 comment_row piece = codes "# " ++ piece ++ codes "\n"
 
--- a text cut at each line feed, a comment row for each piece; no row for an empty text
+-- a text cut at each line feed: each piece is a comment row; an empty text has no row
 abbrev pub text_rows : List ℕ → List ℕ
 text_rows [] = []
 text_rows (b ∷ bs) = flat_map comment_row (slice_split (λ c. c == line_feed) (b ∷ bs))
 
--- the decoded text of a comment, which a node may have
+-- the decoded text of a node's comment; empty if there is none
 abbrev pub comment_text : Option (List ℕ) → List ℕ
 comment_text None = []
 comment_text (Some raw) = text_of raw
 
--- the comment of a node, which is the first value of its first C
+-- the rows for a node's comment, which is the first value of its first C
 abbrev pub comment_rows : Node → List ℕ
 comment_rows node = text_rows (comment_text (first_value (codes "C") node.properties))
 
@@ -69,12 +69,12 @@ stone_commands grid colour = flat_map (λ point. play_command grid.side colour (
 abbrev pub colouring_commands : Grid → List ℕ
 colouring_commands grid = codes "clear_board\n" ++ stone_commands grid Black ++ stone_commands grid White
 
--- where a node has stones, the colouring after it
+-- the commands for the colouring after a node, if the node has stones
 abbrev pub setup_commands : Grid → List Stones → List ℕ
 setup_commands grid [] = []
 setup_commands grid (value ∷ values) = colouring_commands grid
 
--- where a node has a move, its play
+-- the command for a node's play, if its move has one
 abbrev pub move_commands_by : ℕ → Colour → Option Play → List ℕ
 move_commands_by side colour None = []
 move_commands_by side colour (Some play) = play_command side colour play
@@ -82,7 +82,7 @@ move_commands_by side colour (Some play) = play_command side colour play
 abbrev pub move_commands : ℕ → List Move → List ℕ
 move_commands side moves = flat_map (λ move. move_commands_by side move.player (move_value move.raw side)) moves
 
--- what a node adds, where its step leads to this state
+-- what a node adds if its step leads to this state
 abbrev pub node_script : State → Node → List ℕ
 node_script after node =
     let grid : Grid = after.colouring in
@@ -91,7 +91,7 @@ node_script after node =
 abbrev pub taken_script : TakenNode → List ℕ
 taken_script taken = node_script taken.after taken.node
 
--- whether a node's setup leaves a stone without a liberty on the board, which no moves lead to
+-- whether a node's setup leaves a stone without a liberty on the board; no moves lead to such a board
 abbrev pub leaves_unreaching_by : Grid → List Stones → Bool
 leaves_unreaching_by grid [] = false
 leaves_unreaching_by grid (value ∷ values) = has_unreaching grid
@@ -99,11 +99,12 @@ leaves_unreaching_by grid (value ∷ values) = has_unreaching grid
 abbrev pub leaves_unreaching : TakenNode → Bool
 leaves_unreaching taken = leaves_unreaching_by taken.after.colouring (stones taken.node)
 
--- whether a walk can't be said in commands: the board has more columns than GTP has letters, or some setup leaves a stone without a liberty
+-- whether a walk can't be written as commands: the board has more columns than
+-- GTP has letters, or some setup leaves a stone without a liberty
 abbrev pub has_no_commands : ℕ → Walk → Bool
 has_no_commands side walked = nat_lt MAX_VERTEX_SIDE side || list_any leaves_unreaching walked.taken
 
--- the commands before the first node's
+-- the commands before those of the first node
 abbrev pub board_commands : ℕ → List ℕ
 board_commands side = codes "boardsize " ++ decimal side ++ codes "\nclear_board\n"
 
@@ -112,7 +113,7 @@ abbrev pub commands_of : ℕ → Walk → List ℕ
 commands_of side walked =
     if has_no_commands side walked then [] else board_commands side ++ flat_map taken_script walked.taken
 
--- a line that isn't judged has none
+-- a line that isn't judged has no commands
 abbrev pub commands_by : GameKind → List Node → List ℕ
 commands_by not_go nodes = []
 commands_by bad_size nodes = []

@@ -1,5 +1,5 @@
--- What splitting leaves as it was: a line of the split text has the nodes of the line that it came from, at other places, and the
--- same verdict.
+-- What splitting leaves unchanged. A line of the split text has the nodes of
+-- the line that it came from, at other places, and the same verdict.
 use Rattle.std.specs.Prelude.{◌≡◌, ℕ, Bool, List, Some, slice_get}
 use Rattle.std.specs.List.{AllZip}
 use Rattle.sgf_tree.specs.Tree.{Node}
@@ -13,7 +13,8 @@ use Rattle.sgf_lines.specs.Verdict.{verdict}
 abbrev pub HaveSame : Node → Node → Type 0
 HaveSame node other = node.properties ≡ other.properties
 
--- the same verdict of nodes and of others: an illegal node has the same index in both, and each verdict names its own place of it
+-- The same verdict on `nodes` and on `others`. An illegal node has the
+-- same index in both, and each verdict has the place of its own.
 pub data SaysSame (nodes others : List Node) : Verdict → Verdict → Type 0 where
   scored : {black white : ℕ} {over : Bool} → SaysSame nodes others (Score black white over) (Score black white over)
   illegal_at : {turn : ℕ} {reason : Reason} {node other : Node} (index : ℕ) → slice_get nodes index ≡ Some node → slice_get others index ≡ Some other
@@ -21,7 +22,7 @@ pub data SaysSame (nodes others : List Node) : Verdict → Verdict → Type 0 wh
   another_game : SaysSame nodes others NotGo NotGo
   another_size : SaysSame nodes others BadSize BadSize
 
--- a line, and what it became
+-- a line, and the line that it became
 pub record IsKept (line other : Line) : Type 0 where
   pub nodes : AllZip HaveSame line.nodes other.nodes
   pub says : SaysSame line.nodes other.nodes (verdict line) (verdict other)

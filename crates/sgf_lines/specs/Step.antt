@@ -1,5 +1,5 @@
--- A node's step: the state of the game after the node, or the first reason why the node isn't allowed (setup by SGF
--- FF[4], turns by Tromp-Taylor; the order of the reasons is this project's choice).
+-- A node's step: the state of the game after the node, or the first reason why the node isn't allowed. Setup is by SGF FF[4],
+-- turns by Tromp-Taylor. The order of the reasons is this project's choice.
 use Rattle.std.specs.Prelude.{Option, Some, None, List, [], ◌∷◌, ℕ, Result, Ok, Err}
 use Rattle.sgf_tree.specs.Tree.{Node}
 use Rattle.go_board.specs.declared.stones.Colour.{Colour}
@@ -16,17 +16,17 @@ use Rattle.sgf_lines.specs.NodeValues.{move_value, operations, last_player}
 abbrev pub side_in : State → ℕ
 side_in state = state.colouring.side
 
--- the state after a turn, or why the referee refuses it
+-- the state after a turn, or the reason why the referee refuses it
 abbrev pub turn_step : State → Colour → Play → Option Reason → Result State Reason
 turn_step state colour play (Some reason) = Err reason
 turn_step state colour play None = Ok (turned state colour play)
 
--- a move's step: its value is a play, which the referee allows
+-- a move's step: its value must be a play that the referee allows
 abbrev pub move_step : State → Colour → Option Play → Result State Reason
 move_step state colour None = Err BadPoint
 move_step state colour (Some play) = turn_step state colour play (reason_of state colour play)
 
--- a setup's step: each value names a rectangle of the board or a player, and the last player counts
+-- a setup's step: each value must name a rectangle of the board or a player; the last player counts
 abbrev pub setup_step : State → Option (List SetupOp) → Option (Option Colour) → Result State Reason
 setup_step state None last = Err BadSetup
 setup_step state (Some ops) None = Err BadSetup

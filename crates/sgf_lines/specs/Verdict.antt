@@ -1,5 +1,5 @@
--- The verdict of a line: the area score at its end, or the first node that isn't allowed (Tromp-Taylor), or that it is
--- not judged.
+-- The verdict of a line: the area score at its end, or the first node that
+-- isn't allowed (Tromp-Taylor), or that the line isn't judged.
 use Rattle.std.specs.Prelude.{◌≡◌, ℕ, ◌+◌, Option, Some, None, option_map, List, [], slice_get}
 use Rattle.sgf_tree.specs.Tree.{Node, Games}
 use Rattle.go_board.specs.declared.stones.Colour.TheVariants.{Black, White}
@@ -16,7 +16,7 @@ use Rattle.sgf_lines.specs.Walk.{IllegalNode, Walk, walk, judged_by}
 abbrev pub score_in : State → Verdict
 score_in state = Score (score_of state.colouring Black) (score_of state.colouring White) (is_over state)
 
--- an illegal node is named with the number of the turn that would have come, its node's place and its reason
+-- for an illegal node: the number of the turn that would have come, the place of the node, and the reason
 abbrev pub verdict_with : State → Option IllegalNode → Verdict
 verdict_with state None = score_in state
 verdict_with state (Some met) = Illegal (state.turns + 1) met.node.place met.reason
@@ -37,7 +37,7 @@ verdict_of nodes = verdict_by (game_kind (root_properties nodes)) nodes
 abbrev pub verdict : Line → Verdict
 verdict line = verdict_of line.nodes
 
--- the nodes of a line that are judged: all, or those up to the first that isn't allowed, or none
+-- the judged nodes of a line: all, or those up to the first that isn't allowed, or none
 abbrev pub judged_on : GameKind → List Node → List Node
 judged_on not_go nodes = []
 judged_on bad_size nodes = []
@@ -46,7 +46,7 @@ judged_on (board side) nodes = judged_by (walk side nodes)
 abbrev pub judged_nodes : Line → List Node
 judged_nodes line = judged_on (game_kind (root_properties line.nodes)) line.nodes
 
--- the verdict is that of the line of a collection that ends in the node of this number
+-- the verdict is that of the line that ends in the node with this number
 pub record IsVerdictAt (games : Games) (leaf : ℕ) (told : Verdict) : Type 0 where
   pub index : ℕ
   pub line : Line

@@ -25,13 +25,13 @@ pub record Walk : Type 0 where
 abbrev pub before_root : ℕ → Walk
 before_root side = record { taken = []; state = starting side; illegal = None }
 
--- a step that was taken goes on, and where it was refused, the node is the illegal one
+-- if the step was taken, the walk goes on; if it was refused, the node is the illegal one
 abbrev pub stepped : Walk → Node → Result State Reason → Walk
 stepped walked node (Ok state) =
     record { taken = walked.taken ++ record { node = node; after = state } ∷ []; state = state; illegal = None }
 stepped walked node (Err reason) = record walked { illegal = Some (record { node = node; reason = reason }) }
 
--- one node later; nothing comes after an illegal node
+-- one node later; nothing follows an illegal node
 abbrev pub next_by : Walk → Option IllegalNode → Node → Walk
 next_by walked (Some met) node = walked
 next_by walked None node = stepped walked node (step walked.state node)
@@ -39,7 +39,7 @@ next_by walked None node = stepped walked node (step walked.state node)
 abbrev pub next : Walk → Node → Walk
 next walked node = next_by walked walked.illegal node
 
--- along nodes, from the state in which a game on a board of that side begins
+-- along these nodes, from the state in which a game on a board of that side begins
 abbrev pub walk : ℕ → List Node → Walk
 walk side nodes = fold next (before_root side) nodes
 
@@ -48,13 +48,13 @@ abbrev pub judged_by : Walk → List Node
 judged_by walked =
     map (λ (taken : TakenNode). taken.node) walked.taken ++ map (λ (met : IllegalNode). met.node) (option_to_list walked.illegal)
 
--- the state after nodes whose steps are taken one after another, from a state on
+-- the state after nodes whose steps are taken one after another, from the state `from` on
 pub data IsAfter : State → List Node → State → Type 0 where
   no_node : {from : State} → IsAfter from [] from
   one_node : {from between last : State} {node : Node} {nodes : List Node} → step from node ≡ Ok between → IsAfter between nodes last
       → IsAfter from (node ∷ nodes) last
 
--- nodes among which one is the first that isn't allowed, in the state after those before it
+-- one of the nodes is the first that isn't allowed, in the state after the nodes before it
 pub record HasIllegal (from : State) (nodes : List Node) : Type 0 where
   pub before : List Node
   pub illegal : Node

@@ -10,17 +10,17 @@ use Rattle.go_board.specs.Grid.{Grid, cell_at}
 use Rattle.go_board.specs.declared.vertices.Vertex.{Vertex}
 use Rattle.sgf_lines.specs.Script.{colour_letter, vertex_text, play_command}
 
--- the command of a point, if it has that colour
+-- the command for a point, if the point has that colour
 abbrev pub commands_at : Grid → Colour → Point → List ℕ
 commands_at grid colour point =
     if same_cell (cell_at grid point) (stone_of colour) then play_command grid.side colour (Stone point) else []
 
--- the commands of the first points were appended to a text
+-- the commands for the first `count` points were appended to a text
 abbrev pub AreAppended : Grid → Colour → ℕ → List ℕ → List ℕ → Type 0
 AreAppended grid colour count before text =
     text ≡ before ++ ([] ++ flat_map (commands_at grid colour) (take count (points grid.side)))
 
--- the command of a pass, and that of a stone by its vertex
+-- the command for a pass, and the command for a stone by its vertex
 abbrev pub pass_command : Colour → List ℕ
 pass_command colour = codes "play " ++ colour_letter colour ++ codes " " ++ codes "pass" ++ codes "\n"
 

@@ -1,4 +1,4 @@
--- How a line's path follows from that of the line before it.
+-- How a line's path follows from the path of the line before it.
 use Rattle.std.specs.Prelude.{◌≡◌, ◌≢◌, ℕ, suc, zero, ◌+◌, ◌-◌, ◌<◌, ◌≤◌, List, [], ◌∷◌, ◌++◌, length, take, slice_get, Option, Some, None}
 use Rattle.std.specs.List.{range_with_len}
 use Rattle.sgf_tree.specs.Tree.{Node, Games}
@@ -6,12 +6,12 @@ use Rattle.sgf_lines.specs.Lines.{Line, lines, last_number}
 use Rattle.sgf_lines.specs.Paths.{Path, paths}
 use Rattle.sgf_lines.specs.Cursor.{CursorState}
 
--- the first node after the nodes of a line in file order; before the first line it is the first node of all
+-- the first node after a line's nodes, in file order; before the first line it is the first node of all
 abbrev pub first_after : List ℕ → ℕ
 first_after [] = 0
 first_after (number ∷ numbers) = last_number (number ∷ numbers) + 1
 
--- The new path keeps a front of the old one, and then has the nodes from the first one after it down to its leaf.
+-- The new path keeps a prefix of the old one. Then it has the nodes from the first one after the old line down to its own leaf.
 pub record Continues (old : List ℕ) (kept : ℕ) (new : List ℕ) : Type 0 where
   pub kept_within : kept ≤ length old
   pub more : ℕ
@@ -29,7 +29,7 @@ numbers_before games (suc index) = numbers_of (slice_get (paths games) index)
 abbrev pub path_before : CursorState → List ℕ
 path_before cursor = numbers_before cursor.games cursor.index
 
--- the nodes of a line, the root first; none where there is no line
+-- the nodes of a line, the root first; none if there is no line
 abbrev pub nodes_of : Option Line → List Node
 nodes_of None = []
 nodes_of (Some line) = line.nodes
@@ -45,7 +45,7 @@ line_before cursor = line_in cursor.games cursor.index
 abbrev pub nodes_before : CursorState → List Node
 nodes_before cursor = nodes_of (line_before cursor)
 
--- How many nodes at the front of a path end with the node `parent`, which stands last there; 0 where there is no parent.
+-- The number of nodes of a path up to and including the last one that is `parent`. It is 0 if there is no parent.
 abbrev pub IsCutBack : List ℕ → Option ℕ → ℕ → Type 0
 IsCutBack path None kept = kept ≡ 0
 IsCutBack path (Some parent) kept =

@@ -1,4 +1,4 @@
--- What is gathered of a node's properties, one after the other.
+-- What is gathered from a node's properties, one after the other.
 use Rattle.std.specs.Prelude.{◌≡◌, ◌⊎◌, ◌<◌, ◌+◌, ℕ, Bool, true, false, if◌then◌else◌, Option, Some, None, List, [], ◌∷◌, ◌++◌, length, All, MatchBool, codes, bytes_eq, option_copied}
 use Rattle.std.specs.List.{flat_map}
 use Rattle.sgf_tree.specs.Tree.{Property}
@@ -17,7 +17,7 @@ use Rattle.sgf_lines.specs.declared.judging.contents.Contents.{Contents}
 use Rattle.sgf_lines.specs.NodeContents.{Move, Stones, moves_in, stones_in, players_in, first_value}
 use Rattle.sgf_lines.specs.NodeValues.{operations, last_player}
 
--- what the values of a property of that name are
+-- what the values of a property with this name are
 abbrev pub kind_named : List ℕ → Option Kind
 kind_named name =
     if bytes_eq name (codes "B") then Some (move_kind Black)
@@ -31,12 +31,12 @@ kind_named name =
 abbrev pub kind_of : Property → Option Kind
 kind_of p = kind_named p.name
 
--- the comment that was met, or this one
+-- the comment that was found before; if none was, this one
 abbrev pub first_comment : Option (List ℕ) → List ℕ → Option (List ℕ)
 first_comment (Some met) first = Some met
 first_comment None first = Some first
 
--- the moves, as far as they are told
+-- what is kept of the moves: none, the only one, or that there are several
 abbrev pub AreMoves : Moves → List Move → Type 0
 AreMoves Nothing moves = moves ≡ []
 AreMoves (One colour raw) moves = moves ≡ record { player = colour; raw = raw.now } ∷ []
@@ -49,21 +49,21 @@ IsSetup side (Meant player) ops stones players =
     (operations stones side ≡ Some ops) × (last_player None players ≡ Some player) × (0 < length stones + length players)
 IsSetup side Faulty ops stones players = (operations stones side ≡ None) ⊎ (last_player None players ≡ None)
 
--- a setup with more stones, whether or not each names a rectangle of the board
+-- a setup with more stones, by whether each of these names a rectangle of the board
 abbrev pub setup_with_stones : Setup → Bool → Setup
 setup_with_stones setup false = Faulty
 setup_with_stones NoSetup true = Meant None
 setup_with_stones (Meant player) true = Meant player
 setup_with_stones Faulty true = Faulty
 
--- a setup with more players, of whom this is the last, or one of whom is none
+-- a setup with more players, of whom this is the last; None if one of them isn't a player
 abbrev pub setup_with_player : Setup → Option Colour → Setup
 setup_with_player setup None = Faulty
 setup_with_player NoSetup (Some player) = Meant (Some player)
 setup_with_player (Meant before) (Some player) = Meant (Some player)
 setup_with_player Faulty (Some player) = Faulty
 
--- operations went from `old` to `new` by those of stones, or some of these name no rectangle of the board
+-- The operations of the stones were appended to `old`; or some of the stones name no rectangle of the board.
 pub record AddsAreas (side : ℕ) (stones : List Stones) (old new : List SetupOp) (good : Bool) : Type 0 where
   pub added : MatchBool good ((ops : List SetupOp) × (operations stones side ≡ Some ops) × (new ≡ old ++ ops)) (operations stones side ≡ None)
   pub on_board : All (λ op. IsRectOn side op.area) old → All (λ op. IsRectOn side op.area) new

@@ -1,4 +1,4 @@
--- How a line stands judged after its first nodes.
+-- The judgement on a line after its first nodes.
 use Rattle.std.specs.Prelude.{◌≡◌, ◌<◌, ◌+◌, ℕ, Option, Some, None, List, [], ◌∷◌, fold, length, nat_le, if◌then◌else◌, unwrap_or, codes, option_copied, Result, Ok, Err}
 use Rattle.sgf_tree.specs.Tree.{Node}
 use Rattle.go_board.specs.declared.stones.Colour.{Colour}
@@ -21,45 +21,45 @@ use Rattle.sgf_lines.specs.declared.judging.step.Effect.TheVariants.{Nothing, St
 use Rattle.sgf_lines.specs.declared.judging.step.TakenStep.{TakenStep}
 use Rattle.sgf_lines.specs.inner.Back.{back_to}
 
--- a game isn't judged, for which this is the verdict; or a referee has these states, one more than nodes that were allowed, and
--- once a node wasn't the verdict is known
+-- Either the game isn't judged, and this is the verdict. Or a referee has these states, one
+-- more than nodes were allowed; once a node wasn't allowed, the verdict is known.
 pub data Judgement : Type 0 where
   unjudged : (told : Verdict) → Judgement
   judged : (states : States) → (ended : Option Verdict) → Judgement
 
--- how a line stands judged, and how many nodes were played
+-- the judgement on a line, and how many nodes were played
 pub record Judging : Type 0 where
   pub judgement : Judgement
   pub plays : ℕ
 
--- what a root says of its game's size, or the verdict of its lines
+-- the side that a root gives its game, or the verdict of the game's lines
 abbrev pub size_said : GameKind → Result ℕ Verdict
 size_said not_go = Err NotGo
 size_said bad_size = Err BadSize
 size_said (board side) = Ok side
 
--- before the root
+-- the judgement before the root
 abbrev pub begun_game : GameKind → Judgement
 begun_game not_go = unjudged NotGo
 begun_game bad_size = unjudged BadSize
 begun_game (board side) = judged (begun side) None
 
--- a step that was taken adds a state, and where it was refused, the line ends
+-- a step that was taken adds a state; a refused step ends the line
 abbrev pub stepped : States → Node → Result State Reason → Judgement
 stepped states node (Ok state) = judged (followed_by states state) None
 stepped states node (Err reason) = judged states (Some (Illegal (states.present.turns + 1) node.place reason))
 
--- one node more
+-- after one more node
 abbrev pub after : Judgement → Node → Judgement
 after (unjudged told) node = unjudged told
 after (judged states (Some told)) node = judged states (Some told)
 after (judged states None) node = stepped states node (step states.present node)
 
--- after nodes
+-- after these nodes
 abbrev pub judging : GameKind → List Node → Judgement
 judging kind nodes = fold after (begun_game kind) nodes
 
--- back to the first nodes: an illegal node that is behind them is forgotten
+-- back to the first `count` nodes: an illegal node after them is forgotten
 abbrev pub back : ℕ → Judgement → Judgement
 back count (unjudged told) = unjudged told
 back count (judged states ended) = if nat_le count (length states.earlier) then judged (back_to states count) None else judged states ended
@@ -69,17 +69,17 @@ verdict_in (unjudged told) = told
 verdict_in (judged states (Some told)) = told
 verdict_in (judged states None) = score_in states.present
 
--- the present board, where there is one
+-- the present board; None if the game isn't judged
 abbrev pub board_in : Judgement → Option Grid
 board_in (unjudged told) = None
 board_in (judged states ended) = Some states.present.colouring
 
--- the state that a step leads to
+-- the state that a step leads to; None if the step was refused
 abbrev pub state_of : Result State Reason → Option State
 state_of (Ok state) = Some state
 state_of (Err reason) = None
 
--- the state to which a node leads; none where it isn't allowed, or nothing is played any more
+-- the state that a node leads to; None if it isn't allowed, or if nothing is played any more
 abbrev pub state_after : Judgement → Node → Option State
 state_after (unjudged told) node = None
 state_after (judged states (Some told)) node = None
@@ -96,12 +96,12 @@ next_plays (unjudged told) = 0
 next_plays (judged states (Some told)) = 0
 next_plays (judged states None) = 1
 
--- what a judge in memory says
+-- the judgement that a judge in memory holds
 abbrev pub judgement_of : Option Verdict → Option States → Judgement
 judgement_of ended None = unjudged (unwrap_or ended NotGo)
 judgement_of ended (Some states) = judged states ended
 
--- the referee takes the step that was to be taken, or refuses it for its reason and is unchanged, or is refused memory and is unchanged
+-- The referee takes the step. Or it refuses the step for its reason, or memory is refused; then it is unchanged.
 abbrev pub IsStepped : {A : Type 0} → Result State Reason → States → States → Result A TurnFault → Type 0
 IsStepped step old new (Ok _) = (step ≡ Ok new.present) × (new ≡ followed_by old new.present)
 IsStepped step old new (Err (IllegalTurn reason)) = (step ≡ Err reason) × (new ≡ old)
@@ -127,17 +127,17 @@ abbrev pub setup_effect : List SetupOp → Effect
 setup_effect [] = Nothing
 setup_effect (op ∷ ops) = stones_set
 
--- the step of a node has that effect, and the node has that comment
+-- the step of a node has this effect, and the node has this comment
 pub record IsStepOf (side : ℕ) (node : Node) (taken : TakenStep) : Type 0 where
   pub effect_is : IsEffect side node taken.effect
   pub comment_is : option_copied taken.comment ≡ first_value (codes "C") node.properties
 
--- the side of its board
+-- the side of the board; 0 if the game isn't judged
 abbrev pub side_in : Judgement → ℕ
 side_in (unjudged told) = 0
 side_in (judged states ended) = states.present.colouring.side
 
--- what is told of the next node: its step if that was taken
+-- what is reported of the next node: its step, if that was taken
 abbrev pub IsTakenFrom : Judgement → Node → Option TakenStep → Type 0
 IsTakenFrom judgement node None = state_after judgement node ≡ None
 IsTakenFrom judgement node (Some taken) =

@@ -16,20 +16,20 @@ use Rattle.sgf_lines.specs.inner.Scripting.{ScriptState, empty_script, script_of
 use Rattle.sgf_lines.specs.inner.Judging.{Judgement, judging, back}
 use Rattle.sgf_lines.specs.inner.Following.{Continues, nodes_before, path_before}
 
--- how a line stands judged after its first nodes, and its script after them
+-- the judgement on a line after its first nodes, and its script after them
 abbrev pub judging_front : List Node → ℕ → Judgement
 judging_front nodes count = judging (game_kind (root_properties nodes)) (take count nodes)
 
 abbrev pub script_front : List Node → ℕ → ScriptState
 script_front nodes count = script_of (game_kind (root_properties nodes)) (take count nodes)
 
--- what a run keeps of the first nodes of a line
+-- what a run keeps of the first `count` nodes of a line
 abbrev pub KeepsBy : Form → List Node → ℕ → Run → Type 0
 KeepsBy list_form nodes count run = back count run.judge.judgement ≡ judging_front nodes count
 KeepsBy sgf_form nodes count run = cut (count + 1) run.game ≡ open_record (take count nodes)
 KeepsBy gtp_form nodes count run = (back count run.judge.judgement ≡ judging_front nodes count) × (script_back count run.script ≡ script_front nodes count)
 
--- what it holds of a line whose record it made
+-- what a run holds of a line whose record it made
 abbrev pub HoldsBy : Form → List Node → Run → Type 0
 HoldsBy list_form nodes run = run.judge.judgement ≡ judging_front nodes (length nodes)
 HoldsBy sgf_form nodes run = run.game ≡ whole_record nodes
@@ -56,15 +56,15 @@ pub record IsFresh (run : Run) : Type 0 where
 abbrev pub record_in : Run → List ℕ
 record_in run = run.head.items ++ ((concat run.game.pieces ++ run.game.begun) ++ script_text run.script)
 
--- of a line that shares so many nodes with the one before it all these are held still, or none where none was held
+-- If nodes of the line before were held, all nodes that the line shares with it are still held; else none are.
 abbrev pub StillHeld : ℕ → ℕ → ℕ → Type 0
 StillHeld held shared still = MatchBool (nat_lt 0 held) (still ≡ shared) (still ≡ 0)
 
--- how many nodes are played for a line of which the first ones are played already
+-- how many nodes are played for a line whose first `shared` nodes are played already
 abbrev pub fresh_plays : List Node → ℕ → ℕ
 fresh_plays nodes shared = length (judged_on (game_kind (root_properties nodes)) nodes) - shared
 
--- plays went from `old` to `new` for that line: each of its fresh nodes counts, and not more than each where memory was refused
+-- The plays went from `old` to `new` for this line. Each fresh node counts once; if memory was refused, at most once.
 pub record PlaysFresh {A E : Type 0} (old new : ℕ) (nodes : List Node) (shared : ℕ) (result : Result A E) : Type 0 where
   pub not_fewer : old ≤ new
   pub not_more : new ≤ old + fresh_plays nodes shared
@@ -75,7 +75,8 @@ PlaysIn list_form old new nodes shared result = PlaysFresh old new nodes shared 
 PlaysIn sgf_form old new nodes shared result = new ≡ old
 PlaysIn gtp_form old new nodes shared result = PlaysFresh old new nodes shared result
 
--- of a cursor's next line as many nodes are played already as it shares with the line before it, if the run holds that one
+-- How many nodes of a cursor's next line are played already: those shared
+-- with the line before it, if the run holds that line; else 0.
 abbrev pub IsShared : Bool → CursorState → ℕ → Type 0
 IsShared true cursor shared = Continues (path_before cursor) shared (path_before (advanced cursor))
 IsShared false cursor shared = shared ≡ 0
@@ -88,8 +89,8 @@ pub record HasPlays (form : Form) (holds : Bool) (cursor : CursorState) (count :
   pub shares : IsShared holds cursor shared
   pub count_is : count ≡ plays_in form (fresh_plays line.nodes shared)
 
--- plays went from `old` to `new` where a cursor's next line was to be written: those of that line, if there is one; none or some
--- of them where memory was refused
+-- The plays went from `old` to `new` when a cursor's next line was to be written. They rose by those for that line, if there is
+-- one. If memory was refused, they rose by none or some of those.
 abbrev pub PlaysLine : {E : Type 0} → Form → Bool → CursorState → ℕ → ℕ → Result Bool E → Type 0
 PlaysLine form holds cursor old new (Ok true) = (count : ℕ) × HasPlays form holds cursor count × (new ≡ old + count)
 PlaysLine form holds cursor old new (Ok false) = new ≡ old

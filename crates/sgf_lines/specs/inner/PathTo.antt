@@ -1,25 +1,25 @@
--- The path from the root of a game down to a node, and the leaves that a cursor looks for.
+-- The path from the root of a game down to a node, and the leaves that a cursor seeks.
 use Rattle.std.specs.Prelude.{◌≡◌, ℕ, ◌<◌, ◌≤◌, List, [], ◌∷◌, ◌++◌, Option, Some, None, MatchOption}
 use Rattle.sgf_tree.specs.Tree.{Games, node_count}
 use Rattle.sgf_tree.specs.FileOrder.{parent_at, IsLeaf}
 
--- the numbers of the nodes from the root to a node, each the parent of the next; above a root there is none
+-- the numbers of the nodes from the root to a node, each the parent of the next; above a root there are none
 pub data IsPathTo (games : Games) : Option ℕ → List ℕ → Type 0 where
   top : IsPathTo games None []
   step : {number : ℕ} {parent : Option ℕ} {above numbers : List ℕ} → parent_at games number ≡ Some parent → IsPathTo games parent above
       → numbers ≡ above ++ number ∷ [] → IsPathTo games (Some number) numbers
 
--- no leaf stands from node `from` on and before node `to`
+-- no node from `from` on and before `to` is a leaf
 abbrev pub HasNoLeaf : Games → ℕ → ℕ → Type 0
 HasNoLeaf games from to = (number : ℕ) → from ≤ number → number < to → IsLeaf games number → ⊥
 
--- the node of this number is the first leaf from node `from` on
+-- the node with this number is the first leaf from node `from` on
 pub record IsNextLeaf (games : Games) (from number : ℕ) : Type 0 where
   pub from_there : from ≤ number
   pub within : number < node_count games
   pub is_leaf : IsLeaf games number
   pub first : HasNoLeaf games from number
 
--- the next leaf, or none where there is none
+-- the next leaf; None if there is none
 abbrev pub IsLeafSearch : Games → ℕ → Option ℕ → Type 0
 IsLeafSearch games from found = MatchOption found (HasNoLeaf games from (node_count games)) (IsNextLeaf games from)

@@ -1,7 +1,7 @@
 -- A text in pieces, by the offsets where they end.
 use Rattle.std.specs.Prelude.{ℕ, ◌-◌, ◌≤◌, List, [], ◌∷◌, ◌++◌, length, take, drop}
 
--- pieces of text, one after the other, and what is begun after them
+-- pieces of text, one after the other, and the text begun after them
 pub record PiecesState : Type 0 where
   pub pieces : List (List ℕ)
   pub begun : List ℕ
@@ -9,29 +9,29 @@ pub record PiecesState : Type 0 where
 abbrev pub no_pieces : PiecesState
 no_pieces = record { pieces = []; begun = [] }
 
--- more is begun
+-- more text is begun
 abbrev pub pushed : PiecesState → List ℕ → PiecesState
 pushed old more = record { pieces = old.pieces; begun = old.begun ++ more }
 
--- what was begun is a piece
+-- the text begun becomes a piece
 abbrev pub closed : PiecesState → PiecesState
 closed old = record { pieces = old.pieces ++ old.begun ∷ []; begun = [] }
 
--- the first pieces alone
+-- the first `count` pieces alone
 abbrev pub cut : ℕ → PiecesState → PiecesState
 cut count old = record { pieces = take count old.pieces; begun = [] }
 
--- the pieces of a text that stands at the offset `start`, by their ends
+-- the pieces of a text that begins at the offset `start`, by the ends of the pieces
 abbrev pub pieces_from : ℕ → List ℕ → List ℕ → List (List ℕ)
 pieces_from start [] text = []
 pieces_from start (end ∷ ends) text = take (end - start) text ∷ pieces_from end ends (drop (end - start) text)
 
--- what stands after them
+-- the text after those pieces
 abbrev pub rest_from : ℕ → List ℕ → List ℕ → List ℕ
 rest_from start [] text = text
 rest_from start (end ∷ ends) text = rest_from end ends (drop (end - start) text)
 
--- ends that don't fall, and are within the text
+-- the ends don't fall, and are within the text
 abbrev pub AreEnds : ℕ → List ℕ → List ℕ → Type 0
 AreEnds start [] text = Unit {0}
 AreEnds start (end ∷ ends) text = (start ≤ end) × (end - start ≤ length text) × AreEnds end ends (drop (end - start) text)

@@ -4,7 +4,7 @@ use Rattle.sgf_tree.specs.Tree.{Node}
 use Rattle.sgf_lines.specs.Record.{node_text}
 use Rattle.sgf_lines.specs.inner.Pieces.{PiecesState}
 
--- before its end
+-- the record without its end, and with it
 abbrev pub open_record : List Node → PiecesState
 open_record nodes = record { pieces = codes "(" ∷ map node_text nodes; begun = [] }
 

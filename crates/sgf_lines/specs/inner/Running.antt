@@ -15,7 +15,7 @@ use Rattle.sgf_lines.specs.declared.options.Form.{Form}
 use Rattle.sgf_lines.specs.declared.fault.RunFault.{RunFault}
 use Rattle.sgf_lines.specs.declared.fault.RunFault.TheVariants.{Read, TooLong, NotSgf, NoSuchLine, Write, Memory}
 
--- what reading says of the bytes that the source gave, and of the text that they made
+-- what the result of reading says of the bytes that the source gave, and of the text made from them
 abbrev pub AnswersReading : {A : Type 0} → List ℕ → Option (List ℕ) → List ℕ → Result A RunFault → Type 0
 AnswersReading given to_come text (Ok _) = IsWhole given to_come × (text ≡ given)
 AnswersReading given to_come text (Err Read) = length given ≤ MAX_LENGTH
@@ -31,13 +31,13 @@ pub record IsReading {A : Type 0} (source new_source : SourceState) (text : List
   pub consumes : Consumes source.to_come new_source.to_come given
   pub answers : AnswersReading given new_source.to_come text result
 
--- why a text of so many bytes wasn't read, as the fault of a run
+-- why a text of `len` bytes wasn't read, as the fault of a run
 abbrev pub unread : ReadFault → ℕ → RunFault
 unread TextTooLong len = TooLong
 unread (TextNotSgf at) len = NotSgf at len
 unread TextMemory len = Memory 0
 
--- where a cursor stands before the page, or why there is none
+-- where a cursor stands before the page, or why there is no page
 abbrev pub IsStart : Games → Option ℕ → Result CursorState RunFault → Type 0
 IsStart games after (Ok cursor) = lines_asked (lines games) after ≡ Some (drop cursor.index (lines games))
 IsStart games after (Err Read) = ⊥
@@ -47,7 +47,7 @@ IsStart games after (Err (NoSuchLine place)) = (after ≡ Some place) × (lines_
 IsStart games after (Err (Write count)) = ⊥
 IsStart games after (Err (Memory count)) = count ≡ 0
 
--- what writing lines says of the bytes that the sink took
+-- what the result of writing lines says of the bytes that the sink took
 abbrev pub AnswersLines : Form → List Line → List ℕ → Result ℕ RunFault → Type 0
 AnswersLines form page taken (Ok count) = (taken ≡ output form page) × (count ≡ length page)
 AnswersLines form page taken (Err Read) = ⊥
@@ -62,14 +62,14 @@ pub record WritesLines (form : Form) (page : List Line) (sink new_sink : SinkSta
   pub takes : Appends sink.taken new_sink.taken taken
   pub answers : AnswersLines form page taken result
 
--- the record of the line at the cursor, which went on by one line
+-- the record of the line at the cursor, which moved on by one line
 pub record HasRecord (form : Form) (old new : CursorState) (bytes : List ℕ) : Type 0 where
   pub line : Line
   pub found : slice_get (lines old.games) old.index ≡ Some line
   pub bytes_are : bytes ≡ record_of form line
   pub goes_on : new ≡ advanced old
 
--- a sink took all of these bytes, or failed after less than all of them
+-- a sink took all of these bytes, or took fewer and failed
 abbrev pub PutsAll : {A E : Type 0} → SinkState → SinkState → List ℕ → Result A E → Type 0
 PutsAll old new bytes (Ok _) = Appends old.taken new.taken bytes × (new.failures ≡ old.failures)
 PutsAll old new bytes (Err _) = (count : ℕ) × (count < length bytes) × Appends old.taken new.taken (take count bytes) × (new.failures ≡ old.failures + 1)

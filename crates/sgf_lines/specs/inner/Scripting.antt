@@ -1,4 +1,4 @@
--- The commands of a line, in pieces: those that begin a game on its board, and then those of each node whose step was taken.
+-- The commands of a line, in pieces: first those that begin a game on its board, then those of each node whose step was taken.
 use Rattle.std.specs.Prelude.{◌≡◌, ℕ, ◌+◌, Bool, true, false, ◌&&◌, ◌||◌, nat_lt, if◌then◌else◌, Option, Some, None, List, [], ◌∷◌, ◌++◌, length, codes, option_copied}
 use Rattle.std.specs.List.{concat, list_any}
 use Rattle.sgf_tree.specs.Tree.{Node}
@@ -15,17 +15,17 @@ use Rattle.sgf_lines.specs.declared.judging.step.TakenStep.{TakenStep}
 use Rattle.sgf_lines.specs.inner.Pieces.{PiecesState, no_pieces, pushed, closed, cut}
 use Rattle.sgf_lines.specs.inner.Judging.{Judgement, state_after}
 
--- the commands that an effect adds, which left that board
+-- the commands that an effect adds; `grid` is the board after it
 abbrev pub effect_script : Grid → Effect → List ℕ
 effect_script grid Nothing = []
 effect_script grid stones_set = colouring_commands grid
 effect_script grid (one_play colour play) = play_command grid.side colour play
 
--- what a step that was taken adds
+-- what a taken step adds
 abbrev pub step_script : Grid → TakenStep → List ℕ
 step_script grid step = text_rows (comment_text (option_copied step.comment)) ++ effect_script grid step.effect
 
--- a play is on the board
+-- the play is on the board
 abbrev pub IsPlayable : ℕ → Effect → Type 0
 IsPlayable side Nothing = Unit {0}
 IsPlayable side stones_set = Unit {0}
@@ -37,44 +37,44 @@ is_unreaching grid Nothing = false
 is_unreaching grid stones_set = has_unreaching grid
 is_unreaching grid (one_play colour play) = false
 
--- the commands so far, and whether the line can't be said in commands
+-- the commands so far, and whether the line can't be written as commands
 pub record ScriptState : Type 0 where
   pub text : PiecesState
   pub silent : Bool
 
--- before any line
+-- the script before any line
 abbrev pub empty_script : ScriptState
 empty_script = record { text = no_pieces; silent = false }
 
--- of a line that isn't judged, or whose board has more columns than there are letters of vertices
+-- the script of a line that isn't judged, or whose board has more columns than vertices have letters
 abbrev pub no_script : ScriptState
 no_script = record { text = no_pieces; silent = true }
 
--- before the root's
+-- the script before the commands of the root
 abbrev pub script_begun : ℕ → ScriptState
 script_begun side =
     if nat_lt MAX_VERTEX_SIDE side then no_script
     else record { text = record { pieces = board_commands side ∷ []; begun = [] }; silent = false }
 
--- before the root's of a line that stands on this board, if it is judged
+-- the script before the commands of the root, for a line on this board; the line may be unjudged
 abbrev pub script_on : Option Grid → ScriptState
 script_on None = no_script
 script_on (Some grid) = script_begun grid.side
 
--- a piece more, or from here on none, where a setup left a stone without a liberty
+-- one more piece; from here on none if a setup left a stone without a liberty
 abbrev pub said_on : ScriptState → Bool → List ℕ → ScriptState
 said_on old unreaching more =
     if old.silent || unreaching then record { text = old.text; silent = true } else record { text = closed (pushed old.text more); silent = false }
 
--- back to the first taken nodes
+-- back to the first `count` taken nodes
 abbrev pub script_back : ℕ → ScriptState → ScriptState
 script_back count old = record { text = cut (count + 1) old.text; silent = old.silent && nat_lt (length old.text.pieces) (count + 1) }
 
--- with the row that ends it
+-- with the empty row that ends a script
 abbrev pub script_ended : ScriptState → ScriptState
 script_ended old = record { text = pushed old.text (codes "\n"); silent = old.silent }
 
--- what is put of it
+-- what is written of a script
 abbrev pub script_text : ScriptState → List ℕ
 script_text script = if script.silent then codes "\n" else concat script.text.pieces ++ script.text.begun
 
@@ -88,13 +88,13 @@ script_along side taken =
     if nat_lt MAX_VERTEX_SIDE side then no_script
     else record { text = record { pieces = board_commands side ∷ spoken taken; begun = [] }; silent = list_any leaves_unreaching taken }
 
--- the script of the nodes of a game whose root says this
+-- the script of these nodes, in a game of this kind
 abbrev pub script_of : GameKind → List Node → ScriptState
 script_of not_go nodes = no_script
 script_of bad_size nodes = no_script
 script_of (board side) nodes = script_along side (walk side nodes).taken
 
--- a node more, where a line stands so judged before it
+-- one more node, given the judgement before it
 abbrev pub said_by : ScriptState → Option State → Node → ScriptState
 said_by old None node = old
 said_by old (Some state) node =
@@ -104,7 +104,7 @@ said_by old (Some state) node =
 abbrev pub said_after : ScriptState → Judgement → Node → ScriptState
 said_after old judgement node = said_by old (state_after judgement node) node
 
--- a script that isn't silent is of a board whose columns have letters
+-- unless a script is silent, the columns of its board have letters
 abbrev pub IsLettered : ScriptState → Option Grid → Type 0
 IsLettered script None = Unit {0}
 IsLettered script (Some grid) = script.silent ≡ false → nat_lt MAX_VERTEX_SIDE grid.side ≡ false

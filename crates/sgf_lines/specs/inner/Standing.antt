@@ -1,4 +1,4 @@
--- How a cursor's state is read from the node from which on it goes on.
+-- How a cursor's state follows from the node that it goes on from.
 use Rattle.std.specs.Prelude.{◌≡◌, ℕ, ◌+◌, ◌≤◌, List, [], Some, nat_lt, refl}
 use Rattle.std.specs.List.{prefix_len}
 use Rattle.std.specs.Coded.{Coded, code_by, coded×, coded_ℕ}
@@ -9,11 +9,11 @@ use Rattle.sgf_lines.specs.Paths.{paths, leaf_of}
 use Rattle.sgf_lines.specs.Cursor.{CursorState}
 use Rattle.sgf_lines.specs.inner.PathTo.{IsPathTo}
 
--- how many lines end before the node of this number
+-- how many lines end before the node with this number
 abbrev pub lines_before : Games → ℕ → ℕ
 lines_before games number = prefix_len (λ path. nat_lt (leaf_of path) number) (paths games)
 
--- Where a cursor stands. It goes on from the node `next`; the node before that one is the last leaf, and `numbers` the path to it.
+-- Where a cursor stands. It goes on from the node `next`. The node before that is the last leaf, and `numbers` is the path to it.
 pub record IsAfterLeaf (games : Games) (next : ℕ) (numbers : List ℕ) : Type 0 where
   pub within : next ≤ node_count games
   pub start : next ≡ 0 → numbers ≡ []

@@ -1,4 +1,4 @@
--- What values in memory are seen as.
+-- What contracts see of values in memory.
 use Rattle.std.specs.Prelude.{◌≡◌, ℕ, List, Some, map, drop}
 use Rattle.sgf_tree.specs.Tree.{Games}
 use Rattle.sgf_tree.specs.FileOrder.{node_at}
@@ -12,6 +12,6 @@ pub record IsShownAs (games : Games) (line : Line) (shown : LineRef) : Type 0 wh
   pub place : place_of line ≡ shown.place
   pub nodes : map Some line.nodes ≡ map (node_at games) shown.path.now
 
--- the text that is built so far
+-- the text built so far
 abbrev pub built_text : Row → List ℕ
 built_text row = drop row.start row.bytes
