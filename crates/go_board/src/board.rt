@@ -19,16 +19,15 @@ use crate::size::{MAX_POINTS, MAX_ROWS, Size};
 use crate::stones::{Cell, Colour};
 use std::marker::Model;
 
-/// A square board and what stands on its points.
+/// A square board, and what stands on its points.
 #[derive(Drop)]
 pub struct Board {
     size: Size,
     /// The stones, as rows of words.
     rows: StoneRows,
-    /// Whether it is known that every stone reaches empty. After a move it is; a colouring from outside can have a stone
-    /// that doesn't.
+    /// Whether every stone is known to reach empty. After a move it is. A colouring from outside can have a stone that doesn't.
     settled: bool,
-    /// The print of the colouring, where it is known.
+    /// The print of the colouring, if it is known.
     print: u64,
     printed: bool,
 }
@@ -65,7 +64,7 @@ impl Board {
     ghost use Rattle.go_board.specs.inner.Regions.{with_columns};
     ghost use Rattle.go_board.specs.inner.Rows.{has_bit};
 
-    /// The board of that size on which nothing stands.
+    /// The board of that size without stones.
     pub fn empty(size: Size) -> Board
         ensures { result ≡ empty_grid size }
     {
@@ -86,7 +85,7 @@ impl Board {
         self.size
     }
 
-    /// Tells a proof that every point has a cell, and that the board is no greater than the greatest one.
+    /// States for proofs that every point has a cell, and that the board is no larger than the largest one.
     pub(crate) fn has_all_cells(&self)
         ensures all { length self.now.cells ≡ self.now.side * self.now.side }
         ensures few { self.now.side ≤ MAX_ROWS }
@@ -95,7 +94,7 @@ impl Board {
         prove!(self.size.points() <= MAX_POINTS);
     }
 
-    /// What stands on a point.
+    /// What stands on a point, which must be on the board.
     pub fn at(&self, point: Point) -> Cell
         requires { IsOn self.now.side point }
         ensures { result ≡ cell_at self.now point }
@@ -116,7 +115,7 @@ impl Board {
         }
     }
 
-    /// Colours one point, and no other. Nothing is cleared.
+    /// Changes what stands on one point, which must be on the board, and on no other. Nothing is cleared.
     pub fn set(&mut self, point: Point, cell: Cell)
         requires { IsOn self.old.side point }
         ensures { self.new ≡ with_cell self.old point cell }
@@ -128,7 +127,7 @@ impl Board {
         self.printed = printed;
     }
 
-    /// Colours one point as `set` does, where the print of what that makes isn't asked for, or is given back by `restore`.
+    /// Colours one point as `set` does, but loses the print. Its callers don't need the print, or restore it.
     pub(crate) fn set_unprinted(&mut self, point: Point, cell: Cell)
         requires { IsOn self.old.side point }
         ensures { self.new ≡ with_cell self.old point cell }
@@ -156,7 +155,7 @@ impl Board {
         self.size == other.size && self.rows.same(&other.rows, self.size)
     }
 
-    /// Whether a row is the same on a board of the same size.
+    /// Whether a row is the same as on another board of the same size.
     pub(crate) fn has_same_row(&self, other: &Board, row: u8) -> bool
         requires side { other.now.side ≡ self.now.side }
         requires row { row < self.now.side }
@@ -181,14 +180,14 @@ impl Board {
         }
     }
 
-    /// Whether it is known that every stone reaches empty: true only where each does.
+    /// Whether every stone is known to reach empty. If this is true, every stone does.
     pub(crate) fn is_settled(&self) -> bool
         ensures { IsTrue result → has_unreaching self.now ≡ false }
     {
         self.settled
     }
 
-    /// Gives back what was known of this same colouring: what `is_settled` told, and its print. Nothing that is seen changes.
+    /// Restores what was known of this same colouring: what `is_settled` returned, and the print. The view doesn't change.
     pub(crate) fn restore(&mut self, settled: bool, print: u64)
         requires settled { IsTrue settled → has_unreaching self.old ≡ false }
         requires print { print ≡ print_of self.old.cells }
@@ -199,7 +198,7 @@ impl Board {
         self.printed = true;
     }
 
-    /// The print of the colouring: kept where points are set one by one, else worked out from all points.
+    /// The print of the colouring: the one kept while points were set one by one, else it is worked out from all points.
     pub(crate) fn print(&self) -> u64
         ensures { result ≡ print_of self.now.cells }
     {
@@ -210,7 +209,7 @@ impl Board {
         }
     }
 
-    /// The print of the colouring with one point coloured anew.
+    /// The print that the colouring will have after one point is coloured.
     pub(crate) fn print_after(&self, point: Point, cell: Cell) -> u64
         requires { IsOn self.now.side point }
         ensures { result ≡ print_of (with_cell self.now point cell).cells }
@@ -218,8 +217,7 @@ impl Board {
         print_with(self.print(), self, point, cell)
     }
 
-    /// Places a stone that captures nothing, where the print of what that makes is known. It stays known that every stone
-    /// reaches empty.
+    /// Places a stone that captures nothing; `print` is the print of the result. After that every stone is known to reach empty.
     pub(crate) fn place_alone(&mut self, colour: Colour, point: Point, print: u64)
         requires on_board { IsOn self.old.side point }
         requires alone { play self.old colour point ≡ with_cell self.old point (stone_of colour) }
@@ -232,8 +230,8 @@ impl Board {
         self.settled = true;
     }
 
-    /// Works out what a move asks of the board, to be kept from then on: whether every stone reaches empty, and the print.
-    /// Nothing that is seen changes.
+    /// Works out, and keeps, what a move needs to know of the board: whether every
+    /// stone reaches empty, and the print. The view doesn't change.
     pub(crate) fn prepare(&mut self)
         ensures { self.new ≡ self.old }
     {
@@ -241,14 +239,14 @@ impl Board {
         self.work_print_out();
     }
 
-    /// Works out whether every stone reaches empty, if it isn't known. Nothing that is seen changes.
+    /// Works out whether every stone reaches empty, if it isn't known. The view doesn't change.
     fn work_settled_out(&mut self)
         ensures { self.new ≡ self.old }
     {
         self.settled = !self.has_unreaching();
     }
 
-    /// Works the print out, if it isn't known, to be kept from then on. Nothing that is seen changes.
+    /// Works out the print, if it isn't known, and keeps it. The view doesn't change.
     fn work_print_out(&mut self)
         ensures { self.new ≡ self.old }
     {
@@ -256,7 +254,7 @@ impl Board {
         self.printed = true;
     }
 
-    /// Empties all points of a colour that don't reach empty, each tested on the board as it was.
+    /// Empties all points of a colour that don't reach empty, each tested on the board as it was (Tromp-Taylor).
     pub fn clear(&mut self, colour: Colour)
         ensures value { self.new ≡ clear self.old colour }
         ensures side { self.new.side ≡ self.old.side }
@@ -270,8 +268,8 @@ impl Board {
         self.empty_set(shut);
     }
 
-    /// The whole move: the point takes the player's colour, then the opponent's colour is cleared, then the player's
-    /// own, which is suicide.
+    /// Makes a whole move (Tromp-Taylor). The point, which must be empty and on the board, takes the player's colour. Then the
+    /// opponent's colour is cleared, and then the player's own, which is suicide.
     #[tactic(auto, using(crate::proofs::SettledLemmas::settled_by_play, crate::proofs::SettledLemmas::side_play))]
     pub fn place(&mut self, colour: Colour, point: Point)
         requires on_board { IsOn self.old.side point }
@@ -289,21 +287,21 @@ impl Board {
         self.settled = true;
     }
 
-    /// The whole move on a board where every stone reaches empty: then only the groups around the point can be without a
-    /// liberty.
+    /// Makes a whole move on a board on which every stone reaches empty. Only the new
+    /// stone's group and the groups beside it can then be without a liberty.
     fn place_settled(&mut self, colour: Colour, point: Point)
         requires on_board { IsOn self.old.side point }
         requires settled { has_unreaching self.old ≡ false }
         ensures { self.new ≡ play self.old colour point }
     {
-        // a field is read, so that the proof can use the invariant: every point has a cell
+        // reading a field lets the proof use the invariant: every point has a cell
         let _ = &self.size;
         self.set(point, colour.stone());
         self.capture_around(colour.opponent(), point);
         self.capture(colour, Some(point));
     }
 
-    /// The whole move on any board.
+    /// Makes a whole move on any board.
     #[tactic(auto, unfolding(crate::specs::Clearing::play))]
     fn place_unsettled(&mut self, colour: Colour, point: Point)
         requires { IsOn self.old.side point }
@@ -314,8 +312,8 @@ impl Board {
         self.clear(colour);
     }
 
-    /// The area scores of Black and of White: a player's points, and the empty points that reach her colour and not the
-    /// other's. An empty point that reaches both or neither counts for nobody.
+    /// The area scores of Black and of White, in points (Tromp-Taylor): a player's points, and the empty points that reach her
+    /// colour and not the other's. An empty point that reaches both or neither counts for nobody.
     pub fn score(&self) -> (u32, u32)
         ensures black { result.0 ≡ score_of self.now Black }
         ensures white { result.1 ≡ score_of self.now White }
@@ -328,7 +326,7 @@ impl Board {
         (count_apart(black, white), count_apart(white, black))
     }
 
-    /// Whether some stone doesn't reach empty, as a setup can leave one.
+    /// Whether some stone doesn't reach empty. A setup can leave such a stone.
     pub fn has_unreaching(&self) -> bool
         ensures { result ≡ has_unreaching self.now }
     {

@@ -8,7 +8,7 @@ use std::alloc::{AllocError, AllocFailed};
 use std::error::Error;
 use std::fmt;
 
-/// A call wanted memory and was refused it. What the call was made on, or was to append to, is unchanged.
+/// Memory was refused to a call. What the call was made on, or was to append to, is unchanged.
 #[derive(Clone, Copy, Debug, PartialEq, Eq)]
 pub struct MemoryFault;
 
@@ -37,7 +37,7 @@ impl<T: Drop> From<AllocFailed<T>> for MemoryFault {
 pub enum TurnFault {
     /// The turn isn't allowed.
     Illegal(Reason),
-    /// The turn is allowed, and memory for it was refused.
+    /// The turn is allowed, but memory for it was refused.
     Memory,
 }
 

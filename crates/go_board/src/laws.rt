@@ -1,4 +1,4 @@
-//! What the words of the contracts mean. Each function here does nothing; its contract is a law, proved.
+//! What the words of the contracts mean. Each function here does nothing: its contract is a law, and is proved.
 
 ghost use Rattle.std.specs.Prelude.{◌≡◌, ◌≢◌, ◌≤◌, ◌*◌, ◌↔◌, ◌∷◌, if◌then◌else◌, IsTrue, ℕ, List, Option, Some, false, length, map, slice_get};
 ghost use Rattle.go_board.specs.declared.stones.Cell.{Cell};
@@ -20,7 +20,7 @@ ghost use Rattle.go_board.specs.Vertex.{vertex_of};
 ghost use Rattle.go_board.specs.State.{State, is_in, with_area, set_up, turned};
 ghost use Rattle.go_board.specs.Reason.{Forbids, IsFirstReason, WasEmptied, reason_of};
 
-/// The points of a grid are listed once each, a point at its index and nowhere else.
+/// The points of a grid are listed once each: each point at its index, and nowhere else.
 pub fn listing()
     ensures length { (side : ℕ) → length (points side) ≡ side * side }
     ensures once { (side index : ℕ) (point : Point)
@@ -28,8 +28,8 @@ pub fn listing()
         ↔ (IsOn side point × (index ≡ index_of side point))) }
 {}
 
-/// The cells of a grid are what stands on its points, in their order; so two grids of one side with the same on each
-/// point are one.
+/// The cells of a grid are what stands on its points, in their order. So
+/// two grids of one side with the same on each point are equal.
 pub fn colouring()
     ensures cells { (grid : Grid) → length grid.cells ≡ grid.side * grid.side
         → map (cell_at grid) (points grid.side) ≡ grid.cells }
@@ -39,13 +39,13 @@ pub fn colouring()
         → grid ≡ other }
 {}
 
-/// The function `reaches` tells exactly the points of the grid that reach a colour by a path.
+/// `reaches` is true of exactly those points of the grid that reach a colour by a path.
 pub fn reaching()
     ensures { (grid : Grid) (wanted : Cell) (point : Point) → IsOn grid.side point
         → (IsTrue (reaches grid wanted point) ↔ Reaches grid wanted point) }
 {}
 
-/// Setting a point colours it, and no other.
+/// Setting a point colours that point and no other.
 pub fn setting()
     ensures there { (grid : Grid) (point : Point) (cell : Cell) → IsOn grid.side point
         → length grid.cells ≡ grid.side * grid.side
@@ -70,18 +70,18 @@ pub fn clearing()
         → cell_at (clear grid colour) point ≡ cell_at grid point }
 {}
 
-/// A score counts exactly the points of the player's colour and the empty ones that reach hers and not the other's.
+/// A score counts exactly the points of the player's colour, and the empty points that reach hers and not the other's.
 pub fn scoring()
     ensures { (grid : Grid) (colour : Colour) (point : Point) → IsOn grid.side point
         → (IsTrue (counts_for grid colour point) ↔ CountsFor grid colour point) }
 {}
 
-/// Some stone doesn't reach empty exactly where a point of the grid has a stone and no path to an empty point.
+/// `has_unreaching` is true exactly if a point of the grid has a stone and no path to an empty point.
 pub fn unreaching()
     ensures { (grid : Grid) → (IsTrue (has_unreaching grid) ↔ HasUnreaching grid) }
 {}
 
-/// After a move no stone is without a liberty, whatever stood on the grid before.
+/// After a move every stone has a liberty, whatever stood on the grid before.
 pub fn moving()
     ensures { (grid : Grid) (colour : Colour) (point : Point)
         → ¬ HasUnreaching (play grid colour point) }
@@ -93,13 +93,13 @@ pub fn naming()
         → vertex_of point side ≡ vertex_of other side → point ≡ other }
 {}
 
-/// The function `reason_of` tells exactly the first reason, in the order of checking, that holds of a turn.
+/// `reason_of` returns exactly the first reason, in the order of checking, that holds of a turn.
 pub fn reasons()
     ensures { (state : State) (colour : Colour) (turn : Play) (reason : Reason)
         → ((reason_of state colour turn ≡ Some reason) ↔ IsFirstReason state colour turn reason) }
 {}
 
-/// A stone that stays on its point can repeat a colouring of the stretch only where that point was emptied.
+/// A stone that stays on its point can repeat a colouring of the stretch only if that point was emptied in the stretch.
 pub fn repeating()
     ensures { (state : State) (others : List Grid) (colour : Colour) (point : Point)
         → state.seen ≡ state.colouring ∷ others → cell_at state.colouring point ≡ Empty
@@ -107,14 +107,14 @@ pub fn repeating()
         → Forbids state colour (Stone point) Repeat → WasEmptied point state.seen }
 {}
 
-/// Colouring an area colours its points, and no other.
+/// Colouring an area colours its points and no others.
 pub fn areas()
     ensures { (grid : Grid) (op : SetupOp) (point : Point) → IsOn grid.side point
         → cell_at (with_area grid op) point
         ≡ (if is_in op.area point then op.cell else cell_at grid point) }
 {}
 
-/// Setups and turns leave the side of the board.
+/// Setups and turns don't change the side of the board.
 pub fn sides()
     ensures setup { (state : State) (ops : List SetupOp) (player : Option Colour)
         → (set_up state ops player).colouring.side ≡ state.colouring.side }

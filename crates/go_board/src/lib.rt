@@ -1,10 +1,11 @@
 //! The board of the game of Go, by the Tromp-Taylor rules, and a referee of a game on it.
 //!
-//! A `Board` is a square of 1 to 52 points a side (the largest whose points SGF FF[4] can name) and what stands on them;
-//! playing a stone takes off the opponent's groups without a liberty, and then the player's own (suicide). A `Referee` is
-//! seen as the list of the states that a game went through: an accepted setup or turn adds the state that the rules say, a
-//! refusal changes nothing, and undo takes the newest state back. A turn that would bring back a colouring since the last
-//! setup of stones is refused (positional superko), for which a `Past` holds the colourings.
+//! A `Board` is a square of 1 to 52 points a side, with what stands on them. (52 is the largest side whose points SGF FF[4] can
+//! name.) Playing a stone takes off the opponent's groups without a liberty, and then the player's own (suicide).
+//!
+//! A `Referee` is seen as the list of the states that a game went through. An accepted setup or turn adds the state that the
+//! rules give. A refusal changes nothing, and undo takes the newest state back. A turn that would bring back a colouring since
+//! the last setup of stones is refused (positional superko). A `Past` holds the colourings for that.
 //!
 //! ```text
 //! let mut referee = Referee::<ListPast>::new(alloc, size)?;
@@ -24,22 +25,24 @@
 //! | `board` | the board: reading, setting, moves, score |
 //! | `board/stone_rows` | the stones of a board as rows of bits |
 //! | `board/flood`, `board/search` | the flood that counts its steps, and its worklist |
-//! | `board/regions`, `board/fill` | sets of points as rows of bits, and filling these: the score, whether all stones reach empty |
+//! | `board/regions`, `board/fill` | sets of points as rows of bits, and filling them: the score, whether every stone reaches empty |
 //! | `board/group`, `board/capture` | the group of a stone, by rows of bits; groups without a liberty taken off one at a time |
-//! | `board/glance` | a glance at the rows around a stone: mostly it tells that it captures nothing |
+//! | `board/glance` | a glance at the rows around a stone, which usually shows that the stone captures nothing |
 //! | `board/areas`, `board/cells` | colouring areas and emptying sets of points; a board as a list of cells |
 //! | `past` | the colourings that a game has been through; `past/list_past` and `past/print_past` keep them |
 //! | `past/colourings`, `past/changes` | past colourings as changes that lead back |
-//! | `past/print`, `past/table` | the print of a colouring, and `past/print/powers` for it; prints looked up by a table |
+//! | `past/print`, `past/table` | the print of a colouring, with `past/print/powers`; prints looked up in a table |
 //! | `reason`, `fault` | why a turn, or a node, isn't allowed; the errors |
-//! | `referee` | the referee and undo; `referee/plays`, `referee/setup`, `referee/turn`, `referee/stay` and `referee/reset` below it |
+//! | `referee` | the referee and undo; below it `plays`, `setup`, `turn`, `stay` and `reset` |
 //! | `laws` | what follows from the definitions |
 //!
-//! A point *reaches* a colour where a path of adjacent points of the point's own colour leads from it to a point of that
-//! colour; a stone that reaches empty has a liberty. Only a past's `new`, `push`, `restart`, `play` and `set_up` and a
-//! referee's `new`, `setup`, `turn` and `stay` take memory, and their `reset` where the past can't be begun anew in place.
+//! A point *reaches* a colour if a path of adjacent points of the point's own colour leads
+//! from it to a point of that colour. A stone that reaches empty has a liberty.
 //!
-//! Worked examples stand in the crate `go_board_tests`.
+//! A past takes memory only in `new`, `push`, `restart`, `play` and `set_up`, and a referee only in `new`, `setup`, `turn` and
+//! `stay`. Their `reset` takes memory only if the past can't begin anew in place.
+//!
+//! Worked examples are in the crate `go_board_tests`.
 #![tactic(auto)]
 
 mod board;

@@ -32,7 +32,7 @@ impl Marks {
     ghost use Rattle.go_board.specs.Marking.{is_marked};
     ghost use Rattle.go_board.specs.inner.Search.{no_marks, with_mark};
 
-    /// No point of a board of that size.
+    /// The empty set, for a board of that size.
     pub(crate) fn none(size: Size) -> Marks
         ensures { result ≡ no_marks size }
     {
@@ -59,7 +59,7 @@ impl Marks {
         *row |= 1 << point.col;
     }
 
-    /// Whether a point of the board is marked.
+    /// Whether a point is marked. It must be on the board.
     pub fn has(&self, point: Point) -> bool
         requires { IsOn self.now.side point }
         ensures { result ≡ is_marked self.now point }

@@ -24,19 +24,21 @@ pub use list_past::ListPast;
 pub use print_past::PrintPast;
 use std::alloc::Global;
 
-/// The colourings that a game has been through, at least one, of each of which is known whether it begins a stretch. The present
-/// stretch is the newest colouring that begins one, and all after it. Boards handed in have the size of its colourings.
-/// After a refusal the past is unchanged.
+/// The colourings that a game has been through: at least one, each with whether it begins a
+/// stretch. The present stretch is the newest colouring that begins one, and all after it.
+///
+/// The boards given to `holds`, `push` and `restart` must have the size of these
+/// colourings. A call that fails with `MemoryFault` leaves the past unchanged.
 pub trait Past: Drop {
-    /// The colourings.
+    /// The colourings, as contracts see them.
     ghost held: { Self → PastColourings };
 
-    /// A past of that one colouring, which begins a stretch.
+    /// A past of this one colouring, which begins a stretch.
     fn new(alloc: Global, board: &Board) -> Result<Self, MemoryFault>
         ensures { IfOk result (λ past. held past ≡ only board.now) };
 
-    /// Forgets all colourings, and has that one alone, which begins a stretch. A past that can do so in place takes less
-    /// time than a new one.
+    /// Forgets all colourings, and then holds this one alone, which begins a stretch. Its size may
+    /// be another one. A past that can do this in place takes less time than a new one.
     fn reset(&mut self, alloc: Global, board: &Board) -> Result<(), MemoryFault>
         ensures ok { OnOk result (held self.new ≡ only board.now) }
         ensures err { OnErr result (held self.new ≡ held self.old) }
@@ -45,7 +47,7 @@ pub trait Past: Drop {
         Ok(())
     }
 
-    /// Whether the present stretch has the colouring.
+    /// Whether the present stretch has this colouring.
     fn holds(&self, board: &Board) -> bool
         requires { HaveSide board.now.side (held self.now) }
         ensures { IsTrue result ↔ Contains (present_stretch (held self.now)) board.now };
@@ -60,15 +62,16 @@ pub trait Past: Drop {
         ensures ok { OnOk result (held self.new ≡ with_next (held self.old) board.now false) }
         ensures err { OnErr result (held self.new ≡ held self.old) };
 
-    /// Begins a stretch with a colouring.
+    /// Adds a colouring that begins a stretch.
     fn restart(&mut self, board: &Board) -> Result<(), MemoryFault>
         requires { HaveSide board.now.side (held self.old) }
         ensures ok { OnOk result (held self.new ≡ with_next (held self.old) board.now true) }
         ensures err { OnErr result (held self.new ≡ held self.old) };
 
-    /// Plays a stone on an empty point of the newest colouring, with its captures or suicide, and adds the colouring that this
-    /// makes to the present stretch, unless the stretch has it. Tells whether it was added. Memory is asked for only once it
-    /// is known that the stretch doesn't have it.
+    /// Plays a stone on an empty point of the newest colouring, with its captures or its suicide (Tromp-Taylor). Adds the
+    /// colouring that this makes to the present stretch, unless the stretch has it already. Returns whether it was added.
+    ///
+    /// Memory is asked for only once it is known that the stretch doesn't have the colouring.
     fn play(&mut self, colour: Colour, point: Point) -> Result<bool, MemoryFault>
         requires one_side { HaveSide (newest_grid (held self.old)).side (held self.old) }
         requires on_board { IsOn (newest_grid (held self.old)).side point }
@@ -91,7 +94,7 @@ pub trait Past: Drop {
         Ok(true)
     }
 
-    /// Colours areas of the newest colouring, in order, whatever stood there, and begins a stretch with what that makes.
+    /// Colours areas of the newest colouring, in order, whatever stood there, and adds the result. It begins a stretch.
     fn set_up(&mut self, ops: &[SetupOp]) -> Result<(), MemoryFault>
         requires one_side { HaveSide (newest_grid (held self.old)).side (held self.old) }
         requires areas { All (λ op. IsRectOn (newest_grid (held self.old)).side op.area) ops.now }
@@ -105,7 +108,7 @@ pub trait Past: Drop {
         self.restart(&made)
     }
 
-    /// Takes the newest colouring back. The caller knows that there are two or more.
+    /// Takes back the newest colouring. There must be at least two.
     fn pop(&mut self)
         requires { 0 < length (held self.old).older }
         ensures { (held self.old).older ≡ (held self.new).newest ∷ (held self.new).older };

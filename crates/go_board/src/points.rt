@@ -6,19 +6,21 @@ ghost use Rattle.go_board.specs.inner.Neighbour.{left_of, right_of, above, below
 
 use crate::size::Size;
 
-/// A point, by its column from the left and its row from the top, each counted from 0. It is on a board of side n where
-/// both are below n.
+/// A point, by its column from the left and its row from the top, both
+/// from 0. It is on a board of side n if both are less than n.
 #[derive(Clone, Copy, Debug, PartialEq, Eq)]
 pub struct Point {
+    /// The column, from 0 from the left.
     pub col: u8,
+    /// The row, from 0 from the top.
     pub row: u8,
 }
 
-/// The upper left corner: the first point of a list that goes row by row from the top, from left to right.
+/// The upper left corner, the first point in the order row by row from the top, from left to right.
 pub(crate) const FIRST: Point = Point { col: 0, row: 0 };
 
 impl Point {
-    /// The index of the point in a list that goes row by row from the top, from left to right.
+    /// The index of the point, from 0, in the list of all points row by row from the top, from left to right.
     pub(crate) fn index(self, size: Size) -> usize
         requires { IsOn size self }
         ensures value { result ≡ index_of size self }
@@ -27,7 +29,7 @@ impl Point {
         usize::from(self.row) * usize::from(size.side()) + usize::from(self.col)
     }
 
-    /// The point of an index in that list.
+    /// The point at an index of that list.
     pub(crate) fn of_index(index: usize, size: Size) -> Point
         requires { index < size * size }
         ensures on_board { IsOn size result }
@@ -40,8 +42,7 @@ impl Point {
         }
     }
 
-    /// The next point in a list that goes row by row from the top, from left to right; after the last point of the board
-    /// the first of the row after it.
+    /// The next point in that list. After the last point of the board this is the first of the row below the board.
     pub(crate) fn following(self, size: Size) -> Point
         requires { (self.col < size) × (self.row < size) }
         ensures value { index_of size result ≡ index_of size self + 1 }
@@ -60,7 +61,7 @@ impl Point {
         }
     }
 
-    /// The point to the left.
+    /// The point to the left, if there is one.
     pub(crate) fn left(self) -> Option<Point>
         ensures value { result ≡ left_of self }
         ensures on_board { (side : ℕ) → IsOn side self → IfSome result (IsOn side) }
@@ -75,7 +76,7 @@ impl Point {
         }
     }
 
-    /// The point to the right, on a board of that size.
+    /// The point to the right, if a board of that size has it.
     pub(crate) fn right(self, size: Size) -> Option<Point>
         requires { IsOn size self }
         ensures value { result ≡ right_of size self }
@@ -91,7 +92,7 @@ impl Point {
         }
     }
 
-    /// The point above.
+    /// The point above, if there is one.
     pub(crate) fn above(self) -> Option<Point>
         ensures value { result ≡ above self }
         ensures on_board { (side : ℕ) → IsOn side self → IfSome result (IsOn side) }
@@ -106,7 +107,7 @@ impl Point {
         }
     }
 
-    /// The point below, on a board of that size.
+    /// The point below, if a board of that size has it.
     pub(crate) fn below(self, size: Size) -> Option<Point>
         requires { IsOn size self }
         ensures value { result ≡ below size self }
@@ -123,7 +124,7 @@ impl Point {
     }
 }
 
-/// The points from one corner to another, both of them included.
+/// The points from one corner to another, both included.
 #[derive(Clone, Copy, Debug, PartialEq, Eq)]
 pub struct Rect {
     /// The upper left corner.
@@ -133,7 +134,7 @@ pub struct Rect {
 }
 
 impl Rect {
-    /// Whether it has one point alone.
+    /// Whether it has only one point.
     pub(crate) fn is_point(self) -> bool
         ensures { IsTrue result ↔ (self.first ≡ self.last) }
     {

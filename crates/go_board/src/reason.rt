@@ -5,31 +5,30 @@ ghost use Rattle.go_board.specs.Reason.{word_of};
 
 use std::fmt;
 
-/// Why a turn, or a node, isn't allowed; in the order of checking (this project's choice). A referee answers the last four
-/// alone. The others are faults of a node, found before a referee is asked.
+/// Why a turn or a node isn't allowed, in the order of checking (this project's choice). A referee returns only the last four.
+/// The others are faults of a node, found before a referee is asked.
 #[derive(Clone, Copy, Debug, PartialEq, Eq)]
 pub enum Reason {
-    /// A node has moves, and setup stones or a player.
+    /// The node has moves, and setup stones or a player.
     Mixed,
-    /// A node has two moves or more.
+    /// The node has two moves or more.
     TwoMoves,
-    /// A setup stone isn't a rectangle of the board, or a player isn't `B` or `W`.
+    /// A value of AB, AW or AE names no rectangle of the board, or a value of PL isn't `B` or `W`.
     BadSetup,
-    /// A move is neither a pass nor a point of the board.
+    /// The move is neither a pass nor a point of the board.
     BadPoint,
-    /// The game is over: two passes came one after the other, and no setup of stones since.
+    /// The game is over: there were two passes in a row, and no setup of stones since.
     Over,
-    /// It is the other player's turn.
+    /// The other player must move.
     Turn,
     /// The point isn't empty.
     Occupied,
-    /// The stone would make a colouring that was there since the last setup of stones (positional
-    /// superko).
+    /// The stone would make a colouring that was there since the last setup of stones (positional superko).
     Repeat,
 }
 
 impl Reason {
-    /// The word that the reason is written as.
+    /// The word that is written for the reason, as in list rows.
     pub fn word(self) -> &'static str
         ensures { result.now ≡ word_of self }
     {

@@ -1,6 +1,5 @@
-//! The referee: the rules of Tromp-Taylor over a past, with undo. Each accepted call keeps the player, the passes and
-//! the turns from before it (`Earlier`), and `undo` gives them back; where the call added a colouring to the past, `undo` takes
-//! it off.
+//! The referee: the Tromp-Taylor rules over a past, with undo. Each accepted call keeps the player, the passes and the turns from
+//! before it (`Earlier`), and `undo` restores them. If the call added a colouring to the past, `undo` takes that off.
 
 mod plays;
 mod reset;
@@ -17,11 +16,11 @@ pub use plays::{Play, SetupOp};
 use std::alloc::Global;
 use std::marker::Model;
 
-/// How many earlier states a new referee has room for.
+/// The number of earlier states that a new referee has room for.
 const FIRST_STATES: usize = 64;
 
-/// A referee of one game. It is seen as the list of the states that the game was in: the present one, and before it one
-/// for each accepted call that wasn't taken back: a setup, a turn or a stay. After a refusal it is unchanged.
+/// A referee of one game. It is seen as the list of the states that the game was in: the present one, and before it one for each
+/// accepted call that wasn't taken back. Such a call is a setup, a turn or a stay. A refused call changes nothing.
 #[derive(Drop)]
 pub struct Referee<P: Past> {
     past: P,
@@ -37,7 +36,7 @@ pub struct Referee<P: Past> {
 struct Earlier {
     /// How many turns were made.
     turns: u64,
-    /// Who had to move; none, where either player could.
+    /// Who had to move; None if either player could.
     player: Option<Colour>,
     /// How many passes in a row were made last, at most 2.
     passes: u8,
@@ -63,8 +62,8 @@ impl<P: Past> Referee<P> {
     ghost use Rattle.go_board.specs.Score.{score_of};
     ghost use Rattle.go_board.specs.State.{HaveBegun, begun, is_over};
 
-    /// A referee in the state in which a game begins: the board is empty and Black must move. `MemoryFault` comes only
-    /// where memory was refused.
+    /// A referee at the beginning of a game: the board is empty, and Black
+    /// must move. `MemoryFault` comes only if memory was refused.
     pub fn new(alloc: Global, size: Size) -> Result<Referee<P>, MemoryFault>
         ensures { IfOk result (λ referee. referee ≡ begun size) }
     {
@@ -77,7 +76,8 @@ impl<P: Past> Referee<P> {
         })
     }
 
-    /// How many accepted calls (setups, turns and stays) aren't taken back. The oldest state is that in which a game begins.
+    /// The number of accepted calls (setups, turns and stays) that aren't
+    /// taken back. The oldest state is the beginning of a game.
     pub fn depth(&self) -> usize
         ensures value { result ≡ length self.now.earlier }
         ensures begun { HaveBegun self.now }
@@ -85,8 +85,8 @@ impl<P: Past> Referee<P> {
         self.earlier.len()
     }
 
-    /// Takes the newest accepted call back: the whole state is that before it. `depth` tells whether there is
-    /// one.
+    /// Takes back the newest accepted call: the whole state before it is there
+    /// again. There must be such a call, so `depth` must be at least 1.
     pub fn undo(&mut self)
         requires { 0 < length self.old.earlier }
         ensures value { self.old.earlier ≡ self.new.present ∷ self.new.earlier }
@@ -108,7 +108,7 @@ impl<P: Past> Referee<P> {
         self.past.newest()
     }
 
-    /// How many turns were made, passes among them.
+    /// The number of turns made, passes included.
     pub fn turns(&self) -> u64
         ensures value { result ≡ self.now.present.turns }
         ensures at_most { result ≤ length self.now.earlier }
@@ -117,7 +117,7 @@ impl<P: Past> Referee<P> {
         self.turns
     }
 
-    /// Whether the game is over, by two passes in a row.
+    /// Whether two passes in a row ended the game.
     pub fn over(&self) -> bool
         ensures value { result ≡ is_over self.now.present }
         ensures at_most { self.now.present.passes ≤ 2 }
@@ -125,7 +125,7 @@ impl<P: Past> Referee<P> {
         self.passes == 2
     }
 
-    /// The area scores of Black and of White on the present board.
+    /// The area scores of Black and of White on the present board, in points (Tromp-Taylor).
     pub fn score(&self) -> (u32, u32)
         ensures black { result.0 ≡ score_of self.now.present.colouring Black }
         ensures white { result.1 ≡ score_of self.now.present.colouring White }
@@ -133,7 +133,7 @@ impl<P: Past> Referee<P> {
         self.past.newest().score()
     }
 
-    /// What is kept of the present state besides the past, for a call that adds a colouring or doesn't.
+    /// What is kept of the present state besides the past. `grew` says whether the call adds a colouring.
     fn present_kept(&self, grew: bool) -> Earlier
         ensures player { result.player ≡ self.now.present.player }
         ensures passes { result.passes ≡ self.now.present.passes }

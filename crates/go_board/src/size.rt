@@ -7,16 +7,16 @@ use std::marker::Model;
 /// The greatest side of a board: SGF FF[4] has letters for 52 columns and rows.
 pub const MAX_SIDE: u8 = 52;
 
-/// The number of rows of the greatest board.
+/// The number of rows of the largest board.
 pub(crate) const MAX_ROWS: usize = MAX_SIDE as usize;
 
-/// The number of points of the greatest board.
+/// The number of points of the largest board.
 pub const MAX_POINTS: usize = MAX_ROWS * MAX_ROWS;
 
-/// The number of points of a board of side 9, for the worklist of a flood on boards up to that side.
+/// The number of points of a board of side 9. The worklist of a flood on boards up to that side has this length.
 pub(crate) const SMALL_POINTS: usize = 81;
 
-/// The number of points of the usual board, for the worklist and the cells of calls on boards up to that side.
+/// The number of points of a board of side 19. Worklists and lists of cells for boards up to that side have this length.
 pub(crate) const USUAL_POINTS: usize = 361;
 
 /// The side of a square board, in points: 1 to `MAX_SIDE`.
@@ -39,7 +39,7 @@ impl Model for Size {
 }
 
 impl Size {
-    /// The size of that side; None where no board has it.
+    /// The size with this side; None unless the side is from 1 to `MAX_SIDE`.
     pub fn new(n: u8) -> Option<Size>
         ensures exists { IsSome result ↔ ((1 ≤ n) × (n ≤ MAX_SIDE)) }
         ensures value { IfSome result (λ size. size ≡ n) }
@@ -51,7 +51,7 @@ impl Size {
         }
     }
 
-    /// How many points a row or a column has.
+    /// The number of points of a row or a column: 1 to `MAX_SIDE`.
     pub fn side(self) -> u8
         ensures value { result ≡ self }
         ensures at_least_one { 1 ≤ result }
@@ -60,7 +60,7 @@ impl Size {
         self.side
     }
 
-    /// How many points the board has.
+    /// The number of points of the board: the square of the side.
     pub fn points(self) -> usize
         ensures value { result ≡ self * self }
         ensures at_most { result ≤ MAX_POINTS }

@@ -4,7 +4,7 @@ ghost use Rattle.std.specs.Prelude.{◌≡◌, ◌+◌, ◌<◌};
 
 use std::marker::Model;
 
-/// How many steps were taken. A step of a flood is one point taken off its worklist.
+/// A count of steps. A step of a flood is one point taken off its worklist.
 #[derive(Drop)]
 pub struct Steps {
     count: u64,
@@ -19,14 +19,14 @@ impl Model for Steps {
 }
 
 impl Steps {
-    /// No step yet.
+    /// The count 0.
     pub fn new() -> Steps
         ensures { result ≡ 0 }
     {
         Steps { count: 0 }
     }
 
-    /// One step more.
+    /// Adds one step. The count must be less than `u64::MAX`.
     pub fn tick(&mut self)
         requires { self.old < u64.MAX }
         ensures { self.new ≡ self.old + 1 }
@@ -34,7 +34,7 @@ impl Steps {
         self.count += 1;
     }
 
-    /// How many steps there were.
+    /// The number of steps counted.
     pub fn count(&self) -> u64
         ensures { result ≡ self.now }
     {

@@ -10,7 +10,7 @@ pub enum Colour {
     White,
 }
 
-/// The colour of a point: a black stone, a white one, or none (Tromp-Taylor).
+/// What stands on a point: a black stone, a white stone, or nothing (Tromp-Taylor).
 #[derive(Clone, Copy, Debug, PartialEq, Eq)]
 pub enum Cell {
     Black,

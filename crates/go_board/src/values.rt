@@ -1,5 +1,5 @@
-//! The points and rectangles that property values name (SGF FF[4], "Point" and "compressed point lists"). A pass, as `tt` may
-//! be, is told from a point before these are asked.
+//! The points and rectangles that property values name (SGF FF[4], "Point" and "compressed point
+//! lists"). Callers tell a pass, as `tt` may be, from a point before they call these functions.
 
 ghost use Rattle.std.specs.Prelude.{◌≡◌, IfSome};
 ghost use Rattle.go_board.specs.Point.{IsOn, IsRectOn};
@@ -8,8 +8,8 @@ ghost use Rattle.go_board.specs.Values.{coordinate, rect_of, point_value, rect_v
 use crate::points::{Point, Rect};
 use crate::size::Size;
 
-/// The point of the board that a raw value names: two letters, the column's and then the row's, and nothing else. None
-/// for everything else.
+/// The point of the board that a raw value names (SGF FF[4]): two letters, the
+/// column's and then the row's, and nothing else. None for any other value.
 #[tactic(auto, unfolding(crate::specs::Values::point_value))]
 pub fn point(raw: &[u8], size: Size) -> Option<Point>
     ensures value { result ≡ point_value raw.now size }
@@ -24,8 +24,8 @@ pub fn point(raw: &[u8], size: Size) -> Option<Point>
     })
 }
 
-/// The column or row, from 0, that a letter names on a board of that size: `a` to `z` are the first 26, `A` to `Z` the
-/// next 26.
+/// The column or row, from 0, that a letter names on a board of that size; None if
+/// there is none. `a` to `z` are the first 26, `A` to `Z` the next 26.
 fn coordinate_of(letter: u8, size: Size) -> Option<u8>
     ensures { result ≡ coordinate size letter }
 {
@@ -41,9 +41,10 @@ fn coordinate_of(letter: u8, size: Size) -> Option<u8>
     }
 }
 
-/// The rectangle of the board that a raw value names: a point alone, which is both corners, or the upper left corner, a
-/// `:` and the lower right corner. None for everything else. That equal corners are taken and other orders are not is
-/// this project's choice.
+/// The rectangle of the board that a raw value names (SGF FF[4]). It is a single point, which is both corners, or the upper left
+/// corner, a `:` and the lower right corner. None for any other value.
+///
+/// Equal corners are accepted, and other orders of the corners aren't. Both are this project's choice.
 #[tactic(auto, unfolding(crate::specs::Values::point_value, crate::specs::Values::rect_value))]
 pub fn rect(raw: &[u8], size: Size) -> Option<Rect>
     ensures value { result ≡ rect_value raw.now size }
@@ -59,7 +60,7 @@ pub fn rect(raw: &[u8], size: Size) -> Option<Rect>
     }
 }
 
-/// The rectangle with these corners, where the first is the upper left one.
+/// The rectangle with these corners; None unless the first is the upper left one.
 fn ordered(first: Point, last: Point) -> Option<Rect>
     ensures { result ≡ rect_of first last }
 {

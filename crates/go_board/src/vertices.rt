@@ -1,10 +1,10 @@
-//! Points as the Go Text Protocol writes them (GTP version 2, "vertex").
+//! Points as the Go Text Protocol (GTP, version 2) writes them: vertices.
 
 ghost use Rattle.std.specs.Prelude.{◌≡◌, ◌≤◌};
 ghost use Rattle.go_board.specs.Point.{IsOn};
 ghost use Rattle.go_board.specs.Vertex.{vertex_of};
 
-/// The greatest side of a board whose columns GTP has letters for.
+/// The greatest side of a board whose columns all have letters in GTP.
 pub const MAX_VERTEX_SIDE: u8 = 25;
 
 /// A point as the Go Text Protocol names it.
@@ -12,18 +12,18 @@ pub const MAX_VERTEX_SIDE: u8 = 25;
 pub struct Vertex {
     /// The ASCII letter of the column: A to Z without I, from the left.
     pub letter: u8,
-    /// The number of the row, counted from 1 from the bottom.
+    /// The number of the row, from 1 from the bottom.
     pub row: u8,
 }
 
-// A struct and a function of one name can't share a module.
+// A struct and a function with the same name can't be in one module.
 pub(crate) mod naming {
     use crate::points::Point;
     use crate::size::Size;
     use crate::vertices::{MAX_VERTEX_SIDE, Vertex};
 
-    /// The vertex of a point: its column's letter, A to Z without I from the left, and its row's number, counted from 1
-    /// from the bottom.
+    /// The vertex of a point (GTP, version 2): the letter of its column, A to Z without I from the left, and the number of its
+    /// row, from 1 from the bottom. The point must be on the board, and the side at most `MAX_VERTEX_SIDE`.
     #[tactic(auto, unfolding(crate::specs::Vertex::vertex_of))]
     pub fn vertex(point: Point, size: Size) -> Vertex
         requires on_board { IsOn size point }

@@ -28,7 +28,7 @@ impl Board {
         }
     }
 
-    /// Colours the points of an area. A point alone is set, so that the print stays known.
+    /// Colours the points of an area. A single point is set, which keeps the print.
     fn colour_area(&mut self, op: SetupOp)
         requires { IsRectOn self.old.side op.area }
         ensures { self.new ≡ with_area self.old op }
@@ -53,7 +53,7 @@ impl Board {
         }
     }
 
-    /// Empties the points of a set. The print stays known.
+    /// Empties the points of a set. The print is kept.
     pub(crate) fn empty_set(&mut self, rows: &[u64])
         requires all { length rows.now ≡ self.old.side }
         requires on_board { (p : Point) → IsTrue (is_set rows.now p) → IsOn self.old.side p }
@@ -82,7 +82,7 @@ impl Board {
     }
 }
 
-/// The columns from one to another, both of them included.
+/// The columns from one to another, both included.
 fn columns_between(first: u8, last: u8) -> u64
     requires ordered { first ≤ last }
     requires few { last < 63 }

@@ -18,7 +18,7 @@ use crate::points::Point;
 use crate::stones::Colour;
 
 impl Board {
-    /// Takes off the groups of a colour beside a point that have no liberty.
+    /// Takes off the groups of a colour that are beside a point and have no liberty.
     pub(crate) fn capture_around(&mut self, colour: Colour, point: Point)
         requires { IsOn self.old.side point }
         ensures taken { LosesShut self.old self.new colour }
@@ -31,8 +31,8 @@ impl Board {
         self.capture(colour, point.below(size));
     }
 
-    /// Takes off the group of the stone on a point, if there is such a point with a stone of that colour, and its group
-    /// has no liberty.
+    /// Takes off the group of the stone on a point if it has no liberty. Does
+    /// nothing if there is no point, or no stone of that colour on it.
     pub(crate) fn capture(&mut self, colour: Colour, at: Option<Point>)
         requires { ForSome at (IsOn self.old.side) }
         ensures taken { LosesShut self.old self.new colour }
@@ -60,7 +60,7 @@ impl Board {
         }
     }
 
-    /// Whether the group of a stone has a liberty. If not, the whole group is found.
+    /// Whether the group of a stone has a liberty. If not, `group` becomes the whole group.
     fn group_has_liberty(&self, colour: Colour, from: Point, group: &mut [u64]) -> bool
         requires on_board { IsOn self.now.side from }
         requires stone { cell_at self.now from ≡ stone_of colour }

@@ -1,4 +1,4 @@
-//! The points of a board as a list of cells, row by row from the top, from left to right, for a past that keeps cells.
+//! The points of a board as a list of cells, row by row from the top, from left to right. A past that keeps cells uses it.
 
 ghost use Rattle.std.specs.Prelude.{◌≡◌, ◌*◌, length, replicate};
 ghost use Rattle.go_board.specs.declared.stones.Cell.TheVariants.{Empty};
@@ -31,7 +31,7 @@ impl Board {
     }
 }
 
-/// So many cells on which nothing stands.
+/// `N` cells on which nothing stands.
 pub(crate) fn nothing<const N: usize>() -> [Cell; N]
     ensures { result ≡ replicate N Empty }
 {

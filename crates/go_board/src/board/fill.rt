@@ -8,8 +8,8 @@ ghost use Rattle.go_board.specs.inner.Rows.{has_bit, is_set, row_above, IsPart, 
 use crate::board::regions::with_column;
 use crate::board::stone_rows::without_column;
 
-/// Adds to a set of points all that a path of points that there is room for leads to: a row takes what stands beside it, and
-/// where it grew, the rows beside it wait which lack a point of it.
+/// Adds to a set of points all those that a path within the room leads to. A row takes the points beside it. When a row grew, the
+/// rows beside it that lack a point of it have to wait for their turn.
 pub(crate) fn fill(rows: &mut [u64], room: &[u64])
     requires same { length rows.old ≡ length room.now }
     requires few { length rows.old < 64 }
@@ -29,7 +29,8 @@ pub(crate) fn fill(rows: &mut [u64], room: &[u64])
     }
 }
 
-/// Lets each row take what stands beside it, from the first to the last. Tells the rows that lack a point of the one below them.
+/// Lets each row take the points beside it, from the first row to the last.
+/// Returns the rows that lack a point of the row below them.
 fn grow_down(rows: &mut [u64], room: &[u64]) -> u64
     requires same { length rows.old ≡ length room.now }
     requires few { length rows.old < 64 }
@@ -46,7 +47,7 @@ fn grow_down(rows: &mut [u64], room: &[u64]) -> u64
     waiting
 }
 
-/// A set of rows with those beside a row that lack a point of it.
+/// The rows that wait, and those beside a row that lack a point of it.
 fn with_rows_lacking(waiting: u64, rows: &[u64], room: &[u64], row: usize) -> u64
     requires same { length room.now ≡ length rows.now }
     requires few { length rows.now < 64 }
@@ -68,7 +69,7 @@ fn with_rows_lacking(waiting: u64, rows: &[u64], room: &[u64], row: usize) -> u6
     }
 }
 
-/// Whether a row lacks a column of a word that there is room for.
+/// Whether a row lacks a column of a word that the room has.
 fn lacks(rows: &[u64], room: &[u64], row: usize, word: u64) -> bool
     requires same { length room.now ≡ length rows.now }
     requires row { row < length rows.now }
@@ -77,7 +78,7 @@ fn lacks(rows: &[u64], room: &[u64], row: usize, word: u64) -> bool
     word & room[row] & !rows[row] != 0
 }
 
-/// Adds the points of a row that there is room for beside points of the set.
+/// Adds the points of a row that the room has beside points of the set.
 pub(crate) fn grow_row(rows: &mut [u64], room: &[u64], row: usize)
     requires same { length rows.old ≡ length room.now }
     requires row { row < length rows.old }
@@ -92,8 +93,8 @@ pub(crate) fn grow_row(rows: &mut [u64], room: &[u64], row: usize)
     rows[row] = widened((rows[row] | beside) & room[row], room[row]);
 }
 
-/// Widens a set of columns by those beside it that there is room for, until none is left. Mostly a few steps are enough, or
-/// each run of columns that there is room for has one of the set.
+/// Widens a set of columns by the columns of the room beside it, until there are no more.
+/// Usually a few steps are enough, or every run of columns of the room has one of the set.
 fn widened(seed: u64, room: u64) -> u64
     requires { IsPart (has_bit seed) (has_bit room) }
     ensures within { IsPart (has_bit result) (has_bit room) }
@@ -119,7 +120,7 @@ fn widened(seed: u64, room: u64) -> u64
     }
 }
 
-/// A set of columns with those that there is room for after one of them, up to the next gap: as far as a sum carries.
+/// A set of columns, and those of the room after one of them up to the next gap: as far as a sum carries.
 fn carried(seed: u64, room: u64) -> u64
     requires { IsPart (has_bit seed) (has_bit room) }
     ensures { IsWidened room seed result }
@@ -127,7 +128,7 @@ fn carried(seed: u64, room: u64) -> u64
     room & !room.wrapping_add(seed) | seed
 }
 
-/// A set of columns with those that there is room for just before one of them.
+/// A set of columns, and those of the room just before one of them.
 fn with_before(word: u64, room: u64) -> u64
     ensures widened { (seed : ℕ) → IsWidened room seed word → IsWidened room seed result }
     ensures closed { (seed : ℕ) → IsWidened room seed word → result ≡ word → HasBeside (has_bit room) (has_bit word) }
@@ -136,7 +137,7 @@ fn with_before(word: u64, room: u64) -> u64
     word | room & word >> 1
 }
 
-/// Whether a set has the last column of each run of columns that there is room for.
+/// Whether a set has the last column of each run of columns of the room.
 fn has_all_ends(word: u64, room: u64) -> bool
     ensures { IsTrue result → (set : ℕ → Bool) → HasBeside (has_bit room) set → IsPart (has_bit word) set
         → IsPart (has_bit room) set }
@@ -144,7 +145,7 @@ fn has_all_ends(word: u64, room: u64) -> bool
     room & !(room >> 1) & !word == 0
 }
 
-/// The row above one, empty above the first.
+/// The row above a row; empty above the first.
 pub(crate) fn row_above(rows: &[u64], row: usize) -> u64
     requires { row < length rows.now }
     ensures { result ≡ row_above rows.now row }
@@ -152,7 +153,7 @@ pub(crate) fn row_above(rows: &[u64], row: usize) -> u64
     if row > 0 { rows[row - 1] } else { 0 }
 }
 
-/// The row below one, empty below the last.
+/// The row below a row; empty below the last.
 pub(crate) fn row_below(rows: &[u64], row: usize) -> u64
     requires { row < length rows.now }
     ensures { result ≡ slice_index rows.now (row + 1) }

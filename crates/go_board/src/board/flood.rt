@@ -18,8 +18,8 @@ use crate::steps::Steps;
 use crate::stones::Cell;
 
 impl Board {
-    /// The points that reach a colour; points of that colour are among them. Adds one step for each point that is
-    /// marked, so at most the square of the side.
+    /// The points that reach a colour (Tromp-Taylor); points of that colour are among them. Adds one step for each marked point,
+    /// so at most the square of the side. The count of steps must have room for that.
     pub fn reaching(&self, target: Cell, steps: &mut Steps) -> Marks
         requires { steps.old + self.now.side * self.now.side ≤ u64.MAX }
         ensures side { result.side ≡ self.now.side }
@@ -57,7 +57,7 @@ impl Board {
         search.into_marks()
     }
 
-    /// A search that found the points of a colour.
+    /// A search that has found the points of a colour.
     fn search_from<const N: usize>(&self, target: Cell) -> Search<N>
         requires room { self.now.side * self.now.side ≤ N }
         requires at_most { N ≤ MAX_POINTS }
@@ -73,7 +73,7 @@ impl Board {
         search
     }
 
-    /// Adds the neighbours of a point that reach a colour through it.
+    /// Adds the neighbours of a point that reach a colour through the point.
     #[tactic(auto, unfolding(crate::specs::inner::Flood::with_neighbours))]
     pub(crate) fn offer_neighbours<const N: usize>(
         &self,
@@ -117,8 +117,8 @@ impl Board {
         }
     }
 
-    /// Whether a neighbour of a point that reaches a colour reaches it through that point: the point has the colour, or
-    /// the neighbour has the point's.
+    /// Whether a neighbour of a point that reaches a colour reaches it through that
+    /// point. It does if the point has the colour, or if both have the same colour.
     fn reaches_through(&self, target: Cell, from: Point, to: Point) -> bool
         requires from_on_board { IsOn self.now.side from }
         requires to_on_board { IsOn self.now.side to }

@@ -1,4 +1,4 @@
-//! A glance at the points around one, by words of bits: mostly it tells that a stone there captures nothing.
+//! A glance at the points around a point, by words of bits. Usually it shows that a stone there captures nothing.
 
 ghost use Rattle.std.specs.Prelude.{◌≡◌, ◌⊎◌, false, ℕ, ◌<◌, ◌≤◌, IsTrue, List, length};
 ghost use Rattle.go_board.specs.declared.points.Point.{Point};
@@ -20,19 +20,20 @@ use crate::points::Point;
 use crate::stones::Colour;
 
 impl Board {
-    /// Whether a glance tells that a stone on an empty point captures nothing, and isn't captured itself: then the stone is all
-    /// that its move changes. It tells of most such stones, and not of all.
+    /// Whether a glance shows that a stone on an empty point captures nothing and isn't captured itself. Then the stone is all
+    /// that its move changes. The glance recognizes most such stones, but not all.
     pub(crate) fn captures_nothing_at_a_glance(&self, colour: Colour, point: Point) -> bool
         requires on_board { IsOn self.now.side point }
         requires empty { cell_at self.now point ≡ Empty }
         ensures { IsTrue result → play self.now colour point ≡ with_cell self.now point (stone_of colour) }
     {
-        // a field is read, so that the proof can use the invariant: every point has a cell
+        // reading a field lets the proof use the invariant: every point has a cell
         let _ = &self.size;
         self.is_settled() && self.all_live_at_a_glance(colour, point)
     }
 
-    /// Whether a glance at the rows of the stones tells that a stone on a point leaves each group beside it a liberty, and has one.
+    /// Whether a glance at the rows of stones shows that a stone on a point
+    /// leaves each group beside it a liberty, and has one itself.
     fn all_live_at_a_glance(&self, colour: Colour, point: Point) -> bool
         requires { IsOn self.now.side point }
         ensures { IsTrue result → AllLive (with_cell self.now point (stone_of colour)) colour point }
@@ -42,8 +43,8 @@ impl Board {
     }
 }
 
-/// The columns of a row with a stone of the player, with one of the opponent, and with none. A row outside of the board has
-/// none of either.
+/// The columns of a row with a stone of the player, with one of the opponent, and
+/// without a stone. A row outside the board has no columns of any of these.
 #[derive(Clone, Copy)]
 struct RowStones {
     own: u64,
@@ -51,16 +52,16 @@ struct RowStones {
     free: u64,
 }
 
-/// Some columns of a row: those where the player's stone finds a liberty, and those where a stone of the opponent has none
-/// of its own.
+/// Some columns of a row: those in which the player's stone finds a liberty,
+/// and those in which an opponent's stone has none of its own.
 #[derive(Clone, Copy)]
 struct Look {
     alive: u64,
     shut: u64,
 }
 
-/// Whether a glance at the rows around a point tells that a stone of the player there has a liberty, by itself or by a stone
-/// beside it, and leaves each stone of the opponent beside it one of its own.
+/// Whether a glance at the rows around a point shows two things of a stone of the player there. It has a liberty, by itself or by
+/// a stone beside it. And it leaves each stone of the opponent beside it a liberty of its own.
 fn leaves_all_alive(own: &[u64], others: &[u64], point: Point) -> bool
     requires same { length others.now ≡ length own.now }
     requires few { length own.now < 64 }
@@ -84,7 +85,7 @@ fn leaves_all_alive(own: &[u64], others: &[u64], point: Point) -> bool
     some_of(up.alive, along.alive, down.alive) && none_of(up.shut, along.shut, down.shut)
 }
 
-/// What stands on a row around one of a board, counted from the second row above it.
+/// What stands on a row near the row `middle`. `i` counts the rows from the second one above it.
 fn row_at(own: &[u64], others: &[u64], middle: usize, i: usize) -> RowStones
     requires same { length others.now ≡ length own.now }
     requires few { length own.now < 64 }
@@ -107,7 +108,7 @@ fn row_at(own: &[u64], others: &[u64], middle: usize, i: usize) -> RowStones
     }
 }
 
-/// The row with one column that isn't free.
+/// The row, with one column that isn't free.
 fn all_but(row: RowStones, col: usize) -> RowStones
     requires { col < 64 }
     ensures there { has_bit result.free col ≡ false }
@@ -121,7 +122,7 @@ fn all_but(row: RowStones, col: usize) -> RowStones
     }
 }
 
-/// Looks at the stones in some columns of a row, by the free columns of the rows above and below it.
+/// Looks at the stones in some columns of a row. `above` and `below` are the free columns of the rows above and below it.
 fn look_at_row(columns: u64, above: u64, row: RowStones, below: u64) -> Look
     ensures alive { (col : ℕ) → IsTrue (has_bit result.alive col) → IsTrue (has_bit columns col)
         × (IsTrue (has_bit row.free col) ⊎ (IsTrue (has_bit row.own col) × IsInOrBeside above row.free below col)) }
@@ -135,14 +136,14 @@ fn look_at_row(columns: u64, above: u64, row: RowStones, below: u64) -> Look
     }
 }
 
-/// The columns of a row of which a neighbour is free.
+/// The columns of a row whose points have a free neighbour.
 fn open_columns(above: u64, here: u64, below: u64) -> u64
     ensures { (col : ℕ) → IsTrue (has_bit result col) → IsInOrBeside above here below col }
 {
     above | below | beside(here)
 }
 
-/// The columns beside those of a set.
+/// The columns beside the columns of a set.
 fn beside(columns: u64) -> u64
     ensures from { (col : ℕ) → IsTrue (has_bit result col)
         → (next : ℕ) × DifferByOne col next × IsTrue (has_bit columns next) }
@@ -152,7 +153,7 @@ fn beside(columns: u64) -> u64
     columns << 1 | columns >> 1
 }
 
-/// The columns of a set that are in a second one, or in a third and a fourth.
+/// The columns of a set that are in a second one, or in both a third and a fourth.
 fn either(columns: u64, one: u64, other: u64, with: u64) -> u64
     ensures { (col : ℕ) → IsTrue (has_bit result col) → IsTrue (has_bit columns col)
         × (IsTrue (has_bit one col) ⊎ (IsTrue (has_bit other col) × IsTrue (has_bit with col))) }
@@ -160,7 +161,7 @@ fn either(columns: u64, one: u64, other: u64, with: u64) -> u64
     columns & (one | other & with)
 }
 
-/// The columns that are in two sets, and not in a third.
+/// The columns that are in both of two sets, and not in a third.
 fn both_without(one: u64, other: u64, without: u64) -> u64
     ensures { (col : ℕ) → has_bit result col ≡ false → IsTrue (has_bit one col) → IsTrue (has_bit other col)
         → IsTrue (has_bit without col) }

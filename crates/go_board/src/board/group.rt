@@ -10,8 +10,8 @@ use crate::board::fill::{fill, grow_row, row_above, row_below};
 use crate::board::regions::{other_columns, with_column};
 use crate::points::Point;
 
-/// Whether the group of a stone has a liberty: a point beside it that no stone is on. The stones of its colour are in one set,
-/// those of the other one in another. If not, the whole group is found.
+/// Whether the group of a stone has a liberty: a point beside it without a stone. `own` has the stones of its colour, `others`
+/// those of the other colour. If there is no liberty, `group` becomes the whole group.
 pub(crate) fn has_liberty(own: &[u64], others: &[u64], from: Point, group: &mut [u64]) -> bool
     requires own_rows { length own.now ≡ length group.old }
     requires other_rows { length others.now ≡ length group.old }
@@ -24,7 +24,7 @@ pub(crate) fn has_liberty(own: &[u64], others: &[u64], from: Point, group: &mut 
     ensures rows { length group.new ≡ length group.old }
 {
     begin(own, from, group);
-    // mostly there is one beside the stones of this row
+    // usually there is one beside the stones of this row
     if near_row_has_liberty(own, others, group, usize::from(from.row)) {
         return true;
     }
@@ -32,7 +32,7 @@ pub(crate) fn has_liberty(own: &[u64], others: &[u64], from: Point, group: &mut 
     some_row_has_liberty(own, others, group)
 }
 
-/// Whether a row, or one of the two beside it, has a point beside a set that is in neither of two sets.
+/// Whether a row, or one of the two beside it, has a point beside `group` that is in neither `own` nor `others`.
 fn near_row_has_liberty(own: &[u64], others: &[u64], group: &[u64], row: usize) -> bool
     requires own_rows { length own.now ≡ length group.now }
     requires other_rows { length others.now ≡ length group.now }
@@ -50,7 +50,7 @@ fn near_row_has_liberty(own: &[u64], others: &[u64], group: &[u64], row: usize) 
     row + 1 < group.len() && row_has_liberty(own, others, group, row + 1)
 }
 
-/// Whether some row of the board has a point beside a set that is in neither of two sets.
+/// Whether some row of the board has a point beside `group` that is in neither `own` nor `others`.
 fn some_row_has_liberty(own: &[u64], others: &[u64], group: &[u64]) -> bool
     requires own_rows { length own.now ≡ length group.now }
     requires other_rows { length others.now ≡ length group.now }
@@ -68,7 +68,7 @@ fn some_row_has_liberty(own: &[u64], others: &[u64], group: &[u64]) -> bool
     false
 }
 
-/// Finds the stones of a group in the row of one of them.
+/// Finds the stones of a group that are in one row with the given one, without a gap.
 fn begin(own: &[u64], from: Point, group: &mut [u64])
     requires own_rows { length own.now ≡ length group.old }
     requires on_board { IsOn (length group.old) from }
@@ -82,7 +82,7 @@ fn begin(own: &[u64], from: Point, group: &mut [u64])
     grow_row(group, own, row);
 }
 
-/// Whether a row of the board has a point beside a set that is in neither of two sets.
+/// Whether a row of the board has a point beside `group` that is in neither `own` nor `others`.
 fn row_has_liberty(own: &[u64], others: &[u64], group: &[u64], row: usize) -> bool
     requires own_rows { length own.now ≡ length group.now }
     requires other_rows { length others.now ≡ length group.now }
@@ -98,7 +98,7 @@ fn row_has_liberty(own: &[u64], others: &[u64], group: &[u64], row: usize) -> bo
     meet(beside, free)
 }
 
-/// The columns of a row beside those of the row itself, or of the rows above and below it.
+/// The columns of a row whose points are beside a point of a set. The set is given by its columns above, in and below the row.
 pub(crate) fn columns_beside(above: u64, here: u64, below: u64) -> u64
     ensures from { (col : ℕ) → IsTrue (has_bit result col) → IsInOrBeside above here below col }
     ensures to { (col : ℕ) → col < 64 → IsInOrBeside above here below col → IsTrue (has_bit result col) }

@@ -1,4 +1,4 @@
-//! Sets of a board's points by what stands on them, as rows of words, and what reaches what by filling these.
+//! Sets of a board's points by what stands on them, as rows of words. Filling these shows what reaches what.
 
 ghost use Rattle.std.specs.Prelude.{◌≡◌, ◌≢◌, ◌↔◌, false, ℕ, ◌<◌, ◌≤◌, ◌||◌, IsTrue, not, length, replicate};
 ghost use Rattle.go_board.specs.declared.points.Point.{Point};
@@ -86,7 +86,7 @@ impl Board {
         other_points(others, room);
         difference(room, own, empty);
         points_beside(own, empty, reached);
-        // mostly each stone has an empty point beside it: then nothing is filled
+        // usually each stone has an empty point beside it; then nothing is filled
         difference(own, reached, shut);
         if is_none(shut) {
             return;
@@ -96,7 +96,7 @@ impl Board {
     }
 }
 
-/// How many points are set in the one and not in the other.
+/// The number of points that are in one set and not in the other.
 pub(crate) fn count_apart(rows: &[u64], others: &[u64]) -> u32
     requires few { length rows.now ≤ MAX_ROWS }
     requires same { length others.now ≡ length rows.now }
@@ -110,7 +110,7 @@ pub(crate) fn count_apart(rows: &[u64], others: &[u64]) -> u32
     count
 }
 
-/// Rows with no bit set, enough for every board.
+/// Rows without a set bit, enough for every board.
 pub(crate) fn no_rows() -> [u64; MAX_ROWS]
     ensures { result ≡ replicate MAX_ROWS 0 }
 {
@@ -129,7 +129,7 @@ fn other_points(rows: &[u64], others: &mut [u64])
     }
 }
 
-/// The columns of a row of so many that aren't in a set.
+/// The columns that aren't in a set, of a row with `side` columns.
 pub(crate) fn other_columns(word: u64, side: usize) -> u64
     requires { side < 64 }
     ensures within { (col : ℕ) → col < side → has_bit result col ≡ not (has_bit word col) }
@@ -138,7 +138,7 @@ pub(crate) fn other_columns(word: u64, side: usize) -> u64
     ((1 << side) - 1) & !word
 }
 
-/// The word with the bit of a column set, if it is to be.
+/// The word; if `set`, with the bit of a column set.
 pub(crate) fn with_column(word: u64, col: usize, set: bool) -> u64
     requires { col < 64 }
     ensures there { has_bit result col ≡ (has_bit word col || set) }
@@ -158,7 +158,7 @@ fn difference(rows: &[u64], others: &[u64], left: &mut [u64])
     }
 }
 
-/// The points of a set that are beside one of another set.
+/// The points of a set that are beside a point of another set.
 fn points_beside(rows: &[u64], others: &[u64], beside: &mut [u64])
     requires others { length others.now ≡ length rows.now }
     requires beside { length beside.old ≡ length rows.now }

@@ -5,8 +5,8 @@ use crate::points::{FIRST, Point};
 use crate::size::{MAX_POINTS, Size};
 use std::marker::Model;
 
-/// The points that a search found, in the order it found them, and how many of them were taken for a closer look. It has
-/// room for `N` points.
+/// The points that a search found, in the order in which it found them, and how many
+/// of them were taken for a closer look. There is room for `N` points.
 #[derive(Drop)]
 pub(crate) struct Search<const N: usize> {
     marks: Marks,
@@ -34,7 +34,7 @@ impl<const N: usize> Search<N> {
     ghost use Rattle.go_board.specs.Marking.{is_marked, marked_count};
     ghost use Rattle.go_board.specs.inner.Search.{nothing_found, with_found, HasRoom};
 
-    /// A search that found nothing yet.
+    /// A search that has found nothing yet.
     pub(crate) fn new(size: Size) -> Search<N>
         ensures { result ≡ nothing_found size }
     {
@@ -59,7 +59,7 @@ impl<const N: usize> Search<N> {
         }
     }
 
-    /// The next point that wasn't taken yet.
+    /// Takes the next point that wasn't taken yet; None if all were.
     pub(crate) fn take_one(&mut self) -> Option<Point>
         ensures next { IfSome result (λ p. slice_get self.old.found self.old.taken ≡ Some p) }
         ensures on_grid { IfSome result (λ p. IsOn self.old.marking.side p) }

@@ -1,4 +1,4 @@
-//! The stones of a board as rows of words: a bit for each column, black ones and white ones apart.
+//! The stones of a board as rows of words with a bit for each column; black and white stones are apart.
 
 ghost use Rattle.std.specs.Prelude.{◌≡◌, ◌≢◌, ◌<◌, ◌≤◌, ◌↔◌, false, ℕ, IsTrue, if◌then◌else◌};
 ghost use Rattle.go_board.specs.Point.{IsOn};
@@ -12,7 +12,7 @@ use crate::points::Point;
 use crate::size::{MAX_ROWS, Size};
 use crate::stones::Cell;
 
-/// The points with a black stone and those with a white one.
+/// The points with a black stone, and those with a white one.
 #[derive(Clone, Copy)]
 pub(crate) struct StoneRows {
     pub(crate) black: [u64; MAX_ROWS],
@@ -20,7 +20,7 @@ pub(crate) struct StoneRows {
 }
 
 impl StoneRows {
-    /// Those of a board on which nothing stands.
+    /// The rows of a board without stones.
     pub(crate) fn none() -> StoneRows
         ensures { (side : ℕ) → side ≤ MAX_ROWS → AreStones (empty_grid side) result }
     {
@@ -47,7 +47,7 @@ impl StoneRows {
         }
     }
 
-    /// Whether they are those of another board of that size.
+    /// Whether two boards of that size have the same stones.
     pub(crate) fn same(&self, other: &StoneRows, size: Size) -> bool
         ensures { (one two : Grid) → one.side ≡ size → two.side ≡ size → AreStones one self.now
             → AreStones two other.now → (IsTrue result ↔ (one ≡ two)) }
@@ -56,7 +56,7 @@ impl StoneRows {
         self.black[..side] == other.black[..side] && self.white[..side] == other.white[..side]
     }
 
-    /// Colours the points of a row in a set of columns.
+    /// Changes what stands on the points of a row in a set of columns.
     pub(crate) fn colour(&mut self, row: usize, columns: u64, cell: Cell)
         requires { row < MAX_ROWS }
         ensures { (grid : Grid) → row < grid.side
@@ -83,7 +83,7 @@ pub(crate) fn has_column(word: u64, col: usize) -> bool
     word >> col & 1 == 1
 }
 
-/// The word with the bits of some columns as they are to be.
+/// The word, with the bits of some columns set or cleared.
 fn with_columns(word: u64, columns: u64, set: bool) -> u64
     ensures { (col : ℕ) → has_bit result col ≡ (if has_bit columns col then set else has_bit word col) }
 {

@@ -1,4 +1,4 @@
-//! Past colourings, of which the newest is kept whole, and of each older one the changes that lead back to it.
+//! Past colourings. The newest is kept whole; of each older one the changes are kept that lead back to it.
 
 ghost use Rattle.std.specs.Prelude.{◌≡◌, ◌<◌, ◌&&◌, ◌==◌, ℕ, IsTrue, OnOk, OnErr, if◌then◌else◌, length, take};
 ghost use Rattle.go_board.specs.Grid.{cell_at};
@@ -11,8 +11,8 @@ use crate::fault::MemoryFault;
 use crate::stones::{Cell, Colour};
 use std::alloc::AllocError;
 
-/// Every such step keeps all points of the colouring before it, so that an older colouring is worked out from the next of
-/// these steps.
+/// Every step with this distance keeps all points of the colouring before it.
+/// So an older colouring can be worked out from the next such step.
 pub(crate) const FULL: usize = 256;
 
 /// Points of a row, and what stood on each of them before.
@@ -24,18 +24,18 @@ pub(crate) struct Change {
     pub cell: Cell,
 }
 
-/// What is kept of an older colouring, besides its changes.
+/// What is kept of an older colouring besides its changes.
 #[derive(Clone, Copy)]
 pub(crate) struct Older {
-    /// How many changes there were before those that lead back to it from the colouring after it.
+    /// The index of the first of the changes that lead back to it from the colouring after it.
     pub start: usize,
-    /// How many older colourings its stretch has: none, where it begins one.
+    /// The number of older colourings in its stretch: 0 if it begins the stretch.
     pub older_in_stretch: u32,
-    /// Whether it is known that every stone reaches empty.
+    /// Whether every stone of it is known to reach empty.
     pub settled: bool,
 }
 
-/// Takes a board back by changes, one after another. Its print isn't carried along.
+/// Takes a board back by changes, one after another. Its print is lost.
 pub(crate) fn take_back(board: &mut Board, changes: &[Change])
     requires { AreOn board.old.side changes.now }
     ensures { board.new ≡ after_changes board.old changes.now }
@@ -45,7 +45,8 @@ pub(crate) fn take_back(board: &mut Board, changes: &[Change])
     }
 }
 
-/// Adds changes that lead back from the new board to the old one, or from any board to it, if all points are to be kept.
+/// Adds changes that lead back from the new board to the old one. If `all`, all points are kept,
+/// and the changes lead to it from any board. If memory is refused, no change is added.
 pub(crate) fn lead_back(
     old: &Board,
     new: &Board,
@@ -66,7 +67,7 @@ pub(crate) fn lead_back(
     Ok(())
 }
 
-/// The same, but that some changes may have been added where memory was refused.
+/// The same, but if memory is refused, some changes may have been added.
 fn add_rows(
     old: &Board,
     new: &Board,
@@ -86,14 +87,14 @@ fn add_rows(
     Ok(())
 }
 
-/// Whether the step after so many others is to keep all points of the colouring before it.
+/// Whether the step after `count` others keeps all points of the colouring before it.
 pub(crate) fn is_full(count: usize) -> bool
     ensures { result ≡ is_full count }
 {
     count % FULL == FULL - 1
 }
 
-/// The columns of a row in which points are to be put back.
+/// The columns of a row whose points are to be put back.
 fn columns_put_back(old: &Board, new: &Board, all: bool, row: u8) -> u64
     requires side { old.now.side ≡ new.now.side }
     requires row { row < old.now.side }
@@ -116,14 +117,14 @@ fn columns_put_back(old: &Board, new: &Board, all: bool, row: u8) -> u64
     black | white
 }
 
-/// The bits that one of two words has, and not the other.
+/// The bits that exactly one of two words has.
 fn apart(word: u64, other: u64) -> u64
     ensures { (col : ℕ) → has_bit result col ≡ differ (has_bit word col) (has_bit other col) }
 {
     word ^ other
 }
 
-/// Adds changes that put the points of some columns of a row back.
+/// Adds changes that put back the points of some columns of a row.
 fn add_row(old: &Board, row: u8, columns: u64, changes: &mut Vec<Change>) -> Result<(), AllocError>
     requires row { row < old.now.side }
     requires columns { (col : ℕ) → IsTrue (has_bit columns col) → col < old.now.side }
@@ -140,7 +141,7 @@ fn add_row(old: &Board, row: u8, columns: u64, changes: &mut Vec<Change>) -> Res
     add_columns(row, columns & !black & !white, Cell::Empty, changes)
 }
 
-/// Adds a change, if it is of any points.
+/// Adds a change, if it has any points.
 fn add_columns(
     row: u8,
     columns: u64,

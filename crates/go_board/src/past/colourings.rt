@@ -1,4 +1,4 @@
-//! Past colourings, of which the newest is kept whole, and of each older one the changes that lead back to it.
+//! Past colourings. The newest is kept whole; of each older one the changes are kept that lead back to it.
 
 ghost use Rattle.std.specs.Prelude.{◌≡◌, ◌+◌, ◌-◌, ◌*◌, ◌<◌, ◌≤◌, ◌↔◌, ◌∷◌, Some, false, IsTrue, IfOk, OnOk, OnErr, if◌then◌else◌, length, map, take, drop};
 ghost use Rattle.go_board.specs.declared.stones.Cell.TheVariants.{Empty};
@@ -19,14 +19,14 @@ use crate::stones::{Cell, Colour};
 use std::alloc::Global;
 use std::marker::Model;
 
-/// How many older colourings a new past has room for.
+/// The number of older colourings that a new past has room for.
 const FIRST_OLDER: usize = 64;
 
-/// The colourings of a past. They are numbered from 0, the oldest, in the order in which they were added.
+/// The colourings of a past, numbered from 0 in the order in which they were added.
 #[derive(Drop)]
 pub(crate) struct Colourings {
     newest: Board,
-    /// How many older colourings the newest one's stretch has.
+    /// The number of older colourings in the stretch of the newest one.
     older_in_stretch: u32,
     /// What is kept of the older colourings, oldest first.
     older: Vec<Older>,
@@ -51,7 +51,7 @@ impl Model for Colourings {
 }
 
 impl Colourings {
-    /// That one colouring, which begins a stretch.
+    /// This one colouring, which begins a stretch.
     pub(crate) fn new(alloc: Global, board: &Board) -> Result<Colourings, MemoryFault>
         ensures { IfOk result (λ past. past ≡ only board.now) }
     {
@@ -79,7 +79,7 @@ impl Colourings {
         self.older.len() - self.older_in_stretch as usize
     }
 
-    /// Whether that is the colouring of that number.
+    /// Whether the colouring with this number is that of the board.
     pub(crate) fn is_at(&self, number: usize, board: &Board) -> bool
         requires { number < length (all_of self.now) }
         ensures { IsTrue result ↔ IsNumber (all_of self.now) number board.now }
@@ -89,7 +89,7 @@ impl Colourings {
         board.same(&earlier)
     }
 
-    /// Takes the newest colouring back to that of a number, from the next full step after it if there is one.
+    /// Takes the newest colouring back to the one with this number. Begins at the next full step after it, if there is one.
     fn go_back(&self, number: usize, board: &mut Board)
         requires number { number < length (all_of self.now) }
         requires newest { board.old ≡ newest_grid self.now }
@@ -104,8 +104,8 @@ impl Colourings {
         }
     }
 
-    /// Adds a colouring, which begins a stretch or goes on in the present one. After a refusal nothing is changed. It
-    /// is refused memory, too, for more than 4,294,967,296 colourings of one stretch.
+    /// Adds a colouring, which begins a stretch or continues the present one. After a refusal nothing is changed. Memory is also
+    /// refused for more than 4,294,967,296 colourings of one stretch.
     pub(crate) fn add(&mut self, board: &Board, begins: bool) -> Result<(), MemoryFault>
         requires { (newest_grid self.old).side ≡ board.now.side }
         ensures ok { OnOk result (self.new ≡ with_next self.old board.now begins) }
@@ -128,8 +128,8 @@ impl Colourings {
         Ok(())
     }
 
-    /// Adds the colouring that a stone makes which captures nothing, of that print. It goes on in the present stretch. After
-    /// a refusal nothing is changed; it is refused memory as by `add`.
+    /// Adds the colouring that a stone makes which captures nothing; `print` is its print. It continues the present stretch.
+    /// After a refusal nothing is changed. Memory is refused as by `add`.
     pub(crate) fn add_stone(
         &mut self,
         colour: Colour,
@@ -169,7 +169,7 @@ impl Colourings {
         Ok(())
     }
 
-    /// Takes the newest colouring back. The print is that of the colouring before it.
+    /// Takes back the newest colouring. `print` is the print of the colouring before it.
     pub(crate) fn pop(&mut self, print: u64)
         requires some { 0 < length self.old.older }
         requires print { (g : Grid) → first_grid self.old.older ≡ Some g → print ≡ print_of g.cells }
@@ -182,7 +182,7 @@ impl Colourings {
         self.older_in_stretch = kept.older_in_stretch;
     }
 
-    /// Forgets all colourings, and has that one alone, which begins a stretch.
+    /// Forgets all colourings, and then holds this one alone, which begins a stretch.
     pub(crate) fn reset(&mut self, board: &Board)
         ensures { self.new ≡ only board.now }
     {
@@ -193,7 +193,8 @@ impl Colourings {
     }
 }
 
-/// How many older colourings the stretch of a colouring has that comes after one with so many.
+/// The number of older colourings in the stretch of a colouring, from the same
+/// number for the colouring before it. Memory is refused if it doesn't fit.
 fn next_older_in_stretch(older_in_stretch: u32, begins: bool) -> Result<u32, MemoryFault>
     ensures { IfOk result (λ next. next ≡ (if begins then 0 else older_in_stretch + 1)) }
 {
@@ -203,8 +204,8 @@ fn next_older_in_stretch(older_in_stretch: u32, begins: bool) -> Result<u32, Mem
     older_in_stretch.checked_add(1).ok_or(MemoryFault)
 }
 
-/// The number of the colouring from which that of a number is worked out, and how many changes there were up to it: the next
-/// one before which a step kept all points, or else the newest one.
+/// From which colouring the one with the given number is worked out: its number, and how many changes there were up to it. It is
+/// the next one before which a step kept all points, or else the newest one.
 fn next_full(older: &[Older], changes: usize, number: usize) -> (usize, usize)
     requires { number ≤ length older.now }
     ensures low { number ≤ result.0 }

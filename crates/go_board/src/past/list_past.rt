@@ -13,15 +13,15 @@ use crate::stones::Cell;
 use std::alloc::Global;
 use std::marker::Model;
 
-/// A past that keeps each colouring whole, and compares them point by point. It takes the square of the side in bytes,
-/// and one byte more, for each colouring.
+/// A past that keeps each colouring whole, and compares colourings point by
+/// point. A colouring takes one byte for each point, and one byte more.
 #[derive(Drop)]
 pub struct ListPast {
     newest: Board,
     begins: bool,
-    /// The points of the colourings before the newest, oldest first.
+    /// The points of the colourings before the newest one, oldest first.
     cells: Vec<Cell>,
-    /// Whether each of these begins a stretch.
+    /// Whether each of those colourings begins a stretch.
     begin_flags: Vec<bool>,
 }
 
@@ -110,8 +110,8 @@ impl ListPast {
     }
 }
 
-/// Whether the newest stretch of these colourings has the one with those cells. A colouring has as many cells as there
-/// are points of a board of that size.
+/// Whether the newest stretch of these colourings has the one with these cells. A
+/// colouring has as many cells as a board of that size has points.
 fn stretch_has(size: Size, all: &[Cell], begin_flags: &[bool], cells: &[Cell]) -> bool
     requires all { length all.now ≡ length begin_flags.now * (size * size) }
     requires one { length cells.now ≡ size * size }

@@ -1,5 +1,5 @@
-//! The print of a colouring: one number made of what stands on all its points, so that two colourings are mostly told
-//! apart by one comparison.
+//! The print of a colouring: one number made from what stands on all its points.
+//! Usually one comparison of prints is enough to show that two colourings differ.
 
 mod powers;
 
@@ -13,11 +13,11 @@ use crate::past::print::powers::power;
 use crate::points::Point;
 use crate::stones::Cell;
 
-/// What each point's code is a digit of.
+/// The base in which the codes of the points are digits.
 const BASE: u64 = 31;
 
-/// The print of a board's points, row by row from the top, from left to right: from 0, 31 times the number and the
-/// point's code (empty 0, black 1, white 2), modulo 2^64.
+/// The print of a board. Its points are taken row by row from the top, from left to right. From 0 on, the number is multiplied by
+/// 31 and the point's code is added (empty 0, black 1, white 2), modulo 2^64.
 pub(crate) fn print_of(board: &Board) -> u64
     ensures { result ≡ print_of board.now.cells }
 {
@@ -31,7 +31,7 @@ pub(crate) fn print_of(board: &Board) -> u64
     print
 }
 
-/// The print once a point is coloured anew, from the print before.
+/// The print after a point gets a new cell, from the print before.
 pub(crate) fn print_with(print: u64, board: &Board, point: Point, new: Cell) -> u64
     requires { IsOn board.now.side point }
     ensures { print ≡ print_of board.now.cells → result ≡ print_of (with_cell board.now point new).cells }
@@ -44,7 +44,7 @@ pub(crate) fn print_with(print: u64, board: &Board, point: Point, new: Cell) -> 
         .wrapping_sub(code_of(board.at(point)).wrapping_mul(weight))
 }
 
-/// What a point adds to a print.
+/// The code of what stands on a point.
 fn code_of(cell: Cell) -> u64
     ensures { result ≡ code_of cell }
 {

@@ -10,12 +10,12 @@ use crate::stones::Colour;
 use std::alloc::Global;
 use std::marker::Model;
 
-/// A past that keeps the newest colouring whole, and of each older one the changes that lead back to it. A colouring is
-/// looked up by its print, a number of 64 bits made of what stands on all its points, and only in the present stretch;
-/// where the prints are the same, all points are compared.
+/// A past that keeps the newest colouring whole, and of each older one the changes that lead back to
+/// it. A colouring is looked up by its print, a 64-bit number made from what stands on all its points,
+/// and only in the present stretch. If two prints are equal, all points are compared.
 ///
-/// A colouring with one stone more than the one before it takes some 30 bytes. No past is given memory for more than
-/// 4,294,967,295 colourings: a call that would add one more is refused as if there were none.
+/// A colouring with one stone more than the one before it takes some 50 bytes. A past can have at
+/// most 4,294,967,295 colourings: a call that would add one more fails with `MemoryFault`.
 #[derive(Drop)]
 pub struct PrintPast {
     colourings: Colourings,
@@ -104,7 +104,7 @@ impl PrintPast {
     ghost use Rattle.go_board.specs.Past.{newest_grid, with_next, present_stretch, HaveSide};
     ghost use Rattle.go_board.specs.inner.Print.{print_of};
 
-    /// Adds a colouring, which begins a stretch or goes on in the present one.
+    /// Adds a colouring, which begins a stretch or continues the present one.
     fn add(&mut self, board: &Board, begins: bool) -> Result<(), MemoryFault>
         requires { HaveSide board.now.side self.old }
         ensures ok { OnOk result (self.new ≡ with_next self.old board.now begins) }
@@ -118,7 +118,7 @@ impl PrintPast {
         Ok(())
     }
 
-    /// Adds the colouring that a stone makes which captures nothing, of that print, to the present stretch.
+    /// Adds the colouring that a stone makes which captures nothing to the present stretch; `print` is its print.
     fn add_stone(&mut self, colour: Colour, point: Point, print: u64) -> Result<(), MemoryFault>
         requires on_board { IsOn (newest_grid self.old).side point }
         requires empty { cell_at (newest_grid self.old) point ≡ Empty }
@@ -136,7 +136,7 @@ impl PrintPast {
         Ok(())
     }
 
-    /// Whether a colouring of the present stretch has that print.
+    /// Whether a colouring of the present stretch has this print.
     fn has_print(&self, print: u64) -> bool
         ensures { (grid : Grid) → IsFalse result → print ≡ print_of grid.cells
             → ¬ Contains (present_stretch self.now) grid }
@@ -147,7 +147,7 @@ impl PrintPast {
             .is_some()
     }
 
-    /// The same as `play`, on a copy of the newest board, where more than a glance is needed.
+    /// The same as `play`, on a copy of the newest board. It is for stones that need more than a glance.
     #[inline(never)]
     fn play_on_copy(&mut self, colour: Colour, point: Point) -> Result<bool, MemoryFault>
         requires one_side { HaveSide (newest_grid self.old).side self.old }

@@ -1,4 +1,4 @@
-//! A list of prints in which one print is found without a look at most of the others.
+//! A list of prints in which a print is found without looking at most of the others.
 
 ghost use Rattle.std.specs.Prelude.{◌≡◌, ◌+◌, ◌-◌, ◌<◌, ◌≤◌, ◌^◌, [], ◌∷◌, ◌++◌, IfOk, OnOk, OnErr, length, replicate, slice_index};
 ghost use Rattle.go_board.specs.inner.Table.{key_of, scattered, folded, AreLinked, IsLastOf};
@@ -7,26 +7,26 @@ use crate::fault::MemoryFault;
 use std::alloc::Global;
 use std::marker::Model;
 
-/// How many heads the table of a new past has.
+/// The number of heads in the table of a new past.
 const FIRST_HEADS: usize = 1024;
 
-/// How many prints a new past has room for.
+/// The number of prints that a new past has room for.
 const FIRST_PRINTS: usize = 64;
 
-/// How many heads are emptied at once in the time in which one print is taken back.
+/// The number of heads that can be emptied at once in the time in which one print is taken back.
 const HEADS_AT_ONCE: usize = 64;
 
 /// An odd number with many bits set, which spreads the bits of a print upwards.
 const MIXER: u64 = 0xd6e8_feb8_6659_fd93;
 
-/// Prints, oldest first. Those with one key are linked from the newest to the oldest. There are
-/// at least as many keys as prints, so that mostly none has the key of another one.
+/// Prints, oldest first. Those with the same key are linked from the newest to the oldest. There
+/// are at least as many keys as prints, so on average a key has at most one print.
 #[derive(Drop)]
 pub(crate) struct Table {
-    /// For each key the number of the newest print that has it: one more than its index, or 0 where there is none.
+    /// For each key the number of the newest print that has it: the print's index plus 1, or 0 if there is none.
     heads: Vec<u32>,
     prints: Vec<u64>,
-    /// For each print the number of the newest one before it that has its key.
+    /// For each print the number of the newest earlier print with the same key.
     links: Vec<u32>,
 }
 
@@ -43,7 +43,7 @@ impl Model for Table {
 }
 
 impl Table {
-    /// The list of one print.
+    /// The list of this one print.
     pub(crate) fn new(alloc: Global, print: u64) -> Result<Table, MemoryFault>
         ensures { IfOk result (λ table. table ≡ print ∷ []) }
     {
@@ -52,7 +52,7 @@ impl Table {
         Ok(table)
     }
 
-    /// The list of no print.
+    /// The empty list.
     fn empty(alloc: Global) -> Result<Table, MemoryFault>
         ensures { IfOk result (λ table. table ≡ []) }
     {
@@ -78,7 +78,7 @@ impl Table {
         self.prints[self.prints.len() - 1]
     }
 
-    /// The index of the last print from one index to another that is that one.
+    /// The index of the last print that equals this one, from `start` on and before `end`; None if there is none.
     pub(crate) fn last_between(&self, print: u64, start: usize, end: usize) -> Option<usize>
         requires { end ≤ length self.now }
         ensures { IsLastOf self.now print start end result }
@@ -94,8 +94,8 @@ impl Table {
         None
     }
 
-    /// Adds a print. After a refusal nothing is changed. Memory is refused, too, for more than 4,294,967,295 prints.
-    // inlined, its key is worked out once for it and the look-up before it
+    /// Adds a print. After a refusal nothing is changed. Memory is also refused for more than 4,294,967,295 prints.
+    // inlined, so that the key is worked out once for this and for the look-up before it
     #[inline(always)]
     pub(crate) fn push(&mut self, print: u64) -> Result<(), MemoryFault>
         ensures ok { OnOk result (self.new ≡ self.old ++ print ∷ []) }
@@ -124,7 +124,7 @@ impl Table {
         Ok(())
     }
 
-    /// Adds a print, by the heads that there are.
+    /// Adds a print, with the heads that there are.
     #[inline(always)]
     fn add(&mut self, print: u64) -> Result<(), MemoryFault>
         requires { length self.old + 1 < 2 ^ 32 }
@@ -142,7 +142,7 @@ impl Table {
         Ok(())
     }
 
-    /// Takes the newest print back.
+    /// Takes back the newest print, and returns it.
     pub(crate) fn pop(&mut self) -> u64
         requires { 0 < length self.old }
         ensures { self.old ≡ self.new ++ result ∷ [] }
@@ -154,7 +154,7 @@ impl Table {
         print
     }
 
-    /// Has one print alone, in place of all that there are.
+    /// Replaces all prints by this one.
     pub(crate) fn reset(&mut self, print: u64)
         requires { 0 < length self.old }
         ensures { self.new ≡ print ∷ [] }
@@ -166,7 +166,7 @@ impl Table {
         }
     }
 
-    /// The same, where the heads are few beside the prints: all of them are emptied at once.
+    /// The same, if there are few heads compared with the prints: all heads are emptied at once.
     fn reset_all_heads(&mut self, print: u64)
         requires { 0 < length self.old }
         ensures { self.new ≡ print ∷ [] }
@@ -178,8 +178,8 @@ impl Table {
         link(&mut self.heads, &self.prints, &mut self.links, 0);
     }
 
-    /// The same, in the time of the prints, and not in that of a table that once had to be large: the heads of the prints are
-    /// emptied one by one.
+    /// The same, if the table has many heads because it once had to be large. The heads of the
+    /// prints are emptied one by one, so the time depends on the number of prints.
     fn reset_used_heads(&mut self, print: u64)
         requires { 0 < length self.old }
         ensures { self.new ≡ print ∷ [] }
@@ -191,7 +191,7 @@ impl Table {
         link(&mut self.heads, &self.prints, &mut self.links, 0);
     }
 
-    /// Takes all prints back but the oldest.
+    /// Takes back all prints but the oldest.
     fn keep_oldest(&mut self)
         requires { 0 < length self.old }
         ensures { length self.new ≡ 1 }
@@ -202,7 +202,7 @@ impl Table {
     }
 }
 
-/// The key of a print where there are so many heads.
+/// The key of a print in a table with this many heads.
 fn key_of(heads: usize, print: u64) -> usize
     requires { 0 < heads }
     ensures value { result ≡ key_of heads print }
@@ -211,8 +211,8 @@ fn key_of(heads: usize, print: u64) -> usize
     scattered(print) as usize & (heads - 1)
 }
 
-/// A number that depends on all bits of a print, and isn't linear in them: prints are linear in the cells, so moves can
-/// be chosen whose prints have the same low bits, and each look at the table would then go over all of them.
+/// A number that depends on all bits of a print, and isn't linear in them. Prints are linear in the cells, so moves can be chosen
+/// whose prints have the same low bits. If these were the key, each look-up would go over all of them.
 fn scattered(print: u64) -> u64
     ensures { result ≡ scattered print }
 {
@@ -226,14 +226,14 @@ fn folded(number: u64) -> u64
     number ^ (number >> 32)
 }
 
-/// Heads of keys that no print has.
+/// Heads for keys that no print has.
 fn no_heads(alloc: Global, size: usize) -> Result<Vec<u32>, MemoryFault>
     ensures { IfOk result (λ heads. heads.items ≡ replicate size 0) }
 {
     Ok(vec![in alloc; 0; size]?)
 }
 
-/// Links one print more.
+/// Links one more print.
 fn link(heads: &mut [u32], prints: &[u64], links: &mut [u32], index: usize)
     requires some { 0 < length heads.old }
     requires index { index < length prints.now }
@@ -247,7 +247,7 @@ fn link(heads: &mut [u32], prints: &[u64], links: &mut [u32], index: usize)
     heads[key] = (index + 1) as u32;
 }
 
-/// Links all prints, where no key has one yet.
+/// Links all prints; no key has one yet.
 fn link_all(heads: &mut [u32], prints: &[u64], links: &mut [u32])
     requires some { 0 < length heads.old }
     requires none { heads.old ≡ replicate (length heads.old) 0 }

@@ -8,13 +8,15 @@ use crate::stones::Cell;
 pub enum Play {
     /// No stone is played.
     Pass,
-    /// A stone is played on that point.
+    /// A stone is played on this point.
     Stone(Point),
 }
 
-/// One operation of a setup: each point of the area gets the cell's colour, whatever stood there.
+/// One operation of a setup (SGF FF[4]): each point of the area gets the cell, whatever stood there.
 #[derive(Clone, Copy, Debug, PartialEq, Eq)]
 pub struct SetupOp {
+    /// What each point becomes.
     pub cell: Cell,
+    /// The points that change.
     pub area: Rect,
 }

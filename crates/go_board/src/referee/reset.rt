@@ -11,9 +11,10 @@ impl<P: Past> Referee<P> {
     ghost use Rattle.std.specs.Prelude.{◌≡◌, OnOk, OnErr};
     ghost use Rattle.go_board.specs.State.{begun};
 
-    /// Begins another game: the referee is as a new one of that size, whatever the size was before. It takes less time than a new
-    /// one where the past can be begun in place, as a `PrintPast` can, and then no memory. `MemoryFault` comes only where memory was
-    /// refused; then nothing is changed.
+    /// Begins another game. The referee is then like a new one of that size, whatever its size was
+    /// before. `MemoryFault` comes only if memory was refused; then nothing is changed.
+    ///
+    /// If the past can begin anew in place, as a `PrintPast` can, this takes no memory, and less time than a new referee.
     pub fn reset(&mut self, size: Size) -> Result<(), MemoryFault>
         ensures ok { OnOk result (self.new ≡ begun size) }
         ensures err { OnErr result (self.new ≡ self.old) }

@@ -11,10 +11,13 @@ impl<P: Past> Referee<P> {
     ghost use Rattle.go_board.specs.State.{followed_by, set_up, with_area};
     ghost use Rattle.go_board.specs.inner.Earlier.{with_setup};
 
-    /// Sets stones or the player up (SGF FF[4]). With operations, these colour their areas in order, whatever stood
-    /// there; nothing is cleared, the past begins anew, so that a ko doesn't reach back over it, no pass was made last, and the
-    /// player given must move, or with none either may. With no operation, only the player changes. `MemoryFault` comes only where memory was refused;
-    /// then nothing is changed.
+    /// Sets up stones or the player (SGF FF[4]).
+    ///
+    /// - With operations: these colour their areas in order, whatever stood there, and nothing is cleared. The past begins anew,
+    ///   so a ko doesn't reach back over the setup. Passes are 0. The given player must move; if it is None, either may.
+    /// - Without operations: only the player changes. It must be given.
+    ///
+    /// `MemoryFault` comes only if memory was refused; then nothing is changed.
     pub fn setup(&mut self, ops: &[SetupOp], player: Option<Colour>) -> Result<(), MemoryFault>
         requires areas { All (λ op. IsRectOn self.old.present.colouring.side op.area) ops.now }
         requires something { (0 < length ops.now) ⊎ IsSome player }
@@ -29,7 +32,7 @@ impl<P: Past> Referee<P> {
         }
     }
 
-    /// Changes the player who must move, alone.
+    /// Changes only the player who must move.
     fn set_player(&mut self, player: Option<Colour>) -> Result<(), MemoryFault>
         ensures ok { OnOk result (self.new
             ≡ followed_by self.old (record self.old.present { player = player })) }
@@ -41,7 +44,7 @@ impl<P: Past> Referee<P> {
         Ok(())
     }
 
-    /// Colours areas, and begins the past anew with what that makes.
+    /// Colours areas, and begins the past anew with the result.
     fn begin_anew(&mut self, ops: &[SetupOp], player: Option<Colour>) -> Result<(), MemoryFault>
         requires { All (λ op. IsRectOn self.old.present.colouring.side op.area) ops.now }
         ensures ok { OnOk result (self.new ≡ followed_by self.old

@@ -1,4 +1,4 @@
-//! A referee's state kept once more.
+//! Adding a referee's present state once more.
 
 use crate::fault::MemoryFault;
 use crate::past::Past;
@@ -8,8 +8,8 @@ impl<P: Past> Referee<P> {
     ghost use Rattle.std.specs.Prelude.{◌≡◌, OnOk, OnErr};
     ghost use Rattle.go_board.specs.State.{followed_by};
 
-    /// Adds one state more, the same as the present one, so that every node of a line can take one state; `undo` takes it
-    /// back. `MemoryFault` comes only where memory was refused; then nothing is changed.
+    /// Adds a state equal to the present one, so that each node of a line can have a state of its own. `undo` takes it back.
+    /// `MemoryFault` comes only if memory was refused; then nothing is changed.
     pub fn stay(&mut self) -> Result<(), MemoryFault>
         ensures ok { OnOk result (self.new ≡ followed_by self.old self.old.present) }
         ensures err { OnErr result (self.new ≡ self.old) }

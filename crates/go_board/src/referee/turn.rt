@@ -1,5 +1,5 @@
-//! A referee's turns. For positional superko it asks the past whether a stone would make a colouring that was there since
-//! the last setup of stones.
+//! A referee's turns. For positional superko the referee asks the past whether a stone
+//! would make a colouring that was there since the last setup of stones.
 
 use crate::fault::{MemoryFault, TurnFault};
 use crate::past::Past;
@@ -18,8 +18,10 @@ impl<P: Past> Referee<P> {
     ghost use Rattle.go_board.specs.Reason.{reason_of};
     ghost use Rattle.go_board.specs.inner.Earlier.{MayOnlyRepeat};
 
-    /// Takes a player's turn. It is refused with the first reason of `Over`, `Turn`, `Occupied` and `Repeat` that holds,
-    /// without taking memory; else with `Memory`, only where memory was refused. After a refusal nothing is changed.
+    /// Takes a player's turn (Tromp-Taylor). A stone's point must be on the board. After a refusal nothing is changed.
+    ///
+    /// - `Illegal`: the first of `Over`, `Turn`, `Occupied` and `Repeat` that holds. This refusal takes no memory.
+    /// - `Memory`: the turn is allowed, but memory was refused.
     pub fn turn(&mut self, colour: Colour, play: Play) -> Result<(), TurnFault>
         requires { IsPlayOn self.old.present.colouring.side play }
         ensures illegal { (r : Reason) → (IsErrOf result (TurnFault.Illegal r)
@@ -41,7 +43,7 @@ impl<P: Past> Referee<P> {
         Ok(())
     }
 
-    /// The first reason but the last for which a turn isn't allowed.
+    /// The first reason for which a turn isn't allowed, `Repeat` left aside.
     fn reason_before_repeat(&self, colour: Colour, play: Play) -> Option<Reason>
         requires { IsPlayOn self.now.present.colouring.side play }
         ensures known { IfSome result (λ reason. reason_of self.now.present colour play ≡ Some reason) }
@@ -75,7 +77,7 @@ impl<P: Past> Referee<P> {
         Ok(())
     }
 
-    /// Takes the turn of a stone, unless it repeats a colouring. Tells whether the turn was taken.
+    /// Takes the turn of a stone, unless the stone repeats a colouring. Returns whether the turn was taken.
     fn take_stone(&mut self, colour: Colour, point: Point) -> Result<bool, MemoryFault>
         requires on_board { IsOn self.old.present.colouring.side point }
         requires only_repeat { MayOnlyRepeat self.old.present colour (Stone point) }

@@ -4,10 +4,10 @@ ghost use Rattle.std.specs.Prelude.{◌≡◌, ◌<◌, ◌%◌, ◌^◌};
 
 use crate::size::MAX_POINTS;
 
-/// How far the exponents of `HIGH` are apart.
+/// The distance between the exponents of `HIGH`.
 const STEP: usize = 64;
 
-/// The powers of 31 with the exponents 0, 1, 2, and so on.
+/// The powers of 31 with the exponents 0, 1, 2 and so on.
 static LOW: [u64; STEP] = [
     1,
     31,
@@ -75,7 +75,7 @@ static LOW: [u64; STEP] = [
     6_027_936_552_802_386_911,
 ];
 
-/// The powers of 31 with the exponents 0, 64, 128, and so on.
+/// The powers of 31 with the exponents 0, 64, 128 and so on.
 static HIGH: [u64; 43] = [
     1,
     2_398_592_399_778_478_081,
@@ -122,7 +122,7 @@ static HIGH: [u64; 43] = [
     5_221_397_014_904_418_305,
 ];
 
-/// The power of 31 with that exponent, modulo 2^64.
+/// The power of 31 with this exponent, modulo 2^64.
 pub(crate) fn power(exponent: usize) -> u64
     requires { exponent < MAX_POINTS }
     ensures { result ≡ 31 ^ exponent % 2 ^ 64 }
