@@ -25,7 +25,7 @@
 //! | `board` | the board: reading, setting, moves, score |
 //! | `board/stone_rows` | the stones of a board as rows of bits |
 //! | `board/flood`, `board/search` | the flood that counts its steps, and its worklist |
-//! | `board/regions`, `board/fill` | sets of points as rows of bits, and filling them: the score, whether every stone reaches empty |
+//! | `board/regions`, `board/fill` | sets of points as rows of bits; filling them: the score, whether all stones reach empty |
 //! | `board/group`, `board/capture` | the group of a stone, by rows of bits; groups without a liberty taken off one at a time |
 //! | `board/glance` | a glance at the rows around a stone, which usually shows that the stone captures nothing |
 //! | `board/areas`, `board/cells` | colouring areas and emptying sets of points; a board as a list of cells |

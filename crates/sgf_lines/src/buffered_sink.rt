@@ -1,4 +1,4 @@
-//! A sink that holds bytes back, so that few writes are made.
+//! A sink that holds bytes back, so that it makes few writes.
 
 ghost use Rattle.std.specs.Prelude.{◌≡◌, ◌<◌, ◌≤◌, ◌+◌, ◌++◌, [], length, take, drop, vec_len, vec_capacity, IfOk, OnOk};
 ghost use Rattle.std.specs.Io.KnownBytes.{Appends, append_known};
@@ -9,24 +9,25 @@ use crate::sink::{Sink, SinkFault};
 use std::alloc::{AllocError, Global};
 use std::io::Write;
 
-/// How many bytes are held back at most.
+/// The most bytes that are held back.
 const CAPACITY: usize = 65_536;
 
 /// A sink over any writer that holds back up to 65,536 bytes.
 ///
-/// What it holds back is written when there is no room for more, and at a flush, which flushes the writer, too. Bytes that are
-/// longer than all that it can hold are handed to the writer as they are.
-/// A write fails where it was interrupted, and where it wrote 0 bytes, too. After a failure the writer isn't called again, nor when the
-/// sink is dropped: what was held back is lost.
-/// It tells the bytes that it has taken, and those that it has delivered, where the writer tells what it was handed.
+/// It writes what it holds back when there is no room for more, and at a flush, which also
+/// flushes the writer. It passes longer bytes than it can hold straight to the writer. If the
+/// writer reports its bytes, the sink reports those that it has taken and delivered.
+///
+/// An interrupted write, or one of 0 bytes, counts as failed, too. After a failure the writer isn't
+/// called again. Nor is it called when the sink is dropped: what was held back is lost.
 #[derive(Debug, Drop)]
 pub struct BufferedSink<W: Write + Drop> {
     writer: W,
 
-    /// What is held back, after what the writer was handed of it.
+    /// What is held back. After a failure its front was written already.
     buffer: Vec<u8>,
 
-    /// How many bytes at the buffer's front the writer was handed: none until a write failed.
+    /// The number of bytes at the buffer's front that were written; 0 until a write fails.
     handed: usize,
 
     failures: u64,
@@ -36,7 +37,7 @@ pub struct BufferedSink<W: Write + Drop> {
 }
 
 impl<W: Write + Drop> BufferedSink<W> {
-    /// A sink that writes to the writer, which is dropped where there is no memory for the sink.
+    /// A sink that writes to the writer. `AllocError` comes only if memory for the sink was refused; then the writer is dropped.
     pub fn new(alloc: Global, writer: W) -> Result<BufferedSink<W>, AllocError>
         ensures { IfOk result (λ sink. ⟦<BufferedSink<W> as Sink>⟧.state sink
             ≡ record { failures = 0; taken = append_known (W.contents writer) []; delivered = W.contents writer }) }
@@ -50,14 +51,14 @@ impl<W: Write + Drop> BufferedSink<W> {
         })
     }
 
-    /// The writer, with what it was handed. What is held back is lost.
+    /// The writer, with what was written to it. What is held back is lost.
     pub fn into_inner(self) -> W
         ensures { W.contents result ≡ (⟦<BufferedSink<W> as Sink>⟧.state self).delivered }
     {
         self.writer
     }
 
-    /// Takes bytes for which there is room.
+    /// Takes bytes that there is room for.
     fn hold(&mut self, bytes: &[u8])
         requires never_failed { self.old.failures ≡ 0 }
         requires room { vec_len self.old.buffer + length bytes.now ≤ 65536 }
@@ -70,7 +71,7 @@ impl<W: Write + Drop> BufferedSink<W> {
         };
     }
 
-    /// Hands the writer all that is held back.
+    /// Writes all that is held back.
     fn write_out(&mut self) -> Result<(), SinkFault>
         requires never_failed { self.old.failures ≡ 0 }
         ensures out { IsFlush (⟦<BufferedSink<W> as Sink>⟧.state self.old) (⟦<BufferedSink<W> as Sink>⟧.state self.new) result }
@@ -86,7 +87,8 @@ impl<W: Write + Drop> BufferedSink<W> {
         Ok(())
     }
 
-    /// Takes bytes for which there is no room: makes room first, or hands the writer what is longer than all that can be held.
+    /// Takes bytes that there is no room for: makes room first, or writes them
+    /// straight if they are longer than all that can be held.
     #[cold]
     #[inline(never)]
     fn put_without_room(&mut self, bytes: &[u8]) -> Result<usize, SinkFault>
@@ -148,7 +150,7 @@ impl<W: Write + Drop> Sink for BufferedSink<W> {
     }
 }
 
-/// Writes bytes, by one write after another, until all are written or a write fails; answers how many are written.
+/// Writes bytes, with one write after another, until all are written or a write fails. Returns how many were written.
 fn write_whole<W: Write>(bytes: &[u8], writer: &mut W) -> usize
     ensures within { result ≤ length bytes.now }
     ensures bytes { Appends (W.contents writer.old) (W.contents writer.new) (take result bytes.now) }

@@ -1,4 +1,4 @@
-//! How much a collection holds.
+//! Counting what a collection holds.
 
 ghost use Rattle.std.specs.Prelude.{◌≡◌, ◌<◌, ◌+◌, ◌++◌, length, decimal};
 ghost use Rattle.sgf_lines.specs.Lines.{lines};
@@ -26,11 +26,14 @@ pub struct Counts {
     pub lines: u64,
 }
 
-/// Reads a source to its end, and counts what the collection holds that its bytes spell (SGF FF[4], EBNF).
+/// Reads a source to its end, and counts the games, nodes and lines of the collection that its bytes spell (SGF FF[4], EBNF).
 ///
-/// The faults come in this order: `Read` where the source failed, or `TooLong` where it gave too much, whichever comes first;
-/// `NotSgf`.
-/// Where memory was refused `Memory { lines: 0 }` comes in place of an answer or of a fault that wasn't met yet.
+/// The faults come in this order:
+///
+/// 1. `Read` if the source failed, or `TooLong` if it gave too much, whichever comes first.
+/// 2. `NotSgf`.
+///
+/// If memory was refused, `Memory { lines: 0 }` is returned in place of `Ok`, or of a fault that wasn't met yet.
 pub fn count<S: Source>(alloc: Global, source: &mut S) -> Result<Counts, RunFault>
     requires { (S.state source.old).failures < u64.MAX }
     ensures answer { IsCount (S.state source.old) (S.state source.new) result }
@@ -59,7 +62,7 @@ fn counted(collection: &Collection<'_>) -> Counts
     }
 }
 
-/// The number of lines of a collection, each of which ends at a leaf of its own.
+/// The number of lines of a collection. Each ends at a leaf of its own.
 fn line_count(collection: &Collection<'_>) -> u64
     ensures { result ≡ length (lines collection.now) }
 {
@@ -72,11 +75,10 @@ fn line_count(collection: &Collection<'_>) -> u64
     count
 }
 
-/// Writes the counts of games, nodes and lines in decimal digits, with a space between them and a line feed after them, and
-/// flushes the sink.
-/// It takes no memory.
+/// Writes the counts of games, nodes and lines in decimal digits, with a space between them
+/// and a line feed after them. Then flushes the sink. This takes no memory.
 ///
-/// Where the sink failed it answers `Write { lines: 0 }`, and a front of the row was written.
+/// If the sink fails, `Write { lines: 0 }` is returned, and the sink has taken a prefix of the row, perhaps all of it.
 pub fn write_counts<T: Sink>(sink: &mut T, counts: &Counts) -> Result<(), RunFault>
     requires { (T.state sink.old).failures < u64.MAX }
     ensures answer { IsWriting (counts_row counts.now) (T.state sink.old) (T.state sink.new) result }

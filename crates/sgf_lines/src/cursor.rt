@@ -1,4 +1,4 @@
-//! Goes over the lines of play of a collection.
+//! Going over the lines of play of a collection.
 
 ghost use Rattle.std.specs.Prelude.{◌≡◌, ◌+◌, ◌-◌, ◌<◌, ◌≤◌, ◌++◌, None, Some, length, take, vec_len, slice_get, OnOk, OnErr, IfOk, IfErr, IfSome, IfNone, MatchOption};
 ghost use Rattle.std.specs.List.{range_with_len};
@@ -14,16 +14,16 @@ use sgf_tree::{Collection, MemoryFault, NodeRef};
 use std::alloc::Global;
 use std::marker::Model;
 
-/// Goes over the lines of a collection in file order: those of an earlier game, and of an earlier variation, come first.
-/// It is seen as the collection and the index of its next line, from 0.
+/// A cursor over the lines of a collection, in file order: those of an earlier game, and of an earlier variation, come first. It
+/// is seen as the collection and the index of its next line, from 0.
 #[derive(Drop)]
 pub struct Cursor<'c, 'a> {
     collection: &'c Collection<'a>,
 
-    /// The node from which on it looks for the next leaf.
+    /// The node from which on the next leaf is sought.
     next: usize,
 
-    /// The nodes from the root to the leaf before that one; none before the first line.
+    /// The nodes from the root to the leaf before that node; none before the first line.
     path: Vec<usize>,
 }
 
@@ -45,8 +45,7 @@ impl<'c, 'a> Cursor<'c, 'a> {
     ghost use Rattle.sgf_lines.specs.Cursor.{GivesLine, LeavesCursor, IsAfterPlace, IsSeekFault};
     ghost use Rattle.sgf_lines.specs.Lending.{OnceReturned};
 
-    /// A cursor before the first line.
-    /// It takes no memory.
+    /// A cursor before the first line. This takes no memory.
     pub fn new(alloc: Global, collection: &'c Collection<'a>) -> Cursor<'c, 'a>
         ensures { result ≡ record { games = collection.now; index = 0 } }
     {
@@ -57,8 +56,8 @@ impl<'c, 'a> Cursor<'c, 'a> {
         }
     }
 
-    /// The next line; after the last one None, again and again.
-    /// After a refusal of memory the cursor is unchanged.
+    /// Goes on by one line, and returns it. After the last line it returns None, however often it is called.
+    /// `MemoryFault` comes only if memory was refused; then the cursor is unchanged.
     pub fn next<'l>(&'l mut self) -> Result<Option<LineRef<'l>>, MemoryFault>
         ensures* goes_on { sem 𝓛 (OnceReturned self.entry (LeavesCursor self.entry.now result)) }
         ensures line { IfOk result (GivesLine self.old) }
@@ -69,11 +68,10 @@ impl<'c, 'a> Cursor<'c, 'a> {
         }
     }
 
-    /// Goes directly after the line with this place, the offset of the `;` of its last node, from wherever it
-    /// stood.
+    /// Goes directly after the line with this place, from wherever the cursor stood. A
+    /// line's place is the offset in bytes, from 0, of the `;` of its last node.
     ///
-    /// `NoSuchLine` comes exactly where no line has that place, unless memory was refused.
-    /// After a refusal the cursor is unchanged.
+    /// `NoSuchLine` comes exactly if no line has that place, unless memory was refused. After a refusal the cursor is unchanged.
     pub fn seek_after(&mut self, place: u64) -> Result<(), SeekFault>
         ensures sought { OnOk result (IsAfterPlace place self.old self.new) }
         ensures why { IfErr result (IsSeekFault self.old.games place) }
@@ -87,8 +85,8 @@ impl<'c, 'a> Cursor<'c, 'a> {
         Ok(())
     }
 
-    /// Goes on by one line, and answers how many nodes of the line before it this one shares; None where no line is left.
-    /// After a refusal of memory the cursor is unchanged.
+    /// Goes on by one line, and returns how many nodes this line shares with the line before it;
+    /// None if no line is left. After a refusal of memory the cursor is unchanged.
     pub(crate) fn advance(&mut self) -> Result<Option<usize>, MemoryFault>
         ensures moved { IfOk result (λ shared. MatchOption shared (self.new ≡ self.old) (λ _. self.new ≡ advanced self.old)) }
         ensures none_left { IfOk result (λ shared. IfNone shared (slice_get (lines self.old.games) self.old.index ≡ None)) }
@@ -104,14 +102,14 @@ impl<'c, 'a> Cursor<'c, 'a> {
         Ok(Some(shared))
     }
 
-    /// The collection that it goes over.
+    /// The collection that the cursor goes over.
     pub(crate) fn collection(&self) -> &'c Collection<'a>
         ensures { result.now ≡ self.now.games }
     {
         self.collection
     }
 
-    /// How many nodes the line before the cursor has; none before the first line.
+    /// The number of nodes of the line before the cursor; 0 before the first line.
     pub(crate) fn len(&self) -> usize
         ensures nodes { result ≡ length (nodes_before self.now) }
         ensures short { result ≤ node_count self.now.games }
@@ -120,7 +118,7 @@ impl<'c, 'a> Cursor<'c, 'a> {
         self.path.len()
     }
 
-    /// A node of the line before the cursor, by its index from 0; the root comes first.
+    /// A node of the line before the cursor, by its index from 0. The root comes first.
     pub(crate) fn node(&self, index: usize) -> NodeRef<'_, 'a>
         requires { index < length (nodes_before self.now) }
         ensures { slice_get (nodes_before self.now) index ≡ Some result }
@@ -149,7 +147,7 @@ impl<'c, 'a> Cursor<'c, 'a> {
     }
 }
 
-/// The leaf to which the nodes from `from` on lead down, one after the other.
+/// The first leaf from the node `from` on; None if there is none.
 fn next_leaf(collection: &Collection<'_>, from: usize) -> Option<usize>
     ensures first { IsLeafSearch collection.now from result }
     ensures small { IfSome result (λ leaf. leaf < usize.MAX) }
@@ -162,7 +160,7 @@ fn next_leaf(collection: &Collection<'_>, from: usize) -> Option<usize>
     None
 }
 
-/// How many nodes at the front of a path lead to a node, which is looked for from the path's end; 0 where there is none.
+/// The number of nodes of a path up to and including `parent`, which is sought from the path's end; 0 if there is no parent.
 fn cut_back(path: &[usize], parent: Option<usize>) -> usize
     ensures { IsCutBack path.now parent result }
 {
@@ -179,8 +177,8 @@ fn cut_back(path: &[usize], parent: Option<usize>) -> usize
     kept
 }
 
-/// Cuts a path back to its first `kept` nodes, and appends the nodes from `first` to `leaf`.
-/// After a refusal of memory the path is unchanged.
+/// Cuts a path back to its first `kept` nodes, and appends the nodes from
+/// `first` to `leaf`. After a refusal of memory the path is unchanged.
 fn go_down(path: &mut Vec<usize>, kept: usize, first: usize, leaf: usize) -> Result<(), MemoryFault>
     requires within { kept ≤ vec_len path.old }
     requires before { kept ≤ first }

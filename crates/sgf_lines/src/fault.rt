@@ -1,4 +1,4 @@
-//! The ways in which a run may fail.
+//! How a run may fail.
 
 ghost use Rattle.std.specs.Prelude.{◌≡◌};
 
@@ -19,9 +19,9 @@ pub enum RunFault {
     #[error("input is longer than {MAX_LENGTH} bytes")]
     TooLong,
 
-    /// No collection is spelled by what the source gave, which is `len` bytes (SGF FF[4], EBNF).
-    /// Its first `at` bytes begin some text of the grammar, and no more of them do.
-    /// So where `at` is `len`, the input ends too early.
+    /// What the source gave, `len` bytes, spells no collection (SGF FF[4], EBNF).
+    /// Its first `at` bytes begin some text of the grammar, and no more of
+    /// them do. So if `at` is `len`, the input ends too early.
     /// Nothing was written.
     #[error("byte {at}: not SGF")]
     NotSgf { at: usize, len: usize },
@@ -32,12 +32,12 @@ pub enum RunFault {
     NoSuchLine { place: u64 },
 
     /// The sink failed, at a put or at the flush.
-    /// It has taken the records of the first `lines` lines whole, and less than the whole of the next.
+    /// It has taken the records of the first `lines` lines whole, and less than the whole of the next, if there is one.
     #[error("write failed")]
     Write { lines: u64 },
 
-    /// More memory was wanted and refused.
-    /// The sink has taken exactly the records of the first `lines` lines, and was not flushed.
+    /// Memory was refused.
+    /// The sink has taken exactly the records of the first `lines` lines, and wasn't flushed.
     #[error("out of memory")]
     Memory { lines: u64 },
 }
@@ -56,7 +56,7 @@ impl From<AllocError> for RunFault {
 impl RunFault {
     ghost use Rattle.sgf_lines.specs.inner.Running.{unread};
 
-    /// Why a text of so many bytes wasn't read.
+    /// Why a text of `len` bytes wasn't read.
     pub(crate) fn unread(fault: ReadFault, len: usize) -> RunFault
         ensures { result ≡ unread fault len }
     {

@@ -1,4 +1,4 @@
-//! The forms in which a line is written, and what they keep of a line's text for the next one.
+//! The forms in which a line is written, and what they keep of a line's text for the next line.
 //!
 //! | Module | What it has |
 //! |---|---|

@@ -1,4 +1,4 @@
-//! What a referee says of a line of play, node after node.
+//! Judging a line of play with a referee, node after node.
 
 pub(crate) mod contents;
 pub(crate) mod judge;

@@ -1,4 +1,4 @@
-//! Laws of the definitions. A function here does nothing: what it ensures is a law that is proved.
+//! Laws of the definitions. A function here does nothing: its contract is a law, and is proved.
 
 ghost use Rattle.std.specs.Prelude.{◌≡◌, ◌≢◌, ◌≤◌, ◌∷◌, ◌++◌, ◌+◌, ◌⊎◌, ℕ, Err, false, List, [], Some, map, length};
 ghost use Rattle.std.specs.List.{AllZip, flat_map};
@@ -26,8 +26,8 @@ ghost use Rattle.sgf_lines.specs.Walk.{walk, IsAfter, HasIllegal};
 ghost use Rattle.sgf_lines.specs.Script.{has_no_commands, script};
 ghost use Rattle.sgf_lines.specs.Replay.{shows, replayed};
 
-/// The places of the lines of a collection that some text spells rise strictly.
-/// So no line comes twice, and each is known by its place.
+/// If some text spells a collection, the places of its lines rise strictly.
+/// So no line comes twice, and its place identifies a line.
 pub fn rise()
     ensures { (games : Games) (text : List ℕ) → Spells games text → IsStrictlyIncreasing (map place_of (lines games)) }
 {
@@ -39,17 +39,17 @@ pub fn named()
     ensures { (games : Games) → AllZip (IsPathOf games) (lines games) (paths games) }
 {}
 
-/// The sgf output of a page with a line is a text of the grammar, and its whole sgf output is the same bytes.
-/// So splitting an output again gives it again, if it is not longer than `MAX_LENGTH`.
+/// The sgf output of a page with at least one line is a text of the grammar. The whole sgf output of that text is the same bytes.
+/// So splitting an output again returns the same output, if it isn't longer than `MAX_LENGTH`.
 pub fn again()
     ensures { (games : Games) (text : List ℕ) → Spells games text → (options : Options) (asked : List Line)
         → page options games ≡ Some asked → asked ≢ []
         → (again : Games) × Spells again (output sgf_form asked) × (output sgf_form (lines again) ≡ output sgf_form asked) }
 {}
 
-/// Splitting doesn't change what the referee says. The lines of the sgf output of a page are the lines of the page in order, with
-/// the same nodes at other places and the same verdicts: an illegal node is named by its place in the output.
-/// So a library may be split first and judged later.
+/// Splitting doesn't change what the referee says. The lines of the sgf output of a page are the lines of
+/// the page in order, with the same nodes at other places and the same verdicts. An illegal node is named
+/// by its place in the output. So a library may be split first and judged later.
 pub fn kept()
     ensures { (games others : Games) (text : List ℕ) → Spells games text → (options : Options) (asked : List Line)
         → page options games ≡ Some asked → asked ≢ [] → Spells others (output sgf_form asked)
@@ -58,10 +58,10 @@ pub fn kept()
     sgf_tree::laws::one();
 }
 
-/// One text after another, in list form: where each spells games, and the second doesn't begin with a byte order mark, the two
-/// joined spell the games of both, and their rows are those of the first text, and then those of the second with its places
-/// raised by the first text's length, and the numbers of its games by the number of the first text's.
-/// So a database that grows at its end leaves all earlier rows as they were.
+/// One text after another, in list form. Let each of two texts spell games, and let the second not begin with a byte order mark.
+/// Then the two joined spell the games of both. Their rows are those of the first text, and then those of the second. In these,
+/// places are raised by the length of the first text, and game numbers by its number of games.
+/// So a database that grows at its end leaves all earlier rows unchanged.
 pub fn append()
     ensures spelled { (games others : Games) (text later : List ℕ) → Spells games text → Spells others later
         → ¬ BeginsWithByteOrderMark later → Spells (joined games (raised (length text) others)) (text ++ later) }
@@ -74,8 +74,8 @@ pub fn append()
     sgf_tree::laws::append();
 }
 
-/// The places that the lines of a collection touch are the places of all its nodes, in file order.
-/// On no page are more nodes judged than its lines touch, and no more than there are, so no run plays more.
+/// The places that the lines of a collection touch are the places of all its nodes, in file order. No page has more judged nodes
+/// than its lines touch, or than there are nodes. So no run plays more.
 pub fn touched()
     ensures places { (games : Games) (text : List ℕ) → Spells games text
         → touched_places (lines games) ≡ node_places games }
@@ -86,9 +86,9 @@ pub fn touched()
     sgf_tree::laws::places_rise();
 }
 
-/// A page with a limit, and the page of all lines after its last line, join to the page without the limit, for a collection
-/// that some text spells.
-/// So runs of one line or more, each begun after the last place of the one before, give the whole output.
+/// For a collection that some text spells: a page with a limit, and the page of
+/// all lines after its last line, join to the page without the limit.
+/// So runs of at least one line, each begun after the last place of the run before, make the whole output.
 pub fn pages()
     ensures { (games : Games) (text : List ℕ) → Spells games text → (options : Options) (front : List Line) (last : Line)
         → page options games ≡ Some (front ++ last ∷ []) → (rest : List Line)
@@ -98,9 +98,9 @@ pub fn pages()
     sgf_tree::laws::places_rise();
 }
 
-/// A script that has commands, read from its bytes and followed from the top by an engine that begins with no board: it sets the
-/// size, it clears the board before the first stone, no stone is played on a point that isn't empty, and the last board is the
-/// colouring of the judged line after the nodes before its first illegal one, or after all of them.
+/// A script with commands, read from its bytes and followed from the top by an engine that begins without a board. It sets the
+/// size, and clears the board before the first stone. It plays no stone on a point that isn't empty. The last board is the
+/// colouring of the judged line after the nodes before its first illegal one, or after all nodes.
 /// So an engine that plays stones by the same rules shows the position that was judged.
 pub fn replay()
     ensures { (line : Line) (side : ℕ) → game_kind (root_properties line.nodes) ≡ board side
@@ -115,10 +115,10 @@ pub fn replay()
     go_board::laws::unreaching();
 }
 
-/// What the verdict of a line is, on a board of a side, from the state in which a game begins.
-/// Where the step of each node is taken, it is the score of the state after them.
-/// Else it names the first node whose step is refused, in the state after the nodes before it: with that node's place,
-/// its reason, and the turns made before it plus 1. Each list of nodes is of one of these two kinds.
+/// The verdict of a line on a board of a given side, from the state in which a game begins. If each node's step is
+/// taken, the verdict is the score of the state after all of them. Else it names the first node whose step is
+/// refused, in the state after the nodes before it. It then has that node's place and its reason, and the number of
+/// turns made before the node plus 1. Every list of nodes is of exactly one of these two kinds.
 pub fn judged()
     ensures scored { (side : ℕ) (nodes : List Node) (state : State) → IsAfter (starting side) nodes state
         → verdict_by (board side) nodes ≡ score_in state }

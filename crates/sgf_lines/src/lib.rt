@@ -1,8 +1,8 @@
 //! The lines of play of a Smart Game Format (SGF FF[4]) collection, from the root of a game to a leaf.
 //!
-//! A [`Cursor`] gives the lines one by one, in file order, over a collection that was read once. [`judge`] tells of a line
-//! its first illegal turn, or the area score at its end (Tromp-Taylor). [`split`] writes each line as a record, a text of
-//! its own.
+//! A [`Cursor`] returns the lines one by one, in file order, over a collection that was read once.
+//! [`judge`] returns the verdict of a line: its first illegal turn, or the area score at its end
+//! (Tromp-Taylor). [`split`] writes each line as a record, a text of its own.
 //!
 //! ```text
 //! let collection = sgf_tree::read(alloc, text)?;
@@ -12,7 +12,7 @@
 //! }
 //! ```
 //!
-//! The loop ends, as each turn leaves one line less (`lines_in_memory` has it whole, with its proof):
+//! The loop ends because each turn leaves one line fewer. (`lines_in_memory` has the whole loop, with its proof.)
 //!
 //! ```text
 //! decreases-lines l = length (lines l.cursor.games) - l.cursor.index
@@ -20,20 +20,20 @@
 //!
 //! | Module | What it has |
 //! |---|---|
-//! | `line`, `cursor`, `seek` | what is shown of a line; going over the lines of a collection; looking for the line with a place |
-//! | `options`, `fault` | what a run is asked for; the ways in which it may fail |
-//! | `verdict`, `judging` | what a referee says of a line; judging lines: |
+//! | `line`, `cursor`, `seek` | what is shown of a line; going over the lines of a collection; seeking the line with a place |
+//! | `options`, `fault` | what a run is asked for; how it may fail |
+//! | `verdict`, `judging` | the verdict of a line; judging lines: |
 //! | `judging/one_line`, `judging/judge` | one line; a judge that goes along the nodes of a line, and back |
 //! | `judging/root`, `judging/contents`, `judging/step` | the board of a root's game; what a node holds; playing a node |
 //! | `node_values` | what the values of a node say |
 //! | `form` | the forms in which a line is written, and what lines share of a text |
-//! | `source`, `sink`, `buffered_sink` | the ends of a run |
-//! | `run`, `writing` | splitting what a source gives into records, which a sink takes, and what a run holds from line to line; putting bytes |
+//! | `source`, `sink`, `buffered_sink` | what a run reads from and writes to |
+//! | `run`, `writing` | splitting what a source gives into records, and what a run holds from line to line; putting bytes |
 //! | `plays` | the count of nodes played |
 //! | `counting` | the games, nodes and lines of what a source gives |
 //! | `laws` | what follows from the definitions |
 //!
-//! What a run writes is tried on the program (`tests/`), the other calls by the crate `sgf_lines_tests`.
+//! The tests of the program (`tests/`) cover what a run writes. The crate `sgf_lines_tests` covers the other calls.
 #![tactic(auto)]
 
 mod buffered_sink;

@@ -9,7 +9,7 @@ use go_board::{Colour, Play, Size, point};
 /// The greatest side of a board on which `tt` is a pass.
 const MAX_LETTER_PASS_SIDE: u8 = 19;
 
-/// The play of a move: a pass, or a stone on a point of the board. None for every other raw value.
+/// The play of a move: a pass, or a stone on a point of the board. None for any other raw value.
 pub(crate) fn move_value(raw: &[u8], size: Size) -> Option<Play>
     ensures value { result ≡ move_value_rule raw.now size }
     ensures on_board { IfSome result (IsPlayOn size) }
@@ -23,14 +23,14 @@ pub(crate) fn move_value(raw: &[u8], size: Size) -> Option<Play>
     }
 }
 
-/// Whether a raw value is a pass: it is empty, or `tt` where the side is 19 at most.
+/// Whether a raw value is a pass: it is empty, or it is `tt` on a side of 19 or less.
 fn is_pass(raw: &[u8], size: Size) -> bool
     ensures { result ≡ is_pass_rule raw.now size }
 {
     raw.is_empty() || (raw == b"tt".as_slice() && size.side() <= MAX_LETTER_PASS_SIDE)
 }
 
-/// The player that a colour names: `B` or `W`, and nothing else.
+/// The player that a colour value names, `B` or `W`; None for any other value.
 pub(crate) fn player_value(raw: &[u8]) -> Option<Colour>
     ensures { result ≡ player_value_rule raw.now }
 {

@@ -16,8 +16,9 @@ pub enum Form {
 pub struct Options {
     /// How each line is written.
     pub form: Form,
-    /// Only the lines that follow the line with this place, the offset of the `;` of its last node; none: all lines.
+    /// Keeps only the lines that follow the line with this place; None keeps all. A
+    /// line's place is the offset in bytes, from 0, of the `;` of its last node.
     pub after: Option<u64>,
-    /// At most so many lines, the first ones of those; none: no limit.
+    /// Keeps at most this many of those lines, the first ones; None keeps all.
     pub limit: Option<u64>,
 }

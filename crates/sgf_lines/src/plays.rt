@@ -1,11 +1,10 @@
-//! How many nodes were played.
+//! The number of nodes that were played.
 
 ghost use Rattle.std.specs.Prelude.{◌≡◌, ◌≤◌, ◌+◌};
 
 use std::marker::Model;
 
-/// The number of nodes that runs have played.
-/// A node is played when its step is worked out, whatever it holds.
+/// The number of nodes that runs have played. A node is played when its step is worked out, whatever it holds.
 #[derive(Drop)]
 pub struct Plays {
     count: u64,
@@ -23,21 +22,21 @@ impl Model for Plays {
 }
 
 impl Plays {
-    /// No node yet.
+    /// The number 0.
     pub fn new() -> Plays
         ensures { result ≡ 0 }
     {
         Plays { count: 0 }
     }
 
-    /// How many nodes were played.
+    /// The number of nodes that were played.
     pub fn count(&self) -> u64
         ensures { result ≡ self.now }
     {
         self.count
     }
 
-    /// So many nodes more were played.
+    /// Adds this many played nodes.
     pub(crate) fn add(&mut self, count: u64)
         requires { self.old + count ≤ u64.MAX }
         ensures { self.new ≡ self.old + count }

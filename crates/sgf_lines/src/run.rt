@@ -32,20 +32,24 @@ use crate::writing::put_all;
 use sgf_tree::{Collection, MAX_LENGTH, MemoryFault, read};
 use std::alloc::Global;
 
-/// How many bytes a source is asked for at once.
+/// The number of bytes that a source is asked for at once.
 const CHUNK: usize = 65_536;
 
-/// Reads a source to its end, and writes the records of the lines of the collection that its bytes spell (SGF FF[4], EBNF).
-/// The answer is the number of lines that were written.
+/// Reads a source to its end, and writes the records of the lines of the collection that
+/// its bytes spell (SGF FF[4], EBNF). Returns the number of lines written.
 ///
-/// The lines are those that follow the line with the place `options.after`, or all, and of these the first
-/// `options.limit`, or all; each is written in the form `options.form`, an earlier one first.
-/// A record is built whole before the first of its bytes is put.
-/// After `Ok` the sink was flushed once, after the last record, or where there is none.
+/// The lines are those that follow the line with the place `options.after`, or all. Of these the first `options.limit` are
+/// written, or all. Each is written in the form `options.form`, in file order. A record is built whole before its first byte is
+/// put. After `Ok` the sink was flushed once, after the last record, even if there was no record.
 ///
-/// The faults come in this order: `Read` where the source failed, or `TooLong` where it gave too much, whichever comes first;
-/// `NotSgf`; `NoSuchLine`; `Write` where the sink failed.
-/// Where memory was refused `Memory` comes in place of an answer or of a fault that wasn't met yet.
+/// The faults come in this order:
+///
+/// 1. `Read` if the source failed, or `TooLong` if it gave too much, whichever comes first.
+/// 2. `NotSgf`.
+/// 3. `NoSuchLine`.
+/// 4. `Write` if the sink failed.
+///
+/// If memory was refused, `Memory` is returned in place of `Ok`, or of a fault that wasn't met yet.
 pub fn split<S: Source, T: Sink>(
     alloc: Global,
     source: &mut S,
@@ -65,13 +69,14 @@ pub fn split<S: Source, T: Sink>(
     split_counted(alloc, source, sink, options, &mut plays)
 }
 
-/// Splits as `split` does, with the same answers, and adds to `plays` the number of nodes that it played.
-/// A node is played when its step is worked out, and not again for another line that shares it.
+/// Splits as `split` does, with the same results, and adds to `plays` the number of nodes that it played. A node is played when
+/// its step is worked out, and not again for another line that shares it. `plays` must have room for `MAX_LENGTH` more.
 ///
-/// After Ok the number is that of the different nodes that are judged on the lines written. Of a line these are all nodes, or
-/// those up to the first that isn't allowed, that one among them; or none, where the line's game isn't judged.
-/// After `Write` or `Memory` it is at least that of the first `lines` lines, and at most that of these and the next one.
-/// After each other fault it is 0, and so it is in the form `Form::Sgf`, which has no verdict.
+/// After `Ok` the number is that of the different nodes that are judged on the lines written. On a line these are all nodes, or
+/// those up to the first that isn't allowed, that one included. If the line's game isn't judged, they are none.
+///
+/// After `Write` or `Memory` the number is at least that for the first `lines` lines, and at most that for these and the next
+/// one. After any other fault it is 0. In the form `Form::Sgf`, which has no verdict, it is always 0.
 pub fn split_counted<S: Source, T: Sink>(
     alloc: Global,
     source: &mut S,
@@ -133,7 +138,7 @@ pub(crate) fn read_all<S: Source>(source: &mut S, text: &mut Vec<u8>) -> Result<
     }
 }
 
-/// A cursor after the line with a place, where one is asked for, else before the first line.
+/// A cursor after the line with the place that is asked for; before the first line if none is.
 fn cursor_after<'c, 'a>(
     alloc: Global,
     collection: &'c Collection<'a>,
@@ -144,7 +149,7 @@ fn cursor_after<'c, 'a>(
     ensures no_read { read_failures result ≡ 0 }
     ensures no_write { write_failures result ≡ 0 }
 {
-    // Places rise, so one line at most has the place.
+    // Places rise, so at most one line has the place.
     rise();
     let mut cursor = Cursor::new(alloc, collection);
     let Some(place) = after else {
@@ -164,19 +169,20 @@ pub(crate) struct Run<'c, 'a> {
 
     form: Form,
 
-    /// How many nodes of the line before the cursor are held: all, or none before the first line and after a refusal of memory.
+    /// How many nodes of the line before the cursor are held: all. None are
+    /// held before the first line and after a refusal of memory.
     held: usize,
 
-    /// How that line stands judged, in the forms that judge.
+    /// The judgement on that line, in the forms that judge.
     judge: Judge,
 
-    /// Its text as a game, in sgf form.
+    /// Its text as a game, in the sgf form.
     game: Pieces,
 
-    /// Its commands, in gtp form.
+    /// Its commands, in the gtp form.
     script: Script,
 
-    /// What stands first in its record, in the forms that judge.
+    /// What comes first in its record, in the forms that judge.
     head: Vec<u8>,
 }
 
@@ -198,8 +204,8 @@ impl<'c, 'a> Run<'c, 'a> {
         }
     }
 
-    /// Writes the records of the lines after the cursor, at most so many, and flushes the sink.
-    /// The answer is the number of lines that were written.
+    /// Writes the records of the lines after the cursor, at most `limit`, and
+    /// flushes the sink. Returns the number of lines written.
     fn write<T: Sink>(&mut self, limit: u64, sink: &mut T) -> Result<u64, RunFault>
         requires fresh { IsFresh self.old }
         requires countable { (T.state sink.old).failures < u64.MAX }
@@ -221,7 +227,7 @@ impl<'c, 'a> Run<'c, 'a> {
         }
     }
 
-    /// Writes those records.
+    /// Writes those records, without the flush.
     fn write_lines<T: Sink>(&mut self, limit: u64, sink: &mut T) -> Result<u64, RunFault>
         requires fresh { IsFresh self.old }
         requires countable { (T.state sink.old).failures < u64.MAX }
@@ -232,7 +238,7 @@ impl<'c, 'a> Run<'c, 'a> {
         ensures failures { (T.state sink.new).failures
             ≡ (T.state sink.old).failures + write_failures result }
     {
-        // Places rise, and nodes aren't more than bytes.
+        // Places rise, and there are no more nodes than bytes.
         let _nodes = self.cursor.collection().nodes();
         let mut lines = 0u64;
         'page: while lines < limit {
@@ -249,7 +255,7 @@ impl<'c, 'a> Run<'c, 'a> {
         Ok(lines)
     }
 
-    /// Goes on by one line, and makes its record; false where no line is left.
+    /// Goes on by one line, and makes its record; false if no line is left.
     fn next(&mut self) -> Result<bool, MemoryFault>
         requires holds { Holds self.old }
         requires countable { self.old.judge.plays + node_count self.old.cursor.games < u64.MAX }
@@ -272,14 +278,14 @@ impl<'c, 'a> Run<'c, 'a> {
         Ok(true)
     }
 
-    /// How many nodes are held of a line that shares so many with the one before it: none before the first line.
+    /// How many nodes are held of a line that shares this many with the line before it; 0 if none of that line are held.
     fn still_held(&self, shared: usize) -> usize
         ensures { StillHeld self.now.held shared result }
     {
         if self.held > 0 { shared } else { 0 }
     }
 
-    /// Makes the record of the line before the cursor, of whose nodes the first `held` are held.
+    /// Makes the record of the line before the cursor. The first `held` of its nodes are held.
     fn make(&mut self, held: usize) -> Result<(), MemoryFault>
         requires some_node { 0 < length (nodes_before self.old.cursor) }
         requires some_line { 0 < self.old.cursor.index }
@@ -310,7 +316,7 @@ impl<'c, 'a> Run<'c, 'a> {
         }
     }
 
-    /// Puts the record that was made last. What its form doesn't use is empty.
+    /// Puts the record that was made last. The parts that its form doesn't use are empty.
     fn put<T: Sink>(&self, sink: &mut T) -> Result<(), SinkFault>
         requires countable { (T.state sink.old).failures < u64.MAX }
         ensures { PutsAll (T.state sink.old) (T.state sink.new) (record_in self.now) result }

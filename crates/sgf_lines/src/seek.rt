@@ -1,4 +1,4 @@
-//! Looks for the leaf at which a line with a given place ends, and writes the path to it.
+//! Seeking the leaf at which the line with a given place ends, and writing the path to it.
 
 ghost use Rattle.std.specs.Prelude.{◌≡◌, ◌+◌, ◌<◌, ◌≤◌, Some, List, ℕ, length, IfSome, OnOk, OnErr};
 ghost use Rattle.sgf_tree.specs.Tree.{node_count};
@@ -9,15 +9,14 @@ ghost use Rattle.sgf_lines.specs.inner.Seeking.{IsLeafAt, AllBefore, GoesOnFrom}
 use sgf_tree::{Collection, MemoryFault};
 use thiserror::Error;
 
-/// Why a cursor was not put after a line.
-/// It is unchanged then.
+/// Why a cursor wasn't put after a line. The cursor is unchanged then.
 #[derive(Clone, Copy, Debug, PartialEq, Eq, Error)]
 pub enum SeekFault {
-    /// No line has this place: none ends at the node whose `;` has this offset, or no node has it.
+    /// No line has this place: no node has it, or the node with it isn't a leaf.
     #[error("no line ends at {place}")]
     NoSuchLine { place: u64 },
 
-    /// More memory was wanted and refused.
+    /// Memory was refused.
     #[error("out of memory")]
     Memory,
 }
@@ -32,8 +31,7 @@ impl From<MemoryFault> for SeekFault {
     }
 }
 
-/// The leaf with this place, if there is one.
-/// A node that ends before it is jumped over, with all that is below that node.
+/// The leaf with this place, if there is one. A node and all nodes below it are skipped if the last of them is before the place.
 pub(crate) fn leaf_at(collection: &Collection<'_>, place: u64) -> Option<usize>
     ensures leaf { IsLeafAt collection.now place result }
     ensures small { IfSome result (λ leaf. leaf < usize.MAX) }
@@ -52,8 +50,8 @@ pub(crate) fn leaf_at(collection: &Collection<'_>, place: u64) -> Option<usize>
     None
 }
 
-/// The node to look at after a node that stands before the place: the first one below it, or the first one after all that
-/// is below it where that ends before the place.
+/// The node to look at after a node that is before the place. It is the next node; or the first
+/// one after all nodes below this one, if the last of these is before the place, too.
 fn go_on_from(collection: &Collection<'_>, node: usize, place: u64) -> usize
     requires within { node < node_count collection.now }
     requires small { node_count collection.now ≤ usize.MAX }
@@ -69,8 +67,7 @@ fn go_on_from(collection: &Collection<'_>, node: usize, place: u64) -> usize
     }
 }
 
-/// Replaces the numbers in `path` by those of the nodes from the root to a leaf.
-/// After a refusal of memory `path` is unchanged.
+/// Replaces the numbers in `path` by those of the nodes from the root to a leaf. After a refusal of memory `path` is unchanged.
 pub(crate) fn write_path(
     collection: &Collection<'_>,
     leaf: usize,
@@ -103,7 +100,7 @@ fn path_length(collection: &Collection<'_>, leaf: usize) -> usize
     length
 }
 
-/// Writes the numbers of the nodes from the root to a leaf, of which there are as many as `path` has room for.
+/// Writes the numbers of the nodes from the root to a leaf. `path` must have room for exactly these.
 fn fill_path(collection: &Collection<'_>, leaf: usize, path: &mut [usize])
     requires within { leaf < node_count collection.now }
     requires is_leaf { IsLeaf collection.now leaf }

@@ -12,24 +12,24 @@ use thiserror::Error;
 #[error("the sink failed")]
 pub struct SinkFault;
 
-/// Takes bytes, in order, and hands them on.
+/// Takes bytes in order, and passes them on.
 ///
-/// A failure is final: a sink that has failed once fails again whatever it is asked, and hands nothing more on.
+/// A failure is final: a sink that has failed once fails at every later call, and passes nothing more on.
 pub trait Sink {
-    /// How often it has failed, the bytes that it has taken, and of these the front that it has delivered.
+    /// How often it has failed, the bytes that it has taken, and the prefix of these that it has delivered.
     ghost state: { Self → SinkState };
 
-    /// Takes bytes at the front of `bytes`, and answers how many; that is at least one.
+    /// Takes bytes from the front of `bytes`, which must not be empty. Returns how many it took, at least one.
     ///
-    /// Where it fails it takes nothing, and its count of failures rises by one.
+    /// If the sink fails, it takes nothing, and its count of failures rises by one.
     fn put(&mut self, bytes: &[u8]) -> Result<usize, SinkFault>
         requires some { 0 < length bytes.now }
         requires countable { (state self.old).failures < u64.MAX }
         ensures { IsPut (state self.old) (state self.new) bytes.now result };
 
-    /// Delivers all that it has taken; it takes nothing.
+    /// Delivers all that it has taken. It takes nothing.
     ///
-    /// Where it fails, its count of failures rises by one, and what it held back may be delivered in part.
+    /// If the sink fails, its count of failures rises by one, and what it held back may be delivered in part.
     fn flush(&mut self) -> Result<(), SinkFault>
         requires countable { (state self.old).failures < u64.MAX }
         ensures { IsFlush (state self.old) (state self.new) result };
@@ -38,14 +38,14 @@ pub trait Sink {
     fn failures(&self) -> u64
         ensures { result ≡ (state self.now).failures };
 
-    /// What is delivered is a front of what is taken.
+    /// What is delivered is a prefix of what is taken.
     ghost delivers_front: { (sink : Self) → DeliversFront (state sink) };
 }
 
-/// A sink over any writer, which may be a `&mut Vec<u8>`.
-/// It holds nothing back itself: what it takes is handed on to the writer. Its flush flushes the writer.
-/// A write fails where it was interrupted, and where it wrote 0 bytes, too. After a failure the writer isn't called again.
-/// It tells the bytes that it has taken where the writer does.
+/// A sink over any writer, which may be a `&mut Vec<u8>`. It reports the bytes that it has taken if the writer does.
+///
+/// It holds nothing back: what it takes is passed on to the writer. Its flush flushes the writer. An interrupted write, or one of
+/// 0 bytes, counts as failed, too. After a failure the writer isn't called again.
 #[derive(Debug, Drop)]
 pub struct WriteSink<W: Write + Drop> {
     writer: W,
@@ -108,7 +108,7 @@ impl<W: Write + Drop> Sink for WriteSink<W> {
     }
 }
 
-/// A sink over an array, which takes no memory, holds nothing back, and fails where the array is full.
+/// A sink over an array. It takes no memory, holds nothing back, and fails once the array is full.
 #[derive(Debug, Drop)]
 pub struct ArraySink<const N: usize> {
     bytes: [u8; N],
@@ -130,7 +130,7 @@ impl<const N: usize> ArraySink<N> {
         }
     }
 
-    /// The bytes that it has taken.
+    /// The bytes taken so far.
     pub fn as_slice(&self) -> &[u8]
         ensures { Some result.now ≡ (⟦<ArraySink<N> as Sink>⟧.state self.now).taken }
     {

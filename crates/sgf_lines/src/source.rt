@@ -11,17 +11,17 @@ use thiserror::Error;
 #[error("the source failed")]
 pub struct SourceFault;
 
-/// Gives bytes, in order, up to an end.
+/// Gives bytes in order, up to an end.
 ///
 /// A failure is final: a source that has failed once fails again.
 pub trait Source {
-    /// How often it has failed, the bytes that it has given, and those that are still to come.
+    /// How often it has failed, the bytes that it has given, and those still to come.
     ghost state: { Self → SourceState };
 
-    /// Writes the next bytes to the front of `buffer`, and answers how many.
-    /// It gives 0 bytes only at its end, and no others there.
+    /// Writes the next bytes to the front of `buffer`, which must not be empty.
+    /// Returns how many they are: 0 at the end of the source, and only there.
     ///
-    /// Where it fails it gives nothing, and its count of failures rises by one.
+    /// If the source fails, it gives nothing, and its count of failures rises by one.
     fn get(&mut self, buffer: &mut [u8]) -> Result<usize, SourceFault>
         requires room { 0 < length buffer.old }
         requires countable { (state self.old).failures < u64.MAX }
@@ -32,7 +32,7 @@ pub trait Source {
         ensures { result ≡ (state self.now).failures };
 }
 
-/// A source over bytes in memory, which never fails and takes no memory.
+/// A source over bytes in memory. It never fails, and takes no memory.
 #[derive(Debug, Drop)]
 pub struct SliceSource<'a> {
     bytes: &'a [u8],
@@ -69,9 +69,9 @@ impl<'a> Source for SliceSource<'a> {
     }
 }
 
-/// A source over any reader.
-/// A read fails where it was interrupted, too. After a failure the reader isn't called again.
-/// It tells the bytes that are to come where the reader does.
+/// A source over any reader. It reports the bytes still to come if the reader does.
+///
+/// An interrupted read counts as failed, too. After a failure the reader isn't called again.
 #[derive(Debug, Drop)]
 pub struct ReadSource<R: Read + Drop> {
     reader: R,

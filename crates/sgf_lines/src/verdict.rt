@@ -5,7 +5,7 @@ use go_board::Reason;
 /// What a referee says of a line of play, by the Tromp-Taylor rules.
 #[derive(Clone, Copy, Debug, PartialEq, Eq)]
 pub enum Verdict {
-    /// Each node is allowed.
+    /// Every node is allowed.
     Score {
         /// Black's area score after the last node, in points.
         black: u32,
@@ -14,17 +14,17 @@ pub enum Verdict {
         /// Whether two passes in a row ended the game.
         over: bool,
     },
-    /// Some node isn't allowed; the nodes after the first such node are not looked at.
+    /// Some node isn't allowed. The nodes after the first such node aren't looked at.
     Illegal {
-        /// One more than the number of turns, passes among them, that were made before that node.
+        /// The number of turns made before that node, passes included, plus 1.
         turn: u64,
-        /// The place of that node: the offset of its `;` in the text.
+        /// The place of that node: the offset in bytes, from 0, of its `;` in the text.
         place: usize,
         /// The first reason that holds.
         reason: Reason,
     },
-    /// The line is not judged: its game isn't Go (SGF FF[4], GM).
+    /// The line isn't judged: its game isn't Go (SGF FF[4], GM).
     NotGo,
-    /// The line is not judged: its game has no square board of a side that there is (SGF FF[4], SZ).
+    /// The line isn't judged: its board isn't a square of 1 to 52 points a side (SGF FF[4], SZ).
     BadSize,
 }

@@ -1,4 +1,4 @@
-//! Bytes are put to a sink, by as many puts as it takes.
+//! Putting bytes to a sink, with as many puts as it takes.
 
 ghost use Rattle.std.specs.Prelude.{◌<◌};
 ghost use Rattle.sgf_lines.specs.inner.Running.{PutsAll};

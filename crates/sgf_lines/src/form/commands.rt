@@ -13,7 +13,7 @@ use go_board::{Board, Colour, MAX_VERTEX_SIDE, Play, Point, Size, Vertex, vertex
 use memchr::memchr;
 use sgf_tree::{MemoryFault, push_text};
 
-/// Appends the commands before those of the first node: the size of the board, and that it is cleared.
+/// Appends the commands before those of the first node, which set the size of the board and clear it.
 pub(crate) fn push_board_commands(size: Size, output: &mut Vec<u8>) -> Result<(), MemoryFault>
     ensures { OnOk result (output.new.items ≡ output.old.items ++ board_commands size) }
 {
@@ -22,7 +22,7 @@ pub(crate) fn push_board_commands(size: Size, output: &mut Vec<u8>) -> Result<()
     push_bytes(b"\nclear_board\n", output)
 }
 
-/// Appends what a step that was taken adds to the script of a line, where it left that board.
+/// Appends what a taken step adds to the script of a line; `board` is the board after it.
 pub(crate) fn push_step(
     step: TakenStep<'_>,
     board: &Board,
@@ -40,7 +40,7 @@ pub(crate) fn push_step(
     }
 }
 
-/// Appends a comment, a row for each piece of its text that line feeds part; none where there is none.
+/// Appends a comment: a row for each piece of its text between line feeds. Appends nothing if there is no comment.
 fn push_comment(comment: Option<&[u8]>, output: &mut Vec<u8>) -> Result<(), MemoryFault>
     ensures { OnOk result (output.new.items ≡ output.old.items ++ text_rows (comment_text (option_copied comment.entry))) }
 {
@@ -52,7 +52,7 @@ fn push_comment(comment: Option<&[u8]>, output: &mut Vec<u8>) -> Result<(), Memo
     push_text_rows(&text, output)
 }
 
-/// Appends a comment row for each piece of a text that is cut at its line feeds; none for an empty text.
+/// Appends a comment row for each piece of a text that is cut at its line feeds. Appends nothing for an empty text.
 fn push_text_rows(text: &[u8], output: &mut Vec<u8>) -> Result<(), MemoryFault>
     ensures { OnOk result (output.new.items ≡ output.old.items ++ text_rows text.now) }
 {
@@ -67,7 +67,7 @@ fn push_text_rows(text: &[u8], output: &mut Vec<u8>) -> Result<(), MemoryFault>
     push_comment_row(rest, output)
 }
 
-/// Appends a row that is a comment.
+/// Appends a comment row.
 fn push_comment_row(piece: &[u8], output: &mut Vec<u8>) -> Result<(), MemoryFault>
     ensures { OnOk result (output.new.items ≡ output.old.items ++ comment_row piece.now) }
 {
@@ -76,7 +76,7 @@ fn push_comment_row(piece: &[u8], output: &mut Vec<u8>) -> Result<(), MemoryFaul
     push_bytes(b"\n", output)
 }
 
-/// Appends a whole board: that it is cleared, then all black stones, then all white ones.
+/// Appends a whole board: the command that clears it, then all black stones, then all white ones.
 fn push_board(board: &Board, output: &mut Vec<u8>) -> Result<(), MemoryFault>
     requires { board.now.side ≤ MAX_VERTEX_SIDE }
     ensures { OnOk result (output.new.items ≡ output.old.items ++ colouring_commands board.now) }
@@ -97,7 +97,7 @@ fn push_stones(board: &Board, colour: Colour, output: &mut Vec<u8>) -> Result<()
     Ok(())
 }
 
-/// Appends the stones of a colour in a row, from left to right, where those of the rows above it were appended.
+/// Appends the stones of a colour in a row, from left to right. The stones of the rows above it must be appended already.
 fn push_row(board: &Board, row: u8, colour: Colour, output: &mut Vec<u8>) -> Result<(), MemoryFault>
     requires letters { board.now.side ≤ MAX_VERTEX_SIDE }
     requires row { row < board.now.side }
@@ -128,7 +128,7 @@ fn push_point(
     }
 }
 
-/// Appends a play command. It is laid out first and appended at once, since most nodes add one.
+/// Appends a play command. It is laid out first and appended at once, because most nodes add one.
 fn push_play(
     size: Size,
     colour: Colour,
@@ -184,7 +184,7 @@ fn push_stone(colour: Colour, vertex: Vertex, output: &mut Vec<u8>) -> Result<()
     }
 }
 
-/// A player's letter.
+/// The letter of a player: `B` or `W`.
 fn letter_of(colour: Colour) -> u8
     ensures { result ∷ [] ≡ colour_letter colour }
 {

@@ -1,4 +1,4 @@
-//! A line is judged from where it leaves the line before it.
+//! Judging a line from where it leaves the line before it.
 
 ghost use Rattle.std.specs.Prelude.{◌≡◌, ◌+◌, ◌<◌, ◌≤◌, length, OnOk};
 ghost use Rattle.sgf_lines.specs.inner.Following.{nodes_before};
@@ -9,8 +9,8 @@ use crate::cursor::Cursor;
 use crate::judging::judge::Judge;
 use sgf_tree::MemoryFault;
 
-/// Judges the line before the cursor, of whose nodes the first `held` are judged already.
-/// After a refusal of memory nothing is said of how it stands.
+/// Judges the line before the cursor. The first `held` of its nodes are judged
+/// already. After a refusal of memory nothing is known of the judgement.
 pub(crate) fn judge_line(
     cursor: &Cursor<'_, '_>,
     held: usize,
@@ -31,7 +31,7 @@ pub(crate) fn judge_line(
     Ok(())
 }
 
-/// Goes back to the first `held` nodes of the line before the cursor; where there are none, the line's game begins.
+/// Goes back to the first `held` nodes of the line before the cursor. If `held` is 0, begins the line's game.
 pub(crate) fn begin_or_go_back(
     cursor: &Cursor<'_, '_>,
     held: usize,

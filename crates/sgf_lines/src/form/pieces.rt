@@ -9,13 +9,12 @@ use sgf_tree::{MemoryFault, NodeRef};
 use std::alloc::Global;
 use std::marker::Model;
 
-/// A text of pieces, one after the other, and of what is begun after them.
-/// It can be cut back to any number of the first pieces.
+/// A text of pieces, one after the other, and of text begun after them. It can be cut back to any number of its first pieces.
 #[derive(Drop)]
 pub(crate) struct Pieces {
     text: Vec<u8>,
 
-    /// Where each piece ends.
+    /// The offset at which each piece ends.
     ends: Vec<usize>,
 }
 
@@ -30,7 +29,7 @@ impl Model for Pieces {
 }
 
 impl Pieces {
-    /// No piece, and nothing begun.
+    /// No pieces, and no text begun.
     pub(crate) fn new(alloc: Global) -> Pieces
         ensures { result ≡ no_pieces }
     {
@@ -40,7 +39,7 @@ impl Pieces {
         }
     }
 
-    /// How many pieces there are.
+    /// The number of pieces.
     pub(crate) fn count(&self) -> usize
         ensures { result ≡ length self.now.pieces }
     {
@@ -56,7 +55,7 @@ impl Pieces {
         Ok(())
     }
 
-    /// Appends to what is begun.
+    /// Appends to the text begun.
     pub(crate) fn push(&mut self, bytes: &[u8]) -> Result<(), MemoryFault>
         ensures pushed { OnOk result (self.new ≡ pushed self.old bytes.now) }
         ensures unchanged { OnErr result (self.new ≡ self.old) }
@@ -65,7 +64,7 @@ impl Pieces {
         Ok(())
     }
 
-    /// Makes a piece of what is begun.
+    /// Makes a piece of the text begun.
     pub(crate) fn close(&mut self) -> Result<(), MemoryFault>
         ensures closed { OnOk result (self.new ≡ closed self.old) }
         ensures unchanged { OnErr result (self.new ≡ self.old) }
@@ -74,7 +73,7 @@ impl Pieces {
         Ok(())
     }
 
-    /// Goes back to the first `count` pieces, or to all; nothing is begun after them.
+    /// Goes back to the first `count` pieces, or to all if there are fewer. No text is begun after them.
     pub(crate) fn cut_back(&mut self, count: usize)
         ensures { self.new ≡ cut count self.old }
     {

@@ -9,9 +9,9 @@ use crate::cursor::Cursor;
 use crate::form::pieces::Pieces;
 use sgf_tree::MemoryFault;
 
-/// Goes on to the record of the line before the cursor, of whose nodes the first `held` are held.
-/// It is a piece for each node after one for the parenthesis, and its end, which the next line cuts off.
-/// After a refusal of memory nothing is said of it.
+/// Goes on to the record of the line before the cursor. The first `held` of its nodes
+/// are held. After a refusal of memory nothing is known of the record.
+/// It is a piece for the parenthesis, a piece for each node, and its end, which the next line cuts off.
 pub(crate) fn follow(
     cursor: &Cursor<'_, '_>,
     held: usize,
@@ -34,7 +34,7 @@ pub(crate) fn follow(
     kept.push(b")\n")
 }
 
-/// Begins a record anew, by its parenthesis.
+/// Begins a record anew, with its parenthesis.
 fn begin(kept: &mut Pieces) -> Result<(), MemoryFault>
     ensures { OnOk result (kept.new ≡ open_record []) }
 {

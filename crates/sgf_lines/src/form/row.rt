@@ -1,5 +1,5 @@
-//! The row of a line, alone or as a comment. It is built from its end to its front, since the digits of a number are found last to
-//! first.
+//! The row of a line, alone or as a comment. It is built from its end to its
+//! front, because the digits of a number are found last to first.
 
 ghost use Rattle.std.specs.Prelude.{◌≡◌, ◌≤◌, ◌+◌, [], ◌++◌, length, OnOk, codes, decimal};
 ghost use Rattle.sgf_lines.specs.ListRow.{verdict_text, row_text};
@@ -12,10 +12,10 @@ use go_board::Reason;
 use itoa::write_digits;
 use sgf_tree::MemoryFault;
 
-/// How many bytes there is room for: five numbers of 20 digits at most, and the words of a verdict.
+/// The number of bytes that there is room for: five numbers of up to 20 digits, and the words of a verdict.
 const ROOM: usize = 160;
 
-/// Appends the row of a line with that verdict, and a line feed.
+/// Appends the row of a line with this verdict, and a line feed.
 pub(crate) fn push_list_row(
     line: &LineRef<'_>,
     verdict: Verdict,
@@ -27,7 +27,7 @@ pub(crate) fn push_list_row(
     push_row(line.place, line.game, line.path.len(), verdict, output)
 }
 
-/// Appends the row of a line with that verdict as a comment, with a line feed.
+/// Appends the row of a line with this verdict as a comment, with a line feed.
 pub(crate) fn push_list_row_comment(
     line: &LineRef<'_>,
     verdict: Verdict,
@@ -40,7 +40,7 @@ pub(crate) fn push_list_row_comment(
     push_list_row(line, verdict, output)
 }
 
-/// Appends the row of a line with this place, in the game of this number, with so many nodes; and a line feed.
+/// Appends the row of a line with this place, game number, number of nodes and verdict, and a line feed.
 fn push_row(
     place: usize,
     game: usize,
@@ -62,7 +62,7 @@ fn push_row(
     push_bytes(row.text(), output)
 }
 
-/// A row's end, which grows at its front.
+/// The end of a row, which grows at its front.
 #[derive(Drop)]
 struct Row {
     bytes: [u8; ROOM],
@@ -151,7 +151,7 @@ impl Row {
         self.put(b"illegal ");
     }
 
-    /// The text that was put.
+    /// The text put so far.
     fn text(&self) -> &[u8]
         ensures { result.now ≡ built_text self.now }
     {

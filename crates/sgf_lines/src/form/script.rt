@@ -20,11 +20,11 @@ use std::marker::Model;
 /// The commands of a line's nodes.
 #[derive(Drop)]
 pub(crate) struct Script {
-    /// Those that begin a game on the board, and then a piece for each node that was taken.
+    /// The commands that begin a game on the board, and then a piece for each taken node.
     pieces: Pieces,
 
-    /// Whether the line can't be said in commands: it isn't judged, its board has more columns than there are letters of vertices, or
-    /// the setup of the node after the pieces leaves a stone without a liberty.
+    /// Whether the line can't be written as commands. That is so if it isn't judged, if its board has more columns than vertices
+    /// have letters, or if the setup of the node after the pieces leaves a stone without a liberty.
     silent: bool,
 
     /// A buffer for the commands of a node.
@@ -40,7 +40,7 @@ impl Model for Script {
 }
 
 impl Script {
-    /// Before any line.
+    /// A script before any line.
     pub(crate) fn new(alloc: Global) -> Script
         ensures { result ≡ empty_script }
     {
@@ -51,7 +51,7 @@ impl Script {
         }
     }
 
-    /// Goes over to a line that isn't judged.
+    /// Becomes the script of a line that isn't judged.
     fn silence(&mut self)
         ensures { self.new ≡ no_script }
     {
@@ -74,7 +74,7 @@ impl Script {
         Ok(())
     }
 
-    /// Goes on by a node, whose step was taken and left that board.
+    /// Adds a node whose step was taken; `board` is the board after it.
     fn say(&mut self, step: TakenStep<'_>, board: &Board) -> Result<(), MemoryFault>
         requires letters { self.old.silent ≡ false → board.now.side ≤ MAX_VERTEX_SIDE }
         requires playable { IsPlayable board.now.side step.effect }
@@ -93,7 +93,7 @@ impl Script {
         self.pieces.close()
     }
 
-    /// Goes on by a node of that place, which is judged first.
+    /// Adds a node with this place. The node is judged first.
     fn take(
         &mut self,
         node: &NodeRef<'_, '_>,
@@ -127,14 +127,14 @@ impl Script {
         self.pieces.cut_back(count + 1);
     }
 
-    /// Appends the row that ends it, which the next line cuts off.
+    /// Appends the row that ends the script, which the next line cuts off.
     fn end(&mut self) -> Result<(), MemoryFault>
         ensures { OnOk result (self.new ≡ script_ended self.old) }
     {
         self.pieces.push(b"\n")
     }
 
-    /// What is put of it.
+    /// What is written of the script.
     pub(crate) fn text(&self) -> &[u8]
         ensures { result.now ≡ script_text self.now }
     {
@@ -146,8 +146,8 @@ impl Script {
     }
 }
 
-/// Goes on to the script of the line before the cursor, of whose nodes the first `held` are held, and judges that line.
-/// After a refusal of memory nothing is said of it.
+/// Goes on to the script of the line before the cursor, and judges that line. The first `held` of its nodes are held. After a
+/// refusal of memory nothing is known of the script and of the judgement.
 pub(crate) fn follow(
     cursor: &Cursor<'_, '_>,
     held: usize,
@@ -172,7 +172,7 @@ pub(crate) fn follow(
     script.end()
 }
 
-/// Keeps the commands of the first `held` nodes; where there are none, those of the game begin that is judged.
+/// Keeps the commands of the first `held` nodes. If `held` is 0, begins the commands of the game that is judged.
 fn keep(held: usize, judge: &Judge, script: &mut Script) -> Result<(), MemoryFault>
     requires { held < usize.MAX }
     ensures none { held ≡ 0 → OnOk result (script.new ≡ script_on (board_in judge.now.judgement)) }
@@ -191,7 +191,7 @@ fn keep(held: usize, judge: &Judge, script: &mut Script) -> Result<(), MemoryFau
     }
 }
 
-/// Whether the setup of a node with that effect leaves a stone without a liberty.
+/// Whether the setup of a node with this effect leaves a stone without a liberty.
 fn leaves_unreaching(effect: Effect, board: &Board) -> bool
     ensures { result ≡ is_unreaching board.now effect }
 {

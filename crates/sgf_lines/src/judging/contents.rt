@@ -1,5 +1,5 @@
-//! What a node holds for the referee and for a script: moves, stones and players (SGF FF[4], move and setup properties), and
-//! a comment. It is gathered in one pass over the node's properties.
+//! What a node holds for the referee and for a script: moves, stones and players (SGF FF[4], move and setup properties), and a
+//! comment. It is gathered in one pass over the node's properties.
 
 ghost use Rattle.std.specs.Prelude.{◌≡◌, ◌∷◌, ◌++◌, [], ℕ, List, Option, IfOk, OnOk, option_copied, option_map, Some};
 ghost use Rattle.sgf_tree.specs.Tree.{Property, lone_property, values};
@@ -12,11 +12,11 @@ use crate::node_values::player_value;
 use go_board::{Cell, Colour, SetupOp, Size, rect};
 use sgf_tree::{MemoryFault, NodeRef, PropRef, Properties};
 
-/// The moves of a node, as far as a step asks for them.
+/// The moves of a node, as far as a step needs them.
 #[derive(Clone, Copy)]
 pub(crate) enum Moves<'a> {
     Nothing,
-    /// One move: the player, and the raw value that says where.
+    /// One move: the player, and the raw value that names the point or the pass.
     One(Colour, &'a [u8]),
     /// Two moves or more.
     Several,
@@ -27,9 +27,9 @@ pub(crate) enum Moves<'a> {
 pub(crate) enum Setup {
     /// There are neither stones nor players.
     Nothing,
-    /// Each value names a rectangle of the board or a player, of whom this is the last.
+    /// Each value names a rectangle of the board or a player. This is the last player, if there is one.
     Meant(Option<Colour>),
-    /// Some value of AB, AW or AE names no rectangle of the board, or some value of PL no player.
+    /// Some value of AB, AW or AE names no rectangle of the board, or some value of PL names no player.
     Faulty,
 }
 
@@ -51,7 +51,8 @@ pub(crate) enum Kind {
     Comment,
 }
 
-/// What a node holds, on a board of that size. `operations` has then what its values of AB, AW and AE set up, in order.
+/// What a node holds, on a board of that size. Unless the setup is faulty,
+/// `operations` becomes what its values of AB, AW and AE set up, in order.
 pub(crate) fn gathered<'a>(
     node: &NodeRef<'_, 'a>,
     size: Size,
@@ -68,7 +69,7 @@ pub(crate) fn gathered<'a>(
 }
 
 impl<'a> Contents<'a> {
-    /// What no property holds.
+    /// The contents of a node without properties.
     fn nothing() -> Contents<'a>
         ensures { (side : ℕ) → IsGathered side [] [] result }
     {
@@ -107,7 +108,7 @@ impl<'a> Contents<'a> {
         }
     }
 
-    /// What a front of a node's properties holds, and the properties that are left.
+    /// What the first properties of a node hold, and the properties that are left.
     fn of_front<'c>(node: &NodeRef<'c, 'a>) -> (Contents<'a>, Properties<'c, 'a>)
         ensures { (front : List Property) × ((side : ℕ) → IsGathered side front [] result.0)
             × (front ++ result.1 ≡ node.now.properties) }
@@ -119,7 +120,7 @@ impl<'a> Contents<'a> {
         }
     }
 
-    /// Takes what a property holds.
+    /// Adds what a property holds.
     fn take(
         &mut self,
         property: &PropRef<'a>,
@@ -143,7 +144,7 @@ impl<'a> Contents<'a> {
     }
 }
 
-/// These moves and those of a property.
+/// These moves, and then those of a property.
 #[tactic(auto, using(crate::proofs::Gathered::two_at_least))]
 fn with_moves<'a>(moves: Moves<'a>, colour: Colour, property: &PropRef<'a>) -> Moves<'a>
     ensures { (ms : List Move) → AreMoves moves.entry ms → AreMoves result (ms ++ moves_by colour property.now) }
@@ -159,7 +160,7 @@ fn with_moves<'a>(moves: Moves<'a>, colour: Colour, property: &PropRef<'a>) -> M
     }
 }
 
-/// The comment that was met, else that of a property.
+/// The comment that was found before; if none was, that of a property.
 fn first_comment<'a>(comment: Option<&'a [u8]>, property: &PropRef<'a>) -> Option<&'a [u8]>
     ensures { option_copied result ≡ first_comment (option_copied comment.entry) property.now.first }
 {
@@ -169,7 +170,7 @@ fn first_comment<'a>(comment: Option<&'a [u8]>, property: &PropRef<'a>) -> Optio
     }
 }
 
-/// Appends the operations of a property's stones, and tells whether each of its values names a rectangle of the board.
+/// Appends the operations of a property's stones. Returns whether each of its values names a rectangle of the board.
 fn push_areas(
     cell: Cell,
     property: &PropRef<'_>,
@@ -188,7 +189,7 @@ fn push_areas(
     Ok(true)
 }
 
-/// A setup with more stones, of which `good` tells whether each names a rectangle of the board.
+/// A setup with more stones. `good` says whether each of them names a rectangle of the board.
 fn with_stones(setup: Setup, good: bool) -> Setup
     ensures { result ≡ setup_with_stones setup good }
 {
@@ -199,7 +200,7 @@ fn with_stones(setup: Setup, good: bool) -> Setup
     }
 }
 
-/// A setup with more players, of whom this is the last; None where one of the values names none.
+/// A setup with more players, of whom this is the last. None means that one of the values names no player.
 fn with_player(setup: Setup, last: Option<Colour>) -> Setup
     ensures { result ≡ setup_with_player setup last }
 {
@@ -209,7 +210,7 @@ fn with_player(setup: Setup, last: Option<Colour>) -> Setup
     }
 }
 
-/// The player that the values of a property name last; None where one of them names none.
+/// The player that the values of a property name last; None if one of them names no player.
 fn last_player(property: &PropRef<'_>) -> Option<Colour>
     ensures { (before : Option Colour) → last_player_rule before (values property.now) ≡ option_map Some result }
 {
@@ -221,7 +222,7 @@ fn last_player(property: &PropRef<'_>) -> Option<Colour>
     Some(last)
 }
 
-/// What the values of a property are; none where they are nothing for the referee nor for a script.
+/// What the values of a property are; None if neither the referee nor a script needs them.
 fn kind_of(property: &PropRef<'_>) -> Option<Kind>
     ensures { result ≡ kind_of_rule property.now }
 {

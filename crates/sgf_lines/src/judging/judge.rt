@@ -14,11 +14,11 @@ use sgf_tree::{MemoryFault, NodeRef};
 use std::alloc::Global;
 use std::marker::Model;
 
-/// Judges a line node after node, by one referee. It is seen as how the line stands judged, and the number of nodes that were
-/// played.
+/// Judges a line node after node, with one referee. It is seen as the
+/// judgement on the line, and the number of nodes that were played.
 #[derive(Drop)]
 pub(crate) struct Judge {
-    /// None where the game isn't judged. Each node that is allowed adds one state.
+    /// None if the game isn't judged. Each node that is allowed adds one state.
     referee: Option<Referee<PrintPast>>,
 
     /// A buffer for what a node sets up.
@@ -54,8 +54,7 @@ impl Judge {
         }
     }
 
-    /// Begins the game of a root, before it.
-    /// After a refusal of memory nothing is changed.
+    /// Begins the game of a root, before the root. After a refusal of memory nothing is changed.
     pub(crate) fn begin(&mut self, root: &NodeRef<'_, '_>) -> Result<(), MemoryFault>
         ensures begun { OnOk result (self.new.judgement ≡ begun_game (game_kind root.now.properties)) }
         ensures plays { self.new.plays ≡ self.old.plays }
@@ -71,7 +70,7 @@ impl Judge {
         }
     }
 
-    /// Begins a game on a board of that size. A referee that is there begins it in place.
+    /// Begins a game on a board of that size. If there is a referee already, it begins the game in place.
     fn begin_on(&mut self, size: Size) -> Result<(), MemoryFault>
         ensures begun { OnOk result (self.new.judgement ≡ begun_game (board size)) }
         ensures plays { self.new.plays ≡ self.old.plays }
@@ -79,7 +78,7 @@ impl Judge {
     {
         match &mut self.referee {
             Some(referee) => {
-                // No `From` may be given here between the faults of two other crates.
+                // No `From` can be implemented here between the faults of two other crates.
                 let Ok(()) = referee.reset(size) else {
                     return Err(MemoryFault);
                 };
@@ -90,9 +89,8 @@ impl Judge {
         Ok(())
     }
 
-    /// Takes one node more, of that place, and tells its step; None where it isn't taken, as the node isn't allowed or the line has
-    /// ended before it.
-    /// After a refusal of memory nothing is changed.
+    /// Takes one more node, with this place, and returns its step. None if the step isn't taken: the game isn't judged, the node
+    /// isn't allowed, or the line ended before it. After a refusal of memory nothing is changed.
     pub(crate) fn take<'a>(
         &mut self,
         node: &NodeRef<'_, 'a>,
@@ -154,7 +152,7 @@ impl Judge {
         }
     }
 
-    /// The present board; None where the game isn't judged.
+    /// The present board; None if the game isn't judged.
     pub(crate) fn board(&self) -> Option<&Board>
         ensures { option_copied result ≡ board_in self.now.judgement }
     {
@@ -164,7 +162,7 @@ impl Judge {
         }
     }
 
-    /// How many nodes were played.
+    /// The number of nodes that were played.
     pub(crate) fn plays(&self) -> u64
         ensures { result ≡ self.now.plays }
     {
@@ -172,8 +170,8 @@ impl Judge {
     }
 }
 
-/// A referee of a game on a board of that size. It is kept apart, since it has whole boards at hand, for which a call makes room even
-/// where no game is made.
+/// A referee of a game on a board of that size. This is a function of its own because it
+/// holds whole boards. A call makes room for them even if no game is made.
 #[inline(never)]
 fn new_referee(alloc: Global, size: Size) -> Result<Referee<PrintPast>, MemoryFault>
     ensures { IfOk result (λ referee. referee ≡ begun size) }
@@ -184,7 +182,7 @@ fn new_referee(alloc: Global, size: Size) -> Result<Referee<PrintPast>, MemoryFa
     }
 }
 
-/// Takes states back until only the first `depth` of those before the present one are left.
+/// Takes back states until at most `depth` are left before the present one.
 pub(crate) fn undo_to(referee: &mut Referee<PrintPast>, depth: usize)
     ensures { referee.new ≡ back_to referee.old depth }
 {

@@ -1,4 +1,4 @@
-//! Judges one line.
+//! Judging one line.
 
 ghost use Rattle.std.specs.Prelude.{◌<◌, ◌≤◌, ◌+◌, ◌≡◌, All, IfOk, OnOk, List, Some, map, fold, length};
 ghost use Rattle.sgf_tree.specs.Tree.{Node, node_count};
@@ -12,10 +12,11 @@ use crate::verdict::Verdict;
 use sgf_tree::{Collection, MemoryFault};
 use std::alloc::Global;
 
-/// The verdict of the line that ends in the node of that number, counted from 0 in file order; `is_leaf` tells whether a
-/// line ends there.
-/// The line is played from its root on a board of its own, by the Tromp-Taylor rules; setup is that of SGF FF[4].
-/// `MemoryFault` comes only where memory was refused.
+/// The verdict of the line that ends in the node with the number `leaf`,
+/// from 0 in file order. The node must be a leaf (`is_leaf`).
+///
+/// The line is played from its root on a board of its own, by the Tromp-Taylor rules,
+/// with setup by SGF FF[4]. `MemoryFault` comes only if memory was refused.
 pub fn judge(
     alloc: Global,
     collection: &Collection<'_>,
@@ -32,7 +33,7 @@ pub fn judge(
     judge_path(alloc, collection, &path)
 }
 
-/// The verdict of the line of a path, the root's number first.
+/// The verdict of the line with this path, the root's number first.
 fn judge_path(
     alloc: Global,
     collection: &Collection<'_>,

@@ -1,4 +1,4 @@
-//! Which games are judged: those of Go, on a square board of a size that there is (SGF FF[4], GM and SZ).
+//! Which games are judged: games of Go, on a square board of a size that boards can have (SGF FF[4], GM and SZ).
 
 ghost use Rattle.std.specs.Prelude.{◌≡◌, option_copied};
 ghost use Rattle.sgf_lines.specs.NodeContents.{first_value as first_value_rule};
@@ -9,11 +9,11 @@ use crate::verdict::Verdict;
 use go_board::{MAX_SIDE, Size};
 use sgf_tree::{NodeRef, number};
 
-/// The side of a board where SZ is absent.
+/// The side of a board if there is no SZ.
 const USUAL_SIDE: i64 = 19;
 
-/// The size of the board of a root's game; else the verdict of each line of that game, which isn't judged. Another game comes
-/// before a faulty size.
+/// The size of the board of a root's game. If the game isn't judged, the verdict of each of
+/// its lines. A game that isn't Go is called that even if its size is faulty.
 pub(crate) fn board_size(root: &NodeRef<'_, '_>) -> Result<Size, Verdict>
     ensures { result ≡ size_said (game_kind root.now.properties) }
 {
@@ -26,7 +26,7 @@ pub(crate) fn board_size(root: &NodeRef<'_, '_>) -> Result<Size, Verdict>
     }
 }
 
-/// The first value of a node's first property of that name.
+/// The first value of a node's first property with this name.
 fn first_value<'a>(node: &NodeRef<'_, 'a>, name: &[u8]) -> Option<&'a [u8]>
     ensures { option_copied result ≡ first_value_rule name.now node.now.properties }
 {
@@ -34,7 +34,7 @@ fn first_value<'a>(node: &NodeRef<'_, 'a>, name: &[u8]) -> Option<&'a [u8]>
     Some(property.value(0))
 }
 
-/// Whether a value of GM, or none, is that of Go: the number 1.
+/// Whether a value of GM means Go: there is none, or it is the number 1.
 fn is_go(game: Option<&[u8]>) -> bool
     ensures { result ≡ is_go_rule (option_copied game.entry) }
 {
@@ -44,7 +44,7 @@ fn is_go(game: Option<&[u8]>) -> bool
     }
 }
 
-/// The size that a value of SZ gives, or none: a number that is the side of a board.
+/// The size that a value of SZ gives: 19 if there is none, else a number that is the side of a board. None for any other value.
 fn size(value: Option<&[u8]>) -> Option<Size>
     ensures { result ≡ side_of (option_copied value.entry) }
 {

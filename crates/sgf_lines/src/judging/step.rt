@@ -14,7 +14,7 @@ use crate::node_values::move_value;
 use go_board::{Colour, Past, Play, Reason, Referee, SetupOp, TurnFault};
 use sgf_tree::NodeRef;
 
-/// What a node did on the board.
+/// What a node did to the board.
 #[derive(Clone, Copy)]
 pub(crate) enum Effect {
     /// It has no moves and no stones.
@@ -25,7 +25,7 @@ pub(crate) enum Effect {
     Play(Colour, Play),
 }
 
-/// A node's step that was taken, and what the node says beside it.
+/// A node's step that was taken, and the node's comment.
 #[derive(Clone, Copy)]
 pub(crate) struct TakenStep<'a> {
     pub(crate) effect: Effect,
@@ -33,10 +33,10 @@ pub(crate) struct TakenStep<'a> {
     pub(crate) comment: Option<&'a [u8]>,
 }
 
-/// Takes a node's step, which adds one state: plays its move, or sets its stones and its player up, or stays.
-/// Where the node isn't allowed, the first reason comes back.
-/// After a refusal the referee is unchanged.
-/// `operations` is a buffer.
+/// Takes a node's step, which adds one state. It plays the node's move, sets up
+/// its stones and its player, or stays. `operations` is a buffer.
+///
+/// If the node isn't allowed, the first reason is returned. After a refusal the referee is unchanged.
 pub(crate) fn take_step<'a, P: Past>(
     referee: &mut Referee<P>,
     node: &NodeRef<'_, 'a>,
@@ -58,7 +58,7 @@ pub(crate) fn take_step<'a, P: Past>(
     }
 }
 
-/// Takes the step of a node with these contents, whose stones make these operations.
+/// Takes the step of a node with these contents; its stones make these operations.
 fn take_contents<P: Past>(
     referee: &mut Referee<P>,
     contents: &Contents<'_>,
@@ -80,7 +80,7 @@ fn take_contents<P: Past>(
     }
 }
 
-/// Adds the same state once more.
+/// Adds the present state once more.
 fn stay<P: Past>(referee: &mut Referee<P>) -> Result<Effect, TurnFault>
     ensures stepped { IsStepped (Ok referee.old.present) referee.old referee.new result }
     ensures effect { IfOk result (λ effect. effect ≡ Effect.Nothing) }
@@ -89,7 +89,7 @@ fn stay<P: Past>(referee: &mut Referee<P>) -> Result<Effect, TurnFault>
     Ok(Effect::Nothing)
 }
 
-/// Sets up stones, or the player alone where there are none.
+/// Sets up stones, or only the player if there are no stones.
 fn set_up<P: Past>(
     referee: &mut Referee<P>,
     operations: &[SetupOp],
