@@ -1,4 +1,4 @@
-//! A collection that was read: its nodes in file order, which number them from 0.
+//! A collection that was read: its nodes in file order, numbered from 0.
 
 ghost use Rattle.std.specs.Prelude.{◌≡◌, ◌<◌, ◌↔◌, ℕ, IsTrue};
 ghost use Rattle.sgf_tree.specs.declared.fault.TheConstants.{MAX_LENGTH};
@@ -10,15 +10,14 @@ use crate::node::NodeRef;
 use crate::reader::scan::rest_from;
 use std::marker::Model;
 
-/// The collection that a text spells (SGF FF[4], EBNF).
-/// It refers to the text, whose names and values are not copied.
-/// No call on it takes memory.
+/// The collection that a text spells (SGF FF[4], EBNF). It refers to the
+/// text, and copies no names or values. No call on it takes memory.
 #[derive(Drop)]
 pub struct Collection<'a> {
     text: &'a [u8],
     games: u32,
     nodes: Vec<NodeEntry>,
-    /// In file order, so that a step over a node finds the node's own by halves.
+    /// In file order, so that a step over a node finds the node's own by a binary search.
     long: Vec<LongValue>,
 }
 
@@ -68,8 +67,7 @@ impl<'a> Collection<'a> {
         self.games as usize
     }
 
-    /// The number of nodes of all games.
-    /// Their places rise in file order, and are below `MAX_LENGTH`.
+    /// The number of nodes of all games, at every depth. Their places rise in file order, and are less than `MAX_LENGTH`.
     pub fn nodes(&self) -> usize
         ensures count { result ≡ node_count self.now }
         ensures places_rise { PlacesRise self.now }
@@ -78,7 +76,7 @@ impl<'a> Collection<'a> {
         self.nodes.len()
     }
 
-    /// Node `i`, counted from 0 in file order.
+    /// Node `i`, from 0 in file order. `i` must be less than `nodes()`, here and in the calls below.
     pub fn node(&self, i: usize) -> NodeRef<'_, 'a>
         requires { i < node_count self.now }
         ensures { node_at self.now i ≡ Some result }
@@ -91,8 +89,7 @@ impl<'a> Collection<'a> {
         }
     }
 
-    /// The number of the node before node `i` on its line, which is its parent.
-    /// None for the root of a game.
+    /// The number of the parent of node `i`, the node before it on its line. None for the root of a game.
     pub fn parent(&self, i: usize) -> Option<usize>
         requires { i < node_count self.now }
         ensures { parent_at self.now i ≡ Some result }
@@ -112,7 +109,7 @@ impl<'a> Collection<'a> {
         self.last_below(i) == i
     }
 
-    /// The place of node `i`: the offset of its `;` in the text.
+    /// The place of node `i`: the offset in bytes, from 0, of its `;` in the text.
     pub fn place(&self, i: usize) -> usize
         requires { i < node_count self.now }
         ensures { place_at self.now i ≡ Some result }
@@ -120,7 +117,7 @@ impl<'a> Collection<'a> {
         self.nodes[i].place as usize
     }
 
-    /// The number of the game that has node `i`, counted from 1.
+    /// The number, from 1, of the game that has node `i`.
     pub fn game_of(&self, i: usize) -> usize
         requires { i < node_count self.now }
         ensures { result ≡ game_of self.now i }

@@ -1,4 +1,4 @@
-//! The ways in which a call may fail.
+//! How a call may fail.
 
 use std::alloc::{AllocError, AllocFailed};
 use thiserror::Error;
@@ -6,25 +6,25 @@ use thiserror::Error;
 /// The most bytes that a text may have: 64 MiB (this project's choice).
 pub const MAX_LENGTH: usize = 67_108_864;
 
-/// Why a text was not read.
+/// Why a text wasn't read.
 #[derive(Clone, Copy, Debug, PartialEq, Eq, Error)]
 pub enum ReadFault {
     /// The text is longer than `MAX_LENGTH` bytes.
     #[error("the text is longer than {MAX_LENGTH} bytes")]
     TooLong,
 
-    /// No collection is spelled by the text (SGF FF[4], EBNF).
-    /// Its first `at` bytes begin some text of the grammar, and no more of them do.
-    /// So where `at` is the text's length, the text ends too early.
+    /// The text spells no collection (SGF FF[4], EBNF).
+    /// Its first `at` bytes begin some text of the grammar, and no more of them
+    /// do. So if `at` is the text's length, the text ends too early.
     #[error("byte {at}: not SGF")]
     NotSgf { at: usize },
 
-    /// More memory was wanted and refused.
+    /// Memory was refused.
     #[error("out of memory")]
     Memory,
 }
 
-/// More memory was wanted and refused. What the call was made on, or was to append to, is unchanged.
+/// Memory was refused. What the call was made on, or was to append to, is unchanged.
 #[derive(Clone, Copy, Debug, PartialEq, Eq, Error)]
 #[error("out of memory")]
 pub struct MemoryFault;

@@ -1,5 +1,5 @@
-//! Steps forward over the properties of a node, and over the values of a property.
-//! All steps over a node together cost what its text costs, however many properties and values it has.
+//! Going forward over the properties of a node, and over the values of a property.
+//! All steps over a node together take time in proportion to its text, however many properties and values it has.
 
 ghost use Rattle.std.specs.Prelude.{◌≡◌, ◌↔◌, ◌≤◌, ◌<◌, false, [], ◌∷◌, length, drop, slice_index, IsTrue, IfSome, MatchOption};
 ghost use Rattle.std.specs.Iterator.{YieldsFirst, YieldsFirstRef, item_count};
@@ -15,8 +15,7 @@ use crate::reader::value::value_end;
 use crate::written::written_properties_end;
 use std::marker::Model;
 
-/// The properties of a node that are left, in file order.
-/// No call on it takes memory.
+/// The properties of a node that are left, in file order. No call on it takes memory.
 #[derive(Drop)]
 pub struct Properties<'c, 'a> {
     pub(crate) rest: &'a [u8],
@@ -41,7 +40,7 @@ impl<'c, 'a> Model for Properties<'c, 'a> {
 }
 
 impl<'c, 'a> Properties<'c, 'a> {
-    /// The properties of a node, which begin at `at` in a text. `long` is what was kept of its long values.
+    /// The properties of a node, which begin at `at` in a text. `long` is what was kept of the text's long values.
     #[inline(always)]
     pub(crate) fn new(text: &'a [u8], at: usize, long: &'c Vec<LongValue>) -> Properties<'c, 'a>
         requires within { at ≤ length text.now }
@@ -53,9 +52,9 @@ impl<'c, 'a> Properties<'c, 'a> {
         Properties { rest, long }
     }
 
-    /// Takes off the properties in front that stand as the sgf form writes them, with no white space and no small letter
-    /// between their parts, and answers their text, without the white space before it.
-    /// It is empty where the first property doesn't stand so, and where none is left.
+    /// Takes off the properties at the front that are written just as the sgf form writes them. These have no
+    /// white space and no small letters between their parts. Returns their text, without the white space before
+    /// it. The text is empty if the first property isn't written like that, or if none is left.
     pub(crate) fn written(&mut self) -> &'a [u8]
         ensures { IsWrittenFront self.old self.new result.now }
     {
@@ -74,8 +73,7 @@ impl<'c, 'a> Iterator for Properties<'c, 'a> {
 
     ghost remaining = { item_count (λ left. left) };
 
-    /// Takes off the next property.
-    /// None after the last one, again and again.
+    /// Takes off the next property, and returns it. After the last one it returns None, however often it is called.
     #[inline(always)]
     fn next(&mut self) -> Option<PropRef<'a>> {
         let text = self.rest;
@@ -89,11 +87,10 @@ impl<'c, 'a> Iterator for Properties<'c, 'a> {
     }
 }
 
-/// The raw values of a property that are left, in file order.
-/// No call on it takes memory.
+/// The raw values of a property that are left, in file order. No call on it takes memory.
 #[derive(Drop)]
 pub struct Values<'a> {
-    /// The first one, until it is taken off: where it ends is known already.
+    /// The first value, until it is taken off. Its end is known already.
     pub(crate) first: Option<&'a [u8]>,
     pub(crate) rest: &'a [u8],
 }
@@ -134,8 +131,8 @@ impl<'a> Iterator for Values<'a> {
 
     ghost remaining = { item_count (λ left. left) };
 
-    /// Takes off the next raw value: the bytes between its `[` and its `]`, which are a part of the text that was read.
-    /// None after the last one, again and again.
+    /// Takes off the next raw value, and returns it: the bytes between its `[` and its `]`, a part of the text that was read.
+    /// After the last one it returns None, however often it is called.
     fn next(&mut self) -> Option<&'a [u8]> {
         if let Some(first) = self.first {
             self.first = None;
@@ -150,8 +147,8 @@ impl<'a> Iterator for Values<'a> {
     }
 }
 
-/// The first property of a text, whose identifier begins at `start`, after white space, and where its values end.
-/// It is kept apart from the test whether there is one, so that finding none costs little.
+/// The first property of a text, and the offset where its values end. Its identifier begins at `start`, after white space. This
+/// is a function of its own so that finding no property costs little.
 #[inline(never)]
 fn property_at<'a>(text: &'a [u8], start: usize, long: &Vec<LongValue>) -> (PropRef<'a>, usize)
     requires held { ArePropertiesIn text.now }
@@ -175,10 +172,9 @@ fn property_at<'a>(text: &'a [u8], start: usize, long: &Vec<LongValue>) -> (Prop
     (property, next)
 }
 
-/// Where the raw value at `at` begins, after white space and a `[`, and where its `]` stands.
-/// None where no value is there.
+/// Where the raw value at `at` begins, after white space and a `[`, and where its `]` is. None if no value is there.
 ///
-/// It is compiled into its callers, as a call would hand its offsets over in memory.
+/// This is inlined, because a call would pass its offsets in memory.
 #[inline(always)]
 fn value_at(text: &[u8], at: usize, long: Option<&Vec<LongValue>>) -> Option<(usize, usize)>
     requires within { at ≤ length text.now }
@@ -195,7 +191,7 @@ fn value_at(text: &[u8], at: usize, long: Option<&Vec<LongValue>>) -> Option<(us
     Some((bracket + 1, close))
 }
 
-/// The end of the values at `at`. After the first value of a property there are mostly none.
+/// The end of the values at `at`. After the first value of a property there are usually no more.
 fn values_end(text: &[u8], at: usize, long: &Vec<LongValue>) -> usize
     requires within { at ≤ length text.now }
     requires kept { AreKeptEnds text.now long.now.items }
@@ -208,7 +204,7 @@ fn values_end(text: &[u8], at: usize, long: &Vec<LongValue>) -> usize
     }
 }
 
-/// Whether a value may be at `at`: white space there, or none, and a `[`.
+/// Whether a value may be at `at`: white space, or none, and then a `[`.
 fn begins_value(text: &[u8], at: usize) -> bool
     requires { at ≤ length text.now }
     ensures { result ≡ false → IsNoPropValue (drop at text.now) }
@@ -217,7 +213,7 @@ fn begins_value(text: &[u8], at: usize) -> bool
     bracket < text.len() && text[bracket] == b'['
 }
 
-/// The end of the values at `at`, of which there are some.
+/// The end of the values at `at`, of which there may be many.
 #[inline(never)]
 fn far_values_end(text: &[u8], at: usize, long: &Vec<LongValue>) -> usize
     requires within { at ≤ length text.now }

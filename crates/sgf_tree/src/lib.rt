@@ -1,9 +1,11 @@
 //! Reads Smart Game Format (SGF FF[4]) texts.
 //!
-//! [`read`] goes over a text once, and answers either the collection that it spells or the first byte at which no text of the
-//! grammar goes on. A [`Collection`] numbers its nodes in file order from 0, and tells of each node its place, its parent
-//! and the last node below it, in 16 bytes a node. A node's properties and their raw values are read from the text again
-//! when they are asked for, one after another, and none of this takes memory.
+//! [`read`] goes over a text once. It returns the collection that the text
+//! spells, or the first byte with which no text of the grammar goes on.
+//!
+//! A [`Collection`] numbers its nodes from 0 in file order. Of each node it keeps the place, the parent and
+//! the last node below it, in 16 bytes a node. The properties of a node and their raw values are read from
+//! the text again when they are asked for, one after another. None of this takes memory.
 //!
 //! ```text
 //! let collection = read(alloc, text)?;
@@ -20,18 +22,18 @@
 //! |---|---|
 //! | `reader` | reading a text, and the first fault |
 //! | `reader/games`, `reader/properties` | reading nodes and games; reading the properties of a node |
-//! | `reader/value` | what ends a raw value, and keeping where the long ones end |
+//! | `reader/value` | what ends a raw value, and keeping where long values end |
 //! | `reader/mark`, `reader/scan` | the byte order mark; where spans of a text end |
-//! | `reader/fault` | why a text is not read on, and how the place of the first fault is found |
+//! | `reader/fault` | why a text isn't read on, and how the place of the first fault is found |
 //! | `collection`, `node`, `property` | looking into a collection that was read |
 //! | `iter` | the properties of a node and the values of a property, one after another |
 //! | `written` | writing a node as the sgf form does |
 //! | `layout` | the entries of the flat vectors that hold a collection |
 //! | `text`, `numbers` | the decoded text of a value; the value of a number |
-//! | `fault` | the ways in which a call may fail |
+//! | `fault` | how a call may fail |
 //! | `laws` | what holds of all texts |
 //!
-//! Worked examples stand in the crate `sgf_tree_tests`, and those that the program shows in `tests/`.
+//! Worked examples are in the crate `sgf_tree_tests`, and those that the program shows are in `tests/`.
 #![tactic(auto)]
 
 mod collection;

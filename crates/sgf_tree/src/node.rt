@@ -13,15 +13,15 @@ use crate::reader::scan::{is_lone_front, is_lone_node, part};
 use crate::written::push_node;
 use std::marker::Model;
 
-/// A node, seen as its place and its properties.
-/// Only `push_to` takes memory. Its properties are read from the text, so a call costs what the part of the node's text
-/// costs that it goes over.
+/// A node, seen as its place and its properties. Only `push_to` takes memory.
+///
+/// Its properties are read from the text. So a call costs as much as the part of the node's text that it goes over.
 #[derive(Drop)]
 pub struct NodeRef<'c, 'a> {
     pub(crate) place: u32,
-    /// The text from its `;` on.
+    /// The text from the node's `;` on.
     pub(crate) text: &'a [u8],
-    /// What was kept of the text's long values: a reference to the vector, as it is smaller than a slice is.
+    /// What was kept of the text's long values. It is a reference to the vector, because that is smaller than a slice.
     pub(crate) long: &'c Vec<LongValue>,
 }
 
@@ -51,9 +51,10 @@ impl<'c, 'a> NodeRef<'c, 'a> {
         Properties::new(text, 1, self.long)
     }
 
-    /// The letter and the raw value of its first property, where that is told at a glance, as in `;B[pd]`: where its name is one
-    /// capital and its one value two bytes that stand for themselves; and the properties after it.
-    /// Where it isn't told, None and all properties. So what both parts hold is always the whole.
+    /// The letter and the raw value of the first property, if they are recognized at a glance, as in `;B[pd]`; and the properties
+    /// after it. If they aren't recognized, None and all properties. So both parts together are always all properties.
+    ///
+    /// They are recognized only if the name is one capital and the only value is two bytes that stand for themselves.
     pub fn front(&self) -> (Option<(u8, &'a [u8])>, Properties<'c, 'a>)
         ensures { self.now.properties ≡ option_to_list (option_map (λ lone. lone_property lone.0 lone.1.now) result.0) ++ result.1 }
     {
@@ -66,8 +67,7 @@ impl<'c, 'a> NodeRef<'c, 'a> {
         }
     }
 
-    /// The number of its properties.
-    /// It goes over all of them.
+    /// The number of its properties. This goes over all of them.
     pub fn props(&self) -> usize
         ensures { result ≡ length self.now.properties }
     {
@@ -75,8 +75,8 @@ impl<'c, 'a> NodeRef<'c, 'a> {
         left.count()
     }
 
-    /// Property `i`, counted from 0 in file order.
-    /// It goes over the properties before it, so whoever wants them all takes `iter`.
+    /// Property `i`, from 0 in file order. `i` must be less than `props()`. This goes
+    /// over the properties before it; to get all of them, use `iter`.
     pub fn prop(&self, i: usize) -> PropRef<'a>
         requires { i < length self.now.properties }
         ensures { slice_get self.now.properties i ≡ Some result }
@@ -84,8 +84,7 @@ impl<'c, 'a> NodeRef<'c, 'a> {
         self.iter().nth(i).unwrap()
     }
 
-    /// The first property of that name.
-    /// None only where the node has none.
+    /// The first property with this name; None if the node has none.
     pub fn first(&self, name: &[u8]) -> Option<PropRef<'a>>
         ensures { result ≡ find (λ p. bytes_eq p.name name.now) self.now.properties }
     {
@@ -97,9 +96,10 @@ impl<'c, 'a> NodeRef<'c, 'a> {
         None
     }
 
-    /// Appends the node as the sgf form writes it: a `;`, and of each property the name in capitals and the raw values as they
-    /// stand between brackets, with nothing between these parts.
-    /// After a refusal of memory `out` is unchanged.
+    /// Appends the node as the sgf form writes it. This is a `;`, and for each property its name in capitals and its raw values
+    /// between brackets, as they are in the text. Nothing stands between these parts.
+    ///
+    /// `MemoryFault` comes only if memory was refused; then `out` is unchanged.
     pub fn push_to(&self, out: &mut Vec<u8>) -> Result<(), MemoryFault>
         ensures appended { OnOk result (out.new.items ≡ out.old.items ++ node_text self.now) }
         ensures unchanged { OnErr result (out.new.items ≡ out.old.items) }

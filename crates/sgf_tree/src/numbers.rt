@@ -6,8 +6,8 @@ ghost use Rattle.sgf_tree.specs.Number.{magnitude_of, number_of};
 /// The most digits that a number may have.
 const MAX_DIGITS: usize = 18;
 
-/// The value of a raw value that is a number: a `+`, a `-` or no sign, then 1 to 18 digits and nothing else (SGF FF[4],
-/// Number; at most 18 digits is this project's choice). `None` for every other raw value.
+/// The value of a raw value that is a number (SGF FF[4], Number): a `+`, a `-` or no sign, then 1 to 18 digits, and nothing else.
+/// None for any other raw value. The limit of 18 digits is this project's choice.
 pub fn number(raw: &[u8]) -> Option<i64>
     ensures { result ≡ number_of raw.now }
 {
@@ -18,7 +18,7 @@ pub fn number(raw: &[u8]) -> Option<i64>
     }
 }
 
-/// The value of 1 to 18 digits; `None` for everything else.
+/// The value of 1 to 18 digits; None for anything else.
 fn magnitude(digits: &[u8]) -> Option<u64>
     ensures value { result ≡ magnitude_of digits.now }
     ensures fits { IfSome result (λ value. value < 10 ^ 18) }

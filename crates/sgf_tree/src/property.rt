@@ -8,8 +8,7 @@ use crate::fault::MemoryFault;
 use crate::iter::Values;
 use std::marker::Model;
 
-/// A property, seen as its name and its raw values.
-/// Only `push_name` takes memory.
+/// A property, seen as its name and its raw values. Only `push_name` takes memory.
 #[derive(Drop)]
 pub struct PropRef<'a> {
     pub(crate) identifier: &'a [u8],
@@ -33,15 +32,15 @@ impl<'a> Model for PropRef<'a> {
 }
 
 impl<'a> PropRef<'a> {
-    /// The first letter of its name, by which a caller tells most names apart at once.
+    /// The first letter of its name. It is enough to tell most names apart.
     pub fn initial(&self) -> u8
         ensures { (rest : List ℕ) × (self.now.name ≡ result ∷ rest) }
     {
         self.identifier[0]
     }
 
-    /// Whether `name` is its name.
-    /// The name is the upper-case letters of the identifier: `GaMe` is named `GM` (this project's choice).
+    /// Whether its name is `name`. The name is the upper-case letters of the
+    /// identifier, so `GaMe` has the name `GM` (this project's choice).
     #[inline(always)]
     pub fn is(&self, name: &[u8]) -> bool
         ensures { IsTrue result ↔ (self.now.name ≡ name.now) }
@@ -54,8 +53,7 @@ impl<'a> PropRef<'a> {
         }
     }
 
-    /// Appends its name.
-    /// After a refusal of memory `out` is unchanged.
+    /// Appends its name. `MemoryFault` comes only if memory was refused; then `out` is unchanged.
     pub fn push_name(&self, out: &mut Vec<u8>) -> Result<(), MemoryFault>
         ensures appended { OnOk result (out.new.items ≡ out.old.items ++ self.now.name) }
         ensures unchanged { OnErr result (out.new.items ≡ out.old.items) }
@@ -70,15 +68,14 @@ impl<'a> PropRef<'a> {
         Ok(())
     }
 
-    /// Its raw values, to be taken off one after another.
+    /// Its raw values in file order, one after another.
     pub fn iter(&self) -> Values<'a>
         ensures { result ≡ values self.now }
     {
         Values::new(self.first, self.more)
     }
 
-    /// The number of its values, at least 1.
-    /// It goes over all of them.
+    /// The number of its values, at least 1. This goes over all of them.
     pub fn values(&self) -> usize
         ensures { result ≡ length (values self.now) }
     {
@@ -86,9 +83,10 @@ impl<'a> PropRef<'a> {
         left.count()
     }
 
-    /// Raw value `i`, counted from 0 in file order: the bytes between the `[` and the `]`.
-    /// It is a part of the text that was read, and lives as long as that.
-    /// It goes over the values before it, so whoever wants them all takes `iter`.
+    /// Raw value `i`, from 0 in file order: the bytes between its `[` and its `]`. `i` must be less than `values()`. The bytes
+    /// are a part of the text that was read, and live as long as it does.
+    ///
+    /// This goes over the values before it; to get all of them, use `iter`.
     pub fn value(&self, i: usize) -> &'a [u8]
         requires { i < length (values self.now) }
         ensures { slice_get (values self.now) i ≡ Some result.now }
@@ -97,7 +95,7 @@ impl<'a> PropRef<'a> {
     }
 }
 
-/// Whether an identifier is one capital or two, as nearly all are: then it is the name.
+/// Whether an identifier is one or two capitals, as nearly all are. Then it is the name.
 fn is_short_name(identifier: &[u8]) -> bool
     ensures { IsTrue result → name_in identifier.now ≡ identifier.now }
 {
@@ -108,7 +106,7 @@ fn is_short_name(identifier: &[u8]) -> bool
     }
 }
 
-/// Whether the capitals of an identifier are that name.
+/// Whether the capitals of an identifier are this name.
 #[inline(never)]
 fn is_name_in(identifier: &[u8], name: &[u8]) -> bool
     ensures { IsTrue result ↔ (name_in identifier.now ≡ name.now) }

@@ -1,7 +1,7 @@
 //! Reading a text.
 //!
-//! The text is gone over once. Each node that ends is pushed to a vector, the length of each long value to another, and a
-//! fault is reported at the first byte that no text of the grammar goes on with.
+//! The text is gone over once. Each node that ends is pushed to a vector, and the length of each long value to another. A fault
+//! is reported at the first byte with which no text of the grammar goes on.
 
 ghost use Rattle.std.specs.Prelude.{◌≡◌, ◌<◌, ◌≤◌, ◌↔◌, [], length, Err, IfOk, IfErr, OnOk};
 ghost use Rattle.sgf_tree.specs.Spelling.{Spells};
@@ -26,12 +26,11 @@ use crate::reader::mark::mark_end;
 use crate::reader::scan::skip_white_space;
 use std::alloc::Global;
 
-/// The collection that a text spells (SGF FF[4], EBNF).
-/// It refers to the text.
+/// Reads the collection that a text spells (SGF FF[4], EBNF). The collection refers to the text.
 ///
-/// A text longer than `MAX_LENGTH` bytes is `TooLong`, and no memory is taken for it.
-/// A text that spells no collection is `NotSgf`, at its first fault.
-/// Where memory was refused it is `Memory`, which may come in place of an answer or of `NotSgf`.
+/// - `TooLong`: the text is longer than `MAX_LENGTH` bytes. No memory is taken for it.
+/// - `NotSgf`: the text spells no collection. `at` is the offset in bytes, from 0, of its first fault.
+/// - `Memory`: memory was refused. This may come in place of a collection or of `NotSgf`.
 pub fn read<'a>(alloc: Global, text: &'a [u8]) -> Result<Collection<'a>, ReadFault>
     ensures too_long { (result ≡ Err ReadFault.TooLong) ↔ (MAX_LENGTH < length text.now) }
     ensures spelled { IfOk result (λ c. Spells c text.now) }
@@ -49,7 +48,7 @@ pub fn read<'a>(alloc: Global, text: &'a [u8]) -> Result<Collection<'a>, ReadFau
     }
 }
 
-/// Reads a whole text. The result is the number of its games.
+/// Reads a whole text. Returns the number of its games.
 fn read_whole(
     text: &[u8],
     nodes: &mut Vec<NodeEntry>,

@@ -9,12 +9,15 @@ use std::simd::prelude::*;
 
 /// Appends the decoded text of a raw value to `out` (SGF FF[4], Text).
 ///
-/// A `\` before a line break goes with it, and before another byte it goes alone. A line break is CR LF, LF CR, LF or
-/// CR and gives an LF. The bytes 9, 11 and 12 give a space, after a `\` too, and every other byte gives itself. (That
-/// two different bytes of CR and LF side by side, taken from the left, are one break, that a break gives an LF, and
-/// that a `\` as the last byte gives nothing are this project's choices.)
+/// - A line break is CR LF, LF CR, LF or CR, and becomes an LF.
+/// - A `\` before a line break goes with it. Before any other byte it goes alone, and so does a `\` that is the last byte.
+/// - The bytes 9, 11 and 12 become a space, after a `\` too.
+/// - Every other byte stays.
 ///
-/// `MemoryFault` comes where more memory was refused, and then `out` is unchanged.
+/// Three of these rules are this project's choices. A CR and an LF side by side, in either order and taken from the left, are one
+/// break. A break becomes an LF. A `\` as the last byte becomes nothing.
+///
+/// `MemoryFault` comes only if memory was refused; then `out` is unchanged.
 pub fn push_text(raw: &[u8], out: &mut Vec<u8>) -> Result<(), MemoryFault>
     ensures decoded { OnOk result (out.new.items ≡ out.old.items ++ text_of raw.now) }
     ensures unchanged { OnErr result (out.new.items ≡ out.old.items) }
@@ -33,10 +36,10 @@ pub fn push_text(raw: &[u8], out: &mut Vec<u8>) -> Result<(), MemoryFault>
     Ok(())
 }
 
-/// How many bytes are looked at together.
+/// The number of bytes that are looked at together.
 const TOGETHER: usize = 16;
 
-/// How many bytes at the front stand for themselves, whatever follows. There may be more.
+/// The number of bytes at the front that stand for themselves, whatever follows. There may be more.
 fn literal_length(raw: &[u8]) -> usize
     ensures within { result ≤ length raw.now }
     ensures literal { text_of raw.now ≡ take result raw.now ++ text_of (drop result raw.now) }
@@ -55,8 +58,8 @@ fn literal_length(raw: &[u8]) -> usize
     end
 }
 
-/// How many of the `TOGETHER` bytes at `at` come before the first one that is a `\` or a control byte up to CR, which may not
-/// stand for itself.
+/// How many of the `TOGETHER` bytes at `at` come before the first that may
+/// not stand for itself: a `\`, or a control byte up to CR.
 fn near_literals(raw: &[u8], at: usize) -> usize
     requires { at + TOGETHER ≤ length raw.now }
     ensures at_most { result ≤ TOGETHER }
@@ -68,7 +71,7 @@ fn near_literals(raw: &[u8], at: usize) -> usize
     first_bit(escapes).min(first_bit(controls))
 }
 
-/// The index of the lowest bit that is set, or `TOGETHER` where none is.
+/// The index of the lowest set bit; `TOGETHER` if none is set.
 fn first_bit(mask: u64) -> usize
     ensures { result ≡ lowest_bit mask }
 {
@@ -79,7 +82,7 @@ fn first_bit(mask: u64) -> usize
     }
 }
 
-/// The byte that the front of a raw value gives, if it gives one, and the rest.
+/// The byte that the front of a raw value becomes, if it becomes one, and the rest of the value.
 fn decode_front(raw: &[u8]) -> (Option<u8>, &[u8])
     ensures decoded { text_of raw.now ≡ option_to_list result.0 ++ text_of result.1.now }
     ensures room { length (option_to_list result.0) + length result.1.now ≤ length raw.now }
@@ -96,7 +99,7 @@ fn decode_front(raw: &[u8]) -> (Option<u8>, &[u8])
     }
 }
 
-/// A space for a tab, a vertical tab or a form feed, and every other byte itself.
+/// A space for a tab, a vertical tab or a form feed; any other byte stays.
 fn spaced(byte: u8) -> u8
     ensures { result ≡ spaced_rule byte }
 {

@@ -1,4 +1,4 @@
-//! Writing a node as the sgf form does. What stands so in the text is appended as it stands, and the rest part by part.
+//! Writing a node as the sgf form does. What the text already has in that form is appended as it is, and the rest part by part.
 
 ghost use Rattle.std.specs.Prelude.{◌≡◌, ◌≤◌, ◌++◌, OnOk, IfSome, length, drop};
 ghost use Rattle.std.specs.List.{flat_map};
@@ -14,7 +14,7 @@ use crate::reader::scan::{capitals_end, part, skip_white_space};
 use crate::reader::value::value_end;
 
 /// Appends the `;` of the node that the text begins with, and its properties.
-/// After a refusal of memory some of them are appended.
+/// After a refusal of memory some of these may be appended.
 #[tactic(auto, using(crate::proofs::GoingOn::goes_on_on))]
 pub(crate) fn push_node(
     text: &[u8],
@@ -31,8 +31,7 @@ pub(crate) fn push_node(
     push_properties(Properties::new(text, end, long), out)
 }
 
-/// Appends properties.
-/// After a refusal of memory some of them are appended.
+/// Appends properties. After a refusal of memory some of them may be appended.
 #[tactic(auto, using(crate::proofs::GoingOn::goes_on_on))]
 fn push_properties(properties: Properties<'_, '_>, out: &mut Vec<u8>) -> Result<(), MemoryFault>
     ensures appended { OnOk result (out.new.items ≡ out.old.items ++ flat_map property_text properties.entry) }
@@ -46,8 +45,7 @@ fn push_properties(properties: Properties<'_, '_>, out: &mut Vec<u8>) -> Result<
     Ok(())
 }
 
-/// Appends the name of a property and its values.
-/// After a refusal of memory some of them are appended.
+/// Appends the name of a property and its values. After a refusal of memory some of these may be appended.
 #[tactic(auto, using(crate::proofs::GoingOn::goes_on_on))]
 fn push_property(property: &PropRef<'_>, out: &mut Vec<u8>) -> Result<(), MemoryFault>
     ensures appended { OnOk result (out.new.items ≡ out.old.items ++ property_text property.now) }
@@ -60,8 +58,7 @@ fn push_property(property: &PropRef<'_>, out: &mut Vec<u8>) -> Result<(), Memory
     Ok(())
 }
 
-/// Appends a raw value between brackets.
-/// After a refusal of memory some of it is appended.
+/// Appends a raw value between brackets. After a refusal of memory some of it may be appended.
 #[tactic(auto, using(crate::proofs::GoingOn::goes_on_on))]
 fn push_value(value: &[u8], out: &mut Vec<u8>) -> Result<(), MemoryFault>
     ensures appended { OnOk result (out.new.items ≡ out.old.items ++ value_text value.now) }
@@ -73,7 +70,7 @@ fn push_value(value: &[u8], out: &mut Vec<u8>) -> Result<(), MemoryFault>
     Ok(())
 }
 
-/// The end of the properties at `at`, as far as they stand as the sgf form writes them.
+/// The end of the properties at `at`, as far as they are written as the sgf form writes them.
 pub(crate) fn written_properties_end(text: &[u8], at: usize, long: &Vec<LongValue>) -> usize
     requires within { at ≤ length text.now }
     requires held { ArePropertiesIn (drop at text.now) }
@@ -87,8 +84,7 @@ pub(crate) fn written_properties_end(text: &[u8], at: usize, long: &Vec<LongValu
     end
 }
 
-/// The end of the property at `at`.
-/// None where none is there, or one that doesn't stand as the sgf form writes it.
+/// The end of the property at `at`. None if there is none, or if it isn't written as the sgf form writes it.
 fn written_end(text: &[u8], at: usize, long: &Vec<LongValue>) -> Option<usize>
     requires within { at ≤ length text.now }
     requires kept { AreKeptEnds text.now long.now.items }
@@ -108,7 +104,8 @@ fn written_end(text: &[u8], at: usize, long: &Vec<LongValue>) -> Option<usize>
     Some(end)
 }
 
-/// The end of the values at `at`, as far as they stand as the sgf form writes them, with nothing between them.
+/// The end of the values at `at`, as far as they are written as the sgf form
+/// writes them, with nothing between them. None if one of them doesn't end.
 fn written_values_end(text: &[u8], at: usize, long: &Vec<LongValue>) -> Option<usize>
     requires within { at ≤ length text.now }
     requires kept { AreKeptEnds text.now long.now.items }

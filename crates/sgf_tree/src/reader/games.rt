@@ -15,8 +15,7 @@ use crate::reader::fault::PartFault;
 use crate::reader::properties::{ends_at_once, read_properties};
 use crate::reader::scan::skip_white_space;
 
-/// Reads all games, of which the first `(` may stand at `at`.
-/// The result is their number.
+/// Reads all games; the first `(` may be at `at`. Returns the number of games.
 pub(crate) fn read_games(
     text: &[u8],
     at: usize,
@@ -60,7 +59,7 @@ pub(crate) fn read_games(
     Ok(games)
 }
 
-/// The link of a game's first node, where that many games are whole and the innermost open one has that last node.
+/// The link of a game's first node, after `games` whole games. `innermost` is the last node of the innermost open game.
 fn opening_link(games: u32, innermost: Option<u32>) -> Link
     requires { games < MAX_LENGTH }
     ensures { (k : Stack) → tip k.closed k.unclosed ≡ innermost → game_count k.closed ≡ games
@@ -72,8 +71,8 @@ fn opening_link(games: u32, innermost: Option<u32>) -> Link
     }
 }
 
-/// Reads the own nodes of the game whose `(` stands before `at`. The first one gets that link.
-/// The result is the offset of the byte after them and the white space there.
+/// Reads the own nodes of the game whose `(` is just before `at`. The first node gets
+/// this link. Returns the offset after the nodes and the white space there.
 fn read_sequence(
     text: &[u8],
     at: usize,
@@ -103,8 +102,7 @@ fn read_sequence(
     Ok(end)
 }
 
-/// Reads the node whose `;` stands at `place`.
-/// The result is the offset of the byte after it and the white space there.
+/// Reads the node whose `;` is at `place`. Returns the offset after the node and the white space there.
 #[inline(always)]
 fn read_node(
     text: &[u8],
@@ -135,7 +133,7 @@ fn read_node(
 }
 
 /// Notes in the own nodes of a game that the last node of all is the last one below them.
-/// `tip` is the last own node. The result is the parent of the first one.
+/// `tip` is the last own node. Returns the parent of the first own node.
 fn close_game(nodes: &mut Vec<NodeEntry>, tip: u32) -> Option<u32>
     requires few { length nodes.old.items ≤ MAX_LENGTH }
     requires within { tip < length nodes.old.items }

@@ -11,8 +11,8 @@ use crate::reader::fault::PartFault;
 use crate::reader::scan::{identifier_end, skip_to_bracket, skip_white_space};
 use crate::reader::value::read_value;
 
-/// Whether the node before `at` has no properties, as a `;` or a parenthesis stands there: that is told before anything is
-/// called. Where it answers no, nothing is known.
+/// Whether the node before `at` has no properties, because the byte there ends the node, as a `;` or a parenthesis does. This is
+/// tested before anything is called. If it is false, nothing is known.
 #[inline(always)]
 pub(crate) fn ends_at_once(text: &[u8], at: usize) -> bool
     ensures { IsTrue result → ArePropertiesRead text.now at at }
@@ -23,8 +23,8 @@ pub(crate) fn ends_at_once(text: &[u8], at: usize) -> bool
     false
 }
 
-/// Reads the properties of a node, which begin at `at` or after white space there.
-/// The result is the offset of the byte after them and the white space there.
+/// Reads the properties of a node, which begin at `at` or after white space
+/// there. Returns the offset after them and the white space there.
 #[inline(never)]
 pub(crate) fn read_properties(
     text: &[u8],
@@ -45,8 +45,8 @@ pub(crate) fn read_properties(
     Ok(end)
 }
 
-/// Reads the property whose identifier begins at `start`, value after value.
-/// The result is the offset of the byte after it and the white space there.
+/// Reads the property whose identifier begins at `start`, value after
+/// value. Returns the offset after it and the white space there.
 fn read_property(text: &[u8], start: usize, long: &mut Vec<LongValue>) -> Result<usize, PartFault>
     requires short { length text.now ≤ MAX_LENGTH }
     requires within { start < length text.now }

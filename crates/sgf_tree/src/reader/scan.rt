@@ -24,7 +24,7 @@ pub(crate) fn part(text: &[u8], start: usize, end: usize) -> &[u8]
     &text[start..end]
 }
 
-/// The end of the white space that stands at `at`.
+/// The end of the white space at `at`.
 pub(crate) fn skip_white_space(text: &[u8], at: usize) -> usize
     requires { at ≤ length text.now }
     ensures { IsSpan is_white_space text.now at result }
@@ -36,14 +36,14 @@ pub(crate) fn skip_white_space(text: &[u8], at: usize) -> usize
     end
 }
 
-/// Space, tab, line feed, carriage return, vertical tab, form feed.
+/// Whether a byte is a space, tab, line feed, carriage return, vertical tab or form feed.
 fn is_white_space(byte: u8) -> bool
     ensures { result ≡ is_white_space byte }
 {
     byte <= b' ' && matches!(byte, b' ' | b'\t'..=b'\r')
 }
 
-/// The end of the white space that stands at `at`, where a value may begin: mostly there is none, but a `[` at once.
+/// The end of the white space at `at`, where a value may begin. Usually there is none, and a `[` is there.
 #[inline(always)]
 pub(crate) fn skip_to_bracket(text: &[u8], at: usize) -> usize
     requires { at ≤ length text.now }
@@ -67,8 +67,8 @@ pub(crate) fn identifier_end(text: &[u8], at: usize) -> usize
     }
 }
 
-/// The end of the name whose first capital stands at `at`, where it has one letter or two, as nearly all have, and a `[` follows.
-/// Where it answers None, nothing is known.
+/// The end of the name whose first capital is at `at`. It is found if the name has one or two
+/// letters, as nearly all have, and a `[` follows. If it is None, nothing is known.
 #[inline(always)]
 fn short_name_end(text: &[u8], at: usize) -> Option<usize>
     requires within { at < length text.now }
@@ -87,7 +87,7 @@ fn short_name_end(text: &[u8], at: usize) -> Option<usize>
     None
 }
 
-/// The end of the letters that stand at `at`.
+/// The end of the letters at `at`.
 fn letters_end(text: &[u8], at: usize) -> usize
     requires { at ≤ length text.now }
     ensures { IsSpan is_letter text.now at result }
@@ -99,7 +99,7 @@ fn letters_end(text: &[u8], at: usize) -> usize
     end
 }
 
-/// The end of the capitals that stand at `at`.
+/// The end of the capitals at `at`.
 pub(crate) fn capitals_end(text: &[u8], at: usize) -> usize
     requires { at ≤ length text.now }
     ensures { IsSpan is_upper text.now at result }
@@ -113,7 +113,7 @@ pub(crate) fn capitals_end(text: &[u8], at: usize) -> usize
     }
 }
 
-/// The same, one by one.
+/// The same, byte by byte.
 fn far_capitals_end(text: &[u8], at: usize) -> usize
     requires { at ≤ length text.now }
     ensures { IsSpan is_upper text.now at result }
@@ -125,22 +125,22 @@ fn far_capitals_end(text: &[u8], at: usize) -> usize
     end
 }
 
-/// Whether the text begins with a node that is written as `;B[pd]` is.
+/// Whether the text begins with a node that is written like `;B[pd]`.
 pub(crate) fn is_lone_node(text: &[u8]) -> bool
     ensures { IsTrue result → IsLoneNode text.now }
 {
     is_short_front(text) && ends_node(text, 6)
 }
 
-/// Whether the text begins with a node whose first property is written as `B[pd]` is, and has no other value.
-/// Where it answers no, nothing is known.
+/// Whether the text begins with a node whose first property is written like
+/// `B[pd]`, and has no other value. If it is false, nothing is known.
 pub(crate) fn is_lone_front(text: &[u8]) -> bool
     ensures { IsTrue result → IsLoneFront text.now }
 {
     is_short_front(text) && ends_values(text, 6)
 }
 
-/// Whether the values of a property end at `at`: white space there, or none, and another byte than `[`.
+/// Whether the values of a property end at `at`: white space, or none, and then no `[`.
 fn ends_values(text: &[u8], at: usize) -> bool
     requires { at ≤ length text.now }
     ensures { IsTrue result → IsPropertyEnd text.now at }
@@ -149,14 +149,14 @@ fn ends_values(text: &[u8], at: usize) -> bool
     end == text.len() || text[end] != b'['
 }
 
-/// Whether the text begins with a `;` and a property that is written as `B[pd]` is, and goes on.
+/// Whether the text begins with a `;` and a property that is written like `B[pd]`, and goes on after these.
 fn is_short_front(text: &[u8]) -> bool
     ensures { IsTrue result → IsShortFront text.now }
 {
     text.len() > 6 && text[1].is_ascii_uppercase() && text[2] == b'[' && is_two_plain(text, 3)
 }
 
-/// Whether a node ends at `at`, or after white space there. Where it answers no, nothing is known.
+/// Whether a node ends at `at`, or after white space there. If it is false, nothing is known.
 fn ends_node(text: &[u8], at: usize) -> bool
     requires { at ≤ length text.now }
     ensures { IsTrue result → IsNodeEnd text.now at }

@@ -1,5 +1,5 @@
 //! Where raw values end: at the first `]` that no `\` escapes. Nothing else in the crate says what ends a value.
-//! A long one is searched for its end once, when it is read: its length is kept for those who step over it later.
+//! The end of a long value is searched for once, when the value is read. Its length is then kept for later steps over it.
 
 ghost use Rattle.std.specs.Prelude.{◌≡◌, ◌≤◌, ◌+◌, length, IsTrue, IfSome, IfOk, IfErr, OnOk, MatchOption};
 ghost use Rattle.sgf_tree.specs.inner.Progress.{IsValueEnd, IsUnended, SpellsValue, SpellsNoValue, HasNoBracket, IsNextBracket, IsBareBracket, AreBackslashesBefore, AreEscapes, IsTwoPlain};
@@ -12,15 +12,14 @@ use crate::reader::fault::PartFault;
 use memchr::memchr;
 use std::simd::prelude::*;
 
-/// How many bytes are looked at before a search, which costs more to begin: sizes, names and clock times are short.
+/// The number of bytes that are looked at before a search, which costs more to begin. Sizes, names and clock times are short.
 const NEAR: usize = 16;
 
-/// How many bytes a value has at least whose length is kept: more than nearly all comments have, so that few are, and enough
-/// that a search costs more than a look-up.
+/// The least length of a value whose length is kept. Nearly all comments are shorter, so few
+/// lengths are kept. And a search over this many bytes costs more than a look-up.
 const LONG: usize = 4096;
 
-/// Reads the raw value at `at`.
-/// The result is where its `]` stands.
+/// Reads the raw value at `at`. Returns the offset of its `]`.
 pub(crate) fn read_value(
     text: &[u8],
     at: usize,
@@ -39,8 +38,7 @@ pub(crate) fn read_value(
     }
 }
 
-/// Reads the raw value at `at`, by searches, and keeps its length where it is long.
-/// The result is where its `]` stands.
+/// Reads the raw value at `at` by searches, and keeps its length if the value is long. Returns the offset of its `]`.
 #[inline(never)]
 fn read_far_value(text: &[u8], at: usize, long: &mut Vec<LongValue>) -> Result<usize, PartFault>
     requires short { length text.now ≤ MAX_LENGTH }
@@ -63,10 +61,10 @@ fn read_far_value(text: &[u8], at: usize, long: &mut Vec<LongValue>) -> Result<u
     Ok(end)
 }
 
-/// The `]` that ends the raw value at `at`.
-/// None where the text ends before it.
+/// The offset of the `]` that ends the raw value at `at`. None if the text ends before it.
 ///
-/// What was kept is handed over as a vector, as it goes through many hands and is looked at by few: so it is one word.
+/// What was kept is passed as a reference to a vector, which is one word.
+/// It is passed through many calls, and few of them read it.
 pub(crate) fn value_end(text: &[u8], at: usize, long: Option<&Vec<LongValue>>) -> Option<usize>
     requires within { at ≤ length text.now }
     requires kept { IfSome long (λ kept. AreKeptEnds text.now kept.now.items) }
@@ -78,8 +76,7 @@ pub(crate) fn value_end(text: &[u8], at: usize, long: Option<&Vec<LongValue>>) -
     }
 }
 
-/// The `]` that ends the raw value at `at`, by what was kept, or by searches.
-/// None where the text ends before it.
+/// The offset of the `]` that ends the raw value at `at`, by what was kept or by searches. None if the text ends before it.
 #[inline(never)]
 fn far_end(text: &[u8], at: usize, long: Option<&Vec<LongValue>>) -> Option<usize>
     requires within { at ≤ length text.now }
@@ -94,8 +91,7 @@ fn far_end(text: &[u8], at: usize, long: Option<&Vec<LongValue>>) -> Option<usiz
     far_value_end(text, at)
 }
 
-/// The `]` that ends the raw value at `at`, where its length was kept.
-/// Where it answers None, nothing is known.
+/// The offset of the `]` that ends the raw value at `at`, if the value's length was kept. If it is None, nothing is known.
 fn kept_end(text: &[u8], at: usize, long: &[LongValue]) -> Option<usize>
     requires within { at ≤ length text.now }
     requires kept { AreKeptEnds text.now long.now }
@@ -119,8 +115,7 @@ fn kept_end(text: &[u8], at: usize, long: &[LongValue]) -> Option<usize>
     }
 }
 
-/// The `]` that ends the raw value at `at`, where it is short, as most are.
-/// Where it answers None, nothing is known.
+/// The offset of the `]` that ends the raw value at `at`, if the value is short, as most are. If it is None, nothing is known.
 #[inline(always)]
 fn short_value_end(text: &[u8], at: usize) -> Option<usize>
     requires { at ≤ length text.now }
@@ -134,7 +129,7 @@ fn short_value_end(text: &[u8], at: usize) -> Option<usize>
     Some(near)
 }
 
-/// Whether the raw value at `at` is two bytes, as a point is, that stand for themselves.
+/// Whether the raw value at `at` is two bytes that stand for themselves, as in a point.
 pub(crate) fn is_two_plain(text: &[u8], at: usize) -> bool
     requires { at ≤ length text.now }
     ensures { IsTrue result → IsTwoPlain text.now at }
@@ -147,8 +142,8 @@ pub(crate) fn is_two_plain(text: &[u8], at: usize) -> bool
         && text[at + 1] != b'\\'
 }
 
-/// The `]` that ends the raw value at `at`, where it is the first one, among the `NEAR` bytes there.
-/// Where it answers None, nothing is known.
+/// The offset of the `]` that ends the raw value at `at`, if it is the first `]`
+/// among the `NEAR` bytes there. If it is None, nothing is known.
 fn near_value_end(text: &[u8], at: usize) -> Option<usize>
     requires { at ≤ length text.now }
     ensures { IfSome result (IsBareBracket text.now at) }
@@ -178,11 +173,10 @@ fn near_bracket(text: &[u8], at: usize) -> Option<usize>
     }
 }
 
-/// The `]` that ends the raw value at `at`, by searches.
-/// None where the text ends before it.
+/// The offset of the `]` that ends the raw value at `at`, by searches. None if the text ends before it.
 ///
-/// A `]` is escaped where an odd number of `\` stand directly before it. They are counted from the value's start on, or from the
-/// end of an escape on, since the bytes before belong to other units.
+/// A `]` is escaped if an odd number of `\` is directly before it. These are counted from the value's start on, or from the end
+/// of an escape on, because the bytes before that belong to other units.
 #[inline(never)]
 fn far_value_end(text: &[u8], at: usize) -> Option<usize>
     requires { at ≤ length text.now }
@@ -212,7 +206,7 @@ fn far_bracket(text: &[u8], at: usize) -> Option<usize>
     }
 }
 
-/// The first of the `\` that stand directly before `end`, from `at` on, or `end` where none does.
+/// The first of the `\` that are directly before `end`, from `at` on; `end` if there are none.
 fn first_escape(text: &[u8], at: usize, end: usize) -> usize
     requires rises { at ≤ end }
     requires within { end ≤ length text.now }
