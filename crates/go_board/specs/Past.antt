@@ -1,5 +1,5 @@
--- The past colourings of a game, each with whether it begins a stretch. Positional superko looks at the present stretch alone.
--- Reason.antt defines what it forbids.
+-- The past colourings of a game, each with whether it begins a stretch. Positional
+-- superko looks at the present stretch alone. Reason.antt defines what it forbids.
 use Rattle.std.specs.Prelude.{◌≡◌, ℕ, Bool, true, List, [], ◌∷◌, if◌then◌else◌}
 use Rattle.go_board.specs.Grid.{Grid}
 

@@ -1,5 +1,5 @@
--- The property values of SGF FF[4] that name points. Which values are passes, as `tt` may be, is defined in NodeValues.antt of
--- sgf_lines, for the values of moves.
+-- The property values of SGF FF[4] that name points. Which values are passes, as `tt` may
+-- be, is defined in NodeValues.antt of sgf_lines, for the values of moves.
 use Rattle.std.specs.Prelude.{ℕ, ◌-◌, ◌+◌, ◌&&◌, ◌==◌, nat_lt, nat_le, if◌then◌else◌, Option, Some, None, option_and_then, List, [], ◌∷◌}
 use Rattle.go_board.specs.declared.points.Point.{Point}
 use Rattle.go_board.specs.declared.points.Rect.{Rect}

@@ -20,8 +20,8 @@ fn with_stone(board: &Board, point: Point, cell: Cell) -> Board
     copy
 }
 
-/// Whether the present stretch holds exactly the expected boards: the last one alone if a stretch began anew with it, else the
-/// other two.
+/// Whether the present stretch holds exactly the expected boards: the last
+/// one alone if a stretch began anew with it, else the other two.
 fn has_alone<P: Past>(past: &P, anew: bool, empty: &Board, black: &Board, white: &Board) -> bool
     requires empty { HaveSide empty.now.side (P.held past.now) }
     requires black { HaveSide black.now.side (P.held past.now) }

@@ -1,5 +1,5 @@
-//! How a program uses `sgf_lines` with a text in memory: it gets the records of the lines in memory, or goes over the lines
-//! itself.
+//! How a program uses `sgf_lines` with a text in memory: it gets the
+//! records of the lines in memory, or goes over the lines itself.
 #![tactic(auto)]
 
 ghost use Rattle.std.specs.Prelude.{◌≡◌, List, IfOk};

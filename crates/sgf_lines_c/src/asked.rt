@@ -9,15 +9,15 @@ use sgf_lines::{Form, Options};
 #[repr(C)]
 #[derive(Clone, Copy)]
 pub struct Asked {
-    /// How each line is written: 0 as a row of the list, 1 as a game (SGF FF[4]), 2 as a script (Go Text Protocol, version 2). No
-    /// other number names a form.
+    /// How each line is written: 0 as a row of the list, 1 as a game (SGF FF[4]), 2 as
+    /// a script (Go Text Protocol, version 2). No other number names a form.
     pub form: u32,
     /// Whether `after` counts; if not, `after` is ignored.
     pub has_after: bool,
     /// Whether `limit` counts; if not, `limit` is ignored.
     pub has_limit: bool,
-    /// Keeps only the lines that follow the line with this place. A line's place is the offset in bytes, from 0, of the `;` of
-    /// its last node.
+    /// Keeps only the lines that follow the line with this place. A line's place
+    /// is the offset in bytes, from 0, of the `;` of its last node.
     pub after: u64,
     /// Keeps at most this many of those lines, the first ones.
     pub limit: u64,

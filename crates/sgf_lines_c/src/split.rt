@@ -14,8 +14,8 @@ use std::alloc::Global;
 /// Splits the collection that the text spells (SGF FF[4], EBNF). Writes the records of the lines asked for to the front of the
 /// room, and returns the number of a `Status`.
 ///
-/// - `Done`: the records are at the front of the room, and the rest of it is unchanged. `lines` is the number of their lines,
-///   `bytes` their length.
+/// - `Done`: the records are at the front of the room, and the rest of it is
+///   unchanged. `lines` is the number of their lines, `bytes` their length.
 /// - `RoomTooSmall`: the same two numbers. So `bytes` is the room that the records need.
 /// - `NotSgf`: `at` is the offset in bytes, from 0, of the first faulty byte.
 /// - `EndsEarly`: `at` is the length of the text.
@@ -71,8 +71,8 @@ fn put(records: &[u8], lines: u64, room: &mut [u8]) -> (Status, Answer)
     (Status::Done, told)
 }
 
-/// What a failed run reports. Its source is a text in memory, which never fails. Its sink is a vector, which fails only if memory
-/// is refused.
+/// What a failed run reports. Its source is a text in memory, which never
+/// fails. Its sink is a vector, which fails only if memory is refused.
 fn refusal(fault: RunFault) -> (Status, Answer)
     ensures { (options : Options) → (text taken room : List ℕ)
         → IsRunOf options text taken (Err fault) → Says options text room room result.1 result.0 }

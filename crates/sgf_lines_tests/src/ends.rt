@@ -77,8 +77,8 @@ impl Source for Trickle<'_> {
     }
 }
 
-/// A run from a source that fails after so many calls. The run fails and writes nothing, unless the source gets to its end
-/// before.
+/// A run from a source that fails after so many calls. The run fails and
+/// writes nothing, unless the source gets to its end before.
 fn source_fails(alloc: Global, calls: usize, seen: &mut Seen) {
     seen.call();
     let mut source = byte_by_byte(calls);

@@ -171,8 +171,8 @@ fn turn_from<P: Past>(
     }
 }
 
-/// Sets up white stones on the top row of three points. If memory was refused, the game must be unchanged, and they are set up
-/// once more.
+/// Sets up white stones on the top row of three points. If memory was
+/// refused, the game must be unchanged, and they are set up once more.
 fn set_top_up<P: Past>(game: &mut Referee<P>, seen: &mut Seen) {
     let before = Shown::of(game);
     set_top_up_from(&before, game, seen);

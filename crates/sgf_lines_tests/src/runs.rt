@@ -115,8 +115,8 @@ fn pages(alloc: Global, seen: &mut Seen) {
     }
 }
 
-/// Splits a text. If memory was refused, the sink must hold exactly the whole records of the first lines, and not be flushed.
-/// Then splits once more.
+/// Splits a text. If memory was refused, the sink must hold exactly the whole
+/// records of the first lines, and not be flushed. Then splits once more.
 fn splits(alloc: Global, run: Run<'_>, seen: &mut Seen) {
     seen.call();
     let mut source = SliceSource::new(run.text);
@@ -131,8 +131,8 @@ fn splits(alloc: Global, run: Run<'_>, seen: &mut Seen) {
     is_whole(answer, &page, run, seen);
 }
 
-/// The same with a count of plays. If memory was refused, the count must be at least the plays for the lines written, and at most
-/// those for one more line.
+/// The same with a count of plays. If memory was refused, the count must be at least
+/// the plays for the lines written, and at most those for one more line.
 fn splits_with_plays(alloc: Global, run: Run<'_>, seen: &mut Seen) {
     seen.call();
     let mut source = SliceSource::new(run.text);

@@ -132,8 +132,8 @@ fn name(collection: &Collection<'_>, out: &mut Vec<u8>, seen: &mut Seen) {
     seen.right(out.as_slice() == b"xGM;GM[1]".as_slice(), "a node appended");
 }
 
-/// Appends a name to a vector with these bytes. If memory was refused, the vector must be unchanged, and the name is appended
-/// once more.
+/// Appends a name to a vector with these bytes. If memory was refused, the
+/// vector must be unchanged, and the name is appended once more.
 fn append_name(property: &PropRef<'_>, before: &[u8], out: &mut Vec<u8>, seen: &mut Seen) {
     seen.call();
     if property.push_name(out).is_err() {
@@ -143,8 +143,8 @@ fn append_name(property: &PropRef<'_>, before: &[u8], out: &mut Vec<u8>, seen: &
     }
 }
 
-/// Appends a node to a vector with these bytes. If memory was refused, the vector must be unchanged, and the node is appended
-/// once more.
+/// Appends a node to a vector with these bytes. If memory was refused, the
+/// vector must be unchanged, and the node is appended once more.
 fn append_node(node: &NodeRef<'_, '_>, before: &[u8], out: &mut Vec<u8>, seen: &mut Seen) {
     seen.call();
     if node.push_to(out).is_err() {
@@ -172,8 +172,8 @@ fn text_twice(raw: &[u8], text: &[u8], out: &mut Vec<u8>, seen: &mut Seen) {
     seen.right(is_twice, "a decoded text after another");
 }
 
-/// Appends a decoded text to a vector with these bytes. If memory was refused, the vector must be unchanged, and the text is
-/// appended once more.
+/// Appends a decoded text to a vector with these bytes. If memory was refused, the
+/// vector must be unchanged, and the text is appended once more.
 fn append_text(raw: &[u8], before: &[u8], out: &mut Vec<u8>, seen: &mut Seen) {
     seen.call();
     if push_text(raw, out).is_err() {

@@ -1,8 +1,8 @@
 //! Worked examples of `sgf_tree`, which call it as any other crate does: nodes, names, values and numbers.
 //!
-//! They are in a crate of their own because a crate with tests is proved once more with them. Tests of the program cover first
-//! faults, places, values and decoded text (`tests/program.sh`, `tests/values.sh`). `sgf_lines_tests` covers parents and the last
-//! nodes below.
+//! They are in a crate of their own because a crate with tests is proved once more with them. Tests of
+//! the program cover first faults, places, values and decoded text (`tests/program.sh`,
+//! `tests/values.sh`). `sgf_lines_tests` covers parents and the last nodes below.
 //!
 //! | Module | Examples of |
 //! |---|---|

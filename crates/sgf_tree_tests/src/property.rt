@@ -1,5 +1,5 @@
-//! Names of properties, which are the capitals of the written identifiers; and values, which are parts of the text and live as
-//! long as it does.
+//! Names of properties, which are the capitals of the written identifiers; and
+//! values, which are parts of the text and live as long as it does.
 
 use sgf_tree::read;
 use std::alloc::Global;

@@ -12,8 +12,8 @@ fresh_source remaining = record { failures = 0; given = None; to_come = remainin
 abbrev pub fresh_stream : SinkState
 fresh_stream = record { failures = 0; taken = None; delivered = None }
 
--- The job was done over a reader with these bytes to come, and ended with the status. Or the status is 4, since memory was
--- refused before that.
+-- The job was done over a reader with these bytes to come, and ended with the
+-- status. Or the status is 4, since memory was refused before that.
 abbrev pub IsStatusOf : Job → Option (List ℕ) → ℕ → Type 0
 IsStatusOf job remaining status =
     ((source : SourceState) × (output : SinkState) × (faults : SinkState) × IsAct job (fresh_source remaining) source fresh_stream output fresh_stream faults status)

@@ -21,8 +21,8 @@ WritesCounts (Ok counts) output new_output fault =
     (written : Result (Unit {0}) RunFault) × IsWriting (counts_row counts) output new_output written × (fault ≡ result_err written)
 WritesCounts (Err met) output new_output fault = (new_output ≡ output) × (fault ≡ Some met)
 
--- A job was done over a source and a sink, to its end or up to a fault. A split has the result of a run with its options, and a
--- count has the result of a count.
+-- A job was done over a source and a sink, to its end or up to a fault. A split has the
+-- result of a run with its options, and a count has the result of a count.
 abbrev pub DoesJob : Job → SourceState → SourceState → SinkState → SinkState → Option RunFault → Type 0
 DoesJob (Split options file) source new_source output new_output fault =
     (result : Result ℕ RunFault) × IsRun options source new_source output new_output result × (fault ≡ result_err result)

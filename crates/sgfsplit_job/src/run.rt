@@ -16,9 +16,9 @@ use std::alloc::Global;
 
 /// Does a job, reports its fault if there is one, and returns the exit status.
 ///
-/// With status 0 the output has delivered all that it took, and `faults` is unchanged. With another status the output holds what
-/// was written before the fault. After refused memory it is flushed, whatever the flush returns: whole records are then
-/// delivered.
+/// With status 0 the output has delivered all that it took, and `faults` is unchanged. With
+/// another status the output holds what was written before the fault. After refused memory it
+/// is flushed, whatever the flush returns: whole records are then delivered.
 ///
 /// The row of a fault goes to `faults`, which is flushed. If `faults` fails, the status is the same.
 pub fn act<S: Source, T: Sink, E: Sink>(
@@ -100,8 +100,8 @@ pub fn tell<E: Sink>(fault: &Fault, faults: &mut E) -> u8
 /// Shows clap's text, and returns the exit status. Help goes to `output`, with status 0. An error about the words goes to
 /// `faults`, with status 2, even if `faults` fails.
 ///
-/// Help that can't be written is reported as a failed write, with status 3. If memory for the text is refused, that is reported
-/// with status 4.
+/// Help that can't be written is reported as a failed write, with status 3. If
+/// memory for the text is refused, that is reported with status 4.
 pub fn show<T: Sink, E: Sink>(alloc: Global, error: &Error, output: &mut T, faults: &mut E) -> u8
     requires output_counts { (T.state output.old).failures < u64.MAX }
     requires faults_count { (E.state faults.old).failures < u64.MAX }

@@ -19,9 +19,9 @@ use std::alloc::{AllocError, Global};
 
 /// The job that the words ask for. The first word is the program's own name.
 ///
-/// A number is at most 18,446,744,073,709,551,615. Words that aren't a job of `sgfsplit split` or `sgfsplit count` are refused
-/// with `JobFault::Words`, which has clap's text and status. So are words that ask for help. Refused memory is
-/// `JobFault::Memory`.
+/// A number is at most 18,446,744,073,709,551,615. Words that aren't a job of `sgfsplit
+/// split` or `sgfsplit count` are refused with `JobFault::Words`, which has clap's text and
+/// status. So are words that ask for help. Refused memory is `JobFault::Memory`.
 pub fn job<'a>(alloc: Global, words: &'a [String]) -> Result<Job, JobFault>
     // Each option is given or not, in the order of the help. FILE is given or not.
     ensures split { (name : Word) (given : SplitWords) → ArePlainWords given

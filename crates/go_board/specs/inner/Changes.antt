@@ -39,8 +39,8 @@ abbrev pub after_changes : Grid → List Change → Grid
 after_changes grid [] = grid
 after_changes grid (change ∷ others) = after_changes (with_change grid change) others
 
--- The new changes are the old ones and some more. On each point of a grid of that side, those turn what stands there into what
--- `make` says.
+-- The new changes are the old ones and some more. On each point of a grid of
+-- that side, those turn what stands there into what `make` says.
 pub record MakeMore (side : ℕ) (make : Point → Cell → Cell) (old new : List Change) : Type 0 where
   pub more : List Change
   pub added : new ≡ old ++ more

@@ -9,8 +9,8 @@ use Rattle.go_board.specs.Grid.{Grid, cell_at}
 use Rattle.go_board.specs.Reaching.{Reaches, reaches}
 use Rattle.go_board.specs.Clearing.{clear}
 
--- The points that pass the test are stones of one colour. Each stone of that colour beside one of them passes, too. No point
--- beside them is empty.
+-- The points that pass the test are stones of one colour. Each stone of that
+-- colour beside one of them passes, too. No point beside them is empty.
 pub record IsWithoutLiberty (grid : Grid) (colour : Colour) (test : Point → Bool) : Type 0 where
   pub stones : (point : Point) → IsOn grid.side point → IsTrue (test point) → cell_at grid point ≡ stone_of colour
   pub shut : (point neighbour : Point) → IsOn grid.side point → IsOn grid.side neighbour → AreAdjacent point neighbour
@@ -47,8 +47,8 @@ pub record IsWithout (before after : Grid) (Gone : Point → Type 0) : Type 0 wh
   pub emptied : (point : Point) → IsOn before.side point → Gone point → cell_at after point ≡ Empty
   pub kept : (point : Point) → IsOn before.side point → (¬ Gone point) → cell_at after point ≡ cell_at before point
 
--- `after` is `before` without some stones of a colour. What reached empty still does, and clearing the colour gives the same
--- grid.
+-- `after` is `before` without some stones of a colour. What reached empty
+-- still does, and clearing the colour gives the same grid.
 pub record LosesShut (before after : Grid) (colour : Colour) : Type 0 where
   pub same_side : after.side ≡ before.side
   pub all : length after.cells ≡ length before.cells

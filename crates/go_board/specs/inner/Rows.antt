@@ -32,8 +32,8 @@ HasBeside room set =
 abbrev pub HasNext : (ℕ → Bool) → (ℕ → Bool) → Type 0
 HasNext room set = (col : ℕ) → IsTrue (set col) → IsTrue (room (suc col)) → IsTrue (set (suc col))
 
--- A word is the seed, and columns that each closed set with the seed also has. All of them are within the room. Towards the next
--- columns the word is as wide as it can be.
+-- A word is the seed, and columns that each closed set with the seed also has. All of them
+-- are within the room. Towards the next columns the word is as wide as it can be.
 pub record IsWidened (room seed word : ℕ) : Type 0 where
   pub within : IsPart (has_bit word) (has_bit room)
   pub kept : IsPart (has_bit seed) (has_bit word)

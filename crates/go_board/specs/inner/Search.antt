@@ -28,8 +28,8 @@ with_found search point =
     if is_marked search.marking point then search
     else record { marking = with_mark search.marking point; found = search.found ++ point ∷ []; taken = search.taken }
 
--- What holds of every search: as many points are marked as were found, and those are on the grid and marked. No more are taken
--- than found.
+-- What holds of every search: as many points are marked as were found, and
+-- those are on the grid and marked. No more are taken than found.
 pub record IsSound (search : Searched) : Type 0 where
   pub all_marks : length search.marking.marks ≡ search.marking.side * search.marking.side
   pub counted : marked_count search.marking ≡ length search.found

@@ -1,13 +1,13 @@
--- A list of prints, oldest first, in which those with the same key are linked. A number in a link or a head is an index plus 1; 0
--- means none.
+-- A list of prints, oldest first, in which those with the same key are linked.
+-- A number in a link or a head is an index plus 1; 0 means none.
 use Rattle.std.specs.Prelude.{◌≡◌, ◌≢◌, ℕ, ◌-◌, ◌*◌, ◌/◌, ◌%◌, ◌^◌, ◌<◌, ◌≤◌, Option, Some, None, List, length, slice_index, bit_and, bit_xor}
 
 -- a 64-bit number whose low half depends on all bits of another one
 abbrev pub folded : ℕ → ℕ
 folded word = bit_xor word (word / 2 ^ 32)
 
--- A print is linear in the cells, so moves can be chosen whose prints have the same low bits. A key depends on all bits of its
--- print, and isn't linear.
+-- A print is linear in the cells, so moves can be chosen whose prints have the same
+-- low bits. A key depends on all bits of its print, and isn't linear.
 abbrev pub scattered : ℕ → ℕ
 scattered print = folded (folded print * 15485907386658061715 % 2 ^ 64)
 
@@ -21,8 +21,8 @@ pub record IsNewest (size : ℕ) (prints : List ℕ) (count key number : ℕ) : 
   pub there : 0 < number → key_of size (slice_index prints (number - 1)) ≡ key
   pub newest : (index : ℕ) → number ≤ index → index < count → key_of size (slice_index prints index) ≢ key
 
--- The first `count` prints are linked. Each head has the newest print of its key. Each link has the newest earlier print of the
--- same key.
+-- The first `count` prints are linked. Each head has the newest print of
+-- its key. Each link has the newest earlier print of the same key.
 pub record AreLinked (prints : List ℕ) (count : ℕ) (heads links : List ℕ) : Type 0 where
   pub by_head : (key : ℕ) → key < length heads → IsNewest (length heads) prints count key (slice_index heads key)
   pub by_link : (index : ℕ) → index < count

@@ -98,8 +98,8 @@ pub record AreOwnNodes (nodes : List NodeEntry) (first last : ℕ) : Type 0 wher
 abbrev pub without_last : NodeEntry → NodeEntry
 without_last entry = record { place = entry.place; link = entry.link; last_below = 0 }
 
--- The nodes from `first` to `last` got the number of the last node, and nothing else changed. `parent` is the parent of the
--- first.
+-- The nodes from `first` to `last` got the number of the last node, and
+-- nothing else changed. `parent` is the parent of the first.
 pub record ClosesGame (old new : List NodeEntry) (first last : ℕ) (parent : Option ℕ) : Type 0 where
   pub same : map without_last new ≡ map without_last old
   pub lasts_are : map (λ (n : NodeEntry). n.last_below) new

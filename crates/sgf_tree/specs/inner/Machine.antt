@@ -17,8 +17,8 @@ pub record Stack : Type 0 where
   pub closed : Games
   pub unclosed : List OpenGame
 
--- a node whose end hasn't come yet: the games before it, whether it is the first after a `(`, its place, and its properties so
--- far
+-- a node whose end hasn't come yet: the games before it, whether it is
+-- the first after a `(`, its place, and its properties so far
 pub record Started : Type 0 where
   pub stack : Stack
   pub opens : Bool
