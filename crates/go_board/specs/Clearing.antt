@@ -21,9 +21,9 @@ cleared_cell grid colour point =
 unfoldable pub clear : Grid → Colour → Grid
 clear grid colour = grid_of grid.side (cleared_cell grid colour)
 
--- Playing a stone: the point takes the player's colour. Then the opponent's colour is cleared,
--- which captures. Then the player's own colour is cleared, which is suicide. Suicide is legal,
--- except of the stone alone, which restores the colouring before it (Reason.antt).
+-- Playing a stone: the point takes the player's colour. Then the opponent's colour is cleared, which
+-- captures. Then the player's own colour is cleared, which is suicide. Suicide is legal. But the suicide
+-- of a lone stone repeats the colouring before it, and is refused for that (Reason.antt).
 unfoldable pub play : Grid → Colour → Point → Grid
 play grid colour point = clear (clear (with_cell grid point (stone_of colour)) (opponent colour)) colour
 

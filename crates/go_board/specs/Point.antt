@@ -1,4 +1,4 @@
--- Points and rectangles of a square grid. Columns count from 0 from the left, rows from 0 from the top.
+-- Points and rectangles of a square grid. Columns are counted from 0 at the left, rows from 0 at the top.
 use Rattle.std.specs.Prelude.{◌≡◌, ℕ, ◌+◌, ◌*◌, ◌/◌, ◌%◌, ◌<◌, ◌≤◌, ◌⊎◌, Bool, ◌&&◌, ◌||◌, ◌==◌, List, map}
 use Rattle.std.specs.List.{range_with_len}
 use Rattle.go_board.specs.declared.points.Point.{Point}

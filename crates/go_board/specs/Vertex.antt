@@ -7,6 +7,6 @@ use Rattle.go_board.specs.declared.vertices.Vertex.{Vertex}
 abbrev pub column_letters : List ℕ
 column_letters = codes "ABCDEFGHJKLMNOPQRSTUVWXYZ"
 
--- A point as a vertex, on sides up to 25: the letter of its column, and its row from 1 from the bottom.
+-- A point as a vertex, on sides up to 25: the letter of its column, and its row counted from 1 at the bottom.
 unfoldable pub vertex_of : Point → ℕ → Vertex
 vertex_of point side = record { letter = slice_index column_letters point.col; row = side - point.row }

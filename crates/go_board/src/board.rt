@@ -25,7 +25,8 @@ pub struct Board {
     size: Size,
     /// The stones, as rows of words.
     rows: StoneRows,
-    /// Whether every stone is known to reach empty. After a move it is. A colouring from outside can have a stone that doesn't.
+    /// Whether every stone is known to reach empty. This is known after a
+    /// move. A colouring from outside can have a stone that doesn't.
     settled: bool,
     /// The print of the colouring, if it is known.
     print: u64,

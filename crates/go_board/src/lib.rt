@@ -1,7 +1,7 @@
 //! The board of the game of Go, by the Tromp-Taylor rules, and a referee of a game on it.
 //!
-//! A `Board` is a square of 1 to 52 points a side, with what stands on them. (52 is the largest side whose points SGF FF[4] can
-//! name.) Playing a stone takes off the opponent's groups without a liberty, and then the player's own (suicide).
+//! A `Board` is a square of 1 to 52 points a side, with what stands on its points. (52 is the largest side whose points SGF FF[4]
+//! can name.) Playing a stone takes off the opponent's groups without a liberty, and then the player's own (suicide).
 //!
 //! A `Referee` is seen as the list of the states that a game went through. An accepted setup or turn adds the state that the
 //! rules give. A refusal changes nothing, and undo takes the newest state back. A turn that would bring back a colouring since

@@ -10,9 +10,9 @@ use crate::size::Size;
 /// from 0. It is on a board of side n if both are less than n.
 #[derive(Clone, Copy, Debug, PartialEq, Eq)]
 pub struct Point {
-    /// The column, from 0 from the left.
+    /// The column, counted from 0 at the left.
     pub col: u8,
-    /// The row, from 0 from the top.
+    /// The row, counted from 0 at the top.
     pub row: u8,
 }
 

@@ -1,5 +1,5 @@
 //! The points and rectangles that property values name (SGF FF[4], "Point" and "compressed point
-//! lists"). Callers tell a pass, as `tt` may be, from a point before they call these functions.
+//! lists"). `tt` may be a pass, so callers sort out passes before they call these functions.
 
 ghost use Rattle.std.specs.Prelude.{◌≡◌, IfSome};
 ghost use Rattle.go_board.specs.Point.{IsOn, IsRectOn};

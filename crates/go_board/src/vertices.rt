@@ -12,7 +12,7 @@ pub const MAX_VERTEX_SIDE: u8 = 25;
 pub struct Vertex {
     /// The ASCII letter of the column: A to Z without I, from the left.
     pub letter: u8,
-    /// The number of the row, from 1 from the bottom.
+    /// The number of the row, counted from 1 at the bottom.
     pub row: u8,
 }
 
@@ -22,8 +22,8 @@ pub(crate) mod naming {
     use crate::size::Size;
     use crate::vertices::{MAX_VERTEX_SIDE, Vertex};
 
-    /// The vertex of a point (GTP, version 2): the letter of its column, A to Z without I from the left, and the number of its
-    /// row, from 1 from the bottom. The point must be on the board, and the side at most `MAX_VERTEX_SIDE`.
+    /// The vertex of a point (GTP, version 2). It is the letter of its column, A to Z without I from the left, and the number of
+    /// its row, counted from 1 at the bottom. The point must be on the board, and the side at most `MAX_VERTEX_SIDE`.
     #[tactic(auto, unfolding(crate::specs::Vertex::vertex_of))]
     pub fn vertex(point: Point, size: Size) -> Vertex
         requires on_board { IsOn size point }

@@ -118,7 +118,7 @@ fn ko<P: Past>(rt: &impl Abort, alloc: Global) -> Result<(), Fail> {
     Ok(())
 }
 
-/// Fills a board of side 9 with eighty black stones, up to its last point, while White passes.
+/// Fills a board of side 9 with black stones, except for its last point, while White passes.
 fn fill_but_one<P: Past>(rt: &impl Abort, game: &mut Referee<P>) {
     for index in 0..80u8 {
         if index > 0 {

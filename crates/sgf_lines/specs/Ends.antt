@@ -29,7 +29,7 @@ IsGet old new buffer (Ok n) = (n ≤ length buffer) × Gives old new (take n buf
 IsGet old new buffer (Err _) = GivesNothing old new
 
 -- A sink: how often it has failed, the bytes that it has taken so far, and the prefix of these
--- that it has delivered. Delivered bytes were handed on, and are no longer held back. A list is
+-- that it has delivered. Delivered bytes were passed on, and are no longer held back. A list is
 -- None if the sink doesn't report it. Contracts say nothing of that list then.
 pub record SinkState : Type 0 where
   pub failures : ℕ

@@ -46,7 +46,7 @@ judged_on (board side) nodes = judged_by (walk side nodes)
 abbrev pub judged_nodes : Line → List Node
 judged_nodes line = judged_on (game_kind (root_properties line.nodes)) line.nodes
 
--- the verdict is that of the line that ends in the node with this number
+-- the verdict of the line that ends in the node with this number
 pub record IsVerdictAt (games : Games) (leaf : ℕ) (told : Verdict) : Type 0 where
   pub index : ℕ
   pub line : Line

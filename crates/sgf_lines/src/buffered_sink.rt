@@ -14,9 +14,9 @@ const CAPACITY: usize = 65_536;
 
 /// A sink over any writer that holds back up to 65,536 bytes.
 ///
-/// It writes what it holds back when there is no room for more, and at a flush, which also
-/// flushes the writer. It passes longer bytes than it can hold straight to the writer. If the
-/// writer reports its bytes, the sink reports those that it has taken and delivered.
+/// It writes what it holds back when there is no room for more, and at a flush, which also flushes
+/// the writer. Bytes that are too long to be held are passed straight to the writer. If the writer
+/// reports its bytes, the sink reports those that it has taken and delivered.
 ///
 /// An interrupted write, or one of 0 bytes, counts as failed, too. After a failure the writer isn't
 /// called again. Nor is it called when the sink is dropped: what was held back is lost.

@@ -1,4 +1,4 @@
-//! Runs whose source or sink takes or gives little at a time, and fails.
+//! Runs from a source that gives little at a time, or to a sink that takes little at a time, and that fails.
 
 ghost use Rattle.std.specs.Prelude.{◌≡◌, ◌≤◌, None, []};
 

@@ -111,7 +111,7 @@ fn is_line(given: Option<LineRef<'_>>, line: Line<'_>) -> bool {
     }
 }
 
-/// Seeks a place, which is a line's or no line's. If memory was refused, seeks once more.
+/// Seeks a place; `is_line` says whether a line has it. If memory was refused, seeks once more.
 fn seek(cursor: &mut Cursor<'_, '_>, place: u64, is_line: bool, seen: &mut Seen) {
     seen.call();
     let sought = match cursor.seek_after(place) {

@@ -2,8 +2,8 @@
 use Rattle.std.specs.Prelude.{◌≡◌, ◌≢◌, ℕ, ◌+◌, ◌-◌, ◌<◌, ◌≤◌, Bool, true, false, if◌then◌else◌, nat_lt, List, [], ◌∷◌, ◌++◌, length, slice_get, Option, Some, None, option_map}
 use Rattle.sgf_tree.specs.Tree.{Node, Games, no_games, game, node_count}
 
--- A node; the number of the node before it on its line (None for the root of a
--- game of the collection); whether it is the first after a `(`.
+-- A node, the number of its parent, and whether it is the first after a `(`. The parent is
+-- the node before it on its line; None for the root of a game of the collection.
 pub record OrderedNode : Type 0 where
   pub node : Node
   pub parent : Option ℕ

@@ -213,7 +213,7 @@ fn begins_value(text: &[u8], at: usize) -> bool
     bracket < text.len() && text[bracket] == b'['
 }
 
-/// The end of the values at `at`, of which there may be many.
+/// The end of the values at `at`, however many there are.
 #[inline(never)]
 fn far_values_end(text: &[u8], at: usize, long: &Vec<LongValue>) -> usize
     requires within { at ≤ length text.now }

@@ -5,8 +5,11 @@ use Rattle.sgf_lines.specs.declared.fault.RunFault.TheVariants.{Read, TooLong, N
 use Rattle.sgfsplit_job.specs.declared.fault.Fault.{Fault}
 use Rattle.sgfsplit_job.specs.declared.fault.Fault.TheVariants.{Open, NotUtf8, Run}
 
--- 1: the input is refused, or no line has the place that was asked for. 2: a word isn't UTF-8. 3: FILE can't be opened, or a
--- read, a write or the flush failed. 4: memory was refused.
+-- The exit status:
+-- - 1: the input is refused, or no line has the place that was asked for.
+-- - 2: a word isn't UTF-8.
+-- - 3: FILE can't be opened, or a read, a write or the flush failed.
+-- - 4: memory was refused.
 abbrev pub status_of : Fault → ℕ
 status_of Open = 3
 status_of NotUtf8 = 2

@@ -18,7 +18,7 @@ abbrev pub first_grid : List Held → Option Grid
 first_grid [] = None
 first_grid (first ∷ others) = Some first.colouring
 
--- the colouring with this number, from 0 from the oldest
+-- the colouring with this number, counted from 0 at the oldest
 abbrev pub IsNumber : List Held → ℕ → Grid → Type 0
 IsNumber held number grid = first_grid (drop (length held - 1 - number) held) ≡ Some grid
 

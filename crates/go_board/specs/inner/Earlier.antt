@@ -60,8 +60,8 @@ abbrev pub AreBounded : List Earlier → Type 0
 AreBounded [] = Unit {0}
 AreBounded (kept ∷ others) = (kept.passes ≤ 2) × (kept.turns ≤ length others) × AreBounded others
 
--- What a referee keeps, with its earlier states newest first. The past colourings have one side. At
--- least as many of them are older ones as calls made the past grow. There are at most two passes, and
+-- What a referee keeps, with its earlier states newest first. The past colourings have one side,
+-- and at least as many older ones as calls made the past grow. There are at most two passes, and
 -- at most as many turns as earlier states. The oldest state is the starting one.
 pub record IsRefereeKept (past : PastColourings) (player : Option Colour) (passes turns : ℕ) (earlier : List Earlier) : Type 0 where
   pub one_side : HaveSide (newest_grid past).side past

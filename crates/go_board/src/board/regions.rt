@@ -17,7 +17,7 @@ use crate::size::MAX_ROWS;
 use crate::stones::Colour;
 
 impl Board {
-    /// The black points with the empty ones that reach black, and the white points with the empty ones that reach white.
+    /// The black points, and the empty points that reach black. The white points, and the empty points that reach white.
     pub(crate) fn areas(&self, black: &mut [u64], white: &mut [u64])
         requires black { length black.old ≡ self.now.side }
         requires white { length white.old ≡ self.now.side }

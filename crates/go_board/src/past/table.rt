@@ -212,7 +212,7 @@ fn key_of(heads: usize, print: u64) -> usize
 }
 
 /// A number that depends on all bits of a print, and isn't linear in them. Prints are linear in the cells, so moves can be chosen
-/// whose prints have the same low bits. If these were the key, each look-up would go over all of them.
+/// whose prints have the same low bits. With those bits as the key, each look-up would go over all these prints.
 fn scattered(print: u64) -> u64
     ensures { result ≡ scattered print }
 {

@@ -23,8 +23,8 @@ pub(crate) struct Script {
     /// The commands that begin a game on the board, and then a piece for each taken node.
     pieces: Pieces,
 
-    /// Whether the line can't be written as commands. That is so if it isn't judged, if its board has more columns than vertices
-    /// have letters, or if the setup of the node after the pieces leaves a stone without a liberty.
+    /// Whether the line can't be written as commands, for one of three reasons. The line isn't judged. Or its board has more
+    /// columns than vertices have letters. Or the setup of the node after the pieces leaves a stone without a liberty.
     silent: bool,
 
     /// A buffer for the commands of a node.

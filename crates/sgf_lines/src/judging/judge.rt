@@ -54,7 +54,7 @@ impl Judge {
         }
     }
 
-    /// Begins the game of a root, before the root. After a refusal of memory nothing is changed.
+    /// Begins the game of a root. The root isn't taken yet. After a refusal of memory nothing is changed.
     pub(crate) fn begin(&mut self, root: &NodeRef<'_, '_>) -> Result<(), MemoryFault>
         ensures begun { OnOk result (self.new.judgement ≡ begun_game (game_kind root.now.properties)) }
         ensures plays { self.new.plays ≡ self.old.plays }

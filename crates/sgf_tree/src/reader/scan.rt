@@ -140,7 +140,7 @@ pub(crate) fn is_lone_front(text: &[u8]) -> bool
     is_short_front(text) && ends_values(text, 6)
 }
 
-/// Whether the values of a property end at `at`: white space, or none, and then no `[`.
+/// Whether the values of a property end at `at`: after any white space there, no `[` comes.
 fn ends_values(text: &[u8], at: usize) -> bool
     requires { at ≤ length text.now }
     ensures { IsTrue result → IsPropertyEnd text.now at }
