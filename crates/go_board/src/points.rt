@@ -134,7 +134,7 @@ pub struct Rect {
 }
 
 impl Rect {
-    /// Whether it has only one point.
+    /// Whether the rectangle is a single point.
     pub(crate) fn is_point(self) -> bool
         ensures { IsTrue result ↔ (self.first ≡ self.last) }
     {

@@ -68,7 +68,7 @@ impl<'c, 'a> Cursor<'c, 'a> {
         }
     }
 
-    /// Goes directly after the line with this place, from wherever the cursor stood. A
+    /// Moves the cursor directly after the line with this place, from wherever it stood. A
     /// line's place is the offset in bytes, from 0, of the `;` of its last node.
     ///
     /// `NoSuchLine` comes exactly if no line has that place, unless memory was refused. After a refusal the cursor is unchanged.

@@ -30,7 +30,7 @@ impl Seen {
         self.wants = self.wants.saturating_add(1);
     }
 
-    /// Unless it holds, keeps what was wrong.
+    /// Keeps what was wrong, unless `holds`.
     pub fn right(&mut self, holds: bool, what: &'static str) {
         if !holds {
             self.wrong(what);

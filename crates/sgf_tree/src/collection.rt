@@ -17,7 +17,7 @@ pub struct Collection<'a> {
     text: &'a [u8],
     games: u32,
     nodes: Vec<NodeEntry>,
-    /// In file order, so that a step over a node finds the node's own by a binary search.
+    /// In file order, so that a binary search finds the long values of a node.
     long: Vec<LongValue>,
 }
 

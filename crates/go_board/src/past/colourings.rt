@@ -193,8 +193,8 @@ impl Colourings {
     }
 }
 
-/// The number of older colourings in the stretch of a colouring, from the same
-/// number for the colouring before it. Memory is refused if it doesn't fit.
+/// How many older colourings the stretch has after one more colouring: one more than before, or 0
+/// if the new one begins a stretch. Memory is refused if the number doesn't fit.
 fn next_older_in_stretch(older_in_stretch: u32, begins: bool) -> Result<u32, MemoryFault>
     ensures { IfOk result (λ next. next ≡ (if begins then 0 else older_in_stretch + 1)) }
 {
@@ -204,8 +204,8 @@ fn next_older_in_stretch(older_in_stretch: u32, begins: bool) -> Result<u32, Mem
     older_in_stretch.checked_add(1).ok_or(MemoryFault)
 }
 
-/// From which colouring the one with the given number is worked out: its number, and how many changes there were up to it. It is
-/// the next one before which a step kept all points, or else the newest one.
+/// From where the colouring with this number is worked out: the number of a later colouring, and how many changes there were up
+/// to that. It is the next one before which a step kept all points, or else the newest one.
 fn next_full(older: &[Older], changes: usize, number: usize) -> (usize, usize)
     requires { number ≤ length older.now }
     ensures low { number ≤ result.0 }

@@ -64,7 +64,7 @@ impl Pieces {
         Ok(())
     }
 
-    /// Makes a piece of the text begun.
+    /// Turns the text begun into a piece.
     pub(crate) fn close(&mut self) -> Result<(), MemoryFault>
         ensures closed { OnOk result (self.new ≡ closed self.old) }
         ensures unchanged { OnErr result (self.new ≡ self.old) }
