@@ -16,7 +16,7 @@ pub struct Point {
     pub row: u8,
 }
 
-/// The upper left corner, the first point in the order row by row from the top, from left to right.
+/// The upper left corner. It is the first point of a board, row by row from the top.
 pub(crate) const FIRST: Point = Point { col: 0, row: 0 };
 
 impl Point {

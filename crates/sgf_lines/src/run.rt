@@ -326,7 +326,7 @@ impl<'c, 'a> Run<'c, 'a> {
     }
 }
 
-/// Puts all of both.
+/// Puts all of both texts, one after the other.
 fn put_both<T: Sink>(first: &[u8], second: &[u8], sink: &mut T) -> Result<(), SinkFault>
     requires countable { (T.state sink.old).failures < u64.MAX }
     ensures { PutsAll (T.state sink.old) (T.state sink.new) (first.now ++ second.now) result }

@@ -44,7 +44,7 @@ impl Board {
 }
 
 /// The columns of a row with a stone of the player, with one of the opponent, and
-/// without a stone. A row outside the board has no columns of any of these.
+/// without a stone. A row outside the board has none of these columns.
 #[derive(Clone, Copy)]
 struct RowStones {
     own: u64,

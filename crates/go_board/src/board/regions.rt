@@ -138,7 +138,7 @@ pub(crate) fn other_columns(word: u64, side: usize) -> u64
     ((1 << side) - 1) & !word
 }
 
-/// The word; if `set`, with the bit of a column set.
+/// The word, with the bit of a column set if `set` is true.
 pub(crate) fn with_column(word: u64, col: usize, set: bool) -> u64
     requires { col < 64 }
     ensures there { has_bit result col ≡ (has_bit word col || set) }

@@ -1,4 +1,4 @@
-//! The stones of a board as rows of words with a bit for each column; black and white stones are apart.
+//! The stones of a board as rows of words with a bit for each column. Black and white stones have rows of their own.
 
 ghost use Rattle.std.specs.Prelude.{◌≡◌, ◌≢◌, ◌<◌, ◌≤◌, ◌↔◌, false, ℕ, IsTrue, if◌then◌else◌};
 ghost use Rattle.go_board.specs.Point.{IsOn};

@@ -11,8 +11,8 @@ use crate::fault::MemoryFault;
 use crate::stones::{Cell, Colour};
 use std::alloc::AllocError;
 
-/// Every step with this distance keeps all points of the colouring before it.
-/// So an older colouring can be worked out from the next such step.
+/// One step in this many keeps all points of the colouring before it. So an
+/// older colouring can be worked out from the next such step.
 pub(crate) const FULL: usize = 256;
 
 /// Points of a row, and what stood on each of them before.

@@ -16,8 +16,8 @@ use crate::stones::Cell;
 /// The base in which the codes of the points are digits.
 const BASE: u64 = 31;
 
-/// The print of a board. Its points are taken row by row from the top, from left to right. From 0 on, the number is multiplied by
-/// 31 and the point's code is added (empty 0, black 1, white 2), modulo 2^64.
+/// The print of a board. Its points are taken row by row from the top, from left to right. The print starts at 0. For each point
+/// it is multiplied by 31, and the point's code is added (empty 0, black 1, white 2), modulo 2^64.
 pub(crate) fn print_of(board: &Board) -> u64
     ensures { result ≡ print_of board.now.cells }
 {
