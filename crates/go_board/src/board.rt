@@ -128,7 +128,7 @@ impl Board {
         self.printed = printed;
     }
 
-    /// Colours one point as `set` does, but loses the print. Its callers don't need the print, or restore it.
+    /// Colours one point as `set` does, but the print is no longer known then.
     pub(crate) fn set_unprinted(&mut self, point: Point, cell: Cell)
         requires { IsOn self.old.side point }
         ensures { self.new ≡ with_cell self.old point cell }
@@ -199,7 +199,7 @@ impl Board {
         self.printed = true;
     }
 
-    /// The print of the colouring: the one kept while points were set one by one, else it is worked out from all points.
+    /// The print of the colouring. It is kept while points are set one by one; else it is worked out from all points.
     pub(crate) fn print(&self) -> u64
         ensures { result ≡ print_of self.now.cells }
     {

@@ -24,7 +24,7 @@ const CAPACITY: usize = 65_536;
 pub struct BufferedSink<W: Write + Drop> {
     writer: W,
 
-    /// What is held back. After a failure its front was written already.
+    /// The bytes held back. If a write failed, the first `handed` of them were written already.
     buffer: Vec<u8>,
 
     /// The number of bytes at the buffer's front that were written; 0 until a write fails.

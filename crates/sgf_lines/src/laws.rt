@@ -117,8 +117,8 @@ pub fn replay()
 
 /// The verdict of a line on a board of a given side, from the state in which a game begins. If each node's step is
 /// taken, the verdict is the score of the state after all of them. Else it names the first node whose step is
-/// refused, in the state after the nodes before it. It then has that node's place and its reason, and the number of
-/// turns made before the node plus 1. Every list of nodes is of exactly one of these two kinds.
+/// refused, in the state after the nodes before it. The verdict then has that node's place, its reason, and the
+/// number of turns made before the node, plus 1. Every list of nodes is of exactly one of these two kinds.
 pub fn judged()
     ensures scored { (side : ℕ) (nodes : List Node) (state : State) → IsAfter (starting side) nodes state
         → verdict_by (board side) nodes ≡ score_in state }

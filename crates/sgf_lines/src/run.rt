@@ -40,7 +40,7 @@ const CHUNK: usize = 65_536;
 ///
 /// The lines are those that follow the line with the place `options.after`, or all. Of these the first `options.limit` are
 /// written, or all. Each is written in the form `options.form`, in file order. A record is built whole before its first byte is
-/// put. After `Ok` the sink was flushed once, after the last record, even if there was no record.
+/// put. After `Ok` the sink was flushed once, after the last record. It was flushed even if there was no record.
 ///
 /// The faults come in this order:
 ///
@@ -169,7 +169,8 @@ pub(crate) struct Run<'c, 'a> {
 
     form: Form,
 
-    /// How many nodes of the line before the cursor are held: all. None are
+    /// How many nodes of the line before the cursor are held: all of them, or
+    /// none before the first line and after a refusal of memory.
     /// held before the first line and after a refusal of memory.
     held: usize,
 

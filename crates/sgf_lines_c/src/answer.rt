@@ -8,8 +8,8 @@ ghost use Rattle.sgf_lines_c.specs.CountAnswer.{fault_told};
 #[repr(C)]
 #[derive(Clone, Copy)]
 pub struct Answer {
-    /// After `Done` and `RoomTooSmall`: how many lines the records are of.
-    /// After `OutOfMemory`: for how many of them there was memory.
+    /// After `Done` and `RoomTooSmall`: the number of records, one for each line. After
+    /// `OutOfMemory`: the number of records that there was memory for.
     pub lines: u64,
     /// After `Done` and `RoomTooSmall`: how many bytes the records have.
     pub bytes: u64,

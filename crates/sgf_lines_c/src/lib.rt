@@ -1,4 +1,4 @@
-//! The lines of play of an SGF collection, for programs in C and in what calls C.
+//! The lines of play of an SGF collection, for programs in C and in languages that can call C.
 //!
 //! A thin static library over `sgf_lines`. `include/sgf_lines.h` declares what it exports, and describes it in C's terms.
 //! It keeps nothing between two calls, so any number of threads may call it at once. It opens nothing, and writes only to what

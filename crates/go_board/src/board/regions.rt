@@ -17,7 +17,7 @@ use crate::size::MAX_ROWS;
 use crate::stones::Colour;
 
 impl Board {
-    /// The black points, and the empty points that reach black. The white points, and the empty points that reach white.
+    /// Writes the black points, and the empty points that reach black, to `black`. Does the same for white.
     pub(crate) fn areas(&self, black: &mut [u64], white: &mut [u64])
         requires black { length black.old ≡ self.now.side }
         requires white { length white.old ≡ self.now.side }
@@ -69,7 +69,7 @@ impl Board {
         is_none(shut)
     }
 
-    /// The stones of a colour that don't reach empty.
+    /// Writes the stones of a colour that don't reach empty to `shut`.
     pub(crate) fn shut_stones(&self, colour: Colour, shut: &mut [u64])
         requires { length shut.old ≡ self.now.side }
         ensures shut { AreRowsOf self.now.side (is_shut self.now colour) shut.new }

@@ -35,7 +35,7 @@ pub(crate) struct Older {
     pub settled: bool,
 }
 
-/// Takes a board back by changes, one after another. Its print is lost.
+/// Takes a board back by changes, one after another. The print is no longer known then.
 pub(crate) fn take_back(board: &mut Board, changes: &[Change])
     requires { AreOn board.old.side changes.now }
     ensures { board.new ≡ after_changes board.old changes.now }

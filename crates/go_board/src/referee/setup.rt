@@ -15,7 +15,7 @@ impl<P: Past> Referee<P> {
     ///
     /// - With operations: these colour their areas in order, whatever stood there, and nothing is cleared. The past begins anew,
     ///   so a ko doesn't reach back over the setup. Passes are 0. The given player must move; if it is None, either may.
-    /// - Without operations: only the player changes. It must be given.
+    /// - Without operations: only the player changes. A player must be given then.
     ///
     /// `MemoryFault` comes only if memory was refused; then nothing is changed.
     pub fn setup(&mut self, ops: &[SetupOp], player: Option<Colour>) -> Result<(), MemoryFault>

@@ -43,7 +43,7 @@ impl<P: Past> Referee<P> {
         Ok(())
     }
 
-    /// The first reason for which a turn isn't allowed, `Repeat` left aside.
+    /// The first reason, except `Repeat`, why a turn isn't allowed.
     fn reason_before_repeat(&self, colour: Colour, play: Play) -> Option<Reason>
         requires { IsPlayOn self.now.present.colouring.side play }
         ensures known { IfSome result (λ reason. reason_of self.now.present colour play ≡ Some reason) }

@@ -11,7 +11,7 @@ use sgf_tree::MemoryFault;
 
 /// Goes on to the record of the line before the cursor. The first `held` of its nodes
 /// are held. After a refusal of memory nothing is known of the record.
-/// It is a piece for the parenthesis, a piece for each node, and its end, which the next line cuts off.
+/// The record is a piece for the parenthesis, a piece for each node, and its end, which the next line cuts off.
 pub(crate) fn follow(
     cursor: &Cursor<'_, '_>,
     held: usize,
