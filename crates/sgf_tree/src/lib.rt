@@ -1,7 +1,7 @@
 //! Reads Smart Game Format (SGF FF[4]) texts.
 //!
 //! [`read`] goes over a text once. It returns the collection that the text
-//! spells, or the first byte with which no text of the grammar goes on.
+//! spells, or the first byte that no text of the grammar can have there.
 //!
 //! A [`Collection`] numbers its nodes from 0 in file order. Of each node it keeps the place, the parent and
 //! the last node below it, in 16 bytes a node. The properties of a node and their raw values are read from

@@ -15,7 +15,7 @@ use std::marker::Model;
 
 /// A node, seen as its place and its properties. Only `push_to` takes memory.
 ///
-/// Its properties are read from the text. So a call costs as much as the part of the node's text that it goes over.
+/// Its properties are read from the text. So the time of a call depends on how much of the node's text it goes over.
 #[derive(Drop)]
 pub struct NodeRef<'c, 'a> {
     pub(crate) place: u32,

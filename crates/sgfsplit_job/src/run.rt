@@ -16,9 +16,9 @@ use std::alloc::Global;
 
 /// Does a job, reports its fault if there is one, and returns the exit status.
 ///
-/// With status 0 the output has delivered all that it took, and `faults` is unchanged. With
-/// another status the output holds what was written before the fault. After refused memory it
-/// is flushed, whatever the flush returns: whole records are then delivered.
+/// With status 0 the output has delivered all that it took, and `faults` is unchanged. With another
+/// status the output holds what was written before the fault. After refused memory it is flushed, so
+/// that whole records are delivered. Whether that flush succeeds makes no difference.
 ///
 /// The row of a fault goes to `faults`, which is flushed. If `faults` fails, the status is the same.
 pub fn act<S: Source, T: Sink, E: Sink>(

@@ -1,11 +1,11 @@
 //! The faults of a text that isn't too long, and how the place of the first fault is found.
 //!
-//! The reader goes from each byte to the next, and never back. So when it stops, some text of the grammar goes on with each byte
-//! before. It stops at the first byte that may not come next in the state that was reached, and that byte's offset is the place.
-//! If the text ends in a state in which no text may end, the place is the text's length.
+//! The reader goes from each byte to the next, and never back. So when it stops, the bytes before begin some text of the grammar.
+//! It stops at the first byte that may not come next in the state that was reached, and that byte's offset is the place. If the
+//! text ends in a state in which no text may end, the place is the text's length.
 //!
-//! So no search for the place begins once something is wrong. Some parts of the reader skip ahead, as the one that looks for the
-//! end of a value. Such a part returns the text's length if it finds nothing.
+//! So no search for the place begins once something is wrong. Some parts of the reader skip ahead, such as the search for the end
+//! of a value. Such a part returns the text's length if it finds nothing.
 
 ghost use Rattle.sgf_tree.specs.declared.reader.fault.PartFault.TheVariants.{Memory};
 ghost use Rattle.std.specs.Prelude.{◌≡◌};
