@@ -2,7 +2,7 @@
 
 use std::fmt;
 
-/// How many calls were made, to how many of them memory was refused, and what was wrong first.
+/// How many calls were made, how many of them were refused memory, and what was wrong first.
 #[derive(Drop)]
 pub struct Seen {
     calls: u32,

@@ -51,8 +51,9 @@ impl<'c, 'a> NodeRef<'c, 'a> {
         Properties::new(text, 1, self.long)
     }
 
-    /// The letter and the raw value of the first property, if they are recognized at a glance, as in `;B[pd]`; and the properties
-    /// after it. If they aren't recognized, None and all properties. So both parts together are always all properties.
+    /// The letter and the raw value of the first property, if they are recognized at a glance, as
+    /// in `;B[pd]`; and the properties after it. If they aren't recognized, this returns None and
+    /// all properties. So both parts together are always all properties.
     ///
     /// They are recognized only if the name is one capital and the only value is two bytes that stand for themselves.
     pub fn front(&self) -> (Option<(u8, &'a [u8])>, Properties<'c, 'a>)

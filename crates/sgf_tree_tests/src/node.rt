@@ -1,4 +1,4 @@
-//! Nodes: for which of them `front` returns a property, which no clause says, and how the sgf form writes them.
+//! Nodes: for which of them `front` returns a property (no clause says that), and how the sgf form writes them.
 
 use sgf_tree::{Collection, NodeRef, Properties, read};
 use std::alloc::Global;

@@ -108,7 +108,7 @@ fn row_at(own: &[u64], others: &[u64], middle: usize, i: usize) -> RowStones
     }
 }
 
-/// The row, with one column that isn't free.
+/// The row, with one column marked as not free.
 fn all_but(row: RowStones, col: usize) -> RowStones
     requires { col < 64 }
     ensures there { has_bit result.free col ≡ false }
