@@ -86,8 +86,8 @@ pub fn touched()
     sgf_tree::laws::places_rise();
 }
 
-/// For a collection that some text spells: a page with a limit, and the page of
-/// all lines after its last line, join to the page without the limit.
+/// Take a page with a limit, and the page of all lines after its last line. The two join
+/// to the page without the limit, for a collection that some text spells.
 /// So runs of at least one line, each begun after the last place of the run before, make the whole output.
 pub fn pages()
     ensures { (games : Games) (text : List ℕ) → Spells games text → (options : Options) (front : List Line) (last : Line)

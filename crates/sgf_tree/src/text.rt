@@ -10,7 +10,8 @@ use std::simd::prelude::*;
 /// Appends the decoded text of a raw value to `out` (SGF FF[4], Text).
 ///
 /// - A line break is CR LF, LF CR, LF or CR, and becomes an LF.
-/// - A `\` before a line break goes with it. Before any other byte it goes alone, and so does a `\` that is the last byte.
+/// - A `\` before a line break is dropped together with it. Before any
+///   other byte it alone is dropped, and so is a `\` at the end.
 /// - The bytes 9, 11 and 12 become a space, after a `\` too.
 /// - Every other byte stays.
 ///

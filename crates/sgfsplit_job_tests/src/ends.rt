@@ -37,7 +37,7 @@ pub(crate) struct Writes {
 }
 
 impl Writes {
-    /// A writer that doesn't fail, before its first call.
+    /// A writer that never fails, and wasn't called yet.
     pub(crate) fn new() -> Writes {
         Writes {
             calls: 0,

@@ -120,7 +120,7 @@ fn widened(seed: u64, room: u64) -> u64
     }
 }
 
-/// A set of columns, and those of the room after one of them up to the next gap: as far as a sum carries.
+/// A set of columns, widened by the columns of the room that follow one of them without a gap: as far as a sum carries.
 fn carried(seed: u64, room: u64) -> u64
     requires { IsPart (has_bit seed) (has_bit room) }
     ensures { IsWidened room seed result }
@@ -128,7 +128,7 @@ fn carried(seed: u64, room: u64) -> u64
     room & !room.wrapping_add(seed) | seed
 }
 
-/// A set of columns, and those of the room just before one of them.
+/// A set of columns, widened by the columns of the room just before one of them.
 fn with_before(word: u64, room: u64) -> u64
     ensures widened { (seed : ℕ) → IsWidened room seed word → IsWidened room seed result }
     ensures closed { (seed : ℕ) → IsWidened room seed word → result ≡ word → HasBeside (has_bit room) (has_bit word) }
