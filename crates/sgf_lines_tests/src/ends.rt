@@ -1,4 +1,4 @@
-//! Runs from a source that gives little at a time, or to a sink that takes little at a time, and that fails.
+//! Runs from a source that gives little at a time and then fails, or to a sink that takes little at a time and then fails.
 
 ghost use Rattle.std.specs.Prelude.{◌≡◌, ◌≤◌, None, []};
 

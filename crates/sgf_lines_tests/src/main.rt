@@ -12,7 +12,7 @@
 //! - `seen` counts the calls, and keeps what was wrong.
 //! - `tree` has the calls of `sgf_tree`, `past` and `referee` those of `go_board`, `lines` and `runs` those of `sgf_lines`.
 //! - `page` is a sink over an array that counts its flushes.
-//! - `ends` has runs whose source gives little at a time, or whose sink takes little at a time, and fails.
+//! - `ends` has runs whose source gives little at a time and then fails, or whose sink takes little at a time and then fails.
 #![tactic(auto)]
 
 mod ends;

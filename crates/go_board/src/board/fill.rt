@@ -78,7 +78,7 @@ fn lacks(rows: &[u64], room: &[u64], row: usize, word: u64) -> bool
     word & room[row] & !rows[row] != 0
 }
 
-/// Adds the points of a row that the room has beside points of the set.
+/// Adds the points of a row that are in the room and beside points of the set.
 pub(crate) fn grow_row(rows: &mut [u64], room: &[u64], row: usize)
     requires same { length rows.old ≡ length room.now }
     requires row { row < length rows.old }
@@ -93,8 +93,8 @@ pub(crate) fn grow_row(rows: &mut [u64], room: &[u64], row: usize)
     rows[row] = widened((rows[row] | beside) & room[row], room[row]);
 }
 
-/// Widens a set of columns by the columns of the room beside it, until there are no more.
-/// Usually a few steps are enough, or every run of columns of the room has one of the set.
+/// Widens a set of columns by the columns of the room beside it, until there are no more. Usually a
+/// few steps are enough, or the set has a column in each run of columns of the room.
 fn widened(seed: u64, room: u64) -> u64
     requires { IsPart (has_bit seed) (has_bit room) }
     ensures within { IsPart (has_bit result) (has_bit room) }
