@@ -116,7 +116,7 @@ impl Board {
         }
     }
 
-    /// Changes what stands on one point, which must be on the board, and on no other. Nothing is cleared.
+    /// Changes what stands on one point, and on no other. The point must be on the board. Nothing is cleared.
     pub fn set(&mut self, point: Point, cell: Cell)
         requires { IsOn self.old.side point }
         ensures { self.new ≡ with_cell self.old point cell }

@@ -74,8 +74,8 @@ pub fn append()
     sgf_tree::laws::append();
 }
 
-/// The places that the lines of a collection touch are the places of all its nodes, in file order. No page has more judged nodes
-/// than its lines touch, or than there are nodes. So no run plays more.
+/// The places that the lines of a collection touch are the places of all its nodes, in file order. A page has at most as many
+/// judged nodes as its lines touch, and at most as many as there are nodes. So no run plays more.
 pub fn touched()
     ensures places { (games : Games) (text : List ℕ) → Spells games text
         → touched_places (lines games) ≡ node_places games }
