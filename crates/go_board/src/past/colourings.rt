@@ -204,8 +204,8 @@ fn next_older_in_stretch(older_in_stretch: u32, begins: bool) -> Result<u32, Mem
     older_in_stretch.checked_add(1).ok_or(MemoryFault)
 }
 
-/// The starting point for working out the colouring with this number. It is a later colouring, given by its number and by how
-/// many changes there were up to it: the next one before which a step kept all points, or else the newest one.
+/// Where to start to work out the colouring with this number: the next colouring before which a step kept all points, or else the
+/// newest one. Returns that colouring's number, and how many changes there were up to it.
 fn next_full(older: &[Older], changes: usize, number: usize) -> (usize, usize)
     requires { number ≤ length older.now }
     ensures low { number ≤ result.0 }
