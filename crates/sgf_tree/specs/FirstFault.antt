@@ -1,4 +1,4 @@
--- Up to where a text can still become a text of the grammar (this project's choice).
+-- How far a text is the beginning of some text of the grammar (this project's choice).
 use Rattle.std.specs.Prelude.{ℕ, ◌<◌, ◌≤◌, List, ◌++◌, length, take, All}
 use Rattle.sgf_tree.specs.Tree.{Games}
 use Rattle.sgf_tree.specs.Spelling.{Spells}
