@@ -8,10 +8,9 @@
     >>> sgflines.count(b"(;SZ[3](;B[aa])(;B[bb];W[aa]))")
     Counts(games=1, nodes=4, lines=2)
 
-A text is bytes, or anything else that lends its bytes (a bytearray, a memoryview, an mmap). What the numbers mean is told in
-docs/OUTPUT.md of sgfsplit. The work is done by the library libsgflines.so.0, without the interpreter's lock, so threads split at
-the same time. The library is the one that the variable SGFLINES names, else one of the same installation or build, else the
-system's.
+A text is bytes, or anything else that lends its bytes (a bytearray, a memoryview, an mmap). docs/OUTPUT.md of sgfsplit explains the
+numbers. The library libsgflines.so.0 does the work without the interpreter's lock, so threads split at the same time. The variable
+SGFLINES names the library. Without it, the module loads the one of the same installation or build, or else the system's.
 """
 import ctypes
 import os
@@ -41,7 +40,7 @@ BadSize.__doc__ = "The board isn't a square of 1 to 52 points a side, so the gam
 
 
 class Fault(ValueError):
-    """A text or an option that is refused. Want of memory is Python's MemoryError."""
+    """A text or an option is refused. Refused memory raises Python's MemoryError instead."""
 
 
 class NotSgf(Fault):
@@ -106,7 +105,7 @@ _LIBRARY = _library()
 
 
 class _Lent:
-    """The bytes of a text, lent for a call: where they begin, and how many there are."""
+    """The bytes of a text, lent for a call: their address and their number."""
 
     def __init__(self, text):
         if isinstance(text, str):
@@ -117,7 +116,7 @@ class _Lent:
             self.held = (ctypes.c_char * self.length).from_buffer(self.view)
             self.start = ctypes.addressof(self.held)
         else:
-            # bytes lie where they are; any other text that may not be written is copied
+            # bytes stay in place; any other read-only text is copied
             self.held = ctypes.c_char_p(text if isinstance(text, bytes) else self.view.tobytes())
             self.start = ctypes.cast(self.held, ctypes.c_void_p)
 
@@ -132,7 +131,7 @@ def _number(name, number):
 
 
 def _refuse(status, at):
-    """Raises what a status says."""
+    """Raises the exception for a status."""
     if status == NOT_SGF:
         raise NotSgf(at)
     if status == ENDS_EARLY:
@@ -147,7 +146,7 @@ def _refuse(status, at):
 def output(text, form="list", after=None, limit=None):
     """The records of the lines of play of a text, joined: the bytes that `sgfsplit split` writes.
 
-    form: "list", "sgf" or "gtp". after: only the lines that follow the line with this place. limit: at most so many lines.
+    form: "list", "sgf" or "gtp". after: only the lines that follow the line with this place. limit: at most this many lines.
     """
     if form not in FORMS:
         raise ValueError(f"form is one of {', '.join(FORMS)}")
@@ -168,7 +167,7 @@ def output(text, form="list", after=None, limit=None):
     return bytes(memoryview(room)[:answer.bytes])
 
 
-# a value whole, or the end of a game, as the sgf form writes them: a `]` within a value stands behind a `\`
+# a whole value, or the end of a game, as the sgf form writes them: a `]` within a value has a `\` before it
 _PART = re.compile(rb"\[[^\]\\]*(?:\\.[^\]\\]*)*\]|\)\n", re.DOTALL)
 
 
@@ -191,7 +190,7 @@ def records(text, form, after=None, limit=None):
 
 
 def _row(line):
-    """The row of a line of the list."""
+    """The row in one line of the list form."""
     place, game, nodes, kind, *rest = line.split(" ")
     if kind == "score":
         verdict = Score(int(rest[0]), int(rest[1]), rest[2] == "over")
@@ -208,7 +207,7 @@ def rows(text, after=None, limit=None):
 
 
 def count(text):
-    """How many games, nodes and lines of play a text has."""
+    """The numbers of games, nodes and lines of play of a text."""
     lent, answer = _Lent(text), _Counts()
     status = _LIBRARY.sgf_lines_count(lent.start, lent.length, answer)
     if status != DONE:

@@ -1,7 +1,7 @@
 #!/usr/bin/env bash
-# The shared library: it exports what its header declares and no more, and needs the C library alone; over the examples and over inputs
-# made to hurt it says what the program says, in every form and on pages; each request for memory refused in turn, under the address
-# sanitizer; four threads at once. The last line is `N passed, N failed, N skipped`.
+# The shared library exports what its header declares and no more, and needs only the C library. On the examples and on inputs made to hurt it
+# says what the program says, in every form and on pages. Each request for memory is refused in turn, under the address sanitizer. Four
+# threads run at once. The last line is `N passed, N failed, N skipped`.
 . "$(dirname "$0")/lib.sh"
 library=$top/out/libsgflines.so.0
 needs cc nm objdump python3
@@ -42,7 +42,7 @@ mkdir inputs
 "$top/tests/inputs.py" inputs
 cp "$top"/examples/*.sgf inputs
 
-# agrees NAME WORDS.. -- WORDS..: the test with the first words and the program with the others write, say and end the same.
+# agrees NAME WORDS.. -- WORDS..: the test with the first words and the program with the others have the same outputs and status.
 agrees() {
     local name=$1 words=()
     shift
@@ -83,7 +83,7 @@ for more in 0 1; do
 done
 rm limit.sgf
 
-# ---- threads, refusals and what lies beside
+# ---- threads, refusals and the bytes beside the room
 for file in two ko corner deep large_board; do
     ./called threads inputs/$file.sgf
     check "$file: four threads at once" 0 $?

@@ -1,6 +1,6 @@
 #!/usr/bin/env bash
-# The Python module over the shared library: over the examples and inputs made to hurt it gives what the program writes, in every form and
-# on pages; its faults are the program's, with their places; its records and rows are those of the output. Threads split at once.
+# The Python module over the shared library. On the examples and on inputs made to hurt it returns what the program writes, in every form and on
+# pages. Its faults are the program's, with their places. Its records and rows are those of the output. Threads split at once.
 . "$(dirname "$0")/lib.sh"
 [ -e "$top/out/libsgflines.so.0" ] || failed "no library at $top/out/libsgflines.so.0: run make lib first"
 needs python3
@@ -118,7 +118,7 @@ agree("a limit", ValueError, type(fault(lambda: sgflines.rows(b"(;)", limit=2 **
 agree("words", TypeError, type(fault(lambda: sgflines.rows("(;)"))))
 agree("empty", (sgflines.EndsEarly, 0), (lambda raised: (type(raised), raised.at))(fault(lambda: sgflines.rows(b""))))
 
-# other texts than bytes
+# texts of other types than bytes
 two = b"(;SZ[3](;B[aa])(;B[bb];W[aa]))"
 lent = bytearray(two)
 agree("a bytearray", sgflines.rows(two), sgflines.rows(lent))
@@ -129,7 +129,7 @@ agree("a memoryview", sgflines.rows(two), sgflines.rows(memoryview(b"  " + two)[
 with open(sys.argv[1] + "/two.sgf", "rb") as file, mmap.mmap(file.fileno(), 0, access=mmap.ACCESS_READ) as mapped:
     agree("a mapped file", sgflines.rows(two), sgflines.rows(mapped))
 
-# the interpreter's lock is let go during a call, as by every CDLL that is no PyDLL
+# the interpreter's lock is released during a call, as for every CDLL that isn't a PyDLL
 agree("the lock", (True, False), (isinstance(sgflines._LIBRARY, ctypes.CDLL), isinstance(sgflines._LIBRARY, ctypes.PyDLL)))
 with open(sys.argv[1] + "/wide.sgf", "rb") as file:
     wide = file.read()
