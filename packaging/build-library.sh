@@ -26,7 +26,7 @@ just_proved() {
 build_over() {
     local name words=(-L "dependency=$kit/rlibs")
     for name in "${below[@]}"; do words+=(-L "dependency=$top/crates/$name/out/rlib"); done
-    for name in sgf_tree sgf_lines; do words+=(--extern "$name=$top/crates/$name/out/rlib/$name.rlib"); done
+    for name in sgf_tree go_board sgf_lines; do words+=(--extern "$name=$top/crates/$name/out/rlib/$name.rlib"); done
     (cd "$crate" && "$kit/bin/rattle" build --crate-name sgf_lines_c src/lib.rt --extern "std=$kit/rlibs/std.rlib" "${words[@]}" \
         --antt-project "$kit/rattle/logic/antt-project.json" --logic-built "$kit/logic_built" --links sgf_lines_c= --jobs 2 \
         --crate-type staticlib --toolchain "$kit/toolchain" --backend llvm -o out/libsgf_lines_c.a)

@@ -7,6 +7,8 @@
     Row(place=22, game=1, nodes=3, verdict=Score(black=1, white=1, over=False))
     >>> sgflines.count(b"(;SZ[3](;B[aa])(;B[bb];W[aa]))")
     Counts(games=1, nodes=4, lines=2)
+    >>> sgflines.judge(b"(;SZ[3](;B[aa])(;B[bb];W[aa]))", 22)
+    Score(black=1, white=1, over=False)
 
 A text is bytes, or anything else that lends its bytes (a bytearray, a memoryview, an mmap). docs/OUTPUT.md of sgfsplit explains the
 numbers. The library libsgflines.so.0 does the work without the interpreter's lock, so threads split at the same time. The variable
@@ -18,11 +20,13 @@ import re
 from collections import namedtuple
 
 __all__ = ["BadSize", "Counts", "EndsEarly", "Fault", "Illegal", "NoSuchLine", "NotGo", "NotSgf", "Row", "Score", "TooLong", "count",
-           "output", "records", "rows"]
+           "judge", "output", "records", "rows"]
 
 LIBRARY = "libsgflines.so.0"
 FORMS = {"list": 0, "sgf": 1, "gtp": 2}
 DONE, NOT_SGF, ENDS_EARLY, TOO_LONG, NO_SUCH_LINE, UNKNOWN_FORM, ROOM_TOO_SMALL, OUT_OF_MEMORY = range(8)
+NO_VERDICT, SCORE, ILLEGAL, NOT_GO, BAD_SIZE = range(5)
+REASONS = ["", "mixed", "two-moves", "bad-setup", "bad-point", "over", "turn", "occupied", "repeat"]
 
 Counts = namedtuple("Counts", "games nodes lines")
 Counts.__doc__ = "The number of games of a collection, of their nodes, and of its lines of play."
@@ -87,8 +91,13 @@ class _Counts(ctypes.Structure):
     _fields_ = [("games", ctypes.c_uint64), ("nodes", ctypes.c_uint64), ("lines", ctypes.c_uint64), ("at", ctypes.c_uint64)]
 
 
+class _Judged(ctypes.Structure):
+    _fields_ = [("verdict", ctypes.c_uint32), ("reason", ctypes.c_uint32), ("black", ctypes.c_uint32), ("white", ctypes.c_uint32),
+                ("turn", ctypes.c_uint64), ("place", ctypes.c_uint64), ("at", ctypes.c_uint64), ("over", ctypes.c_bool)]
+
+
 def _library():
-    """The library, and the types of its two functions."""
+    """The library, and the types of its functions."""
     here = os.path.dirname(os.path.abspath(__file__))
     near = [os.path.join(here, *way, LIBRARY) for way in (("..", ".."), ("..", "out"))]
     name = os.environ.get("SGFLINES") or next((path for path in near if os.path.exists(path)), LIBRARY)
@@ -98,6 +107,8 @@ def _library():
     library.sgf_lines_split.restype = ctypes.c_uint32
     library.sgf_lines_count.argtypes = [pointer, size, ctypes.POINTER(_Counts)]
     library.sgf_lines_count.restype = ctypes.c_uint32
+    library.sgf_lines_judge.argtypes = [pointer, size, ctypes.c_uint64, ctypes.POINTER(_Judged)]
+    library.sgf_lines_judge.restype = ctypes.c_uint32
     return library
 
 
@@ -122,12 +133,15 @@ class _Lent:
 
 
 def _number(name, number):
-    """Whether an option is given, and its number."""
-    if number is None:
-        return False, 0
+    """The number, which has at most 64 bits."""
     if not 0 <= number < 1 << 64:
         raise ValueError(f"{name} is a number from 0 to 2**64 - 1")
-    return True, number
+    return number
+
+
+def _option(name, number):
+    """Whether an option is given, and its number."""
+    return (False, 0) if number is None else (True, _number(name, number))
 
 
 def _refuse(status, at):
@@ -151,8 +165,8 @@ def output(text, form="list", after=None, limit=None):
     if form not in FORMS:
         raise ValueError(f"form is one of {', '.join(FORMS)}")
     lent = _Lent(text)
-    has_after, after = _number("after", after)
-    has_limit, limit = _number("limit", limit)
+    has_after, after = _option("after", after)
+    has_limit, limit = _option("limit", limit)
     asked, answer = _Asked(FORMS[form], has_after, has_limit, after, limit), _Answer()
     size = 2 * lent.length + 1024
     while True:
@@ -213,3 +227,16 @@ def count(text):
     if status != DONE:
         _refuse(status, answer.at)
     return Counts(answer.games, answer.nodes, answer.lines)
+
+
+def judge(text, place):
+    """The verdict of the line with this place: a Score, an Illegal, NotGo() or BadSize(), as in its row."""
+    lent, judged = _Lent(text), _Judged()
+    status = _LIBRARY.sgf_lines_judge(lent.start, lent.length, _number("place", place), judged)
+    if status != DONE:
+        _refuse(status, judged.at)
+    if judged.verdict == SCORE:
+        return Score(judged.black, judged.white, judged.over)
+    if judged.verdict == ILLEGAL:
+        return Illegal(judged.turn, judged.place, REASONS[judged.reason])
+    return NotGo() if judged.verdict == NOT_GO else BadSize()

@@ -22,6 +22,7 @@ import threading
 import sgflines
 
 compared = 0
+judged = set()
 
 
 def program(*words):
@@ -69,6 +70,8 @@ def compare(path):
     agree(f"{name}, counted", program("count", path), counted)
     for form in ("list", "sgf", "gtp"):
         want = program("split", "--form", form, path)
+        if isinstance(want, str):
+            agree(f"{name}, judged", want, module(lambda: sgflines.judge(text, 0)))
         agree(f"{name}, {form}", want, module(lambda: sgflines.output(text, form)))
         if isinstance(want, str):
             continue
@@ -80,6 +83,10 @@ def compare(path):
             agree(f"{name}: rows", [expected_row(line) for line in want.splitlines()], rows)
             kinds = [(number_of(row.verdict), number_of(expected_row(line).verdict)) for row, line in zip(rows, want.splitlines())]
             agree(f"{name}: kinds", [], [pair for pair in kinds if pair[0] != pair[1]])
+            for row in rows[:50] + rows[-1:]:
+                verdict = sgflines.judge(text, row.place)
+                agree(f"{name}: {row.place} judged", (row.verdict, type(row.verdict)), (verdict, type(verdict)))
+                judged.add(verdict.reason if isinstance(verdict, sgflines.Illegal) else number_of(verdict))
         if form == "sgf" and len(parts) < 50:
             for part in parts:
                 agree(f"{name}: a game is one line", 1, sgflines.count(part).lines)
@@ -95,6 +102,7 @@ def compare(path):
 
 for path in sorted(glob.glob(sys.argv[1] + "/*.sgf")):
     compare(path)
+agree("every kind was judged", {*sgflines.REASONS[1:], "Score", "NotGo", "BadSize"}, judged)
 
 
 def fault(call):
@@ -111,6 +119,11 @@ raised = fault(lambda: sgflines.count(b"(;SZ[3]"))
 agree("cut", (sgflines.EndsEarly, 7, True), (type(raised), raised.at, isinstance(raised, sgflines.NotSgf)))
 raised = fault(lambda: sgflines.rows(b"(;)", after=5))
 agree("no line", (sgflines.NoSuchLine, 5), (type(raised), raised.place))
+raised = fault(lambda: sgflines.judge(b"(;)", 0))
+agree("no line to judge", (sgflines.NoSuchLine, 0), (type(raised), raised.place))
+agree("a line to judge", sgflines.Score(black=0, white=0, over=False), sgflines.judge(bytearray(b"(;)"), 1))
+agree("a place to judge", ValueError, type(fault(lambda: sgflines.judge(b"(;)", -1))))
+agree("too long to judge", sgflines.TooLong, type(fault(lambda: sgflines.judge(bytes(67108865), 1))))
 agree("too long", sgflines.TooLong, type(fault(lambda: sgflines.rows(bytes(67108865)))))
 agree("a form", ValueError, type(fault(lambda: sgflines.output(b"(;)", "rows"))))
 agree("a place", ValueError, type(fault(lambda: sgflines.rows(b"(;)", after=-1))))
