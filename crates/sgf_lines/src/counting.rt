@@ -1,8 +1,7 @@
 //! How much a collection holds.
 
-ghost use Rattle.std.specs.Prelude.{◌≡◌, ◌<◌, ◌+◌, ◌++◌, length, decimal};
+ghost use Rattle.std.specs.Prelude.{◌≡◌, ◌<◌, ◌++◌, length, decimal};
 ghost use Rattle.sgf_lines.specs.Lines.{lines};
-ghost use Rattle.sgf_lines.specs.Answer.{read_failures, write_failures};
 ghost use Rattle.sgf_lines.specs.Counts.{IsCount, IsWriting, counts_of, counts_row};
 ghost use Rattle.sgf_lines.specs.inner.Running.{PutsAll};
 
@@ -33,9 +32,7 @@ pub struct Counts {
 /// Where memory was refused `Memory { lines: 0 }` comes in place of an answer or of a fault that wasn't met yet.
 pub fn count<S: Source>(alloc: Global, source: &mut S) -> Result<Counts, RunFault>
     requires { (S.state source.old).failures < u64.MAX }
-    ensures answer { IsCount (S.state source.old) (S.state source.new) result }
-    ensures failures { (S.state source.new).failures
-        ≡ (S.state source.old).failures + read_failures result }
+    ensures { IsCount (S.state source.old) (S.state source.new) result }
 {
     let mut text = Vec::new(alloc);
     match read_all(source, &mut text) {
@@ -79,9 +76,7 @@ fn line_count(collection: &Collection<'_>) -> u64
 /// Where the sink failed it answers `Write { lines: 0 }`, and a front of the row was written.
 pub fn write_counts<T: Sink>(sink: &mut T, counts: &Counts) -> Result<(), RunFault>
     requires { (T.state sink.old).failures < u64.MAX }
-    ensures answer { IsWriting (counts_row counts.now) (T.state sink.old) (T.state sink.new) result }
-    ensures failures { (T.state sink.new).failures
-        ≡ (T.state sink.old).failures + write_failures result }
+    ensures { IsWriting (counts_row counts.now) (T.state sink.old) (T.state sink.new) result }
 {
     let fault = RunFault::Write { lines: 0 };
     let Ok(()) = put_number(counts.games, b" ", sink) else {
