@@ -1,13 +1,13 @@
 # make try        compiles the program without the proof and shows the rows of examples/corner.sgf, in about a minute
 # make            proves and builds the program: crates/sgfsplit/out/sgfsplit (the prover's messages go to out/sgfsplit.log)
-# make check      the test command: the merge gate and every script of tests/
-# make scripts    the scripts of tests/ alone
+# make check      the test command: runs the merge gate and every script of tests/
+# make scripts    runs only the scripts of tests/
 # make lib        proves and builds the library for C and Python: out/libsgflines.so.0
 # make sgf_lines_tests  proves and builds the program of tests/failing_calls.sh
-# make install    PREFIX=/usr/local DESTDIR= PROGRAM=sgfsplit: program, manual page, completion for bash, zsh and fish, and the tools;
-#                 library, header, what pkg-config reads, and the Python module (in PYTHON_DIR=PREFIX/lib/python3/dist-packages)
-# make uninstall  takes these away again
-# make deb        a Debian package in out/
+# make install    PREFIX=/usr/local DESTDIR= PROGRAM=sgfsplit: installs the program, manual page, completion for bash, zsh and fish, the tools,
+#                 the library, header, pkg-config file, and the Python module (in PYTHON_DIR=PREFIX/lib/python3/dist-packages)
+# make uninstall  removes these again
+# make deb        makes a Debian package in out/
 # make bench      measures the program (see docs/PERFORMANCE.md)
 PREFIX ?= /usr/local
 DESTDIR ?=

@@ -1,12 +1,12 @@
 #!/bin/sh
-# Prints the nanoseconds of a referee's turn, undo and score over both pasts, in games of random points, and of a flood of the
-# empty board, on sides 9, 19 and 52, by bench/board/main.rt.in: a turn's time is that of all tries, refused ones included, by
-# the turns taken. Then the bytes of memory that a placed stone takes over both pasts, with what the referee keeps of it, and the
-# peak of one long game, by bench/board/memory.rt.in. Where the variable TURNS names a program that prints the same times of
-# another referee, the two run by turns. The least time of ROUNDS runs (5) is printed for each.
-# The programs are no crates of this repository, so that the gate doesn't prove them: they are built in a folder of their own
-# beside a copy of go_board, which BENCH_FOLDER names. The first run proves all three, which takes minutes; a later one in the
-# same folder takes seconds. Numbers of a busy machine are worth little.
+# Prints nanoseconds on sides 9, 19 and 52, by bench/board/main.rt.in: of a referee's turn, undo and score over both pasts, in games of
+# random points, and of a flood of the empty board. A turn's time is the time of all tries, refused ones included, divided by the turns
+# taken. Then it prints bytes of memory, by bench/board/memory.rt.in: what a placed stone takes over both pasts, with what the referee
+# keeps of it, and the peak of one long game. If the variable TURNS names a program that prints the same times of another referee, the
+# two run by turns. The least time of ROUNDS runs (5) is printed for each.
+# The programs aren't crates of this repository, so that the gate doesn't prove them. They are built in the folder that BENCH_FOLDER
+# names, beside a copy of go_board. The first run proves all three, which takes minutes. A later run in the same folder takes seconds.
+# Numbers from a busy machine are worth little.
 set -eu
 top=$(cd "$(dirname "$0")/.." && pwd)
 folder=${BENCH_FOLDER:-${TMPDIR:-/tmp}/sgfsplit-bench-board}

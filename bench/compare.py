@@ -1,15 +1,15 @@
 #!/usr/bin/env python3
-"""Measures sgfsplit, and compares it with another program of the same words where there is one.
+"""Measures sgfsplit, and compares it with another program of the same words if there is one.
 
   bench/compare.py [--repetitions N] [--only NAME,..] [--forms list,sgf,gtp,count] [--bytes N] [--table FILE]
 
   SGFSPLIT   the program (crates/sgfsplit/out/sgfsplit)
-  PEER       the program that it is compared with; none: the program alone is measured
-  INPUTS     a folder of inputs NAME.sgf; none: bench/games.py makes one of each kind, of 4,000,000 bytes or those of --bytes
+  PEER       the program to compare with; without it only sgfsplit is measured
+  INPUTS     a folder of inputs NAME.sgf; without it bench/games.py makes one of each kind, of 4,000,000 bytes or --bytes
 
-For each input and form: the median of the wall times, of the processor times, and the peak memory; with PEER also the ratios, the runs
-of both programs taking turns, after a look that both write the same bytes. Peak memory needs /usr/bin/time. --table writes the
-numbers as tab-separated columns. The last line is the worst ratio.
+It prints for each input and form the median of the wall times, the median of the processor times, and the peak memory. With PEER it checks
+first that both programs write the same bytes. Then their runs take turns, and the ratios are printed too. Peak memory needs /usr/bin/time.
+--table writes the numbers as tab-separated columns. The last line is the worst ratio.
 """
 import argparse
 import glob
@@ -26,7 +26,7 @@ HERE = os.path.dirname(os.path.abspath(__file__))
 PROGRAM = os.environ.get("SGFSPLIT", os.path.join(HERE, "..", "crates", "sgfsplit", "out", "sgfsplit"))
 PEER = os.environ.get("PEER")
 KINDS = ["library", "annotated", "joseki", "problems", "big", "long", "deep", "wide"]
-SECONDS = 20  # an input and form is repeated no longer than this, but three times
+SECONDS = 20  # an input and form is repeated no longer than this, but at least three times
 
 
 def words(program, form, path):
@@ -45,7 +45,7 @@ def run(command, source=subprocess.DEVNULL):
 
 
 def peak(command, source=subprocess.DEVNULL):
-    """Peak memory in MiB. GNU time stands between, since a child of Python would inherit Python's own peak."""
+    """Peak memory in MiB. GNU time starts the program, because a child of Python would inherit Python's own peak."""
     if not os.path.exists("/usr/bin/time"):
         return None
     measured = subprocess.run(["/usr/bin/time", "-f", "peak %M"] + command, stdin=source,
@@ -62,7 +62,7 @@ def digest(command):
 
 
 def measured(programs, form, path, repetitions):
-    """For each program its median wall time, processor time, and peak memory."""
+    """The median wall time, median processor time and peak memory of each program."""
     times = [[] for _ in programs]
     start = time.time()
     for number in range(repetitions):

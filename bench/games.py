@@ -12,7 +12,7 @@
   deep        games, each inside the one before, with a node each
   wide        a node with one-node variations
 
-No point of a line is played on twice, so most lines are legal to their ends.
+No line plays on a point twice, so most lines are legal to their ends.
 """
 import random
 import sys
@@ -34,7 +34,7 @@ def comment(chance):
 
 
 def moves(chance, colour, free, talk):
-    """A node for each point; a comment where chance says so."""
+    """A node for each point, and a comment at random nodes."""
     nodes = []
     for point in free:
         nodes.append(f";{colour}[{point}]" + (comment(chance) if chance.random() < talk else ""))
@@ -86,7 +86,7 @@ def games(kind, size):
 
 
 def joseki(size):
-    """Variations of 1 to 6 moves that branch in 2 to 5, to a depth of 60 moves."""
+    """Variations of 1 to 6 moves, each with 2 to 5 branches, to a depth of 60 moves."""
     chance = random.Random(19)
     written = 0
 
@@ -111,7 +111,7 @@ def joseki(size):
 
 
 def long_game(size):
-    """100 moves, then a setup that empties the board, and so on. Black plays on the left and White on the right, so all is legal."""
+    """100 moves, then a setup that empties the board, again and again. Black plays on the left and White on the right, so all is legal."""
     chance = random.Random(19)
     yield "(;GM[1]FF[4]SZ[19]\n"
     written = 0

@@ -4,8 +4,9 @@
   bench/growth.py [--kind KIND] [--largest MIB] [--repetitions N] [--table FILE] [--drawing FILE.svg]
   bench/growth.py --from FILE --drawing FILE.svg      draws the numbers of an earlier run
 
-Inputs of bench/games.py from 1 MiB on, each twice the one before. For each form the median wall time and the peak memory of sgfsplit
-(SGFSPLIT names it), of the program that PEER names if any, and, as the floor, of `wc -l`, which looks at each byte once.
+The inputs are those of bench/games.py from 1 MiB on, each twice as large as the one before. For each form it measures the median wall time
+and the peak memory of sgfsplit (the program that SGFSPLIT names), and of the one that PEER names, if any. The lower bound is `wc -l`, which looks at
+each byte once.
 """
 import argparse
 import math
@@ -30,7 +31,7 @@ def measure(arguments):
         while size <= arguments.largest << 20:
             path = os.path.join(folder, "input.sgf")
             with open(path, "wb") as file:
-                # The text may pass its size by a game; a file past the limit would be refused.
+                # The text may be longer than its size by a game; a file over the limit would be refused.
                 subprocess.run([sys.executable, os.path.join(HERE, "games.py"), arguments.kind, str(size - 65536)], stdout=file, check=True)
             length = os.path.getsize(path)
             commands = [("sgfsplit", form, words(PROGRAM, form, path)) for form in FORMS]

@@ -6,10 +6,10 @@
 
   SGFSPLIT   the program (crates/sgfsplit/out/sgfsplit)
 
-Each input is made as large as N MiB allow (64, the program's limit), or smaller where its output would grow with its square. A run has
-GIB of memory at most (16) and N seconds (300). For each input and form: the bytes read and written, the processor seconds, the
-nanoseconds per byte read or written, the peak memory, that memory per byte read, and the status where it isn't 0. Last comes the short
-table of docs/PERFORMANCE.md. Needs /usr/bin/time.
+Each input is made as large as N MiB allow (64, the program's limit), or smaller if its output would grow with its square. A run has at
+most GIB of memory (16) and N seconds (300). For each input and form the table has the bytes read and written, the processor seconds, and the
+nanoseconds per byte read or written. It also has the peak memory, that memory per byte read, and the status if it isn't 0. The short table
+of docs/PERFORMANCE.md comes last. Needs /usr/bin/time.
 """
 import argparse
 import os
@@ -32,7 +32,7 @@ def point(col, row):
 
 
 def repeated(size, front, unit, rest):
-    """As many units between the front and the rest as there is room for."""
+    """The front, as many units as there is room for, and the rest."""
     return front + unit * ((size - len(front) - len(rest)) // len(unit)) + rest
 
 
@@ -43,7 +43,7 @@ def nested(size, units):
 
 
 def regions(side, left, rows):
-    """Regions of a half of a board, with the walls around them."""
+    """Regions in one half of a board, with the walls around them."""
     half = (side - 3) // 2
     cols = range(half) if left else range(side - half, side)
     wall = half if left else side - half - 1
@@ -60,7 +60,7 @@ def regions(side, left, rows):
 
 
 def counting(areas):
-    """The stones of a counter whose digits are regions. The first region turns fastest; a full one is emptied by its own suicide, and is
+    """The stones of a counter whose digits are regions. The first region changes fastest. A full region is emptied by its own suicide, and is
     filled in the other order the next time, so that no colouring comes twice."""
     digits = [0] * len(areas)
     while True:
@@ -87,8 +87,8 @@ def long_line(size, side):
 
 
 def equal_keys(size):
-    """One line of moves whose colourings have prints with equal low bits: of two far points with equal weights there, always one is
-    black. White passes."""
+    """One line of moves whose colourings have prints with equal low bits. Pairs of distant points have equal weights in these bits, and always
+    one of the two is black. White passes."""
     chance = random.Random(19)
     pairs, walls = [], set()
     for row in (1, 4, 7, 10):
@@ -122,8 +122,8 @@ def equal_keys(size):
 
 
 def searches(size):
-    """One line of moves on side 52: Black fills a hole of two points in a great white group whose one eye is far away, which is suicide
-    every second time, and White counts beside it."""
+    """One line of moves on side 52. Black fills a hole of two points in a large white group whose one eye is far away. Every second time this is
+    suicide. White counts beside it."""
     white = [[point(col, y) for y in (row, row + 1) for col in range(40, 52)] for row in range(0, 51, 3)]
     black_walls = ["Ma:NZ"] + [f"{LETTERS[40]}{LETTERS[row]}:Z{LETTERS[row]}" for row in range(2, 51, 3)]
     front = "(;SZ[52]AW[aa:LZ]AE[aa]AE[JY:KY]AB" + "".join(f"[{area}]" for area in black_walls) + "PL[B]"
@@ -133,8 +133,8 @@ def searches(size):
 
 
 def repeats(size):
-    """A line of some 70,000 turns, then variations of one move, each of which brings back the colouring that the line began with: White
-    counts in two regions with a stone more at each turn, and empties a full one by its own suicide; Black passes."""
+    """A line of some 70,000 turns, then variations of one move, each of which brings back the colouring that the line began with. White
+    counts in two regions with one more stone at each turn, and empties a full region by its own suicide. Black passes."""
     areas, walls = regions(52, True, 8)
     areas = [areas[0], areas[1]]
     held = {stone for area in areas for stone in area}
@@ -164,7 +164,7 @@ def corridor():
 
 
 def labyrinth(size, filled, unit):
-    """A labyrinth with black walls, its corridor open or filled by one white group with a liberty at each end, and variations of it."""
+    """A labyrinth with black walls, and variations of it. Its corridor is open, or filled by one white group with a liberty at each end."""
     path, walls = corridor()
     stones = "AB" + "".join(f"[{stone}]" for stone in walls)
     if filled:
@@ -183,7 +183,7 @@ def comb(count):
 
 
 INPUTS = {
-    # name: what it is, its text, the forms whose output isn't out of proportion
+    # name: what it is, its text, and the forms whose output isn't too large for it
     "spaces": ("white space after a game", lambda n: repeated(n, "(;)", " ", ""), FORMS),
     "unclosed": ("games that aren't closed", lambda n: repeated(n, "", "(;", ""), ["list", "count"]),
     "deep100k": ("nesting of 100,000", lambda n: nested(300_000, "(;"), FORMS),
@@ -204,7 +204,7 @@ INPUTS = {
     "root": ("a root of half the text, and variations of it", lambda n: repeated(n, "(;" + "A[]" * (n // 6), "(;B[aa])", ")"), ["list", "count"]),
     "long19": ("one line of moves on side 19, one stretch", lambda n: long_line(n, 19), FORMS),
     "long52": ("one line of moves on side 52, one stretch", lambda n: long_line(n, 52), FORMS),
-    "keys": ("the same, made against the table of the past", equal_keys, ["list", "count"]),
+    "keys": ("one line of moves on side 52, made against the table of the past", equal_keys, ["list", "count"]),
     "searches": ("moves beside a group of 1,900 stones with one far liberty", searches, ["list", "count"]),
     "captures": ("variations that capture 2,703 stones", lambda n: repeated(n, "(;SZ[52]AW[aa:ZZ]AE[aa]PL[B]", "(;B[aa])", ")"), ["list", "count"]),
     "boards": ("variations that set a board of 52 up", lambda n: repeated(n, "(;SZ[52]", "(;AB[aa:ZZ])", ")"), ["list", "count"]),
@@ -216,7 +216,7 @@ INPUTS = {
     "repeats": ("variations that bring back a colouring of 70,000 turns ago", repeats, ["list", "count"]),
     "open": ("a stone in a labyrinth of side 52", lambda n: labyrinth(n, False, "(;B[aa])"), ["list", "count"]),
     "filled": ("a score of that labyrinth, its corridor one group", lambda n: labyrinth(n, True, "(;)"), ["list", "count"]),
-    "chased": ("a stone beside that group, its liberty at the other end", lambda n: labyrinth(n, True, "(;B[aa])"), ["list", "count"]),
+    "chased": ("a stone beside that group, whose liberty is at the other end", lambda n: labyrinth(n, True, "(;B[aa])"), ["list", "count"]),
     "emptied": ("a setup of one point in that group", lambda n: labyrinth(n, True, "(;AE[aa])"), ["list", "count"]),
     "flips": ("setups that turn all points of a board of 52", lambda n: repeated(n, "(;SZ[52]", ";AB[aa:ZZ];AW[aa:ZZ]", ")"), ["list", "count"]),
     "fan": ("a long line that very many variations share", lambda n: fan((n - 3) // 8), ["list", "count"]),
@@ -227,7 +227,7 @@ INPUTS = {
 
 
 def run(command, gib, seconds):
-    """The status, the bytes written, processor seconds and peak memory in bytes of a run; the status is 'time' where it took too long."""
+    """The status, bytes written, processor seconds and peak memory in bytes of a run. The status is 'time' if the run took too long."""
     limits = lambda: (resource.setrlimit(resource.RLIMIT_AS, (gib << 30, gib << 30)), resource.setrlimit(resource.RLIMIT_CPU, (seconds, seconds)))
     with tempfile.NamedTemporaryFile() as told:
         timed = ["/usr/bin/time", "-q", "-o", told.name, "-f", "%U %S %M"] + command

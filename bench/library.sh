@@ -1,6 +1,6 @@
 #!/usr/bin/env bash
-# 1,767 small files, made of the examples: recipes/library.py beside a plain loop of the shell, the seconds of each, and the ratio of the
-# medians of five runs; on all cores, and on one.
+# Compares recipes/library.py with a plain loop of the shell on 1,767 small files, made of the examples. Prints the seconds of each, and the
+# ratio of the medians of five runs, on all cores and on one.
 set -euo pipefail
 top=$(cd "$(dirname "$0")/.." && pwd)
 export SGFSPLIT=${SGFSPLIT:-$top/crates/sgfsplit/out/sgfsplit}
@@ -20,7 +20,7 @@ seconds() {
     awk -v begin="$begin" -v end="$EPOCHREALTIME" 'BEGIN { printf "%.2f\n", end - begin }'
 }
 
-# Five runs of each, one after the other; the rows of both are compared once.
+# Five runs of each, by turns. The rows of both are compared once.
 compare() {
     local name=$1 run
     shift

@@ -1,12 +1,12 @@
 #!/usr/bin/env python3
-"""Shows that the work of a run follows the nodes of the lines that it writes, and not the summed length of these lines: for trees
-of three shapes, in three sizes each, the lines, the nodes, the summed length of the lines, the nodes that a run in list form
+"""Shows that the work of a run grows with the nodes of the lines that it writes, not with the total length of these lines. It takes trees
+of three shapes in three sizes each. It prints the lines, the nodes, the total length of the lines, the nodes that a run in list form
 plays, and its nanoseconds for each node.
 
   bench/plays.py [--repetitions N]
 
-The program is bench/plays/main.rt.in. It is no crate of this repository, so that the gate doesn't prove it: it is built in a folder
-of its own beside copies of the libraries, which BENCH_FOLDER names. The first run proves them all, which takes minutes.
+The program is bench/plays/main.rt.in. It isn't a crate of this repository, so that the gate doesn't prove it. It is built in the folder that
+BENCH_FOLDER names, beside copies of the libraries. The first run proves them all, which takes minutes.
 """
 import argparse
 import os
@@ -46,7 +46,7 @@ def build():
 
 
 def trunk(count):
-    """A long line of legal moves, with a variation of one node beside each of them; the first line ends at the first of these."""
+    """A long line of legal moves, with a variation of one node beside each move. The first line ends at the first variation."""
     front, moves = moves_of(count)
     text = front + "".join(f"(;C[])({move}" for move in moves) + ")" * count + ")"
     return text, sum(range(2, count + 2)) + count + 1

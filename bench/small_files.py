@@ -1,9 +1,9 @@
 #!/usr/bin/env python3
-"""Times many small files: a process of the program for each, and the Python module over the library in one process.
+"""Times many small files: with a process of the program for each file, and with the Python module in one process.
 
-  small_files.py [COUNT]      COUNT files (1767), each one of examples/*.sgf with a number of its own in a comment
+  small_files.py [COUNT]      COUNT files (1767), each one of examples/*.sgf with its own number in a comment
 
-Prints the median time for a file of several turns, and of how many bytes a file is. Both ways have to write the same rows.
+Prints the median time for a file over several turns, and the number of bytes of a file. Both ways have to write the same rows.
 """
 import glob
 import os
@@ -52,7 +52,7 @@ def rows_of(path):
 
 
 def in_process(paths, jobs):
-    """All files by the module in this process, by so many threads."""
+    """All files by the module in this process, with this number of threads."""
     if jobs == 1:
         return b"".join(map(rows_of, paths))
     with ThreadPoolExecutor(jobs) as pool:
@@ -69,7 +69,7 @@ def rows_as_tuples(paths):
 
 
 def timed(name, count, call):
-    """Prints the median time of a call for a file, and gives what it gave."""
+    """Prints the median time of a call for a file, and returns the result of the call."""
     times = []
     for _ in range(TURNS):
         start = time.perf_counter()

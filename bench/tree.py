@@ -1,12 +1,12 @@
 #!/usr/bin/env python3
 """Measures sgf_tree alone: reading a collection, and steps over nodes that are as large as an input can make them.
 
-  bench/tree.py [--repetitions N] [FILE..]     reading each FILE, none: one input of each kind of bench/games.py, of 4,000,000 bytes
+  bench/tree.py [--repetitions N] [FILE..]     reading each FILE; without FILE one input of each kind of bench/games.py, of 4,000,000 bytes
   bench/tree.py --nodes [--repetitions N]      nanoseconds a byte of steps over large nodes, each in three sizes
-  bench/tree.py --nodes --instructions         instructions a byte, which valgrind counts, of smaller ones: no noise, but a minute
+  bench/tree.py --nodes --instructions         instructions a byte of smaller nodes, counted by valgrind: no noise, but a minute
 
-The program is that of bench/tree.sh, which proves and builds it (READER names one that is built already). Where PEER names another
-program with the word `count`, it reads the same files, the two taking turns, and the ratios of time and peak memory are printed.
+bench/tree.sh proves and builds the program (READER names one that is built already). If PEER names another program with the word `count`,
+it reads the same files, by turns, and the ratios of time and peak memory are printed.
 """
 import argparse
 import os
@@ -18,7 +18,7 @@ import tempfile
 
 from compare import HERE, KINDS, PEER, peak, run
 
-# What a large node is made of: the text before, the part that is repeated, the text after, and how many parts it has at most.
+# The parts of a large node: the text before, the repeated part, the text after, and the greatest number of repeated parts.
 NODES = {
     "properties": (b"(;", b"B[aa]", b")", 2_000_000),
     "values": (b"(;AB", b"[]", b")", 20_000_000),
@@ -31,7 +31,7 @@ TASKS = {"read": [], "iter": ["iter"], "written": ["written"]}
 
 
 def seconds(command, path, repetitions):
-    """The least processor time of reading the file on standard input: a difference of medians would mostly be noise."""
+    """The least processor time of reading the file on standard input. A difference of medians would mostly be noise."""
     times = []
     for _ in range(repetitions):
         with open(path, "rb") as file:

@@ -1,7 +1,7 @@
 #!/bin/sh
-# Builds bench/tree/main.rt.in, which reads a collection and steps over it as its word says, and prints the program's path.
-# It is no crate of this repository, so that the gate doesn't prove it: it is built in a folder of its own beside a copy of
-# sgf_tree, which BENCH_FOLDER names. The first run proves both, which takes minutes. `bench/tree.py` measures it.
+# Builds bench/tree/main.rt.in, and prints the program's path. The program reads a collection and steps over it as its word says.
+# It isn't a crate of this repository, so that the gate doesn't prove it. It is built in the folder that BENCH_FOLDER names, beside a copy
+# of sgf_tree. The first run proves both, which takes minutes. `bench/tree.py` measures it.
 set -eu
 top=$(cd "$(dirname "$0")/.." && pwd)
 folder=${BENCH_FOLDER:-${TMPDIR:-/tmp}/sgfsplit-bench-tree}

@@ -1,7 +1,7 @@
 #!/usr/bin/env python3
 """Prints the table of docs/COMPARED.md: what three programs do with the same inputs.
 
-The programs are sgfsplit (SGFSPLIT names it; else the one that make built), /usr/bin/sgfsplit of Debian's sgf2dg, and gnugo -l.
+The programs are sgfsplit (the one that SGFSPLIT names, or else the one that make built), /usr/bin/sgfsplit of Debian's sgf2dg, and gnugo -l.
 """
 import glob
 import os

@@ -1,6 +1,6 @@
 #!/usr/bin/env bash
-# Proves and builds the static library of crates/sgf_lines_c, and makes the shared library out/libsgflines.so.0 of it: with what allocates
-# for it, over the C library's malloc, inside. All messages of the prover go to out/sgf_lines_c.log.
+# Proves and builds the static library of crates/sgf_lines_c, and makes the shared library out/libsgflines.so.0 of it. The shared library contains
+# its allocating functions, over the C library's malloc. All messages of the prover go to out/sgf_lines_c.log.
 set -uo pipefail
 cd "$(dirname "$0")/.."
 top=$PWD
@@ -11,8 +11,8 @@ kit=$(dirname "$(dirname "$(readlink -f "$(command -v rt)")")")
 log=out/sgf_lines_c.log
 mkdir -p out "$crate/out"
 
-# Whether the libraries below are those that the gate has just proved. `rt lib` doesn't take these, as they name no sources, and
-# would prove them all once more.
+# Whether the libraries below are those that the gate has just proved. `rt lib` doesn't accept these, because they name no sources. It would prove
+# them all once more.
 just_proved() {
     local name
     for name in "${below[@]}"; do
@@ -22,11 +22,11 @@ just_proved() {
     done
 }
 
-# The same proof and build as `rt lib`, over these libraries.
+# The same proof and build as `rt lib`, with these libraries.
 build_over() {
     local name words=(-L "dependency=$kit/rlibs")
     for name in "${below[@]}"; do words+=(-L "dependency=$top/crates/$name/out/rlib"); done
-    for name in sgf_tree sgf_lines; do words+=(--extern "$name=$top/crates/$name/out/rlib/$name.rlib"); done
+    for name in sgf_tree go_board sgf_lines; do words+=(--extern "$name=$top/crates/$name/out/rlib/$name.rlib"); done
     (cd "$crate" && "$kit/bin/rattle" build --crate-name sgf_lines_c src/lib.rt --extern "std=$kit/rlibs/std.rlib" "${words[@]}" \
         --antt-project "$kit/rattle/logic/antt-project.json" --logic-built "$kit/logic_built" --links sgf_lines_c= --jobs 2 \
         --crate-type staticlib --toolchain "$kit/toolchain" --backend llvm -o out/libsgf_lines_c.a)

@@ -1,6 +1,6 @@
 #!/bin/sh
-# Installs what the scripts of tests/ and recipes/ use, on a Debian machine, as root. Each script whose programs aren't there is
-# skipped by the test command.
+# Installs the packages that the scripts of tests/ and recipes/ use, on a Debian machine, as root. The test command skips each script whose
+# programs are missing.
 set -eu
 apt-get update
 apt-get install -y --no-install-recommends \

@@ -1,8 +1,8 @@
 #!/usr/bin/env bash
-# Makes the Debian package OUT/PROGRAM_VERSION_ARCHITECTURE.deb of the built program, its manual page, completion and documents, and of the
-# library for C and Python, and prints its path. Variables: OUT (out), PROGRAM (sgfsplit). The file VERSION has the version.
+# Makes the Debian package OUT/PROGRAM_VERSION_ARCHITECTURE.deb, and prints its path. It has the built program, its manual page, completion and
+# documents, and the library for C and Python. Variables: OUT (out), PROGRAM (sgfsplit). The file VERSION has the version.
 #
-# The maintainer's address and a licence are the owner's to choose: until then the package names none that works.
+# The owner has to choose a maintainer's address and a licence. Until then the package names none that works.
 #
 # Debian's package sgf2dg has another /usr/bin/sgfsplit. So the package conflicts with it, unless PROGRAM gives another name.
 set -euo pipefail
@@ -33,7 +33,7 @@ sed "s/^sgfsplit (/$program (/" packaging/changelog | gzip -9n > "$documents/cha
 cp packaging/copyright "$documents/copyright"
 chmod -R u=rwX,go=rX "$stage"
 
-# The newest version of the C library that the program or the library asks for.
+# The newest version of the C library that the program or the library needs.
 libc=$(objdump -T "$stage/usr/bin/$program" "$stage/usr/lib/libsgflines.so.0" | grep -oE 'GLIBC_[0-9.]+' | sed 's/GLIBC_//' | sort -V | tail -n 1)
 conflicts=
 [ "$program" != sgfsplit ] || conflicts=$'Conflicts: sgf2dg\n'
@@ -60,7 +60,7 @@ Description: split a Go game with variations into its lines of play and judge ea
  Debian's sgf2dg has another program of the name sgfsplit, which writes one file
  for each variation and judges nothing.
 CONTROL
-# Python keeps its modules compiled beside them.
+# Python keeps compiled modules beside the sources.
 cat > "$stage/DEBIAN/prerm" <<'PRERM'
 #!/bin/sh
 set -e

@@ -1,6 +1,6 @@
 #!/usr/bin/env bash
 # Proves and builds the program of a crate and runs it once with the words: packaging/prove.sh CRATE WORDS..
-# How far it is stands on one row: a crate, and how many of its functions are proved. All messages go to out/CRATE.log.
+# One row shows the progress: a crate, and how many of its functions are proved. All messages go to out/CRATE.log.
 set -uo pipefail
 cd "$(dirname "$0")/.."
 crate=$1

@@ -7,11 +7,12 @@
     Row(place=22, game=1, nodes=3, verdict=Score(black=1, white=1, over=False))
     >>> sgflines.count(b"(;SZ[3](;B[aa])(;B[bb];W[aa]))")
     Counts(games=1, nodes=4, lines=2)
+    >>> sgflines.judge(b"(;SZ[3](;B[aa])(;B[bb];W[aa]))", 22)
+    Score(black=1, white=1, over=False)
 
-A text is bytes, or anything else that lends its bytes (a bytearray, a memoryview, an mmap). What the numbers mean is told in
-docs/OUTPUT.md of sgfsplit. The work is done by the library libsgflines.so.0, without the interpreter's lock, so threads split at
-the same time. The library is the one that the variable SGFLINES names, else one of the same installation or build, else the
-system's.
+A text is bytes, or anything else that lends its bytes (a bytearray, a memoryview, an mmap). docs/OUTPUT.md of sgfsplit explains the
+numbers. The library libsgflines.so.0 does the work without the interpreter's lock, so threads split at the same time. The variable
+SGFLINES names the library. Without it, the module loads the one of the same installation or build, or else the system's.
 """
 import ctypes
 import os
@@ -19,11 +20,13 @@ import re
 from collections import namedtuple
 
 __all__ = ["BadSize", "Counts", "EndsEarly", "Fault", "Illegal", "NoSuchLine", "NotGo", "NotSgf", "Row", "Score", "TooLong", "count",
-           "output", "records", "rows"]
+           "judge", "output", "records", "rows"]
 
 LIBRARY = "libsgflines.so.0"
 FORMS = {"list": 0, "sgf": 1, "gtp": 2}
 DONE, NOT_SGF, ENDS_EARLY, TOO_LONG, NO_SUCH_LINE, UNKNOWN_FORM, ROOM_TOO_SMALL, OUT_OF_MEMORY = range(8)
+NO_VERDICT, SCORE, ILLEGAL, NOT_GO, BAD_SIZE = range(5)
+REASONS = ["", "mixed", "two-moves", "bad-setup", "bad-point", "over", "turn", "occupied", "repeat"]
 
 Counts = namedtuple("Counts", "games nodes lines")
 Counts.__doc__ = "The number of games of a collection, of their nodes, and of its lines of play."
@@ -41,7 +44,7 @@ BadSize.__doc__ = "The board isn't a square of 1 to 52 points a side, so the gam
 
 
 class Fault(ValueError):
-    """A text or an option that is refused. Want of memory is Python's MemoryError."""
+    """A text or an option is refused. Refused memory raises Python's MemoryError instead."""
 
 
 class NotSgf(Fault):
@@ -88,8 +91,13 @@ class _Counts(ctypes.Structure):
     _fields_ = [("games", ctypes.c_uint64), ("nodes", ctypes.c_uint64), ("lines", ctypes.c_uint64), ("at", ctypes.c_uint64)]
 
 
+class _Judged(ctypes.Structure):
+    _fields_ = [("verdict", ctypes.c_uint32), ("reason", ctypes.c_uint32), ("black", ctypes.c_uint32), ("white", ctypes.c_uint32),
+                ("turn", ctypes.c_uint64), ("place", ctypes.c_uint64), ("at", ctypes.c_uint64), ("over", ctypes.c_bool)]
+
+
 def _library():
-    """The library, and the types of its two functions."""
+    """The library, and the types of its functions."""
     here = os.path.dirname(os.path.abspath(__file__))
     near = [os.path.join(here, *way, LIBRARY) for way in (("..", ".."), ("..", "out"))]
     name = os.environ.get("SGFLINES") or next((path for path in near if os.path.exists(path)), LIBRARY)
@@ -99,6 +107,8 @@ def _library():
     library.sgf_lines_split.restype = ctypes.c_uint32
     library.sgf_lines_count.argtypes = [pointer, size, ctypes.POINTER(_Counts)]
     library.sgf_lines_count.restype = ctypes.c_uint32
+    library.sgf_lines_judge.argtypes = [pointer, size, ctypes.c_uint64, ctypes.POINTER(_Judged)]
+    library.sgf_lines_judge.restype = ctypes.c_uint32
     return library
 
 
@@ -106,7 +116,7 @@ _LIBRARY = _library()
 
 
 class _Lent:
-    """The bytes of a text, lent for a call: where they begin, and how many there are."""
+    """The bytes of a text, lent for a call: their address and their number."""
 
     def __init__(self, text):
         if isinstance(text, str):
@@ -117,22 +127,25 @@ class _Lent:
             self.held = (ctypes.c_char * self.length).from_buffer(self.view)
             self.start = ctypes.addressof(self.held)
         else:
-            # bytes lie where they are; any other text that may not be written is copied
+            # bytes stay in place; any other read-only text is copied
             self.held = ctypes.c_char_p(text if isinstance(text, bytes) else self.view.tobytes())
             self.start = ctypes.cast(self.held, ctypes.c_void_p)
 
 
 def _number(name, number):
-    """Whether an option is given, and its number."""
-    if number is None:
-        return False, 0
+    """The number, which has at most 64 bits."""
     if not 0 <= number < 1 << 64:
         raise ValueError(f"{name} is a number from 0 to 2**64 - 1")
-    return True, number
+    return number
+
+
+def _option(name, number):
+    """Whether an option is given, and its number."""
+    return (False, 0) if number is None else (True, _number(name, number))
 
 
 def _refuse(status, at):
-    """Raises what a status says."""
+    """Raises the exception for a status."""
     if status == NOT_SGF:
         raise NotSgf(at)
     if status == ENDS_EARLY:
@@ -147,13 +160,13 @@ def _refuse(status, at):
 def output(text, form="list", after=None, limit=None):
     """The records of the lines of play of a text, joined: the bytes that `sgfsplit split` writes.
 
-    form: "list", "sgf" or "gtp". after: only the lines that follow the line with this place. limit: at most so many lines.
+    form: "list", "sgf" or "gtp". after: only the lines that follow the line with this place. limit: at most this many lines.
     """
     if form not in FORMS:
         raise ValueError(f"form is one of {', '.join(FORMS)}")
     lent = _Lent(text)
-    has_after, after = _number("after", after)
-    has_limit, limit = _number("limit", limit)
+    has_after, after = _option("after", after)
+    has_limit, limit = _option("limit", limit)
     asked, answer = _Asked(FORMS[form], has_after, has_limit, after, limit), _Answer()
     size = 2 * lent.length + 1024
     while True:
@@ -168,7 +181,7 @@ def output(text, form="list", after=None, limit=None):
     return bytes(memoryview(room)[:answer.bytes])
 
 
-# a value whole, or the end of a game, as the sgf form writes them: a `]` within a value stands behind a `\`
+# a whole value, or the end of a game, as the sgf form writes them: a `]` within a value has a `\` before it
 _PART = re.compile(rb"\[[^\]\\]*(?:\\.[^\]\\]*)*\]|\)\n", re.DOTALL)
 
 
@@ -191,7 +204,7 @@ def records(text, form, after=None, limit=None):
 
 
 def _row(line):
-    """The row of a line of the list."""
+    """The row in one line of the list form."""
     place, game, nodes, kind, *rest = line.split(" ")
     if kind == "score":
         verdict = Score(int(rest[0]), int(rest[1]), rest[2] == "over")
@@ -208,9 +221,22 @@ def rows(text, after=None, limit=None):
 
 
 def count(text):
-    """How many games, nodes and lines of play a text has."""
+    """The numbers of games, nodes and lines of play of a text."""
     lent, answer = _Lent(text), _Counts()
     status = _LIBRARY.sgf_lines_count(lent.start, lent.length, answer)
     if status != DONE:
         _refuse(status, answer.at)
     return Counts(answer.games, answer.nodes, answer.lines)
+
+
+def judge(text, place):
+    """The verdict of the line with this place: a Score, an Illegal, NotGo() or BadSize(), as in its row."""
+    lent, judged = _Lent(text), _Judged()
+    status = _LIBRARY.sgf_lines_judge(lent.start, lent.length, _number("place", place), judged)
+    if status != DONE:
+        _refuse(status, judged.at)
+    if judged.verdict == SCORE:
+        return Score(judged.black, judged.white, judged.over)
+    if judged.verdict == ILLEGAL:
+        return Illegal(judged.turn, judged.place, REASONS[judged.reason])
+    return NotGo() if judged.verdict == NOT_GO else BadSize()

@@ -1,17 +1,17 @@
 #!/usr/bin/env python3
 """files.py [--form sgf|gtp|list] [-0] OUT FILE|FOLDER..
 
-Writes each line of play to a file of its own, named by its place:
+Writes each line of play to its own file, named by its place:
 OUT/dir/name/PLACE.sgf for dir/name.sgf, or PLACE.gtp, or PLACE.list. Comments
-may hold anything. A file that stands already with the right bytes stays as it
-is, so a run that was stopped goes on when it is called again, and a changed
+may contain anything. A file that already has the right bytes isn't written
+again. So a run that was stopped goes on when you call it again, and a changed
 game is written anew.
 
   files.py lines library
   files.py --form gtp scripts library
 
-Files of lines that are gone stay: remove OUT to begin anew. Status 1: a file
-was refused.
+Files of deleted lines stay: remove OUT to begin anew. Status 1: a file was
+refused.
 """
 import os
 from itertools import zip_longest

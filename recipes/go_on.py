@@ -2,18 +2,18 @@
 """go_on.py [-0] ROWS FILE
 go_on.py [-0] FOLDER FILE|FOLDER..
 
-Goes on after the last row of ROWS: adds the rows of the lines of play that
-were appended to FILE since, and makes ROWS if there is none. ROWS then has the
-bytes of one run over the whole FILE, even if a killed run had cut it off at
-any byte.
+Continues after the last row of ROWS. It adds the rows of the lines of play
+that were appended to FILE since, and creates ROWS if it doesn't exist. ROWS
+then has the bytes of one run over the whole FILE, even if a killed run had cut
+it off at any byte.
 
   go_on.py rows.txt library.sgf
   go_on.py out library           out/library/name.rows for each
                                  library/name.sgf, as library.py keeps them
 
-Only whole games may have been appended. Status 1: FILE was refused, or no line
-of it ends at the last place of ROWS, because something before it changed; ROWS
-is unchanged then.
+Append only whole games. Status 1: FILE was refused, or no line of it ends at
+the last place of ROWS, because something before it changed. ROWS is then
+unchanged.
 """
 import os
 import re
@@ -25,8 +25,8 @@ CUT = re.compile(rb"([0-9]+[a-z0-9 -]*)?")
 
 
 def whole_rows(rows, path):
-    """The place of the last row that ROWS holds whole, None if there is none, and how many bytes there are up to its end. ROWS is looked
-    through from its end."""
+    """The place of the last whole row of ROWS, or None if there is none, and the number of bytes up to its end. ROWS is searched from its
+    end."""
     rows.seek(0, os.SEEK_END)
     begin, tail = rows.tell(), b""
     while begin > 0 and tail.count(b"\n") < 2:
@@ -42,7 +42,7 @@ def whole_rows(rows, path):
 
 
 def go_on(path, name):
-    """Adds to the rows at `path` those of the file that come after them."""
+    """Adds to the rows at `path` those that come after them in the file."""
     with open(path if os.path.exists(path) else os.devnull, "rb") as old:
         last, size = whole_rows(old, path)
         old.seek(0)

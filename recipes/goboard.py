@@ -1,11 +1,11 @@
-"""What the tools know of SGF nodes and of Go: nodes with their values, points, and a board that is played on as the program's referee does.
+"""SGF nodes and Go for the tools: nodes with their values, points, and a board that plays as the program's referee does.
 
     import goboard
     for row, line in goboard.lines("game.sgf"):
         print(row.place, len(line.moves), line.board.stones)
 
-A point is (column, row), both from 0, from the upper left corner. A colour is "B" or "W". A pass is None. Texts are ones that the program
-has accepted.
+A point is (column, row), both from 0, from the upper left corner. A colour is "B" or "W". A pass is None. Pass only texts that the
+program has accepted.
 """
 import re
 from itertools import zip_longest
@@ -21,8 +21,8 @@ ESCAPE_OR_END = re.compile(rb"\\.|\]", re.DOTALL)
 
 
 def tokens(text, at=0, pattern=OUTSIDE):
-    """What the pattern finds outside values from `at` on, and each value with its brackets, as (place, end). A value that is never closed
-    ends with the text."""
+    """The matches of the pattern outside values, from `at` on, and each value with its brackets, as (place, end). A value that is never
+    closed ends with the text."""
     while found := pattern.search(text, at):
         at = found.end()
         if text[at - 1:at] == b"[":
@@ -33,7 +33,7 @@ def tokens(text, at=0, pattern=OUTSIDE):
 
 
 def nodes(text, at=0):
-    """Each node from `at` on, as a list of its properties (name, values), in bytes as they stand; the name is in upper case."""
+    """Each node from `at` on, as a list of its properties (name, values). Values are the bytes of the text. Names are in upper case."""
     node = None
     for begin, end in tokens(text, at):
         token = text[begin:end]
@@ -69,7 +69,7 @@ def is_pass(value, side):
 
 
 def vertex_of(point, side):
-    """The point as Go players write it, as C7; on sides past 25, which have no such names, its two letters in SGF; `pass` for None."""
+    """The point as Go players write it, such as C7; `pass` for None. Sides over 25 have no such names: there it is the point's two SGF letters."""
     if point is None:
         return "pass"
     col, row = point
@@ -77,7 +77,7 @@ def vertex_of(point, side):
 
 
 def point_at(vertex, side):
-    """The point of a vertex, as C7."""
+    """The point of a vertex such as C7."""
     return COLUMNS.index(vertex[0].upper()), side - int(vertex[1:])
 
 
@@ -93,7 +93,7 @@ class Board:
                 if 0 <= c < self.side and 0 <= r < self.side]
 
     def region(self, point):
-        """The points of the same colour that hang together with this one, and what stands beside them: colours, None for empty."""
+        """The connected points of the same colour as this one, and the colours beside them, None for empty."""
         own = self.stones.get(point)
         seen, waiting, borders = {point}, [point], set()
         while waiting:
@@ -106,7 +106,7 @@ class Board:
         return seen, borders
 
     def clear(self, colour, around):
-        """Takes the groups of a colour that have no liberty, of those that have a stone among the points."""
+        """Removes the groups of a colour that have a stone among the points and no liberty."""
         for point in around:
             if self.stones.get(point) == colour:
                 group, borders = self.region(point)
@@ -125,7 +125,7 @@ class Board:
         self.clear(colour, around)
 
     def put(self, points, colour):
-        """Sets up stones of a colour, or takes what stands there where it is None."""
+        """Sets up stones of a colour, or empties the points if the colour is None."""
         self.is_set_up = True
         for point in points:
             self.stones.pop(point, None)
@@ -151,8 +151,8 @@ class Line(NamedTuple):
     """A line of play, played to its end or up to its illegal node."""
     board: Board
     moves: list  # (colour, point) of each legal move
-    numbers: dict  # of each point, the number from 1 of the move whose stone stands there
-    set_ups: list  # of each setup of stones, how many moves came before it, and the stones that then stand
+    numbers: dict  # by point, the number from 1 of the move whose stone stands there
+    set_ups: list  # for each setup of stones, the number of moves before it, and the stones that then stand
     illegal: Optional[list]  # the properties of the illegal node, or None
 
 
@@ -160,14 +160,14 @@ SETUPS = {"AB": "B", "AW": "W", "AE": None}
 
 
 def lines(name, after=None, limit=None, most=None):
-    """The row of each judged line of a file, and the line, played; or its first moves alone, `most` of them."""
+    """The row and the line of play of each judged line of a file. With `most` only that many moves are played."""
     for row, record in zip_longest(sgfsplit.rows(name, after, limit), sgfsplit.records(name, "sgf", after, limit)):
         if row.verdict != "unjudged":
             yield row, played(record, row, most)
 
 
 def played(record, row, most=None):
-    """The line of play that stands in a record of the sgf form and has this row, which judges it; or its first moves, `most` of them."""
+    """The line of play in a record of the sgf form; `row` has its verdict. With `most` only that many moves are played."""
     board, moves, numbers, set_ups, illegal = None, [], {}, [], None
     for node in nodes(record):
         if len(moves) == most:

@@ -1,18 +1,18 @@
 #!/usr/bin/env python3
 """illegal_lines.py [-0] FILE|FOLDER..
 
-The lines of play in which the referee finds an illegal node. Each row has the
-place of that node, the turn, what is played or set up there, and the reason,
-as compilers write it, so that editors jump there:
+Lists the lines of play in which the referee finds an illegal node. Each row
+has the place of that node, the turn, what is played or set up there, and the
+reason. It has the form that compilers use, so editors can jump to the place:
 FILE:LINE:COLUMN: turn TURN: B[tt]: over
 
   illegal_lines.py library
   illegal_lines.py library | sed 's/.*: //' | sort | uniq -c
-                                 how often each reason comes
+                                 counts each reason
   illegal_lines.py library | uniq -c
-                                 how many lines each node spoils
+                                 counts the lines that each node spoils
 
-Status 1: a file was refused. An illegal line alone is no reason for it.
+Status 1: a file was refused. Illegal lines don't change the status.
 """
 import goboard
 import sgfsplit
@@ -24,7 +24,7 @@ MOST = 60
 
 
 def told(node, reason):
-    """The properties of a node that the reason speaks of, in one row, cut where they are long."""
+    """The properties of a node that the reason is about, in one row, shortened if they are long."""
     text = "".join(name + "".join(f"[{value.decode('utf-8', 'replace')}]" for value in values)
                    for name, values in node if name in SHOWN.get(reason, MOVES))
     return sgfsplit.shown(text if len(text) <= MOST else text[:MOST] + "..")

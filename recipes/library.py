@@ -2,19 +2,18 @@
 """library.py [--sshlogin MACHINES] [-0] OUT FILE|FOLDER..
 
 Splits a library on all cores, with a progress bar. OUT/dir/name.rows gets the
-rows of dir/name.sgf, or OUT/dir/name.fault the row that says why it was
-refused. A later call does what was added, changed, repaired or had failed, and
-nothing else.
+rows of dir/name.sgf. If it was refused, OUT/dir/name.fault gets the row that
+says why. A later call does only the files that were added, changed or
+repaired, or that had failed.
 
   library.py out library         all .sgf files below the folder library
   library.py --sshlogin :,server1,server2 out library
-                                 on these machines too (: is this one), which
-                                 see the same folders; by GNU Parallel
+                                 on these machines by GNU Parallel (: is this
+                                 one); they must see the same folders
   find . -name '*.sgf' -mtime -7 -print0 | library.py -0 out
 
-OUT/.done.jsonl keeps a sum of the bytes of each file that was done. Rows of
-files that are gone stay: remove OUT to begin anew. Status 1: a file was
-refused.
+OUT/.done.jsonl keeps a sum of the bytes of each finished file. Rows of deleted
+files stay: remove OUT to begin anew. Status 1: a file was refused.
 """
 import contextlib
 import hashlib
@@ -46,7 +45,7 @@ def sum_of(name):
 
 
 def split_one(name, path, known):
-    """Writes the rows of a file, if its bytes don't have the known sum. Gives that sum, and the row that says why it was refused."""
+    """Writes the rows of a file, unless its bytes have the known sum. Returns the sum of its bytes, and the row that says why it was refused."""
     try:
         if os.path.exists(name) and not os.path.isfile(name):
             raise sgfsplit.Refused(f"{sgfsplit.shown(name)}: not a file")
@@ -70,16 +69,16 @@ def keep_fault(path, row):
         with sgfsplit.written(path + ".fault") as file:
             file.write(os.fsencode(row) + b"\n")
     except sgfsplit.Refused:
-        pass  # the row is told in any case
+        pass  # the row is reported in any case
 
 
 def split_batch(batch):
-    """What became of each file of a batch: its name, its path below OUT, its sum, why it was refused."""
+    """The result for each file of a batch: its name, its path below OUT, its sum, and why it was refused."""
     return [(name, path, *split_one(name, path, known)) for name, path, known in batch]
 
 
 def batches(files, most):
-    """Files in batches that have few files or few bytes, so that neither small files nor large ones keep a core waiting."""
+    """The files in batches. A batch has few files or few bytes, so that neither small files nor large ones keep a core waiting."""
     batch, size = [], 0
     for name, path, known in files:
         batch.append((name, path, known))
@@ -92,7 +91,7 @@ def batches(files, most):
 
 
 def here(work):
-    """The answer to each batch, as they come, from a worker on each core of this machine."""
+    """The answers to the batches, in the order in which they come, from a worker on each core of this machine."""
     workers, mine = [], threading.local()
 
     def begin():
@@ -117,8 +116,8 @@ def here(work):
 
 
 def there(work, machines):
-    """The answer to each batch, from one of several machines, by GNU Parallel. No name stands on a command line: batches go in, and answers
-    come out, as rows of JSON, and the command is made of variables."""
+    """The answers to the batches, from several machines by GNU Parallel. No name stands on a command line: batches and answers are rows of
+    JSON, and the command consists of variables."""
     if shutil.which("parallel") is None:
         raise sgfsplit.Trouble("--sshlogin needs GNU Parallel, which isn't installed")
     settings = {"TOOL": os.path.abspath(__file__), "FOLDER": os.getcwd(), "SGFSPLIT": sgfsplit.program()}
@@ -138,7 +137,7 @@ def there(work, machines):
 
 
 def serve():
-    """Does the batches that stand on standard input, one a row."""
+    """Does the batches on standard input, one in each row."""
     signal.signal(signal.SIGINT, signal.SIG_DFL)
     try:
         sgfsplit.program()
@@ -155,7 +154,7 @@ def bar(done, total):
 
 
 def known_of(path):
-    """What earlier calls did: the sum of the file that was split to each place below OUT. A row that was cut off counts for nothing."""
+    """The results of earlier calls: for each path below OUT, the sum of the file that was split to it. A row that was cut off is ignored."""
     known = {}
     with open(path, "rb") as journal:
         for line in journal:

@@ -1,23 +1,23 @@
 #!/usr/bin/env python3
 """openings.py [--games] [--symmetry] [--setup] [--csv] [-0] N FILE|FOLDER..
 
-An opening table: the first N moves of each line of play and how many lines
-begin so, the most frequent first. A row is COUNT SIDE MOVE.., with moves as
-B-Q16 or W-pass.
+Makes an opening table: the first N moves of each line of play, and how many
+lines begin with them, the most frequent first. A row is COUNT SIDE MOVE..,
+with moves such as B-Q16 or W-pass.
 
   openings.py 4 library | head
-  openings.py --games 4 library  games, not lines, so that a game with many
+  openings.py --games 4 library  counts games, not lines: a game with many
                                  variations counts once for each opening
   openings.py --symmetry 4 library
-                                 the eight views of a board count as one, the
+                                 counts the eight views of a board as one, the
                                  one that begins in the upper right
-  openings.py --setup 4 library  lines with stones set up before these moves
-                                 count as `setup`; else they are left out
-  openings.py --csv 4 library    count,side and a column for each move
+  openings.py --setup 4 library  counts lines with stones set up before these
+                                 moves as `setup`; else they are left out
+  openings.py --csv 4 library    writes count,side and a column for each move
 
 Only moves that are really made count. A line with an illegal node counts up to
-it, one without a move or that isn't judged not at all. On sides past 25 a
-point is its two letters in SGF. Status 1: a file was refused.
+that node. A line without a move, or that isn't judged, doesn't count. On sides
+over 25 a point is its two letters in SGF. Status 1: a file was refused.
 """
 import csv
 import sys
@@ -30,7 +30,7 @@ VIEWS = [(flip, across, down) for flip in (False, True) for across in (False, Tr
 
 
 def viewed(point, view, side):
-    """A point of the board in another view: mirrored at the diagonal, from left to right, from top to bottom."""
+    """A point of the board in another view: mirrored along the diagonal, left to right, or top to bottom."""
     if point is None:
         return None
     flip, across, down = view
@@ -39,13 +39,13 @@ def viewed(point, view, side):
 
 
 def upper_right(moves, side):
-    """The moves in the view whose first move that tells the views apart is furthest to the right, and then furthest up."""
+    """The moves in one of the eight views. The first move that differs between views decides: it is furthest right there, then furthest up."""
     key = lambda view: [(0, 0) if point is None else (-point[0], point[1]) for _, point in view]
     return min(([(colour, viewed(point, view, side)) for colour, point in moves] for view in VIEWS), key=key)
 
 
 def opening(line, count, options):
-    """The side and the first moves of a line of play as words, or None where it doesn't count."""
+    """The side and the first moves of a line of play as words, or None if the line doesn't count."""
     side, moves = line.board.side, line.moves[:count]
     if line.set_ups and line.set_ups[0][0] < count:
         return (str(side), "setup") if "--setup" in options else None
@@ -57,7 +57,7 @@ def opening(line, count, options):
 
 
 def openings(job, count):
-    """How often each opening comes."""
+    """The number of times that each opening occurs."""
     counts, by_games = Counter(), "--games" in job.options
     for name in job.files():
         with job.going_on():

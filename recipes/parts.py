@@ -2,18 +2,18 @@
 """parts.py [--most BYTES] [-0] FILE|FOLDER..
 
 Writes the rows of a collection of any size. sgfsplit takes 64 MiB at a time,
-so the text is cut between games. Appending one collection to another leaves
-the rows of the first as they are, and raises in those of the second each place
-by the length of the first and each game's number by its games. So the rows of
-the parts, raised, are the rows of the whole. Each file's rows follow those of
-the one before.
+so the text is cut between games. If you append one collection to another, the
+rows of the first don't change. In the rows of the second the places rise by
+the length of the first, and the game numbers by its number of games. So the
+raised rows of the parts are the rows of the whole. The rows of each file follow
+those of the file before.
 
   parts.py huge.sgf > rows.txt
   parts.py --most 1000000 huge.sgf > rows.txt
-                                 the greatest part; 67108864 without it
+                                 the most bytes of a part; default 67108864
 
-A single game of more than 64 MiB stays refused. Status 1: a file was refused;
-the rows of the parts before the fault are written.
+A single game of more than 64 MiB is still refused. Status 1: a file was
+refused; the rows of the parts before the fault are written.
 """
 import subprocess
 
@@ -22,7 +22,7 @@ import sgfsplit
 
 
 def parts(text, most):
-    """Where each part begins and ends, and its number of games; a part ends after a game, the last one with the text."""
+    """The beginning and end of each part, and its number of games. A part ends after a game, and the last one at the end of the text."""
     begin = end = depth = count = 0
     for place, after in goboard.tokens(text, 0, goboard.PARENTHESES):
         byte = text[place:place + 1]

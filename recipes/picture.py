@@ -2,9 +2,10 @@
 """picture.py [--line PLACE] FILE > picture.svg
 picture.py [--line PLACE] [-0] --out OUT FILE|FOLDER..
 
-Draws the board at the end of each line of play, or at its illegal move with
-that point marked, as SVG, with the line's row below. A stone has the number of
-its move. The boards of a file stand side by side, four in a row.
+Draws the board at the end of each line of play as SVG, with the line's row
+below. For an illegal line it draws the board at the illegal move, with that
+point marked. A stone has the number of its move. The boards of a file stand
+side by side, four in a row.
 
   picture.py game.sgf > game.svg
   picture.py --line 170 game.sgf > line.svg
@@ -13,8 +14,8 @@ its move. The boards of a file stand side by side, four in a row.
                                  pictures/library/name/PLACE.svg, a file for
                                  each line
 
-Sides go from 1 to 52; those past 25 have the letters of SGF beside them. Lines
-that aren't judged have no board. Status 1: a file was refused.
+Sides go from 1 to 52. Boards with sides over 25 have the letters of SGF beside
+them. Lines that aren't judged have no board. Status 1: a file was refused.
 """
 import os
 import sys
@@ -45,12 +46,12 @@ def names(side):
 
 
 def at(index):
-    """Where a column or row stands, counted from 0."""
+    """The position of a column or row, counted from 0."""
     return MARGIN + STEP * index
 
 
 def grid(side):
-    """The wood, its lines and dots, and the names beside them."""
+    """The wood with its lines and dots, and the names beside them."""
     first, last = at(0), at(side - 1)
     size = last - first + 2 * EDGE
     parts = [f'<rect x="{first - EDGE}" y="{first - EDGE}" width="{size}" height="{size}" fill="{WOOD}"/>']
@@ -85,7 +86,7 @@ def marks(line):
 
 
 def board(row, line, left, top):
-    """One board with its row, at a place of the picture, and its width and height."""
+    """One board with its row, at a position in the picture, and its width and height."""
     last = at(line.board.side - 1)
     width = max(last + MARGIN, 7.2 * len(str(row)) + 20)
     parts = [f'<g class="board" data-place="{row.place}" transform="translate({left + (width - last - MARGIN) / 2:g} {top})">']
@@ -95,7 +96,7 @@ def board(row, line, left, top):
 
 
 def picture(lines):
-    """The text of an SVG of lines, each a pair of a row and what was played."""
+    """The text of an SVG of lines. Each line is a pair: its row, and the line as played."""
     parts, left, top, height, width = [], 0, 0, 0, 0
     for number, (row, line) in enumerate(lines):
         if number % ACROSS == 0:
@@ -111,7 +112,7 @@ def picture(lines):
 
 
 def lines_of(name, place):
-    """The row of each judged line of a file, and what was played; of the line with the place alone, if one is given."""
+    """The row of each judged line of a file, and the line as played. If a place is given, only the line with that place."""
     if place is None:
         return goboard.lines(name)
     before = None
@@ -123,7 +124,7 @@ def lines_of(name, place):
 
 
 def drawn(name, place):
-    """The text of the picture of a file's lines, or of one."""
+    """The text of the picture of a file's lines, or of one line."""
     lines = list(lines_of(name, place))
     if not lines:
         raise sgfsplit.Refused(f"{sgfsplit.shown(name)}: no board, since no line is judged")

@@ -2,17 +2,17 @@
 """prose.py < mail.txt | sgfsplit split
 prose.py [-0] OUT FILE|FOLDER..
 
-Overwrites what stands around the games of a text, such as mail headers, an
-introduction or a signature, by spaces. Line feeds stay, and so does every
-place: a fault is named where it stands in the mail. A game begins at `(`
-before a `;` and ends with its `)`. One that is cut off goes on to the end of
-the text, so it is refused at its true byte. OUT/dir/name.sgf gets the text of
-dir/name.sgf, and OUT/dir/mail.txt.sgf that of dir/mail.txt.
+Overwrites the text around the games, such as mail headers, an introduction or
+a signature, with spaces. Line feeds stay, and so does every place: a fault is
+named by its place in the mail. A game begins at a `(` before a `;` and ends
+with its `)`. A game that is cut off continues to the end of the text, so it is
+refused at its true byte. OUT/dir/name.sgf gets the text of dir/name.sgf, and
+OUT/dir/mail.txt.sgf gets the text of dir/mail.txt.
 
   prose.py < mail.txt | sgfsplit split
   prose.py clean mails/*.txt && verdicts.py clean
 
-What looks like a game in the prose, as a `(;` does, is taken for one, and the
+Prose that looks like a game, such as `(;`, is treated as a game, and the
 program refuses it. Status 1: a file was refused.
 """
 import re
@@ -25,7 +25,7 @@ BEGIN = re.compile(rb"\([ \t\n\r\v\f]*;")
 
 
 def games(text):
-    """Where each game begins and ends."""
+    """The beginning and end of each game."""
     at = 0
     while begin := BEGIN.search(text, at):
         depth, at = 0, len(text)
@@ -38,7 +38,7 @@ def games(text):
 
 
 def without_prose(text):
-    """The pieces of the text, with spaces for what stands around its games, but line feeds and a byte order mark at its start."""
+    """The pieces of the text, with spaces instead of the text around its games. Line feeds stay, and so does a byte order mark at the start."""
     last = 3 if text[:3] == b"\xef\xbb\xbf" else 0
     yield text[:last]
     for begin, end in games(text):

@@ -1,11 +1,11 @@
 #!/usr/bin/env python3
 """replay.py [-0] FILE|FOLDER..
 
-A second referee: has GNU Go play the script of each line of play. It must
-accept each legal move, and refuse an illegal one of the reasons `occupied` and
-`repeat`. The stones on its board must be those of the line, played here, whose
-area must be the score of the row. A line that differs gets a row, and the last
-row is: N lines agree, N differ, N left out.
+A second referee: GNU Go plays the script of each line of play. It must accept
+each legal move, and refuse an illegal move with the reason `occupied` or
+`repeat`. This tool plays the line too: the stones on both boards must be the
+same, and their area must be the score of the row. A line that differs gets a
+row, and the last row is: N lines agree, N differ, N left out.
 
   replay.py library
   ENGINE='my-engine --gtp' replay.py library
@@ -13,12 +13,12 @@ row is: N lines agree, N differ, N left out.
                                  Protocol, with the same rules
 
 Comments never reach the engine. Lines without a script are left out, and so
-are sides that the engine refuses. An engine takes a setup's stones for moves:
-if it refuses a move for a position that stood on the way to a setup, the line
-is left out. Stones are compared if the engine knows list_stones, as GNU Go
-does. GNU Go 3.8 accepts a suicide of several stones that repeats a position:
-such a line differs. Status 1: a line differs, or a file was refused. Debian:
-gnugo
+are sides that the engine refuses. An engine treats the stones of a setup as
+moves. If it refuses a move because it repeats a position on the way to a setup,
+the line is left out. Stones are compared if the engine knows list_stones, as
+GNU Go does. GNU Go 3.8 accepts a suicide of several stones that repeats a
+position: a line with one differs. Status 1: a line differs, or a file was
+refused. Debian: gnugo
 """
 import os
 import re
@@ -57,7 +57,7 @@ class Engine:
         self.run.communicate()
 
     def ask(self, commands):
-        """The reply to each command: whether it was accepted, and its text. All are sent at once."""
+        """The reply to each command: whether it was accepted, and its text. All commands are sent at once."""
         feeder = threading.Thread(target=self.send, args=("".join(command + "\n" for command in commands).encode(),))
         feeder.start()
         replies = [self.reply() for _ in commands]
@@ -69,7 +69,7 @@ class Engine:
             self.run.stdin.write(text)
             self.run.stdin.flush()
         except (OSError, ValueError):
-            pass  # the engine was ended: the missing reply tells
+            pass  # the engine has ended: the missing reply shows it
 
     def reply(self):
         lines = []
@@ -90,12 +90,13 @@ class Engine:
 
 
 def commands_of(script):
-    """The commands of a script, without all else."""
+    """The commands of a script, and nothing else."""
     return [line.decode() for line in script.split(b"\n") if COMMAND.fullmatch(line)]
 
 
 def is_of_setup(line, commands):
-    """Whether the last of these commands makes a part of a setup stand alone again, as it stood while the engine took it for moves."""
+    """Whether the stones after these commands are only the first part of a setup. The engine plays a setup as moves, so it has seen that
+    position before."""
     board = goboard.Board(line.board.side)
     for words in (command.split() for command in commands):
         if words[0] == "clear_board":
@@ -118,7 +119,7 @@ def forbidden(line, reason):
 
 
 def compare(engine, row, line, script):
-    """What the engine says against a line, None where it agrees, or False where it can't say."""
+    """The engine's objection to a line, None if it agrees, or False if it can't judge the line."""
     commands = commands_of(script)
     if not commands or not engine.ask(commands[:1])[0][0]:
         return False

@@ -1,5 +1,5 @@
-"""What the tools of this folder share, and a module for scripts of your own: it hands files to the program sgfsplit, and gives its
-rows as named tuples and its records one by one.
+"""The part that the tools of this folder share, and a module for your own scripts. It passes files to the program sgfsplit, and returns
+its rows as named tuples and its records one by one.
 
     import sgfsplit
     for row in sgfsplit.rows("game.sgf"):
@@ -7,8 +7,8 @@ rows as named tuples and its records one by one.
     for record in sgfsplit.records("game.sgf", "sgf"):
         print(len(record))
 
-A file that can't be opened or is refused raises Refused, whose text is the row that says so: FILE:LINE:COLUMN: not SGF. Names are str, as
-os.fsdecode gives them. The program is the one that the variable SGFSPLIT names, else PROGRAM. Boards and nodes are in goboard.py.
+A file that can't be opened or is refused raises Refused. Its text is the row that says why: FILE:LINE:COLUMN: not SGF. Names are str, as
+os.fsdecode returns them. The variable SGFSPLIT names the program; without it, it is PROGRAM. Boards and nodes are in goboard.py.
 """
 import contextlib
 import fcntl
@@ -34,15 +34,15 @@ CONTROLS = {"\n": "\\n", "\t": "\\t", "\\": "\\\\"}
 
 
 class Refused(Exception):
-    """A file gives no lines of play, or its output can't be kept. The text is one row that begins with the file's name."""
+    """A file has no lines of play, or its output can't be kept. The text is one row that begins with the file's name."""
 
 
 class Trouble(Exception):
-    """Nothing can be done, as where the program isn't there. The text is one row."""
+    """Nothing can be done, for example because the program is missing. The text is one row."""
 
 
 class Row(NamedTuple):
-    """A row of the list form. What a verdict doesn't have is None; the reason of `unjudged` is what isn't judged."""
+    """A row of the list form. A field that the verdict doesn't have is None. The reason of `unjudged` is `game` or `size`."""
     place: int
     game: int
     nodes: int
@@ -56,7 +56,7 @@ class Row(NamedTuple):
 
     @classmethod
     def read(cls, line):
-        """The row that stands in a line of bytes."""
+        """The row in a line of bytes."""
         place, game, nodes, verdict, *more = line.decode().split()
         row = cls(int(place), int(game), int(nodes), verdict)
         if verdict == "score":
@@ -72,7 +72,7 @@ class Row(NamedTuple):
 
 
 class Places:
-    """Tells a place, an offset in bytes from 0, as line and column, both from 1. Columns are bytes. Places that rise cost one pass."""
+    """Converts places, which are offsets in bytes from 0, to line and column, both from 1. Columns count bytes. Rising places cost one pass."""
 
     def __init__(self, text):
         self.text, self.at, self.line = text, 0, 1
@@ -88,7 +88,7 @@ class Places:
 
 @functools.lru_cache(maxsize=None)
 def program():
-    """The path of the program, once it has shown that it is ours."""
+    """The path of the program, after a check that it is ours."""
     name = os.environ.get("SGFSPLIT")
     if not name:
         name = os.path.join(os.path.dirname(os.path.realpath(__file__)), PROGRAM) if os.sep in PROGRAM else PROGRAM
@@ -117,12 +117,12 @@ def is_ours(path):
 
 
 def shown(name):
-    """A name as it stands in a row of text: control characters as \\n or \\x1b, and so \\ as \\\\."""
+    """A name as a row of text shows it: control characters as \\n or \\x1b, and therefore \\ as \\\\."""
     return re.sub(r"[\x00-\x1f\x7f-\x9f\\]", lambda found: CONTROLS.get(found[0], f"\\x{ord(found[0]):02x}"), name)
 
 
 def opened(name):
-    """The file, opened to be read as bytes. A pipe, which can be read once, is copied at the first time."""
+    """The file, opened for reading bytes. A pipe, which can be read only once, is copied the first time."""
     try:
         if name in PIPES:
             return open(PIPES[name].name, "rb")
@@ -139,7 +139,7 @@ def opened(name):
 
 
 def text_of(name):
-    """The bytes of a file of any size, mapped where the system can."""
+    """The bytes of a file of any size, mapped if the system can."""
     with opened(name) as file:
         try:
             return mmap.mmap(file.fileno(), 0, access=mmap.ACCESS_READ)
@@ -161,8 +161,8 @@ def fault_of(name, status, fault, begin=0):
 
 @contextlib.contextmanager
 def output(name, *words):
-    """What the program writes about a file, as a stream of bytes. Raises Refused at the end where the program refused the file; it has
-    written nothing then, or whole records where the system failed."""
+    """What the program writes about a file, as a stream of bytes. Raises Refused at the end if the program ended with a
+    fault. If it refused the file, it has written nothing. If the system failed, it may have written whole records."""
     with opened(name) as text, subprocess.Popen([program(), *words], stdin=text, stdout=subprocess.PIPE, stderr=subprocess.PIPE) as run:
         try:
             yield run.stdout
@@ -175,7 +175,7 @@ def output(name, *words):
 
 
 def write_rows(file, name, after=None):
-    """Has the program write the rows of a file to an open file."""
+    """Makes the program write the rows of a file to an open file."""
     file.flush()
     with opened(name) as text:
         run = subprocess.run([program(), "split", *page(after, None)], stdin=text, stdout=file, stderr=subprocess.PIPE)
@@ -184,7 +184,7 @@ def write_rows(file, name, after=None):
 
 
 def page(after, limit):
-    """The words that ask for the lines after the one with a place, and for so many of them at most."""
+    """The options for the lines after the one with the place `after`, and for at most `limit` lines."""
     return [word for option, number in (("--after", after), ("--limit", limit)) if number is not None for word in (option, str(number))]
 
 
@@ -196,7 +196,7 @@ def rows(name, after=None, limit=None):
 
 
 def records(name, form="sgf", after=None, limit=None):
-    """The record of each line of play of a file in a form, list, sgf or gtp, in file order. Values may hold line feeds and brackets."""
+    """The record of each line of play of a file in a form (list, sgf or gtp), in file order. Values may contain line feeds and brackets."""
     ends = {"list": lambda line, inside: True, "gtp": lambda line, inside: line == b"\n", "sgf": lambda line, inside: not inside}[form]
     with output(name, "split", "--form", form, *page(after, limit)) as lines:
         record, inside = [], False
@@ -209,7 +209,7 @@ def records(name, form="sgf", after=None, limit=None):
 
 
 def is_inside(line, inside):
-    """Whether a value is open after a line of the sgf form, whose line feeds stand in values and after games alone."""
+    """Whether a value is still open after a row of the sgf form. There, line feeds stand only in values and after games."""
     line = ESCAPE.sub(b"", line)
     if inside:
         _, closed, line = line.partition(b"]")
@@ -219,7 +219,7 @@ def is_inside(line, inside):
 
 
 def locked(path):
-    """The file at the path, opened for bytes at its end, once no other process has it so."""
+    """The file at the path, opened for appending bytes. It waits until no other process has locked it."""
     while True:
         file = open(os.open(path, os.O_RDWR | os.O_CREAT | os.O_APPEND | os.O_NOFOLLOW, 0o666), "ab")
         fcntl.flock(file, fcntl.LOCK_EX)
@@ -230,8 +230,8 @@ def locked(path):
 
 @contextlib.contextmanager
 def written(path):
-    """A file to write to, which stands beside `path` and takes its name once all is written. The folders above it are made. What a killed
-    run left beside it is written over."""
+    """A file to write to. It stands beside `path`, and is renamed to `path` when everything is written. The folders above it are created.
+    Anything that a killed run left beside it is overwritten."""
     folder, name = os.path.split(path)
     beside = os.path.join(folder, f".{hashlib.blake2b(os.fsencode(name), digest_size=8).hexdigest()}.part")
     try:
@@ -250,11 +250,11 @@ def written(path):
 
 
 class Words(Exception):
-    """The words of a tool are wrong. The text says what about them."""
+    """The words of a tool are wrong. The text says what is wrong with them."""
 
 
 class Job:
-    """One call of a tool: its options, its first words, and its files; and whether a file was refused."""
+    """One call of a tool: its options, its first words and its files, and whether a file was refused."""
 
     def __init__(self, options, first, names):
         self.options, self.first, self.names, self.status = options, first, names, 0
@@ -283,7 +283,7 @@ class Job:
                 yield name
 
     def below(self, folder):
-        """The .sgf files below a folder in the order of their names, without those below `left_out`, where a tool's own outputs stand."""
+        """The .sgf files below a folder in the order of their names, without those below `left_out`, which has the tool's own outputs."""
         told = lambda error: self.refuse(f"{shown(error.filename)}: {error.strerror}")
         for path, folders, names in os.walk(folder, onerror=told):
             inner = [(name, os.path.join(path, name)) for name in folders]
@@ -298,8 +298,8 @@ class Job:
                     yield whole
 
     def outputs(self, out, ending, is_apart=False):
-        """The name of each file, and the path below the folder `out` at which what is made of it is kept: out/dir/name.ending. `is_apart` says
-        that no file may stand below `out`, since what is written there could take its place."""
+        """The name of each file, and the path of its output below the folder `out`: out/dir/name.ending. With `is_apart` no file may stand below
+        `out`, because the output could overwrite it."""
         self.left_out = out
         taken = {}
         for name in self.files():
@@ -323,14 +323,14 @@ def is_same(path, other):
 
 
 def is_below(path, folder):
-    """Whether a path leads to what stands below a folder."""
+    """Whether a path leads to something below a folder."""
     folder = os.path.realpath(folder)
     return os.path.commonpath([os.path.realpath(path), folder]) == folder
 
 
 def kept(out, name, ending):
-    """The path out/dir/name.ending for a file dir/name.sgf. A name that doesn't end in .sgf stays whole, and so do `.sgf` and `...sgf`,
-    since what is left of them is a folder's name. The path never leaves `out`."""
+    """The path out/dir/name.ending for a file dir/name.sgf. A name that doesn't end in .sgf stays whole. So do `.sgf` and `...sgf`,
+    because without the ending they would be a folder's name. The path never leaves `out`."""
     path = os.path.normpath(name)
     if os.path.isabs(path) or path.split(os.sep)[0] == os.pardir:
         path = os.path.relpath(os.path.abspath(path), os.sep)
@@ -341,15 +341,15 @@ def kept(out, name, ending):
 
 
 def number_of(word, least, most, what):
-    """The number that a word says, from `least` to `most`; `what` tells it where the word is wrong."""
+    """The number in a word, from `least` to `most`. The message about a wrong word calls it `what`."""
     if not re.fullmatch("[0-9]{1,18}", word) or not least <= int(word) <= most:
         raise Words(f"{what}, from {least} to {most}")
     return int(word)
 
 
 def options_of(words, flags, values):
-    """The options that stand at the front of a command line, and how many words they are. They end at the first other word, or at `--`, so
-    that no name after it is taken for one. A word that is an option and also the name of a file here is refused, but before a `--`."""
+    """The options at the front of a command line, and how many words they are. They end at the first other word or at `--`, so no name after
+    that is taken for an option. If a word is an option and also the name of a file here, it is refused, unless `--` is among the words."""
     options, at, known = {}, 0, {"-h", "--help", "-0", *flags, *values}
     is_sure = "--" in words and not os.path.lexists("--")
     while at < len(words) and words[at].startswith("-") and words[at] != "-":
@@ -375,7 +375,7 @@ def options_of(words, flags, values):
 
 
 def job_of(words, flags, values, first, is_filter):
-    """The job of a command line, or None if it asks for help."""
+    """The job of a command line, or None for help."""
     options, at = options_of(words, flags, values)
     if "-h" in options or "--help" in options:
         return None
@@ -390,7 +390,7 @@ def job_of(words, flags, values, first, is_filter):
 
 
 def ended(tool, usage, *takes):
-    """Does what the command line asks for. Gives the status, and the row that says why it isn't 0."""
+    """Does the job of the command line. Returns the status, and the row that says why it isn't 0."""
     try:
         job = job_of(sys.argv[1:], *takes)
         if job is None:
@@ -405,7 +405,7 @@ def ended(tool, usage, *takes):
     except Trouble as trouble:
         return 3, trouble
     except OSError as error:
-        os.dup2(os.open(os.devnull, os.O_WRONLY), sys.stdout.fileno())  # what can't be written isn't tried again
+        os.dup2(os.open(os.devnull, os.O_WRONLY), sys.stdout.fileno())  # output that can't be written isn't tried again
         told = error.strerror if error.filename is None else f"{shown(os.fsdecode(error.filename))}: {error.strerror}"
         return (0, None) if isinstance(error, BrokenPipeError) else (3, told)
     except KeyboardInterrupt:
@@ -413,7 +413,7 @@ def ended(tool, usage, *takes):
 
 
 def start(tool, usage, flags=(), values=(), first=0, is_filter=False):
-    """Runs a tool: hands it the Job of the command line, and ends with its status. Flags are options alone, values have a word after them,
+    """Runs a tool with the Job of the command line, and ends with its status. Flags are options without a value, values have a word after them,
     `first` words come before the names of files, and a filter is called without words too.
     1: a file was refused; 2: wrong words; 3: the program or the system failed."""
     if None in (sys.stdin, sys.stdout, sys.stderr):

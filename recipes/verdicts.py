@@ -1,19 +1,19 @@
 #!/usr/bin/env python3
 """verdicts.py [--csv|--json|--sqlite DB] [-0] FILE|FOLDER..
 
-One table for a library, a row for each line of play: file, place, game, nodes,
-verdict, black, white, ended, turn, fault (the place of the illegal node) and
-reason. What a verdict doesn't have is `-` in columns, empty in CSV, and null
-in JSON and SQLite.
+Makes one table for a library, with a row for each line of play. Its columns are
+file, place, game, nodes, verdict, black, white, ended, turn, fault (the place
+of the illegal node) and reason. A field that a verdict doesn't have is `-` in
+columns, empty in CSV, and null in JSON and SQLite.
 
   verdicts.py library                      as columns
   verdicts.py --csv library > table.csv
   verdicts.py --json library               each row an object
   verdicts.py --sqlite games.db library    the table `lines` of a database
 
-SQLite's table is filled in one transaction. Said again, a file's rows take the
-place of its old ones. A name that isn't UTF-8 is a BLOB there. Status 1: a
-file was refused.
+SQLite's table is filled in one transaction. If you repeat it, a file's rows
+replace its old ones. A name that isn't UTF-8 is a BLOB there. Status 1: a file
+was refused.
 """
 import contextlib
 import csv
@@ -30,7 +30,7 @@ FORMS = ("--csv", "--json", "--sqlite")
 
 
 def table(job):
-    """Each row of each file, with the file's name before it."""
+    """Each row of each file, after the file's name."""
     for name in job.files():
         with job.going_on():
             for row in sgfsplit.rows(name):
@@ -73,7 +73,7 @@ def as_sqlite(job):
 
 
 def as_text(name):
-    """The name, or its bytes where it isn't UTF-8."""
+    """The name, or its bytes if it isn't UTF-8."""
     try:
         name.encode()
         return name

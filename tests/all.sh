@@ -1,7 +1,7 @@
 #!/usr/bin/env bash
-# The test command: runs the merge gate (`rt ci`), which proves and builds all, and then every other script of this folder over the
-# programs that it built.
-# `tests/all.sh --scripts` leaves the gate out, `tests/all.sh NAME..` runs only the scripts named.
+# The test command. It runs the merge gate (`rt ci`), which proves and builds everything, and then every other script of this folder with
+# the programs that the gate built.
+# `tests/all.sh --scripts` skips the gate, and `tests/all.sh NAME..` runs only the named scripts.
 # The last line is `N passed, N failed, N skipped`, summed over all.
 set -uo pipefail
 cd "$(dirname "$0")/.."
@@ -11,7 +11,7 @@ trap 'rm -f "$log"' EXIT
 
 programs=(crates/sgfsplit/out/sgfsplit crates/sgf_lines_tests/out/sgf_lines_tests out/libsgflines.so.0)
 
-# Builds what the gate didn't: the shared library, over the libraries that it proved, and more where it failed.
+# Builds what the gate didn't: the shared library, from the libraries that the gate proved, and more if the gate failed.
 build() {
     local program
     for program in "${programs[@]}"; do
@@ -33,7 +33,7 @@ gate() {
     fi
 }
 
-# A script counts as one, or as what its own last line says in the form of this one's.
+# A script counts as one test, or as the numbers in its own last line, if that has the form of this script's last line.
 script() {
     local status=0 counts
     timeout 900 "tests/$1.sh" < /dev/null > "$log" 2>&1 || status=$?

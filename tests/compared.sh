@@ -1,5 +1,5 @@
 #!/usr/bin/env bash
-# The table of docs/COMPARED.md is what docs/compared.py finds with the programs that are installed.
+# The table of docs/COMPARED.md is the one that docs/compared.py prints with the installed programs.
 . "$(dirname "$0")/lib.sh"
 needs python3 gnugo
 [ -x /usr/bin/sgfsplit ] && dpkg -S /usr/bin/sgfsplit 2> /dev/null | grep -q '^sgf2dg:' || skipped "sgf2dg isn't installed"

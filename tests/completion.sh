@@ -1,10 +1,10 @@
 #!/usr/bin/env bash
-# What bash offers for the words of the program: each subcommand, option and form of its help, and files.
+# The completions that bash offers for the words of the program: each subcommand, option and form of its help, and files.
 . "$(dirname "$0")/lib.sh"
 . "$top/completion/sgfsplit.bash"
 touch game.sgf
 
-# What is offered for the last of the words.
+# The completions of the last word.
 offered() {
     COMP_WORDS=(sgfsplit "$@")
     COMP_CWORD=$#

@@ -1,10 +1,10 @@
 #!/usr/bin/env bash
-# What fish offers for the words of the program.
+# The completions that fish offers for the words of the program.
 . "$(dirname "$0")/lib.sh"
 needs fish
 touch game.sgf
 
-# wants WANTED LINE: what is offered for the last word of the line.
+# wants WANTED LINE: these are the completions of the last word of the line.
 wants() {
     local want=$1 line=$2 got
     got=$(HOME=$work fish --no-config -c "source '$top/completion/sgfsplit.fish'; complete -C '$line'" | cut -f 1 | sort | tr '\n' ' ')

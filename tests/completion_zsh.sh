@@ -1,5 +1,5 @@
 #!/usr/bin/env bash
-# What zsh offers for the words of the program, in a terminal of its own.
+# The completions that zsh offers for the words of the program, in its own terminal.
 . "$(dirname "$0")/lib.sh"
 needs zsh
 touch game.sgf
@@ -23,7 +23,7 @@ sleep 0.7
 while zpty -r -t shell out; do print -rn -- "$out"; done
 ZSH
 
-# wants WANTED LINE: the choices that a tab lists behind the line, the first word of each row or all words of one.
+# wants WANTED LINE: these are the choices that a tab lists after the line: the first word of each row, or all words of one row.
 wants() {
     local want=$1 line=$2 got
     COMPLETIONS=$top/completion timeout 30 zsh -f offered.zsh "$line" | tr -d '\a\r' > shown

@@ -1,6 +1,6 @@
 #!/usr/bin/env bash
-# The examples of README, docs/ and the manual page, run as they stand by examples.py, where the examples and recipes lie, with the program on
-# the path. Those of docs/RECIPES.md need more programs: recipe_examples.sh runs them.
+# examples.py runs the examples of README, docs/ and the manual page as they stand. The folder has the examples and recipes, and the program is
+# on the path. recipe_examples.sh runs the examples of docs/RECIPES.md, which need more programs.
 . "$(dirname "$0")/lib.sh"
 needs python3 perl
 mkdir bin

@@ -1,5 +1,5 @@
-"""Runs the examples of documents as they stand: after each line `$ COMMAND` come the lines that it writes. Commands of make, rt, git and
-apt-get aren't run. In a manual page, which ends in .1, a command without such lines isn't run either.
+"""Runs the examples of documents as they stand. After each line `$ COMMAND` come the lines that the command writes. Commands of make, rt,
+git and apt-get aren't run. In a manual page, whose name ends in .1, a command without such lines isn't run either.
 
   tests/examples.py DOCUMENT..
 """

@@ -1,6 +1,6 @@
 #!/usr/bin/env bash
-# Refuses each request for memory of the program `sgf_lines_tests` in turn. It makes the libraries' calls, each once more after a want of
-# memory, and runs between ends that fail, once each; its status says whether all was as it should be (crates/sgf_lines_tests/src/main.rt).
+# Refuses each request for memory of the program `sgf_lines_tests` in turn. The program makes the libraries' calls, each once more after refused
+# memory, and runs between ends that fail, once each. Its status says whether everything was right (crates/sgf_lines_tests/src/main.rt).
 . "$(dirname "$0")/lib.sh"
 tried=$top/crates/sgf_lines_tests/out/sgf_lines_tests
 needs cc

@@ -1,11 +1,11 @@
 #!/usr/bin/env bash
-# The help of the program and of its commands, as a whole, and the version: its last row, the manual page's foot and the changelog
-# say what the file VERSION says.
+# The help of the program and of its commands is exactly this text. The last row of the help, the foot of the manual page and the changelog have
+# the version of the file VERSION.
 . "$(dirname "$0")/lib.sh"
 version=$(cat "$top/VERSION")
 name=$(basename "$SGFSPLIT")
 
-# shows WORDS..: the text on standard input is what the program writes for these words and --help.
+# shows WORDS..: the program writes the text on standard input for these words and --help.
 shows() {
     cat > want
     "$SGFSPLIT" "$@" --help > got 2> err || failed "the help of '$*' ends with $?"

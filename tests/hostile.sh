@@ -1,6 +1,6 @@
 #!/usr/bin/env bash
-# Gives the built program inputs that are made to hurt: cut, deep, wide, of one huge part. Each has its answer, and no run takes a
-# minute. bench/hostile.py measures such inputs up to the limit. The last line is `N passed, N failed, N skipped`.
+# Runs the built program on inputs that are made to hurt: cut, deep, wide, or with one huge part. Each has its expected answer, and no run takes
+# a minute. bench/hostile.py measures such inputs up to the limit. The last line is `N passed, N failed, N skipped`.
 . "$(dirname "$0")/lib.sh"
 set +e
 passed=0 failed=0
@@ -14,7 +14,7 @@ check() {
     fi
 }
 
-# answer NAME TEXT WORDS..: over input.sgf the run ends with status 0, writes this text and a line feed, and says nothing.
+# answer NAME TEXT WORDS..: on input.sgf the run ends with status 0, writes this text and a line feed, and nothing to standard error.
 answer() {
     local name=$1 text=$2
     shift 2
@@ -24,7 +24,7 @@ answer() {
     check "$name: fault row" '' "$(cat err)"
 }
 
-# fault NAME LINE WORDS..: over standard input the run ends with status 1 and this line, and writes nothing.
+# fault NAME LINE WORDS..: on standard input the run ends with status 1 and this line, and writes nothing.
 fault() {
     local name=$1 line=$2
     shift 2
@@ -113,9 +113,9 @@ answer 'passes and setups' '1500000 1 300001 score 0 0 open' split
 (ulimit -v 131072 && exec timeout 60 "$SGFSPLIT" split input.sgf) > out 2> err
 check 'whole boards set up in turn, in 128 MiB: status' 0 $?
 check 'whole boards set up in turn, in 128 MiB' '799998 1 80001 score 0 0 open' "$(cat out)"
-# 70,304 stones in one stretch: 26 times Black plays all points of side 52 but one, while White passes, and White plays there and takes them
-# all. No colouring comes twice: White's stone tells which time it is, and when it is taken, by the last but one of Black's stones, all
-# points are Black's but two, and then one, which are others each time.
+# 70,304 stones in one stretch. 26 times Black plays on all points of side 52 but one, while White passes. Then White plays on that point and
+# takes them all. No colouring comes twice. White's stone is on another point each time. The last but one of Black's stones takes it. Then Black
+# has all points but two, later all but one, and these points differ each time.
 awk '
     function add(x, y) { moves[++count] = substr(letters, x + 1, 1) substr(letters, y + 1, 1) }
     BEGIN {

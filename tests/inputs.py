@@ -1,5 +1,5 @@
 #!/usr/bin/env python3
-"""Writes inputs for the scripts that compare the library with the program: inputs.py FOLDER. Some are made to hurt."""
+"""Writes inputs for the scripts that compare the library with the program: inputs.py FOLDER. Some inputs are made to hurt."""
 import os
 import sys
 

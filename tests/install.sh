@@ -1,6 +1,6 @@
 #!/usr/bin/env bash
-# make install puts program, manual page, completion and tools, library, header and Python module where PREFIX, DESTDIR and PROGRAM say,
-# and make uninstall takes them away.
+# make install puts the program, manual page, completion, tools, library, header and Python module where PREFIX, DESTDIR and PROGRAM say.
+# make uninstall removes them.
 . "$(dirname "$0")/lib.sh"
 [ "$SGFSPLIT" = "$top/crates/sgfsplit/out/sgfsplit" ] || skipped "another program than the built one is tried"
 where="DESTDIR=$work/root PREFIX=/opt/go PROGRAM=sgf-lines"
@@ -31,7 +31,7 @@ print(*sgflines.count(open(sys.argv[1], "rb").read()))
 assert sgflines._LIBRARY._name.startswith(sys.argv[2]), sgflines._LIBRARY._name' "$top/examples/ko.sgf" "$root" > got
     same want got "what the Python module counts"
 fi
-# The tools call the program beside which they were installed, by its name, and the one that SGFSPLIT names.
+# The tools call the program that was installed with them, by its name, or the one that SGFSPLIT names.
 if command -v python3 > /dev/null; then
     "$SGFSPLIT" split "$top/examples/corner.sgf" > want
     for tool in "$top"/recipes/*.py; do

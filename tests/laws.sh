@@ -1,6 +1,6 @@
 #!/usr/bin/env bash
-# Laws of the program over the examples: splitting the sgf output again gives the same bytes; appending a collection leaves the
-# rows of the first and raises those of the second; pages join to the whole; places rise; counts fit.
+# Laws of the program on the examples. Splitting the sgf output again gives the same bytes. Appending a collection keeps the rows of the first
+# and raises those of the second. Pages join to the whole, places rise, and counts agree.
 . "$(dirname "$0")/lib.sh"
 for file in "$top"/examples/*.sgf; do
     "$SGFSPLIT" split --form sgf "$file" > once
@@ -30,7 +30,7 @@ for file in "$top"/examples/*.sgf; do
         same want got "$file with $other appended"
     done
 done
-# Texts with white space, lower case and escapes, as they are written the first and the second time.
+# Texts with white space, lower case and escapes, and how they are written the first and the second time.
 again() {
     printf '%s' "$1" | "$SGFSPLIT" split --form sgf > once
     printf '%s\n' "${@:2}" > want
@@ -41,7 +41,7 @@ again() {
 again '(;SZ[3](;B[aa])(;B[bb];W[aa]))' '(;SZ[3];B[aa])' '(;SZ[3];B[bb];W[aa])'
 again '(;GaMe[1]C[a\]b] ;B[aa])' '(;GM[1]C[a\]b];B[aa])'
 again ' ( ; SZ [3] ; B [bb] ) ' '(;SZ[3];B[bb])'
-# A game after another: its rows are those of the game alone, further on.
+# One game after another: its rows are those of the game alone, with raised places.
 [ "$(printf '(;SZ[1];B[aa])' | "$SGFSPLIT" split)" = '7 1 2 illegal 1 7 repeat' ] || failed 'the game alone'
 printf '(;SZ[1])(;SZ[1];B[aa])' | "$SGFSPLIT" split > got
 printf '1 1 1 score 0 0 open\n15 2 2 illegal 1 15 repeat\n' > want

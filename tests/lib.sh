@@ -1,9 +1,9 @@
-# What the scripts of tests/ share: `. "$(dirname "$0")/lib.sh"`. Such a script runs in a new folder, which goes when it ends.
-# Status 0 says passed, 77 skipped, anything else failed.
+# The scripts of tests/ begin with this file: `. "$(dirname "$0")/lib.sh"`. Each runs in a new folder, which is removed when it ends.
+# Status 0 means passed, 77 skipped, anything else failed.
 set -euo pipefail
 top=$(cd "$(dirname "${BASH_SOURCE[0]}")/.." && pwd)
 export SGFSPLIT=${SGFSPLIT:-$top/crates/sgfsplit/out/sgfsplit}
-export LC_ALL=C HOME=${HOME:-/} SHELL=${SHELL:-/bin/sh}  # GNU Parallel asks for both, and a bare environment has neither
+export LC_ALL=C HOME=${HOME:-/} SHELL=${SHELL:-/bin/sh}  # GNU Parallel needs both, and a bare environment has neither
 PATH=$PATH:/usr/games
 work=$(mktemp -d)
 trap 'rm -rf "$work"' EXIT
@@ -19,7 +19,7 @@ skipped() {
     exit 77
 }
 
-# Goes on only where the programs are there.
+# Goes on only if the programs are installed.
 needs() {
     local program
     for program; do

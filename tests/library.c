@@ -2,6 +2,7 @@
  *
  *   library split FORM AFTER LIMIT FILE    FORM is a number, AFTER and LIMIT are numbers or -
  *   library count FILE
+ *   library judge FILE                     judges the lines with the places that are read from standard input, and writes their verdicts
  *   library threads FILE                   four threads at once over the same bytes, in every form, with small stacks
  *   library refused FILE                   each request for memory refused in turn, in every form (built with REFUSED)
  *
@@ -21,6 +22,8 @@ static_assert(sizeof(struct sgf_lines_asked) == 24 && sizeof(struct sgf_lines_an
 static_assert(offsetof(struct sgf_lines_asked, has_after) == 4 && offsetof(struct sgf_lines_asked, has_limit) == 5, "flags");
 static_assert(offsetof(struct sgf_lines_asked, after) == 8 && offsetof(struct sgf_lines_asked, limit) == 16, "numbers");
 static_assert(offsetof(struct sgf_lines_answer, at) == 16 && offsetof(struct sgf_lines_counts, at) == 24, "places");
+static_assert(sizeof(struct sgf_lines_judged) == 48 && offsetof(struct sgf_lines_judged, white) == 12, "size");
+static_assert(offsetof(struct sgf_lines_judged, turn) == 16 && offsetof(struct sgf_lines_judged, over) == 40, "turn and end");
 
 #define MARK 0xa5
 #define check(condition) \
@@ -51,6 +54,8 @@ static uint8_t *read_file(const char *name, size_t *length) {
     fclose(file);
     return bytes;
 }
+
+static uint64_t number(const char *word) { return strtoull(word, NULL, 10); }
 
 /* The row and the status of the program. */
 static int say(uint32_t status, uint64_t at) {
@@ -122,12 +127,58 @@ static int count_file(const char *name) {
     return say(status, counts.at);
 }
 
+/* Judges a line, and checks that what its status and its verdict have no use for is 0. */
+static uint32_t judge(const uint8_t *text, size_t length, uint64_t place, struct sgf_lines_judged *judged) {
+    memset(judged, MARK, sizeof *judged);
+    uint32_t status = sgf_lines_judge(text, length, place, judged);
+    check(status <= SGF_LINES_OUT_OF_MEMORY && status != SGF_LINES_UNKNOWN_FORM && status != SGF_LINES_ROOM_TOO_SMALL);
+    check((status == SGF_LINES_DONE) == (judged->verdict != SGF_LINES_NO_VERDICT) && judged->verdict <= SGF_LINES_BAD_SIZE);
+    check(judged->verdict == SGF_LINES_SCORE || (!judged->black && !judged->white && !judged->over));
+    check((judged->verdict == SGF_LINES_ILLEGAL) == (judged->reason != SGF_LINES_NO_REASON) && judged->reason <= SGF_LINES_REPEAT);
+    check((judged->verdict == SGF_LINES_ILLEGAL) == (judged->turn != 0) && (judged->turn || !judged->place));
+    check(judged->at == 0 || status == SGF_LINES_NOT_SGF || status == SGF_LINES_ENDS_EARLY || status == SGF_LINES_NO_SUCH_LINE);
+    return status;
+}
+
+/* The verdict as it stands in the line's row. */
+static void write_verdict(const struct sgf_lines_judged *judged) {
+    static const char *const reasons[] = {[SGF_LINES_MIXED] = "mixed",         [SGF_LINES_TWO_MOVES] = "two-moves",
+                                          [SGF_LINES_BAD_SETUP] = "bad-setup", [SGF_LINES_BAD_POINT] = "bad-point",
+                                          [SGF_LINES_OVER] = "over",           [SGF_LINES_TURN] = "turn",
+                                          [SGF_LINES_OCCUPIED] = "occupied",   [SGF_LINES_REPEAT] = "repeat"};
+    switch (judged->verdict) {
+    case SGF_LINES_SCORE:
+        printf("score %u %u %s\n", (unsigned)judged->black, (unsigned)judged->white, judged->over ? "over" : "open");
+        break;
+    case SGF_LINES_ILLEGAL:
+        printf("illegal %llu %llu %s\n", (unsigned long long)judged->turn, (unsigned long long)judged->place, reasons[judged->reason]);
+        break;
+    default: printf("unjudged %s\n", judged->verdict == SGF_LINES_NOT_GO ? "game" : "size");
+    }
+}
+
+static int judge_file(const char *name) {
+    size_t length;
+    uint8_t *text = read_file(name, &length);
+    struct sgf_lines_judged judged;
+    unsigned long long place;
+    uint32_t status = SGF_LINES_DONE;
+    while (status == SGF_LINES_DONE && scanf("%llu", &place) == 1) {
+        status = judge(text, length, place, &judged);
+        if (status == SGF_LINES_DONE) write_verdict(&judged);
+    }
+    let_go(text, length);
+    return say(status, judged.at);
+}
+
 /* ---- four threads over the same bytes */
 
 struct shared {
     const uint8_t *text;
     size_t length, needed[3];
     uint8_t *wanted[3];
+    uint64_t place;
+    struct sgf_lines_judged judged;
 };
 
 static void *in_thread(void *given) {
@@ -136,11 +187,14 @@ static void *in_thread(void *given) {
         struct sgf_lines_asked asked = {.form = (uint32_t)turn % 3};
         struct sgf_lines_answer answer;
         struct sgf_lines_counts counts;
+        struct sgf_lines_judged judged;
         size_t needed = shared->needed[asked.form];
         uint8_t *room = malloc(needed + 1);
         check(room && split(shared->text, shared->length, &asked, room, needed, &answer) == SGF_LINES_DONE);
         check(answer.bytes == needed && !memcmp(room, shared->wanted[asked.form], needed));
         check(sgf_lines_count(shared->text, shared->length, &counts) == SGF_LINES_DONE && counts.lines == answer.lines);
+        check(judge(shared->text, shared->length, shared->place, &judged) == SGF_LINES_DONE);
+        check(judged.verdict == shared->judged.verdict && judged.black == shared->judged.black && judged.place == shared->judged.place);
         free(room);
     }
     return NULL;
@@ -159,6 +213,8 @@ static int threads(const char *name) {
         check((shared.wanted[form] = malloc(answer.bytes)));
         check(sgf_lines_split(shared.text, shared.length, &asked, shared.wanted[form], answer.bytes, &answer) == SGF_LINES_DONE);
     }
+    shared.place = number((const char *)shared.wanted[SGF_LINES_LIST]);
+    check(judge(shared.text, shared.length, shared.place, &shared.judged) == SGF_LINES_DONE);
     pthread_attr_t small;
     check(!pthread_attr_init(&small) && !pthread_attr_setstacksize(&small, 128 * 1024));
     for (int at = 0; at < 4; at++) check(!pthread_create(&started[at], &small, in_thread, &shared));
@@ -231,20 +287,44 @@ static long refused_count(const uint8_t *text, size_t length) {
     }
 }
 
+/* The same of a judge, and the refusal has no verdict. */
+static long refused_judge(const uint8_t *text, size_t length, uint64_t place) {
+    struct sgf_lines_judged whole, judged;
+    uint32_t status = judge(text, length, place, &whole);
+    for (long number = 1;; number++) {
+        asked_for = blocks = 0;
+        refused_at = number;
+        uint32_t got = judge(text, length, place, &judged);
+        refused_at = 0;
+        check(blocks == 0);
+        if (asked_for < number) {
+            check(got == status && judged.verdict == whole.verdict && judged.reason == whole.reason && judged.black == whole.black);
+            check(judged.white == whole.white && judged.turn == whole.turn && judged.place == whole.place && judged.over == whole.over);
+            return number - 1;
+        }
+        check(got == SGF_LINES_OUT_OF_MEMORY && !judged.at);
+    }
+}
+
 static int refused(const char *name) {
     size_t length;
-    uint8_t *read = read_file(name, &length), *text = __real_malloc(length);
+    uint8_t *read = read_file(name, &length), *text = __real_malloc(length), *rows = __real_malloc(1 << 20);
     memcpy(text, read, length);
     long requests = refused_count(text, length), most_lines = 0;
     for (uint32_t form = 0; form < 3; form++) requests += refused_split(text, length, form, &most_lines);
+    struct sgf_lines_asked asked = {.form = SGF_LINES_LIST};
+    struct sgf_lines_answer answer;
+    requests += refused_judge(text, length, length);
+    if (sgf_lines_split(text, length, &asked, rows, 1 << 20, &answer) == SGF_LINES_DONE)
+        for (uint8_t *row = rows; row < rows + answer.bytes; row = 1 + (uint8_t *)memchr(row, '\n', 1 << 20))
+            requests += refused_judge(text, length, number((char *)row));
+    __real_free(rows);
     printf("%ld requests refused, memory for %ld lines at most\n", requests, most_lines);
     __real_free(text);
     return 0;
 }
 
 #endif
-
-static uint64_t number(const char *word) { return strtoull(word, NULL, 10); }
 
 int main(int count, char **words) {
     const char *what = count > 2 ? words[1] : "";
@@ -255,6 +335,7 @@ int main(int count, char **words) {
         return split_file(&asked, words[5]);
     }
     if (!strcmp(what, "count")) return count_file(words[2]);
+    if (!strcmp(what, "judge")) return judge_file(words[2]);
     if (!strcmp(what, "threads")) return threads(words[2]);
 #ifdef REFUSED
     if (!strcmp(what, "refused")) return refused(words[2]);

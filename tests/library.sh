@@ -1,7 +1,7 @@
 #!/usr/bin/env bash
-# The shared library: it exports what its header declares and no more, and needs the C library alone; over the examples and over inputs
-# made to hurt it says what the program says, in every form and on pages; each request for memory refused in turn, under the address
-# sanitizer; four threads at once. The last line is `N passed, N failed, N skipped`.
+# The shared library exports what its header declares and no more, and needs only the C library. On the examples and on inputs made to hurt it
+# says what the program says, in every form and on pages. Each request for memory is refused in turn, under the address sanitizer. Four
+# threads run at once. The last line is `N passed, N failed, N skipped`.
 . "$(dirname "$0")/lib.sh"
 library=$top/out/libsgflines.so.0
 needs cc nm objdump python3
@@ -42,7 +42,7 @@ mkdir inputs
 "$top/tests/inputs.py" inputs
 cp "$top"/examples/*.sgf inputs
 
-# agrees NAME WORDS.. -- WORDS..: the test with the first words and the program with the others write, say and end the same.
+# agrees NAME WORDS.. -- WORDS..: the test with the first words and the program with the others have the same outputs and status.
 agrees() {
     local name=$1 words=()
     shift
@@ -52,6 +52,17 @@ agrees() {
     local status=$?
     "$SGFSPLIT" "$@" > want 2> want.err
     [ "$status" = $? ] && cmp -s want got && cmp -s want.err got.err || { echo "$name: status $status, $(cat got.err)"; return; }
+}
+
+# judged FILE: the verdicts of its first lines and of its last, by their places, stand in their rows; the fault of a faulty file is the program's.
+judged() {
+    "$SGFSPLIT" split "$1" > rows.txt 2> want.err
+    local status=$?
+    sed -n '1,200p;$p' rows.txt | cut -d ' ' -f 4- > want
+    sed -n '1,200p;$p' rows.txt | cut -d ' ' -f 1 > places
+    [ -s places ] || echo 0 > places
+    ./called judge "$1" < places > got 2> got.err
+    [ "$status" = $? ] && cmp -s want got && cmp -s want.err got.err || echo "judged: status $status, $(cat got.err)"
 }
 
 forms=(list sgf gtp)
@@ -69,8 +80,18 @@ for file in inputs/*.sgf; do
         done
     done
     problems+=$(agrees 'limit 2' split 1 - 2 "$file" -- split --form sgf --limit 2 "$file")
-    check "$name: as the program" '' "$problems"
+    check "$name: as the program" '' "$problems$(judged "$file")"
 done
+kinds=$(for file in inputs/*.sgf; do "$SGFSPLIT" split "$file" 2> /dev/null | sed -n '1,200p'; done | awk '{ print $4, $4 == "score" ? $7 : $NF }' | sort -u)
+check 'verdicts of every kind were judged' 12 "$(wc -l <<< "$kinds")"
+problems=
+for place in $(seq 0 31) 4294967304 18446744073709551615; do
+    case $place in 8 | 22) continue ;; esac
+    "$SGFSPLIT" split --after $place --limit 0 inputs/two.sgf 2> want.err
+    ./called judge inputs/two.sgf <<< $place > got 2> got.err
+    [ $? = 1 ] && cmp -s want.err got.err && [ ! -s got ] || problems+="$place: $(cat got got.err); "
+done
+check 'no line there to judge' '' "$problems"
 check 'the example writes the rows' "$("$SGFSPLIT" split "$top/examples/ko.sgf")" "$(./rows "$top/examples/ko.sgf")"
 ./called split 3 - - "$top/examples/ko.sgf"
 check 'a form that there is none of' 8 $?
@@ -79,11 +100,11 @@ check 'another one' 8 $?
 for more in 0 1; do
     { printf '(;C['; head -c $((67108864 - 6 + more)) /dev/zero | tr '\0' x; printf '])'; } > limit.sgf
     check "64 MiB and $more: counted" '' "$(agrees count count limit.sgf -- count limit.sgf)"
-    check "64 MiB and $more: a row" '' "$(agrees list split 0 - - limit.sgf -- split limit.sgf)"
+    check "64 MiB and $more: a row" '' "$(agrees list split 0 - - limit.sgf -- split limit.sgf)$(judged limit.sgf)"
 done
 rm limit.sgf
 
-# ---- threads, refusals and what lies beside
+# ---- threads, refusals and the bytes beside the room
 for file in two ko corner deep large_board; do
     ./called threads inputs/$file.sgf
     check "$file: four threads at once" 0 $?
@@ -107,6 +128,8 @@ if cc "${strict[@]}" -g -fsanitize=address -o sanitized "$top/tests/library.c" "
             ./sanitized split $form - - "$file" > out 2> err
             [ $? -lt 2 ] && ! grep -q Sanitizer err || { check "$file, form $form, sanitized" '' "$(cat err)"; }
         done
+        { "$SGFSPLIT" split "$file" 2> /dev/null | cut -d ' ' -f 1 | head -n 20; echo 1; } | ./sanitized judge "$file" > out 2> err
+        [ $? -lt 2 ] && ! grep -q Sanitizer err || { check "$file, judged, sanitized" '' "$(cat err)"; }
     done
 else
     echo "skipped: the C compiler has no address sanitizer"
@@ -119,6 +142,10 @@ if command -v valgrind > /dev/null; then
             [ $? -lt 2 ] && ! grep -q '^==' err
             check "$file, form $form: each byte that is read was written, and all memory is given back" 0 $?
         done
+        "$SGFSPLIT" split inputs/$file.sgf 2> /dev/null | cut -d ' ' -f 1 > places
+        valgrind -q --error-exitcode=9 --leak-check=full ./called judge inputs/$file.sgf < places > out 2> err
+        [ $? -lt 2 ] && ! grep -q '^==' err
+        check "$file, judged: each byte that is read was written, and all memory is given back" 0 $?
     done
 else
     echo "skipped: valgrind isn't installed"

@@ -1,5 +1,5 @@
 #!/usr/bin/env bash
-# The manual page is well formed, and each option and subcommand of the help stands in it.
+# The manual page is well formed, and has each option and subcommand of the help.
 . "$(dirname "$0")/lib.sh"
 page=$top/man/sgfsplit.1
 { "$SGFSPLIT" --help; "$SGFSPLIT" split --help; } > help

@@ -1,13 +1,13 @@
 #!/usr/bin/env bash
-# The Debian package, installed into an empty root: the program runs there, its documents are there, and the other program of this name
-# is named.
+# The Debian package is installed into an empty root. The program runs there, its documents are there, and the package names the other program of
+# this name.
 . "$(dirname "$0")/lib.sh"
 [ "$SGFSPLIT" = "$top/crates/sgfsplit/out/sgfsplit" ] || skipped "another program than the built one is tried"
 needs dpkg dpkg-deb strip objdump
 package=$(OUT=$work "$top/packaging/make-deb.sh")
 dpkg-deb --field "$package" > control
 grep -q '^Conflicts: sgf2dg$' control || failed "nothing is said of sgf2dg"
-# Debian's own check finds no error, except for what only the owner can choose: an address and a licence.
+# Debian's own check finds no error, except for two things that only the owner can choose: an address and a licence.
 if command -v lintian > /dev/null; then
     lintian --tag-display-limit 0 "$package" > lint 2> /dev/null || true
     grep '^E:' lint | grep -v ': bogus-mail-host' > errors || true

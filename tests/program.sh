@@ -1,6 +1,6 @@
 #!/usr/bin/env bash
-# Drives the built program as users do, and compares what it writes to the byte: rows, games, scripts and counts of small texts, each
-# with its answer worked out by hand; then files, pipes, full devices, closed streams, endless inputs, wrong words.
+# Runs the built program as users do, and compares every byte that it writes. First come rows, games, scripts and counts of small texts, each with
+# its answer worked out by hand. Then come files, pipes, full devices, closed streams, endless inputs and wrong words.
 # The last line is `N passed, N failed, N skipped`. A run that lost output may never end with status 0.
 . "$(dirname "$0")/lib.sh"
 set +e
@@ -26,7 +26,7 @@ verdict() {
     fi
 }
 
-# writes NAME TEXT: what the last run wrote to standard output; says NAME TEXT: to standard error. Both to the byte.
+# writes NAME TEXT: the last run wrote exactly this text to standard output; says NAME TEXT: to standard error.
 writes() { verdict "$1: output" "$2." "$(cat out; printf .)"; }
 says() { verdict "$1: fault row" "$2." "$(cat err; printf .)"; }
 
@@ -39,7 +39,7 @@ fault() {
     says "$name" "sgfsplit: $line"$'\n'
 }
 
-# answer NAME TEXT COMMAND..: the run ends with status 0, writes this text and says nothing.
+# answer NAME TEXT COMMAND..: the run ends with status 0, writes this text, and nothing to standard error.
 answer() {
     local name=$1 text=$2
     shift 2
@@ -138,8 +138,8 @@ fault 'zeros without end' 1 'input is longer than 67108864 bytes' bash -c 'fed /
 fault 'zeros without end to count' 1 'input is longer than 67108864 bytes' "$SGFSPLIT" count /dev/zero
 fault 'games without end' 1 'input is longer than 67108864 bytes' bash -c "yes '(;B[aa])' | \"\$SGFSPLIT\" split"
 
-# ---- what a text answers, from standard input
-# gives TEXT OUTPUT WORDS..: on this text the words answer this output.
+# ---- the answer to a text on standard input
+# gives TEXT OUTPUT WORDS..: the program writes this output for this text and these words.
 gives() {
     local text=$1 output=$2
     shift 2
@@ -147,7 +147,7 @@ gives() {
     answer "$* on $text" "$output" "$SGFSPLIT" "$@" < input.sgf
 }
 
-# tells TEXT LINE WORDS..: with this text the words can't be done, and this line tells why.
+# tells TEXT LINE WORDS..: the program refuses this text with these words, and this line says why.
 tells() {
     local text=$1 line=$2
     shift 2
@@ -155,7 +155,7 @@ tells() {
     fault "$* on $text" 1 "$line" "$SGFSPLIT" "$@" < input.sgf
 }
 
-# games that are judged: the points of both, and whether two passes ended the game
+# judged games: the points of both players, and whether two passes ended the game
 gives '(;SZ[3];B[bb])' $'7 1 2 score 9 0 open\n' split
 gives ' ( ; SZ [3] ; B [bb] ) ' $'12 1 2 score 9 0 open\n' split
 gives $'\xef\xbb\xbf(;)' $'4 1 1 score 0 0 open\n' split
@@ -175,7 +175,7 @@ gives '(;SZ[3];B[];W[];AE[aa];W[bb])' $'22 1 5 score 0 9 open\n' split
 passes='(;SZ[3];B[](;W[])(;W[bb])(;AE[aa];W[]))'
 gives "$passes" $'12 1 3 score 0 0 over\n18 1 3 score 0 9 open\n33 1 4 score 0 0 open\n' split
 
-# boards of up to 52 points a side: columns and rows have capital letters from 27 on, and `tt` is a point from 20 on
+# boards of up to 52 points a side: columns and rows have capital letters from 27 on, and `tt` is a point from side 20 on
 gives '(;SZ[19];B[tt])' $'8 1 2 score 0 0 open\n' split
 gives '(;SZ[20];B[tt])' $'8 1 2 score 400 0 open\n' split
 gives '(;SZ[26])' $'1 1 1 score 0 0 open\n' split
@@ -183,7 +183,7 @@ gives '(;SZ[27];B[zA])' $'8 1 2 score 729 0 open\n' split
 gives '(;SZ[52];B[ZZ])' $'8 1 2 score 2704 0 open\n' split
 gives '(;SZ[52];B[tt])' $'8 1 2 score 2704 0 open\n' split
 
-# games that aren't
+# games that aren't judged
 gives '(;GM[2]SZ[26])' $'1 1 1 unjudged game\n' split
 gives '(;GM[x])' $'1 1 1 unjudged game\n' split
 gives '(;GM[2](;)(;))' $'8 1 2 unjudged game\n11 1 2 unjudged game\n' split
@@ -192,7 +192,7 @@ gives '(;SZ[53])' $'1 1 1 unjudged size\n' split
 gives '(;SZ[-0])' $'1 1 1 unjudged size\n' split
 gives '(;SZ[7 ])' $'1 1 1 unjudged size\n' split
 
-# lines of which a node isn't allowed, each reason in the order of checking
+# lines with an illegal node: each reason, in the order of checking
 gives '(;SZ[9]AB[aa];B[bb]PL[W])' $'13 1 2 illegal 1 13 mixed\n' split
 gives '(;B[aa]W[bb])' $'1 1 1 illegal 1 1 two-moves\n' split
 gives '(;SZ[9]AB[jj])' $'1 1 1 illegal 1 1 bad-setup\n' split
@@ -209,7 +209,7 @@ gives '(;SZ[1];B[aa](;W[])(;C[x]))' $'14 1 3 illegal 1 7 repeat\n20 1 3 illegal 
 gives '(;SZ[4]AB[ba][ab][bc]AW[ca][db][cc][bb];B[cb];W[bb])' $'45 1 3 illegal 2 45 repeat\n' split
 gives '(;SZ[2];B[aa];W[bb];B[ba];W[ab];B[aa];W[ba];B[aa])' $'43 1 8 illegal 7 43 repeat\n' split
 
-# games of their own
+# lines as games
 gives '(;)' $'(;)\n' split --form sgf
 gives '(;SZ[1])(;SZ[2])' $'(;SZ[1])\n(;SZ[2])\n' split --form sgf
 gives '(;GaMe[1]C[a\]b] ;B[aa])' $'(;GM[1]C[a\\]b];B[aa])\n' split --form sgf
@@ -217,7 +217,7 @@ gives $'(; AB [aa]\n[bb] C[x\\]y] ;PL[B])' $'(;AB[aa][bb]C[x\\]y];PL[B])\n' spli
 gives $'(;C[a\\]b\\\\] [] [c:d ; ( e\n])' $'(;C[a\\]b\\\\][][c:d ; ( e\n])\n' split --form sgf
 gives "$passes" $'(;SZ[3];B[];W[])\n(;SZ[3];B[];W[bb])\n(;SZ[3];B[];AE[aa];W[])\n' split --form sgf
 
-# scripts: the row, the board, the comments, the stones of each setup and the moves, up to the first node that isn't allowed
+# scripts: the row, the board, the comments, the stones of each setup and the moves, up to the first illegal node
 gives '(;SZ[3];B[bb])' $'# 7 1 2 score 9 0 open\nboardsize 3\nclear_board\nplay B B2\n\n' split --form gtp
 gives $'(;SZ[5]AB[ab][ba]AW[cc]C[one\ntwo];W[];B[ee])' $'# 37 1 3 score 4 1 open
 boardsize 5\nclear_board\n# one\n# two\nclear_board
@@ -264,7 +264,7 @@ tells $' \xef\xbb\xbf(;)' 'byte 1: not SGF' split
 tells '()' 'byte 1: not SGF' count
 tells '(;C[a\' "byte 6: $early" count
 
-# ---- outputs that fail: never status 0 where output was lost
+# ---- outputs that fail: never status 0 if output was lost
 # lost NAME COMMAND: the run ends with status 3 and says so.
 lost() {
     run 3 "$1" bash -c "$2"

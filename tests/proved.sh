@@ -1,6 +1,6 @@
 #!/usr/bin/env bash
-# Each call and clause that docs/PROVED.md names stands in the code, and each law of the code is named there. Each definition that the
-# tables of docs/ name stands in that file.
+# The code has each call and clause that docs/PROVED.md names, and docs/PROVED.md names each law of the code. Each definition that a table of
+# docs/ names is in the file that the table gives.
 . "$(dirname "$0")/lib.sh"
 needs python3
 python3 - "$top" <<'PYTHON'

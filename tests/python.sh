@@ -1,6 +1,6 @@
 #!/usr/bin/env bash
-# The Python module over the shared library: over the examples and inputs made to hurt it gives what the program writes, in every form and
-# on pages; its faults are the program's, with their places; its records and rows are those of the output. Threads split at once.
+# The Python module over the shared library. On the examples and on inputs made to hurt it returns what the program writes, in every form and on
+# pages. Its faults are the program's, with their places. Its records and rows are those of the output. Threads split at once.
 . "$(dirname "$0")/lib.sh"
 [ -e "$top/out/libsgflines.so.0" ] || failed "no library at $top/out/libsgflines.so.0: run make lib first"
 needs python3
@@ -22,6 +22,7 @@ import threading
 import sgflines
 
 compared = 0
+judged = set()
 
 
 def program(*words):
@@ -69,6 +70,8 @@ def compare(path):
     agree(f"{name}, counted", program("count", path), counted)
     for form in ("list", "sgf", "gtp"):
         want = program("split", "--form", form, path)
+        if isinstance(want, str):
+            agree(f"{name}, judged", want, module(lambda: sgflines.judge(text, 0)))
         agree(f"{name}, {form}", want, module(lambda: sgflines.output(text, form)))
         if isinstance(want, str):
             continue
@@ -80,6 +83,10 @@ def compare(path):
             agree(f"{name}: rows", [expected_row(line) for line in want.splitlines()], rows)
             kinds = [(number_of(row.verdict), number_of(expected_row(line).verdict)) for row, line in zip(rows, want.splitlines())]
             agree(f"{name}: kinds", [], [pair for pair in kinds if pair[0] != pair[1]])
+            for row in rows[:50] + rows[-1:]:
+                verdict = sgflines.judge(text, row.place)
+                agree(f"{name}: {row.place} judged", (row.verdict, type(row.verdict)), (verdict, type(verdict)))
+                judged.add(verdict.reason if isinstance(verdict, sgflines.Illegal) else number_of(verdict))
         if form == "sgf" and len(parts) < 50:
             for part in parts:
                 agree(f"{name}: a game is one line", 1, sgflines.count(part).lines)
@@ -95,6 +102,7 @@ def compare(path):
 
 for path in sorted(glob.glob(sys.argv[1] + "/*.sgf")):
     compare(path)
+agree("every kind was judged", {*sgflines.REASONS[1:], "Score", "NotGo", "BadSize"}, judged)
 
 
 def fault(call):
@@ -111,6 +119,11 @@ raised = fault(lambda: sgflines.count(b"(;SZ[3]"))
 agree("cut", (sgflines.EndsEarly, 7, True), (type(raised), raised.at, isinstance(raised, sgflines.NotSgf)))
 raised = fault(lambda: sgflines.rows(b"(;)", after=5))
 agree("no line", (sgflines.NoSuchLine, 5), (type(raised), raised.place))
+raised = fault(lambda: sgflines.judge(b"(;)", 0))
+agree("no line to judge", (sgflines.NoSuchLine, 0), (type(raised), raised.place))
+agree("a line to judge", sgflines.Score(black=0, white=0, over=False), sgflines.judge(bytearray(b"(;)"), 1))
+agree("a place to judge", ValueError, type(fault(lambda: sgflines.judge(b"(;)", -1))))
+agree("too long to judge", sgflines.TooLong, type(fault(lambda: sgflines.judge(bytes(67108865), 1))))
 agree("too long", sgflines.TooLong, type(fault(lambda: sgflines.rows(bytes(67108865)))))
 agree("a form", ValueError, type(fault(lambda: sgflines.output(b"(;)", "rows"))))
 agree("a place", ValueError, type(fault(lambda: sgflines.rows(b"(;)", after=-1))))
@@ -118,7 +131,7 @@ agree("a limit", ValueError, type(fault(lambda: sgflines.rows(b"(;)", limit=2 **
 agree("words", TypeError, type(fault(lambda: sgflines.rows("(;)"))))
 agree("empty", (sgflines.EndsEarly, 0), (lambda raised: (type(raised), raised.at))(fault(lambda: sgflines.rows(b""))))
 
-# other texts than bytes
+# texts of other types than bytes
 two = b"(;SZ[3](;B[aa])(;B[bb];W[aa]))"
 lent = bytearray(two)
 agree("a bytearray", sgflines.rows(two), sgflines.rows(lent))
@@ -129,7 +142,7 @@ agree("a memoryview", sgflines.rows(two), sgflines.rows(memoryview(b"  " + two)[
 with open(sys.argv[1] + "/two.sgf", "rb") as file, mmap.mmap(file.fileno(), 0, access=mmap.ACCESS_READ) as mapped:
     agree("a mapped file", sgflines.rows(two), sgflines.rows(mapped))
 
-# the interpreter's lock is let go during a call, as by every CDLL that is no PyDLL
+# the interpreter's lock is released during a call, as for every CDLL that isn't a PyDLL
 agree("the lock", (True, False), (isinstance(sgflines._LIBRARY, ctypes.CDLL), isinstance(sgflines._LIBRARY, ctypes.PyDLL)))
 with open(sys.argv[1] + "/wide.sgf", "rb") as file:
     wide = file.read()

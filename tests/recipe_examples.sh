@@ -1,5 +1,5 @@
 #!/usr/bin/env bash
-# Every command of docs/RECIPES.md, run as it stands, and no command that stands there without being run.
+# Runs every command of docs/RECIPES.md as it stands, and checks that it leaves none out.
 . "$(dirname "$0")/lib.sh"
 needs python3 parallel gnugo sqlite3 iconv
 mkdir bin

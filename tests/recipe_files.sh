@@ -1,6 +1,6 @@
 #!/usr/bin/env bash
-# A file for each line of play in each form, named by its place, with the record's bytes; a comment may hold what looks like the end of a
-# record; a run that was stopped goes on, and a changed game is written anew.
+# Each line of play in each form has a file with the record's bytes, named by its place. A comment may contain text that looks like the end of a
+# record. A run that was stopped goes on, and a changed game is written anew.
 . "$(dirname "$0")/lib.sh"
 needs python3
 tool=$top/recipes/files.py
@@ -38,7 +38,7 @@ done
 "$tool" default games
 diff -r default out.sgf >&2 || failed "without --form it isn't sgf"
 
-# Files that are gone or cut off are written again, and the others are left as they are.
+# Files that are missing or cut off are written again, and the others aren't.
 touch mark
 sleep 0.05
 rm out.sgf/games/corner/95.sgf
@@ -51,7 +51,7 @@ same want got
 rm -r default
 "$tool" default games
 diff -r default out.sgf >&2 || failed "a stopped run wasn't gone on with"
-# What is written never takes the place of a game.
+# An output never overwrites a game.
 mkdir games/corner
 cp games/ko.sgf games/corner/95.sgf
 cp -R games before

@@ -1,5 +1,5 @@
 #!/usr/bin/env bash
-# Rows that grow with a collection equal those of one run, and so do rows that were cut off at any byte; a collection that was changed
+# Rows that grow with a collection equal those of one run, and so do rows that were cut off at any byte. A collection that was changed
 # before the last place is refused, and then nothing is written.
 . "$(dirname "$0")/lib.sh"
 needs python3
@@ -12,7 +12,7 @@ cat "$top/examples/two_games.sgf" >> library.sgf
 "$SGFSPLIT" split library.sgf > want
 same want rows
 
-# Cut off at each byte, of a collection that has grown since, and of one that hasn't.
+# Rows cut off at each byte, for a collection that has grown since and for one that hasn't.
 size=$(wc -c < want)
 for ((byte = 0; byte <= size; byte++)); do
     head -c "$byte" want > rows
@@ -27,7 +27,7 @@ for ((byte = 0; byte <= size; byte += 9)); do
     cmp more rows >&2 || failed "rows that were cut off at byte $byte, and then grew"
 done
 
-# Changed before the last place, refused, and rows that aren't any: nothing is written.
+# A collection that changed before the last place, a refused one, and ROWS that has no rows: nothing is written.
 refused() {
     cp rows before
     if "$go_on" rows "$1" 2> fault; then failed "$1 was accepted"; fi
@@ -48,7 +48,7 @@ refused rows "rows: its last row isn't one of sgfsplit"
 printf '(;SZ[9];B[aa])' > rows
 refused rows "rows: its last row isn't one of sgfsplit"
 
-# A folder of rows, as library.py makes it.
+# A folder of rows, as library.py writes it.
 mkdir games
 cp "$top"/examples/*.sgf games
 "$top/recipes/library.py" out games

@@ -1,6 +1,6 @@
 #!/usr/bin/env bash
-# Each tool over files whose names are options, commands, replacement strings, rows of text, or no UTF-8 at all: as words, below a folder,
-# and from standard input. It does with each what it does with a plain name, names the refused one, and nothing that a name says is done.
+# Each tool on files whose names are options, commands, replacement strings, rows of text, or not UTF-8: as words, below a folder, and from
+# standard input. It treats each file like one with a plain name, and names the refused one. It never runs what a name says.
 . "$(dirname "$0")/lib.sh"
 needs python3 parallel gnugo
 cat > hostile.py <<'PYTHON'
@@ -126,7 +126,7 @@ run(TOOLS + "picture.py", "--out", "../out", "--", *NAMES, BAD)
 same(sum(len(files) for _, _, files in os.walk("../out")), 2 * len(NAMES), "picture.py")
 same(run(TOOLS + "replay.py", "--", *NAMES, BAD), b"%d lines agree, 0 differ, 0 left out\n" % (2 * len(NAMES)), "replay.py")
 
-# A name alone, where options stand: a file unless it is an option, and then the tool takes neither.
+# A bare name in the place of options: it is a file, unless it is also an option. Then the tool accepts neither.
 for name in (b"--sshlogin=touch x.sgf", b"--rpl={} touch pwned.sgf", b"-x.sgf", b"--form=gtp", b"-"):
     same(run(TOOLS + "illegal_lines.py", name, status=0), shown(name) + b":4:2: turn 2: W[bb]: repeat\n", f"illegal_lines.py {name}")
 for tool, name in (("verdicts.py", b"--csv"), ("library.py", b"--sshlogin=touch x.sgf"), ("files.py", b"--form=gtp"), ("parts.py", b"-0")):
@@ -138,7 +138,7 @@ for path, folders, files in os.walk(b".."):
         sys.exit(f"a name was run: {path}, {files}")
 PYTHON
 
-# A machine that is reached as ssh would reach it: by a shell, named in SHELL, that takes the words together as a command.
+# A machine that is reached as by ssh: a shell, named in SHELL, runs the joined words as a command.
 cat > ssh <<'SSH'
 #!/bin/sh
 until [ "$1" = -- ]; do shift; done

@@ -1,5 +1,5 @@
 #!/usr/bin/env bash
-# Illegal lines with place, turn, move and reason: the places are those of the nodes, and what the file holds can't forge a row.
+# Illegal lines with place, turn, move and reason. The places are those of the nodes, and the contents of a file can't forge a row.
 . "$(dirname "$0")/lib.sh"
 needs python3
 tool=$top/recipes/illegal_lines.py
@@ -38,7 +38,7 @@ PYTHON
 echo 'F:37:19: turn 334: B[tt]: over' > want
 same want got
 
-# A value may hold line feeds, terminal escapes and much more: it stays in its row.
+# A value may contain line feeds, terminal escapes and much more: it stays in its row.
 printf '(;SZ[3];B[x:\n%s.sgf:1:1: turn 1: B[aa\\]\e[31m: over%s])' forged "$(head -c 100 /dev/zero | tr '\0' y)" > forged.sgf
 "$tool" forged.sgf > got
 [ "$(wc -l < got)" = 1 ] || failed "a value made a row: $(cat got)"

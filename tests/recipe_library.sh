@@ -1,6 +1,6 @@
 #!/usr/bin/env bash
-# A library on all cores: the rows or the fault of each file in its own folder; later calls do what was added, changed, repaired or had
-# failed and nothing else; a removed folder comes again with the same bytes; so do runs that were killed, and those on other machines.
+# A library on all cores. The rows or the fault of each file are in its own folder. Later calls do only what was added, changed or repaired, or
+# had failed. A removed folder is made again with the same bytes. Killed runs and runs on other machines also end with the same bytes.
 . "$(dirname "$0")/lib.sh"
 needs python3 parallel
 library=$top/recipes/library.py
@@ -11,7 +11,7 @@ cp "$top/examples/ko.sgf" games/z/g.sgf
 printf '(;SZ[9]' > games/z/broken.sgf
 printf '(;SZ[9])x' > games/a.sgf
 
-# Each file has the rows that the program writes, or its fault with line and column, and no other file stands there.
+# Each file has the rows that the program writes, or its fault with line and column. There is no other file.
 whole() {
     local folder=$1 name file count=0
     while IFS= read -r file; do
@@ -27,7 +27,7 @@ whole() {
     [ "$(find "$folder" -type f ! -name .done.jsonl | wc -l)" = "$count" ] || failed "other files in $folder: $(find "$folder" -type f)"
 }
 
-# What a run wrote anew, of all that stands in the folder.
+# The files of the folder that a run wrote anew.
 anew() { find "$1" -type f -newer mark ! -name .done.jsonl | sort | tr '\n' ' '; }
 
 call() { touch mark; sleep 0.05; status=0; "$library" "$@" 2> faults || status=$?; }
@@ -39,12 +39,12 @@ printf 'games/a.sgf:1:9: not SGF\ngames/z/broken.sgf:1:8: input ends too early\n
 same want faults
 cp -R out first
 
-# Again: the two that failed are tried and named again, and nothing else is written.
+# Another call: the two files that failed are tried and named again, and nothing else is written.
 call out games
 [ "$(anew out)" = 'out/games/a.fault out/games/z/broken.fault ' ] || failed "written again: $(anew out)"
 same want faults
 
-# Repaired, broken, added, and changed with the size and the time that it had.
+# Files that were repaired, broken or added, and one that changed but kept its size and time.
 printf '(;SZ[9])' > games/a.sgf
 rm games/z/broken.sgf
 cp -p games/x/y/g.sgf was
@@ -63,14 +63,14 @@ call out games
 [ "$status" = 0 ] && [ ! -s faults ] || failed "status $status once all are repaired: $(cat faults)"
 whole out
 
-# The same files as words in another order, and some of them: nothing is done again, and nothing goes.
+# The same files as words in another order, and only some of them: nothing is done again, and nothing is removed.
 call out $(find games -name '*.sgf' | sort -r)
 [ "$status" = 0 ] && [ -z "$(anew out)" ] || failed "done again: $(anew out)"
 call out ./games/x games//b.sgf games/z/../b.sgf
 [ "$status" = 0 ] && [ -z "$(anew out)" ] || failed "done again: $(anew out)"
 whole out
 
-# Removed and made again, by names from standard input, and by GNU Parallel: the same bytes.
+# A folder that was removed and made again, from names on standard input and by GNU Parallel, has the same bytes.
 cp -R out want.out
 rm -r out
 find games -name '*.sgf' -print0 | sort -rz | "$library" -0 out
@@ -84,7 +84,7 @@ for folder in out there; do
     diff -r want.out "$folder" >&2 || failed "$folder isn't the folder that later calls made"
 done
 
-# A machine that isn't there: each file is named, and the next call does them.
+# A machine that doesn't exist: each file is named, and the next call does them.
 cat > ssh <<'SSH'
 #!/bin/sh
 exit 255
@@ -95,7 +95,7 @@ PARALLEL_SSH=$work/ssh call --sshlogin=1/nowhere late games
 call late games
 whole late
 
-# Killed at some moment, and called again. The journal of what was done may end in the middle of a row.
+# A call that was killed at some moment, and another call. The journal of finished files may end in the middle of a row.
 mkdir many
 for number in $(seq 300); do cp "$top/examples/corner.sgf" "many/$number.sgf"; done
 "$library" all many
@@ -108,7 +108,7 @@ done
 "$library" killed many
 diff -r all killed >&2 || failed "a killed run wasn't mended"
 
-# Two calls at once, and one that is asked to end.
+# Two calls at once, and a call that gets a signal to end.
 "$library" both many &
 "$library" both many
 wait
@@ -120,7 +120,7 @@ done
 "$library" ended many
 diff -r all ended >&2 || failed "a run that was asked to end wasn't mended"
 
-# OUT below the library is no part of it; two names of one place; a progress bar on a terminal.
+# OUT below the library isn't part of it. Also two names of one place, and a progress bar on a terminal.
 cp "$top/examples/ko.sgf" many/out.sgf
 (cd many && "$library" out . && "$library" out .)
 [ "$(find many/out -name '*.rows' | wc -l)" = 301 ] || failed "OUT was taken for a part of the library"

@@ -1,10 +1,10 @@
 #!/usr/bin/env bash
-# Opening tables, by lines and by games, with the eight views of a board as one, as CSV, of lines with setup, and on sides past 25.
+# Opening tables by lines and by games, with the eight views of a board as one, as CSV, of lines with setup, and on sides over 25.
 . "$(dirname "$0")/lib.sh"
 needs python3
 tool=$top/recipes/openings.py
 
-# A stone that is set up isn't a move, an illegal move is none, and a pass is one.
+# A stone that is set up isn't a move. An illegal move doesn't count as a move, and a pass does.
 cp -R "$top/examples" games
 printf '(;SZ[9];W[cc];B[dd])(;SZ[9];B[cc]AW[dd])(;SZ[9];B[cc];W[gc];AW[ee];B[ef])(;SZ[9]C[no move])(;SZ[5];B[];W[tt])' > games/more.sgf
 cat > want <<'WANT'

@@ -1,6 +1,6 @@
 #!/usr/bin/env bash
-# A collection cut between games into small parts has the rows of the whole, at every size of the parts, and the fault of the whole; one of
-# more than 64 MiB has rows at all.
+# A collection that is cut between games into small parts has the rows of the whole, at every size of the parts, and the fault of the whole.
+# A collection of more than 64 MiB has rows.
 . "$(dirname "$0")/lib.sh"
 needs python3
 tool=$top/recipes/parts.py
@@ -31,7 +31,7 @@ for file in open.sgf damaged.sgf front.sgf empty.sgf; do
     done
 done
 
-# More than the program takes: 48 games of about 1.5 MB, and the same once more.
+# More than the program accepts: 48 games of about 1.5 MB, and the same once more.
 python3 - <<'PYTHON'
 game = b"(;SZ[9]C[" + b"x" * 1500000 + b"];B[aa](;W[bb])(;W[cc]))\n"
 with open("large.sgf", "wb") as file:

@@ -1,6 +1,6 @@
 #!/usr/bin/env bash
-# Pictures: the stones of each are those of the replayed board, on every line of the examples and on each side from 1 to 52; each stone has
-# the number of its move, an illegal point its mark; and files of lines, wrong places and files without a board.
+# Pictures of every line of the examples, and of each side from 1 to 52. The stones are those of the replayed board. Each stone has the number of
+# its move, and an illegal point has its mark. Then come files of lines, wrong places and files without a board.
 . "$(dirname "$0")/lib.sh"
 needs python3
 cat > stones.py <<'PYTHON'
@@ -65,7 +65,7 @@ for side in range(1, 53):
     want = {(side - 1, side - 1): "W", **({(0, 1): "B", (1, 0): "B"} if moves else {})}
     (_, drawn_side, stones, numbers, _), = pictures("side.sgf")
     same((drawn_side, stones, numbers), (side, want, {(0, 1): 2, (1, 0): 4} if moves else {}), f"side {side}")
-    if 2 <= side <= 25:  # no script makes a stone that has no liberty
+    if 2 <= side <= 25:  # no script has a stone without a liberty
         same(stones, replayed("side.sgf")[0][2], f"the replayed board of side {side}")
 PYTHON
 cat > numbers.sgf <<'SGF'
@@ -75,7 +75,7 @@ python3 stones.py "$top" "$SGFSPLIT" "$top"/examples/*.sgf numbers.sgf > counted
 echo '21 lines of the examples' > want
 same want counted
 
-# The ko: Black's first move takes a stone; White's second may not retake, and her fourth does, so that the number 1 is gone.
+# The ko: Black's first move takes a stone. White may not retake with move 2, and does with move 4, so the number 1 is gone.
 "$top/recipes/picture.py" numbers.sgf > ko.svg
 grep -o '<text class="number"[^>]*>[0-9]*' ko.svg | sed 's/.*>//' | tr '\n' ' ' > numbers
 printf '1 2 4 3 ' > want

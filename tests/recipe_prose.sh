@@ -1,6 +1,6 @@
 #!/usr/bin/env bash
-# Games in a mail: refused as they are, split once the prose is spaces, with places that are those of the mail; a game that is cut off or
-# damaged is named at its true byte, and comments are no prose.
+# Games in a mail. They are refused as they are, and split after the prose became spaces, with the places of the mail. A game that is cut off or
+# damaged is named at its true byte. Comments aren't prose.
 . "$(dirname "$0")/lib.sh"
 needs python3
 tool=$top/recipes/prose.py
@@ -21,7 +21,7 @@ same want got
     [ "$(tail -c +$((place + 1)) mail.txt | head -c 1)" = ';' ] || failed "no node of the mail at $place"
 done
 
-# again TEXT: it has no prose, so it stays as it is, byte by byte.
+# again TEXT: the text has no prose, so every byte stays.
 again() {
     printf "$1" > text
     "$tool" < text > got
@@ -35,7 +35,7 @@ for file in "$top"/examples/*.sgf; do
     cmp "$file" got >&2 || failed "changed: $file"
 done
 
-# fault TEXT ROW: with what stands around it taken away, the program names this fault.
+# fault TEXT ROW: after the prose around the game is removed, the program names this fault.
 fault() {
     printf "$1" | "$tool" > got
     if "$SGFSPLIT" split got > rows 2> row; then failed "accepted: $1"; fi
@@ -48,7 +48,7 @@ fault 'Hello (;SZ[9];B[aa]1)(;)' 'byte 19: not SGF'
 fault 'Hello (;1SZ[9];B[aa])(;)' 'byte 8: not SGF'
 fault 'nothing\n' 'byte 8: input ends too early'
 
-# Files and folders: each text below OUT, which the other tools take.
+# Files and folders: each text is below OUT, and the other tools can read it.
 mkdir -p mails/x
 cp mail.txt mails/x/mail.txt
 cp mail.txt mails/x/mail.sgf

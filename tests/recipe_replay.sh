@@ -1,6 +1,6 @@
 #!/usr/bin/env bash
-# GNU Go as a second referee: it agrees on every line of the examples, of a ko and of a suicide, and refuses the illegal moves; a program
-# and engines that lie are found; a refused file is named and the others go on; what a comment says never reaches the engine.
+# GNU Go as a second referee. It agrees on every line of the examples, of a ko and of a suicide, and refuses the illegal moves. A program and
+# engines that lie are found. A refused file is named, and the tool goes on with the others. Comments never reach the engine.
 . "$(dirname "$0")/lib.sh"
 needs gnugo python3
 tool=$top/recipes/replay.py
@@ -22,15 +22,16 @@ same want got
 echo 'broken.sgf:1:8: input ends too early' > want
 same want faults
 
-# A script sets up black stones before white ones, each row by row. Here White takes A1, and Black takes it back with two stones, the last
-# one of the setup among them: she may, but the engine saw what is left while it took the setup for moves. The line is left out.
+# A script sets up black stones before white ones, each row by row. Here White takes A1. Black takes it back together with another stone, the
+# last one of the setup. The move is legal, but the engine has seen the resulting position, because it plays a setup as moves. So the line
+# is left out.
 printf '(;SZ[3]AB[bb][cb][ac]AW[ab][cc]PL[W];W[bc];B[ac])' > setup.sgf
 [ "$("$SGFSPLIT" split setup.sgf)" = '42 1 3 score 5 1 open' ] || failed "the row of the setup"
 "$tool" setup.sgf > got
 echo '0 lines agree, 0 differ, 1 left out' > want
 same want got
 
-# differs PROGRAM-OR-ENGINE ROW: the tool speaks up, with this row first.
+# differs PROGRAM-OR-ENGINE ROW: the tool reports a difference, and this is its first row.
 differs() {
     if "$tool" one.sgf > got 2> faults; then failed "$1 wasn't found"; fi
     head -n 1 got > first
@@ -57,7 +58,7 @@ printf '(;SZ[3];B[bb];W[aa])' > one.sgf
 (export SGFSPLIT=./liar; LIE='s/score 1 1 open/illegal 2 13 repeat/; /^play W/d'
     differs 'a wrong repeat' 'one.sgf: 13 1 3 illegal 2 13 repeat: the engine accepts play W A3: repeat')
 
-# An engine with other rules, which takes no suicide; one that forgets a stone; what is no engine at all.
+# An engine with other rules, which forbid suicide; one that forgets a stone; a program that isn't an engine.
 printf '(;SZ[3]AB[aa]AW[ab][bb][ca]PL[B];B[ba])' > one.sgf
 (export ENGINE='gnugo --mode gtp'
     differs 'an engine without suicide' 'one.sgf: 32 1 2 score 0 9 open: the engine refuses play B B3: illegal move')
@@ -72,7 +73,7 @@ for engine in cat true 'no-such-engine --gtp' "'"; do
     if ENGINE=$engine timeout 60 "$tool" one.sgf > got 2> faults; then failed "$engine was taken for an engine"; fi
     [ "$(wc -l < faults)" = 1 ] && ! grep -q Traceback faults || failed "$engine: $(cat faults)"
 done
-# An engine without list_stones judges moves alone.
+# An engine without list_stones judges only moves.
 cat > engine <<'ENGINE'
 #!/bin/sh
 sed -u 's/list_stones/no_such_command/' | gnugo --mode gtp --allow-suicide --positional-superko
@@ -81,7 +82,7 @@ ENGINE=./engine "$tool" "$top/examples/ko.sgf" > got
 echo '2 lines agree, 0 differ, 0 left out' > want
 same want got
 
-# An attack: GNU Go reads 999 bytes of a row and takes what follows for a row of its own. A row of a script is `# ` and the comment's text.
+# An attack: GNU Go reads 999 bytes of a row and treats the rest as another row. A row of a script is `# ` and the comment's text.
 attack() { printf '(;SZ[9]C[%s%s];B[cc])' "$(head -c 997 /dev/zero | tr '\0' x)" "printsgf $1" > attack.sgf; }
 attack "$work/plain.sgf"
 "$SGFSPLIT" split --form gtp attack.sgf | gnugo --mode gtp > /dev/null

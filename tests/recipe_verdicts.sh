@@ -1,6 +1,6 @@
 #!/usr/bin/env bash
-# The table of a library: columns, CSV, objects and SQLite have the same cells; said again, SQLite has no doubles, and a file that changed
-# or is now refused keeps no old row.
+# The table of a library. Columns, CSV, objects and SQLite have the same cells. A repeated call makes no duplicates in SQLite, and a file that
+# changed or is now refused keeps no old row.
 . "$(dirname "$0")/lib.sh"
 needs python3 sqlite3
 tool=$top/recipes/verdicts.py
@@ -67,7 +67,7 @@ grep -v -e ko.sgf cells | sed 's/over.sgf,11,.*/over.sgf,7,1,2,score,4,0,open,,,
 table > got
 same want got
 
-# A run that ends before its time leaves the table as it was.
+# A run that ends too early doesn't change the table.
 cp games.db before.db
 mkdir more
 for number in $(seq 200); do cp games/corner.sgf "more/$number.sgf"; done

@@ -1,5 +1,5 @@
 #!/usr/bin/env bash
-# What each tool does with its words, with files that aren't there, with a reader that leaves, with a full device, and without our program.
+# The behaviour of each tool with its words, with missing files, with a reader that closes the pipe, with a full device, and without our program.
 . "$(dirname "$0")/lib.sh"
 needs python3 gnugo
 cp "$top/examples/ko.sgf" ko.sgf
@@ -7,7 +7,7 @@ mkdir folder
 cp "$top"/examples/*.sgf folder
 declare -A first=([library]=out [go_on]=rows [files]=lines [openings]=2 [prose]=clean)
 
-# ends STATUS NAME COMMAND..: the command ends so, and says at most one row, which is no traceback.
+# ends STATUS NAME COMMAND..: the command ends with this status, and writes at most one row to standard error, which isn't a traceback.
 ends() {
     local wanted=$1 name=$2 status=0
     shift 2
@@ -44,7 +44,7 @@ for path in "$top"/recipes/*.py; do
         SGFSPLIT=/bin/true ends 3 "$tool with another program" "$path" "${words[@]}" ko.sgf
         grep -q "/bin/true: this is another sgfsplit, perhaps that of Debian's sgf2dg$" err.txt || failed "$tool says $(cat err.txt)"
     fi
-    # A pipe is read once, and is a file like another; but not of a library, whose files are split elsewhere.
+    # A pipe can be read once, and is a file like any other. library.py refuses it, because other processes split its files.
     mkfifo kp.sgf
     cat ko.sgf > kp.sgf &
     case $tool in
@@ -59,7 +59,7 @@ for path in "$top"/recipes/*.py; do
     esac
     wait
     rm -rf kp.sgf out rows
-    # A reader that leaves after a byte, with more to come than a pipe holds; and a device that is full.
+    # A reader that closes the pipe after a byte, with more output than a pipe holds; and a full device.
     for _ in $(seq 60); do echo folder; done | tr '\n' '\0' > many
     case $tool in
         library | files | go_on) ;;
@@ -79,7 +79,7 @@ for path in "$top"/recipes/*.py; do
 done
 [ "$tools" = 10 ] || failed "$tools tools"
 
-# The program by its name in PATH, at a path with a space, and after a folder that isn't there.
+# The program by its name in PATH, at a path with a space, and after a folder that doesn't exist.
 mkdir 'bin with a space'
 ln -s "$SGFSPLIT" 'bin with a space/sgfsplit'
 "$SGFSPLIT" split ko.sgf > want
@@ -88,7 +88,7 @@ same want got
 SGFSPLIT='bin with a space/sgfsplit' "$top/recipes/parts.py" ko.sgf > got
 same want got
 
-# Files that can't be read are named, and the others go on.
+# Files that can't be read are named, and the tool goes on with the others.
 printf 'x' > bad.sgf
 mkfifo folder/pipe.sgf
 ln -s nix folder/gone.sgf

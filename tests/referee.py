@@ -1,5 +1,5 @@
-"""A small referee of the tests' own, which takes scripts from their bytes: each stone is played on an empty point, and the area score of
-the last board is that of the script's row, where the row has one.
+"""A small separate referee for the tests, which reads the bytes of scripts. Each stone must be played on an empty point. The area score of
+the last board must be the score in the script's row, if the row has one.
 
   tests/referee.py < SCRIPTS        prints how many positions were compared
 """
@@ -14,7 +14,7 @@ def beside(side, point):
 
 
 def region(side, board, start):
-    """The points of one colour that hang together, and the colours beside them."""
+    """The connected points of one colour, and the colours beside them."""
     colour = board.get(start)
     seen, waiting, borders = {start}, [start], set()
     while waiting:
@@ -56,7 +56,7 @@ def scripts(text):
 
 
 def replay(script):
-    """The row of a script, its side and its last board, or None for both where it has no commands."""
+    """The row of a script, its side and its last board. Side and board are None if it has no commands."""
     row, side, board = script[0][2:].split(), None, {}
     for line in script:
         words = line.split("#")[0].split()

@@ -1,8 +1,8 @@
 #!/usr/bin/env bash
-# Refuses each request of the built program in turn: each growth of memory, each read, each write; then it runs the program
-# under a limit on memory, in steps. Where memory was refused a run gives its whole answer, or ends with the status and the line
-# of that, after whole records only. Where a read or a write was refused it ends so always: nothing is read or written of that stream
-# again, and what stands is all that was written before. The last line is `N passed, N failed, N skipped`.
+# Refuses each request of the built program in turn: each growth of memory, each read, each write. Then it runs the program under a limit on
+# memory, in steps. After refused memory a run writes its whole answer, or it ends after whole records with the status and the line for
+# refused memory. After a refused read or write it always ends with the status and line for that. It doesn't read or write that stream
+# again, and its output is all that was written before. The last line is `N passed, N failed, N skipped`.
 . "$(dirname "$0")/lib.sh"
 needs cc
 set +e
@@ -18,9 +18,9 @@ check() {
     fi
 }
 
-# What is wrong with the files out and err after a run with this status, where NAME is the whole answer's files and a
-# refusal may end the run with STATUS and LINE: nothing, if the whole answer came, which it can't where a read or a write was
-# refused, or the refusal after whole records.
+# Says what is wrong with the files out and err after a run with this status. NAME names the files of the whole answer, and a refusal may end
+# the run with STATUS and LINE. Nothing is wrong if the refusal came after whole records, or if the whole answer came. It can't come if a read
+# or a write was refused.
 wrong() {
     local name=$1 status=$2 line=$3 got=$4 end=$5
     if [ "$status" = 3 ] && [ -e mark ] && [ "$(cat mark)" != refused ]; then
@@ -38,7 +38,7 @@ wrong() {
     [ ! -s out ] || [ "$(tail -c "${#end}" out; printf .)" = "$end." ] || [ "$status" = 3 ] || echo 'a record is cut'
 }
 
-# each NAME VARIABLE STATUS LINE END WORDS..: the whole answer first, then each request refused, until a run meets no refusal.
+# each NAME VARIABLE STATUS LINE END WORDS..: the whole answer first, then runs with one refused request each, until a run meets no refusal.
 # The files of a run without refusals are NAME.out, NAME.err and NAME.status.
 each() {
     local name=$1 variable=$2 status=$3 line=$4 end=$5 number=0 problem problems=''
@@ -87,8 +87,8 @@ each faulty REFUSE_MEMORY 4 "$memory" '' split
 each faulty REFUSE_READ 3 'read failed' '' split
 cp good.sgf input.sgf
 
-# A past with more entries than it has room for at first: a setup of 70 points, and 70 moves after one another. Nothing is captured, and
-# what is empty reaches both colours.
+# A past with more entries than it has room for at first: a setup of 70 points, and then 70 moves. Nothing is captured, and the empty points reach
+# both colours.
 letters=$(printf '%s' {a..z} {A..Z})
 {
     printf '(;SZ[52](;AB'
@@ -101,7 +101,7 @@ each growth REFUSE_MEMORY 4 "$memory" "$nl" split
 check 'growth: rows' "score 70 1 open${nl}score 35 35 open" "$(cut -d ' ' -f 4- growth.out)"
 cp good.sgf input.sgf
 
-# Short reads and short writes change nothing, and each of many reads that fails is told.
+# Short reads and short writes change nothing. Each of many reads fails in turn, and each failure is reported.
 for short in SHORT_READS SHORT_WRITES; do
     for form in list sgf gtp; do
         env LD_PRELOAD="$PWD/refuse.so" "$short=1" "$SGFSPLIT" split --form "$form" input.sgf > out 2> err
@@ -117,7 +117,7 @@ each 'counted bytes' REFUSE_READ 3 'read failed' '' count
 unset SHORT_READS
 check 'each byte is a read' 32 "$(cat bytes.runs)"
 
-# After each byte of the output, and of the row of a fault: where that row is cut, the status is the fault's.
+# A failure after each byte of the output, and of the row of a fault. If that row is cut, the status is still that fault's.
 export SHORT_WRITES=1
 each 'written bytes' REFUSE_WRITE 3 'write failed' '' split
 check 'each byte is a write' 44 "$(cat 'written bytes.runs')"
@@ -130,8 +130,8 @@ for number in $(seq 0 ${#row}); do
 done
 unset SHORT_WRITES
 
-# Under a limit on memory, in steps of 64 KiB and then wider: the answer, or want of memory after whole records. The last line is much
-# longer than the others, so that memory runs out after some records, too.
+# Under a limit on memory, in steps of 64 KiB and then wider: the answer, or refused memory after whole records. The last line is much longer than
+# the others, so memory also runs out after some records.
 {
     printf '(;SZ[19]'
     for at in $(seq 1000); do printf '(;B[%c%c];W[ss]C[%d])' "$(printf "\\$(printf %o $((97 + at % 18)))")" c "$at"; done
@@ -148,7 +148,7 @@ for form in list sgf gtp; do
     for limit in $(seq 2304 64 8192) $(seq 9216 1024 32768); do
         (ulimit -v "$limit" && exec "$SGFSPLIT" split --form "$form" input.sgf) > out 2> err
         status=$?
-        # The program isn't started where the loader finds no memory for its libraries.
+        # The program doesn't start if the loader finds no memory for its libraries.
         [ "$status" != 127 ] && ! grep -q 'error while loading' err || continue
         case $status in 0) whole=$((whole + 1)) ;; 4) if [ -s out ]; then cut=$((cut + 1)); else none=$((none + 1)); fi ;; esac
         problem=$(wrong large 4 "$memory" "$status" "$end")

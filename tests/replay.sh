@@ -1,6 +1,6 @@
 #!/usr/bin/env bash
-# Scripts taken by a small referee of their own, from their bytes: each stone is played on an empty point, and the area score of
-# the last board is that of the script's row, where the row has one. Over the examples, and over a line whose setup is drawn anew.
+# A small separate referee reads the bytes of scripts. Each stone is played on an empty point. The area score of the last board is the score in the
+# script's row, if the row has one. The scripts are those of the examples, and of a line whose setup is drawn anew.
 . "$(dirname "$0")/lib.sh"
 needs python3
 printf '(;SZ[5]AB[ab][ba]AW[cc]C[one\ntwo];W[];B[ee])' > setup.sgf

@@ -1,6 +1,6 @@
 #!/usr/bin/env bash
-# Tries raw values on the built program: where they end, and the text of a comment, with none to 200 plain bytes before what is special,
-# so that bytes which are looked at together answer as those that are looked at one by one.
+# Tries raw values on the built program: where they end, and the text of a comment. There are 0 to 200 plain bytes before each special byte. So
+# bytes that are scanned together must give the same answer as bytes that are scanned one by one.
 # The last line is `N passed, N failed, N skipped`.
 . "$(dirname "$0")/lib.sh"
 set +e
@@ -22,7 +22,7 @@ plain() { head -c "$1" /dev/zero | tr '\0' "$2"; }
 
 few='0 1 2 3 13 15 16 17 100 127 128 129 200'
 
-# ---- a value ends at its first `]` that isn't escaped: each game comes back as it stood
+# ---- a value ends at its first `]` that isn't escaped: each game is written as it was
 for count in $few; do
     before=$(plain "$count" a)
     for value in '' '\]' '\\' '\\\]' '\\\\' '\]\]' '\]\\' '\]\\\]' '\]a\]b' '\:\\:' '\]01234567890123456789\]'; do
@@ -33,7 +33,7 @@ done > input.sgf
 check 'values come back as they stood' input.sgf out
 check 'values that end: nothing is said' /dev/null err
 
-# ---- where each `]` is escaped, or there is none, the text ends too early
+# ---- if each `]` is escaped, or there is none, the text ends too early
 for count in $few; do
     before=$(plain "$count" a)
     for value in '' '\' '\]' '\\' '\]\' '\]a\\' '\\\]'; do
@@ -45,7 +45,7 @@ for count in $few; do
     done
 done
 
-# ---- long values, of which the reader keeps where they end, and one that is just not long
+# ---- long values, whose ends the reader keeps, and one that is just too short for that
 short=$(plain 4095 a)
 long=$(plain 2048 x | sed 's/x/\\]/g')
 printf '(;C[%s]N[%s] [%s]W[aa];C[%s]B[bb])' "$short" "$long" "$long" "$long" > input.sgf
@@ -53,7 +53,7 @@ printf '(;C[%s]N[%s][%s]W[aa];C[%s]B[bb])\n' "$short" "$long" "$long" "$long" > 
 "$SGFSPLIT" split --form sgf input.sgf > out 2> err
 check 'long values' wanted out
 
-# ---- the text of a comment: escapes go, a line break is one line feed, other white space is a space
+# ---- the text of a comment: escapes are removed, a line break becomes one line feed, other white space becomes a space
 # text RAW ROW..: a comment of this value is written as these rows.
 text() {
     printf '(;SZ[1]C[%s])' "$1" > input.sgf

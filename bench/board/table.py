@@ -18,7 +18,7 @@ def times(program, name):
 
 
 def least(old, new):
-    """The lesser of the times of all runs."""
+    """The least of the times of all runs."""
     for key, found in new.items():
         old[key] = [min(pair) for pair in zip(old.get(key, found), found)]
 

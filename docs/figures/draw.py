@@ -19,8 +19,8 @@ def write(name, text):
 
 
 def board(left, rows, title, below=()):
-    """A board whose rows hold X (black), O (white), . (empty), b and w (an empty point of that player's area) and a digit or ! as a
-    mark on an empty point, an upper-case mark C or D on a black or white stone that was just played."""
+    """A board by its rows. X is black, O is white and . is empty; b and w are empty points of that player's area. A digit or ! is a mark on an
+    empty point. C and D are marks on a black and a white stone that was just played."""
     side = len(rows)
     size = STEP * side
     top = 40
@@ -61,7 +61,7 @@ def boards(name, *each):
 
 
 def tree(name, nodes, edges, lines, width, height, below):
-    """A tree of nodes (x, y, text), and its lines of play, each a colour with the nodes that it goes through."""
+    """A tree of nodes (x, y, text), and its lines of play. Each line is a colour with the nodes that it goes through."""
     parts = []
     for number, (colour, path) in enumerate(lines):
         shift = 5 * number - 2.5 * (len(lines) - 1)

@@ -7,7 +7,6 @@ pub mod RuleLemmas
 pub mod GroupLemmas
 pub mod SettledLemmas
 pub mod MoveLemmas
-pub mod EmptiedLemmas
 pub mod SearchLemmas
 pub mod RowLemmas
 pub mod WordLemmas
@@ -40,3 +39,4 @@ pub mod TableLemmas
 pub mod StoneRowsLemmas
 pub mod AloneLemmas
 pub mod GlanceLemmas
+pub mod TakenLemmas

@@ -1,7 +1,6 @@
 -- A move on a grid where every stone reaches empty: taking off the groups without a liberty beside the stone, and then its
 -- own where that has none, is the whole move.
 use Rattle.std.proofs.Common.{◌≡◌, ◌≢◌, ◌⊎◌, inl, inr, ◌*◌, false, List, [], ◌∷◌, length, refl, sym, ap, subst, ◌∙◌}
-use Rattle.std.specs.Option.{ForSome}
 use Rattle.std.proofs.lemmas.List.{length-set}
 use Rattle.go_board.specs.declared.stones.Cell.{Cell}
 use Rattle.go_board.specs.declared.stones.Cell.TheVariants.{Empty}
@@ -13,12 +12,11 @@ use Rattle.go_board.specs.Point.{IsOn, AreAdjacent, index_of}
 use Rattle.go_board.specs.Grid.{Grid, cell_at, with_cell}
 use Rattle.go_board.specs.Reaching.{Leads, Reaches}
 use Rattle.go_board.specs.Clearing.{clear, play, has_unreaching}
-use Rattle.go_board.specs.inner.Neighbour.{left_of, right_of, above, below}
 use Rattle.go_board.specs.inner.Groups.{AllReach, ReachBeside, ReachesIfStone, LosesShut}
 use Rattle.go_board.proofs.PointLemmas.{same_or_not}
 use Rattle.go_board.proofs.GridLemmas.{one_grid, cell_at-with_cell, cell_at-with_cell_elsewhere}
 use Rattle.go_board.proofs.ReachingLemmas.{Leads-on, Leads-next, path_by_step}
-use Rattle.go_board.proofs.NeighbourLemmas.{AreAdjacent-sym, IsNeighbour, IsNeighbour-adjacent}
+use Rattle.go_board.proofs.NeighbourLemmas.{AreAdjacent-sym}
 use Rattle.go_board.proofs.GroupLemmas.{stone_of≢Empty}
 use Rattle.go_board.proofs.SettledLemmas.{clear-AllReach, AllReach-settled}
 
@@ -163,25 +161,3 @@ captured_is_play g h i p k on all settled first around second own =
     i.cells
     (subst (λ x. LosesShut (record g { cells = h.cells }) x k) (sym ei) (subst (λ x. LosesShut x i k) (sym eh) second))
     (subst (λ x. ReachesIfStone x k p) (sym ei) own)
-
--- a stone that reaches empty, if it is one, does so after a group was taken
-still_settled : (g h : Grid) (k : Colour) (q : Point) → LosesShut g h k → IsOn g.side q → ReachesIfStone g k q → ReachesIfStone h k q
-still_settled g h k q loses on settled = λ stone. loses.still q on (settled (left_over g h k k q loses on stone))
-
-on_next : (g h : Grid) (k : Colour) (q : Point) → LosesShut g h k → IsOn g.side q → IsOn h.side q
-on_next g h k q loses on = subst (λ s. IsOn s q) (sym loses.same_side) on
-
--- the groups without a liberty of the four neighbours are taken off in turn
-pub ReachBeside-four : (a b c d e : Grid) (k : Colour) (p : Point) → LosesShut a b k → LosesShut b c k → LosesShut c d k → LosesShut d e k → ForSome (left_of p) (ReachesIfStone b k) → ForSome (right_of a.side p) (ReachesIfStone c k) → ForSome (above p) (ReachesIfStone d k) → ForSome (below a.side p) (ReachesIfStone e k) → ReachBeside e k p
-unfolding IsNeighbour
-ReachBeside-four a b c d e k p ab bc cd de left right up down = λ q at beside.
-    let on : IsOn a.side q = subst (λ s. IsOn s q) (de.same_side ∙ cd.same_side ∙ bc.same_side ∙ ab.same_side) at in
-    let in_b = on_next a b k q ab on in
-    let in_c = on_next b c k q bc in_b in
-    let in_d = on_next c d k q cd in_c in
-    elim (IsNeighbour-adjacent a.side p q on beside) [
-      | inl is ↦ still_settled d e k q de in_d (still_settled c d k q cd in_c (still_settled b c k q bc in_b (left q is)))
-      | inr (inl is) ↦ still_settled d e k q de in_d (still_settled c d k q cd in_c (right q is))
-      | inr (inr (inl is)) ↦ still_settled d e k q de in_d (up q is)
-      | inr (inr (inr is)) ↦ down q is
-    ]

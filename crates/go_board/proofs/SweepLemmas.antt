@@ -1,20 +1,20 @@
 -- Grids with points emptied, one after another.
-use Rattle.std.proofs.Common.{◌≡◌, ◌≢◌, ◌⊎◌, ℕ, ◌+◌, ◌*◌, ◌^◌, ◌<◌, ◌==◌, Bool, cond, w64, true, false, List, length, slice_index, refl, sym, ap, subst, ◌∙◌, arith, inl, inr, IsTrue}
+use Rattle.std.proofs.Common.{◌≡◌, ◌≢◌, ◌⊎◌, ℕ, ◌+◌, ◌*◌, ◌^◌, ◌<◌, ◌==◌, ◌&&◌, Bool, cond, w64, true, false, List, length, slice_index, refl, sym, ap, subst, ◌∙◌, arith, inl, inr, IsTrue}
 use Rattle.std.specs.Int.{trailing_zeros}
 use Rattle.std.proofs.lemmas.Nat.Bits.{bit_at-trailing_zeros}
-use Rattle.std.proofs.lemmas.Bool.{cases_eq, true≢false, false≢true}
+use Rattle.std.proofs.lemmas.Bool.{cases_eq, cases_Bool, true≢false, false≢true}
+use Rattle.std.proofs.lemmas.Bool.Decides.{Decides-eqb}
 use Rattle.go_board.specs.declared.stones.Cell.TheVariants.{Empty}
 use Rattle.go_board.specs.declared.stones.Colour.{Colour}
 use Rattle.go_board.specs.declared.points.Point.{Point}
-use Rattle.go_board.specs.Point.{IsOn, index_of}
-use Rattle.go_board.specs.Grid.{Grid, cell_at, with_cell, grid_of}
+use Rattle.go_board.specs.Point.{IsOn}
+use Rattle.go_board.specs.Grid.{Grid, cell_at, grid_of}
 use Rattle.go_board.specs.Clearing.{cleared_cell, clear}
 use Rattle.go_board.specs.inner.Groups.{is_shut, IsWithout}
 use Rattle.go_board.specs.inner.Rows.{has_bit, is_set, IsPart}
-use Rattle.go_board.specs.inner.Regions.{AreRowsOf}
+use Rattle.go_board.specs.inner.Regions.{AreRowsOf, with_columns}
 use Rattle.go_board.proofs.GroupLemmas.{grid_of-cells}
-use Rattle.go_board.proofs.GridLemmas.{cell_at-with_cell, cell_at-with_cell_elsewhere}
-use Rattle.std.proofs.lemmas.List.{length-set}
+use Rattle.go_board.proofs.StoneRowsLemmas.{side-coloured, cell_at-coloured, length-coloured}
 use Rattle.go_board.proofs.WordLemmas.{le_from_part, has_bit-zero}
 
 -- other points are emptied after some
@@ -90,56 +90,27 @@ rows_more g h i rows row before is =
       | inr other ↦ inl (omega (arith, both.0, other), both.1)
     ])
 
--- the points of a row in some columns before one
-abbrev pub InColumnsBefore : ℕ → ℕ → ℕ → Point → Type 0
-InColumnsBefore row columns col p = (p.row ≡ row) × (has_bit columns p.col ≡ true) × (p.col < col)
-
--- one point is emptied
-point_emptied : (g : Grid) (q : Point) → IsOn g.side q → length g.cells ≡ g.side * g.side → IsWithout g (with_cell g q Empty) (λ p. p ≡ q)
-point_emptied g q here all = record {
-  same_side = refl;
-  all = length-set g.cells (index_of g.side q) Empty;
-  emptied = λ p on same. ap (cell_at (with_cell g q Empty)) same ∙ cell_at-with_cell g q Empty here all;
-  kept = λ p on other. cell_at-with_cell_elsewhere g q p Empty here on other;
+-- the points of a row in a set of columns are emptied
+pub row_emptied : (g : Grid) (row columns : ℕ) → length g.cells ≡ g.side * g.side → IsWithout g (with_columns g row columns Empty) (λ p. (p.row ≡ row) × (has_bit columns p.col ≡ true))
+row_emptied g row columns all = record {
+  same_side = side-coloured g row columns Empty;
+  all = length-coloured g row columns Empty ∙ sym all;
+  emptied = λ p on gone. cell_at-coloured g row columns Empty p on ∙ rw ((Decides-eqb p.row row).1 gone.0, gone.1) refl;
+  kept = λ p on left. cell_at-coloured g row columns Empty p on
+      ∙ (elim (cases_Bool (p.row == row)) [
+        | inr apart ↦ ap (λ b. cond (b && has_bit columns p.col) Empty (cell_at g p)) apart
+        | inl same ↦ elim (cases_Bool (has_bit columns p.col)) [
+          | inl there ↦ absurd (left ((Decides-eqb p.row row).0 same, there))
+          | inr none ↦ ap (λ b. cond (b && has_bit columns p.col) Empty (cell_at g p)) same ∙ ap (λ b. cond b Empty (cell_at g p)) none
+        ]
+      ]);
 }
 
--- one column more, which is emptied
-pub columns_more : (g h : Grid) (row columns col : ℕ) → length h.cells ≡ h.side * h.side → IsOn h.side (record { col = col; row = row }) → has_bit columns col ≡ true
-    → IsWithout g h (InColumnsBefore row columns col) → IsWithout g (with_cell h (record { col = col; row = row }) Empty) (InColumnsBefore row columns (col + 1))
-columns_more g h row columns col all here there before =
-    let made : ℕ → ℕ → Point = λ c r. record { col = c; row = r } in
-    let q : Point = made col row in
-    without_both g h (with_cell h q Empty) (InColumnsBefore row columns col) (λ p. p ≡ q) (InColumnsBefore row columns (col + 1)) before (point_emptied h q here all)
-    (λ p first same. let at : p.col ≡ col = ap (λ x. x.col) same in omega (arith, first.2))
-    (λ p first. (first.0, first.1, omega (arith, first.2)))
-    (λ p same. let at : p.col ≡ col = ap (λ x. x.col) same in (ap (λ x. x.row) same, ap (has_bit columns) at ∙ there, omega arith))
-    (λ p both.
-    elim (cases_eq p.col col) [
-      | inl same ↦
-          let first : p ≡ made col p.row = ap (λ c. made c p.row) same in
-          let second : made col p.row ≡ q = ap (λ r. made col r) both.0 in
-          inr (first ∙ second)
-      | inr other ↦ inl (both.0, both.1, omega (arith, both.2, other))
-    ])
-
--- one column more, which isn't asked for
-pub columns_same : (g h : Grid) (row columns col : ℕ) → has_bit columns col ≡ false → IsWithout g h (InColumnsBefore row columns col) → IsWithout g h (InColumnsBefore row columns (col + 1))
-columns_same g h row columns col none before = record {
-  same_side = before.same_side;
-  all = before.all;
-  emptied = λ p on gone.
-      elim (cases_eq p.col col) [
-        | inl same ↦ absurd (true≢false (sym gone.1 ∙ ap (has_bit columns) same ∙ none))
-        | inr other ↦ before.emptied p on (gone.0, gone.1, omega (arith, gone.2, other))
-      ];
-  kept = λ p on left. before.kept p on (λ gone. left (gone.0, gone.1, omega (arith, gone.2)));
-}
-
--- no columns
-pub no_columns : (g : Grid) (row : ℕ) → IsWithout g g (λ p. (p.row ≡ row) × (has_bit 0 p.col ≡ true))
-no_columns g row = record {
+-- a row with no column
+pub row_kept : (g : Grid) (row columns : ℕ) → columns ≡ 0 → IsWithout g g (λ p. (p.row ≡ row) × (has_bit columns p.col ≡ true))
+row_kept g row columns zero = record {
   same_side = refl;
   all = refl;
-  emptied = λ p on gone. absurd (false≢true (sym (has_bit-zero p.col) ∙ gone.1));
+  emptied = λ p on gone. absurd (false≢true (sym (ap (λ w. has_bit w p.col) zero ∙ has_bit-zero p.col) ∙ gone.1));
   kept = λ p on left. refl;
 }

@@ -288,18 +288,18 @@ impl Board {
         self.settled = true;
     }
 
-    /// Makes a whole move on a board on which every stone reaches empty. Only the new
-    /// stone's group and the groups beside it can then be without a liberty.
+    /// The whole move on a board where every stone reaches empty.
     fn place_settled(&mut self, colour: Colour, point: Point)
         requires on_board { IsOn self.old.side point }
+        requires empty { cell_at self.old point ≡ Empty }
         requires settled { has_unreaching self.old ≡ false }
         ensures { self.new ≡ play self.old colour point }
     {
-        // reading a field lets the proof use the invariant: every point has a cell
-        let _ = &self.size;
-        self.set(point, colour.stone());
-        self.capture_around(colour.opponent(), point);
-        self.capture(colour, Some(point));
+        self.has_all_cells();
+        let mut words = no_rows();
+        let taken = &mut words[..usize::from(self.size.side())];
+        self.find_taken(colour, point, taken);
+        self.put(colour, point, taken);
     }
 
     /// Makes a whole move on any board.

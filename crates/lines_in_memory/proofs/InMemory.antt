@@ -16,7 +16,7 @@ pub in_memory : (o : Options) (text items : List ℕ) (source new_source : Sourc
     → new_sink.taken ≡ Some items → IsRun o source new_source sink new_sink (Ok k) → (ls : List Line) × HasPage o text ls × (items ≡ output o.form ls)
 in_memory o text items source new_source sink new_sink k starts empty ends h =
     let consumes : Consumes (Some text) new_source.to_come h.given = rw starts at h.consumes in
-    let all = whole_text text new_source.to_come h.given consumes h.answers.0.at_end in
-    let takes : Appends (Some []) (Some items) h.taken = rw (empty, ends) at h.takes in
-    let page = h.answers.1 in
-    (page.0, rw all at page.1, takes ∙ page.2)
+    let a = h.answers in
+    let all = whole_text text new_source.to_come h.given consumes a.1.whole.at_end in
+    let takes : Appends (Some []) (Some items) (output o.form a.0) = rw (empty, ends) at a.2 in
+    (a.0, rw all at a.1.has_page, takes)

@@ -1,5 +1,5 @@
 -- The answers of a count, and of writing its row.
-use Rattle.std.proofs.Common.{◌≡◌, ℕ, ◌+◌, ◌≤◌, List, [], ◌++◌, length, take, drop, Result, Ok, Err, refl, sym, ap, ◌∙◌, arith, append_assoc, append-nil, length-append}
+use Rattle.std.proofs.Common.{◌≡◌, ℕ, ◌+◌, ◌<◌, List, [], ◌++◌, length, take, drop, Result, Ok, Err, refl, sym, ap, ◌∙◌, arith, append_assoc, append-nil, length-append}
 use Rattle.std.specs.Prelude.{codes}
 use Rattle.std.specs.Io.KnownBytes.{Appends}
 use Rattle.std.proofs.KnownBytes.{Appends-kept, Appends-trans}
@@ -8,69 +8,62 @@ use Rattle.std.proofs.Math.Seq.{take-append-add}
 use Rattle.sgf_tree.specs.Tree.{Games}
 use Rattle.sgf_tree.specs.declared.fault.TheConstants.{MAX_LENGTH}
 use Rattle.sgf_tree.specs.Spelling.{Spells}
-use Rattle.sgf_tree.specs.Refusal.{IsFaultyAt}
+use Rattle.sgf_tree.specs.Refusal.{IsFaultyWhereNotSgf}
+use Rattle.sgf_tree.specs.declared.fault.ReadFault.{ReadFault}
+use Rattle.sgf_tree.specs.declared.fault.ReadFault.TheVariants.{TooLong as TextTooLong, NotSgf as TextNotSgf, Memory as TextMemory}
 use Rattle.sgf_lines.specs.Ends.{SourceState, SinkState, Delivers, TakesNothing}
-use Rattle.sgf_lines.specs.Answer.{IsWhole}
+use Rattle.sgf_lines.specs.Answer.{IsWhole, read_failures}
 use Rattle.sgf_lines.specs.Counts.{counts_of, AnswersCount, IsCount, IsWriting}
-use Rattle.sgf_lines.specs.inner.Running.{IsReading, PutsAll}
+use Rattle.sgf_lines.specs.inner.Running.{IsReading, PutsAll, unread}
 use Rattle.sgf_lines.specs.declared.counting.Counts.{Counts}
 use Rattle.sgf_lines.specs.declared.fault.RunFault.{RunFault}
 use Rattle.sgf_lines.specs.declared.fault.RunFault.TheVariants.{NotSgf, Write, Memory}
 
-module _ {A : Type 0} (source new_source : SourceState) (text : List ℕ) (u : A) (h : IsReading {A = A} source new_source text (Ok u)) where
-  same : h.given ≡ text
-  same = sym h.answers.1
-
+module _ {A : Type 0} (source new_source : SourceState) (text : List ℕ) (u : A) (h : IsReading {A = A} source new_source text (Ok u)) (reads : new_source.failures ≡ source.failures) where
   whole : IsWhole text new_source.to_come
-  whole = let e = sym h.answers.1 in rw e at h.answers.0
+  whole = let e : h.given ≡ text = sym h.answers.1 in rw e at h.answers.0
 
-  of_text : (result : Result Counts RunFault) → AnswersCount text new_source.to_come result → IsCount source new_source result
-  of_text result answers =
+  of_text : (result : Result Counts RunFault) → read_failures result ≡ 0 → AnswersCount text new_source.to_come result → IsCount source new_source result
+  of_text result none answers =
       let e : h.given ≡ text = sym h.answers.1 in
-      record { given = text; gives = rw e at h.gives; consumes = rw e at h.consumes; answers = answers }
+      record { given = text; gives = rw e at h.gives; consumes = rw e at h.consumes; answers = answers; source_failures = omega (arith, reads, none) }
 
   pub count_of_games : (c : Games) (counts : Counts) → Spells c text → counts ≡ counts_of c → IsCount source new_source (Ok counts)
-  count_of_games c counts spelled is = of_text (Ok counts) (whole, (c, spelled, is))
+  count_of_games c counts spelled is = of_text (Ok counts) refl (whole, (c, spelled, is))
 
-  pub count_of_faulty : (at len : ℕ) → IsFaultyAt text at → len ≡ length text → IsCount source new_source (Err (NotSgf at len))
-  count_of_faulty at len faulty is = of_text (Err (NotSgf at len)) (whole, faulty, is)
+  unread_says : (fault : ReadFault) → (fault ≡ TextTooLong → MAX_LENGTH < length text) → IsFaultyWhereNotSgf text fault → IsCount source new_source (Err (unread fault (length text)))
+  unread_says TextTooLong long faulty = absurd (omega (arith, long refl, whole.within))
+  unread_says (TextNotSgf at) long faulty = of_text (Err (NotSgf at (length text))) refl (whole, faulty, refl)
+  unread_says TextMemory long faulty = of_text (Err (Memory 0)) refl (whole.within, refl)
 
-  pub count_of_none : IsCount source new_source (Err (Memory 0))
-  count_of_none = of_text (Err (Memory 0)) refl
-
-  pub text_within : length text ≤ MAX_LENGTH
-  text_within = whole.within
+  pub count_of_unread : (fault : ReadFault) (met : RunFault) → met ≡ unread fault (length text) → (fault ≡ TextTooLong → MAX_LENGTH < length text) → IsFaultyWhereNotSgf text fault
+      → IsCount source new_source (Err met)
+  count_of_unread fault met is long faulty = rw is (unread_says fault long faulty)
 
 -- the sink failed within a piece of the row
-pub row_cut : {A : Type 0} (row : List ℕ) (old now new : SinkState) (done piece rest : List ℕ) (n : ℕ) → row ≡ done ++ (piece ++ rest) → Appends old.taken now.taken done
-    → Appends now.taken new.taken (take n piece) → IsWriting {A = A} row old new (Err (Write 0))
-row_cut row old now new done piece rest n is front more =
+pub row_cut : {A : Type 0} (row : List ℕ) (old now new : SinkState) (done piece rest : List ℕ) (n : ℕ) → row ≡ done ++ (piece ++ rest) → Appends old.taken now.taken done → now.failures ≡ old.failures
+    → Appends now.taken new.taken (take n piece) → new.failures ≡ now.failures + 1 → IsWriting {A = A} row old new (Err (Write 0))
+row_cut row old now new done piece rest n is front same more failed =
     let cut : done ++ (piece ++ rest) ≡ (done ++ take n piece) ++ (drop n piece ++ rest) =
     ap (λ bs. done ++ (bs ++ rest)) (sym (take-append-drop n piece)) ∙ ap (λ bs. done ++ bs) (append_assoc (take n piece) (drop n piece) rest)
     ∙ sym (append_assoc done (take n piece) (drop n piece ++ rest)) in
     record {
-      taken = done ++ take n piece;
-      takes = Appends-trans old.taken now.taken new.taken done (take n piece) front more;
-      answers = (refl, (drop n piece ++ rest, is ∙ cut));
-      delivers = tt;
+      answers = (refl, (done ++ take n piece, drop n piece ++ rest, is ∙ cut, Appends-trans old.taken now.taken new.taken done (take n piece) front more));
+      sink_failures = omega (arith, same, failed);
     }
 
 -- the whole row was taken, and the flush was answered
-pub row_flushed : {A : Type 0} (row : List ℕ) (old now new : SinkState) (u : A) → Appends old.taken now.taken row → Delivers now new → IsWriting {A = A} row old new (Ok u)
-row_flushed row old now new u h f = record {
-  taken = row;
-  takes = Appends-kept old.taken now.taken new.taken row h f.taken;
-  answers = refl;
-  delivers = f.delivered;
+pub row_flushed : {A : Type 0} (row : List ℕ) (old now new : SinkState) (u : A) → Appends old.taken now.taken row → now.failures ≡ old.failures → Delivers now new → IsWriting {A = A} row old new (Ok u)
+row_flushed row old now new u h same f = record {
+  answers = (Appends-kept old.taken now.taken new.taken row h f.taken, f.delivered);
+  sink_failures = omega (arith, same, f.failures);
 }
 
 -- and where the flush failed
-pub row_not_flushed : {A : Type 0} (row : List ℕ) (old now new : SinkState) → Appends old.taken now.taken row → TakesNothing now new → IsWriting {A = A} row old new (Err (Write 0))
-row_not_flushed row old now new h f = record {
-  taken = row;
-  takes = Appends-kept old.taken now.taken new.taken row h f.taken;
-  answers = (refl, ([], sym (append-nil row)));
-  delivers = tt;
+pub row_not_flushed : {A : Type 0} (row : List ℕ) (old now new : SinkState) → Appends old.taken now.taken row → now.failures ≡ old.failures → TakesNothing now new → IsWriting {A = A} row old new (Err (Write 0))
+row_not_flushed row old now new h same f = record {
+  answers = (refl, (row, [], sym (append-nil row), Appends-kept old.taken now.taken new.taken row h f.taken));
+  sink_failures = omega (arith, same, f.failures);
 }
 
 -- two pieces are put as one

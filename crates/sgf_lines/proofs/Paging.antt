@@ -1,23 +1,24 @@
 -- The loop that writes the lines of a page, one record after the other.
-use Rattle.std.proofs.Common.{◌≡◌, ℕ, ◌+◌, ◌<◌, ◌≤◌, List, ◌++◌, length, take, drop, slice_get, Option, Some, None, Result, Ok, Err, refl, sym, ap, ◌∙◌, arith}
+use Rattle.std.proofs.Common.{◌≡◌, ℕ, ◌+◌, ◌<◌, ◌≤◌, List, ◌++◌, length, take, drop, slice_get, Option, Some, None, Result, Ok, sym, ap, ◌∙◌, arith}
 use Rattle.std.proofs.lemmas.Option.{slice_get_within}
 use Rattle.std.specs.Prelude.{unwrap_or}
 use Rattle.std.specs.Io.KnownBytes.{Appends}
-use Rattle.std.proofs.KnownBytes.{Appends-kept, Appends-trans}
+use Rattle.std.proofs.KnownBytes.{Appends-trans}
 use Rattle.std.proofs.lemmas.List.{take_all, length-take, length-drop}
 use Rattle.sgf_tree.specs.Tree.{Games, node_count}
 use Rattle.sgf_lines.specs.Lines.{Line, lines}
 use Rattle.sgf_lines.specs.Page.{limited}
 use Rattle.sgf_lines.specs.Record.{record_of, output}
-use Rattle.sgf_lines.specs.Ends.{SinkState, Delivers, TakesNothing}
+use Rattle.sgf_lines.specs.Ends.{SinkState}
 use Rattle.sgf_lines.specs.Cursor.{CursorState}
+use Rattle.sgf_lines.specs.Answer.{IsCutShort}
+use Rattle.sgf_lines.specs.RunPlays.{plays_of}
 use Rattle.sgf_lines.specs.inner.Running.{WritesLines, HasRecord}
 use Rattle.sgf_lines.specs.declared.options.Form.{Form}
 use Rattle.sgf_lines.specs.declared.fault.RunFault.{RunFault}
-use Rattle.sgf_lines.specs.declared.fault.RunFault.TheVariants.{Write, Memory}
 use Rattle.sgf_lines.proofs.Pages.{get_dropped, get_taken, get_none, limited_is}
 use Rattle.sgf_lines.proofs.LineCounts.{lines_within}
-use Rattle.sgf_lines.proofs.Running.{one_more, cut_in, all_taken}
+use Rattle.sgf_lines.proofs.Running.{one_more, cut_in}
 
 -- at most `limit` of the lines from the index `first` on
 abbrev pub page_from : Games → ℕ → ℕ → List Line
@@ -54,67 +55,32 @@ module _ (form : Form) (c : Games) (first limit : ℕ) (old : SinkState) (k : �
 
   -- the sink failed within the next record
   pub cut_short : (new : CursorState) (sink : SinkState) (bytes : List ℕ) (n : ℕ) → k < limit → HasRecord form at new bytes → n < length bytes
-      → Appends now.taken sink.taken (take n bytes) → WritesLines form (page_from c first limit) old sink (Err (Write k))
+      → Appends now.taken sink.taken (take n bytes) → IsCutShort form (page_from c first limit) k old sink
   cut_short new sink bytes n lt r less more =
       let there = next_of_page r.line lt r.found in
       let fewer : n < length (record_of form r.line) = rw (← r.bytes_are) less in
-      let front = output form (take k (page_from c first limit)) in
       let taken : Appends now.taken sink.taken (take n (record_of form r.line)) = rw r.bytes_are at more in
-      record {
-        taken = front ++ take n (record_of form r.line);
-        takes = Appends-trans old.taken now.taken sink.taken front (take n (record_of form r.line)) h.takes taken;
-        answers = cut_in form (page_from c first limit) k r.line n there fewer;
-      }
+      cut_in form (page_from c first limit) k r.line n old now sink there fewer h.takes taken
 
-  -- no memory for the next record
-  pub cut_between : WritesLines form (page_from c first limit) old now (Err (Memory k))
-  cut_between = record {
-    taken = output form (take k (page_from c first limit));
-    takes = h.takes;
-    answers = record { lines = h.within; taken_is = refl };
-  }
-
-  all_of : length (page_from c first limit) ≤ k → WritesLines form (page_from c first limit) old now (Ok k)
-  all_of le =
+  -- all lines of the page were written
+  all_of : (plays : ℕ) → plays ≡ plays_of form (take k (page_from c first limit)) → length (page_from c first limit) ≤ k → WritesLines form (page_from c first limit) old now plays (Ok k)
+  all_of plays are le =
       let all : take k (page_from c first limit) ≡ page_from c first limit = take_all k (page_from c first limit) le in
-      record {
-        taken = output form (take k (page_from c first limit));
-        takes = h.takes;
-        answers = (ap (output form) all, omega (arith, h.within));
-      }
+      (rw all at h.takes, omega (arith, h.within), are ∙ ap (plays_of form) all)
 
   -- no line is left
-  pub none_left : slice_get (lines at.games) at.index ≡ None → WritesLines form (page_from c first limit) old now (Ok k)
-  none_left none =
+  pub none_left : (plays : ℕ) → plays ≡ plays_of form (take k (page_from c first limit)) → slice_get (lines at.games) at.index ≡ None → WritesLines form (page_from c first limit) old now plays (Ok k)
+  none_left plays are none =
       let past : slice_get (drop first (lines c)) k ≡ None = get_dropped (lines c) first k ∙ (rw (h.same, h.index) at none) in
-      all_of (omega (arith, get_none (drop first (lines c)) k past, length-take limit (drop first (lines c))))
+      all_of plays are (omega (arith, get_none (drop first (lines c)) k past, length-take limit (drop first (lines c))))
 
   -- as many lines were written as were asked for
-  pub limit_met : limit ≤ k → WritesLines form (page_from c first limit) old now (Ok k)
-  limit_met le = all_of (omega (arith, length-take limit (drop first (lines c))))
+  pub limit_met : (plays : ℕ) → plays ≡ plays_of form (take k (page_from c first limit)) → limit ≤ k → WritesLines form (page_from c first limit) old now plays (Ok k)
+  limit_met plays are le = all_of plays are (omega (arith, length-take limit (drop first (lines c))))
 
 -- the page by the options
-pub for_options : (form : Form) (c : Games) (first : ℕ) (asked : Option ℕ) (limit : ℕ) (old new : SinkState) (result : Result ℕ RunFault) → limit ≡ unwrap_or asked (node_count c)
-    → WritesLines form (page_from c first limit) old new result → WritesLines form (limited asked (drop first (lines c))) old new result
-for_options form c first asked limit old new result is h =
-    let fewer : length (drop first (lines c)) ≤ node_count c = omega (arith, lines_within c, length_dropped first (lines c)) in
+pub for_options : (form : Form) (c : Games) (first : ℕ) (asked : Option ℕ) (limit : ℕ) (old new : SinkState) (plays : ℕ) (result : Result ℕ RunFault) → limit ≡ unwrap_or asked (node_count c)
+    → WritesLines form (page_from c first limit) old new plays result → WritesLines form (limited asked (drop first (lines c))) old new plays result
+for_options form c first asked limit old new plays result is h =
+    let fewer : length (drop first (lines c)) ≤ node_count c = omega (arith, lines_within c, length-drop first (lines c)) in
     rw (limited_is asked (node_count c) (drop first (lines c)) fewer, ← is) h
-  where
-    length_dropped : (n : ℕ) (xs : List Line) → length (drop n xs) ≤ length xs
-    length_dropped n xs = omega (arith, length-drop n xs)
-
--- the flush after the last record was answered
-pub flushed : (form : Form) (ls : List Line) (old now new : SinkState) (k : ℕ) → WritesLines form ls old now (Ok k) → Delivers now new → WritesLines form ls old new (Ok k)
-flushed form ls old now new k h f = record {
-  taken = h.taken;
-  takes = Appends-kept old.taken now.taken new.taken h.taken h.takes f.taken;
-  answers = h.answers;
-}
-
--- the flush after the last record failed
-pub not_flushed : (form : Form) (ls : List Line) (old now new : SinkState) (k : ℕ) → WritesLines form ls old now (Ok k) → TakesNothing now new → WritesLines form ls old new (Err (Write k))
-not_flushed form ls old now new k h f = record {
-  taken = h.taken;
-  takes = Appends-kept old.taken now.taken new.taken h.taken h.takes f.taken;
-  answers = rw (h.answers.0, h.answers.1) (all_taken form ls);
-}

@@ -1,31 +1,32 @@
 -- The loop that writes the lines of a page counts the nodes that are judged on them.
 use Rattle.std.proofs.Common.{◌≡◌, ℕ, zero, suc, ◌+◌, ◌-◌, ◌<◌, ◌≤◌, Bool, true, false, List, ◌++◌, length, take, drop, slice_get, Option, Some, Result, Ok, Err, inl, inr, refl, sym, ap, ◌∙◌, arith, add-one, length-append}
 use Rattle.std.proofs.lemmas.Option.{slice_get_within}
-use Rattle.std.specs.Prelude.{unwrap_or, filter}
+use Rattle.std.specs.Prelude.{filter}
 use Rattle.std.specs.List.{flat_map}
 use Rattle.std.proofs.Math.Seq.{take-add}
 use Rattle.std.proofs.lemmas.Bool.{cases_lt}
-use Rattle.std.proofs.lemmas.List.{take_all, length-take, length-drop}
+use Rattle.std.proofs.lemmas.List.{take_all, length-take}
 use Rattle.std.proofs.lemmas.Grind.{flat_map-append}
 use Rattle.sgf_tree.specs.Tree.{Games, node_count}
 use Rattle.sgf_tree.specs.FileOrder.{PlacesRise}
 use Rattle.sgf_tree.specs.declared.fault.MemoryFault.{MemoryFault}
+use Rattle.std.proofs.KnownBytes.{Appends-kept}
+use Rattle.sgf_lines.specs.Record.{output}
+use Rattle.sgf_lines.proofs.Running.{all_taken}
 use Rattle.sgf_lines.specs.Lines.{Line, lines}
-use Rattle.sgf_lines.specs.Page.{limited}
-use Rattle.sgf_lines.specs.Ends.{SinkState}
+use Rattle.sgf_lines.specs.Ends.{SinkState, TakesNothing}
 use Rattle.sgf_lines.specs.Cursor.{CursorState}
 use Rattle.sgf_lines.specs.Verdict.{judged_nodes}
 use Rattle.sgf_lines.specs.Plays.{different, all_judged_places, judged_places}
-use Rattle.sgf_lines.specs.RunPlays.{plays_in, plays_of}
+use Rattle.sgf_lines.specs.RunPlays.{plays_in, plays_of, ArePlaysFor}
 use Rattle.sgf_lines.specs.declared.options.Form.{Form}
 use Rattle.sgf_lines.specs.declared.options.Form.TheVariants.{List as list_form, Sgf as sgf_form, Gtp as gtp_form}
 use Rattle.sgf_lines.specs.declared.fault.RunFault.{RunFault}
 use Rattle.sgf_lines.specs.declared.fault.RunFault.TheVariants.{Read, TooLong, NotSgf, NoSuchLine, Write, Memory}
 use Rattle.sgf_lines.specs.inner.Following.{Continues, numbers_before}
 use Rattle.sgf_lines.specs.inner.Keeping.{IsShared, HasPlays, PlaysLine}
-use Rattle.sgf_lines.specs.inner.LinePlays.{AnswersPlaysFor, PlaysLines}
-use Rattle.sgf_lines.proofs.Pages.{get_dropped, get_taken, limited_is}
-use Rattle.sgf_lines.proofs.LineCounts.{lines_within}
+use Rattle.sgf_lines.specs.inner.Running.{WritesLines}
+use Rattle.sgf_lines.proofs.Pages.{get_dropped, get_taken}
 use Rattle.sgf_lines.proofs.Different.{is_new, different-append}
 use Rattle.sgf_lines.proofs.PlayCounts.{first_plays, next_plays, plays_within}
 use Rattle.sgf_lines.proofs.Paging.{page_from, IsSoFar}
@@ -92,17 +93,14 @@ module _ (c : Games) (rise : PlacesRise c) (first limit : ℕ) where
         | inr ge ↦ few form k ge
       ]
 
-  pub few_played : (form : Form) (new : ℕ) (result : Result ℕ RunFault) → PlaysLines form (page_from c first limit) 0 new result → new ≤ node_count c
-  few_played form new result h = omega (arith, h.rises, by result h.answers)
-    where
-      by : (r : Result ℕ RunFault) → AnswersPlaysFor form (page_from c first limit) h.plays r → h.plays ≤ node_count c
-      by (Ok k) a = omega (arith, a, few_any form (length (page_from c first limit)), ap (plays_of form) (take_all (length (page_from c first limit)) (page_from c first limit) (omega arith)))
-      by (Err Read) a = absurd a
-      by (Err TooLong) a = absurd a
-      by (Err (NotSgf at len)) a = absurd a
-      by (Err (NoSuchLine place)) a = absurd a
-      by (Err (Write k)) a = omega (arith, a.at_most, few_any form (k + 1))
-      by (Err (Memory k)) a = omega (arith, a.at_most, few_any form (k + 1))
+  pub few_played : (form : Form) (old new : SinkState) (plays : ℕ) (result : Result ℕ RunFault) → WritesLines form (page_from c first limit) old new plays result → plays ≤ node_count c
+  few_played form old new plays (Ok k) h = omega (arith, h.2, few_any form (length (page_from c first limit)), ap (plays_of form) (take_all (length (page_from c first limit)) (page_from c first limit) (omega arith)))
+  few_played form old new plays (Err Read) h = absurd h
+  few_played form old new plays (Err TooLong) h = absurd h
+  few_played form old new plays (Err (NotSgf at len)) h = absurd h
+  few_played form old new plays (Err (NoSuchLine place)) h = absurd h
+  few_played form old new plays (Err (Write k)) h = omega (arith, h.1.at_most, few_any form (k + 1))
+  few_played form old new plays (Err (Memory k)) h = omega (arith, h.2.at_most, few_any form (k + 1))
 
 -- what a line shares with the one before it, by where the cursor stands
 shares_by : (c : Games) (rise : PlacesRise c) (first limit k : ℕ) (wrote : Bool) (at : CursorState) (shared : ℕ) → at.games ≡ c → at.index ≡ first + k → (k ≡ 0 → wrote ≡ false) → (0 < k → wrote ≡ true)
@@ -112,8 +110,8 @@ shares_by c rise first limit (suc k) wrote at shared same index first_line later
     let go : Continues (numbers_before at.games at.index) shared (numbers_before at.games (at.index + 1)) = rw (later (omega arith)) at h in
     rw (same, index, add-one) at go
 
-module _ (form : Form) (c : Games) (rise : PlacesRise c) (first limit count k : ℕ) (wrote : Bool) (at : CursorState) (old sink : SinkState) (written : IsSoFar form c first limit old k at sink)
-    (first_line : k ≡ 0 → wrote ≡ false) (later : 0 < k → wrote ≡ true) (lt : k < limit) (now : ℕ) (h : now ≡ count + plays_of form (take k (page_from c first limit))) where
+module _ (form : Form) (c : Games) (rise : PlacesRise c) (first limit k : ℕ) (wrote : Bool) (at : CursorState) (old sink : SinkState) (written : IsSoFar form c first limit old k at sink)
+    (first_line : k ≡ 0 → wrote ≡ false) (later : 0 < k → wrote ≡ true) (lt : k < limit) (now : ℕ) (h : now ≡ plays_of form (take k (page_from c first limit))) where
   next_adds : (n : ℕ) → HasPlays form wrote at n → plays_of form (take (k + 1) (page_from c first limit)) ≡ plays_of form (take k (page_from c first limit)) + n
   next_adds n p =
       let there : slice_get (lines c) (first + k) ≡ Some p.line = rw (written.same, written.index) at p.found in
@@ -122,49 +120,23 @@ module _ (form : Form) (c : Games) (rise : PlacesRise c) (first limit count k : 
       (adds c rise first limit form k p.shared p.line here (shares_by c rise first limit k wrote at p.shared written.same written.index first_line later p.shares))
 
   -- the next line was played whole
-  pub one_played : (new : ℕ) → PlaysLine {E = MemoryFault} form wrote at now new (Ok true) → new ≡ count + plays_of form (take (k + 1) (page_from c first limit))
+  pub one_played : (new : ℕ) → PlaysLine {E = MemoryFault} form wrote at now new (Ok true) → new ≡ plays_of form (take (k + 1) (page_from c first limit))
   one_played new p = omega (arith, p.2, h, next_adds p.0 p.1)
 
   -- but its record wasn't taken whole
-  pub played_then_cut : (new : ℕ) → PlaysLine {E = MemoryFault} form wrote at now new (Ok true) → PlaysLines form (page_from c first limit) count new (Err (Write k))
-  played_then_cut new p = record {
-    plays = plays_of form (take (k + 1) (page_from c first limit));
-    rises = one_played new p;
-    answers = record { at_least = plays_grow form (page_from c first limit) k; at_most = omega arith };
-  }
+  pub played_then_cut : (new : ℕ) → PlaysLine {E = MemoryFault} form wrote at now new (Ok true) → ArePlaysFor form (page_from c first limit) k new
+  played_then_cut new p =
+      let all = one_played new p in record { at_least = omega (arith, all, plays_grow form (page_from c first limit) k); at_most = omega (arith, all) }
 
   -- no memory for all of it
-  pub played_in_part : (e : MemoryFault) (new : ℕ) → PlaysLine form wrote at now new (Err e) → PlaysLines form (page_from c first limit) count new (Err (Memory k))
-  played_in_part e new (inl none) = record {
-    plays = plays_of form (take k (page_from c first limit));
-    rises = none ∙ h;
-    answers = record { at_least = omega arith; at_most = plays_grow form (page_from c first limit) k };
-  }
-  played_in_part e new (inr p) = record {
-    plays = new - count;
-    rises = omega (arith, p.2, h);
-    answers = record { at_least = omega (arith, p.2, h); at_most = omega (arith, p.3, h, next_adds p.0 p.1) };
-  }
+  pub played_in_part : (e : MemoryFault) (new : ℕ) → PlaysLine form wrote at now new (Err e) → ArePlaysFor form (page_from c first limit) k new
+  played_in_part e new (inl none) = record { at_least = omega (arith, none, h); at_most = omega (arith, none, h, plays_grow form (page_from c first limit) k) }
+  played_in_part e new (inr p) = record { at_least = omega (arith, p.2, h); at_most = omega (arith, p.3, h, next_adds p.0 p.1) }
 
-pub all_played : (form : Form) (c : Games) (first limit count k now : ℕ) → now ≡ count + plays_of form (take k (page_from c first limit)) → length (page_from c first limit) ≤ k
-    → PlaysLines form (page_from c first limit) count now (Ok k)
-all_played form c first limit count k now h le = record {
-  plays = plays_of form (take k (page_from c first limit));
-  rises = h;
-  answers = all_plays form (page_from c first limit) k le;
-}
-
--- the flush after the last record failed
-pub played_not_flushed : (form : Form) (ls : List Line) (count new k : ℕ) → k ≡ length ls → PlaysLines form ls count new (Ok k) → PlaysLines form ls count new (Err (Write k))
-played_not_flushed form ls count new k is h = record {
-  plays = h.plays;
-  rises = h.rises;
-  answers = record { at_least = omega (arith, h.answers, all_plays form ls k (omega (arith, is))); at_most = omega (arith, h.answers, all_plays form ls (k + 1) (omega (arith, is))) };
-}
-
--- the page by the options
-pub plays_for_options : (form : Form) (c : Games) (first : ℕ) (asked : Option ℕ) (limit count new : ℕ) (result : Result ℕ RunFault) → limit ≡ unwrap_or asked (node_count c)
-    → PlaysLines form (page_from c first limit) count new result → PlaysLines form (limited asked (drop first (lines c))) count new result
-plays_for_options form c first asked limit count new result is h =
-    let fewer : length (drop first (lines c)) ≤ node_count c = omega (arith, lines_within c, length-drop first (lines c)) in
-    rw (limited_is asked (node_count c) (drop first (lines c)) fewer, ← is) h
+-- the records were written, and then the flush failed
+pub not_flushed : (form : Form) (ls : List Line) (old now new : SinkState) (plays k : ℕ) → WritesLines form ls old now plays (Ok k) → TakesNothing now new → WritesLines form ls old new plays (Err (Write k))
+not_flushed form ls old now new plays k h f =
+    let takes = Appends-kept old.taken now.taken new.taken (output form ls) h.0 f.taken in (
+      rw h.1 (all_taken form ls old new takes),
+      record { at_least = omega (arith, h.2, all_plays form ls k (omega (arith, h.1))); at_most = omega (arith, h.2, all_plays form ls (k + 1) (omega (arith, h.1))) },
+    )

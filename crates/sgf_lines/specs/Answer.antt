@@ -1,5 +1,5 @@
 -- The result of a run: what it says of the bytes that the source gave and that the sink took.
-use Rattle.std.specs.Prelude.{◌≡◌, ℕ, ◌+◌, ◌<◌, ◌≤◌, ◌⊎◌, List, [], ◌++◌, length, take, Option, Some, None, Result, Ok, Err, OnOk}
+use Rattle.std.specs.Prelude.{◌≡◌, ℕ, ◌+◌, ◌<◌, ◌≤◌, ◌⊎◌, List, [], ◌++◌, length, take, slice_get, Option, Some, None, Result, Ok, Err}
 use Rattle.std.specs.Result.{result_err}
 use Rattle.std.specs.Io.KnownBytes.{Appends, Consumes, IsAtEnd}
 use Rattle.sgf_tree.specs.Tree.{Games}
@@ -8,7 +8,7 @@ use Rattle.sgf_tree.specs.Refusal.{IsFaultyAt}
 pub use Rattle.sgf_tree.specs.declared.fault.TheConstants.{MAX_LENGTH}
 use Rattle.sgf_lines.specs.Lines.{Line, lines}
 use Rattle.sgf_lines.specs.Page.{page, lines_after}
-use Rattle.sgf_lines.specs.Record.{output}
+use Rattle.sgf_lines.specs.Record.{record_of, output}
 use Rattle.sgf_lines.specs.Ends.{SourceState, SinkState, HasDelivered}
 use Rattle.sgf_lines.specs.declared.options.Form.{Form}
 use Rattle.sgf_lines.specs.declared.options.Options.{Options}
@@ -33,40 +33,36 @@ pub record HasNoLine (options : Options) (given : List ℕ) (place : ℕ) : Type
   pub asked : options.after ≡ Some place
   pub none : lines_after (lines games) place ≡ None
 
--- A prefix of the output: the records of the first `count` lines whole, and less than the whole of the next.
-pub record IsCutShort (form : Form) (page : List Line) (count : ℕ) (taken : List ℕ) : Type 0 where
-  pub front : (rest : List ℕ) × (output form page ≡ taken ++ rest)
+-- the source was read whole, and these lines are the page of what it gave
+pub record IsGood (options : Options) (given : List ℕ) (to_come : Option (List ℕ)) (asked : List Line) : Type 0 where
+  pub whole : IsWhole given to_come
+  pub has_page : HasPage options given asked
+
+-- a front of a record that isn't the whole, or nothing where there is no record
+abbrev pub IsPart : Form → Option Line → List ℕ → Type 0
+IsPart form None part = part ≡ []
+IsPart form (Some line) part = (rest : List ℕ) × (0 < length rest) × (record_of form line ≡ part ++ rest)
+
+-- a sink took the records of the first `count` lines, and less than the whole of the next
+pub record IsCutShort (form : Form) (page : List Line) (count : ℕ) (sink new_sink : SinkState) : Type 0 where
   pub lines : count ≤ length page
-  pub whole : length (output form (take count page)) ≤ length taken
-  pub no_more : count < length page → length taken < length (output form (take (count + 1) page))
+  pub part : List ℕ
+  pub takes : Appends sink.taken new_sink.taken (output form (take count page) ++ part)
+  pub is_part : IsPart form (slice_get page count) part
 
--- exactly the records of the first `count` lines
-pub record IsCutBetween (form : Form) (page : List Line) (count : ℕ) (taken : List ℕ) : Type 0 where
-  pub lines : count ≤ length page
-  pub taken_is : taken ≡ output form (take count page)
-
--- What each result says of the bytes that the source gave, of those still to come, and of the bytes that the sink took.
-abbrev pub Answers : Options → List ℕ → Option (List ℕ) → List ℕ → Result ℕ RunFault → Type 0
-Answers options given to_come taken (Ok count) =
-    IsWhole given to_come × ((page : List Line) × HasPage options given page × (taken ≡ output options.form page) × (count ≡ length page))
-Answers options given to_come taken (Err Read) = (length given ≤ MAX_LENGTH) × (taken ≡ [])
-Answers options given to_come taken (Err TooLong) = (MAX_LENGTH < length given) × (taken ≡ [])
-Answers options given to_come taken (Err (NotSgf at len)) = IsWhole given to_come × IsFaultyAt given at × (len ≡ length given) × (taken ≡ [])
-Answers options given to_come taken (Err (NoSuchLine place)) = IsWhole given to_come × HasNoLine options given place × (taken ≡ [])
-Answers options given to_come taken (Err (Write count)) = IsWhole given to_come × ((page : List Line) × HasPage options given page × IsCutShort options.form page count taken)
-Answers options given to_come taken (Err (Memory count)) =
-    (IsWhole given to_come × ((page : List Line) × HasPage options given page × IsCutBetween options.form page count taken)) ⊎ ((count ≡ 0) × (taken ≡ []))
-
--- The result of a run, with the source and the sink before and after it. A source or a sink that failed fails for good, and each
--- failure is counted. So if such a count rises by one, nothing was asked of that end after its failure.
-pub record IsRun (options : Options) (source new_source : SourceState) (sink new_sink : SinkState) (result : Result ℕ RunFault) : Type 0 where
-  pub given : List ℕ
-  pub taken : List ℕ
-  pub gives : Appends source.given new_source.given given
-  pub consumes : Consumes source.to_come new_source.to_come given
-  pub takes : Appends sink.taken new_sink.taken taken
-  pub answers : Answers options given new_source.to_come taken result
-  pub delivers : OnOk result (HasDelivered new_sink)
+-- What holds of the bytes that the source gave, of those that are to come, and of the sink before and after.
+-- A source gives at most 65,536 bytes at once, so of one that gives too much no more than these are taken in vain.
+abbrev pub Answers : Options → List ℕ → Option (List ℕ) → SinkState → SinkState → Result ℕ RunFault → Type 0
+Answers options given to_come sink new_sink (Ok count) =
+    (page : List Line) × IsGood options given to_come page × Appends sink.taken new_sink.taken (output options.form page) × (count ≡ length page) × HasDelivered new_sink
+Answers options given to_come sink new_sink (Err Read) = (length given ≤ MAX_LENGTH) × (new_sink ≡ sink)
+Answers options given to_come sink new_sink (Err TooLong) = (MAX_LENGTH < length given) × (length given ≤ MAX_LENGTH + 65536) × (new_sink ≡ sink)
+Answers options given to_come sink new_sink (Err (NotSgf at len)) = IsWhole given to_come × IsFaultyAt given at × (len ≡ length given) × (new_sink ≡ sink)
+Answers options given to_come sink new_sink (Err (NoSuchLine place)) = IsWhole given to_come × HasNoLine options given place × (new_sink ≡ sink)
+Answers options given to_come sink new_sink (Err (Write count)) = (page : List Line) × IsGood options given to_come page × IsCutShort options.form page count sink new_sink
+Answers options given to_come sink new_sink (Err (Memory count)) =
+    ((page : List Line) × IsGood options given to_come page × (count ≤ length page) × Appends sink.taken new_sink.taken (output options.form (take count page)))
+    ⊎ ((length given ≤ MAX_LENGTH) × (count ≡ 0) × (new_sink ≡ sink))
 
 -- how many failures of the source a fault stands for, and how many of the sink
 abbrev pub reads_failed : Option RunFault → ℕ
@@ -83,3 +79,13 @@ read_failures result = reads_failed (result_err result)
 
 abbrev pub write_failures : {A : Type 0} → Result A RunFault → ℕ
 write_failures result = writes_failed (result_err result)
+
+-- The result of a run, with the source and the sink before and after it. A source or a sink that failed fails for good, and each
+-- failure is counted. So if such a count rises by one, nothing was asked of that end after its failure.
+pub record IsRun (options : Options) (source new_source : SourceState) (sink new_sink : SinkState) (result : Result ℕ RunFault) : Type 0 where
+  pub given : List ℕ
+  pub gives : Appends source.given new_source.given given
+  pub consumes : Consumes source.to_come new_source.to_come given
+  pub answers : Answers options given new_source.to_come sink new_sink result
+  pub source_failures : new_source.failures ≡ source.failures + read_failures result
+  pub sink_failures : new_sink.failures ≡ sink.failures + write_failures result

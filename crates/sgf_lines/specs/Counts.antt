@@ -1,5 +1,5 @@
 -- The counts of a collection, and how they are written.
-use Rattle.std.specs.Prelude.{◌≡◌, ℕ, ◌<◌, ◌≤◌, List, ◌++◌, length, Option, Result, Ok, Err, OnOk, codes, decimal}
+use Rattle.std.specs.Prelude.{◌≡◌, ℕ, ◌+◌, ◌<◌, ◌≤◌, List, ◌++◌, length, Option, Result, Ok, Err, codes, decimal}
 use Rattle.std.specs.Io.KnownBytes.{Appends, Consumes}
 use Rattle.sgf_tree.specs.Tree.{Games, game_count, node_count}
 use Rattle.sgf_tree.specs.Spelling.{Spells}
@@ -7,10 +7,10 @@ use Rattle.sgf_tree.specs.Refusal.{IsFaultyAt}
 use Rattle.sgf_tree.specs.declared.fault.TheConstants.{MAX_LENGTH}
 use Rattle.sgf_lines.specs.Lines.{lines}
 use Rattle.sgf_lines.specs.Ends.{SourceState, SinkState, HasDelivered}
-use Rattle.sgf_lines.specs.Answer.{IsWhole}
+use Rattle.sgf_lines.specs.Answer.{IsWhole, read_failures, write_failures}
 use Rattle.sgf_lines.specs.declared.counting.Counts.{Counts}
 use Rattle.sgf_lines.specs.declared.fault.RunFault.{RunFault}
-use Rattle.sgf_lines.specs.declared.fault.RunFault.TheVariants.{Read, TooLong, NotSgf, NoSuchLine, Write, Memory}
+use Rattle.sgf_lines.specs.declared.fault.RunFault.TheVariants.{Read, TooLong, NotSgf, Write, Memory}
 
 -- how many games a collection has, how many nodes at every depth, and how many lines
 abbrev pub counts_of : Games → Counts
@@ -24,11 +24,10 @@ counts_row counts = decimal counts.games ++ codes " " ++ decimal counts.nodes ++
 abbrev pub AnswersCount : List ℕ → Option (List ℕ) → Result Counts RunFault → Type 0
 AnswersCount given to_come (Ok counts) = IsWhole given to_come × ((games : Games) × Spells games given × (counts ≡ counts_of games))
 AnswersCount given to_come (Err Read) = length given ≤ MAX_LENGTH
-AnswersCount given to_come (Err TooLong) = MAX_LENGTH < length given
+AnswersCount given to_come (Err TooLong) = (MAX_LENGTH < length given) × (length given ≤ MAX_LENGTH + 65536)
 AnswersCount given to_come (Err (NotSgf at len)) = IsWhole given to_come × IsFaultyAt given at × (len ≡ length given)
-AnswersCount given to_come (Err (NoSuchLine place)) = ⊥
-AnswersCount given to_come (Err (Write count)) = ⊥
-AnswersCount given to_come (Err (Memory count)) = count ≡ 0
+AnswersCount given to_come (Err (Memory count)) = (length given ≤ MAX_LENGTH) × (count ≡ 0)
+AnswersCount given to_come (Err _) = ⊥
 
 -- The result of a count, with the source before and after it.
 pub record IsCount (source new_source : SourceState) (result : Result Counts RunFault) : Type 0 where
@@ -36,20 +35,16 @@ pub record IsCount (source new_source : SourceState) (result : Result Counts Run
   pub gives : Appends source.given new_source.given given
   pub consumes : Consumes source.to_come new_source.to_come given
   pub answers : AnswersCount given new_source.to_come result
+  pub source_failures : new_source.failures ≡ source.failures + read_failures result
 
--- what a sink took of a row: all of it, or a prefix of it
-abbrev pub AnswersRow : {A : Type 0} → List ℕ → List ℕ → Result A RunFault → Type 0
-AnswersRow row taken (Ok _) = taken ≡ row
-AnswersRow row taken (Err Read) = ⊥
-AnswersRow row taken (Err TooLong) = ⊥
-AnswersRow row taken (Err (NotSgf at len)) = ⊥
-AnswersRow row taken (Err (NoSuchLine place)) = ⊥
-AnswersRow row taken (Err (Write count)) = (count ≡ 0) × ((rest : List ℕ) × (row ≡ taken ++ rest))
-AnswersRow row taken (Err (Memory count)) = ⊥
+-- what a sink took of a row: all of it, which it delivered; or a front of it
+abbrev pub AnswersRow : {A : Type 0} → List ℕ → SinkState → SinkState → Result A RunFault → Type 0
+AnswersRow row sink new_sink (Ok _) = Appends sink.taken new_sink.taken row × HasDelivered new_sink
+AnswersRow row sink new_sink (Err (Write count)) =
+    (count ≡ 0) × ((front : List ℕ) × (rest : List ℕ) × (row ≡ front ++ rest) × Appends sink.taken new_sink.taken front)
+AnswersRow row sink new_sink (Err _) = ⊥
 
 -- The result of writing a row, with the sink before and after it.
 pub record IsWriting {A : Type 0} (row : List ℕ) (sink new_sink : SinkState) (result : Result A RunFault) : Type 0 where
-  pub taken : List ℕ
-  pub takes : Appends sink.taken new_sink.taken taken
-  pub answers : AnswersRow row taken result
-  pub delivers : OnOk result (HasDelivered new_sink)
+  pub answers : AnswersRow row sink new_sink result
+  pub sink_failures : new_sink.failures ≡ sink.failures + write_failures result

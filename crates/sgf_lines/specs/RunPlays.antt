@@ -3,7 +3,7 @@ use Rattle.std.specs.Prelude.{◌≡◌, ℕ, ◌+◌, ◌≤◌, ◌⊎◌, Lis
 use Rattle.sgf_lines.specs.Lines.{Line}
 use Rattle.sgf_lines.specs.Plays.{all_judged_places}
 use Rattle.sgf_lines.specs.Ends.{SourceState, SinkState}
-use Rattle.sgf_lines.specs.Answer.{IsWhole, HasPage, IsRun}
+use Rattle.sgf_lines.specs.Answer.{IsGood, IsRun}
 use Rattle.sgf_lines.specs.declared.options.Form.{Form}
 use Rattle.sgf_lines.specs.declared.options.Form.TheVariants.{List as list_form, Sgf as sgf_form, Gtp as gtp_form}
 use Rattle.sgf_lines.specs.declared.options.Options.{Options}
@@ -27,14 +27,14 @@ pub record ArePlaysFor (form : Form) (page : List Line) (count plays : ℕ) : Ty
 
 -- What each result says of the number of nodes that were played, as `Answers` says it of the bytes.
 abbrev pub AnswersPlays : Options → List ℕ → Option (List ℕ) → ℕ → Result ℕ RunFault → Type 0
-AnswersPlays options given to_come plays (Ok count) = (page : List Line) × HasPage options given page × (plays ≡ plays_of options.form page)
+AnswersPlays options given to_come plays (Ok count) = (page : List Line) × IsGood options given to_come page × (plays ≡ plays_of options.form page)
 AnswersPlays options given to_come plays (Err Read) = plays ≡ 0
 AnswersPlays options given to_come plays (Err TooLong) = plays ≡ 0
 AnswersPlays options given to_come plays (Err (NotSgf at len)) = plays ≡ 0
 AnswersPlays options given to_come plays (Err (NoSuchLine place)) = plays ≡ 0
-AnswersPlays options given to_come plays (Err (Write count)) = (page : List Line) × HasPage options given page × ArePlaysFor options.form page count plays
+AnswersPlays options given to_come plays (Err (Write count)) = (page : List Line) × IsGood options given to_come page × ArePlaysFor options.form page count plays
 AnswersPlays options given to_come plays (Err (Memory count)) =
-    (IsWhole given to_come × ((page : List Line) × HasPage options given page × ArePlaysFor options.form page count plays)) ⊎ ((count ≡ 0) × (plays ≡ 0))
+    ((page : List Line) × IsGood options given to_come page × ArePlaysFor options.form page count plays) ⊎ ((count ≡ 0) × (plays ≡ 0))
 
 -- The result of a run in which the plays went from `old` to `new`.
 pub record IsRunWithPlays (options : Options) (source new_source : SourceState) (sink new_sink : SinkState) (old new : ℕ) (result : Result ℕ RunFault) : Type 0 where

@@ -8,7 +8,6 @@ pub mod Gathered
 pub mod Judging
 pub mod Views
 pub mod Running
-pub mod LinePlays
 pub mod Pieces
 pub mod Recording
 pub mod Scripting

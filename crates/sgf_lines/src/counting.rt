@@ -1,8 +1,7 @@
 //! Counting what a collection holds.
 
-ghost use Rattle.std.specs.Prelude.{◌≡◌, ◌<◌, ◌+◌, ◌++◌, length, decimal};
+ghost use Rattle.std.specs.Prelude.{◌≡◌, ◌<◌, ◌++◌, length, decimal};
 ghost use Rattle.sgf_lines.specs.Lines.{lines};
-ghost use Rattle.sgf_lines.specs.Answer.{read_failures, write_failures};
 ghost use Rattle.sgf_lines.specs.Counts.{IsCount, IsWriting, counts_of, counts_row};
 ghost use Rattle.sgf_lines.specs.inner.Running.{PutsAll};
 
@@ -36,9 +35,7 @@ pub struct Counts {
 /// If memory was refused, `Memory { lines: 0 }` is returned in place of `Ok`, or of a fault that wasn't met yet.
 pub fn count<S: Source>(alloc: Global, source: &mut S) -> Result<Counts, RunFault>
     requires { (S.state source.old).failures < u64.MAX }
-    ensures answer { IsCount (S.state source.old) (S.state source.new) result }
-    ensures failures { (S.state source.new).failures
-        ≡ (S.state source.old).failures + read_failures result }
+    ensures { IsCount (S.state source.old) (S.state source.new) result }
 {
     let mut text = Vec::new(alloc);
     match read_all(source, &mut text) {
@@ -81,9 +78,7 @@ fn line_count(collection: &Collection<'_>) -> u64
 /// If the sink fails, `Write { lines: 0 }` is returned, and the sink has taken a prefix of the row, perhaps all of it.
 pub fn write_counts<T: Sink>(sink: &mut T, counts: &Counts) -> Result<(), RunFault>
     requires { (T.state sink.old).failures < u64.MAX }
-    ensures answer { IsWriting (counts_row counts.now) (T.state sink.old) (T.state sink.new) result }
-    ensures failures { (T.state sink.new).failures
-        ≡ (T.state sink.old).failures + write_failures result }
+    ensures { IsWriting (counts_row counts.now) (T.state sink.old) (T.state sink.new) result }
 {
     let fault = RunFault::Write { lines: 0 };
     let Ok(()) = put_number(counts.games, b" ", sink) else {

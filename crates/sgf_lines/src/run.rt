@@ -11,7 +11,6 @@ ghost use Rattle.sgf_lines.specs.Record.{record_of};
 ghost use Rattle.sgf_lines.specs.RunPlays.{IsRunWithPlays};
 ghost use Rattle.sgf_lines.specs.inner.Following.{line_before, nodes_before};
 ghost use Rattle.sgf_lines.specs.inner.Keeping.{Holds, HoldsBy, IsFresh, IsUnusedBy, KeepsBy, PlaysIn, PlaysLine, StillHeld, record_in};
-ghost use Rattle.sgf_lines.specs.inner.LinePlays.{PlaysLines};
 ghost use Rattle.sgf_lines.specs.inner.Running.{HasRecord, IsReading, IsStart, PutsAll, WritesLines};
 
 use crate::cursor::Cursor;
@@ -58,12 +57,8 @@ pub fn split<S: Source, T: Sink>(
 ) -> Result<u64, RunFault>
     requires source_countable { (S.state source.old).failures < u64.MAX }
     requires sink_countable { (T.state sink.old).failures < u64.MAX }
-    ensures answer { IsRun options.now (S.state source.old) (S.state source.new)
+    ensures { IsRun options.now (S.state source.old) (S.state source.new)
         (T.state sink.old) (T.state sink.new) result }
-    ensures read_failures { (S.state source.new).failures
-        ≡ (S.state source.old).failures + read_failures result }
-    ensures write_failures { (T.state sink.new).failures
-        ≡ (T.state sink.old).failures + write_failures result }
 {
     let mut plays = Plays::new();
     split_counted(alloc, source, sink, options, &mut plays)
@@ -87,12 +82,8 @@ pub fn split_counted<S: Source, T: Sink>(
     requires source_countable { (S.state source.old).failures < u64.MAX }
     requires sink_countable { (T.state sink.old).failures < u64.MAX }
     requires plays_countable { plays.old + MAX_LENGTH ≤ u64.MAX }
-    ensures answer { IsRunWithPlays options.now (S.state source.old) (S.state source.new)
+    ensures { IsRunWithPlays options.now (S.state source.old) (S.state source.new)
         (T.state sink.old) (T.state sink.new) plays.old plays.new result }
-    ensures read_failures { (S.state source.new).failures
-        ≡ (S.state source.old).failures + read_failures result }
-    ensures write_failures { (T.state sink.new).failures
-        ≡ (T.state sink.old).failures + write_failures result }
 {
     let mut text = Vec::new(alloc);
     match read_all(source, &mut text) {
@@ -211,9 +202,7 @@ impl<'c, 'a> Run<'c, 'a> {
         requires fresh { IsFresh self.old }
         requires countable { (T.state sink.old).failures < u64.MAX }
         ensures answer { WritesLines self.old.form (take limit (drop self.old.cursor.index (lines self.old.cursor.games)))
-            (T.state sink.old) (T.state sink.new) result }
-        ensures plays { PlaysLines self.old.form (take limit (drop self.old.cursor.index (lines self.old.cursor.games)))
-            0 self.new.judge.plays result }
+            (T.state sink.old) (T.state sink.new) self.new.judge.plays result }
         ensures delivered { OnOk result (HasDelivered (T.state sink.new)) }
         ensures failures { (T.state sink.new).failures
             ≡ (T.state sink.old).failures + write_failures result }
@@ -233,9 +222,7 @@ impl<'c, 'a> Run<'c, 'a> {
         requires fresh { IsFresh self.old }
         requires countable { (T.state sink.old).failures < u64.MAX }
         ensures answer { WritesLines self.old.form (take limit (drop self.old.cursor.index (lines self.old.cursor.games)))
-            (T.state sink.old) (T.state sink.new) result }
-        ensures plays { PlaysLines self.old.form (take limit (drop self.old.cursor.index (lines self.old.cursor.games)))
-            0 self.new.judge.plays result }
+            (T.state sink.old) (T.state sink.new) self.new.judge.plays result }
         ensures failures { (T.state sink.new).failures
             ≡ (T.state sink.old).failures + write_failures result }
     {

@@ -1,1 +1,2 @@
 pub mod InMemory
+pub mod Placed

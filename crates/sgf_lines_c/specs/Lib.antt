@@ -1,6 +1,7 @@
--- What the contracts of the two calls cite.
+-- What the contracts of the calls reach.
 pub mod Status
 pub mod Asked
 pub mod SplitAnswer
 pub mod CountAnswer
+pub mod JudgeAnswer
 pub mod inner

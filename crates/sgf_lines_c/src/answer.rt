@@ -1,8 +1,12 @@
-//! What a split and a count report to the caller.
+//! The answers of a split, a count and a judge.
 
 ghost use Rattle.std.specs.Prelude.{◌≡◌};
 ghost use Rattle.sgf_lines_c.specs.SplitAnswer.{told};
 ghost use Rattle.sgf_lines_c.specs.CountAnswer.{fault_told};
+ghost use Rattle.sgf_lines_c.specs.JudgeAnswer.{reason_number as number_of, verdict_told, no_verdict};
+
+use go_board::Reason;
+use sgf_lines::Verdict;
 
 /// What a split reports. A number without a meaning under the status is 0.
 #[repr(C)]
@@ -74,5 +78,89 @@ impl CountAnswer {
             lines: 0,
             at,
         }
+    }
+}
+
+/// The answer of a judge. A number that its status or its verdict has no use for is 0.
+#[repr(C)]
+#[derive(Clone, Copy)]
+pub struct JudgeAnswer {
+    /// 1 for a score, 2 for an illegal node, 3 if the game isn't Go, 4 if the board isn't a square of 1 to 52 points a side.
+    pub verdict: u32,
+    /// Why the node isn't allowed: the number of the reason, from 1, in the order of checking.
+    pub reason: u32,
+    /// Black's area score after the last node, in points.
+    pub black: u32,
+    /// White's area score after the last node, in points.
+    pub white: u32,
+    /// One more than the number of turns that were made before the illegal node.
+    pub turn: u64,
+    /// The place of the illegal node: the offset of its `;`.
+    pub place: u64,
+    /// The offset of the first faulty byte, from 0; or the place that no line has.
+    pub at: u64,
+    /// Whether two passes in a row ended the game. It is false without a score.
+    pub over: bool,
+}
+
+impl JudgeAnswer {
+    /// No verdict, and a place.
+    pub(crate) fn at(at: u64) -> JudgeAnswer
+        ensures { result ≡ no_verdict at }
+    {
+        JudgeAnswer {
+            verdict: 0,
+            reason: 0,
+            black: 0,
+            white: 0,
+            turn: 0,
+            place: 0,
+            at,
+            over: false,
+        }
+    }
+
+    /// A verdict.
+    pub(crate) fn of(verdict: Verdict) -> JudgeAnswer
+        ensures { result ≡ verdict_told verdict }
+    {
+        let mut answer = JudgeAnswer::at(0);
+        match verdict {
+            Verdict::Score { black, white, over } => {
+                answer.verdict = 1;
+                answer.black = black;
+                answer.white = white;
+                answer.over = over;
+            }
+            Verdict::Illegal {
+                turn,
+                place,
+                reason,
+            } => {
+                answer.verdict = 2;
+                answer.turn = turn;
+                answer.place = place as u64;
+                answer.reason = reason_number(reason);
+            }
+            Verdict::NotGo => answer.verdict = 3,
+            Verdict::BadSize => answer.verdict = 4,
+        }
+        answer
+    }
+}
+
+/// The number that a caller in C gets for a reason.
+fn reason_number(reason: Reason) -> u32
+    ensures { result ≡ number_of reason }
+{
+    match reason {
+        Reason::Mixed => 1,
+        Reason::TwoMoves => 2,
+        Reason::BadSetup => 3,
+        Reason::BadPoint => 4,
+        Reason::Over => 5,
+        Reason::Turn => 6,
+        Reason::Occupied => 7,
+        Reason::Repeat => 8,
     }
 }

@@ -1,8 +1,8 @@
 //! Counting the games, nodes and lines of a text in memory.
 
-ghost use Rattle.std.specs.Prelude.{ℕ, List, Err};
+ghost use Rattle.std.specs.Prelude.{ℕ, List};
 ghost use Rattle.sgf_lines_c.specs.CountAnswer.{IsCount, Says};
-ghost use Rattle.sgf_lines_c.specs.inner.Running.{IsCountOf};
+ghost use Rattle.sgf_lines_c.specs.inner.Running.{IsUncounted};
 
 use crate::answer::CountAnswer;
 use crate::status::Status;
@@ -45,7 +45,7 @@ fn count_text(alloc: Global, text: &[u8]) -> (Status, CountAnswer)
 
 /// What a failed count reports. The source is a text in memory, which never fails.
 fn refusal(fault: RunFault) -> (Status, CountAnswer)
-    ensures { (text : List ℕ) → IsCountOf text (Err fault) → Says text result.1 result.0 }
+    ensures { (text : List ℕ) → IsUncounted text fault → Says text result.1 result.0 }
 {
     match fault {
         RunFault::TooLong => (Status::TooLong, CountAnswer::at(0)),

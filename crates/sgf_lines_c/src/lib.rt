@@ -6,20 +6,22 @@
 //!
 //! | Module | What it has |
 //! |---|---|
-//! | `split`, `count` | the two calls |
+//! | `split`, `count`, `judge` | the three calls |
 //! | `asked` | what a caller asks for |
-//! | `answer` | what a split and a count report |
+//! | `answer` | the answers of a split, a count and a judge |
 //! | `status` | how a call ended |
 #![tactic(auto)]
 
 mod answer;
 mod asked;
 mod count;
+mod judge;
 mod split;
 mod status;
 
-pub use answer::{Answer, CountAnswer};
+pub use answer::{Answer, CountAnswer, JudgeAnswer};
 pub use asked::Asked;
 pub use count::sgf_lines_count;
+pub use judge::sgf_lines_judge;
 pub use split::sgf_lines_split;
 pub use status::Status;

@@ -1,9 +1,9 @@
 //! Splitting a text in memory into records in memory.
 
-ghost use Rattle.std.specs.Prelude.{◌≡◌, ℕ, List, length, Err};
+ghost use Rattle.std.specs.Prelude.{◌≡◌, ℕ, List, length};
 ghost use Rattle.sgf_lines.specs.declared.options.Options.{Options};
 ghost use Rattle.sgf_lines_c.specs.SplitAnswer.{IsSplit, Says, told};
-ghost use Rattle.sgf_lines_c.specs.inner.Running.{IsRunOf, Puts};
+ghost use Rattle.sgf_lines_c.specs.inner.Running.{IsRefusal, Puts};
 
 use crate::answer::Answer;
 use crate::asked::Asked;
@@ -74,8 +74,8 @@ fn put(records: &[u8], lines: u64, room: &mut [u8]) -> (Status, Answer)
 /// What a failed run reports. Its source is a text in memory, which never
 /// fails. Its sink is a vector, which fails only if memory is refused.
 fn refusal(fault: RunFault) -> (Status, Answer)
-    ensures { (options : Options) → (text taken room : List ℕ)
-        → IsRunOf options text taken (Err fault) → Says options text room room result.1 result.0 }
+    ensures { (options : Options) → (text room : List ℕ)
+        → IsRefusal options text fault → Says options text room room result.1 result.0 }
 {
     match fault {
         RunFault::TooLong => (Status::TooLong, Answer::nothing()),

@@ -7,7 +7,7 @@ use Rattle.std.specs.Result.{result_err}
 use Rattle.std.specs.Io.KnownBytes.{Appends}
 use Rattle.std.proofs.KnownBytes.{Appends-kept}
 use Rattle.sgf_lines.specs.Answer.{reads_failed, writes_failed}
-use Rattle.sgf_lines.specs.Counts.{AnswersCount, AnswersRow}
+use Rattle.sgf_lines.specs.Counts.{AnswersCount, IsWriting}
 use Rattle.sgf_lines.specs.Ends.{SinkState, IsPut, IsFlush}
 use Rattle.sgfsplit_job.specs.Act.{TakesText}
 use Rattle.sgf_lines.specs.declared.fault.RunFault.{RunFault}
@@ -38,14 +38,14 @@ text_flushed text front rest old now new (Err e) parts none takes same flush =
     (front, rest, parts, Appends-kept old.taken now.taken new.taken front takes flush.taken, flush.failures ∙ ap (λ n. n + 1) same)
 
 -- the writing of a row reads nothing
-pub row_reads_nothing : (row taken : List ℕ) (r : Result (Unit {0}) RunFault) → AnswersRow row taken r → reads_failed (result_err r) ≡ 0
-row_reads_nothing row taken (Ok x) h = refl
-row_reads_nothing row taken (Err Read) h = absurd h
-row_reads_nothing row taken (Err TooLong) h = refl
-row_reads_nothing row taken (Err (NotSgf at len)) h = refl
-row_reads_nothing row taken (Err (NoSuchLine place)) h = refl
-row_reads_nothing row taken (Err (Write lines)) h = refl
-row_reads_nothing row taken (Err (Memory lines)) h = refl
+pub row_reads_nothing : (row : List ℕ) (old new : SinkState) (r : Result (Unit {0}) RunFault) → IsWriting row old new r → reads_failed (result_err r) ≡ 0
+row_reads_nothing row old new (Ok x) h = refl
+row_reads_nothing row old new (Err Read) h = absurd h.answers
+row_reads_nothing row old new (Err TooLong) h = refl
+row_reads_nothing row old new (Err (NotSgf at len)) h = refl
+row_reads_nothing row old new (Err (NoSuchLine place)) h = refl
+row_reads_nothing row old new (Err (Write lines)) h = refl
+row_reads_nothing row old new (Err (Memory lines)) h = refl
 
 -- counting writes nothing
 pub count_writes_nothing : (given : List ℕ) (to_come : Option (List ℕ)) (fault : RunFault) → AnswersCount given to_come (Err fault) → writes_failed (Some fault) ≡ 0

@@ -35,11 +35,11 @@ of_run : (options : Options) (text items : List ℕ) (source new_source : Source
     → (page : List Line) × HasPage options text page × (items ≡ output options.form page)
 of_run options text items source new_source sink new_sink (Ok k) starts empty holds h none =
     let consumes : Consumes (Some text) new_source.to_come h.given = rw starts at h.consumes in
-    let all = whole_text text new_source.to_come h.given consumes h.answers.0.at_end in
-    let page = h.answers.1 in
-    let takes : Appends (Some []) new_sink.taken h.taken = rw empty at h.takes in
-    let kept : Keeps (Some items) new_sink.taken = rw holds at h.delivers in
-    (page.0, rw all at page.1, all_held new_sink.taken items h.taken takes kept ∙ page.2)
+    let a = h.answers in
+    let all = whole_text text new_source.to_come h.given consumes a.1.whole.at_end in
+    let takes : Appends (Some []) new_sink.taken (output options.form a.0) = rw empty at a.2 in
+    let kept : Keeps (Some items) new_sink.taken = rw holds at a.4 in
+    (a.0, rw all at a.1.has_page, all_held new_sink.taken items (output options.form a.0) takes kept)
 of_run options text items source new_source sink new_sink (Err fault) starts empty holds h none = absurd (cc)
 
 -- counts that were written are those of the text
@@ -55,9 +55,9 @@ of_count text items source new_source sink new_sink (Ok counts) starts empty hol
         let consumes : Consumes (Some text) new_source.to_come h.given = rw starts at h.consumes in
         let all = whole_text text new_source.to_come h.given consumes h.answers.0.at_end in
         let games = h.answers.1 in
-        let takes : Appends (Some []) new_sink.taken w.taken = rw empty at w.takes in
-        let kept : Keeps (Some items) new_sink.taken = rw holds at w.delivers in
-        (games.0, rw all at games.1, all_held new_sink.taken items w.taken takes kept ∙ (w.answers ∙ ap counts_row games.2))
+        let takes : Appends (Some []) new_sink.taken (counts_row counts) = rw empty at w.answers.0 in
+        let kept : Keeps (Some items) new_sink.taken = rw holds at w.answers.1 in
+        (games.0, rw all at games.1, all_held new_sink.taken items (counts_row counts) takes kept ∙ ap counts_row games.2)
 
 -- no fault has status 0
 not_zero : (fault : RunFault) → status_of (Run fault) ≡ 0 → ⊥

@@ -1,13 +1,14 @@
 -- Groups without liberties, grids after points were taken off, and grids on which every stone reaches empty.
-use Rattle.std.specs.Prelude.{◌≡◌, ◌≢◌, ◌⊎◌, Bool, ◌&&◌, not, IsTrue, length}
+use Rattle.std.specs.Prelude.{◌≡◌, ◌≢◌, ◌⊎◌, ◌≤◌, ℕ, Bool, ◌&&◌, not, IsTrue, List, length}
 use Rattle.go_board.specs.declared.stones.Cell.TheVariants.{Empty}
 use Rattle.go_board.specs.declared.stones.Colour.{Colour}
 use Rattle.go_board.specs.declared.points.Point.{Point}
 use Rattle.go_board.specs.Colour.{opponent, stone_of, same_cell}
 use Rattle.go_board.specs.Point.{IsOn, AreAdjacent}
-use Rattle.go_board.specs.Grid.{Grid, cell_at}
+use Rattle.go_board.specs.Grid.{Grid, cell_at, with_cell}
 use Rattle.go_board.specs.Reaching.{Reaches, reaches}
-use Rattle.go_board.specs.Clearing.{clear}
+use Rattle.go_board.specs.Clearing.{clear, play}
+use Rattle.go_board.specs.inner.Rows.{is_set}
 
 -- The points that pass the test are stones of one colour. Each stone of that
 -- colour beside one of them passes, too. No point beside them is empty.
@@ -17,6 +18,12 @@ pub record IsWithoutLiberty (grid : Grid) (colour : Colour) (test : Point → Bo
       → IsTrue (test point) → cell_at grid neighbour ≢ Empty
   pub whole : (point neighbour : Point) → IsOn grid.side point → IsOn grid.side neighbour → AreAdjacent point neighbour
       → IsTrue (test point) → cell_at grid neighbour ≡ stone_of colour → IsTrue (test neighbour)
+
+-- the rows have groups of a colour without a liberty, each whole
+pub record AreShutGroups (grid : Grid) (colour : Colour) (rows : List ℕ) : Type 0 where
+  pub all : length rows ≡ grid.side
+  pub on_grid : (point : Point) → IsTrue (is_set rows point) → IsOn grid.side point
+  pub shut : IsWithoutLiberty grid colour (is_set rows)
 
 -- all stones of a colour reach empty
 abbrev pub AllReach : Grid → Colour → Type 0
@@ -57,3 +64,19 @@ pub record LosesShut (before after : Grid) (colour : Colour) : Type 0 where
       ⊎ ((cell_at after point ≡ Empty) × (cell_at before point ≡ stone_of colour))
   pub still : (point : Point) → IsOn before.side point → Reaches before Empty point → Reaches after Empty point
   pub cleared : clear after colour ≡ clear before colour
+
+-- a stone of the colour on a point is in the rows, or it reaches empty
+abbrev pub IsTakenOrReaches : Grid → Colour → List ℕ → Point → Type 0
+IsTakenOrReaches grid colour rows point =
+    cell_at grid point ≡ stone_of colour → IsTrue (is_set rows point) ⊎ Reaches grid Empty point
+
+-- so it is with each stone of the colour beside a point
+abbrev pub AreTakenOrReachBeside : Grid → Colour → Point → List ℕ → Type 0
+AreTakenOrReachBeside grid colour point rows =
+    (neighbour : Point) → IsOn grid.side neighbour → AreAdjacent point neighbour → IsTakenOrReaches grid colour rows neighbour
+
+-- playing a stone is putting it on its point, and emptying the points of the rows; there need not be rows for all of the grid
+pub record TakesOff (grid : Grid) (colour : Colour) (point : Point) (rows : List ℕ) : Type 0 where
+  pub few : length rows ≤ grid.side
+  pub on_grid : (q : Point) → IsTrue (is_set rows q) → IsOn grid.side q
+  pub played : IsWithout (with_cell grid point (stone_of colour)) (play grid colour point) (λ q. IsTrue (is_set rows q))

@@ -7,8 +7,6 @@ ghost use Rattle.go_board.specs.inner.Groups.{IsWithout};
 ghost use Rattle.go_board.specs.inner.Rows.{has_bit, is_set};
 
 use crate::board::Board;
-use crate::board::stone_rows::has_column;
-use crate::points::Point;
 use crate::referee::SetupOp;
 use crate::stones::Cell;
 
@@ -53,30 +51,17 @@ impl Board {
         }
     }
 
-    /// Empties the points of a set. The print is kept.
+    /// Empties the points of a set, of which there need not be rows for the whole board.
     pub(crate) fn empty_set(&mut self, rows: &[u64])
-        requires all { length rows.now ≡ self.old.side }
+        requires few { length rows.now ≤ self.old.side }
         requires on_board { (p : Point) → IsTrue (is_set rows.now p) → IsOn self.old.side p }
         ensures { IsWithout self.old self.new (λ p. IsTrue (is_set rows.now p)) }
     {
         self.has_all_cells();
-        'rows: for row in 0..self.size().side() {
-            self.empty_columns(row, rows[usize::from(row)]);
-        }
-    }
-
-    /// Empties columns of a row, one after another.
-    fn empty_columns(&mut self, row: u8, columns: u64)
-        requires { row < self.old.side }
-        ensures { IsWithout self.old self.new (λ p. (p.row ≡ row) × IsTrue (has_bit columns p.col)) }
-    {
-        self.has_all_cells();
-        if columns == 0 {
-            return;
-        }
-        'each: for col in 0..self.size().side() {
-            if has_column(columns, usize::from(col)) {
-                self.set(Point { col, row }, Cell::Empty);
+        'rows: for row in 0..rows.len() {
+            let columns = rows[row];
+            if columns != 0 {
+                self.colour_columns(row as u8, columns, Cell::Empty);
             }
         }
     }

@@ -1,63 +1,87 @@
-//! Taking groups without a liberty off a board, one at a time.
+//! What a stone takes off, as rows of bits: the groups beside it that it leaves without a liberty, or its own.
 
-ghost use Rattle.std.specs.Prelude.{◌≡◌, false, length, IsFalse, IsTrue};
+ghost use Rattle.std.specs.Prelude.{◌≡◌, ◌⊎◌, ◌||◌, ◌≤◌, ℕ, false, length, IsFalse, IsTrue, Some};
 ghost use Rattle.std.specs.Option.{ForSome};
 ghost use Rattle.go_board.specs.declared.points.Point.{Point};
 ghost use Rattle.go_board.specs.declared.stones.Cell.TheVariants.{Empty};
 ghost use Rattle.go_board.specs.Colour.{stone_of};
-ghost use Rattle.go_board.specs.Point.{IsOn};
+ghost use Rattle.go_board.specs.Point.{IsOn, AreAdjacent};
 ghost use Rattle.go_board.specs.Grid.{cell_at};
+ghost use Rattle.go_board.specs.Clearing.{play, has_unreaching};
 ghost use Rattle.go_board.specs.Reaching.{Reaches};
-ghost use Rattle.go_board.specs.inner.Groups.{IsWithoutLiberty, ReachesIfStone, ReachBeside, LosesShut};
-ghost use Rattle.go_board.specs.inner.Rows.{is_set};
+ghost use Rattle.go_board.specs.inner.Groups.{IsWithoutLiberty, AreShutGroups, IsTakenOrReaches, AreTakenOrReachBeside, TakesOff};
+ghost use Rattle.go_board.specs.inner.Rows.{is_set, IsAmong};
 
 use crate::board::Board;
 use crate::board::group::has_liberty;
 use crate::board::regions::no_rows;
 use crate::points::Point;
-use crate::stones::Colour;
+use crate::stones::{Cell, Colour};
 
 impl Board {
-    /// Takes off the groups of a colour that are beside a point and have no liberty.
-    pub(crate) fn capture_around(&mut self, colour: Colour, point: Point)
-        requires { IsOn self.old.side point }
-        ensures taken { LosesShut self.old self.new colour }
-        ensures beside { ReachBeside self.new colour point }
+    /// Finds the points that a stone on an empty point takes off, on a board where every stone reaches empty: then only groups
+    /// beside the stone can be without a liberty, and its own. The stone is put on the board to look, and taken away again.
+    pub(crate) fn find_taken(&mut self, colour: Colour, point: Point, taken: &mut [u64])
+        requires on_board { IsOn self.old.side point }
+        requires empty { cell_at self.old point ≡ Empty }
+        requires settled { has_unreaching self.old ≡ false }
+        requires rows { length taken.old ≡ self.old.side }
+        requires none { (p : Point) → is_set taken.old p ≡ false }
+        ensures taken { TakesOff self.old colour point taken.new }
+        ensures unchanged { self.new ≡ self.old }
+    {
+        self.has_all_cells();
+        let print = self.print();
+        self.set_unprinted(point, colour.stone());
+        if !self.find_shut_beside(colour.opponent(), point, taken) {
+            self.find_shut(colour, Some(point), taken);
+        }
+        self.set_unprinted(point, Cell::Empty);
+        self.restore(true, print);
+    }
+
+    /// Finds the groups of a colour beside a point that have no liberty. Says whether there is one.
+    fn find_shut_beside(&self, colour: Colour, point: Point, shut: &mut [u64]) -> bool
+        requires on_board { IsOn self.now.side point }
+        requires shut { AreShutGroups self.now colour shut.old }
+        ensures shut { AreShutGroups self.now colour shut.new }
+        ensures beside { AreTakenOrReachBeside self.now colour point shut.new }
+        ensures found { IsTrue result → (q : Point) × IsOn self.now.side q × AreAdjacent point q × IsTrue (is_set shut.new q) }
+        ensures none { IsFalse result → shut.new ≡ shut.old }
     {
         let size = self.size();
-        self.capture(colour, point.left());
-        self.capture(colour, point.right(size));
-        self.capture(colour, point.above());
-        self.capture(colour, point.below(size));
+        let left = self.find_shut(colour, point.left(), shut);
+        let right = self.find_shut(colour, point.right(size), shut);
+        let above = self.find_shut(colour, point.above(), shut);
+        let below = self.find_shut(colour, point.below(size), shut);
+        left | right | above | below
     }
 
-    /// Takes off the group of the stone on a point if it has no liberty. Does
-    /// nothing if there is no point, or no stone of that colour on it.
-    pub(crate) fn capture(&mut self, colour: Colour, at: Option<Point>)
-        requires { ForSome at (IsOn self.old.side) }
-        ensures taken { LosesShut self.old self.new colour }
-        ensures settled { ForSome at (ReachesIfStone self.new colour) }
+    /// Adds the group of the stone on a point to those without a liberty, if there is such a point with a stone of that colour,
+    /// and its group has none. Says whether it was added.
+    fn find_shut(&self, colour: Colour, at: Option<Point>, shut: &mut [u64]) -> bool
+        requires at { ForSome at (IsOn self.now.side) }
+        requires shut { AreShutGroups self.now colour shut.old }
+        ensures shut { AreShutGroups self.now colour shut.new }
+        ensures kept { IsAmong (is_set shut.old) (is_set shut.new) }
+        ensures beside { ForSome at (IsTakenOrReaches self.now colour shut.new) }
+        ensures found { IsTrue result → (q : Point) × (at ≡ Some q) × IsTrue (is_set shut.new q) }
+        ensures none { IsFalse result → shut.new ≡ shut.old }
     {
-        if let Some(point) = at {
-            if self.at(point) == colour.stone() {
-                self.capture_group(colour, point);
-            }
+        let Some(point) = at else {
+            return false;
+        };
+        if self.at(point) != colour.stone() {
+            return false;
         }
-    }
-
-    /// Takes off the group of a stone if it has no liberty.
-    fn capture_group(&mut self, colour: Colour, from: Point)
-        requires on_board { IsOn self.old.side from }
-        requires stone { cell_at self.old from ≡ stone_of colour }
-        ensures taken { LosesShut self.old self.new colour }
-        ensures settled { ReachesIfStone self.new colour from }
-    {
         self.has_all_cells();
         let mut words = no_rows();
         let group = &mut words[..usize::from(self.size.side())];
-        if !self.group_has_liberty(colour, from, group) {
-            self.empty_set(group);
+        if self.group_has_liberty(colour, point, group) {
+            return false;
         }
+        add_points(group, shut);
+        true
     }
 
     /// Whether the group of a stone has a liberty. If not, `group` becomes the whole group.
@@ -67,10 +91,8 @@ impl Board {
         requires rows { length group.old ≡ self.now.side }
         requires none { (p : Point) → is_set group.old p ≡ false }
         ensures lives { IsTrue result → Reaches self.now Empty from }
-        ensures shut { IsFalse result → IsWithoutLiberty self.now colour (λ p. is_set group.new p) }
+        ensures shut { IsFalse result → AreShutGroups self.now colour group.new }
         ensures start { IsFalse result → IsTrue (is_set group.new from) }
-        ensures on_grid { IsFalse result → (p : Point) → IsTrue (is_set group.new p) → IsOn self.now.side p }
-        ensures rows { length group.new ≡ self.now.side }
     {
         self.has_all_cells();
         has_liberty(
@@ -79,5 +101,27 @@ impl Board {
             from,
             group,
         )
+    }
+
+    /// Places a stone of which it is known what it takes off.
+    pub(crate) fn put(&mut self, colour: Colour, point: Point, taken: &[u64])
+        requires on_board { IsOn self.old.side point }
+        requires taken { TakesOff self.old colour point taken.now }
+        ensures { self.new ≡ play self.old colour point }
+    {
+        self.has_all_cells();
+        self.set_unprinted(point, colour.stone());
+        self.empty_set(taken);
+    }
+}
+
+/// Adds the points of a set to another one.
+fn add_points(rows: &[u64], all: &mut [u64])
+    requires { length all.old ≡ length rows.now }
+    ensures both { (p : Point) → is_set all.new p ≡ (is_set all.old p || is_set rows.now p) }
+    ensures rows { length all.new ≡ length all.old }
+{
+    for row in 0..rows.len() {
+        all[row] |= rows[row];
     }
 }

@@ -10,7 +10,8 @@ use Rattle.sgf_lines.specs.Page.{lines_after, lines_asked}
 use Rattle.sgf_lines.specs.Record.{output, record_of}
 use Rattle.sgf_lines.specs.Ends.{SourceState, SinkState}
 use Rattle.sgf_lines.specs.Cursor.{CursorState, advanced}
-use Rattle.sgf_lines.specs.Answer.{IsWhole, IsCutShort, IsCutBetween}
+use Rattle.sgf_lines.specs.Answer.{IsWhole, IsCutShort}
+use Rattle.sgf_lines.specs.RunPlays.{plays_of, ArePlaysFor}
 use Rattle.sgf_lines.specs.declared.options.Form.{Form}
 use Rattle.sgf_lines.specs.declared.fault.RunFault.{RunFault}
 use Rattle.sgf_lines.specs.declared.fault.RunFault.TheVariants.{Read, TooLong, NotSgf, NoSuchLine, Write, Memory}
@@ -19,11 +20,9 @@ use Rattle.sgf_lines.specs.declared.fault.RunFault.TheVariants.{Read, TooLong, N
 abbrev pub AnswersReading : {A : Type 0} → List ℕ → Option (List ℕ) → List ℕ → Result A RunFault → Type 0
 AnswersReading given to_come text (Ok _) = IsWhole given to_come × (text ≡ given)
 AnswersReading given to_come text (Err Read) = length given ≤ MAX_LENGTH
-AnswersReading given to_come text (Err TooLong) = MAX_LENGTH < length given
-AnswersReading given to_come text (Err (NotSgf at len)) = ⊥
-AnswersReading given to_come text (Err (NoSuchLine place)) = ⊥
-AnswersReading given to_come text (Err (Write count)) = ⊥
-AnswersReading given to_come text (Err (Memory count)) = count ≡ 0
+AnswersReading given to_come text (Err TooLong) = (MAX_LENGTH < length given) × (length given ≤ MAX_LENGTH + 65536)
+AnswersReading given to_come text (Err (Memory count)) = (length given ≤ MAX_LENGTH) × (count ≡ 0)
+AnswersReading given to_come text (Err _) = ⊥
 
 pub record IsReading {A : Type 0} (source new_source : SourceState) (text : List ℕ) (result : Result A RunFault) : Type 0 where
   pub given : List ℕ
@@ -40,27 +39,18 @@ unread TextMemory len = Memory 0
 -- where a cursor stands before the page, or why there is no page
 abbrev pub IsStart : Games → Option ℕ → Result CursorState RunFault → Type 0
 IsStart games after (Ok cursor) = lines_asked (lines games) after ≡ Some (drop cursor.index (lines games))
-IsStart games after (Err Read) = ⊥
-IsStart games after (Err TooLong) = ⊥
-IsStart games after (Err (NotSgf at len)) = ⊥
 IsStart games after (Err (NoSuchLine place)) = (after ≡ Some place) × (lines_after (lines games) place ≡ None)
-IsStart games after (Err (Write count)) = ⊥
 IsStart games after (Err (Memory count)) = count ≡ 0
+IsStart games after (Err _) = ⊥
 
--- what the result of writing lines says of the bytes that the sink took
-abbrev pub AnswersLines : Form → List Line → List ℕ → Result ℕ RunFault → Type 0
-AnswersLines form page taken (Ok count) = (taken ≡ output form page) × (count ≡ length page)
-AnswersLines form page taken (Err Read) = ⊥
-AnswersLines form page taken (Err TooLong) = ⊥
-AnswersLines form page taken (Err (NotSgf at len)) = ⊥
-AnswersLines form page taken (Err (NoSuchLine place)) = ⊥
-AnswersLines form page taken (Err (Write count)) = IsCutShort form page count taken
-AnswersLines form page taken (Err (Memory count)) = IsCutBetween form page count taken
-
-pub record WritesLines (form : Form) (page : List Line) (sink new_sink : SinkState) (result : Result ℕ RunFault) : Type 0 where
-  pub taken : List ℕ
-  pub takes : Appends sink.taken new_sink.taken taken
-  pub answers : AnswersLines form page taken result
+-- what writing lines says of the sink before and after, and of the number of nodes that were played
+abbrev pub WritesLines : Form → List Line → SinkState → SinkState → ℕ → Result ℕ RunFault → Type 0
+WritesLines form page sink new_sink plays (Ok count) =
+    Appends sink.taken new_sink.taken (output form page) × (count ≡ length page) × (plays ≡ plays_of form page)
+WritesLines form page sink new_sink plays (Err (Write count)) = IsCutShort form page count sink new_sink × ArePlaysFor form page count plays
+WritesLines form page sink new_sink plays (Err (Memory count)) =
+    (count ≤ length page) × Appends sink.taken new_sink.taken (output form (take count page)) × ArePlaysFor form page count plays
+WritesLines form page sink new_sink plays (Err _) = ⊥
 
 -- the record of the line at the cursor, which moved on by one line
 pub record HasRecord (form : Form) (old new : CursorState) (bytes : List ℕ) : Type 0 where

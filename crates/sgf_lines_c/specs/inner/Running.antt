@@ -1,20 +1,30 @@
--- What the parts of a split do.
-use Rattle.std.specs.Prelude.{◌≡◌, ℕ, ◌<◌, ◌≤◌, List, ◌++◌, length, drop, None, Result}
-use Rattle.sgf_lines.specs.Answer.{Answers}
-use Rattle.sgf_lines.specs.Counts.{AnswersCount}
-use Rattle.sgf_lines.specs.declared.counting.Counts.{Counts}
+-- What the parts of a split, a count and a judge do.
+use Rattle.std.specs.Prelude.{◌≡◌, ◌≢◌, ℕ, ◌<◌, ◌≤◌, List, ◌++◌, length, drop, Option, Some, None}
+use Rattle.sgf_tree.specs.Tree.{Games, node_count}
+use Rattle.sgf_tree.specs.FileOrder.{place_at, IsLeaf}
+use Rattle.sgf_tree.specs.Refusal.{IsFaultyAt}
+use Rattle.sgf_lines.specs.Answer.{MAX_LENGTH, HasNoLine}
 use Rattle.sgf_lines.specs.declared.fault.RunFault.{RunFault}
+use Rattle.sgf_lines.specs.declared.fault.RunFault.TheVariants.{Read, TooLong as RunTooLong, NotSgf as RunNotSgf, NoSuchLine as RunNoSuchLine, Write, Memory}
 use Rattle.sgf_lines.specs.declared.options.Options.{Options}
+use Rattle.sgf_lines_c.specs.SplitAnswer.{IsPartOf}
 use Rattle.sgf_lines_c.specs.declared.status.Status.{Status}
 use Rattle.sgf_lines_c.specs.declared.status.Status.TheVariants.{Done, NotSgf, EndsEarly, TooLong, NoSuchLine, UnknownForm, RoomTooSmall, OutOfMemory}
 
--- the result of a run whose source gave this text, and whose sink took these bytes
-abbrev pub IsRunOf : Options → List ℕ → List ℕ → Result ℕ RunFault → Type 0
-IsRunOf options text taken result = Answers options text None taken result
+-- why a run failed whose source gave this text
+abbrev pub IsRefusal : Options → List ℕ → RunFault → Type 0
+IsRefusal options text Read = Unit {0}
+IsRefusal options text RunTooLong = MAX_LENGTH < length text
+IsRefusal options text (RunNotSgf at len) = (length text ≤ MAX_LENGTH) × IsFaultyAt text at × (len ≡ length text)
+IsRefusal options text (RunNoSuchLine place) = (length text ≤ MAX_LENGTH) × HasNoLine options text place
+IsRefusal options text (Write count) = IsPartOf options text count
+IsRefusal options text (Memory count) = IsPartOf options text count
 
--- the result of a count of this text
-abbrev pub IsCountOf : List ℕ → Result Counts RunFault → Type 0
-IsCountOf text result = AnswersCount text None result
+-- and why a count failed
+abbrev pub IsUncounted : List ℕ → RunFault → Type 0
+IsUncounted text RunTooLong = MAX_LENGTH < length text
+IsUncounted text (RunNotSgf at len) = (length text ≤ MAX_LENGTH) × IsFaultyAt text at × (len ≡ length text)
+IsUncounted text _ = Unit {0}
 
 -- the bytes were put at the front of a room; or the room is too small, and unchanged
 abbrev pub Puts : List ℕ → List ℕ → List ℕ → Status → Type 0
@@ -26,3 +36,8 @@ Puts bytes old new TooLong = ⊥
 Puts bytes old new NoSuchLine = ⊥
 Puts bytes old new UnknownForm = ⊥
 Puts bytes old new OutOfMemory = ⊥
+
+-- a leaf with the place, or none where no leaf has it
+abbrev pub IsLeafAt : Games → ℕ → Option ℕ → Type 0
+IsLeafAt games place (Some leaf) = (leaf < node_count games) × IsLeaf games leaf × (place_at games leaf ≡ Some place)
+IsLeafAt games place None = (leaf : ℕ) → IsLeaf games leaf → place_at games leaf ≢ Some place

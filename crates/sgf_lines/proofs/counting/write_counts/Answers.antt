@@ -1,5 +1,5 @@
 -- The three pieces of the row, one after the other.
-use Rattle.std.proofs.Common.{[], ◌++◌}
+use Rattle.std.proofs.Common.{[], ◌++◌, ◌∙◌, refl}
 use Rattle.std.specs.Prelude.{codes, decimal}
 use Rattle.std.specs.Io.KnownBytes.{Appends}
 use Rattle.std.proofs.KnownBytes.{Appends-nil, Appends-trans}
@@ -23,26 +23,26 @@ all_taken g c =
     let more = Appends-trans first.taken second.taken third.taken nodes lines c.in-Ok-put_number.ensures.0 c.in-Ok-put_number-2.ensures.0 in
     rw (row_pieces (decimal counts.games) (decimal counts.nodes) (decimal counts.lines)) (Appends-trans old.taken first.taken third.taken games (nodes ++ lines) c.in-Ok.ensures.0 more)
 
-pub returns-in_default-clause-answer : goal.returns-in_default-clause-answer
-returns-in_default-clause-answer g c =
+pub returns-in_default : goal.returns-in_default
+returns-in_default g c =
     let counts = c.args.counts.now in
     let old = g.T.Sink.state c.args.sink.now in
     let cut = c.in_default.ensures in
     row_cut (counts_row counts) old old (g.T.Sink.state c.put_number.new.sink) [] (decimal counts.games ++ codes " ")
     ((decimal counts.nodes ++ codes " ") ++ (decimal counts.lines ++ codes "\n")) cut.0 (row_pieces (decimal counts.games) (decimal counts.nodes) (decimal counts.lines))
-    (Appends-nil old.taken) cut.2
+    (Appends-nil old.taken) refl cut.2 cut.3
 
-pub returns-in_default-put_number-clause-answer : goal.returns-in_default-put_number-clause-answer
-returns-in_default-put_number-clause-answer g c =
+pub returns-in_default-put_number : goal.returns-in_default-put_number
+returns-in_default-put_number g c =
     let counts = c.args.counts.now in
     let old = g.T.Sink.state c.args.sink.now in
     let cut = c.in_default-put_number.ensures in
     row_cut (counts_row counts) old (g.T.Sink.state c.put_number.new.sink) (g.T.Sink.state c.put_number-2.new.sink) (decimal counts.games ++ codes " ")
     (decimal counts.nodes ++ codes " ") (decimal counts.lines ++ codes "\n") cut.0 (row_pieces (decimal counts.games) (decimal counts.nodes) (decimal counts.lines))
-    c.in-Ok.ensures.0 cut.2
+    c.in-Ok.ensures.0 c.in-Ok.ensures.1 cut.2 cut.3
 
-pub returns-in_default-put_number-2-clause-answer : goal.returns-in_default-put_number-2-clause-answer
-returns-in_default-put_number-2-clause-answer g c =
+pub returns-in_default-put_number-2 : goal.returns-in_default-put_number-2
+returns-in_default-put_number-2 g c =
     let counts = c.args.counts.now in
     let old = g.T.Sink.state c.args.sink.now in
     let first = g.T.Sink.state c.put_number.new.sink in
@@ -52,14 +52,17 @@ returns-in_default-put_number-2-clause-answer g c =
     let cut = c.in_default-put_number-2.ensures in
     row_cut (counts_row counts) old second (g.T.Sink.state c.put_number-3.new.sink) (games ++ nodes) (decimal counts.lines ++ codes "\n") [] cut.0
     (row_end (decimal counts.games) (decimal counts.nodes) (decimal counts.lines))
-    (Appends-trans old.taken first.taken second.taken games nodes c.in-Ok.ensures.0 c.in-Ok-put_number.ensures.0) cut.2
+    (Appends-trans old.taken first.taken second.taken games nodes c.in-Ok.ensures.0 c.in-Ok-put_number.ensures.0)
+    (c.in-Ok-put_number.ensures.1 ∙ c.in-Ok.ensures.1) cut.2 cut.3
 
-pub returns-in-Ok-flush-clause-answer : goal.returns-in-Ok-flush-clause-answer
-returns-in-Ok-flush-clause-answer g c =
+pub returns-in-Ok-flush : goal.returns-in-Ok-flush
+returns-in-Ok-flush g c =
     row_flushed (counts_row c.args.counts.now) (g.T.Sink.state c.args.sink.now) (g.T.Sink.state c.put_number-3.new.sink) _ tt
-    (all_taken g (goal.at.returns-in-Ok-flush-clause-answer g c).After-flush) c.in-Ok-flush.ensures
+    (all_taken g (goal.at.returns-in-Ok-flush g c).After-flush)
+    (c.in-Ok-put_number-2.ensures.1 ∙ (c.in-Ok-put_number.ensures.1 ∙ c.in-Ok.ensures.1)) c.in-Ok-flush.ensures
 
-pub returns-in-Err-clause-answer : goal.returns-in-Err-clause-answer
-returns-in-Err-clause-answer g c =
+pub returns-in-Err : goal.returns-in-Err
+returns-in-Err g c =
     row_not_flushed (counts_row c.args.counts.now) (g.T.Sink.state c.args.sink.now) (g.T.Sink.state c.put_number-3.new.sink) _
-    (all_taken g (goal.at.returns-in-Err-clause-answer g c).After-flush) c.in-Err.ensures
+    (all_taken g (goal.at.returns-in-Err g c).After-flush)
+    (c.in-Ok-put_number-2.ensures.1 ∙ (c.in-Ok-put_number.ensures.1 ∙ c.in-Ok.ensures.1)) c.in-Err.ensures

@@ -17,7 +17,10 @@ returns-then-len-count-clause-answer g c =
       given = c.read.text.items ++ more;
       gives = Appends-trans old.given now.given new.given c.read.text.items more c.read.invariant.gives gave.1.given;
       consumes = Consumes-trans old.to_come now.to_come new.to_come c.read.text.items more c.read.invariant.consumes gave.1.to_come;
-      answers = omega (arith, length-append c.read.text.items more, length-take-le c.in-Ok.count c.get.new.buffer gave.0, c.len.ensures, c.if-len-count.true, c.read.text.ok.0);
+      answers = (
+        omega (arith, length-append c.read.text.items more, length-take-le c.in-Ok.count c.get.new.buffer gave.0, c.len.ensures, c.if-len-count.true, c.read.text.ok.0),
+        omega (arith, length-append c.read.text.items more, length-take-le c.in-Ok.count c.get.new.buffer gave.0, gave.0, c.get.auto.buffer, c.read.invariant.bound, c.read.invariant.room, c.read.text.ok.0),
+      );
     }
 
 pub returns-in_err-extend_from_slice-clause-answer : goal.returns-in_err-extend_from_slice-clause-answer
@@ -33,7 +36,7 @@ returns-in_err-extend_from_slice-clause-answer g c =
       given = c.read.text.items ++ more;
       gives = Appends-trans old.given now.given new.given c.read.text.items more c.read.invariant.gives gave.1.given;
       consumes = Consumes-trans old.to_come now.to_come new.to_come c.read.text.items more c.read.invariant.consumes gave.1.to_come;
-      answers = refl;
+      answers = (omega (arith, length-append c.read.text.items more, length-take-le c.in-Ok.count c.get.new.buffer gave.0, c.len.ensures, c.if-len-count.false, c.read.text.ok.0), refl);
     })
 
 pub returns-in_err-extend_from_slice-clause-failures : goal.returns-in_err-extend_from_slice-clause-failures

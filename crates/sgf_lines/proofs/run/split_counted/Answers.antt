@@ -1,5 +1,5 @@
 -- The text that was read is what the source gave, so what is said of the text is said of the run.
-use Rattle.std.proofs.Common.{◌≡◌, ◌<◌, Err, take, drop, length, ap, ◌∙◌, arith}
+use Rattle.std.proofs.Common.{◌≡◌, ◌<◌, Err, take, drop, length, ap, ◌∙◌, arith, rules}
 use Rattle.std.specs.Prelude.{unwrap_or}
 use Rattle.sgf_tree.specs.Tree.{node_count}
 use Rattle.sgf_tree.specs.FileOrder.{PlacesRise}
@@ -9,10 +9,8 @@ use Rattle.sgf_tree.specs.declared.fault.TheConstants.{MAX_LENGTH}
 use Rattle.sgf_lines.specs.Lines.{lines}
 use Rattle.sgf_lines.specs.Cursor.{CursorState}
 use Rattle.sgf_lines.specs.inner.Running.{WritesLines, unread}
-use Rattle.sgf_lines.specs.inner.LinePlays.{PlaysLines}
 use Rattle.sgf_lines.proofs.Paging.{for_options}
-use Rattle.sgf_lines.proofs.PagingPlays.{few_played, plays_for_options}
-use Rattle.sgf_lines.proofs.Running.{no_read}
+use Rattle.sgf_lines.proofs.PagingPlays.{few_played}
 use Rattle.sgf_lines.proofs.RunningPlays.{unread_run, no_start_run, lines_run}
 use Rattle.sgf_lines.proofs.Touched.{nodes_within}
 use Rattle.sgf_lines.proofs.run.split_counted.Goals as goal
@@ -22,28 +20,29 @@ add-requires g c =
     let run = c.new-run.result in
     let same : run.cursor.games ≡ c.in-Ok-read.collection = ap (λ (p : CursorState). p.games) c.new-run.ensures.cursor ∙ c.in-Ok-cursor_after.ensures.same in
     let rise : PlacesRise run.cursor.games = rw same c.nodes.ensures.places_rise in
-    let fewer = few_played run.cursor.games rise run.cursor.index c.unwrap_or-limit.result run.form c.write-result.new.self.judge.plays c.write-result.result c.write-result.ensures.plays in
+    let fewer = few_played run.cursor.games rise run.cursor.index c.unwrap_or-limit.result run.form (g.T.Sink.state c.args.sink.now) (g.T.Sink.state c.write-result.new.sink) c.write-result.new.self.judge.plays c.write-result.result c.write-result.ensures.answer in
     let nodes = nodes_within c.in-Ok-read.collection c.nodes.ensures.places_rise MAX_LENGTH c.nodes.ensures.places_within in
     omega (arith, c.requires.plays_countable, fewer, nodes, ap node_count same, c.plays.ensures)
 
-pub returns-in-Err-read-clause-answer : goal.returns-in-Err-read-clause-answer
-returns-in-Err-read-clause-answer g c =
+pub returns-in-Err-read : goal.returns-in-Err-read
+returns-in-Err-read g c =
     let text = c.read_all.new.text.items in
     let long : MAX_LENGTH < length c.deref.result.now → MAX_LENGTH < length text = λ lt. rw c.deref.ensures.value at lt in
     let faulty : IsFaultyWhereNotSgf text c.in-Err-read.fault = rw c.deref.ensures.value at c.in-Err-read.ensures.not_sgf in
     let count : c.len.result ≡ length text = omega (arith, c.len.ensures, c.read_all.new.text.ok.0) in
     unread_run c.args.options.now (g.S.Source.state c.args.source.now) (g.S.Source.state c.read_all.new.source) text c.in-Ok.field-0 c.in-Ok.ensures.answer (g.T.Sink.state c.args.sink.now) c.args.plays.now
-    c.in-Err-read.fault c.unread.result (c.unread.ensures ∙ ap (unread c.in-Err-read.fault) count) (λ is. long (c.in-Err-read.ensures.too_long.0 (ap Err is))) faulty
+    c.in-Err-read.fault c.unread.result (c.unread.ensures ∙ ap (unread c.in-Err-read.fault) count) (λ is. long (c.in-Err-read.ensures.too_long.0 (ap Err is))) faulty (search rules) (search rules)
 
-pub returns-in-Err-cursor_after-clause-answer : goal.returns-in-Err-cursor_after-clause-answer
-returns-in-Err-cursor_after-clause-answer g c =
+pub returns-in-Err-cursor_after : goal.returns-in-Err-cursor_after
+returns-in-Err-cursor_after g c =
     let text = c.read_all.new.text.items in
     let spelled : Spells c.in-Ok-read.collection text = rw c.deref.ensures.value at c.in-Ok-read.ensures.spelled in
     no_start_run c.args.options.now (g.S.Source.state c.args.source.now) (g.S.Source.state c.read_all.new.source) text c.in-Ok.field-0 c.in-Ok.ensures.answer (g.T.Sink.state c.args.sink.now) c.args.plays.now
     c.in-Ok-read.collection c.in-Err-cursor_after.fault spelled (c.in-Err-cursor_after.ensures.start text spelled)
+    (omega (arith, c.in-Ok.ensures.failures, c.in-Err-cursor_after.ensures.no_read)) (omega (arith, c.in-Err-cursor_after.ensures.no_write))
 
-pub returns-clause-answer : goal.returns-clause-answer
-returns-clause-answer g c =
+pub returns : goal.returns
+returns g c =
     let o = c.args.options.now in
     let text = c.read_all.new.text.items in
     let games = c.in-Ok-read.collection in
@@ -55,20 +54,9 @@ returns-clause-answer g c =
     let spelled : Spells c.in-Ok-read.collection text = rw c.deref.ensures.value at c.in-Ok-read.ensures.spelled in
     let limit : c.unwrap_or-limit.result ≡ unwrap_or c.args.options.now.limit (node_count c.in-Ok-read.collection) =
     c.unwrap_or-limit.ensures ∙ ap (unwrap_or c.args.options.now.limit) c.nodes.ensures.count in
-    let wrote : WritesLines c.args.options.now.form (take c.unwrap_or-limit.result (drop c.in-Ok-cursor_after.cursor.index (lines c.in-Ok-read.collection))) sink new_sink c.write-result.result =
+    let wrote : WritesLines o.form (take c.unwrap_or-limit.result (drop cursor.index (lines games))) sink new_sink n result =
     rw (c.new-run.ensures.form, c.new-run.ensures.cursor, c.in-Ok-cursor_after.ensures.same) at c.write-result.ensures.answer in
-    let played : PlaysLines c.args.options.now.form (take c.unwrap_or-limit.result (drop c.in-Ok-cursor_after.cursor.index (lines c.in-Ok-read.collection))) 0 c.write-result.new.self.judge.plays c.write-result.result =
-    rw (c.new-run.ensures.form, c.new-run.ensures.cursor, c.in-Ok-cursor_after.ensures.same) at c.write-result.ensures.plays in
     lines_run o (g.S.Source.state c.args.source.now) (g.S.Source.state c.read_all.new.source) text c.in-Ok.field-0 c.in-Ok.ensures.answer sink c.args.plays.now
     games cursor new_sink n c.add.new.self result spelled (c.in-Ok-cursor_after.ensures.start text spelled)
-    (for_options o.form games cursor.index o.limit c.unwrap_or-limit.result sink new_sink result limit wrote)
-    (plays_for_options o.form games cursor.index o.limit c.unwrap_or-limit.result 0 n result limit played)
-    (omega (arith, c.add.ensures, c.plays.ensures)) c.write-result.ensures.delivered
-
-pub returns-clause-read_failures : goal.returns-clause-read_failures
-returns-clause-read_failures g c =
-    let none = no_read _ _ _ _ c.write-result.result c.write-result.ensures.answer in
-    omega (arith, none, c.in-Ok.ensures.failures)
-
-pub returns-clause-write_failures : goal.returns-clause-write_failures
-returns-clause-write_failures g c = c.write-result.ensures.failures
+    (for_options o.form games cursor.index o.limit c.unwrap_or-limit.result sink new_sink n result limit wrote)
+    (omega (arith, c.add.ensures, c.plays.ensures)) c.write-result.ensures.delivered (omega (arith, c.in-Ok.ensures.failures)) c.write-result.ensures.failures

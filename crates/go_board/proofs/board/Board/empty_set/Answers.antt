@@ -1,12 +1,26 @@
-use Rattle.std.proofs.Common.{slice_index, true, ◌≡◌, subst}
-use Rattle.go_board.specs.inner.Rows.{has_bit}
+use Rattle.std.proofs.Common.{◌≡◌, ◌*◌, ◌+◌, ◌∙◌, slice_index, length, ap, sym, arith, subst}
 use Rattle.go_board.specs.inner.Groups.{IsWithout}
-use Rattle.go_board.proofs.SweepLemmas.{rows_more}
+use Rattle.go_board.proofs.SweepLemmas.{InRowsBefore, rows_more, row_emptied, row_kept}
 use Rattle.go_board.proofs.board.Board.empty_set.Goals as goal
+use Rattle.go_board.proofs.board.Board.empty_set.Goals.{then-columns-ne0, else-columns-ne0}
+
+pub colour_columns-requires-clause-columns : goal.colour_columns-requires-clause-columns
+colour_columns-requires-clause-columns c = λ k is.
+    omega (arith, (c.requires.on_board (record { col = k; row = c.rows.row }) is).0, c.rows.invariant.same_side)
 
 pub rows-preserved : goal.rows-preserved
 rows-preserved c =
+    let g = c.args.self.now in
+    let h = c.rows.self in
     let rows = c.args.rows.now in
     let row = c.rows.row in
-    rows_more c.args.self.now c.rows.self c.empty_columns.new.self rows row c.rows.invariant
-    (subst (λ r. IsWithout c.rows.self c.empty_columns.new.self (λ p. (p.row ≡ row) × (has_bit (slice_index rows r) p.col ≡ true))) c.from.ensures c.empty_columns.ensures)
+    let so_far = c.rows.invariant in
+    let all : length h.cells ≡ h.side * h.side = so_far.all ∙ c.has_all_cells.ensures.all ∙ ap (λ n. n * n) (sym so_far.same_side) in
+    elim c.if-columns-ne0.branch [
+      | then-columns-ne0 w ↦
+          subst (λ i. IsWithout g i (InRowsBefore rows (row + 1))) (sym (w.self-is ∙ w.colour_columns.ensures))
+          (rows_more g h _ rows row so_far (row_emptied h row (slice_index rows row) all))
+      | else-columns-ne0 w ↦
+          subst (λ i. IsWithout g i (InRowsBefore rows (row + 1))) (sym w.self-is)
+          (rows_more g h h rows row so_far (row_kept h row (slice_index rows row) w.if-columns-ne0.false))
+    ]

@@ -20,12 +20,14 @@ pub returns-clause-shut : goal.returns-clause-shut
 returns-clause-shut c = λ none.
     let g = c.args.self.now in
     let k = c.args.colour in
-    IsWithoutLiberty-shut g k c.rows_of.result.now c.rows_of-2.result.now c.args.from c.rows_of.ensures.rows c.rows_of.ensures.are
-    (rows_of_opponent g k c.opponent.result c.rows_of-2.result.now c.opponent.ensures c.rows_of-2.ensures.are)
-    _ (c.has_liberty.ensures.shut none)
+    let shut = c.has_liberty.ensures.shut none in
+    record {
+      all = c.has_liberty.ensures.rows ∙ c.requires.rows;
+      on_grid = λ p is. c.rows_of.ensures.are.off p (shut.within p is);
+      shut = IsWithoutLiberty-shut g k c.rows_of.result.now c.rows_of-2.result.now c.args.from c.rows_of.ensures.rows c.rows_of.ensures.are
+          (rows_of_opponent g k c.opponent.result c.rows_of-2.result.now c.opponent.ensures c.rows_of-2.ensures.are)
+          _ shut;
+    }
 
 pub returns-clause-start : goal.returns-clause-start
 returns-clause-start c = λ none. (c.has_liberty.ensures.shut none).start
-
-pub returns-clause-on_grid : goal.returns-clause-on_grid
-returns-clause-on_grid c = λ none p is. c.rows_of.ensures.are.off p ((c.has_liberty.ensures.shut none).within p is)

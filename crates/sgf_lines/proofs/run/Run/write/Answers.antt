@@ -1,14 +1,11 @@
 -- The records were written, and the flush was answered.
 use Rattle.std.proofs.Common.{rules}
-use Rattle.sgf_lines.proofs.Paging.{not_flushed}
-use Rattle.sgf_lines.proofs.PagingPlays.{played_not_flushed}
+use Rattle.std.proofs.KnownBytes.{Appends-kept}
+use Rattle.sgf_lines.proofs.PagingPlays.{not_flushed}
 use Rattle.sgf_lines.proofs.run.Run.write.Goals as goal
 
 pub returns-in-Err-clause-answer : goal.returns-in-Err-clause-answer
 returns-in-Err-clause-answer g c = c.in-Err.ensures.answer
-
-pub returns-in-Err-clause-plays : goal.returns-in-Err-clause-plays
-returns-in-Err-clause-plays g c = c.in-Err.ensures.plays
 
 pub returns-in-Err-clause-failures : goal.returns-in-Err-clause-failures
 returns-in-Err-clause-failures g c = c.in-Err.ensures.failures
@@ -17,13 +14,8 @@ pub returns-in-Ok-flush-clause-failures : goal.returns-in-Ok-flush-clause-failur
 returns-in-Ok-flush-clause-failures g c = search rules
 
 pub returns-in-Ok-flush-clause-answer : goal.returns-in-Ok-flush-clause-answer
-returns-in-Ok-flush-clause-answer g c = search rules
-
-pub returns-in-Ok-flush-clause-plays : goal.returns-in-Ok-flush-clause-plays
-returns-in-Ok-flush-clause-plays g c = c.in-Ok.ensures.plays
+returns-in-Ok-flush-clause-answer g c =
+    let wrote = c.in-Ok.ensures.answer in (Appends-kept _ _ _ _ wrote.0 c.in-Ok-flush.ensures.taken, wrote.1, wrote.2)
 
 pub returns-in-Err-flush-clause-answer : goal.returns-in-Err-flush-clause-answer
-returns-in-Err-flush-clause-answer g c = not_flushed _ _ _ _ _ _ c.in-Ok.ensures.answer c.in-Err-flush.ensures
-
-pub returns-in-Err-flush-clause-plays : goal.returns-in-Err-flush-clause-plays
-returns-in-Err-flush-clause-plays g c = played_not_flushed _ _ _ _ _ c.in-Ok.ensures.answer.answers.1 c.in-Ok.ensures.plays
+returns-in-Err-flush-clause-answer g c = not_flushed _ _ _ _ _ _ _ c.in-Ok.ensures.answer c.in-Err-flush.ensures

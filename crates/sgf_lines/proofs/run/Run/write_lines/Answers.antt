@@ -1,16 +1,14 @@
 -- One record more was written, or the sink failed within it.
-use Rattle.std.proofs.Common.{◌<◌, drop, true, nat_lt, ap, ◌∙◌, arith, Ok, Err}
+use Rattle.std.proofs.Common.{◌≡◌, ◌<◌, true, nat_lt, ap, ◌∙◌, arith, Ok, Err}
 use Rattle.std.proofs.lemmas.Bool.{lt-ltb}
-use Rattle.std.proofs.lemmas.List.{length-take}
 use Rattle.sgf_tree.specs.Tree.{node_count}
 use Rattle.sgf_tree.specs.FileOrder.{PlacesRise}
 use Rattle.sgf_tree.specs.declared.fault.TheConstants.{MAX_LENGTH}
 use Rattle.sgf_tree.specs.declared.fault.MemoryFault.{MemoryFault}
-use Rattle.sgf_lines.specs.Lines.{lines}
 use Rattle.sgf_lines.specs.inner.Running.{HasRecord}
 use Rattle.sgf_lines.specs.inner.Keeping.{record_in, PlaysLine}
-use Rattle.sgf_lines.proofs.Paging.{one_written, cut_short, cut_between, none_left, limit_met}
-use Rattle.sgf_lines.proofs.PagingPlays.{few, one_played, played_then_cut, played_in_part, all_played}
+use Rattle.sgf_lines.proofs.Paging.{one_written, cut_short, none_left, limit_met}
+use Rattle.sgf_lines.proofs.PagingPlays.{few, one_played, played_then_cut, played_in_part}
 use Rattle.sgf_lines.proofs.Touched.{nodes_within}
 use Rattle.sgf_lines.proofs.run.Run.write_lines.Goals as goal
 
@@ -45,59 +43,49 @@ page-preserved g c =
       first = λ none. absurd (omega (arith, none));
       later = λ some. lt-ltb 0 c.next.new.self.held held;
       holds = c.in-Ok-true.ensures.holds;
-      plays = one_played run.form games rise first c.args.limit 0 c.page.lines (nat_lt 0 c.page.self.held) c.page.self.cursor (g.T.Sink.state c.args.sink.now)
+      plays = one_played run.form games rise first c.args.limit c.page.lines (nat_lt 0 c.page.self.held) c.page.self.cursor (g.T.Sink.state c.args.sink.now)
           (g.T.Sink.state c.page.sink) c.page.invariant.written c.page.invariant.first c.page.invariant.later (omega (arith, c.page-test.true)) c.page.self.judge.plays c.page.invariant.plays c.next.new.self.judge.plays counted;
     }
 
 pub returns-in-Err-put-clause-answer : goal.returns-in-Err-put-clause-answer
 returns-in-Err-put-clause-answer g c =
     let run = c.args.self.now in
+    let rise : PlacesRise run.cursor.games = rw c.collection.ensures at c.nodes-nodes.ensures.places_rise in
     let made : HasRecord c.page.self.form c.page.self.cursor c.next.new.self.cursor (record_in c.next.new.self) = rw c.in-Ok-true.field-0-test at c.in-Ok-true.ensures.made in
     let got : HasRecord run.form c.page.self.cursor c.next.new.self.cursor (record_in c.next.new.self) = rw c.page.invariant.form at made in
     let cut = c.in-Err-put.ensures in
-    cut_short run.form run.cursor.games run.cursor.index c.args.limit (g.T.Sink.state c.args.sink.now) c.page.lines c.page.self.cursor
-    (g.T.Sink.state c.page.sink) c.page.invariant.written c.next.new.self.cursor (g.T.Sink.state c.put.new.sink) (record_in c.next.new.self) cut.0 (omega (arith, c.page-test.true))
-    got cut.1 cut.2
-
-pub returns-in-Err-put-clause-plays : goal.returns-in-Err-put-clause-plays
-returns-in-Err-put-clause-plays g c =
-    let run = c.args.self.now in
-    let rise : PlacesRise run.cursor.games = rw c.collection.ensures at c.nodes-nodes.ensures.places_rise in
     let judged : PlaysLine {E = MemoryFault} c.page.self.form (nat_lt 0 c.page.self.held) c.page.self.cursor c.page.self.judge.plays c.next.new.self.judge.plays (Ok true) =
     rw c.in-Ok-true.field-0-test at c.in-Ok-true.ensures.plays in
-    let counted : PlaysLine {E = MemoryFault} run.form (nat_lt 0 c.page.self.held) c.page.self.cursor c.page.self.judge.plays c.next.new.self.judge.plays (Ok true) = rw c.page.invariant.form at judged in
-    played_then_cut run.form run.cursor.games rise run.cursor.index c.args.limit 0 c.page.lines (nat_lt 0 c.page.self.held) c.page.self.cursor (g.T.Sink.state c.args.sink.now)
-    (g.T.Sink.state c.page.sink) c.page.invariant.written c.page.invariant.first c.page.invariant.later (omega (arith, c.page-test.true)) c.page.self.judge.plays c.page.invariant.plays c.next.new.self.judge.plays counted
+    let counted : PlaysLine {E = MemoryFault} run.form (nat_lt 0 c.page.self.held) c.page.self.cursor c.page.self.judge.plays c.next.new.self.judge.plays (Ok true) = rw c.page.invariant.form at judged in (
+      cut_short run.form run.cursor.games run.cursor.index c.args.limit (g.T.Sink.state c.args.sink.now) c.page.lines c.page.self.cursor
+          (g.T.Sink.state c.page.sink) c.page.invariant.written c.next.new.self.cursor (g.T.Sink.state c.put.new.sink) (record_in c.next.new.self) cut.0 (omega (arith, c.page-test.true))
+          got cut.1 cut.2,
+      played_then_cut run.form run.cursor.games rise run.cursor.index c.args.limit c.page.lines (nat_lt 0 c.page.self.held) c.page.self.cursor (g.T.Sink.state c.args.sink.now)
+          (g.T.Sink.state c.page.sink) c.page.invariant.written c.page.invariant.first c.page.invariant.later (omega (arith, c.page-test.true)) c.page.self.judge.plays c.page.invariant.plays c.next.new.self.judge.plays counted,
+    )
 
 pub returns-in-Err-clause-answer : goal.returns-in-Err-clause-answer
 returns-in-Err-clause-answer g c =
     let run = c.args.self.now in
-    cut_between run.form run.cursor.games run.cursor.index c.args.limit (g.T.Sink.state c.args.sink.now) c.page.lines c.page.self.cursor (g.T.Sink.state c.page.sink) c.page.invariant.written
-
-pub returns-in-Err-clause-plays : goal.returns-in-Err-clause-plays
-returns-in-Err-clause-plays g c =
-    let run = c.args.self.now in
     let rise : PlacesRise run.cursor.games = rw c.collection.ensures at c.nodes-nodes.ensures.places_rise in
     let judged : PlaysLine c.page.self.form (nat_lt 0 c.page.self.held) c.page.self.cursor c.page.self.judge.plays c.next.new.self.judge.plays (Err c.in-Err.field-0) = c.in-Err.ensures.plays in
-    let counted : PlaysLine run.form (nat_lt 0 c.page.self.held) c.page.self.cursor c.page.self.judge.plays c.next.new.self.judge.plays (Err c.in-Err.field-0) = rw c.page.invariant.form at judged in
-    played_in_part run.form run.cursor.games rise run.cursor.index c.args.limit 0 c.page.lines (nat_lt 0 c.page.self.held) c.page.self.cursor (g.T.Sink.state c.args.sink.now)
-    (g.T.Sink.state c.page.sink) c.page.invariant.written c.page.invariant.first c.page.invariant.later (omega (arith, c.page-test.true)) c.page.self.judge.plays c.page.invariant.plays c.in-Err.field-0
-    c.next.new.self.judge.plays counted
+    let counted : PlaysLine run.form (nat_lt 0 c.page.self.held) c.page.self.cursor c.page.self.judge.plays c.next.new.self.judge.plays (Err c.in-Err.field-0) = rw c.page.invariant.form at judged in (
+      c.page.invariant.written.within,
+      c.page.invariant.written.takes,
+      played_in_part run.form run.cursor.games rise run.cursor.index c.args.limit c.page.lines (nat_lt 0 c.page.self.held) c.page.self.cursor (g.T.Sink.state c.args.sink.now)
+          (g.T.Sink.state c.page.sink) c.page.invariant.written c.page.invariant.first c.page.invariant.later (omega (arith, c.page-test.true)) c.page.self.judge.plays c.page.invariant.plays c.in-Err.field-0
+          c.next.new.self.judge.plays counted,
+    )
 
 pub returns-in-Ok-false-clause-answer : goal.returns-in-Ok-false-clause-answer
 returns-in-Ok-false-clause-answer g c =
     let run = c.args.self.now in
+    let same : c.next.new.self.judge.plays ≡ c.page.self.judge.plays = rw c.in-Ok-false.field-0-test at c.in-Ok-false.ensures.plays in
     none_left run.form run.cursor.games run.cursor.index c.args.limit (g.T.Sink.state c.args.sink.now) c.page.lines c.page.self.cursor (g.T.Sink.state c.page.sink) c.page.invariant.written
-    (rw c.in-Ok-false.field-0-test at c.in-Ok-false.ensures.made)
+    c.next.new.self.judge.plays (same ∙ c.page.invariant.plays) (rw c.in-Ok-false.field-0-test at c.in-Ok-false.ensures.made)
 
 pub returns-clause-answer : goal.returns-clause-answer
 returns-clause-answer g c =
     let run = c.args.self.now in
     limit_met run.form run.cursor.games run.cursor.index c.args.limit (g.T.Sink.state c.args.sink.now) c.page.lines c.page.self.cursor (g.T.Sink.state c.page.sink) c.page.invariant.written
-    (omega (arith, c.page-test.false))
-
-pub returns-clause-plays : goal.returns-clause-plays
-returns-clause-plays g c =
-    let run = c.args.self.now in
-    all_played run.form run.cursor.games run.cursor.index c.args.limit 0 c.page.lines c.page.self.judge.plays c.page.invariant.plays
-    (omega (arith, c.page-test.false, length-take c.args.limit (drop run.cursor.index (lines run.cursor.games))))
+    c.page.self.judge.plays c.page.invariant.plays (omega (arith, c.page-test.false))

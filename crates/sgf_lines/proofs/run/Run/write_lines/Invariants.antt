@@ -12,7 +12,7 @@ invariant-page g l = record {
   first : l.lines ≡ 0 → nat_lt 0 l.self.held ≡ false;
   later : 0 < l.lines → nat_lt 0 l.self.held ≡ true;
   holds : Holds l.self;
-  plays : l.self.judge.plays ≡ 0 + plays_of l.fn.self.form (take l.lines (page_from l.fn.self.cursor.games l.fn.self.cursor.index l.limit));
+  plays : l.self.judge.plays ≡ plays_of l.fn.self.form (take l.lines (page_from l.fn.self.cursor.games l.fn.self.cursor.index l.limit));
 }
 
 abbrev pub decreases-page : goal.decreases-page

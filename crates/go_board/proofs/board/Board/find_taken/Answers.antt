@@ -1,0 +1,59 @@
+use Rattle.std.proofs.Common.{◌≡◌, ap, sym, ◌∙◌, true, subst, refl}
+use Rattle.go_board.specs.declared.stones.Cell.TheVariants.{Empty}
+use Rattle.go_board.specs.declared.points.Point.{Point}
+use Rattle.go_board.specs.Colour.{opponent, stone_of}
+use Rattle.go_board.specs.Point.{IsOn, AreAdjacent}
+use Rattle.go_board.specs.Grid.{Grid, with_cell}
+use Rattle.go_board.specs.Clearing.{has_unreaching}
+use Rattle.go_board.specs.inner.Print.{print_of}
+use Rattle.go_board.specs.inner.Rows.{is_set}
+use Rattle.go_board.specs.inner.Groups.{AreShutGroups, AreTakenOrReachBeside, IsTakenOrReaches, TakesOff}
+use Rattle.go_board.proofs.TakenLemmas.{AreShutGroups-none, taken_away, takes_off_beside, takes_off_own}
+use Rattle.go_board.proofs.board.Board.find_taken.Goals as goal
+use Rattle.go_board.proofs.board.Board.find_taken.Goals.{then-not-find_shut_beside, else-not-find_shut_beside}
+
+pub find_shut_beside-requires-clause-shut : goal.find_shut_beside-requires-clause-shut
+find_shut_beside-requires-clause-shut c =
+    AreShutGroups-none c.set_unprinted.new.self c.opponent.result c.args.taken.now (c.requires.rows ∙ sym (ap (λ (g : Grid). g.side) c.set_unprinted.ensures)) c.requires.none
+
+as_before : (c : goal.After-restore-arg-1) → c.set_unprinted-2.new.self ≡ c.args.self.now
+as_before c =
+    c.set_unprinted-2.ensures ∙ ap (λ h. with_cell h c.args.point Empty) c.set_unprinted.ensures
+    ∙ taken_away c.args.self.now c.args.point c.stone.result c.requires.on_board c.has_all_cells.ensures.all c.requires.empty
+
+pub restore-requires-clause-settled : goal.restore-requires-clause-settled
+restore-requires-clause-settled c = λ _. ap has_unreaching (as_before c) ∙ c.requires.settled
+
+pub restore-requires-clause-print : goal.restore-requires-clause-print
+restore-requires-clause-print c = c.print-print.ensures ∙ ap (λ (g : Grid). print_of g.cells) (sym (as_before c))
+
+pub returns-clause-unchanged : goal.returns-clause-unchanged
+returns-clause-unchanged c =
+    c.restore.ensures ∙ c.set_unprinted-2.ensures ∙ ap (λ h. with_cell h c.args.point Empty) c.set_unprinted.ensures
+    ∙ taken_away c.args.self.now c.args.point c.stone.result c.requires.on_board c.has_all_cells.ensures.all c.requires.empty
+
+pub returns-clause-taken : goal.returns-clause-taken
+returns-clause-taken c =
+    let g = c.args.self.now in
+    let k = c.args.colour in
+    let p = c.args.point in
+    let placed = with_cell g p (stone_of k) in
+    let here : c.set_unprinted.new.self ≡ placed = c.set_unprinted.ensures ∙ ap (with_cell g p) c.stone.ensures in
+    let first = c.find_shut_beside in
+    let beside : AreTakenOrReachBeside placed (opponent k) p first.new.shut =
+    subst (λ o. AreTakenOrReachBeside placed o p first.new.shut) c.opponent.ensures (subst (λ h. AreTakenOrReachBeside h c.opponent.result p first.new.shut) here first.ensures.beside) in
+    elim c.if-not-find_shut_beside.branch [
+      | then-not-find_shut_beside w ↦
+          let none : first.new.shut ≡ c.args.taken.now = first.ensures.none w.if-not-find_shut_beside.true in
+          subst (λ rows. TakesOff g k p rows) (sym w.taken-is)
+          (takes_off_own g p k c.requires.on_board c.has_all_cells.ensures.all c.requires.settled w.find_shut.new.shut c.args.taken.now c.requires.none
+          (subst (λ rows. AreTakenOrReachBeside placed (opponent k) p rows) none beside)
+          (subst (λ h. AreShutGroups h k w.find_shut.new.shut) here w.find_shut.ensures.shut)
+          (subst (λ h. IsTakenOrReaches h k w.find_shut.new.shut p) here (w.find_shut.ensures.beside p refl)))
+      | else-not-find_shut_beside w ↦
+          subst (λ rows. TakesOff g k p rows) (sym w.taken-is)
+          (takes_off_beside g p k c.requires.on_board c.has_all_cells.ensures.all c.requires.settled first.new.shut
+          (subst (λ o. AreShutGroups placed o first.new.shut) c.opponent.ensures (subst (λ h. AreShutGroups h c.opponent.result first.new.shut) here first.ensures.shut))
+          beside
+          (subst (λ h. (q : Point) × IsOn h.side q × AreAdjacent p q × (is_set first.new.shut q ≡ true)) here (first.ensures.found w.if-not-find_shut_beside.false)))
+    ]

@@ -1,0 +1,17 @@
+use Rattle.std.proofs.Common.{arith}
+use Rattle.go_board.proofs.TakenLemmas.{added_none, added_more, added_all}
+use Rattle.go_board.proofs.board.capture.add_points.Goals as goal
+
+pub loop-row-init : goal.loop-row-init
+loop-row-init c = added_none c.args.all.now c.args.rows.now
+
+pub loop-row-preserved : goal.loop-row-preserved
+loop-row-preserved c =
+    let l = c.loop-row in
+    added_more c.args.all.now c.args.rows.now l.all l.row (omega (arith, c.loop-row-test.true, l.auto.all, c.requires)) l.invariant
+
+pub returns-clause-both : goal.returns-clause-both
+returns-clause-both c =
+    let l = c.loop-row in
+    added_all c.args.all.now c.args.rows.now l.all c.requires
+    (record { added = λ r below. l.invariant.added r (omega (arith, below, c.loop-row-test.false)); same = λ r above. l.invariant.same r (omega (arith, above, l.auto.row-end)) })

@@ -1,0 +1,74 @@
+//! Judging a line of a text in memory.
+
+ghost use Rattle.std.specs.Prelude.{◌≤◌, List, ℕ, length};
+ghost use Rattle.sgf_tree.specs.Spelling.{Spells};
+ghost use Rattle.sgf_lines_c.specs.JudgeAnswer.{IsJudged, MAX_LENGTH, Says};
+ghost use Rattle.sgf_lines_c.specs.inner.Running.{IsLeafAt};
+
+use crate::answer::JudgeAnswer;
+use crate::status::Status;
+use sgf_lines::judge;
+use sgf_tree::{Collection, ReadFault, read};
+use std::alloc::Global;
+
+/// Judges a line of the collection that the text spells (SGF FF[4], EBNF), by the Tromp-Taylor rules. The line is named by its place,
+/// the offset of the `;` of its last node. The result is the number of a status.
+///
+/// - `Done`: the answer has the verdict.
+/// - `NotSgf`, `EndsEarly`: `at` is the offset of the first faulty byte, or the length of the text.
+/// - `NoSuchLine`: no line has the place, which is `at`.
+/// - `TooLong`, `OutOfMemory`: no number.
+#[unsafe(no_mangle)]
+pub extern "C" fn sgf_lines_judge(
+    alloc: Global,
+    text: &[u8],
+    place: u64,
+    answer: &mut JudgeAnswer,
+) -> u32
+    ensures { IsJudged text.now place answer.new result }
+{
+    let (status, told) = judge_text(alloc, text, place);
+    *answer = told;
+    status.number()
+}
+
+/// Judges a line of what a text spells.
+fn judge_text(alloc: Global, text: &[u8], place: u64) -> (Status, JudgeAnswer)
+    ensures { Says text.now place result.1 result.0 }
+{
+    match read(alloc, text) {
+        Ok(collection) => judge_line(alloc, &collection, place),
+        Err(ReadFault::TooLong) => (Status::TooLong, JudgeAnswer::at(0)),
+        Err(ReadFault::NotSgf { at }) if at == text.len() => {
+            (Status::EndsEarly, JudgeAnswer::at(at as u64))
+        }
+        Err(ReadFault::NotSgf { at }) => (Status::NotSgf, JudgeAnswer::at(at as u64)),
+        Err(ReadFault::Memory) => (Status::OutOfMemory, JudgeAnswer::at(0)),
+    }
+}
+
+/// Judges a line of a collection.
+fn judge_line(alloc: Global, collection: &Collection<'_>, place: u64) -> (Status, JudgeAnswer)
+    ensures { (text : List ℕ) → length text ≤ MAX_LENGTH → Spells collection.now text
+        → Says text place result.1 result.0 }
+{
+    let Some(leaf) = leaf_at(collection, place) else {
+        return (Status::NoSuchLine, JudgeAnswer::at(place));
+    };
+    match judge(alloc, collection, leaf) {
+        Ok(verdict) => (Status::Done, JudgeAnswer::of(verdict)),
+        Err(_) => (Status::OutOfMemory, JudgeAnswer::at(0)),
+    }
+}
+
+/// The number of the leaf with this place, if there is one.
+fn leaf_at(collection: &Collection<'_>, place: u64) -> Option<usize>
+    ensures { IsLeafAt collection.now place result }
+{
+    for node in 0..collection.nodes() {
+        if collection.place(node) as u64 == place && collection.is_leaf(node) {
+            return Some(node);
+        }
+    }
+    None
+}
