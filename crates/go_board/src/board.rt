@@ -288,7 +288,7 @@ impl Board {
         self.settled = true;
     }
 
-    /// The whole move on a board where every stone reaches empty.
+    /// Makes a whole move on a board on which every stone reaches empty.
     fn place_settled(&mut self, colour: Colour, point: Point)
         requires on_board { IsOn self.old.side point }
         requires empty { cell_at self.old point ≡ Empty }

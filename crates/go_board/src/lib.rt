@@ -27,7 +27,7 @@
 //! | `board/flood`, `board/search` | the flood that counts its steps, and its worklist |
 //! | `board/regions`, `board/fill` | sets of points as rows of bits; filling them: the score, whether all stones reach empty |
 //! | `board/group`, `board/capture` | the group of a stone, by rows of bits; what a stone takes off |
-//! | `board/glance` | a glance at the rows around a stone: mostly it shows that it captures nothing |
+//! | `board/glance` | a glance at the rows around a stone, which usually shows that the stone captures nothing |
 //! | `board/areas`, `board/cells` | colouring areas and emptying sets of points; a board as a list of cells |
 //! | `past` | the colourings that a game has been through; `past/list_past` and `past/print_past` keep them |
 //! | `past/colourings`, `past/changes` | past colourings as changes that lead back |

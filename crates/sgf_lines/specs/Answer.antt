@@ -38,20 +38,20 @@ pub record IsGood (options : Options) (given : List ℕ) (to_come : Option (List
   pub whole : IsWhole given to_come
   pub has_page : HasPage options given asked
 
--- a front of a record that isn't the whole, or nothing where there is no record
+-- a proper prefix of the record of a line; nothing if there is no line
 abbrev pub IsPart : Form → Option Line → List ℕ → Type 0
 IsPart form None part = part ≡ []
 IsPart form (Some line) part = (rest : List ℕ) × (0 < length rest) × (record_of form line ≡ part ++ rest)
 
--- a sink took the records of the first `count` lines, and less than the whole of the next
+-- A sink took the records of the first `count` lines whole, and less than the whole of the next.
 pub record IsCutShort (form : Form) (page : List Line) (count : ℕ) (sink new_sink : SinkState) : Type 0 where
   pub lines : count ≤ length page
   pub part : List ℕ
   pub takes : Appends sink.taken new_sink.taken (output form (take count page) ++ part)
   pub is_part : IsPart form (slice_get page count) part
 
--- What holds of the bytes that the source gave, of those that are to come, and of the sink before and after.
--- A source gives at most 65,536 bytes at once, so of one that gives too much no more than these are taken in vain.
+-- What each result says of the bytes that the source gave, of those still to come, and of the sink before and after. A source
+-- gives at most 65,536 bytes at once. So if it gives too much, at most that many bytes were read in vain.
 abbrev pub Answers : Options → List ℕ → Option (List ℕ) → SinkState → SinkState → Result ℕ RunFault → Type 0
 Answers options given to_come sink new_sink (Ok count) =
     (page : List Line) × IsGood options given to_come page × Appends sink.taken new_sink.taken (output options.form page) × (count ≡ length page) × HasDelivered new_sink

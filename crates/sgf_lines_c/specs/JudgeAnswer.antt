@@ -1,4 +1,4 @@
--- The answer of a judge: what it says of the text and of its line with a place, and what is told.
+-- What a judge reports, and what that says of the text and of its line with a place.
 use Rattle.std.specs.Prelude.{◌≡◌, ◌≢◌, ℕ, ◌+◌, ◌<◌, ◌≤◌, false, All, List, length, slice_get, Some}
 use Rattle.sgf_tree.specs.Tree.{Games}
 use Rattle.sgf_tree.specs.Spelling.{Spells}
@@ -15,7 +15,7 @@ use Rattle.sgf_lines_c.specs.declared.status.Status.{Status}
 use Rattle.sgf_lines_c.specs.declared.status.Status.TheVariants.{Done, NotSgf, EndsEarly, TooLong, NoSuchLine, UnknownForm, RoomTooSmall, OutOfMemory}
 use Rattle.sgf_lines_c.specs.Status.{number_of}
 
--- the number of a reason: in the order of checking, from 1
+-- the number of a reason, from 1 in the order of checking
 abbrev pub reason_number : Reason → ℕ
 reason_number reason = rank_of reason + 1
 
@@ -30,7 +30,7 @@ verdict_told (Illegal turn place reason) = record (no_verdict 0) { verdict = 2; 
 verdict_told NotGo = record (no_verdict 0) { verdict = 3 }
 verdict_told BadSize = record (no_verdict 0) { verdict = 4 }
 
--- a line of the collection has this place, and its verdict is told
+-- a line of the collection has this place, and its verdict is reported
 pub record IsVerdictOf (games : Games) (place : ℕ) (answer : JudgeAnswer) : Type 0 where
   pub index : ℕ
   pub line : Line
@@ -38,7 +38,7 @@ pub record IsVerdictOf (games : Games) (place : ℕ) (answer : JudgeAnswer) : Ty
   pub place_is : place_of line ≡ place
   pub told_is : answer ≡ verdict_told (verdict line)
 
--- what each status says
+-- what each status says of the text, the place and the answer
 abbrev pub Says : List ℕ → ℕ → JudgeAnswer → Status → Type 0
 Says text place answer Done = (length text ≤ MAX_LENGTH) × ((games : Games) × Spells games text × IsVerdictOf games place answer)
 Says text place answer NotSgf = (length text ≤ MAX_LENGTH) × IsFaultyAt text answer.at × (answer.at < length text) × (answer ≡ no_verdict answer.at)
@@ -50,7 +50,7 @@ Says text place answer UnknownForm = ⊥
 Says text place answer RoomTooSmall = ⊥
 Says text place answer OutOfMemory = answer ≡ no_verdict 0
 
--- The answer of a judge, which ended with this number.
+-- The answer of a judge that returned this number.
 pub record IsJudged (text : List ℕ) (place : ℕ) (answer : JudgeAnswer) (number : ℕ) : Type 0 where
   pub status : Status
   pub number_is : number ≡ number_of status

@@ -1,4 +1,4 @@
--- What the contracts of the calls reach.
+-- What the contracts of the calls cite.
 pub mod Status
 pub mod Asked
 pub mod SplitAnswer

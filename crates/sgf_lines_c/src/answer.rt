@@ -1,4 +1,4 @@
-//! The answers of a split, a count and a judge.
+//! What a split, a count and a judge report to the caller.
 
 ghost use Rattle.std.specs.Prelude.{◌≡◌};
 ghost use Rattle.sgf_lines_c.specs.SplitAnswer.{told};
@@ -81,30 +81,32 @@ impl CountAnswer {
     }
 }
 
-/// The answer of a judge. A number that its status or its verdict has no use for is 0.
+/// What a judge reports. A number without a meaning under the status or the verdict is 0.
 #[repr(C)]
 #[derive(Clone, Copy)]
 pub struct JudgeAnswer {
-    /// 1 for a score, 2 for an illegal node, 3 if the game isn't Go, 4 if the board isn't a square of 1 to 52 points a side.
+    /// The verdict: 1 for a score, 2 for an illegal node, 3 if the game isn't
+    /// Go, 4 if the board isn't a square of 1 to 52 points a side.
     pub verdict: u32,
-    /// Why the node isn't allowed: the number of the reason, from 1, in the order of checking.
+    /// Why the node isn't allowed: the number of the reason, from 1 in the order of checking.
     pub reason: u32,
     /// Black's area score after the last node, in points.
     pub black: u32,
     /// White's area score after the last node, in points.
     pub white: u32,
-    /// One more than the number of turns that were made before the illegal node.
+    /// The number of turns made before the illegal node, passes included, plus 1.
     pub turn: u64,
-    /// The place of the illegal node: the offset of its `;`.
+    /// The place of the illegal node: the offset in bytes, from 0, of its `;`.
     pub place: u64,
-    /// The offset of the first faulty byte, from 0; or the place that no line has.
+    /// After `NotSgf` and `EndsEarly`: the offset in bytes, from 0, of the first faulty byte,
+    /// or the length of the text. After `NoSuchLine`: the place that was asked for.
     pub at: u64,
-    /// Whether two passes in a row ended the game. It is false without a score.
+    /// Whether two passes in a row ended the game. It is false if there is no score.
     pub over: bool,
 }
 
 impl JudgeAnswer {
-    /// No verdict, and a place.
+    /// An answer with a place, and without a verdict.
     pub(crate) fn at(at: u64) -> JudgeAnswer
         ensures { result ≡ no_verdict at }
     {
@@ -120,7 +122,7 @@ impl JudgeAnswer {
         }
     }
 
-    /// A verdict.
+    /// An answer with a verdict.
     pub(crate) fn of(verdict: Verdict) -> JudgeAnswer
         ensures { result ≡ verdict_told verdict }
     {

@@ -11,13 +11,14 @@ use sgf_lines::judge;
 use sgf_tree::{Collection, ReadFault, read};
 use std::alloc::Global;
 
-/// Judges a line of the collection that the text spells (SGF FF[4], EBNF), by the Tromp-Taylor rules. The line is named by its place,
-/// the offset of the `;` of its last node. The result is the number of a status.
+/// Judges a line of the collection that the text spells (SGF FF[4], EBNF), by the Tromp-Taylor rules. The line is named by its
+/// place: the offset in bytes, from 0, of the `;` of its last node. Returns the number of a `Status`.
 ///
 /// - `Done`: the answer has the verdict.
-/// - `NotSgf`, `EndsEarly`: `at` is the offset of the first faulty byte, or the length of the text.
+/// - `NotSgf`: `at` is the offset in bytes, from 0, of the first faulty byte.
+/// - `EndsEarly`: `at` is the length of the text.
 /// - `NoSuchLine`: no line has the place, which is `at`.
-/// - `TooLong`, `OutOfMemory`: no number.
+/// - `TooLong`, `OutOfMemory`: every number is 0.
 #[unsafe(no_mangle)]
 pub extern "C" fn sgf_lines_judge(
     alloc: Global,
@@ -32,7 +33,7 @@ pub extern "C" fn sgf_lines_judge(
     status.number()
 }
 
-/// Judges a line of what a text spells.
+/// Judges a line of the collection that a text spells.
 fn judge_text(alloc: Global, text: &[u8], place: u64) -> (Status, JudgeAnswer)
     ensures { Says text.now place result.1 result.0 }
 {
@@ -47,7 +48,7 @@ fn judge_text(alloc: Global, text: &[u8], place: u64) -> (Status, JudgeAnswer)
     }
 }
 
-/// Judges a line of a collection.
+/// Judges the line of a collection that has this place.
 fn judge_line(alloc: Global, collection: &Collection<'_>, place: u64) -> (Status, JudgeAnswer)
     ensures { (text : List ℕ) → length text ≤ MAX_LENGTH → Spells collection.now text
         → Says text place result.1 result.0 }

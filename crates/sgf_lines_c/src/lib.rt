@@ -8,7 +8,7 @@
 //! |---|---|
 //! | `split`, `count`, `judge` | the three calls |
 //! | `asked` | what a caller asks for |
-//! | `answer` | the answers of a split, a count and a judge |
+//! | `answer` | what a split, a count and a judge report |
 //! | `status` | how a call ended |
 #![tactic(auto)]
 

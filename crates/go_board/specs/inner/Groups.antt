@@ -19,7 +19,7 @@ pub record IsWithoutLiberty (grid : Grid) (colour : Colour) (test : Point → Bo
   pub whole : (point neighbour : Point) → IsOn grid.side point → IsOn grid.side neighbour → AreAdjacent point neighbour
       → IsTrue (test point) → cell_at grid neighbour ≡ stone_of colour → IsTrue (test neighbour)
 
--- the rows have groups of a colour without a liberty, each whole
+-- the rows have whole groups of a colour, each without a liberty
 pub record AreShutGroups (grid : Grid) (colour : Colour) (rows : List ℕ) : Type 0 where
   pub all : length rows ≡ grid.side
   pub on_grid : (point : Point) → IsTrue (is_set rows point) → IsOn grid.side point
@@ -65,17 +65,17 @@ pub record LosesShut (before after : Grid) (colour : Colour) : Type 0 where
   pub still : (point : Point) → IsOn before.side point → Reaches before Empty point → Reaches after Empty point
   pub cleared : clear after colour ≡ clear before colour
 
--- a stone of the colour on a point is in the rows, or it reaches empty
+-- a stone of the colour on the point is in the rows, or it reaches empty
 abbrev pub IsTakenOrReaches : Grid → Colour → List ℕ → Point → Type 0
 IsTakenOrReaches grid colour rows point =
     cell_at grid point ≡ stone_of colour → IsTrue (is_set rows point) ⊎ Reaches grid Empty point
 
--- so it is with each stone of the colour beside a point
+-- the same for each stone of the colour beside a point
 abbrev pub AreTakenOrReachBeside : Grid → Colour → Point → List ℕ → Type 0
 AreTakenOrReachBeside grid colour point rows =
     (neighbour : Point) → IsOn grid.side neighbour → AreAdjacent point neighbour → IsTakenOrReaches grid colour rows neighbour
 
--- playing a stone is putting it on its point, and emptying the points of the rows; there need not be rows for all of the grid
+-- Playing a stone puts it on its point, and empties the points of the rows. There may be fewer rows than the grid has.
 pub record TakesOff (grid : Grid) (colour : Colour) (point : Point) (rows : List ℕ) : Type 0 where
   pub few : length rows ≤ grid.side
   pub on_grid : (q : Point) → IsTrue (is_set rows q) → IsOn grid.side q

@@ -51,7 +51,7 @@ impl Board {
         }
     }
 
-    /// Empties the points of a set, of which there need not be rows for the whole board.
+    /// Empties the points of a set. There may be fewer rows than the board has.
     pub(crate) fn empty_set(&mut self, rows: &[u64])
         requires few { length rows.now ≤ self.old.side }
         requires on_board { (p : Point) → IsTrue (is_set rows.now p) → IsOn self.old.side p }

@@ -19,8 +19,9 @@ use crate::points::Point;
 use crate::stones::{Cell, Colour};
 
 impl Board {
-    /// Finds the points that a stone on an empty point takes off, on a board where every stone reaches empty: then only groups
-    /// beside the stone can be without a liberty, and its own. The stone is put on the board to look, and taken away again.
+    /// Finds the points that a stone on an empty point takes off, on a board on which every stone
+    /// reaches empty. Only the stone's own group and the groups beside it can then be without a
+    /// liberty. The stone is put on the board for this, and taken away again.
     pub(crate) fn find_taken(&mut self, colour: Colour, point: Point, taken: &mut [u64])
         requires on_board { IsOn self.old.side point }
         requires empty { cell_at self.old point ≡ Empty }
@@ -40,7 +41,7 @@ impl Board {
         self.restore(true, print);
     }
 
-    /// Finds the groups of a colour beside a point that have no liberty. Says whether there is one.
+    /// Finds the groups of a colour beside a point that have no liberty. Returns whether there is one.
     fn find_shut_beside(&self, colour: Colour, point: Point, shut: &mut [u64]) -> bool
         requires on_board { IsOn self.now.side point }
         requires shut { AreShutGroups self.now colour shut.old }
@@ -57,8 +58,8 @@ impl Board {
         left | right | above | below
     }
 
-    /// Adds the group of the stone on a point to those without a liberty, if there is such a point with a stone of that colour,
-    /// and its group has none. Says whether it was added.
+    /// Adds the group of the stone on a point to `shut` if it has no liberty. Returns whether it
+    /// was added. Nothing is added if there is no point, or no stone of that colour on it.
     fn find_shut(&self, colour: Colour, at: Option<Point>, shut: &mut [u64]) -> bool
         requires at { ForSome at (IsOn self.now.side) }
         requires shut { AreShutGroups self.now colour shut.old }
@@ -103,7 +104,7 @@ impl Board {
         )
     }
 
-    /// Places a stone of which it is known what it takes off.
+    /// Places a stone; `taken` is what it takes off.
     pub(crate) fn put(&mut self, colour: Colour, point: Point, taken: &[u64])
         requires on_board { IsOn self.old.side point }
         requires taken { TakesOff self.old colour point taken.now }
@@ -115,7 +116,7 @@ impl Board {
     }
 }
 
-/// Adds the points of a set to another one.
+/// Adds the points of a set to another set.
 fn add_points(rows: &[u64], all: &mut [u64])
     requires { length all.old ≡ length rows.now }
     ensures both { (p : Point) → is_set all.new p ≡ (is_set all.old p || is_set rows.now p) }

@@ -43,7 +43,7 @@ IsStart games after (Err (NoSuchLine place)) = (after ≡ Some place) × (lines_
 IsStart games after (Err (Memory count)) = count ≡ 0
 IsStart games after (Err _) = ⊥
 
--- what writing lines says of the sink before and after, and of the number of nodes that were played
+-- what the result of writing lines says of the sink before and after, and of the number of nodes that were played
 abbrev pub WritesLines : Form → List Line → SinkState → SinkState → ℕ → Result ℕ RunFault → Type 0
 WritesLines form page sink new_sink plays (Ok count) =
     Appends sink.taken new_sink.taken (output form page) × (count ≡ length page) × (plays ≡ plays_of form page)

@@ -11,7 +11,7 @@ use Rattle.sgf_lines_c.specs.SplitAnswer.{IsPartOf}
 use Rattle.sgf_lines_c.specs.declared.status.Status.{Status}
 use Rattle.sgf_lines_c.specs.declared.status.Status.TheVariants.{Done, NotSgf, EndsEarly, TooLong, NoSuchLine, UnknownForm, RoomTooSmall, OutOfMemory}
 
--- why a run failed whose source gave this text
+-- why a run failed; its source gave this text
 abbrev pub IsRefusal : Options → List ℕ → RunFault → Type 0
 IsRefusal options text Read = Unit {0}
 IsRefusal options text RunTooLong = MAX_LENGTH < length text
@@ -20,7 +20,7 @@ IsRefusal options text (RunNoSuchLine place) = (length text ≤ MAX_LENGTH) × H
 IsRefusal options text (Write count) = IsPartOf options text count
 IsRefusal options text (Memory count) = IsPartOf options text count
 
--- and why a count failed
+-- why a count failed; its source gave this text
 abbrev pub IsUncounted : List ℕ → RunFault → Type 0
 IsUncounted text RunTooLong = MAX_LENGTH < length text
 IsUncounted text (RunNotSgf at len) = (length text ≤ MAX_LENGTH) × IsFaultyAt text at × (len ≡ length text)
@@ -37,7 +37,7 @@ Puts bytes old new NoSuchLine = ⊥
 Puts bytes old new UnknownForm = ⊥
 Puts bytes old new OutOfMemory = ⊥
 
--- a leaf with the place, or none where no leaf has it
+-- a leaf with this place; None if no leaf has it
 abbrev pub IsLeafAt : Games → ℕ → Option ℕ → Type 0
 IsLeafAt games place (Some leaf) = (leaf < node_count games) × IsLeaf games leaf × (place_at games leaf ≡ Some place)
 IsLeafAt games place None = (leaf : ℕ) → IsLeaf games leaf → place_at games leaf ≢ Some place
