@@ -28,9 +28,7 @@ pub mod EarlierLemmas
 pub mod AreaLemmas
 pub mod TurnLemmas
 pub mod RepeatLemmas
-pub mod PowerLemmas
 pub mod PrintLemmas
-pub mod PrintSetLemmas
 pub mod PrintPastLemmas
 pub mod ChangesLemmas
 pub mod ColumnLemmas

@@ -31,13 +31,12 @@ impl Board {
         ensures unchanged { self.new ≡ self.old }
     {
         self.has_all_cells();
-        let print = self.print();
-        self.set_unprinted(point, colour.stone());
+        self.set(point, colour.stone());
         if !self.find_shut_beside(colour.opponent(), point, taken) {
             self.find_shut(colour, Some(point), taken);
         }
-        self.set_unprinted(point, Cell::Empty);
-        self.restore(true, print);
+        self.set(point, Cell::Empty);
+        self.restore(true);
     }
 
     /// Finds the groups of a colour beside a point that have no liberty. Says whether there is one.
@@ -110,7 +109,7 @@ impl Board {
         ensures { self.new ≡ play self.old colour point }
     {
         self.has_all_cells();
-        self.set_unprinted(point, colour.stone());
+        self.set(point, colour.stone());
         self.empty_set(taken);
     }
 }

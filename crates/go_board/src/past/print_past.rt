@@ -4,6 +4,7 @@ use crate::board::Board;
 use crate::fault::MemoryFault;
 use crate::past::Past;
 use crate::past::colourings::Colourings;
+use crate::past::print::{print_after_stone, print_of};
 use crate::past::table::Table;
 use crate::points::Point;
 use crate::stones::Colour;
@@ -41,12 +42,66 @@ impl Past for PrintPast {
     fn new(alloc: Global, board: &Board) -> Result<PrintPast, MemoryFault> {
         Ok(PrintPast {
             colourings: Colourings::new(alloc, board)?,
-            prints: Table::new(alloc, board.print())?,
+            prints: Table::new(alloc, print_of(board))?,
         })
     }
 
     fn holds(&self, board: &Board) -> bool {
-        let print = board.print();
+        self.holds_printed(board, print_of(board))
+    }
+
+    fn newest(&self) -> &Board {
+        self.colourings.newest()
+    }
+
+    fn push(&mut self, board: &Board) -> Result<(), MemoryFault> {
+        self.add(board, print_of(board), false)
+    }
+
+    fn restart(&mut self, board: &Board) -> Result<(), MemoryFault> {
+        self.add(board, print_of(board), true)
+    }
+
+    fn play(&mut self, colour: Colour, point: Point) -> Result<bool, MemoryFault> {
+        let newest = self.colourings.newest();
+        if newest.captures_nothing_at_a_glance(colour, point) {
+            let print = print_after_stone(self.prints.newest(), newest, colour, point);
+            if !self.has_print(print) {
+                self.add_stone(colour, point, print)?;
+                return Ok(true);
+            }
+        }
+        self.play_on_copy(colour, point)
+    }
+
+    fn pop(&mut self) {
+        let _ = self.prints.pop();
+        self.colourings.pop();
+    }
+
+    fn reset(&mut self, _alloc: Global, board: &Board) -> Result<(), MemoryFault> {
+        self.colourings.reset(board);
+        self.prints.reset(print_of(board));
+        Ok(())
+    }
+}
+
+impl PrintPast {
+    ghost use Rattle.std.specs.Prelude.{◌≡◌, ◌↔◌, false, if◌then◌else◌, IsFalse, IsTrue, IfOk, OnOk, OnErr, Contains};
+    ghost use Rattle.go_board.specs.declared.stones.Cell.TheVariants.{Empty};
+    ghost use Rattle.go_board.specs.Point.{IsOn};
+    ghost use Rattle.go_board.specs.Colour.{stone_of};
+    ghost use Rattle.go_board.specs.Grid.{Grid, cell_at, with_cell};
+    ghost use Rattle.go_board.specs.Clearing.{play};
+    ghost use Rattle.go_board.specs.Past.{newest_grid, with_next, present_stretch, HaveSide};
+    ghost use Rattle.go_board.specs.inner.Print.{print_of};
+
+    /// Whether the present stretch has the colouring, of that print.
+    fn holds_printed(&self, board: &Board, print: u64) -> bool
+        requires side { HaveSide board.now.side self.now }
+        requires print { print ≡ print_of board.now }
+        ensures { IsTrue result ↔ Contains (present_stretch self.now) board.now }
+    {
         let start = self.colourings.stretch_start();
         let mut end = self.prints.len();
         while let Some(number) = self.prints.last_between(print, start, end) {
@@ -58,59 +113,14 @@ impl Past for PrintPast {
         false
     }
 
-    fn newest(&self) -> &Board {
-        self.colourings.newest()
-    }
-
-    fn push(&mut self, board: &Board) -> Result<(), MemoryFault> {
-        self.add(board, false)
-    }
-
-    fn restart(&mut self, board: &Board) -> Result<(), MemoryFault> {
-        self.add(board, true)
-    }
-
-    fn play(&mut self, colour: Colour, point: Point) -> Result<bool, MemoryFault> {
-        let newest = self.colourings.newest();
-        if newest.captures_nothing_at_a_glance(colour, point) {
-            let print = newest.print_after(point, colour.stone());
-            if !self.has_print(print) {
-                self.add_stone(colour, point, print)?;
-                return Ok(true);
-            }
-        }
-        self.play_on_copy(colour, point)
-    }
-
-    fn pop(&mut self) {
-        let _ = self.prints.pop();
-        self.colourings.pop(self.prints.newest());
-    }
-
-    fn reset(&mut self, _alloc: Global, board: &Board) -> Result<(), MemoryFault> {
-        self.colourings.reset(board);
-        self.prints.reset(board.print());
-        Ok(())
-    }
-}
-
-impl PrintPast {
-    ghost use Rattle.std.specs.Prelude.{◌≡◌, ◌↔◌, false, if◌then◌else◌, IsFalse, IfOk, OnOk, OnErr, Contains};
-    ghost use Rattle.go_board.specs.declared.stones.Cell.TheVariants.{Empty};
-    ghost use Rattle.go_board.specs.Point.{IsOn};
-    ghost use Rattle.go_board.specs.Colour.{stone_of};
-    ghost use Rattle.go_board.specs.Grid.{Grid, cell_at, with_cell};
-    ghost use Rattle.go_board.specs.Clearing.{play};
-    ghost use Rattle.go_board.specs.Past.{newest_grid, with_next, present_stretch, HaveSide};
-    ghost use Rattle.go_board.specs.inner.Print.{print_of};
-
-    /// Adds a colouring, which begins a stretch or goes on in the present one.
-    fn add(&mut self, board: &Board, begins: bool) -> Result<(), MemoryFault>
-        requires { HaveSide board.now.side self.old }
+    /// Adds a colouring of that print, which begins a stretch or goes on in the present one.
+    fn add(&mut self, board: &Board, print: u64, begins: bool) -> Result<(), MemoryFault>
+        requires side { HaveSide board.now.side self.old }
+        requires print { print ≡ print_of board.now }
         ensures ok { OnOk result (self.new ≡ with_next self.old board.now begins) }
         ensures err { OnErr result (self.new ≡ self.old) }
     {
-        self.prints.push(board.print())?;
+        self.prints.push(print)?;
         if self.colourings.add(board, begins).is_err() {
             self.prints.pop();
             return Err(MemoryFault);
@@ -124,12 +134,12 @@ impl PrintPast {
         requires empty { cell_at (newest_grid self.old) point ≡ Empty }
         requires alone { play (newest_grid self.old) colour point
             ≡ with_cell (newest_grid self.old) point (stone_of colour) }
-        requires print { print ≡ print_of (with_cell (newest_grid self.old) point (stone_of colour)).cells }
+        requires print { print ≡ print_of (with_cell (newest_grid self.old) point (stone_of colour)) }
         ensures ok { OnOk result (self.new ≡ with_next self.old (play (newest_grid self.old) colour point) false) }
         ensures err { OnErr result (self.new ≡ self.old) }
     {
         self.prints.push(print)?;
-        if self.colourings.add_stone(colour, point, print).is_err() {
+        if self.colourings.add_stone(colour, point).is_err() {
             self.prints.pop();
             return Err(MemoryFault);
         }
@@ -138,7 +148,7 @@ impl PrintPast {
 
     /// Whether a colouring of the present stretch has that print.
     fn has_print(&self, print: u64) -> bool
-        ensures { (grid : Grid) → IsFalse result → print ≡ print_of grid.cells
+        ensures { (grid : Grid) → IsFalse result → print ≡ print_of grid
             → ¬ Contains (present_stretch self.now) grid }
     {
         let start = self.colourings.stretch_start();
@@ -164,10 +174,11 @@ impl PrintPast {
     {
         let mut made = self.newest().copy();
         made.place(colour, point);
-        if self.holds(&made) {
+        let print = print_of(&made);
+        if self.holds_printed(&made, print) {
             return Ok(false);
         }
-        self.push(&made)?;
+        self.add(&made, print, false)?;
         Ok(true)
     }
 }

@@ -16,7 +16,7 @@ returns c =
     let p = c.args.point in
     let rows = c.args.taken.now in
     let placed = with_cell g p (stone_of k) in
-    let here : c.set_unprinted.new.self ≡ placed = c.set_unprinted.ensures ∙ ap (with_cell g p) c.stone.ensures in
+    let here : c.set.new.self ≡ placed = c.set.ensures ∙ ap (with_cell g p) c.stone.ensures in
     same_without placed c.empty_set.new.self (play g k p) rows (length-set g.cells (index_of g.side p) (stone_of k) ∙ c.has_all_cells.ensures.all)
     (subst (λ h. IsWithout h c.empty_set.new.self (λ q. is_set rows q ≡ true)) here c.empty_set.ensures)
     c.requires.taken.played
