@@ -35,6 +35,5 @@ pub mod ColumnLemmas
 pub mod ColouringsLemmas
 pub mod TableLemmas
 pub mod StoneRowsLemmas
-pub mod AloneLemmas
 pub mod GlanceLemmas
 pub mod TakenLemmas

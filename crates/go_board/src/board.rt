@@ -172,16 +172,6 @@ impl Board {
         self.settled = settled;
     }
 
-    /// Places a stone that captures nothing. It stays known that every stone reaches empty.
-    pub(crate) fn place_alone(&mut self, colour: Colour, point: Point)
-        requires on_board { IsOn self.old.side point }
-        requires alone { play self.old colour point ≡ with_cell self.old point (stone_of colour) }
-        ensures { self.new ≡ with_cell self.old point (stone_of colour) }
-    {
-        self.set(point, colour.stone());
-        self.settled = true;
-    }
-
     /// Works out whether every stone reaches empty, if it isn't known. Nothing that is seen changes.
     pub(crate) fn work_settled_out(&mut self)
         ensures { self.new ≡ self.old }

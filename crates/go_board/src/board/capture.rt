@@ -102,7 +102,7 @@ impl Board {
         )
     }
 
-    /// Places a stone of which it is known what it takes off.
+    /// Places a stone of which it is known what it takes off. Then every stone reaches empty.
     pub(crate) fn put(&mut self, colour: Colour, point: Point, taken: &[u64])
         requires on_board { IsOn self.old.side point }
         requires taken { TakesOff self.old colour point taken.now }
@@ -111,6 +111,7 @@ impl Board {
         self.has_all_cells();
         self.set(point, colour.stone());
         self.empty_set(taken);
+        self.restore(true);
     }
 }
 

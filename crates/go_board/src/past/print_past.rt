@@ -1,6 +1,7 @@
 //! The past with prints.
 
 use crate::board::Board;
+use crate::board::regions::no_rows;
 use crate::fault::MemoryFault;
 use crate::past::Past;
 use crate::past::colourings::Colourings;
@@ -64,14 +65,16 @@ impl Past for PrintPast {
 
     fn play(&mut self, colour: Colour, point: Point) -> Result<bool, MemoryFault> {
         let newest = self.colourings.newest();
-        if newest.captures_nothing_at_a_glance(colour, point) {
-            let print = print_after_stone(self.prints.newest(), newest, colour, point);
-            if !self.has_print(print) {
-                self.add_stone(colour, point, print)?;
-                return Ok(true);
-            }
+        if !newest.is_settled() {
+            return self.play_on_copy(colour, point);
         }
-        self.play_on_copy(colour, point)
+        if newest.takes_nothing_at_a_glance(colour, point) {
+            return self.play_taking(colour, point, &[]);
+        }
+        let mut words = no_rows();
+        let taken = &mut words[..usize::from(newest.size().side())];
+        self.colourings.find_taken(colour, point, taken);
+        self.play_taking(colour, point, taken)
     }
 
     fn pop(&mut self) {
@@ -90,10 +93,10 @@ impl PrintPast {
     ghost use Rattle.std.specs.Prelude.{◌≡◌, ◌↔◌, false, if◌then◌else◌, IsFalse, IsTrue, IfOk, OnOk, OnErr, Contains};
     ghost use Rattle.go_board.specs.declared.stones.Cell.TheVariants.{Empty};
     ghost use Rattle.go_board.specs.Point.{IsOn};
-    ghost use Rattle.go_board.specs.Colour.{stone_of};
-    ghost use Rattle.go_board.specs.Grid.{Grid, cell_at, with_cell};
+    ghost use Rattle.go_board.specs.Grid.{Grid, cell_at};
     ghost use Rattle.go_board.specs.Clearing.{play};
     ghost use Rattle.go_board.specs.Past.{newest_grid, with_next, present_stretch, HaveSide};
+    ghost use Rattle.go_board.specs.inner.Groups.{TakesOff};
     ghost use Rattle.go_board.specs.inner.Print.{print_of};
 
     /// Whether the present stretch has the colouring, of that print.
@@ -128,22 +131,53 @@ impl PrintPast {
         Ok(())
     }
 
-    /// Adds the colouring that a stone makes which captures nothing, of that print, to the present stretch.
-    fn add_stone(&mut self, colour: Colour, point: Point, print: u64) -> Result<(), MemoryFault>
+    /// The same as `play`, where it is known what the stone takes off.
+    fn play_taking(
+        &mut self,
+        colour: Colour,
+        point: Point,
+        taken: &[u64],
+    ) -> Result<bool, MemoryFault>
+        requires one_side { HaveSide (newest_grid self.old).side self.old }
         requires on_board { IsOn (newest_grid self.old).side point }
         requires empty { cell_at (newest_grid self.old) point ≡ Empty }
-        requires alone { play (newest_grid self.old) colour point
-            ≡ with_cell (newest_grid self.old) point (stone_of colour) }
-        requires print { print ≡ print_of (with_cell (newest_grid self.old) point (stone_of colour)) }
-        ensures ok { OnOk result (self.new ≡ with_next self.old (play (newest_grid self.old) colour point) false) }
+        requires taken { TakesOff (newest_grid self.old) colour point taken.now }
+        ensures known { IfOk result (λ added. IsFalse added
+            ↔ Contains (present_stretch self.old) (play (newest_grid self.old) colour point)) }
+        ensures ok { IfOk result (λ added. self.new ≡ (if added
+            then with_next self.old (play (newest_grid self.old) colour point) false
+            else self.old)) }
+        ensures refused { OnErr result
+            (¬ Contains (present_stretch self.old) (play (newest_grid self.old) colour point)) }
         ensures err { OnErr result (self.new ≡ self.old) }
     {
+        let print = self.print_once_put(colour, point, taken);
+        if self.has_print(print) {
+            return self.play_on_copy(colour, point);
+        }
         self.prints.push(print)?;
-        if self.colourings.add_stone(colour, point).is_err() {
+        if self.colourings.add_stone(colour, point, taken).is_err() {
             self.prints.pop();
             return Err(MemoryFault);
         }
-        Ok(())
+        Ok(true)
+    }
+
+    /// The print of what a stone makes of which it is known what it takes off.
+    fn print_once_put(&self, colour: Colour, point: Point, taken: &[u64]) -> u64
+        requires on_board { IsOn (newest_grid self.now).side point }
+        requires empty { cell_at (newest_grid self.now) point ≡ Empty }
+        requires taken { TakesOff (newest_grid self.now) colour point taken.now }
+        ensures { result ≡ print_of (play (newest_grid self.now) colour point) }
+    {
+        let newest = self.colourings.newest();
+        newest.has_all_cells();
+        if taken.is_empty() {
+            return print_after_stone(self.prints.newest(), newest, colour, point);
+        }
+        let mut made = newest.copy();
+        made.put(colour, point, taken);
+        print_of(&made)
     }
 
     /// Whether a colouring of the present stretch has that print.
