@@ -1,19 +1,10 @@
 -- A list of prints, oldest first, in which those with one key are linked. A number in a link or a head is one more than
 -- an index; 0 stands for none.
-use Rattle.std.specs.Prelude.{◌≡◌, ◌≢◌, ℕ, ◌-◌, ◌*◌, ◌/◌, ◌%◌, ◌^◌, ◌<◌, ◌≤◌, Option, Some, None, List, length, slice_index, bit_and, bit_xor}
+use Rattle.std.specs.Prelude.{◌≡◌, ◌≢◌, ℕ, ◌-◌, ◌/◌, ◌^◌, ◌<◌, ◌≤◌, Option, Some, None, List, length, slice_index, bit_and}
 
--- a number of 64 bits whose low half depends on all bits of another one
-abbrev pub folded : ℕ → ℕ
-folded word = bit_xor word (word / 2 ^ 32)
-
--- A print is linear in the cells, so that moves can be chosen whose prints have the same low bits. Its key depends on all bits of it,
--- and isn't linear.
-abbrev pub scattered : ℕ → ℕ
-scattered print = folded (folded print * 15485907386658061715 % 2 ^ 64)
-
--- a print's key in a table of that many heads
+-- a print's key in a table of that many heads, made of what is above the fingerprint
 abbrev pub key_of : ℕ → ℕ → ℕ
-key_of size print = bit_and (scattered print) (size - 1)
+key_of size print = bit_and (print / 2 ^ 14) (size - 1)
 
 -- the number of the newest of the first `count` prints that has the key
 pub record IsNewest (size : ℕ) (prints : List ℕ) (count key number : ℕ) : Type 0 where
