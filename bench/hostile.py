@@ -121,6 +121,48 @@ def equal_keys(size):
     return "".join(text) + ")"
 
 
+def signs():
+    """Of 32 numbers the halves whose sums of powers of 31 to 64 times them are the same modulo 2^64: by how many bits of a number are set."""
+    return [[i for i in range(32) if bin(i).count("1") % 2 == half] for half in (0, 1)]
+
+
+def hole_sets(side):
+    """Sets of 32 holes of two points, the first points 64 points apart row by row, so that no two holes of all sets touch."""
+    sets, taken = [], set()
+    for base in range(side * side - 31 * 64):
+        cells = [divmod(base + 64 * i, side) for i in range(32)]
+        holes = [((row, col), (row, col + 1)) for row, col in cells]
+        around = {(y, x) for hole in holes for row, col in hole for y, x in ((row, col), (row - 1, col), (row + 1, col), (row, col - 1), (row, col + 1))}
+        if all(col < side - 1 for _, col in cells) and not around & taken:
+            sets.append(holes)
+            taken.update(point for hole in holes for point in hole)
+    return sets
+
+
+def equal_prints(size):
+    """One line of moves, each colouring of which has very many before it with the same sum of codes times powers of 31 modulo 2^64: sets
+    of 32 holes, a half of each filled, turn over one after another. Black fills the rest of a hole, which is suicide; White passes."""
+    side = 52
+    halves, sets = signs(), hole_sets(side)
+    name = lambda place: point(place[1], place[0])
+    holes = {place for holes in sets for hole in holes for place in hole}
+    walls = {(y, x) for row, col in holes for y, x in ((row - 1, col), (row + 1, col), (row, col - 1), (row, col + 1))
+             if 0 <= y < side and 0 <= x < side} - holes
+    text = ["(;SZ[52]AW" + "".join(f"[{name(place)}]" for place in sorted(walls))
+            + "AB" + "".join(f"[{name(holes[i][0])}]" for holes in sets for i in halves[0]) + "PL[B]"]
+    room = size - len(text[0]) - 1
+    turned = [0] * len(sets)
+    for step in range(1, 1 << len(sets)):
+        which = (step & -step).bit_length() - 1
+        now, then = halves[turned[which]], halves[1 - turned[which]]
+        turned[which] = 1 - turned[which]
+        for old, new in zip(now, then):
+            text.append(f";B[{name(sets[which][old][1])}];W[];B[{name(sets[which][new][0])}];W[]")
+        if step * 320 >= room:
+            break
+    return "".join(text)[:len(text[0]) + max(room, 0) // 20 * 20] + ")"
+
+
 def searches(size):
     """One line of moves on side 52. Black fills a hole of two points in a large white group whose one eye is far away. Every second time this is
     suicide. White counts beside it."""
@@ -205,6 +247,7 @@ INPUTS = {
     "long19": ("one line of moves on side 19, one stretch", lambda n: long_line(n, 19), FORMS),
     "long52": ("one line of moves on side 52, one stretch", lambda n: long_line(n, 52), FORMS),
     "keys": ("one line of moves on side 52, made against the table of the past", equal_keys, ["list", "count"]),
+    "prints": ("one line of moves on side 52, of colourings with equal sums of powers of 31", equal_prints, ["list", "count"]),
     "searches": ("moves beside a group of 1,900 stones with one far liberty", searches, ["list", "count"]),
     "captures": ("variations that capture 2,703 stones", lambda n: repeated(n, "(;SZ[52]AW[aa:ZZ]AE[aa]PL[B]", "(;B[aa])", ")"), ["list", "count"]),
     "boards": ("variations that set a board of 52 up", lambda n: repeated(n, "(;SZ[52]", "(;AB[aa:ZZ])", ")"), ["list", "count"]),

@@ -1,6 +1,5 @@
 -- An area coloured row by row.
 use Rattle.std.proofs.Common.{◌≡◌, ◌≢◌, subst, ℕ, ◌+◌, ◌-◌, ◌*◌, ◌%◌, ◌^◌, ◌<◌, ◌≤◌, ◌==◌, ◌&&◌, true, inl, inr, nat_le, List, [], ◌∷◌, fold, length, get_or, take, refl, sym, ap, ◌∙◌, arith, cond, Decides}
-use Rattle.std.proofs.lemmas.List.{length-set}
 use Rattle.std.proofs.lemmas.List.Sums.{fold_more}
 use Rattle.std.proofs.lemmas.Bool.{cases_lt, cases_Bool, cond-true, cond-false, leb-true, le-leb, and_from, and_parts, false≢true}
 use Rattle.std.proofs.lemmas.Bool.Decides.{Decides-and, Decides-eqb, not_from_Decides}
@@ -10,12 +9,11 @@ use Rattle.std.proofs.lemmas.Nat.Bits.{bit_at_mask_inside, bit_at_mask_below, bi
 use Rattle.go_board.specs.declared.points.Point.{Point}
 use Rattle.go_board.specs.declared.points.Rect.{Rect}
 use Rattle.go_board.specs.declared.referee.plays.SetupOp.{SetupOp}
-use Rattle.go_board.specs.Point.{IsOn, IsRectOn, index_of}
-use Rattle.go_board.specs.Grid.{Grid, cell_at, with_cell, grid_of}
+use Rattle.go_board.specs.Point.{IsOn}
+use Rattle.go_board.specs.Grid.{Grid, cell_at, grid_of}
 use Rattle.go_board.specs.State.{is_in, with_area}
 use Rattle.go_board.specs.inner.Rows.{has_bit}
 use Rattle.go_board.specs.inner.Regions.{with_columns}
-use Rattle.go_board.proofs.GridLemmas.{cell_at-with_cell, cell_at-with_cell_elsewhere}
 use Rattle.go_board.proofs.GroupLemmas.{grid_of-cells}
 use Rattle.go_board.proofs.RegionLemmas.{same_bools}
 use Rattle.go_board.proofs.StoneRowsLemmas.{side-coloured, cell_at-coloured, length-coloured}
@@ -150,35 +148,3 @@ side-with_areas g (op ∷ ops) = side-with_areas (with_area g op) ops ∙ side-w
 pub areas_more : (g before coloured : Grid) (ops : List SetupOp) (i : ℕ) (d : SetupOp) → i < length ops → coloured ≡ with_area before (get_or ops i d) → before.side ≡ g.side → before ≡ fold with_area g (take i ops) → (coloured.side ≡ g.side) × (coloured ≡ fold with_area g (take (i + 1) ops))
 areas_more g before coloured ops i d within step same so_far =
     (ap (λ (h : Grid). h.side) step ∙ side-with_area before (get_or ops i d) ∙ same, step ∙ ap (λ h. with_area h (get_or ops i d)) so_far ∙ sym (fold_more with_area g ops i d within))
-
--- an area of one point
-pub area_of_point : (g : Grid) (op : SetupOp) → length g.cells ≡ g.side * g.side → IsRectOn g.side op.area → op.area.first ≡ op.area.last → with_cell g op.area.first op.cell ≡ with_area g op
-unfolding with_area
-area_of_point g op all on_board alone =
-    sym (grid_of-cells h _ (length-set g.cells (index_of g.side p) op.cell ∙ all) each)
-  where
-    p : Point
-    p = op.area.first
-
-    h : Grid
-    h = with_cell g p op.cell
-
-    only : (q : Point) → IsIn op.area q → q ≡ p
-    only q ((left, right), (top, bottom)) =
-        let cols : q.col ≡ p.col = omega (arith, left, right, ap (λ (x : Point). x.col) alone) in
-        let rows : q.row ≡ p.row = omega (arith, top, bottom, ap (λ (x : Point). x.row) alone) in
-        ap (λ c. record { col = c; row = q.row }) cols ∙ ap (λ r. record { col = p.col; row = r }) rows
-
-    there : IsIn op.area p
-    there = ((omega arith, omega (arith, ap (λ (x : Point). x.col) alone)), (omega arith, omega (arith, ap (λ (x : Point). x.row) alone)))
-
-    each : (q : Point) → IsOn g.side q → cond (is_in op.area q) op.cell (cell_at g q) ≡ cell_at h q
-    each q on =
-        elim (cases_Bool (is_in op.area q)) [
-          | inl inside ↦
-              let same = only q ((Decides-is_in op.area q).0 inside) in
-              cond-true _ _ _ inside ∙ sym (ap (cell_at h) same ∙ cell_at-with_cell g p op.cell on_board.0 all)
-          | inr outside ↦
-              let other : q ≢ p = λ same. not_from_Decides _ (Decides-is_in op.area q) outside (subst (IsIn op.area) (sym same) there) in
-              cond-false _ _ _ outside ∙ sym (cell_at-with_cell_elsewhere g p q op.cell on_board.0 on other)
-        ]

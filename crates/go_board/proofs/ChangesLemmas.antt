@@ -12,12 +12,10 @@ use Rattle.go_board.specs.declared.points.Point.{Point}
 use Rattle.go_board.specs.declared.past.changes.Change.{Change}
 use Rattle.go_board.specs.Colour.{same_cell}
 use Rattle.go_board.specs.Point.{IsOn}
-use Rattle.go_board.specs.Grid.{Grid, cell_at, with_cell, grid_of}
-use Rattle.go_board.specs.inner.Regions.{with_columns}
+use Rattle.go_board.specs.Grid.{Grid, cell_at, grid_of}
 use Rattle.go_board.specs.inner.Rows.{has_bit}
 use Rattle.go_board.specs.inner.Changes.{with_change, after_changes, IsChangeOn, MakeMore, MakeOne, differ, is_put_back}
 use Rattle.go_board.proofs.RuleLemmas.{false_from_Decides}
-use Rattle.go_board.proofs.GridLemmas.{cell_at-with_cell_elsewhere}
 use Rattle.go_board.proofs.GroupLemmas.{grid_of-cells}
 use Rattle.go_board.proofs.StoneRowsLemmas.{side-coloured, cell_at-coloured, length-coloured}
 use Rattle.go_board.proofs.WordLemmas.{has_bit-and, has_bit-without, has_bit-zero}
@@ -182,28 +180,3 @@ one_column columns col k elsewhere there = elim (cases_eq k col) [
   | inl e ↦ e
   | inr other ↦ absurd (false≢true (sym (elsewhere k other) ∙ there))
 ]
-
--- the stone on a point taken off
-pub stone_back : (g h : Grid) (p : Point) (stone : Cell) (columns : ℕ) → IsOn g.side p → length g.cells ≡ g.side * g.side → cell_at g p ≡ Empty → h ≡ with_cell g p stone → has_bit columns p.col ≡ true → ((k : ℕ) → k ≢ p.col → has_bit columns k ≡ false) → with_columns h p.row columns Empty ≡ g
-stone_back g h p stone columns on all free is there elsewhere =
-    let side : h.side ≡ g.side = ap (λ (x : Grid). x.side) is in
-    one_colouring (with_columns h p.row columns Empty) g (side-coloured h p.row columns Empty ∙ side)
-    (length-coloured h p.row columns Empty ∙ ap (λ n. n * n) (sym (side-coloured h p.row columns Empty))) all
-    (λ q on_made.
-    let on_h : IsOn h.side q = subst (λ n. IsOn n q) (side-coloured h p.row columns Empty) on_made in
-    let on_g : IsOn g.side q = subst (λ n. IsOn n q) side on_h in
-    cell_at-coloured h p.row columns Empty q on_h ∙ each q on_g)
-  where
-    other_point : (q : Point) → IsOn g.side q → (q ≡ p → ⊥) → cell_at h q ≡ cell_at g q
-    other_point q on_g other = ap (λ (x : Grid). cell_at x q) is ∙ cell_at-with_cell_elsewhere g p q stone on on_g other
-
-    each : (q : Point) → IsOn g.side q → cond ((q.row == p.row) && has_bit columns q.col) Empty (cell_at h q) ≡ cell_at g q
-    each q on_g = elim (cases_eq q.row p.row) [
-      | inr other ↦ rw (false_from_Decides (q.row == p.row) (Decides-eqb q.row p.row) other) (other_point q on_g (λ e. other (ap (λ (x : Point). x.row) e)))
-      | inl row ↦ elim (cases_eq q.col p.col) [
-        | inr other ↦ rw ((Decides-eqb q.row p.row).1 row, elsewhere q.col other) (other_point q on_g (λ e. other (ap (λ (x : Point). x.col) e)))
-        | inl col ↦ (let same : q ≡ p = ap (λ n. record { col = n; row = q.row }) col ∙ ap (λ n. record { col = p.col; row = n }) row in
-            let bit : has_bit columns q.col ≡ true = ap (has_bit columns) col ∙ there in
-            rw ((Decides-eqb q.row p.row).1 row, bit) (sym (ap (cell_at g) same ∙ free)))
-      ]
-    ]

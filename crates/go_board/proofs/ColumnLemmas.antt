@@ -1,6 +1,7 @@
 -- The columns of a row by the stones on it, and what changes make of a row.
 use Rattle.std.proofs.Common.{◌≡◌, ◌==◌, ◌||◌, ◌&&◌, ℕ, ◌+◌, ◌<◌, ◌≤◌, inl, inr, Bool, true, false, not, cond, nat_lt, List, length, get_or, take, bit_and, length-append, refl, sym, ap, ◌∙◌, arith, Result, OnOk, Ok, Err}
-use Rattle.std.proofs.lemmas.Bool.{false≢true, cases_lt, cases_eq, lt-ltb, le-ltb}
+use Rattle.std.proofs.Math.Bool.{and-false}
+use Rattle.std.proofs.lemmas.Bool.{cases_Bool, false≢true, cases_lt, cases_eq, lt-ltb, le-ltb}
 use Rattle.std.proofs.lemmas.Bool.Decides.{Decides-eqb}
 use Rattle.std.proofs.lemmas.List.{get_or-take, take_at, take-take}
 use Rattle.go_board.specs.declared.stones.Cell.{Cell}
@@ -12,8 +13,8 @@ use Rattle.go_board.specs.Point.{IsOn}
 use Rattle.go_board.specs.Grid.{Grid, cell_at}
 use Rattle.go_board.specs.inner.Regions.{AreRowsOf}
 use Rattle.go_board.specs.inner.Rows.{has_bit, is_set}
-use Rattle.go_board.specs.inner.Changes.{MakeMore, differ, is_put_back}
-use Rattle.go_board.proofs.ChangesLemmas.{MakeMore-none, MakeMore-then, MakeMore-like, apart_by_colour, put_back}
+use Rattle.go_board.specs.inner.Changes.{MakeMore, differ}
+use Rattle.go_board.proofs.ChangesLemmas.{MakeMore-none, MakeMore-then, MakeMore-like, apart_by_colour}
 use Rattle.go_board.proofs.RuleLemmas.{false_from_Decides}
 use Rattle.go_board.proofs.WordLemmas.{has_bit-and}
 
@@ -57,41 +58,45 @@ some_of a b ob nb ow nw P e1 e2 some f1 f2 f3 f4 = by ob nb ow nw (sym (rw (e1, 
 not_below : (m n : ℕ) → n ≤ m → (m ≡ n → ⊥) → n + 1 ≤ m
 not_below m n le other = elim (cases_lt n m) [ inl lt ↦ omega arith | inr ge ↦ absurd (other (omega arith)) ]
 
--- the points of the rows above one are put back
-abbrev pub put_back_above : Bool → Grid → Grid → ℕ → Point → Cell → Cell
-put_back_above all old new row p x = cond (nat_lt p.row row && is_put_back all old new p) (cell_at old p) x
+-- the points of the rows above one that pass a test are put back
+abbrev pub put_back_above : (Point → Bool) → Grid → ℕ → Point → Cell → Cell
+put_back_above test old row p x = cond (nat_lt p.row row && test p) (cell_at old p) x
 
-module _ (all : Bool) (old new : Grid) (a : List Change) where
-  pub above-none : (row : ℕ) → row ≡ 0 → MakeMore old.side (put_back_above all old new row) a a
+module _ (test : Point → Bool) (old : Grid) (a : List Change) where
+  pub above-none : (row : ℕ) → row ≡ 0 → MakeMore old.side (put_back_above test old row) a a
   above-none row none =
-      MakeMore-like old.side (λ p x. x) (put_back_above all old new row) a a
+      MakeMore-like old.side (λ p x. x) (put_back_above test old row) a a
       (λ p x on. sym (rw (le-ltb p.row row (omega arith)) refl))
       (MakeMore-none old.side a a refl)
 
-  pub above-more : (row columns : ℕ) (b c : List Change) → ((col : ℕ) → col < old.side → has_bit columns col ≡ is_put_back all old new (record { col = col; row = row })) → MakeMore old.side (put_back_above all old new row) a b → MakeMore old.side (λ p x. cond ((p.row == row) && has_bit columns p.col) (cell_at old p) x) b c → MakeMore old.side (put_back_above all old new (row + 1)) a c
+  pub above-more : (row columns : ℕ) (b c : List Change) → ((col : ℕ) → col < old.side → has_bit columns col ≡ test (record { col = col; row = row })) → MakeMore old.side (put_back_above test old row) a b → MakeMore old.side (λ p x. cond ((p.row == row) && has_bit columns p.col) (cell_at old p) x) b c → MakeMore old.side (put_back_above test old (row + 1)) a c
   above-more row columns b c is h k =
-      MakeMore-like old.side (λ p x. cond ((p.row == row) && has_bit columns p.col) (cell_at old p) (put_back_above all old new row p x)) (put_back_above all old new (row + 1)) a c step
-      (MakeMore-then old.side (put_back_above all old new row) (λ p x. cond ((p.row == row) && has_bit columns p.col) (cell_at old p) x) a b c h k)
+      MakeMore-like old.side (λ p x. cond ((p.row == row) && has_bit columns p.col) (cell_at old p) (put_back_above test old row p x)) (put_back_above test old (row + 1)) a c step
+      (MakeMore-then old.side (put_back_above test old row) (λ p x. cond ((p.row == row) && has_bit columns p.col) (cell_at old p) x) a b c h k)
     where
-      step : (p : Point) (x : Cell) → IsOn old.side p → cond ((p.row == row) && has_bit columns p.col) (cell_at old p) (put_back_above all old new row p x) ≡ put_back_above all old new (row + 1) p x
+      step : (p : Point) (x : Cell) → IsOn old.side p → cond ((p.row == row) && has_bit columns p.col) (cell_at old p) (put_back_above test old row p x) ≡ put_back_above test old (row + 1) p x
       step p x on =
           elim (cases_eq p.row row) [
             | inl e ↦ (let here : ◌≡◌ {A = Point} (record { col = p.col; row = row }) p = ap (λ n. record { col = p.col; row = n }) (sym e) in
-                let bit : has_bit columns p.col ≡ is_put_back all old new p = is p.col on.0 ∙ ap (is_put_back all old new) here in
+                let bit : has_bit columns p.col ≡ test p = is p.col on.0 ∙ ap test here in
                 rw ((Decides-eqb p.row row).1 e, bit, le-ltb p.row row (omega (arith, e)), lt-ltb p.row (row + 1) (omega (arith, e))) refl)
             | inr other ↦ rw (false_from_Decides (p.row == row) (Decides-eqb p.row row) other) (by_row p x (λ e. other e))
           ]
         where
-          by_row : (p : Point) (x : Cell) → (p.row ≡ row → ⊥) → put_back_above all old new row p x ≡ put_back_above all old new (row + 1) p x
+          by_row : (p : Point) (x : Cell) → (p.row ≡ row → ⊥) → put_back_above test old row p x ≡ put_back_above test old (row + 1) p x
           by_row p x other = elim (cases_lt p.row row) [
             | inl lt ↦ rw (lt-ltb p.row row lt, lt-ltb p.row (row + 1) (omega arith)) refl
             | inr ge ↦ (let above : row + 1 ≤ p.row = not_below p.row row ge other in rw (le-ltb p.row row ge, le-ltb p.row (row + 1) above) refl)
           ]
 
-  pub above-all : (row : ℕ) (b : List Change) → row ≡ old.side → MakeMore old.side (put_back_above all old new row) a b → MakeMore old.side (put_back all old new) a b
-  above-all row b is h =
-      MakeMore-like old.side (put_back_above all old new row) (put_back all old new) a b
-      (λ p x on. let lt : p.row < row = omega (arith, on.1, is) in rw (lt-ltb p.row row lt) refl) h
+  pub above-all : (row : ℕ) (b : List Change) → ((p : Point) → IsOn old.side p → test p ≡ true → p.row < row) → MakeMore old.side (put_back_above test old row) a b → MakeMore old.side (λ p x. cond (test p) (cell_at old p) x) a b
+  above-all row b within h =
+      MakeMore-like old.side (put_back_above test old row) (λ p x. cond (test p) (cell_at old p) x) a b
+      (λ p x on.
+      elim (cases_Bool (test p)) [
+        | inl is ↦ rw (lt-ltb p.row row (within p on is)) refl
+        | inr none ↦ rw (none, and-false) refl
+      ]) h
 
 -- what was there stays in front
 pub front-more : {side : ℕ} {make : Point → Cell → Cell} (a b : List Change) → MakeMore side make a b → take (length a) b ≡ a

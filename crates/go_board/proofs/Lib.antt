@@ -28,15 +28,12 @@ pub mod EarlierLemmas
 pub mod AreaLemmas
 pub mod TurnLemmas
 pub mod RepeatLemmas
-pub mod PowerLemmas
 pub mod PrintLemmas
-pub mod PrintSetLemmas
 pub mod PrintPastLemmas
 pub mod ChangesLemmas
 pub mod ColumnLemmas
 pub mod ColouringsLemmas
 pub mod TableLemmas
 pub mod StoneRowsLemmas
-pub mod AloneLemmas
 pub mod GlanceLemmas
 pub mod TakenLemmas

@@ -1,19 +1,235 @@
--- The print of a colouring.
-use Rattle.std.proofs.Common.{◌≡◌, ℕ, ◌+◌, ◌*◌, ◌%◌, ◌^◌, List, [], ◌∷◌, ◌++◌, refl, ap, arith}
-use Rattle.std.proofs.Math.Nat.{mod-add-mod}
-use Rattle.std.proofs.lemmas.Nat.{mul-mod_first}
+-- The print of a colouring: sums, the words of rows, and one stone more.
+use Rattle.std.proofs.Common.{◌≡◌, ◌≢◌, inl, inr, ℕ, zero, suc, ◌+◌, ◌-◌, ◌*◌, ◌/◌, ◌%◌, ◌^◌, ◌<◌, ◌≤◌, ◌||◌, Bool, true, false, cond, length, bit_or, refl, sym, ap, ◌∙◌, arith}
+use Rattle.std.specs.Int.{bit_at}
+use Rattle.std.proofs.Math.Nat.{mod-add-mod, add-mul-mod_self_left}
+use Rattle.std.proofs.lemmas.Bool.{cases_Bool, cases_eq, cases_lt, false_from_ne_true, or_parts}
+use Rattle.std.proofs.lemmas.Nat.{pow-add, mul-mod_first}
+use Rattle.std.proofs.lemmas.Nat.Bits.{bit_at_above, bit_at_cat_high, bit_at_cat_low, same_from_bits}
+use denote.Enum.Bare.{sameb}
+use Rattle.go_board.specs.contracts.stones.Colour.{the_type}
 use Rattle.go_board.specs.declared.stones.Cell.{Cell}
-use Rattle.go_board.specs.inner.Print.{code_of, digits_after, print_of}
+use Rattle.go_board.specs.declared.stones.Cell.TheVariants.{Black, White}
+use Rattle.go_board.specs.declared.stones.Colour.{Colour}
+use Rattle.go_board.specs.declared.stones.Colour.TheVariants.{Black as BlackPlayer, White as WhitePlayer}
+use Rattle.go_board.specs.declared.points.Point.{Point}
+use Rattle.go_board.specs.Colour.{same_cell, stone_of}
+use Rattle.go_board.specs.Point.{IsOn}
+use Rattle.go_board.specs.Grid.{Grid, cell_at, with_cell}
+use Rattle.go_board.specs.inner.Print.{sum_below, word_below, row_word, code_in, weight, mixed, row_print, print_of}
+use Rattle.go_board.specs.inner.Rows.{has_bit}
+use Rattle.go_board.proofs.GridLemmas.{cell_at-with_cell, cell_at-with_cell_elsewhere}
+use Rattle.go_board.proofs.StoneRowsLemmas.{bit_same}
+use Rattle.go_board.proofs.WordLemmas.{bit_at-gone, has_bit-or, has_bit-zero}
 
--- digits are read one after another
-pub digits-append : (n : ℕ) (xs ys : List Cell) → digits_after n (xs ++ ys) ≡ digits_after (digits_after n xs) ys
-digits-append n [] ys = refl
-digits-append n (x ∷ xs) ys = digits-append (31 * n + code_of x) xs ys
+pub sum-more : (n : ℕ) (f : ℕ → ℕ) → sum_below (n + 1) f ≡ sum_below n f + f n
+sum-more n f = let next : n + 1 ≡ suc n = omega arith in ap (λ m. sum_below m f) next
 
--- one more point
-pub print-more : (xs : List Cell) (c : Cell) → ((print_of xs * 31) % 2 ^ 64 + code_of c) % 2 ^ 64 ≡ print_of (xs ++ c ∷ [])
-print-more xs c =
-    let n = digits_after 0 xs in
-    let product : ((n % 2 ^ 64) * 31) % 2 ^ 64 ≡ (n * 31) % 2 ^ 64 = mul-mod_first n 31 (2 ^ 64) in
-    let reads : digits_after 0 (xs ++ c ∷ []) ≡ 31 * n + code_of c = digits-append 0 xs (c ∷ []) in
-    rw (product, reads, mod-add-mod (n * 31) (2 ^ 64) (code_of c)) (ap (λ k. (k + code_of c) % 2 ^ 64) (omega arith))
+-- sums of what agrees
+pub sum-same : (n : ℕ) (f g : ℕ → ℕ) → ((i : ℕ) → i < n → f i ≡ g i) → sum_below n f ≡ sum_below n g
+sum-same zero f g same = refl
+sum-same (suc n) f g same =
+    rw (sum-same n f g (λ i low. same i (omega (arith, low))), same n (omega arith)) refl
+
+-- sums of what agrees but at one number
+pub sum-changed : (n k : ℕ) (f g : ℕ → ℕ) → k < n → ((i : ℕ) → i < n → i ≢ k → f i ≡ g i) → sum_below n g + f k ≡ sum_below n f + g k
+sum-changed zero k f g low others = absurd (omega (arith, low))
+sum-changed (suc n) k f g low others =
+    elim (cases_eq k n) [
+      | inl last ↦
+          let before = sum-same n f g (λ i h. others i (omega (arith, h)) (λ e. omega (arith, h, e, last))) in
+          rw (last, before) (omega arith)
+      | inr other ↦
+          let before = sum-changed n k f g (omega (arith, low, other)) (λ i h. others i (omega (arith, h))) in
+          omega (arith, before, others n (omega arith) (λ e. other (sym e)))
+    ]
+
+-- the word of the columns that pass a test
+module _ (test : ℕ → Bool) where
+  word-small : (n : ℕ) → word_below n test < 2 ^ n
+  word-small zero = omega arith
+  word-small (suc n) =
+      elim (cases_Bool (test n)) [
+        | inl is ↦ rw is (omega (arith, word-small n))
+        | inr not_one ↦ rw not_one (omega (arith, word-small n))
+      ]
+
+  word-bits : (n k : ℕ) → k < n → has_bit (word_below n test) k ≡ test k
+  word-bits zero k low = absurd (omega (arith, low))
+  word-bits (suc n) k low =
+      let word = word_below n test in
+      elim (cases_eq k n) [
+        | inl last ↦
+            elim (cases_Bool (test n)) [
+              | inl is ↦
+                  let joined : word + 2 ^ n ≡ 1 * 2 ^ n + word = omega arith in
+                  let first : n - n ≡ 0 = omega arith in
+                  rw (last, is, joined, bit_at_cat_high 1 n word n (word-small n) (omega arith), first) refl
+              | inr not_one ↦
+                  let joined : word + 0 ≡ word = omega arith in
+                  rw (last, not_one, joined, bit_at_above word n n (word-small n) (omega arith)) refl
+            ]
+        | inr other ↦
+            let below : k < n = omega (arith, low, other) in
+            elim (cases_Bool (test n)) [
+              | inl is ↦
+                  let joined : word + 2 ^ n ≡ 1 * 2 ^ n + word = omega arith in
+                  rw (is, joined, bit_at_cat_low 1 n word k below) (word-bits n k below)
+              | inr not_one ↦
+                  let joined : word + 0 ≡ word = omega arith in
+                  rw (not_one, joined) (word-bits n k below)
+            ]
+      ]
+
+  -- a word with just these columns is that word
+  pub word-is : (n word : ℕ) → ((k : ℕ) → k < n → has_bit word k ≡ test k) → ((k : ℕ) → has_bit word k ≡ true → k < n) → word ≡ word_below n test
+  word-is n word on off =
+      same_from_bits word (word_below n test)
+      (λ i.
+      elim (cases_lt i n) [
+        | inl low ↦ bit_same word (word_below n test) i (on i low ∙ sym (word-bits n i low))
+        | inr high ↦
+            bit_at-gone word i (false_from_ne_true _ (λ is. omega (arith, off i is, high)))
+            ∙ sym (bit_at_above (word_below n test) n i (word-small n) high)
+      ])
+
+-- what a column of a row adds
+abbrev added : ℕ → ℕ → ℕ → ℕ → ℕ → ℕ
+added side row black white k = code_in black white k * weight side (record { col = k; row = row })
+
+none-added : (side row black white k : ℕ) → has_bit black k ≡ false → has_bit white k ≡ false → added side row black white k ≡ 0
+none-added side row black white k no_black no_white = rw (bit_at-gone black k no_black, bit_at-gone white k no_white) (omega arith)
+
+-- The stones of a row, taken one by one.
+module _ (side row black white : ℕ) where
+  -- what the stones that are left add
+  abbrev pub left_over : ℕ → ℕ → ℕ
+  left_over left k = cond (has_bit left k) (added side row black white k) 0
+
+  pub all-left : sum_below side (left_over (bit_or black white)) ≡ sum_below side (added side row black white)
+  all-left =
+      sum-same side (left_over (bit_or black white)) (added side row black white)
+      (λ k low.
+      elim (cases_Bool (has_bit (bit_or black white) k)) [
+        | inl stone ↦ ap (λ b. cond b (added side row black white k) 0) stone
+        | inr empty ↦
+            let parts = or_parts _ _ (sym (has_bit-or black white k) ∙ empty) in
+            ap (λ b. cond b (added side row black white k) 0) empty ∙ sym (none-added side row black white k parts.0 parts.1)
+      ])
+
+  pub one-taken : (left next col : ℕ) → col < side → has_bit left col ≡ true → has_bit next col ≡ false → ((k : ℕ) → k ≢ col → has_bit next k ≡ has_bit left k) → sum_below side (left_over left) ≡ sum_below side (left_over next) + added side row black white col
+  one-taken left next col low there gone elsewhere =
+      let sums = sum-changed side col (left_over next) (left_over left) low (λ k h other. ap (λ b. cond b (added side row black white k) 0) (elsewhere k other)) in
+      let with_it : left_over left col ≡ added side row black white col = ap (λ b. cond b (added side row black white col) 0) there in
+      let without : left_over next col ≡ 0 = ap (λ b. cond b (added side row black white col) 0) gone in
+      omega (arith, sums, with_it, without)
+
+  pub none-left : (left : ℕ) → left ≡ 0 → sum_below side (left_over left) ≡ 0
+  none-left left none = zeros side
+    where
+      zeros : (n : ℕ) → sum_below n (left_over left) ≡ 0
+      zeros zero = refl
+      zeros (suc n) =
+          let gone : left_over left n ≡ 0 = ap (λ b. cond b (added side row black white n) 0) (ap (λ w. has_bit w n) none ∙ has_bit-zero n) in
+          omega (arith, zeros n, gone)
+
+-- a player's stones have her colour
+pub is_black : (k : Colour) → sameb the_type k BlackPlayer ≡ same_cell (stone_of k) Black
+is_black BlackPlayer = refl
+is_black WhitePlayer = refl
+
+pub is_white : (k : Colour) → sameb the_type k WhitePlayer ≡ same_cell (stone_of k) White
+is_white BlackPlayer = refl
+is_white WhitePlayer = refl
+
+-- with one stone more in a row
+module _ (side row black white new_black new_white col : ℕ) (low : col < side) (no_black : has_bit black col ≡ false) (no_white : has_bit white col ≡ false) (black_same : (k : ℕ) → k ≢ col → has_bit new_black k ≡ has_bit black k) (white_same : (k : ℕ) → k ≢ col → has_bit new_white k ≡ has_bit white k) where
+  pub row-more : row_print side row new_black new_white + mixed row black white ≡ row_print side row black white + (added side row new_black new_white col + mixed row new_black new_white)
+  row-more =
+      let sums = sum-changed side col (added side row black white) (added side row new_black new_white) low
+      (λ i h other. ap (λ b. (b + 2 * bit_at white i) * weight side (record { col = i; row = row })) (sym (bit_same new_black black i (black_same i other)))
+      ∙ ap (λ w. (bit_at new_black i + 2 * w) * weight side (record { col = i; row = row })) (sym (bit_same new_white white i (white_same i other)))) in
+      omega (arith, sums, none-added side row black white col no_black no_white)
+
+-- one stone more in a row makes its word
+module _ (g : Grid) (p : Point) (stone wanted : Cell) (word next : ℕ) (b : Bool) (on : IsOn g.side p) (all : length g.cells ≡ g.side * g.side) (gone : has_bit word p.col ≡ false) (within : (k : ℕ) → k < g.side → has_bit word k ≡ same_cell (cell_at g (record { col = k; row = p.row })) wanted) (off : (k : ℕ) → has_bit word k ≡ true → k < g.side) (there : has_bit next p.col ≡ (has_bit word p.col || b)) (elsewhere : (k : ℕ) → k ≢ p.col → has_bit next k ≡ has_bit word k) (is_b : b ≡ same_cell stone wanted) where
+  pub word-after : next ≡ row_word (with_cell g p stone) wanted p.row
+  word-after =
+      word-is (λ k. same_cell (cell_at (with_cell g p stone) (record { col = k; row = p.row })) wanted) g.side next
+      (λ k low.
+      elim (cases_eq k p.col) [
+        | inl at ↦
+            ap (has_bit next) at ∙ there ∙ ap (λ x. x || b) gone ∙ is_b
+            ∙ ap (λ c. same_cell c wanted) (sym (ap (λ c. cell_at (with_cell g p stone) (record { col = c; row = p.row })) at ∙ cell_at-with_cell g p stone on all))
+        | inr other ↦
+            elsewhere k other ∙ within k low
+            ∙ ap (λ c. same_cell c wanted) (sym (cell_at-with_cell_elsewhere g p (record { col = k; row = p.row }) stone on (low, on.1) (λ e. other (ap (λ (q : Point). q.col) e))))
+      ])
+      (λ k is.
+      elim (cases_eq k p.col) [ inl at ↦ omega (arith, at, on.0) | inr other ↦ off k (sym (elsewhere k other) ∙ is) ])
+
+-- what is taken off again, modulo the same number
+taken_off : (now less more before m : ℕ) → less ≤ m → now + less ≡ before + more → ((before % m + more) % m + (m - less)) % m ≡ now % m
+taken_off now less more before m small same =
+    let whole : before + more + (m - less) ≡ now + m * 1 = omega (arith, small, same) in
+    ap (λ n. (n + (m - less)) % m) (mod-add-mod before m more)
+    ∙ mod-add-mod (before + more) m (m - less)
+    ∙ ap (λ n. n % m) whole
+    ∙ add-mul-mod_self_left now m 1
+
+-- the print with one stone more
+module _ (g : Grid) (p : Point) (stone : Cell) (black white new_black new_white : ℕ) (on : IsOn g.side p) (all : length g.cells ≡ g.side * g.side) where
+  abbrev made : Grid
+  made = with_cell g p stone
+
+  abbrev of_row : Grid → ℕ → ℕ
+  of_row h r = row_print h.side r (row_word h Black r) (row_word h White r)
+
+  other_row : (wanted : Cell) (r : ℕ) → r < g.side → r ≢ p.row → row_word g wanted r ≡ row_word made wanted r
+  other_row wanted r low other =
+      sum-same g.side (λ k. cond (same_cell (cell_at g (record { col = k; row = r })) wanted) (2 ^ k) 0) (λ k. cond (same_cell (cell_at made (record { col = k; row = r })) wanted) (2 ^ k) 0) (λ k h. ap (λ c. cond (same_cell c wanted) (2 ^ k) 0) (sym (cell_at-with_cell_elsewhere g p (record { col = k; row = r }) stone on (h, low) (λ e. other (ap (λ (q : Point). q.row) e)))))
+
+  module _ (black_is : row_word g Black p.row ≡ black) (white_is : row_word g White p.row ≡ white) (new_black_is : row_word made Black p.row ≡ new_black) (new_white_is : row_word made White p.row ≡ new_white) (row_is : row_print g.side p.row new_black new_white + mixed p.row black white ≡ row_print g.side p.row black white + (code_in new_black new_white p.col * weight g.side p + mixed p.row new_black new_white)) where
+    pub print-more : (print : ℕ) → print ≡ print_of g → mixed p.row black white < 2 ^ 64 → (((print + code_in new_black new_white p.col * weight g.side p) % 2 ^ 64 + mixed p.row new_black new_white) % 2 ^ 64 + (2 ^ 64 - mixed p.row black white)) % 2 ^ 64 ≡ print_of made
+    print-more print is small =
+        let add = code_in new_black new_white p.col * weight g.side p in
+        let more = mixed p.row new_black new_white in
+        let less = mixed p.row black white in
+        let before = sum_below g.side (of_row g) in
+        let now = sum_below g.side (of_row made) in
+        let changed = sum-changed g.side p.row (of_row g) (of_row made) on.1
+        (λ r low other. rw (other_row Black r low other, other_row White r low other) refl) in
+        let old : of_row g p.row ≡ row_print g.side p.row black white = rw (black_is, white_is) refl in
+        let new : of_row made p.row ≡ row_print g.side p.row new_black new_white = rw (new_black_is, new_white_is) refl in
+        ap (λ n. (((n + add) % 2 ^ 64 + more) % 2 ^ 64 + (2 ^ 64 - less)) % 2 ^ 64) is
+        ∙ ap (λ n. (n + (2 ^ 64 - less)) % 2 ^ 64) (mod-add-mod (before % 2 ^ 64 + add) (2 ^ 64) more ∙ ap (λ n. n % 2 ^ 64) (omega arith))
+        ∙ taken_off now less (add + more) before (2 ^ 64) (omega (arith, small)) (omega (arith, changed, old, new, row_is))
+
+-- Powers of 31, modulo 16384.
+
+same_mod : (x y z w m : ℕ) → x + m * y ≡ z + m * w → x % m ≡ z % m
+same_mod x y z w m e = sym (add-mul-mod_self_left x m y) ∙ ap (λ n. n % m) e ∙ add-mul-mod_self_left z m w
+
+abbrev even : ℕ → ℕ
+even half = 1 + half * (15296 + 2048 * half)
+
+even_power : (half : ℕ) → 31 ^ (2 * half) % 16384 ≡ even half % 16384
+even_power zero = refl
+even_power (suc half) =
+    let next : 31 ^ (2 * suc half) ≡ 31 ^ (2 * half) * 961 = ap (λ n. 31 ^ n) (omega arith) ∙ pow-add 31 (2 * half) 2 in
+    ap (λ n. n % 16384) next
+    ∙ sym (mul-mod_first (31 ^ (2 * half)) 961 16384)
+    ∙ ap (λ n. n * 961 % 16384) (even_power half)
+    ∙ mul-mod_first (even half) 961 16384
+    ∙ same_mod (even half * 961) 1 (even (suc half)) (896 * half + 120 * (half * half)) 16384 (omega arith)
+
+pub power-even : (n : ℕ) → n % 2 ≡ 0 → even (n / 2) % 16384 ≡ 31 ^ n % 16384
+power-even n is = sym (even_power (n / 2)) ∙ ap (λ k. 31 ^ k % 16384) (omega (arith, is))
+
+pub power-odd : (n : ℕ) → n % 2 ≢ 0 → 31 * even (n / 2) % 16384 ≡ 31 ^ n % 16384
+power-odd n is =
+    let next : 31 ^ n ≡ 31 ^ (2 * (n / 2)) * 31 = ap (λ k. 31 ^ k) (omega (arith, is)) ∙ pow-add 31 (2 * (n / 2)) 1 in
+    ap (λ k. k % 16384) (omega arith)
+    ∙ sym (mul-mod_first (even (n / 2)) 31 16384)
+    ∙ ap (λ k. k * 31 % 16384) (sym (even_power (n / 2)))
+    ∙ mul-mod_first (31 ^ (2 * (n / 2))) 31 16384
+    ∙ ap (λ k. k % 16384) (sym next)

@@ -17,9 +17,9 @@ some_same : (a b : Grid) → Some a ≡ Some b → a ≡ b
 some_same a b e = cc
 
 -- its print is at that index of the prints
-print-at : (held : List Held) (j : ℕ) (g : Grid) → j < length held → IsAt held j g → get_or (prints_of held) j 0 ≡ print_of g.cells
+print-at : (held : List Held) (j : ℕ) (g : Grid) → j < length held → IsAt held j g → get_or (prints_of held) j 0 ≡ print_of g
 print-at [] j g h at = absurd (omega (arith, h))
-print-at (x ∷ xs) zero g h at = ap (λ (c : Grid). print_of c.cells) (some_same x.colouring g at)
+print-at (x ∷ xs) zero g h at = ap print_of (some_same x.colouring g at)
 print-at (x ∷ xs) (suc j) g h at = print-at xs j g (omega (arith, h)) at
 
 -- a colouring among the newest n is at one of these indices, and the other way round
@@ -46,10 +46,10 @@ none_found prints print start end (Some x) last none = absurd (false≢true (sym
 
 module _ (held : List Held) (prints : List ℕ) (kept : reverse prints ≡ prints_of held) where
   pub same_length : length prints ≡ length held
-  same_length = sym (length-reverse prints) ∙ ap (λ (xs : List ℕ). length xs) kept ∙ length-map held (λ (h : Held). print_of h.colouring.cells)
+  same_length = sym (length-reverse prints) ∙ ap (λ (xs : List ℕ). length xs) kept ∙ length-map held (λ (h : Held). print_of h.colouring)
 
   -- a colouring has its print at its number
-  pub print-number : (y : ℕ) (g : Grid) → y < length held → IsNumber held y g → get_or prints y 0 ≡ print_of g.cells
+  pub print-number : (y : ℕ) (g : Grid) → y < length held → IsNumber held y g → get_or prints y 0 ≡ print_of g
   print-number y g h at =
       let j = length held - 1 - y in
       let lt : j < length prints = omega (arith, same_length) in
@@ -58,7 +58,7 @@ module _ (held : List Held) (prints : List ℕ) (kept : reverse prints ≡ print
       ∙ print-at held j g (omega arith) at
 
   -- so where that print is another one, it isn't that colouring
-  pub missing : (y print : ℕ) (g : Grid) → print ≡ print_of g.cells → y < length held → get_or prints y 0 ≢ print → IsNumber held y g → ⊥
+  pub missing : (y print : ℕ) (g : Grid) → print ≡ print_of g → y < length held → get_or prints y 0 ≢ print → IsNumber held y g → ⊥
   missing y print g is h other at = other (print-number y g h at ∙ sym is)
 
   -- a stretch from a number on has the colouring of a number in it
@@ -77,7 +77,7 @@ module _ (held : List Held) (prints : List ℕ) (kept : reverse prints ≡ print
 
   -- where a look-up by its print finds none, the stretch doesn't have it
   pub not_found : (start end print : ℕ) (g : Grid) (found : Option ℕ) → stretch_of held ≡ map (λ (h : Held). h.colouring) (take (length held - start) held) → end ≡ length prints
-      → IsLastOf prints print start end found → is_some found ≡ false → print ≡ print_of g.cells → Contains (stretch_of held) g → ⊥
+      → IsLastOf prints print start end found → is_some found ≡ false → print ≡ print_of g → Contains (stretch_of held) g → ⊥
   not_found start end print g found stretch all last none is =
       unseen start g stretch
       (λ y low high at.

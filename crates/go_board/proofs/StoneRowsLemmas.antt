@@ -45,7 +45,7 @@ pub all_cells : (side : ℕ) (rows : StoneRows) (g : Grid) → grid_with side ro
 all_cells side rows g is = sym (ap (λ (h : Grid). length h.cells) is) ∙ length-grid_of side (stone_in rows) ∙ ap (λ (h : Grid). h.side * h.side) is
 
 -- rows of one grid are the same, and grids with the same rows
-bit_same : (x y c : ℕ) → has_bit x c ≡ has_bit y c → bit_at x c ≡ bit_at y c
+pub bit_same : (x y c : ℕ) → has_bit x c ≡ has_bit y c → bit_at x c ≡ bit_at y c
 bit_same x y c e =
     elim (cases_Bool (has_bit x c)) [
       | inl there ↦ bit_at-there x c there ∙ sym (bit_at-there y c (sym e ∙ there))

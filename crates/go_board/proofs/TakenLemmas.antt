@@ -1,8 +1,9 @@
 -- What a stone takes off, as rows: playing it is putting it on its point and emptying these.
-use Rattle.std.proofs.Common.{◌≡◌, ◌⊎◌, inl, inr, ◌*◌, ◌+◌, ◌<◌, ◌≤◌, ◌||◌, true, false, cond, Option, Some, ℕ, List, [], ◌∷◌, length, set, slice_index, bit_or, refl, sym, ap, subst, ◌∙◌, arith}
+use Rattle.std.proofs.Common.{◌≡◌, ◌≢◌, ◌⊎◌, ◌==◌, ◌&&◌, inl, inr, ◌*◌, ◌+◌, ◌<◌, ◌≤◌, ◌||◌, true, false, cond, Option, Some, ℕ, List, [], ◌∷◌, length, set, slice_index, bit_or, refl, sym, ap, subst, ◌∙◌, arith}
 use Rattle.std.specs.Option.{ForSome}
 use Rattle.std.proofs.Math.Bool.{or-false}
-use Rattle.std.proofs.lemmas.Bool.{cases_Bool, cases_eq, cases_lt, or_cases, or_left, or_right, false≢true}
+use Rattle.std.proofs.lemmas.Bool.{and_parts, cases_Bool, cases_eq, cases_lt, or_cases, or_left, or_right, false≢true}
+use Rattle.std.proofs.lemmas.Bool.Decides.{Decides-eqb}
 use Rattle.std.proofs.lemmas.List.{length-set, get_or-set_same, get_or-set_other, get_or_past}
 use Rattle.go_board.specs.declared.stones.Cell.{Cell}
 use Rattle.go_board.specs.declared.stones.Cell.TheVariants.{Empty}
@@ -14,16 +15,27 @@ use Rattle.go_board.specs.Grid.{Grid, cell_at, with_cell, grid_of}
 use Rattle.go_board.specs.Clearing.{play, has_unreaching}
 use Rattle.go_board.specs.inner.Neighbour.{left_of, right_of, above, below}
 use Rattle.go_board.specs.inner.Rows.{has_bit, is_set, IsAmong}
-use Rattle.go_board.specs.inner.Groups.{AreShutGroups, AreTakenOrReachBeside, IsTakenOrReaches, IsWithout, LosesShut, ReachBeside, ReachesIfStone, TakesOff}
-use Rattle.go_board.proofs.PointLemmas.{same_or_not}
+use Rattle.go_board.specs.declared.past.changes.Change.{Change}
+use Rattle.go_board.specs.inner.Changes.{after_changes, LeadBack, MakeMore}
+use Rattle.go_board.specs.inner.Groups.{AreShutGroups, AreTakenOrReachBeside, IsTakenOrReaches, IsWithout, LosesShut, AllLive, ReachBeside, ReachesIfStone, TakesOff}
+use Rattle.go_board.proofs.PointLemmas.{one_point, same_or_not}
 use Rattle.go_board.proofs.GridLemmas.{cell_at-grid_of, length-grid_of, cell_at-with_cell, cell_at-with_cell_elsewhere}
 use Rattle.go_board.proofs.NeighbourLemmas.{IsNeighbour, IsNeighbour-adjacent, AllNeighbour}
 use Rattle.go_board.proofs.GroupLemmas.{stone_of≢Empty}
 use Rattle.go_board.proofs.StoneGroupLemmas.{LosesShut-without}
 use Rattle.go_board.proofs.MoveLemmas.{captured_is_play, left_over}
-use Rattle.go_board.proofs.AloneLemmas.{LosesShut-none}
-use Rattle.go_board.proofs.ChangesLemmas.{one_colouring}
+use Rattle.go_board.proofs.ChangesLemmas.{one_colouring, after-side, after-length, one_column}
 use Rattle.go_board.proofs.WordLemmas.{has_bit-or, has_bit-zero}
+
+-- taking nothing off
+LosesShut-none : (g : Grid) (k : Colour) → LosesShut g g k
+LosesShut-none g k = record {
+  same_side = refl;
+  all = refl;
+  taken = λ p on. inl refl;
+  still = λ p on way. way;
+  cleared = refl;
+}
 
 -- no group
 pub AreShutGroups-none : (g : Grid) (k : Colour) (rows : List ℕ) → length rows ≡ g.side → ((p : Point) → is_set rows p ≡ false) → AreShutGroups g k rows
@@ -190,3 +202,69 @@ same_without g h i rows all one two =
           let stays : ¬ (is_set rows p ≡ true) = λ gone. false≢true (sym left ∙ gone) in
           one.kept p on stays ∙ sym (two.kept p on stays)
     ])
+
+-- with no point to be emptied a grid stays
+without-none : (g : Grid) (rows : List ℕ) → length rows ≡ 0 → IsWithout g g (λ p. is_set rows p ≡ true)
+without-none g rows none = record {
+  same_side = refl;
+  all = refl;
+  emptied = λ p on is. absurd (false≢true (sym (ap (λ w. has_bit w p.col) (get_or_past rows p.row 0 (omega (arith, none))) ∙ has_bit-zero p.col) ∙ is));
+  kept = λ p on left. refl;
+}
+
+-- where all live, the stone is the whole move
+pub takes_nothing : (g : Grid) (p : Point) (k : Colour) → IsOn g.side p → length g.cells ≡ g.side * g.side → has_unreaching g ≡ false → AllLive (with_cell g p (stone_of k)) k p → TakesOff g k p []
+takes_nothing g p k on all settled live =
+    let h = with_cell g p (stone_of k) in
+    let alone : h ≡ play g k p = captured_is_play g h h p k on all settled (LosesShut-none h (opponent k)) live.1 (LosesShut-none h k) live.0 in
+    record {
+      few = omega arith;
+      on_grid = λ q is. absurd (false≢true (sym (has_bit-zero q.col) ∙ is));
+      played = subst (λ x. IsWithout h x (λ q. is_set [] q ≡ true)) alone (without-none h [] refl);
+    }
+
+-- and the other way round
+pub takes_nothing-alone : (g : Grid) (p : Point) (k : Colour) (rows : List ℕ) → length g.cells ≡ g.side * g.side → length rows ≡ 0 → TakesOff g k p rows → play g k p ≡ with_cell g p (stone_of k)
+takes_nothing-alone g p k rows all none takes =
+    let h = with_cell g p (stone_of k) in
+    same_without h (play g k p) h rows (length-set g.cells (index_of g.side p) (stone_of k) ∙ all) takes.played (without-none h rows none)
+
+-- one colouring led back to the one before the stone: the taken points are put back, and then the stone's point is emptied
+pub stone_leads_back : (g : Grid) (k : Colour) (p : Point) (rows : List ℕ) (columns : ℕ) (a b : List Change) → IsOn g.side p → length g.cells ≡ g.side * g.side → cell_at g p ≡ Empty → TakesOff g k p rows → has_bit columns p.col ≡ true → ((c : ℕ) → c ≢ p.col → has_bit columns c ≡ false)
+    → MakeMore g.side (λ q x. cond ((q.row == p.row) && has_bit columns q.col) Empty (cond (is_set rows q) (cell_at g q) x)) a b → LeadBack (play g k p) g a b
+stone_leads_back g k p rows columns a b on all free takes there elsewhere h =
+    let made = play g k p in
+    let side : made.side ≡ g.side = takes.played.same_side in
+    let long : length made.cells ≡ made.side * made.side = takes.played.all ∙ length-set g.cells (index_of g.side p) (stone_of k) ∙ all ∙ ap (λ n. n * n) (sym side) in
+    let same_side : (after_changes made h.more).side ≡ g.side = after-side made h.more ∙ side in
+    record {
+      more = h.more;
+      added = h.added;
+      on_grid = h.on_grid;
+      back = one_colouring (after_changes made h.more) g same_side (after-length made h.more long ∙ ap (λ n. n * n) (sym (after-side made h.more))) all
+          (λ q at. let on_g = subst (λ n. IsOn n q) same_side at in h.made made q side on_g ∙ each q on_g);
+    }
+  where
+    put_back : (q : Point) → IsOn g.side q → q ≢ p → cond (is_set rows q) (cell_at g q) (cell_at (play g k p) q) ≡ cell_at g q
+    put_back q on_g other =
+        elim (cases_Bool (is_set rows q)) [
+          | inl gone ↦ ap (λ b. cond b (cell_at g q) (cell_at (play g k p) q)) gone
+          | inr left ↦
+              ap (λ b. cond b (cell_at g q) (cell_at (play g k p) q)) left
+              ∙ takes.played.kept q on_g (λ gone. false≢true (sym left ∙ gone))
+              ∙ cell_at-with_cell_elsewhere g p q (stone_of k) on on_g other
+        ]
+
+    each : (q : Point) → IsOn g.side q → cond ((q.row == p.row) && has_bit columns q.col) Empty (cond (is_set rows q) (cell_at g q) (cell_at (play g k p) q)) ≡ cell_at g q
+    each q on_g =
+        elim (same_or_not q p) [
+          | inl same ↦
+              subst (λ (x : Point). cond ((x.row == p.row) && has_bit columns x.col) Empty (cond (is_set rows x) (cell_at g x) (cell_at (play g k p) x)) ≡ cell_at g x) (sym same)
+              (rw ((Decides-eqb p.row p.row).1 refl, there) (sym free))
+          | inr other ↦ elim (cases_Bool ((q.row == p.row) && has_bit columns q.col)) [
+            | inr apart ↦ ap (λ b. cond b Empty (cond (is_set rows q) (cell_at g q) (cell_at (play g k p) q))) apart ∙ put_back q on_g other
+            | inl is ↦
+                let both = and_parts _ _ is in
+                absurd (other (one_point q p (one_column columns p.col q.col elsewhere both.1) ((Decides-eqb q.row p.row).0 both.0)))
+          ]
+        ]

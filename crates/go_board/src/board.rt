@@ -13,7 +13,6 @@ pub(crate) mod stone_rows;
 
 use crate::board::regions::{count_apart, no_rows, with_column};
 use crate::board::stone_rows::StoneRows;
-use crate::past::print::{print_of, print_with};
 use crate::points::Point;
 use crate::size::{MAX_POINTS, MAX_ROWS, Size};
 use crate::stones::{Cell, Colour};
@@ -28,16 +27,12 @@ pub struct Board {
     /// Whether every stone is known to reach empty. This is known after a
     /// move. A colouring from outside can have a stone that doesn't.
     settled: bool,
-    /// The print of the colouring, if it is known.
-    print: u64,
-    printed: bool,
 }
 
 impl Model for Board {
     ghost use Rattle.std.specs.Prelude.{◌≡◌, IsTrue, false};
     ghost use Rattle.go_board.specs.Clearing.{has_unreaching};
     ghost use Rattle.go_board.specs.Grid.{Grid};
-    ghost use Rattle.go_board.specs.inner.Print.{print_of};
     ghost use Rattle.go_board.specs.inner.Regions.{AreStones, grid_with};
 
     ghost Value = { Grid };
@@ -45,8 +40,7 @@ impl Model for Board {
     ghost view = { λ b. grid_with b.size b.rows };
 
     ghost invariant = { λ b. AreStones (grid_with b.size b.rows) b.rows
-        × (IsTrue b.settled → has_unreaching (grid_with b.size b.rows) ≡ false)
-        × (IsTrue b.printed → b.print ≡ print_of (grid_with b.size b.rows).cells) };
+        × (IsTrue b.settled → has_unreaching (grid_with b.size b.rows) ≡ false) };
 }
 
 impl Board {
@@ -61,7 +55,6 @@ impl Board {
     ghost use Rattle.go_board.specs.Reaching.{Reaches};
     ghost use Rattle.go_board.specs.Clearing.{clear, play, has_unreaching};
     ghost use Rattle.go_board.specs.Score.{score_of};
-    ghost use Rattle.go_board.specs.inner.Print.{print_of};
     ghost use Rattle.go_board.specs.inner.Regions.{with_columns};
     ghost use Rattle.go_board.specs.inner.Rows.{has_bit};
 
@@ -74,8 +67,6 @@ impl Board {
             size,
             rows: StoneRows::none(),
             settled: true,
-            print: 0,
-            printed: true,
         }
     }
 
@@ -121,18 +112,6 @@ impl Board {
         requires { IsOn self.old.side point }
         ensures { self.new ≡ with_cell self.old point cell }
     {
-        let print = print_with(self.print, self, point, cell);
-        let printed = self.printed;
-        self.set_unprinted(point, cell);
-        self.print = print;
-        self.printed = printed;
-    }
-
-    /// Colours one point as `set` does, but the print is no longer known then.
-    pub(crate) fn set_unprinted(&mut self, point: Point, cell: Cell)
-        requires { IsOn self.old.side point }
-        ensures { self.new ≡ with_cell self.old point cell }
-    {
         self.has_all_cells();
         let column = with_column(0, usize::from(point.col), true);
         self.colour_columns(point.row, column, cell);
@@ -146,7 +125,6 @@ impl Board {
     {
         self.rows.colour(usize::from(row), columns, cell);
         self.settled = false;
-        self.printed = false;
     }
 
     /// Whether two boards have the same side and the same colouring.
@@ -176,8 +154,6 @@ impl Board {
             size: self.size,
             rows: self.rows,
             settled: self.settled,
-            print: self.print,
-            printed: self.printed,
         }
     }
 
@@ -188,71 +164,19 @@ impl Board {
         self.settled
     }
 
-    /// Restores what was known of this same colouring: what `is_settled` returned, and the print. The view doesn't change.
-    pub(crate) fn restore(&mut self, settled: bool, print: u64)
-        requires settled { IsTrue settled → has_unreaching self.old ≡ false }
-        requires print { print ≡ print_of self.old.cells }
+    /// Gives back what `is_settled` said of this same colouring. Nothing that is seen changes.
+    pub(crate) fn restore(&mut self, settled: bool)
+        requires { IsTrue settled → has_unreaching self.old ≡ false }
         ensures { self.new ≡ self.old }
     {
         self.settled = settled;
-        self.print = print;
-        self.printed = true;
-    }
-
-    /// The print of the colouring. It is kept while points are set one by one; else it is worked out from all points.
-    pub(crate) fn print(&self) -> u64
-        ensures { result ≡ print_of self.now.cells }
-    {
-        if self.printed {
-            self.print
-        } else {
-            print_of(self)
-        }
-    }
-
-    /// The print that the colouring will have after one point is coloured.
-    pub(crate) fn print_after(&self, point: Point, cell: Cell) -> u64
-        requires { IsOn self.now.side point }
-        ensures { result ≡ print_of (with_cell self.now point cell).cells }
-    {
-        print_with(self.print(), self, point, cell)
-    }
-
-    /// Places a stone that captures nothing; `print` is the print of the result. After that every stone is known to reach empty.
-    pub(crate) fn place_alone(&mut self, colour: Colour, point: Point, print: u64)
-        requires on_board { IsOn self.old.side point }
-        requires alone { play self.old colour point ≡ with_cell self.old point (stone_of colour) }
-        requires print { print ≡ print_of (with_cell self.old point (stone_of colour)).cells }
-        ensures { self.new ≡ with_cell self.old point (stone_of colour) }
-    {
-        self.set_unprinted(point, colour.stone());
-        self.print = print;
-        self.printed = true;
-        self.settled = true;
-    }
-
-    /// Works out, and keeps, what a move needs to know of the board: whether every
-    /// stone reaches empty, and the print. The view doesn't change.
-    pub(crate) fn prepare(&mut self)
-        ensures { self.new ≡ self.old }
-    {
-        self.work_settled_out();
-        self.work_print_out();
     }
 
     /// Works out whether every stone reaches empty, if it isn't known. The view doesn't change.
-    fn work_settled_out(&mut self)
+    pub(crate) fn work_settled_out(&mut self)
         ensures { self.new ≡ self.old }
     {
         self.settled = !self.has_unreaching();
-    }
-
-    /// Works out the print, if it isn't known, and keeps it. The view doesn't change.
-    fn work_print_out(&mut self)
-        ensures { self.new ≡ self.old }
-    {
-        self.print = self.print();
-        self.printed = true;
     }
 
     /// Empties all points of a colour that don't reach empty, each tested on the board as it was (Tromp-Taylor).
@@ -284,7 +208,6 @@ impl Board {
         } else {
             self.place_unsettled(colour, point);
         }
-        self.work_print_out();
         self.settled = true;
     }
 

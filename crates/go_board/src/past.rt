@@ -104,7 +104,7 @@ pub trait Past: Drop {
     {
         let mut made = self.newest().copy();
         made.colour_areas(ops);
-        made.prepare();
+        made.work_settled_out();
         self.restart(&made)
     }
 

@@ -1,6 +1,6 @@
 //! Points and rectangles of a board, and the four neighbours of a point.
 
-ghost use Rattle.std.specs.Prelude.{◌≡◌, ◌<◌, ◌*◌, ◌+◌, ◌↔◌, ℕ, IfSome, IsTrue};
+ghost use Rattle.std.specs.Prelude.{◌≡◌, ◌<◌, ◌*◌, ◌+◌, ℕ, IfSome};
 ghost use Rattle.go_board.specs.Point.{IsOn, index_of};
 ghost use Rattle.go_board.specs.inner.Neighbour.{left_of, right_of, above, below};
 
@@ -131,13 +131,4 @@ pub struct Rect {
     pub first: Point,
     /// The lower right corner.
     pub last: Point,
-}
-
-impl Rect {
-    /// Whether the rectangle is a single point.
-    pub(crate) fn is_point(self) -> bool
-        ensures { IsTrue result ↔ (self.first ≡ self.last) }
-    {
-        self.first == self.last
-    }
 }

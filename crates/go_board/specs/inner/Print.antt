@@ -1,23 +1,57 @@
--- The print of a colouring: one number made from what stands on all its points.
-use Rattle.std.specs.Prelude.{ℕ, ◌+◌, ◌*◌, ◌%◌, ◌^◌, List, [], ◌∷◌, map}
+-- The print of a colouring: one number made of what stands on all its points. Its low 14 bits are the fingerprint, in which the code
+-- of each point counts by a power of 31. The bits above are mixed from whole rows.
+use Rattle.std.specs.Prelude.{ℕ, zero, suc, ◌+◌, ◌-◌, ◌*◌, ◌/◌, ◌%◌, ◌^◌, Bool, List, map, if◌then◌else◌, bit_xor}
+use Rattle.std.specs.Int.{bit_at}
 use Rattle.go_board.specs.declared.stones.Cell.{Cell}
-use Rattle.go_board.specs.declared.stones.Cell.TheVariants.{Black, White, Empty}
+use Rattle.go_board.specs.declared.stones.Cell.TheVariants.{Black, White}
+use Rattle.go_board.specs.declared.points.Point.{Point}
+use Rattle.go_board.specs.Colour.{same_cell}
+use Rattle.go_board.specs.Point.{index_of}
+use Rattle.go_board.specs.Grid.{Grid, cell_at}
 use Rattle.go_board.specs.Past.{Held}
 
-abbrev pub code_of : Cell → ℕ
-code_of Empty = 0
-code_of Black = 1
-code_of White = 2
+-- the sum of what a function makes of the numbers below one
+abbrev pub sum_below : ℕ → (ℕ → ℕ) → ℕ
+sum_below zero f = 0
+sum_below (suc n) f = sum_below n f + f n
 
--- the codes as the digits of a number in base 31, after the digits of another number
-abbrev pub digits_after : ℕ → List Cell → ℕ
-digits_after number [] = number
-digits_after number (cell ∷ cells) = digits_after (31 * number + code_of cell) cells
+-- the columns below a number that pass a test, as a word
+abbrev pub word_below : ℕ → (ℕ → Bool) → ℕ
+word_below n test = sum_below n (λ col. if test col then 2 ^ col else 0)
+
+-- the columns of a row that are coloured so
+abbrev pub row_word : Grid → Cell → ℕ → ℕ
+row_word grid cell row = word_below grid.side (λ col. same_cell (cell_at grid (record { col = col; row = row })) cell)
+
+-- the code of a column of a row: empty 0, black 1, white 2
+abbrev pub code_in : ℕ → ℕ → ℕ → ℕ
+code_in black white col = bit_at black col + 2 * bit_at white col
+
+-- how much the code of a point counts in the fingerprint: 31 to the power of how many points come after it
+abbrev pub weight : ℕ → Point → ℕ
+weight side point = 31 ^ (side * side - 1 - index_of side point) % 16384
+
+-- a number of 64 bits whose low half depends on all bits of another one
+abbrev pub folded : ℕ → ℕ
+folded word = bit_xor word (word / 2 ^ 32)
+
+-- a number above the fingerprint that depends on all stones of a row, and isn't linear in them
+unfoldable pub mixed : ℕ → ℕ → ℕ → ℕ
+mixed row black white =
+    let first : ℕ = (row * 2 ^ 52 % 2 ^ 64 + black) % 2 ^ 64 in
+    let second : ℕ = (folded (first * 15485907386658061715 % 2 ^ 64) + white) % 2 ^ 64 in
+    folded (second * 11400714819323198485 % 2 ^ 64) * 2 ^ 14 % 2 ^ 64
+
+-- what a row adds to a print
+abbrev pub row_print : ℕ → ℕ → ℕ → ℕ → ℕ
+row_print side row black white =
+    mixed row black white + sum_below side (λ col. code_in black white col * weight side (record { col = col; row = row }))
 
 -- the print, a 64-bit number
-abbrev pub print_of : List Cell → ℕ
-print_of cells = digits_after 0 cells % 2 ^ 64
+abbrev pub print_of : Grid → ℕ
+print_of grid =
+    sum_below grid.side (λ row. row_print grid.side row (row_word grid Black row) (row_word grid White row)) % 2 ^ 64
 
 -- the prints of past colourings
 abbrev pub prints_of : List Held → List ℕ
-prints_of held = map (λ (one : Held). print_of one.colouring.cells) held
+prints_of held = map (λ (one : Held). print_of one.colouring) held

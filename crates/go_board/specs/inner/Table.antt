@@ -1,19 +1,10 @@
 -- A list of prints, oldest first, in which those with the same key are linked.
 -- A number in a link or a head is an index plus 1; 0 means none.
-use Rattle.std.specs.Prelude.{◌≡◌, ◌≢◌, ℕ, ◌-◌, ◌*◌, ◌/◌, ◌%◌, ◌^◌, ◌<◌, ◌≤◌, Option, Some, None, List, length, slice_index, bit_and, bit_xor}
+use Rattle.std.specs.Prelude.{◌≡◌, ◌≢◌, ℕ, ◌-◌, ◌/◌, ◌^◌, ◌<◌, ◌≤◌, Option, Some, None, List, length, slice_index, bit_and}
 
--- a 64-bit number whose low half depends on all bits of another one
-abbrev pub folded : ℕ → ℕ
-folded word = bit_xor word (word / 2 ^ 32)
-
--- A print is linear in the cells, so moves can be chosen whose prints have the same
--- low bits. A key depends on all bits of its print, and isn't linear.
-abbrev pub scattered : ℕ → ℕ
-scattered print = folded (folded print * 15485907386658061715 % 2 ^ 64)
-
--- a print's key in a table with this many heads
+-- a print's key in a table of that many heads, made of what is above the fingerprint
 abbrev pub key_of : ℕ → ℕ → ℕ
-key_of size print = bit_and (scattered print) (size - 1)
+key_of size print = bit_and (print / 2 ^ 14) (size - 1)
 
 -- the number of the newest of the first `count` prints that has the key; 0 if none has it
 pub record IsNewest (size : ℕ) (prints : List ℕ) (count key number : ℕ) : Type 0 where

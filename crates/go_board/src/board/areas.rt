@@ -26,21 +26,8 @@ impl Board {
         }
     }
 
-    /// Colours the points of an area. A single point is set, which keeps the print.
-    fn colour_area(&mut self, op: SetupOp)
-        requires { IsRectOn self.old.side op.area }
-        ensures { self.new ≡ with_area self.old op }
-    {
-        self.has_all_cells();
-        if op.area.is_point() {
-            self.set(op.area.first, op.cell);
-        } else {
-            self.colour_rows(op);
-        }
-    }
-
     /// Colours the points of an area row by row.
-    fn colour_rows(&mut self, op: SetupOp)
+    fn colour_area(&mut self, op: SetupOp)
         requires { IsRectOn self.old.side op.area }
         ensures { self.new ≡ with_area self.old op }
     {

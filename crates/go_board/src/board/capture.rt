@@ -32,13 +32,12 @@ impl Board {
         ensures unchanged { self.new ≡ self.old }
     {
         self.has_all_cells();
-        let print = self.print();
-        self.set_unprinted(point, colour.stone());
+        self.set(point, colour.stone());
         if !self.find_shut_beside(colour.opponent(), point, taken) {
             self.find_shut(colour, Some(point), taken);
         }
-        self.set_unprinted(point, Cell::Empty);
-        self.restore(true, print);
+        self.set(point, Cell::Empty);
+        self.restore(true);
     }
 
     /// Finds the groups of a colour beside a point that have no liberty. Returns whether there is one.
@@ -104,15 +103,16 @@ impl Board {
         )
     }
 
-    /// Places a stone; `taken` is what it takes off.
+    /// Places a stone of which it is known what it takes off. Then every stone reaches empty.
     pub(crate) fn put(&mut self, colour: Colour, point: Point, taken: &[u64])
         requires on_board { IsOn self.old.side point }
         requires taken { TakesOff self.old colour point taken.now }
         ensures { self.new ≡ play self.old colour point }
     {
         self.has_all_cells();
-        self.set_unprinted(point, colour.stone());
+        self.set(point, colour.stone());
         self.empty_set(taken);
+        self.restore(true);
     }
 }
 

@@ -26,7 +26,7 @@ impl Board {
     {
         self.has_all_cells();
         for index in 0..cells.len() {
-            self.set_unprinted(Point::of_index(index, self.size()), cells[index]);
+            self.set(Point::of_index(index, self.size()), cells[index]);
         }
     }
 }

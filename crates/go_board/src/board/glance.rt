@@ -1,15 +1,14 @@
-//! A glance at the points around a point, by words of bits. Usually it shows that a stone there captures nothing.
+//! A glance at the points around one, by words of bits: mostly it shows that a stone there captures nothing.
 
-ghost use Rattle.std.specs.Prelude.{◌≡◌, ◌⊎◌, false, ℕ, ◌<◌, ◌≤◌, IsTrue, List, length};
+ghost use Rattle.std.specs.Prelude.{◌≡◌, ◌⊎◌, false, ℕ, ◌<◌, ◌≤◌, IsTrue, List, [], length};
 ghost use Rattle.go_board.specs.declared.points.Point.{Point};
-ghost use Rattle.go_board.specs.declared.stones.Cell.TheVariants.{Empty};
 ghost use Rattle.go_board.specs.declared.stones.Colour.{Colour};
 ghost use Rattle.go_board.specs.Colour.{opponent, same_cell, stone_of};
 ghost use Rattle.go_board.specs.Point.{IsOn, DifferByOne};
 ghost use Rattle.go_board.specs.Grid.{Grid, cell_at, with_cell};
-ghost use Rattle.go_board.specs.Clearing.{play};
+ghost use Rattle.go_board.specs.Clearing.{has_unreaching};
 ghost use Rattle.go_board.specs.inner.Glance.{IsRowAt};
-ghost use Rattle.go_board.specs.inner.Groups.{AllLive};
+ghost use Rattle.go_board.specs.inner.Groups.{AllLive, TakesOff};
 ghost use Rattle.go_board.specs.inner.Regions.{AreRowsOf};
 ghost use Rattle.go_board.specs.inner.Rows.{has_bit, IsInOrBeside};
 
@@ -20,20 +19,19 @@ use crate::points::Point;
 use crate::stones::Colour;
 
 impl Board {
-    /// Whether a glance shows that a stone on an empty point captures nothing and isn't captured itself. Then the stone is all
-    /// that its move changes. The glance recognizes most such stones, but not all.
-    pub(crate) fn captures_nothing_at_a_glance(&self, colour: Colour, point: Point) -> bool
+    /// Whether a glance shows that a stone on an empty point takes nothing off, not itself either. It shows it of most such
+    /// stones, and not of all.
+    pub(crate) fn takes_nothing_at_a_glance(&self, colour: Colour, point: Point) -> bool
         requires on_board { IsOn self.now.side point }
-        requires empty { cell_at self.now point ≡ Empty }
-        ensures { IsTrue result → play self.now colour point ≡ with_cell self.now point (stone_of colour) }
+        requires settled { has_unreaching self.now ≡ false }
+        ensures { IsTrue result → TakesOff self.now colour point [] }
     {
         // reading a field lets the proof use the invariant: every point has a cell
         let _ = &self.size;
-        self.is_settled() && self.all_live_at_a_glance(colour, point)
+        self.all_live_at_a_glance(colour, point)
     }
 
-    /// Whether a glance at the rows of stones shows that a stone on a point
-    /// leaves each group beside it a liberty, and has one itself.
+    /// Whether a glance at the rows of the stones shows that a stone on a point leaves each group beside it a liberty, and has one.
     fn all_live_at_a_glance(&self, colour: Colour, point: Point) -> bool
         requires { IsOn self.now.side point }
         ensures { IsTrue result → AllLive (with_cell self.now point (stone_of colour)) colour point }
@@ -60,8 +58,8 @@ struct Look {
     shut: u64,
 }
 
-/// Whether a glance at the rows around a point shows two things of a stone of the player there. It has a liberty, by itself or by
-/// a stone beside it. And it leaves each stone of the opponent beside it a liberty of its own.
+/// Whether a glance at the rows around a point shows that a stone of the player there has a liberty, by itself or by a stone
+/// beside it, and leaves each stone of the opponent beside it one of its own.
 fn leaves_all_alive(own: &[u64], others: &[u64], point: Point) -> bool
     requires same { length others.now ≡ length own.now }
     requires few { length own.now < 64 }

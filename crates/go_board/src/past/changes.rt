@@ -1,13 +1,20 @@
 //! Past colourings. The newest is kept whole; of each older one the changes are kept that lead back to it.
 
-ghost use Rattle.std.specs.Prelude.{◌≡◌, ◌<◌, ◌&&◌, ◌==◌, ℕ, IsTrue, OnOk, OnErr, if◌then◌else◌, length, take};
+ghost use Rattle.std.specs.Prelude.{◌≡◌, ◌<◌, ◌≤◌, ◌&&◌, ◌==◌, ℕ, IsTrue, OnOk, OnErr, if◌then◌else◌, length, take};
+ghost use Rattle.go_board.specs.declared.points.Point.{Point};
+ghost use Rattle.go_board.specs.declared.stones.Cell.TheVariants.{Empty};
+ghost use Rattle.go_board.specs.declared.stones.Colour.{Colour};
+ghost use Rattle.go_board.specs.Point.{IsOn};
 ghost use Rattle.go_board.specs.Grid.{cell_at};
-ghost use Rattle.go_board.specs.inner.Changes.{after_changes, with_change, AreOn, IsChangeOn, MakeMore, differ, is_full, is_put_back};
-ghost use Rattle.go_board.specs.inner.Rows.{has_bit};
+ghost use Rattle.go_board.specs.Clearing.{play};
+ghost use Rattle.go_board.specs.inner.Changes.{after_changes, with_change, AreOn, IsChangeOn, LeadBack, MakeMore, differ, is_full, is_put_back};
+ghost use Rattle.go_board.specs.inner.Groups.{TakesOff};
+ghost use Rattle.go_board.specs.inner.Rows.{has_bit, is_set};
 
 use crate::board::Board;
-use crate::board::regions::other_columns;
+use crate::board::regions::{other_columns, with_column};
 use crate::fault::MemoryFault;
+use crate::points::Point;
 use crate::stones::{Cell, Colour};
 use std::alloc::AllocError;
 
@@ -84,6 +91,56 @@ fn add_rows(
         let columns = columns_put_back(old, new, all, row);
         add_row(old, row, columns, changes)?;
     }
+    Ok(())
+}
+
+/// Adds changes that lead back from what a stone makes to the board before it, where it is known what the stone takes off.
+pub(crate) fn lead_back_stone(
+    old: &Board,
+    point: Point,
+    taken: &[u64],
+    changes: &mut Vec<Change>,
+) -> Result<(), MemoryFault>
+    requires on_board { IsOn old.now.side point }
+    requires empty { cell_at old.now point ≡ Empty }
+    requires few { length taken.now ≤ old.now.side }
+    requires taken { (p : Point) → IsTrue (is_set taken.now p) → IsOn old.now.side p }
+    ensures ok { (colour : Colour) → TakesOff old.now colour point taken.now → OnOk result
+        (LeadBack (play old.now colour point) old.now changes.old.items changes.new.items) }
+    ensures err { OnErr result (changes.new.items ≡ changes.old.items) }
+{
+    let start = changes.len();
+    if add_stone(old, point, taken, changes).is_err() {
+        changes.truncate(start);
+        return Err(MemoryFault);
+    }
+    Ok(())
+}
+
+/// The same, but that some changes may have been added where memory was refused.
+fn add_stone(
+    old: &Board,
+    point: Point,
+    taken: &[u64],
+    changes: &mut Vec<Change>,
+) -> Result<(), AllocError>
+    requires on_board { IsOn old.now.side point }
+    requires empty { cell_at old.now point ≡ Empty }
+    requires few { length taken.now ≤ old.now.side }
+    requires taken { (p : Point) → IsTrue (is_set taken.now p) → IsOn old.now.side p }
+    ensures ok { (colour : Colour) → TakesOff old.now colour point taken.now → OnOk result
+        (LeadBack (play old.now colour point) old.now changes.old.items changes.new.items) }
+    ensures front { take (length changes.old.items) changes.new.items ≡ changes.old.items }
+{
+    old.has_all_cells();
+    'rows: for row in 0..taken.len() {
+        add_row(old, row as u8, taken[row], changes)?;
+    }
+    changes.push(Change {
+        columns: with_column(0, usize::from(point.col), true),
+        row: point.row,
+        cell: Cell::Empty,
+    })?;
     Ok(())
 }
 

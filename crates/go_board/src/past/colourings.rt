@@ -1,21 +1,21 @@
 //! Past colourings. The newest is kept whole; of each older one the changes are kept that lead back to it.
 
-ghost use Rattle.std.specs.Prelude.{◌≡◌, ◌+◌, ◌-◌, ◌*◌, ◌<◌, ◌≤◌, ◌↔◌, ◌∷◌, Some, false, IsTrue, IfOk, OnOk, OnErr, if◌then◌else◌, length, map, take, drop};
+ghost use Rattle.std.specs.Prelude.{◌≡◌, ◌+◌, ◌-◌, ◌*◌, ◌<◌, ◌≤◌, ◌↔◌, ◌∷◌, false, IsTrue, IfOk, OnOk, OnErr, if◌then◌else◌, length, map, take, drop};
 ghost use Rattle.go_board.specs.declared.stones.Cell.TheVariants.{Empty};
-ghost use Rattle.go_board.specs.Colour.{stone_of};
 ghost use Rattle.go_board.specs.Point.{IsOn};
-ghost use Rattle.go_board.specs.Grid.{Grid, cell_at, with_cell};
-ghost use Rattle.go_board.specs.Clearing.{play};
+ghost use Rattle.go_board.specs.Grid.{cell_at};
+ghost use Rattle.go_board.specs.Clearing.{play, has_unreaching};
 ghost use Rattle.go_board.specs.Past.{Held, all_of, newest_grid, only, with_next, present_stretch};
-ghost use Rattle.go_board.specs.inner.Changes.{first_grid, is_full, IsEndOf, IsNumber};
-ghost use Rattle.go_board.specs.inner.Print.{print_of};
+ghost use Rattle.go_board.specs.inner.Changes.{is_full, IsEndOf, IsNumber};
+ghost use Rattle.go_board.specs.inner.Groups.{TakesOff};
+ghost use Rattle.go_board.specs.inner.Rows.{is_set};
+ghost use Rattle.go_board.specs.declared.points.Point.{Point};
 
 use crate::board::Board;
-use crate::board::regions::with_column;
 use crate::fault::MemoryFault;
-use crate::past::changes::{Change, FULL, Older, is_full, lead_back, take_back};
+use crate::past::changes::{Change, FULL, Older, is_full, lead_back, lead_back_stone, take_back};
 use crate::points::Point;
-use crate::stones::{Cell, Colour};
+use crate::stones::Colour;
 use std::alloc::Global;
 use std::marker::Model;
 
@@ -128,27 +128,37 @@ impl Colourings {
         Ok(())
     }
 
-    /// Adds the colouring that a stone makes which captures nothing; `print` is its print. It continues the present stretch.
-    /// After a refusal nothing is changed. Memory is refused as by `add`.
+    /// Finds the points that a stone on an empty point takes off (`Board::find_taken`).
+    pub(crate) fn find_taken(&mut self, colour: Colour, point: Point, taken: &mut [u64])
+        requires on_board { IsOn (newest_grid self.old).side point }
+        requires empty { cell_at (newest_grid self.old) point ≡ Empty }
+        requires settled { has_unreaching (newest_grid self.old) ≡ false }
+        requires rows { length taken.old ≡ (newest_grid self.old).side }
+        requires none { (p : Point) → is_set taken.old p ≡ false }
+        ensures taken { TakesOff (newest_grid self.old) colour point taken.new }
+        ensures unchanged { self.new ≡ self.old }
+    {
+        self.newest.find_taken(colour, point, taken);
+    }
+
+    /// Adds the colouring that a stone makes of which it is known what it takes off. It goes on in the present stretch. After a
+    /// refusal nothing is changed; it is refused memory as by `add`.
     pub(crate) fn add_stone(
         &mut self,
         colour: Colour,
         point: Point,
-        print: u64,
+        taken: &[u64],
     ) -> Result<(), MemoryFault>
         requires on_board { IsOn (newest_grid self.old).side point }
         requires empty { cell_at (newest_grid self.old) point ≡ Empty }
-        requires alone { play (newest_grid self.old) colour point
-            ≡ with_cell (newest_grid self.old) point (stone_of colour) }
-        requires print { print ≡ print_of (with_cell (newest_grid self.old) point (stone_of colour)).cells }
-        ensures ok { OnOk result (self.new
-            ≡ with_next self.old (with_cell (newest_grid self.old) point (stone_of colour)) false) }
+        requires taken { TakesOff (newest_grid self.old) colour point taken.now }
+        ensures ok { OnOk result (self.new ≡ with_next self.old (play (newest_grid self.old) colour point) false) }
         ensures err { OnErr result (self.new ≡ self.old) }
     {
         self.newest.has_all_cells();
         if is_full(self.older.len()) {
             let mut made = self.newest.copy();
-            made.place_alone(colour, point, print);
+            made.put(colour, point, taken);
             return self.add(&made, false);
         }
         let older_in_stretch = next_older_in_stretch(self.older_in_stretch, false)?;
@@ -158,26 +168,21 @@ impl Colourings {
             older_in_stretch: self.older_in_stretch,
             settled: self.newest.is_settled(),
         };
-        self.changes.push(Change {
-            columns: with_column(0, usize::from(point.col), true),
-            row: point.row,
-            cell: Cell::Empty,
-        })?;
-        self.newest.place_alone(colour, point, print);
+        lead_back_stone(&self.newest, point, taken, &mut self.changes)?;
+        self.newest.put(colour, point, taken);
         self.older.push(kept).unwrap();
         self.older_in_stretch = older_in_stretch;
         Ok(())
     }
 
-    /// Takes back the newest colouring. `print` is the print of the colouring before it.
-    pub(crate) fn pop(&mut self, print: u64)
-        requires some { 0 < length self.old.older }
-        requires print { (g : Grid) → first_grid self.old.older ≡ Some g → print ≡ print_of g.cells }
+    /// Takes the newest colouring back.
+    pub(crate) fn pop(&mut self)
+        requires { 0 < length self.old.older }
         ensures { self.old.older ≡ self.new.newest ∷ self.new.older }
     {
         let kept = self.older.pop().unwrap();
         take_back(&mut self.newest, &self.changes[kept.start..]);
-        self.newest.restore(kept.settled, print);
+        self.newest.restore(kept.settled);
         self.changes.truncate(kept.start);
         self.older_in_stretch = kept.older_in_stretch;
     }

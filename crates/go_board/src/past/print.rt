@@ -1,56 +1,140 @@
 //! The print of a colouring: one number made from what stands on all its points.
 //! Usually one comparison of prints is enough to show that two colourings differ.
+//!
+//! Its low 14 bits are the fingerprint: from 0, for each point row by row from the top, from left to right, 31 times the number and the
+//! point's code (empty 0, black 1, white 2). That is linear in the codes, so colourings with equal fingerprints can be built from a
+//! formula. The bits above are a sum over the rows, each of which is mixed as a whole.
 
-mod powers;
-
-ghost use Rattle.std.specs.Prelude.{◌≡◌};
+ghost use Rattle.std.specs.Prelude.{◌≡◌, ◌<◌, ◌%◌, ◌^◌, ℕ, IsTrue};
+ghost use Rattle.go_board.specs.declared.stones.Cell.TheVariants.{Empty};
+ghost use Rattle.go_board.specs.Colour.{stone_of};
 ghost use Rattle.go_board.specs.Point.{IsOn};
-ghost use Rattle.go_board.specs.Grid.{with_cell};
-ghost use Rattle.go_board.specs.inner.Print.{code_of, print_of};
+ghost use Rattle.go_board.specs.Grid.{cell_at, with_cell};
+ghost use Rattle.go_board.specs.inner.Print.{code_in, folded, mixed, print_of, row_print, weight};
+ghost use Rattle.go_board.specs.inner.Rows.{has_bit};
 
 use crate::board::Board;
-use crate::past::print::powers::power;
+use crate::board::regions::with_column;
+use crate::board::stone_rows::without_column;
 use crate::points::Point;
-use crate::stones::Cell;
+use crate::size::{MAX_POINTS, Size};
+use crate::stones::Colour;
 
-/// The base in which the codes of the points are digits.
-const BASE: u64 = 31;
+/// How many bits of a print are the fingerprint.
+pub(crate) const FINGERPRINT_BITS: u32 = 14;
 
-/// The print of a board. Its points are taken row by row from the top, from left to right. The print starts at 0. For each point
-/// it is multiplied by 31, and the point's code is added (empty 0, black 1, white 2), modulo 2^64.
+/// One more than the greatest fingerprint.
+const FINGERPRINTS: u64 = 1 << FINGERPRINT_BITS;
+
+/// An odd number with many bits set, which spreads the bits of a row's black stones upwards.
+const BLACK_MIXER: u64 = 0xd6e8_feb8_6659_fd93;
+
+/// The same for its white stones.
+const WHITE_MIXER: u64 = 0x9e37_79b9_7f4a_7c15;
+
+/// The print of a board.
 pub(crate) fn print_of(board: &Board) -> u64
-    ensures { result ≡ print_of board.now.cells }
+    ensures { result ≡ print_of board.now }
 {
     board.has_all_cells();
     let size = board.size();
     let mut print: u64 = 0;
-    for index in 0..size.points() {
-        let cell = board.at(Point::of_index(index, size));
-        print = print.wrapping_mul(BASE).wrapping_add(code_of(cell));
+    for row in 0..size.side() {
+        let black = board.columns_of(row, Colour::Black);
+        let white = board.columns_of(row, Colour::White);
+        print = print.wrapping_add(row_print(size, row, black, white));
     }
     print
 }
 
-/// The print after a point gets a new cell, from the print before.
-pub(crate) fn print_with(print: u64, board: &Board, point: Point, new: Cell) -> u64
-    requires { IsOn board.now.side point }
-    ensures { print ≡ print_of board.now.cells → result ≡ print_of (with_cell board.now point new).cells }
+/// The print once a stone is put on an empty point, from the print before.
+pub(crate) fn print_after_stone(print: u64, board: &Board, colour: Colour, point: Point) -> u64
+    requires on_board { IsOn board.now.side point }
+    requires empty { cell_at board.now point ≡ Empty }
+    requires print { print ≡ print_of board.now }
+    ensures { result ≡ print_of (with_cell board.now point (stone_of colour)) }
 {
     board.has_all_cells();
-    let size = board.size();
-    let weight = power(size.points() - 1 - point.index(size));
+    let col = usize::from(point.col);
+    let black = board.columns_of(point.row, Colour::Black);
+    let white = board.columns_of(point.row, Colour::White);
+    let new_black = with_column(black, col, colour == Colour::Black);
+    let new_white = with_column(white, col, colour == Colour::White);
+    let code = code_in(new_black, new_white, col);
     print
-        .wrapping_add(code_of(new).wrapping_mul(weight))
-        .wrapping_sub(code_of(board.at(point)).wrapping_mul(weight))
+        .wrapping_add(code * weight(board.size(), point))
+        .wrapping_add(mixed(point.row, new_black, new_white))
+        .wrapping_sub(mixed(point.row, black, white))
 }
 
-/// The code of what stands on a point.
-fn code_of(cell: Cell) -> u64
-    ensures { result ≡ code_of cell }
+/// What a row adds to a print.
+fn row_print(size: Size, row: u8, black: u64, white: u64) -> u64
+    requires row { row < size }
+    requires black { (col : ℕ) → IsTrue (has_bit black col) → col < size }
+    requires white { (col : ℕ) → IsTrue (has_bit white col) → col < size }
+    ensures { result ≡ row_print size row black white % 2 ^ 64 }
 {
-    match cell {
-        Cell::Empty => 0,
-        Cell::Black => 1,
-        Cell::White => 2,
+    let mut print = mixed(row, black, white);
+    let mut left = black | white;
+    'stones: while left != 0 {
+        let col = left.trailing_zeros() as usize;
+        left = without_column(left, col);
+        let point = Point {
+            col: col as u8,
+            row,
+        };
+        print = print.wrapping_add(code_in(black, white, col) * weight(size, point));
     }
+    print
+}
+
+/// The code of a column of a row.
+fn code_in(black: u64, white: u64, col: usize) -> u64
+    requires { col < 64 }
+    ensures value { result ≡ code_in black white col }
+    ensures at_most { result < 4 }
+{
+    (black >> col & 1) + 2 * (white >> col & 1)
+}
+
+/// How much the code of a point counts in the fingerprint.
+fn weight(size: Size, point: Point) -> u64
+    requires { IsOn size point }
+    ensures value { result ≡ weight size point }
+    ensures at_most { result < FINGERPRINTS }
+{
+    power(size.points() - 1 - point.index(size))
+}
+
+/// The power of 31 with that exponent, modulo 16,384. The square of 31 is 1 + 960, and the third power of 960 and all
+/// beyond count for nothing: three terms of the binomial sum are left.
+fn power(exponent: usize) -> u64
+    requires { exponent < MAX_POINTS }
+    ensures value { result ≡ 31 ^ exponent % FINGERPRINTS }
+    ensures at_most { result < FINGERPRINTS }
+{
+    let half = (exponent / 2) as u64;
+    let even = 1 + half * (15_296 + 2_048 * half);
+    if exponent % 2 == 0 {
+        even % FINGERPRINTS
+    } else {
+        31 * even % FINGERPRINTS
+    }
+}
+
+/// A number above the fingerprint that depends on all stones of a row, and isn't linear in them.
+#[tactic(auto, unfolding(crate::specs::inner::Print::mixed))]
+fn mixed(row: u8, black: u64, white: u64) -> u64
+    ensures { result ≡ mixed row black white }
+{
+    let first = (u64::from(row) << 52).wrapping_add(black);
+    let second = folded(first.wrapping_mul(BLACK_MIXER)).wrapping_add(white);
+    folded(second.wrapping_mul(WHITE_MIXER)) << FINGERPRINT_BITS
+}
+
+/// A number whose low half depends on all bits of another one.
+fn folded(number: u64) -> u64
+    ensures { result ≡ folded number }
+{
+    number ^ (number >> 32)
 }

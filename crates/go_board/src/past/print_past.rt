@@ -1,9 +1,11 @@
 //! The past with prints.
 
 use crate::board::Board;
+use crate::board::regions::no_rows;
 use crate::fault::MemoryFault;
 use crate::past::Past;
 use crate::past::colourings::Colourings;
+use crate::past::print::{print_after_stone, print_of};
 use crate::past::table::Table;
 use crate::points::Point;
 use crate::stones::Colour;
@@ -41,12 +43,68 @@ impl Past for PrintPast {
     fn new(alloc: Global, board: &Board) -> Result<PrintPast, MemoryFault> {
         Ok(PrintPast {
             colourings: Colourings::new(alloc, board)?,
-            prints: Table::new(alloc, board.print())?,
+            prints: Table::new(alloc, print_of(board))?,
         })
     }
 
     fn holds(&self, board: &Board) -> bool {
-        let print = board.print();
+        self.holds_printed(board, print_of(board))
+    }
+
+    fn newest(&self) -> &Board {
+        self.colourings.newest()
+    }
+
+    fn push(&mut self, board: &Board) -> Result<(), MemoryFault> {
+        self.add(board, print_of(board), false)
+    }
+
+    fn restart(&mut self, board: &Board) -> Result<(), MemoryFault> {
+        self.add(board, print_of(board), true)
+    }
+
+    fn play(&mut self, colour: Colour, point: Point) -> Result<bool, MemoryFault> {
+        let newest = self.colourings.newest();
+        if !newest.is_settled() {
+            return self.play_on_copy(colour, point);
+        }
+        if newest.takes_nothing_at_a_glance(colour, point) {
+            return self.play_taking(colour, point, &[]);
+        }
+        let mut words = no_rows();
+        let taken = &mut words[..usize::from(newest.size().side())];
+        self.colourings.find_taken(colour, point, taken);
+        self.play_taking(colour, point, taken)
+    }
+
+    fn pop(&mut self) {
+        let _ = self.prints.pop();
+        self.colourings.pop();
+    }
+
+    fn reset(&mut self, _alloc: Global, board: &Board) -> Result<(), MemoryFault> {
+        self.colourings.reset(board);
+        self.prints.reset(print_of(board));
+        Ok(())
+    }
+}
+
+impl PrintPast {
+    ghost use Rattle.std.specs.Prelude.{◌≡◌, ◌↔◌, false, if◌then◌else◌, IsFalse, IsTrue, IfOk, OnOk, OnErr, Contains};
+    ghost use Rattle.go_board.specs.declared.stones.Cell.TheVariants.{Empty};
+    ghost use Rattle.go_board.specs.Point.{IsOn};
+    ghost use Rattle.go_board.specs.Grid.{Grid, cell_at};
+    ghost use Rattle.go_board.specs.Clearing.{play};
+    ghost use Rattle.go_board.specs.Past.{newest_grid, with_next, present_stretch, HaveSide};
+    ghost use Rattle.go_board.specs.inner.Groups.{TakesOff};
+    ghost use Rattle.go_board.specs.inner.Print.{print_of};
+
+    /// Whether the present stretch has the colouring, of that print.
+    fn holds_printed(&self, board: &Board, print: u64) -> bool
+        requires side { HaveSide board.now.side self.now }
+        requires print { print ≡ print_of board.now }
+        ensures { IsTrue result ↔ Contains (present_stretch self.now) board.now }
+    {
         let start = self.colourings.stretch_start();
         let mut end = self.prints.len();
         while let Some(number) = self.prints.last_between(print, start, end) {
@@ -58,59 +116,14 @@ impl Past for PrintPast {
         false
     }
 
-    fn newest(&self) -> &Board {
-        self.colourings.newest()
-    }
-
-    fn push(&mut self, board: &Board) -> Result<(), MemoryFault> {
-        self.add(board, false)
-    }
-
-    fn restart(&mut self, board: &Board) -> Result<(), MemoryFault> {
-        self.add(board, true)
-    }
-
-    fn play(&mut self, colour: Colour, point: Point) -> Result<bool, MemoryFault> {
-        let newest = self.colourings.newest();
-        if newest.captures_nothing_at_a_glance(colour, point) {
-            let print = newest.print_after(point, colour.stone());
-            if !self.has_print(print) {
-                self.add_stone(colour, point, print)?;
-                return Ok(true);
-            }
-        }
-        self.play_on_copy(colour, point)
-    }
-
-    fn pop(&mut self) {
-        let _ = self.prints.pop();
-        self.colourings.pop(self.prints.newest());
-    }
-
-    fn reset(&mut self, _alloc: Global, board: &Board) -> Result<(), MemoryFault> {
-        self.colourings.reset(board);
-        self.prints.reset(board.print());
-        Ok(())
-    }
-}
-
-impl PrintPast {
-    ghost use Rattle.std.specs.Prelude.{◌≡◌, ◌↔◌, false, if◌then◌else◌, IsFalse, IfOk, OnOk, OnErr, Contains};
-    ghost use Rattle.go_board.specs.declared.stones.Cell.TheVariants.{Empty};
-    ghost use Rattle.go_board.specs.Point.{IsOn};
-    ghost use Rattle.go_board.specs.Colour.{stone_of};
-    ghost use Rattle.go_board.specs.Grid.{Grid, cell_at, with_cell};
-    ghost use Rattle.go_board.specs.Clearing.{play};
-    ghost use Rattle.go_board.specs.Past.{newest_grid, with_next, present_stretch, HaveSide};
-    ghost use Rattle.go_board.specs.inner.Print.{print_of};
-
-    /// Adds a colouring, which begins a stretch or continues the present one.
-    fn add(&mut self, board: &Board, begins: bool) -> Result<(), MemoryFault>
-        requires { HaveSide board.now.side self.old }
+    /// Adds a colouring of that print, which begins a stretch or goes on in the present one.
+    fn add(&mut self, board: &Board, print: u64, begins: bool) -> Result<(), MemoryFault>
+        requires side { HaveSide board.now.side self.old }
+        requires print { print ≡ print_of board.now }
         ensures ok { OnOk result (self.new ≡ with_next self.old board.now begins) }
         ensures err { OnErr result (self.new ≡ self.old) }
     {
-        self.prints.push(board.print())?;
+        self.prints.push(print)?;
         if self.colourings.add(board, begins).is_err() {
             self.prints.pop();
             return Err(MemoryFault);
@@ -118,27 +131,58 @@ impl PrintPast {
         Ok(())
     }
 
-    /// Adds the colouring that a stone makes which captures nothing to the present stretch; `print` is its print.
-    fn add_stone(&mut self, colour: Colour, point: Point, print: u64) -> Result<(), MemoryFault>
+    /// The same as `play`, where it is known what the stone takes off.
+    fn play_taking(
+        &mut self,
+        colour: Colour,
+        point: Point,
+        taken: &[u64],
+    ) -> Result<bool, MemoryFault>
+        requires one_side { HaveSide (newest_grid self.old).side self.old }
         requires on_board { IsOn (newest_grid self.old).side point }
         requires empty { cell_at (newest_grid self.old) point ≡ Empty }
-        requires alone { play (newest_grid self.old) colour point
-            ≡ with_cell (newest_grid self.old) point (stone_of colour) }
-        requires print { print ≡ print_of (with_cell (newest_grid self.old) point (stone_of colour)).cells }
-        ensures ok { OnOk result (self.new ≡ with_next self.old (play (newest_grid self.old) colour point) false) }
+        requires taken { TakesOff (newest_grid self.old) colour point taken.now }
+        ensures known { IfOk result (λ added. IsFalse added
+            ↔ Contains (present_stretch self.old) (play (newest_grid self.old) colour point)) }
+        ensures ok { IfOk result (λ added. self.new ≡ (if added
+            then with_next self.old (play (newest_grid self.old) colour point) false
+            else self.old)) }
+        ensures refused { OnErr result
+            (¬ Contains (present_stretch self.old) (play (newest_grid self.old) colour point)) }
         ensures err { OnErr result (self.new ≡ self.old) }
     {
+        let print = self.print_once_put(colour, point, taken);
+        if self.has_print(print) {
+            return self.play_on_copy(colour, point);
+        }
         self.prints.push(print)?;
-        if self.colourings.add_stone(colour, point, print).is_err() {
+        if self.colourings.add_stone(colour, point, taken).is_err() {
             self.prints.pop();
             return Err(MemoryFault);
         }
-        Ok(())
+        Ok(true)
+    }
+
+    /// The print of what a stone makes of which it is known what it takes off.
+    fn print_once_put(&self, colour: Colour, point: Point, taken: &[u64]) -> u64
+        requires on_board { IsOn (newest_grid self.now).side point }
+        requires empty { cell_at (newest_grid self.now) point ≡ Empty }
+        requires taken { TakesOff (newest_grid self.now) colour point taken.now }
+        ensures { result ≡ print_of (play (newest_grid self.now) colour point) }
+    {
+        let newest = self.colourings.newest();
+        newest.has_all_cells();
+        if taken.is_empty() {
+            return print_after_stone(self.prints.newest(), newest, colour, point);
+        }
+        let mut made = newest.copy();
+        made.put(colour, point, taken);
+        print_of(&made)
     }
 
     /// Whether a colouring of the present stretch has this print.
     fn has_print(&self, print: u64) -> bool
-        ensures { (grid : Grid) → IsFalse result → print ≡ print_of grid.cells
+        ensures { (grid : Grid) → IsFalse result → print ≡ print_of grid
             → ¬ Contains (present_stretch self.now) grid }
     {
         let start = self.colourings.stretch_start();
@@ -164,10 +208,11 @@ impl PrintPast {
     {
         let mut made = self.newest().copy();
         made.place(colour, point);
-        if self.holds(&made) {
+        let print = print_of(&made);
+        if self.holds_printed(&made, print) {
             return Ok(false);
         }
-        self.push(&made)?;
+        self.add(&made, print, false)?;
         Ok(true)
     }
 }

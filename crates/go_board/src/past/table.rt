@@ -1,9 +1,10 @@
 //! A list of prints in which a print is found without looking at most of the others.
 
 ghost use Rattle.std.specs.Prelude.{◌≡◌, ◌+◌, ◌-◌, ◌<◌, ◌≤◌, ◌^◌, [], ◌∷◌, ◌++◌, IfOk, OnOk, OnErr, length, replicate, slice_index};
-ghost use Rattle.go_board.specs.inner.Table.{key_of, scattered, folded, AreLinked, IsLastOf};
+ghost use Rattle.go_board.specs.inner.Table.{key_of, AreLinked, IsLastOf};
 
 use crate::fault::MemoryFault;
+use crate::past::print::FINGERPRINT_BITS;
 use std::alloc::Global;
 use std::marker::Model;
 
@@ -15,9 +16,6 @@ const FIRST_PRINTS: usize = 64;
 
 /// The number of heads that can be emptied at once in the time in which one print is taken back.
 const HEADS_AT_ONCE: usize = 64;
-
-/// An odd number with many bits set, which spreads the bits of a print upwards.
-const MIXER: u64 = 0xd6e8_feb8_6659_fd93;
 
 /// Prints, oldest first. Those with the same key are linked from the newest to the oldest. There
 /// are at least as many keys as prints, so on average a key has at most one print.
@@ -202,28 +200,14 @@ impl Table {
     }
 }
 
-/// The key of a print in a table with this many heads.
+/// The key of a print where there are so many heads. It isn't made of the fingerprint, which is linear in the cells: moves can be chosen whose
+/// fingerprints are the same, and each look at the table would then go over all of them.
 fn key_of(heads: usize, print: u64) -> usize
     requires { 0 < heads }
     ensures value { result ≡ key_of heads print }
     ensures within { result < heads }
 {
-    scattered(print) as usize & (heads - 1)
-}
-
-/// A number that depends on all bits of a print, and isn't linear in them. Prints are linear in the cells, so moves can be chosen
-/// whose prints have the same low bits. With those bits as the key, each look-up would go over all these prints.
-fn scattered(print: u64) -> u64
-    ensures { result ≡ scattered print }
-{
-    folded(folded(print).wrapping_mul(MIXER))
-}
-
-/// A number whose low half depends on all bits of another one.
-fn folded(number: u64) -> u64
-    ensures { result ≡ folded number }
-{
-    number ^ (number >> 32)
+    (print >> FINGERPRINT_BITS) as usize & (heads - 1)
 }
 
 /// Heads for keys that no print has.

@@ -24,5 +24,4 @@ invariant_of-self c =
     let are = c.colour.ensures (grid_with i.size i.rows) (omega (arith, c.from.ensures, c.requires.row, side)) (λ k is. omega (arith, c.requires.columns k is, side)) c.self.invariant.0 in (
       subst (λ g. AreStones g c.colour.new.self) (sym (coloured_is i.size i.rows c.colour.new.self c.from.result c.args.columns c.args.cell are)) are,
       λ settled. cc,
-      λ printed. cc,
     )

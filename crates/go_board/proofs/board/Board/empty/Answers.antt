@@ -1,9 +1,7 @@
-use Rattle.std.proofs.Common.{◌≡◌, ◌*◌, ◌≤◌, arith, ap, sym, ◌∙◌, subst}
-use Rattle.go_board.specs.Grid.{Grid, empty_grid}
+use Rattle.std.proofs.Common.{◌≡◌, ◌≤◌, arith, ap, sym, ◌∙◌, subst}
+use Rattle.go_board.specs.Grid.{empty_grid}
 use Rattle.go_board.specs.Clearing.{has_unreaching}
-use Rattle.go_board.specs.inner.Print.{print_of}
 use Rattle.go_board.specs.inner.Regions.{AreStones, grid_with}
-use Rattle.go_board.proofs.PrintSetLemmas.{print-empty}
 use Rattle.go_board.proofs.StoneRowsLemmas.{grid_is}
 use Rattle.go_board.proofs.SettledLemmas.{settled-empty_grid}
 use Rattle.go_board.proofs.board.Board.empty.Goals as goal
@@ -18,7 +16,6 @@ pub invariant_of-result : goal.invariant_of-result
 invariant_of-result c = (
   subst (λ g. AreStones g c.none.result) (sym (is_empty c)) (are c),
   λ _. ap has_unreaching (is_empty c) ∙ settled-empty_grid c.args.size,
-  λ _. sym (ap (λ (g : Grid). print_of g.cells) (is_empty c) ∙ print-empty (c.args.size * c.args.size)),
 )
 
 pub returns : goal.returns

@@ -5,7 +5,6 @@ use Rattle.go_board.specs.Colour.{opponent, stone_of}
 use Rattle.go_board.specs.Point.{IsOn, AreAdjacent}
 use Rattle.go_board.specs.Grid.{Grid, with_cell}
 use Rattle.go_board.specs.Clearing.{has_unreaching}
-use Rattle.go_board.specs.inner.Print.{print_of}
 use Rattle.go_board.specs.inner.Rows.{is_set}
 use Rattle.go_board.specs.inner.Groups.{AreShutGroups, AreTakenOrReachBeside, IsTakenOrReaches, TakesOff}
 use Rattle.go_board.proofs.TakenLemmas.{AreShutGroups-none, taken_away, takes_off_beside, takes_off_own}
@@ -14,22 +13,19 @@ use Rattle.go_board.proofs.board.Board.find_taken.Goals.{then-not-find_shut_besi
 
 pub find_shut_beside-requires-clause-shut : goal.find_shut_beside-requires-clause-shut
 find_shut_beside-requires-clause-shut c =
-    AreShutGroups-none c.set_unprinted.new.self c.opponent.result c.args.taken.now (c.requires.rows ∙ sym (ap (λ (g : Grid). g.side) c.set_unprinted.ensures)) c.requires.none
+    AreShutGroups-none c.set.new.self c.opponent.result c.args.taken.now (c.requires.rows ∙ sym (ap (λ (g : Grid). g.side) c.set.ensures)) c.requires.none
 
-as_before : (c : goal.After-restore-arg-1) → c.set_unprinted-2.new.self ≡ c.args.self.now
+as_before : (c : goal.After-restore-arg-1) → c.set-2.new.self ≡ c.args.self.now
 as_before c =
-    c.set_unprinted-2.ensures ∙ ap (λ h. with_cell h c.args.point Empty) c.set_unprinted.ensures
+    c.set-2.ensures ∙ ap (λ h. with_cell h c.args.point Empty) c.set.ensures
     ∙ taken_away c.args.self.now c.args.point c.stone.result c.requires.on_board c.has_all_cells.ensures.all c.requires.empty
 
-pub restore-requires-clause-settled : goal.restore-requires-clause-settled
-restore-requires-clause-settled c = λ _. ap has_unreaching (as_before c) ∙ c.requires.settled
-
-pub restore-requires-clause-print : goal.restore-requires-clause-print
-restore-requires-clause-print c = c.print-print.ensures ∙ ap (λ (g : Grid). print_of g.cells) (sym (as_before c))
+pub restore-requires : goal.restore-requires
+restore-requires c = λ _. ap has_unreaching (as_before c) ∙ c.requires.settled
 
 pub returns-clause-unchanged : goal.returns-clause-unchanged
 returns-clause-unchanged c =
-    c.restore.ensures ∙ c.set_unprinted-2.ensures ∙ ap (λ h. with_cell h c.args.point Empty) c.set_unprinted.ensures
+    c.restore.ensures ∙ c.set-2.ensures ∙ ap (λ h. with_cell h c.args.point Empty) c.set.ensures
     ∙ taken_away c.args.self.now c.args.point c.stone.result c.requires.on_board c.has_all_cells.ensures.all c.requires.empty
 
 pub returns-clause-taken : goal.returns-clause-taken
@@ -38,7 +34,7 @@ returns-clause-taken c =
     let k = c.args.colour in
     let p = c.args.point in
     let placed = with_cell g p (stone_of k) in
-    let here : c.set_unprinted.new.self ≡ placed = c.set_unprinted.ensures ∙ ap (with_cell g p) c.stone.ensures in
+    let here : c.set.new.self ≡ placed = c.set.ensures ∙ ap (with_cell g p) c.stone.ensures in
     let first = c.find_shut_beside in
     let beside : AreTakenOrReachBeside placed (opponent k) p first.new.shut =
     subst (λ o. AreTakenOrReachBeside placed o p first.new.shut) c.opponent.ensures (subst (λ h. AreTakenOrReachBeside h c.opponent.result p first.new.shut) here first.ensures.beside) in

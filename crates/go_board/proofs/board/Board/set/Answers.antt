@@ -1,14 +1,24 @@
-use Rattle.std.proofs.Common.{sym, ap, ◌∙◌}
-use Rattle.go_board.specs.Grid.{Grid}
-use Rattle.go_board.specs.inner.Print.{print_of}
+use Rattle.std.proofs.Common.{◌≡◌, inl, inr, true, ◌∙◌, refl, subst, arith, sym}
+use Rattle.std.proofs.Math.Bool.{or-true}
+use Rattle.std.proofs.lemmas.Bool.{false≢true}
+use Rattle.go_board.specs.inner.Rows.{has_bit}
+use Rattle.go_board.proofs.WordLemmas.{from_more, has_bit-zero}
+use Rattle.go_board.proofs.StoneRowsLemmas.{one_coloured}
 use Rattle.go_board.proofs.board.Board.set.Goals as goal
 
-pub invariant_of-self : goal.invariant_of-self
-invariant_of-self c =
-    let new = c.self-2 in (
-      new.invariant.0,
-      new.invariant.1,
-      λ printed.
-          c.print_with-print.ensures (c.self.invariant.2 printed ∙ ap (λ (g : Grid). print_of g.cells) c.self.view_is)
-          ∙ ap (λ (g : Grid). print_of g.cells) (sym (new.view_is ∙ c.set_unprinted.ensures)),
-    )
+pub colour_columns-requires-clause-columns : goal.colour_columns-requires-clause-columns
+colour_columns-requires-clause-columns c = λ k is.
+    let e = c.with_column-column.ensures in
+    elim (from_more _ _ _ e.there e.elsewhere k is) [
+      | inl none ↦ absurd (false≢true (sym (has_bit-zero k) ∙ none))
+      | inr at ↦ omega (arith, at, c.from.ensures, c.requires.0)
+    ]
+
+pub returns : goal.returns
+returns c =
+    let e = c.with_column-column.ensures in
+    let columns = c.with_column-column.result in
+    c.colour_columns.ensures
+    ∙ one_coloured c.args.self.now c.args.point c.args.point.row columns c.args.cell c.requires c.has_all_cells.ensures.all refl
+    (subst (λ k. has_bit columns k ≡ true) c.from.ensures (e.there ∙ or-true _))
+    (λ k other. e.elsewhere k (λ at. other (at ∙ c.from.ensures)) ∙ has_bit-zero k)

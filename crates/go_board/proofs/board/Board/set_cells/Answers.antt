@@ -20,10 +20,10 @@ loop-index-preserved c =
     let cells = c.args.cells.now in
     let cell = get_or cells l.index Black in
     let at : index_of g.side c.of_index.result ≡ l.index = ap (λ n. index_of n c.of_index.result) (sym c.size.ensures) ∙ c.of_index.ensures.value in
-    let made : c.set_unprinted.new.self.cells ≡ set g.cells l.index cell = ap (λ (h : Grid). h.cells) c.set_unprinted.ensures ∙ ap (λ j. set g.cells j cell) at in
+    let made : c.set.new.self.cells ≡ set g.cells l.index cell = ap (λ (h : Grid). h.cells) c.set.ensures ∙ ap (λ j. set g.cells j cell) at in
     let below : l.index < length g.cells = omega (arith, c.loop-index-test.true, l.invariant.all) in
     record {
-      same_side = ap (λ (h : Grid). h.side) c.set_unprinted.ensures ∙ l.invariant.same_side;
+      same_side = ap (λ (h : Grid). h.side) c.set.ensures ∙ l.invariant.same_side;
       all = ap length made ∙ length-set g.cells l.index cell ∙ l.invariant.all;
       written = λ k h.
           ap (λ xs. get_or xs k Empty) made

@@ -12,5 +12,5 @@ reset-requires-2 c =
 pub invariant_of-self : goal.invariant_of-self
 invariant_of-self c =
     ap (λ (prints : List ℕ). reverse prints) c.reset-2.ensures
-    ∙ ap (λ n. n ∷ []) c.print.ensures
+    ∙ ap (λ n. n ∷ []) c.print_of.ensures
     ∙ sym (ap (λ (past : PastColourings). prints_of (all_of past)) c.reset.ensures)

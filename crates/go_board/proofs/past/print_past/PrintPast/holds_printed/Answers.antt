@@ -1,11 +1,10 @@
-use Rattle.std.proofs.Common.{◌≡◌, ℕ, ◌<◌, ◌≤◌, inl, inr, length, Contains, IsTrue, ◌↔◌, true, false, subst, sym, ◌∙◌, refl, arith}
+use Rattle.std.proofs.Common.{ℕ, ◌<◌, ◌≤◌, inl, inr, length, Contains, IsTrue, ◌↔◌, true, false, subst, sym, ◌∙◌, refl, arith}
 use Rattle.std.proofs.lemmas.Bool.{false≢true}
 use Rattle.std.proofs.lemmas.Bool.{cases_lt, cases_eq}
-use Rattle.go_board.specs.inner.Print.{print_of}
 use Rattle.go_board.specs.Past.{PastColourings, all_of, present_stretch}
 use Rattle.go_board.specs.inner.Changes.{IsNumber}
 use Rattle.go_board.proofs.PrintPastLemmas.{missing, seen, unseen, same_length}
-use Rattle.go_board.proofs.past.print_past.PrintPastPast.holds.Goals as goal
+use Rattle.go_board.proofs.past.print_past.PrintPast.holds_printed.Goals as goal
 
 pub returns-then-is_at : goal.returns-then-is_at
 returns-then-is_at c =
@@ -21,7 +20,7 @@ loop-number-preserved c =
     let p = c.self.inside in
     let found = c.in-Some.ensures in
     let number = c.in-Some.number in
-    let print : c.print-print.result ≡ print_of c.args.board.now.cells = c.print-print.ensures in
+    let print = c.requires.print in
     record {
       within = omega (arith, found.1);
       none = λ y low high at.
@@ -29,7 +28,7 @@ loop-number-preserved c =
             | inr after ↦ c.loop-number.invariant.none y after high at
             | inl before ↦ elim (cases_eq y number) [
               | inl e ↦ false≢true (sym c.if-is_at.false ∙ c.is_at.ensures.1 (rw e at at))
-              | inr other ↦ missing (all_of p.colourings) p.prints c.self.invariant y c.print-print.result c.args.board.now print high (found.3 y (omega (arith, low, other)) before) at
+              | inr other ↦ missing (all_of p.colourings) p.prints c.self.invariant y c.args.print c.args.board.now print high (found.3 y (omega (arith, low, other)) before) at
             ]
           ];
     }
@@ -37,12 +36,12 @@ loop-number-preserved c =
 pub returns : goal.returns
 returns c =
     let p = c.self.inside in
-    let print : c.print-print.result ≡ print_of c.args.board.now.cells = c.print-print.ensures in
+    let print = c.requires.print in
     let start = c.stretch_start-start.result in
     let never : (y : ℕ) → start ≤ y → y < length (all_of p.colourings) → IsNumber (all_of p.colourings) y c.args.board.now → ⊥ = λ y low high at.
     elim (cases_lt y c.loop-number.end) [
       | inr after ↦ c.loop-number.invariant.none y after high at
-      | inl before ↦ missing (all_of p.colourings) p.prints c.self.invariant y c.print-print.result c.args.board.now print high (c.in_default.ensures y low before) at
+      | inl before ↦ missing (all_of p.colourings) p.prints c.self.invariant y c.args.print c.args.board.now print high (c.in_default.ensures y low before) at
     ] in
     subst (λ (past : PastColourings). IsTrue false ↔ Contains (present_stretch past) c.args.board.now) c.self.view_is
     (λ t. absurd (false≢true t), λ has. absurd (unseen (all_of p.colourings) p.prints c.self.invariant start c.args.board.now c.stretch_start-start.ensures.stretch never has))

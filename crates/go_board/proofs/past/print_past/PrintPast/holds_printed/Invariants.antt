@@ -2,7 +2,7 @@
 use Rattle.std.proofs.Common.{ℕ, ◌<◌, ◌≤◌, length}
 use Rattle.go_board.specs.Past.{all_of}
 use Rattle.go_board.specs.inner.Changes.{IsNumber}
-use Rattle.go_board.proofs.past.print_past.PrintPastPast.holds.Given as goal
+use Rattle.go_board.proofs.past.print_past.PrintPast.holds_printed.Given as goal
 
 abbrev pub invariant-loop-number : goal.invariant-loop-number
 invariant-loop-number l = record {

@@ -1,0 +1,15 @@
+use Rattle.std.proofs.Common.{◌∙◌, subst, IsFalse, IfOk, ◌↔◌, Contains}
+use Rattle.go_board.specs.Past.{PastColourings, newest_grid, present_stretch}
+use Rattle.go_board.specs.Clearing.{play}
+use Rattle.go_board.proofs.LinkedLemmas.{none_in_front}
+use Rattle.go_board.proofs.past.print_past.PrintPastPast.play.Goals as goal
+
+pub find_taken-requires-clause-none : goal.find_taken-requires-clause-none
+find_taken-requires-clause-none c = λ p. none_in_front c.from.result 52 c.no_rows-words.result p c.no_rows-words.ensures
+
+pub returns-clause-known : goal.returns-clause-known
+returns-clause-known c =
+    let k = c.args.colour in
+    let p = c.args.point in
+    subst (λ (past : PastColourings). IfOk c.play_taking-2.result (λ added. IsFalse added ↔ Contains (present_stretch past) (play (newest_grid past) k p)))
+    (c.find_taken.ensures.unchanged ∙ c.self.view_is) c.play_taking-2.ensures.known
