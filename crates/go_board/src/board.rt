@@ -164,7 +164,7 @@ impl Board {
         self.settled
     }
 
-    /// Gives back what `is_settled` said of this same colouring. Nothing that is seen changes.
+    /// Restores what `is_settled` returned for this same colouring. The view doesn't change.
     pub(crate) fn restore(&mut self, settled: bool)
         requires { IsTrue settled → has_unreaching self.old ≡ false }
         ensures { self.new ≡ self.old }

@@ -31,7 +31,7 @@
 //! | `board/areas`, `board/cells` | colouring areas and emptying sets of points; a board as a list of cells |
 //! | `past` | the colourings that a game has been through; `past/list_past` and `past/print_past` keep them |
 //! | `past/colourings`, `past/changes` | past colourings as changes that lead back |
-//! | `past/print`, `past/table` | the print of a colouring; prints looked up by a table |
+//! | `past/print`, `past/table` | the print of a colouring; prints looked up in a table |
 //! | `reason`, `fault` | why a turn, or a node, isn't allowed; the errors |
 //! | `referee` | the referee and undo; below it `plays`, `setup`, `turn`, `stay` and `reset` |
 //! | `laws` | what follows from the definitions |

@@ -48,7 +48,7 @@ pub record MakeMore (side : ℕ) (make : Point → Cell → Cell) (old new : Lis
   pub made : (grid : Grid) (point : Point) → grid.side ≡ side → IsOn side point
       → cell_at (after_changes grid more) point ≡ make point (cell_at grid point)
 
--- the new changes are the old ones and more, which lead from one colouring back to another
+-- the new changes are the old ones and some more; those lead from one colouring back to another
 pub record LeadBack (from to : Grid) (old new : List Change) : Type 0 where
   pub more : List Change
   pub added : new ≡ old ++ more

@@ -1,5 +1,5 @@
--- The print of a colouring: one number made of what stands on all its points. Its low 14 bits are the fingerprint, in which the code
--- of each point counts by a power of 31. The bits above are mixed from whole rows.
+-- The print of a colouring: one number made from what stands on all its points. Its low 14 bits are the fingerprint, in which the
+-- code of each point is multiplied by a power of 31. The bits above are mixed from whole rows.
 use Rattle.std.specs.Prelude.{ℕ, zero, suc, ◌+◌, ◌-◌, ◌*◌, ◌/◌, ◌%◌, ◌^◌, Bool, List, map, if◌then◌else◌, bit_xor}
 use Rattle.std.specs.Int.{bit_at}
 use Rattle.go_board.specs.declared.stones.Cell.{Cell}
@@ -10,7 +10,7 @@ use Rattle.go_board.specs.Point.{index_of}
 use Rattle.go_board.specs.Grid.{Grid, cell_at}
 use Rattle.go_board.specs.Past.{Held}
 
--- the sum of what a function makes of the numbers below one
+-- the sum of what the function returns for all numbers below a number
 abbrev pub sum_below : ℕ → (ℕ → ℕ) → ℕ
 sum_below zero f = 0
 sum_below (suc n) f = sum_below n f + f n
@@ -19,7 +19,7 @@ sum_below (suc n) f = sum_below n f + f n
 abbrev pub word_below : ℕ → (ℕ → Bool) → ℕ
 word_below n test = sum_below n (λ col. if test col then 2 ^ col else 0)
 
--- the columns of a row that are coloured so
+-- the columns of a row whose points have this cell, as a word
 abbrev pub row_word : Grid → Cell → ℕ → ℕ
 row_word grid cell row = word_below grid.side (λ col. same_cell (cell_at grid (record { col = col; row = row })) cell)
 
@@ -27,11 +27,11 @@ row_word grid cell row = word_below grid.side (λ col. same_cell (cell_at grid (
 abbrev pub code_in : ℕ → ℕ → ℕ → ℕ
 code_in black white col = bit_at black col + 2 * bit_at white col
 
--- how much the code of a point counts in the fingerprint: 31 to the power of how many points come after it
+-- the factor of a point's code in the fingerprint: 31 to the power of the number of points after it
 abbrev pub weight : ℕ → Point → ℕ
 weight side point = 31 ^ (side * side - 1 - index_of side point) % 16384
 
--- a number of 64 bits whose low half depends on all bits of another one
+-- a 64-bit number whose low half depends on all bits of another one
 abbrev pub folded : ℕ → ℕ
 folded word = bit_xor word (word / 2 ^ 32)
 

@@ -2,7 +2,7 @@
 -- A number in a link or a head is an index plus 1; 0 means none.
 use Rattle.std.specs.Prelude.{◌≡◌, ◌≢◌, ℕ, ◌-◌, ◌/◌, ◌^◌, ◌<◌, ◌≤◌, Option, Some, None, List, length, slice_index, bit_and}
 
--- a print's key in a table of that many heads, made of what is above the fingerprint
+-- a print's key in a table with this many heads, made from the bits above the fingerprint
 abbrev pub key_of : ℕ → ℕ → ℕ
 key_of size print = bit_and (print / 2 ^ 14) (size - 1)
 

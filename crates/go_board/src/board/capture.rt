@@ -103,7 +103,7 @@ impl Board {
         )
     }
 
-    /// Places a stone of which it is known what it takes off. Then every stone reaches empty.
+    /// Places a stone; `taken` is what it takes off. After that every stone reaches empty.
     pub(crate) fn put(&mut self, colour: Colour, point: Point, taken: &[u64])
         requires on_board { IsOn self.old.side point }
         requires taken { TakesOff self.old colour point taken.now }

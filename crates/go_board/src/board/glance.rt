@@ -1,4 +1,4 @@
-//! A glance at the points around one, by words of bits: mostly it shows that a stone there captures nothing.
+//! A glance at the points around a point, by words of bits. Usually it shows that a stone there captures nothing.
 
 ghost use Rattle.std.specs.Prelude.{◌≡◌, ◌⊎◌, false, ℕ, ◌<◌, ◌≤◌, IsTrue, List, [], length};
 ghost use Rattle.go_board.specs.declared.points.Point.{Point};
@@ -19,8 +19,8 @@ use crate::points::Point;
 use crate::stones::Colour;
 
 impl Board {
-    /// Whether a glance shows that a stone on an empty point takes nothing off, not itself either. It shows it of most such
-    /// stones, and not of all.
+    /// Whether a glance shows that a stone on an empty point takes nothing off, and isn't
+    /// taken off itself. The glance recognizes most such stones, but not all.
     pub(crate) fn takes_nothing_at_a_glance(&self, colour: Colour, point: Point) -> bool
         requires on_board { IsOn self.now.side point }
         requires settled { has_unreaching self.now ≡ false }
@@ -31,7 +31,8 @@ impl Board {
         self.all_live_at_a_glance(colour, point)
     }
 
-    /// Whether a glance at the rows of the stones shows that a stone on a point leaves each group beside it a liberty, and has one.
+    /// Whether a glance at the rows of stones shows that a stone on a point
+    /// leaves each group beside it a liberty, and has one itself.
     fn all_live_at_a_glance(&self, colour: Colour, point: Point) -> bool
         requires { IsOn self.now.side point }
         ensures { IsTrue result → AllLive (with_cell self.now point (stone_of colour)) colour point }
@@ -58,8 +59,8 @@ struct Look {
     shut: u64,
 }
 
-/// Whether a glance at the rows around a point shows that a stone of the player there has a liberty, by itself or by a stone
-/// beside it, and leaves each stone of the opponent beside it one of its own.
+/// Whether a glance at the rows around a point shows two things of a stone of the player there. It has a liberty, by itself or by
+/// a stone beside it. And it leaves each stone of the opponent beside it a liberty of its own.
 fn leaves_all_alive(own: &[u64], others: &[u64], point: Point) -> bool
     requires same { length others.now ≡ length own.now }
     requires few { length own.now < 64 }

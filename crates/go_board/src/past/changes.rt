@@ -42,7 +42,7 @@ pub(crate) struct Older {
     pub settled: bool,
 }
 
-/// Takes a board back by changes, one after another. The print is no longer known then.
+/// Takes a board back by changes, one after another.
 pub(crate) fn take_back(board: &mut Board, changes: &[Change])
     requires { AreOn board.old.side changes.now }
     ensures { board.new ≡ after_changes board.old changes.now }
@@ -94,7 +94,8 @@ fn add_rows(
     Ok(())
 }
 
-/// Adds changes that lead back from what a stone makes to the board before it, where it is known what the stone takes off.
+/// Adds changes that lead back from what a stone makes to the board before it; `taken`
+/// is what the stone takes off. If memory is refused, no change is added.
 pub(crate) fn lead_back_stone(
     old: &Board,
     point: Point,
@@ -117,7 +118,7 @@ pub(crate) fn lead_back_stone(
     Ok(())
 }
 
-/// The same, but that some changes may have been added where memory was refused.
+/// The same, but if memory is refused, some changes may have been added.
 fn add_stone(
     old: &Board,
     point: Point,

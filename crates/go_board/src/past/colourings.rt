@@ -141,8 +141,8 @@ impl Colourings {
         self.newest.find_taken(colour, point, taken);
     }
 
-    /// Adds the colouring that a stone makes of which it is known what it takes off. It goes on in the present stretch. After a
-    /// refusal nothing is changed; it is refused memory as by `add`.
+    /// Adds the colouring that a stone makes; `taken` is what the stone takes off. The colouring continues the present stretch.
+    /// After a refusal nothing is changed. Memory is refused as by `add`.
     pub(crate) fn add_stone(
         &mut self,
         colour: Colour,
@@ -175,7 +175,7 @@ impl Colourings {
         Ok(())
     }
 
-    /// Takes the newest colouring back.
+    /// Takes back the newest colouring.
     pub(crate) fn pop(&mut self)
         requires { 0 < length self.old.older }
         ensures { self.old.older ≡ self.new.newest ∷ self.new.older }

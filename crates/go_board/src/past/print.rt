@@ -1,8 +1,9 @@
 //! The print of a colouring: one number made from what stands on all its points.
 //! Usually one comparison of prints is enough to show that two colourings differ.
 //!
-//! Its low 14 bits are the fingerprint: from 0, for each point row by row from the top, from left to right, 31 times the number and the
-//! point's code (empty 0, black 1, white 2). That is linear in the codes, so colourings with equal fingerprints can be built from a
+//! Its low 14 bits are the fingerprint. This is a number that starts at 0. For each point, row by row from
+//! the top, from left to right, it is multiplied by 31, and the point's code is added (empty 0, black 1,
+//! white 2). That is linear in the codes, so colourings with equal fingerprints can be built from a
 //! formula. The bits above are a sum over the rows, each of which is mixed as a whole.
 
 ghost use Rattle.std.specs.Prelude.{◌≡◌, ◌<◌, ◌%◌, ◌^◌, ℕ, IsTrue};
@@ -20,16 +21,16 @@ use crate::points::Point;
 use crate::size::{MAX_POINTS, Size};
 use crate::stones::Colour;
 
-/// How many bits of a print are the fingerprint.
+/// The number of bits of a print that are the fingerprint.
 pub(crate) const FINGERPRINT_BITS: u32 = 14;
 
-/// One more than the greatest fingerprint.
+/// The greatest fingerprint plus 1.
 const FINGERPRINTS: u64 = 1 << FINGERPRINT_BITS;
 
 /// An odd number with many bits set, which spreads the bits of a row's black stones upwards.
 const BLACK_MIXER: u64 = 0xd6e8_feb8_6659_fd93;
 
-/// The same for its white stones.
+/// The same for the row's white stones.
 const WHITE_MIXER: u64 = 0x9e37_79b9_7f4a_7c15;
 
 /// The print of a board.
@@ -47,7 +48,7 @@ pub(crate) fn print_of(board: &Board) -> u64
     print
 }
 
-/// The print once a stone is put on an empty point, from the print before.
+/// The print after a stone is put on an empty point, from the print before.
 pub(crate) fn print_after_stone(print: u64, board: &Board, colour: Colour, point: Point) -> u64
     requires on_board { IsOn board.now.side point }
     requires empty { cell_at board.now point ≡ Empty }
@@ -88,7 +89,7 @@ fn row_print(size: Size, row: u8, black: u64, white: u64) -> u64
     print
 }
 
-/// The code of a column of a row.
+/// The code of a point of a row, by its column.
 fn code_in(black: u64, white: u64, col: usize) -> u64
     requires { col < 64 }
     ensures value { result ≡ code_in black white col }
@@ -97,7 +98,7 @@ fn code_in(black: u64, white: u64, col: usize) -> u64
     (black >> col & 1) + 2 * (white >> col & 1)
 }
 
-/// How much the code of a point counts in the fingerprint.
+/// The factor of a point's code in the fingerprint.
 fn weight(size: Size, point: Point) -> u64
     requires { IsOn size point }
     ensures value { result ≡ weight size point }
@@ -106,8 +107,8 @@ fn weight(size: Size, point: Point) -> u64
     power(size.points() - 1 - point.index(size))
 }
 
-/// The power of 31 with that exponent, modulo 16,384. The square of 31 is 1 + 960, and the third power of 960 and all
-/// beyond count for nothing: three terms of the binomial sum are left.
+/// The power of 31 with this exponent, modulo 16,384. The square of 31 is 1 + 960. The third and
+/// all higher powers of 960 are 0 here, so three terms of the binomial sum are left.
 fn power(exponent: usize) -> u64
     requires { exponent < MAX_POINTS }
     ensures value { result ≡ 31 ^ exponent % FINGERPRINTS }

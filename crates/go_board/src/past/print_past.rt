@@ -99,7 +99,7 @@ impl PrintPast {
     ghost use Rattle.go_board.specs.inner.Groups.{TakesOff};
     ghost use Rattle.go_board.specs.inner.Print.{print_of};
 
-    /// Whether the present stretch has the colouring, of that print.
+    /// Whether the present stretch has this colouring; `print` is its print.
     fn holds_printed(&self, board: &Board, print: u64) -> bool
         requires side { HaveSide board.now.side self.now }
         requires print { print ≡ print_of board.now }
@@ -116,7 +116,7 @@ impl PrintPast {
         false
     }
 
-    /// Adds a colouring of that print, which begins a stretch or goes on in the present one.
+    /// Adds a colouring, which begins a stretch or continues the present one; `print` is its print.
     fn add(&mut self, board: &Board, print: u64, begins: bool) -> Result<(), MemoryFault>
         requires side { HaveSide board.now.side self.old }
         requires print { print ≡ print_of board.now }
@@ -131,7 +131,7 @@ impl PrintPast {
         Ok(())
     }
 
-    /// The same as `play`, where it is known what the stone takes off.
+    /// The same as `play`; `taken` is what the stone takes off.
     fn play_taking(
         &mut self,
         colour: Colour,
@@ -163,7 +163,7 @@ impl PrintPast {
         Ok(true)
     }
 
-    /// The print of what a stone makes of which it is known what it takes off.
+    /// The print of what a stone makes; `taken` is what the stone takes off.
     fn print_once_put(&self, colour: Colour, point: Point, taken: &[u64]) -> u64
         requires on_board { IsOn (newest_grid self.now).side point }
         requires empty { cell_at (newest_grid self.now) point ≡ Empty }

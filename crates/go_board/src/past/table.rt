@@ -200,8 +200,8 @@ impl Table {
     }
 }
 
-/// The key of a print where there are so many heads. It isn't made of the fingerprint, which is linear in the cells: moves can be chosen whose
-/// fingerprints are the same, and each look at the table would then go over all of them.
+/// The key of a print in a table with this many heads. The fingerprint isn't part of it, because that is linear in the cells:
+/// moves can be chosen whose fingerprints are equal. With it as the key, each look-up would go over all these prints.
 fn key_of(heads: usize, print: u64) -> usize
     requires { 0 < heads }
     ensures value { result ≡ key_of heads print }
