@@ -1,5 +1,7 @@
 //! What a run is asked for.
 
+ghost use Rattle.std.specs.Prelude.{◌≡◌, None};
+
 /// How a line of play is written.
 #[derive(Clone, Copy, Debug, PartialEq, Eq)]
 pub enum Form {
@@ -21,4 +23,17 @@ pub struct Options {
     pub after: Option<u64>,
     /// Keeps at most this many of those lines, the first ones; None keeps all.
     pub limit: Option<u64>,
+}
+
+impl Options {
+    /// All lines, in that form.
+    pub fn all(form: Form) -> Options
+        ensures { result ≡ record { form = form; after = None; limit = None } }
+    {
+        Options {
+            form,
+            after: None,
+            limit: None,
+        }
+    }
 }

@@ -19,7 +19,7 @@ pub enum Verdict {
         /// The number of turns made before that node, passes included, plus 1.
         turn: u64,
         /// The place of that node: the offset in bytes, from 0, of its `;` in the text.
-        place: usize,
+        place: u64,
         /// The first reason that holds.
         reason: Reason,
     },

@@ -1,7 +1,9 @@
--- How the program ends if its words ask for a job.
+-- How the program ends, by its words.
 use Rattle.std.specs.Prelude.{◌≡◌, ◌⊎◌, ℕ, List, Option, None, IsSome}
 use Rattle.sgf_lines.specs.Ends.{SourceState, SinkState}
-use Rattle.sgfsplit_job.specs.Act.{IsAct, job_file}
+use Rattle.clap.specs.declared.error.kind.ErrorKind.{ErrorKind}
+use Rattle.sgfsplit_job.specs.Act.{IsAct, Shows, job_file}
+use Rattle.sgfsplit_job.specs.CommandLine.{AreFaultless, HasFault}
 use Rattle.sgfsplit_job.specs.declared.request.Job.{Job}
 
 -- a source over a reader, before the first call
@@ -26,3 +28,13 @@ EndsJob job status = ((remaining : Option (List ℕ)) × IsStatusOf job remainin
 -- Such a job was asked for, and ended with the status; or memory was refused before there was a job.
 abbrev pub EndsOneOf : (Job → Type 0) → ℕ → Type 0
 EndsOneOf IsAsked status = ((job : Job) × IsAsked job × EndsJob job status) ⊎ (status ≡ 4)
+
+-- clap's text was shown on the standard streams, by the kind of its error
+abbrev pub IsShown : ErrorKind → ℕ → Type 0
+IsShown kind status = (output : SinkState) × (faults : SinkState) × Shows kind fresh_stream output fresh_stream faults status
+
+-- whatever the words are: a job was done and they have no fault, or clap's text was shown for a fault that they have; or memory was wanted
+-- before
+abbrev pub Ends : List (List ℕ) → ℕ → Type 0
+Ends words status =
+    ((job : Job) × AreFaultless words × EndsJob job status) ⊎ ((kind : ErrorKind) × HasFault words kind × IsShown kind status) ⊎ (status ≡ 4)

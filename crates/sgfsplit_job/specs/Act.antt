@@ -3,6 +3,8 @@ use Rattle.std.specs.Prelude.{◌≡◌, ◌⊎◌, ℕ, ◌+◌, Bool, true, fa
 use Rattle.std.specs.declared.alloc.Global.{Global}
 use Rattle.std.specs.Result.{result_err}
 use Rattle.std.specs.Io.KnownBytes.{Appends}
+use Rattle.clap.specs.declared.error.kind.ErrorKind.{ErrorKind}
+use Rattle.clap.specs.declared.error.kind.ErrorKind.TheVariants.{DisplayHelp, DisplayVersion}
 use Rattle.sgf_lines.specs.Ends.{SinkState, SourceState, Delivers, HasDelivered, TakesNothing}
 use Rattle.sgf_lines.specs.Answer.{IsRun, reads_failed, writes_failed}
 use Rattle.sgf_lines.specs.Counts.{IsCount, IsWriting, counts_row}
@@ -67,13 +69,27 @@ pub record IsAct (job : Job) (source new_source : SourceState) (output new_outpu
   pub tells : TellsEnd fault faults new_faults status
   pub delivers : status ≡ 0 → HasDelivered new_output
 
--- Clap's text was shown. Help goes to the output, with status 0; if the output fails, that is reported as a failed write. An
--- error about the words goes to the sink for faults, with status 2, even if that sink fails. Or memory for the text was refused.
-abbrev pub Shows : SinkState → SinkState → SinkState → SinkState → ℕ → Type 0
-Shows output new_output faults new_faults status =
-    ((text : List ℕ) × TakesText text output new_output true × (new_faults ≡ faults) × (status ≡ 0))
-    ⊎ ((text : List ℕ) × TakesText text output new_output false × Tells (Run (Write 0)) faults new_faults status)
-    ⊎ ((text : List ℕ) × (whole : Bool) × TakesText text faults new_faults whole × (new_output ≡ output) × (status ≡ 2))
+-- help was put on the output, with status 0; or the output failed, which is a failed write
+abbrev pub ShowsHelp : List ℕ → SinkState → SinkState → SinkState → SinkState → ℕ → Type 0
+ShowsHelp text output new_output faults new_faults status =
+    (TakesText text output new_output true × (new_faults ≡ faults) × (status ≡ 0))
+    ⊎ (TakesText text output new_output false × Tells (Run (Write 0)) faults new_faults status)
+
+-- what is wrong with the words was put on the sink for faults, with status 2, also if that failed
+abbrev pub ShowsMistake : List ℕ → SinkState → SinkState → SinkState → SinkState → ℕ → Type 0
+ShowsMistake text output new_output faults new_faults status =
+    (whole : Bool) × TakesText text faults new_faults whole × (new_output ≡ output) × (status ≡ 2)
+
+-- help and the version were asked for, and all other kinds are mistakes
+abbrev pub ShowsText : ErrorKind → List ℕ → SinkState → SinkState → SinkState → SinkState → ℕ → Type 0
+ShowsText DisplayHelp text output new_output faults new_faults status = ShowsHelp text output new_output faults new_faults status
+ShowsText DisplayVersion text output new_output faults new_faults status = ShowsHelp text output new_output faults new_faults status
+ShowsText _ text output new_output faults new_faults status = ShowsMistake text output new_output faults new_faults status
+
+-- A text of the command line's parser was shown, by the kind of its error. Or memory was wanted for it.
+abbrev pub Shows : ErrorKind → SinkState → SinkState → SinkState → SinkState → ℕ → Type 0
+Shows kind output new_output faults new_faults status =
+    ((text : List ℕ) × ShowsText kind text output new_output faults new_faults status)
     ⊎ ((new_output ≡ output) × Tells (Run (Memory 0)) faults new_faults status)
 
 -- the file that a job names; None for standard input

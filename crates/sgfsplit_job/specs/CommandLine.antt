@@ -2,9 +2,14 @@
 use Rattle.std.specs.Prelude.{◌≡◌, ℕ, true, List, [], ◌∷◌, map, Some, codes}
 use Rattle.std.specs.Borrow.{Bor}
 use Rattle.clap.specs.Faults.{fault_of}
+use Rattle.clap.specs.Kinds.{IsAmong}
+use Rattle.clap.specs.Values.{kind_of}
 use Rattle.clap.specs.Walk.{Rule}
 use Rattle.clap.specs.Simple.{App, new_app, new_rule, on_top, with_rule, with_subcommand}
 use Rattle.clap.specs.declared.builder.value_parser.ValueParser.TheVariants.{Names, Unsigned}
+use Rattle.clap.specs.declared.error.kind.ErrorKind.{ErrorKind}
+use Rattle.sgfsplit_job.specs.declared.request.JobFault.{JobFault}
+use Rattle.sgfsplit_job.specs.declared.request.JobFault.TheVariants.{Words, Memory}
 
 -- a list of the forms as the program holds it
 abbrev pub FormNames : Type 0
@@ -60,3 +65,13 @@ forms = codes "list" ∷ codes "sgf" ∷ codes "gtp" ∷ []
 abbrev pub AreFaultless : List (List ℕ) → Type 0
 AreFaultless words =
     (names : FormNames) × (names_of names ≡ forms) × (fault_of (program_app names) words ≡ [])
+
+-- clap finds a fault of this kind in them; a wish for help counts as a fault
+abbrev pub HasFault : List (List ℕ) → ErrorKind → Type 0
+HasFault words kind =
+    (names : FormNames) × (names_of names ≡ forms) × IsAmong kind (fault_of (program_app names) words)
+
+-- words are refused only for a fault that they have
+abbrev pub IsTrueOf : List (List ℕ) → JobFault → Type 0
+IsTrueOf words (Words error) = HasFault words (kind_of error)
+IsTrueOf words Memory = Unit {0}

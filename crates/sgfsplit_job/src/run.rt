@@ -2,6 +2,7 @@
 
 ghost use Rattle.std.specs.Prelude.{◌≡◌, ◌<◌, ◌+◌, ℕ, Some, OnOk};
 ghost use Rattle.std.specs.Result.{result_err};
+ghost use Rattle.clap.specs.Values.{kind_of};
 ghost use Rattle.sgf_lines.specs.Answer.{reads_failed, writes_failed};
 ghost use Rattle.sgf_lines.specs.Ends.{HasDelivered};
 ghost use Rattle.sgf_lines.specs.declared.fault.RunFault.TheVariants.{Memory};
@@ -97,15 +98,16 @@ pub fn tell<E: Sink>(fault: &Fault, faults: &mut E) -> u8
     fault.status()
 }
 
-/// Shows clap's text, and returns the exit status. Help goes to `output`, with status 0. An error about the words goes to
-/// `faults`, with status 2, even if `faults` fails.
+/// Shows a text of the command line's parser, and answers the exit status.
 ///
-/// Help that can't be written is reported as a failed write, with status 3. If
-/// memory for the text is refused, that is reported with status 4.
+/// - Help and the version, by the error's kind, go to `output`, with status 0. If that fails it is a failed write.
+/// - What is wrong with the words goes to `faults`, with status 2, also if that fails.
+/// - Memory may be wanted for the text, and be refused.
 pub fn show<T: Sink, E: Sink>(alloc: Global, error: &Error, output: &mut T, faults: &mut E) -> u8
     requires output_counts { (T.state output.old).failures < u64.MAX }
     requires faults_count { (E.state faults.old).failures < u64.MAX }
-    ensures { Shows (T.state output.old) (T.state output.new) (E.state faults.old) (E.state faults.new) result }
+    ensures { Shows (kind_of error.now) (T.state output.old) (T.state output.new)
+        (E.state faults.old) (E.state faults.new) result }
 {
     let Ok(text) = format!(in alloc; "{error}") else {
         return tell(&Fault::OUT_OF_MEMORY, faults);

@@ -1,12 +1,12 @@
 //! The job that the words of a command line ask for.
 
-ghost use Rattle.std.specs.Prelude.{◌≡◌, true, ℕ, List, Some, None, Option, option_map, map, IfOk, IfSome, OnOk, MatchResult, codes, string_bytes};
+ghost use Rattle.std.specs.Prelude.{◌≡◌, true, ℕ, List, Some, None, Option, option_map, map, IfErr, IfOk, IfSome, OnOk, MatchResult, codes, string_bytes};
 ghost use Rattle.std.specs.Str.Parse.{digits_value};
 ghost use Rattle.clap.specs.Matches.{has_subcommand};
 ghost use Rattle.clap.specs.Simple.{subcommand_rows_of};
 ghost use Rattle.clap.specs.Walk.{Row, first_of, one_of};
 ghost use Rattle.sgf_lines.specs.declared.options.Form.{Form};
-ghost use Rattle.sgfsplit_job.specs.CommandLine.{AreFaultless};
+ghost use Rattle.sgfsplit_job.specs.CommandLine.{AreFaultless, IsTrueOf};
 ghost use Rattle.sgfsplit_job.specs.PlainWords.{Word, SplitWords, ArePlainWords, IsNumberWord, IsFileWord, SplitsBy, CountsFile, form_word, file_of as file_of_rule, options_of, split_words, count_words};
 ghost use Rattle.sgfsplit_job.specs.inner.Found.{rows_found, form_named, HoldSplitWords};
 
@@ -31,6 +31,7 @@ pub fn job<'a>(alloc: Global, words: &'a [String]) -> Result<Job, JobFault>
         → map string_bytes words.now ≡ count_words name file
         → MatchResult result (CountsFile (file_of_rule file)) (λ fault. fault ≡ JobFault.Memory) }
     ensures faultless { OnOk result (AreFaultless (map string_bytes words.now)) }
+    ensures faulty { IfErr result (IsTrueOf (map string_bytes words.now)) }
 {
     let command = command(alloc)?;
     let found = match command.try_get_matches_from(words) {

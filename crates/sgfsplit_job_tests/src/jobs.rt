@@ -109,15 +109,36 @@ fn the_status_stays_where_its_row_fails(rt: HostRuntime) -> Result<(), Fail> {
     Ok(())
 }
 
-#[test]
-fn a_long_record_goes_out_whole(rt: HostRuntime) -> Result<(), Fail> {
-    let mut text = Vec::new(rt.alloc());
+/// A text whose first record in sgf form has 100,003 bytes, which is more than the sink holds, and its second 4.
+fn long_and_short(alloc: Global) -> Result<Vec<u8>, Fail> {
+    let mut text = Vec::new(alloc);
     text.extend_from_slice(b"(;C[")?;
     text.resize(100_000, b'x')?;
     text.extend_from_slice(b"])(;)")?;
+    Ok(text)
+}
+
+#[test]
+fn a_long_record_goes_out_whole(rt: HostRuntime) -> Result<(), Fail> {
+    let text = long_and_short(rt.alloc())?;
     let (mut input, mut output, mut faults) = (reads(&text, 0), Writes::new(), Writes::new());
     let job = split(Form::Sgf);
     let status = status(rt.alloc(), &job, &mut input, &mut output, &mut faults)?;
     assert_eq!(rt; (status, output.calls, output.bytes), (0, 2, 100_007));
+    Ok(())
+}
+
+#[test]
+fn no_write_follows_one_of_a_long_record_that_failed(rt: HostRuntime) -> Result<(), Fail> {
+    let text = long_and_short(rt.alloc())?;
+    for (fails_at, bytes) in [(1, 0), (2, 20_000), (3, 40_000)] {
+        let (mut input, mut output, mut faults) = (reads(&text, 0), Writes::new(), Writes::new());
+        output.most = 20_000;
+        output.fails_at = fails_at;
+        let job = split(Form::Sgf);
+        let status = status(rt.alloc(), &job, &mut input, &mut output, &mut faults)?;
+        assert_eq!(rt; (status, output.calls, output.flushes), (3, fails_at, 0));
+        assert_eq!(rt; (output.bytes, faults.calls), (bytes, 1));
+    }
     Ok(())
 }

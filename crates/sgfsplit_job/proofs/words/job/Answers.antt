@@ -1,12 +1,20 @@
-use Rattle.std.proofs.Common.{◌∙◌, ap, ap₂, map, string_bytes, refl, subst, sym, Option}
+use Rattle.std.proofs.Common.{◌≡◌, ◌∙◌, ap, ap₂, map, string_bytes, refl, subst, sym, Option, inl, inr}
 use Rattle.std.proofs.lemmas.Result.{err_from_is_err_and}
 use Rattle.clap.specs.Faults.{fault_of, is_simple_and_free}
+use Rattle.clap.specs.Kinds.{HasKind, IsAmong, Kinds}
 use Rattle.clap.specs.Simple.{is_simple, subcommand_of}
+use Rattle.clap.specs.Values.{kind_of}
+use Rattle.clap.specs.declared.error.Error.{Error}
+use Rattle.clap.specs.declared.error.kind.ErrorKind.TheVariants.{OutOfMemory}
 use Rattle.clap.specs.Takes.{takes}
 use Rattle.sgfsplit_job.specs.PlainWords.{CountsFile, Word, file_of}
 use Rattle.sgfsplit_job.proofs.CommandLine.{app_free, app_simple}
 use Rattle.sgfsplit_job.proofs.PlainWords.{split_words_taken, split_words_entered, count_words_taken, count_words_entered, count_words_hold}
 use Rattle.sgfsplit_job.proofs.words.job.Goals as goal
+
+-- an error that doesn't say that memory was refused has one of the kinds
+not_memory : (kinds : Kinds) (error : Error) → HasKind kinds error → ¬ (kind_of error ≡ OutOfMemory) → IsAmong (kind_of error) kinds
+not_memory kinds error h other = elim h [ inl memory ↦ absurd (other memory) | inr among ↦ among ]
 
 -- clap takes plain words, so it refuses them only for want of memory
 pub returns-in_default : goal.returns-in_default
@@ -20,6 +28,10 @@ returns-in_default c =
           let taken = ap₂ takes command.2 are ∙ count_words_taken command.0 command.1 name file plain in
           absurd (c.in_default.not-OutOfMemory (c.kind.ensures ∙ c.in-Err.ensures.passes taken));
       faultless = tt;
+      faulty =
+          let free = ap is_simple_and_free command.2 ∙ app_free command.0 in
+          let kinds = not_memory _ c.in-Err.error (c.in-Err.ensures.kinds free) (λ memory. c.in_default.not-OutOfMemory (c.kind.ensures ∙ memory)) in
+          (command.0, command.1, subst (λ (ks : Kinds). IsAmong (kind_of c.in-Err.error) ks) (ap (λ a. fault_of a (map string_bytes c.args.words.now)) command.2) kinds);
     }
 
 pub returns-clause-split : goal.returns-clause-split
