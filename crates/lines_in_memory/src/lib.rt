@@ -31,12 +31,12 @@ pub fn records(alloc: Global, text: &[u8], options: &Options) -> Result<Vec<u8>,
     }
 }
 
-/// The verdict of the first line of a collection; None where it has no line.
+/// The verdict of the first line of a collection; None if it has no line.
 pub fn first_verdict(
     alloc: Global,
     collection: &Collection<'_>,
 ) -> Result<Option<Verdict>, MemoryFault> {
-    // Each line ends in a leaf, so the verdict can be asked for.
+    // Each line ends in a leaf, so `judge` may be called.
     named();
     let mut cursor = Cursor::new(alloc, collection);
     match cursor.next()? {
@@ -45,7 +45,7 @@ pub fn first_verdict(
     }
 }
 
-/// The place of the first line of a collection that has a node which isn't allowed; None where each node is allowed.
+/// The place of the first line of a collection whose verdict is that it has an illegal node; None if there is no such line.
 pub fn first_illegal(
     alloc: Global,
     collection: &Collection<'_>,

@@ -56,7 +56,7 @@ pub record IsVerdictAt (games : Games) (leaf : ℕ) (told : Verdict) : Type 0 wh
   pub placed : place_at games leaf ≡ Some (place_of line)
   pub verdict_is : told ≡ verdict line
 
--- the verdict is that of a line of a collection that has this place
+-- the verdict of a line of the collection that has this place
 pub record IsVerdictOf (games : Games) (place : ℕ) (told : Verdict) : Type 0 where
   pub index : ℕ
   pub line : Line

@@ -1,4 +1,4 @@
-//! Goes over the lines of play of a collection, and judges each.
+//! Going over the lines of play of a collection, and judging each.
 
 ghost use Rattle.std.specs.Prelude.{◌≡◌, ◌<◌, ◌≤◌, ◌-◌, true, false, None, length, slice_get, IfNone, IfOk, IfSome, OnErr, OnOk};
 ghost use Rattle.sgf_lines.specs.Lines.{lines};
@@ -17,9 +17,9 @@ use sgf_tree::MemoryFault;
 use std::alloc::Global;
 use std::marker::Model;
 
-/// Goes over the lines that follow a cursor, in file order, and judges each. The nodes that a line shares with the line before
-/// it are not played again.
-/// It is seen as the collection, the index of its next line, from 0, and whether it shows the line before that one.
+/// A follower goes over the lines after a cursor, in file order, and judges each. Nodes that a
+/// line shares with the line before it are not played again. It is seen as the collection, the
+/// index of its next line, from 0, and whether it shows the line before that one.
 #[derive(Drop)]
 pub struct Follower<'c, 'a> {
     cursor: Cursor<'c, 'a>,
@@ -29,14 +29,14 @@ pub struct Follower<'c, 'a> {
     before: Before,
 }
 
-/// How the line before the cursor stands.
+/// What is known of the line before the cursor.
 #[derive(Clone, Copy)]
 enum Before {
     /// It isn't judged, or there is none.
     Unjudged,
     /// It is judged to its end.
     Judged,
-    /// Memory was refused when it was judged, so it is the next line still.
+    /// Memory was refused when it was judged, so it is still the next line.
     Refused,
 }
 
@@ -57,8 +57,7 @@ impl<'c, 'a> Follower<'c, 'a> {
     ghost use Rattle.sgf_lines.specs.Cursor.{IsLine};
     ghost use Rattle.sgf_lines.specs.Follower.{GivesVerdict, LeavesFollower};
 
-    /// A follower of the lines after a cursor.
-    /// It takes no memory.
+    /// A follower of the lines after a cursor. This takes no memory.
     pub fn new(alloc: Global, cursor: Cursor<'c, 'a>) -> Follower<'c, 'a>
         ensures { result ≡ record { games = cursor.entry.games; index = cursor.entry.index; shows = false } }
     {
@@ -69,8 +68,8 @@ impl<'c, 'a> Follower<'c, 'a> {
         }
     }
 
-    /// Goes on by one line, and answers its verdict, that of `judge`; after the last line None, again and again.
-    /// After a refusal of memory the same line is next, and none is shown.
+    /// Goes on by one line, and returns its verdict, the same as `judge` returns. After the last line it returns None, however
+    /// often it is called. `MemoryFault` comes only if memory was refused; then the same line is next, and no line is shown.
     pub fn next(&mut self) -> Result<Option<Verdict>, MemoryFault>
         ensures verdict { IfOk result (GivesVerdict self.old) }
         ensures left { LeavesFollower self.old self.new result }
@@ -84,7 +83,7 @@ impl<'c, 'a> Follower<'c, 'a> {
         Ok(Some(verdict))
     }
 
-    /// The line whose verdict was answered last.
+    /// The line of the verdict that was returned last. There is one unless memory was refused since.
     pub fn line(&self) -> LineRef<'_>
         requires { self.now.shows ≡ true }
         ensures { IsLine self.now.games (self.now.index - 1) result }
@@ -93,8 +92,8 @@ impl<'c, 'a> Follower<'c, 'a> {
     }
 }
 
-/// Goes on to the next line, and answers how many of its nodes are judged already; None where no line is left.
-/// After a refusal of memory the cursor is unchanged.
+/// Goes on to the next line, and returns how many of its nodes are judged already; None
+/// if no line is left. After a refusal of memory the cursor is unchanged.
 fn go_on(cursor: &mut Cursor<'_, '_>, before: Before) -> Result<Option<usize>, MemoryFault>
     ensures found { IfOk result (λ held. IfSome held (GoesOnBy before cursor.old cursor.new)) }
     ensures none_left { IfOk result (λ held. IfNone held (slice_get (lines cursor.old.games) (index_by before cursor.old.index) ≡ None)) }
@@ -113,7 +112,7 @@ fn go_on(cursor: &mut Cursor<'_, '_>, before: Before) -> Result<Option<usize>, M
     }
 }
 
-/// The verdict of the line before the cursor, of whose nodes the first `held` are judged already.
+/// The verdict of the line before the cursor. The first `held` of its nodes are judged already.
 fn judge_before(
     cursor: &Cursor<'_, '_>,
     held: usize,
@@ -125,7 +124,7 @@ fn judge_before(
     ensures judged { OnOk result (judge.new.judgement ≡ judging_front (nodes_before cursor.now) (length (nodes_before cursor.now))) }
     ensures verdict { IfOk result (λ told. told ≡ verdict_of (nodes_before cursor.now)) }
 {
-    // The count of one line fits.
+    // The plays of one line fit into the count.
     judge.count_anew();
     let _nodes = cursor.len();
     judge_line(cursor, held, judge)?;

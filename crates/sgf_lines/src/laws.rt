@@ -34,7 +34,8 @@ pub fn rise()
     sgf_tree::laws::places_rise();
 }
 
-/// The paths of a collection name the nodes of its lines, one path for each line, in the same order, and end in leaves.
+/// The paths of a collection name the nodes of its lines. There is one path
+/// for each line, in the same order, and each ends in a leaf.
 pub fn named()
     ensures nodes { (games : Games) → AllZip (IsPathOf games) (lines games) (paths games) }
     ensures leaf { (games : Games) → All (EndsInLeaf games) (paths games) }

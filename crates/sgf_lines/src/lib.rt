@@ -1,8 +1,8 @@
 //! The lines of play of a Smart Game Format (SGF FF[4]) collection, from the root of a game to a leaf.
 //!
-//! A [`Cursor`] gives the lines one by one, in file order, over a collection that was read once. [`judge`] says of a line
-//! its first illegal turn, or the area score at its end (Tromp-Taylor). A [`Follower`] judges the lines after a cursor one by
-//! one, and plays what they share once. [`split`] writes each line as a record, a text of its own.
+//! A [`Cursor`] returns the lines one by one, in file order, over a collection that was read once. [`judge`] returns the verdict
+//! of a line: its first illegal turn, or the area score at its end (Tromp-Taylor). A [`Follower`] judges the lines after a cursor
+//! one by one, and plays shared nodes once. [`split`] writes each line as a record, a text of its own.
 //!
 //! ```text
 //! let collection = read(alloc, text)?;
@@ -17,14 +17,14 @@
 //! }
 //! ```
 //!
-//! The loops end, as each turn leaves one line less (`lines_in_memory` has them whole, with their proofs):
+//! The loops end because each turn leaves one line fewer. (`lines_in_memory` has the whole loops, with their proofs.)
 //!
 //! ```text
 //! decreases-lines l = length (lines l.cursor.games) - l.cursor.index
 //! decreases-verdicts l = length (lines l.follower.games) - l.follower.index
 //! ```
 //!
-//! `judge` asks that a line ends in the node. [`laws::named`] says so of each line that a cursor gives.
+//! The node given to `judge` must be a leaf. [`laws::named`] says that each line of a cursor ends in one.
 //!
 //! | Module | What it has |
 //! |---|---|

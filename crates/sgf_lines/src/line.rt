@@ -24,7 +24,7 @@ impl<'l> LineRef<'l> {
         self.path
     }
 
-    /// The number of its last node, which is a leaf.
+    /// The number of its last node, a leaf.
     pub fn leaf(&self) -> usize
         ensures { result ≡ leaf_of (shown self.now).path }
     {

@@ -26,7 +26,7 @@ pub struct Options {
 }
 
 impl Options {
-    /// All lines, in that form.
+    /// The options for all lines, in this form.
     pub fn all(form: Form) -> Options
         ensures { result ≡ record { form = form; after = None; limit = None } }
     {

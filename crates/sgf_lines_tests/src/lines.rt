@@ -133,7 +133,7 @@ fn seek(cursor: &mut Cursor<'_, '_>, place: u64, is_line: bool, seen: &mut Seen)
     }
 }
 
-/// Follows both lines of the game of two lines, and to the end.
+/// Follows both lines of the game of two lines, and goes on to the end.
 fn follows(alloc: Global, two: &Collection<'_>, seen: &mut Seen) {
     let mut follower = Follower::new(alloc, Cursor::new(alloc, two));
     follow(&mut follower, Some((9, 0, 8)), seen);
@@ -144,7 +144,7 @@ fn follows(alloc: Global, two: &Collection<'_>, seen: &mut Seen) {
 /// The scores of Black and White at the end of a line, and its place.
 type Followed = Option<(u32, u32, u64)>;
 
-/// Follows a line, and once more where memory was refused, which gives the same line then.
+/// Follows a line. If memory was refused, follows once more, which must give the same line.
 fn follow(follower: &mut Follower<'_, '_>, line: Followed, seen: &mut Seen) {
     seen.call();
     match follower.next() {
@@ -159,7 +159,7 @@ fn follow(follower: &mut Follower<'_, '_>, line: Followed, seen: &mut Seen) {
     }
 }
 
-/// Looks at a line that was followed.
+/// The line that was followed must have this verdict and this place.
 fn is_followed(follower: &Follower<'_, '_>, verdict: Verdict, line: Followed, seen: &mut Seen)
     requires { follower.now.shows ≡ true }
 {

@@ -29,12 +29,12 @@ EndsJob job status = ((remaining : Option (List ℕ)) × IsStatusOf job remainin
 abbrev pub EndsOneOf : (Job → Type 0) → ℕ → Type 0
 EndsOneOf IsAsked status = ((job : Job) × IsAsked job × EndsJob job status) ⊎ (status ≡ 4)
 
--- clap's text was shown on the standard streams, by the kind of its error
+-- clap's text was shown on the standard streams, as the kind of its error requires
 abbrev pub IsShown : ErrorKind → ℕ → Type 0
 IsShown kind status = (output : SinkState) × (faults : SinkState) × Shows kind fresh_stream output fresh_stream faults status
 
--- whatever the words are: a job was done and they have no fault, or clap's text was shown for a fault that they have; or memory was wanted
--- before
+-- Whatever the words are: a job was done, and the words have no fault. Or clap's text
+-- was shown for a fault of the words. Or memory was refused before that.
 abbrev pub Ends : List (List ℕ) → ℕ → Type 0
 Ends words status =
     ((job : Job) × AreFaultless words × EndsJob job status) ⊎ ((kind : ErrorKind) × HasFault words kind × IsShown kind status) ⊎ (status ≡ 4)

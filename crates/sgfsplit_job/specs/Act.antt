@@ -69,24 +69,24 @@ pub record IsAct (job : Job) (source new_source : SourceState) (output new_outpu
   pub tells : TellsEnd fault faults new_faults status
   pub delivers : status ≡ 0 → HasDelivered new_output
 
--- help was put on the output, with status 0; or the output failed, which is a failed write
+-- help was put on the output, with status 0; or the output failed, which is reported as a failed write
 abbrev pub ShowsHelp : List ℕ → SinkState → SinkState → SinkState → SinkState → ℕ → Type 0
 ShowsHelp text output new_output faults new_faults status =
     (TakesText text output new_output true × (new_faults ≡ faults) × (status ≡ 0))
     ⊎ (TakesText text output new_output false × Tells (Run (Write 0)) faults new_faults status)
 
--- what is wrong with the words was put on the sink for faults, with status 2, also if that failed
+-- the text of a mistake was put on the sink for faults, with status 2, even if that sink failed
 abbrev pub ShowsMistake : List ℕ → SinkState → SinkState → SinkState → SinkState → ℕ → Type 0
 ShowsMistake text output new_output faults new_faults status =
     (whole : Bool) × TakesText text faults new_faults whole × (new_output ≡ output) × (status ≡ 2)
 
--- help and the version were asked for, and all other kinds are mistakes
+-- help and the version are shown as help; all other kinds are mistakes
 abbrev pub ShowsText : ErrorKind → List ℕ → SinkState → SinkState → SinkState → SinkState → ℕ → Type 0
 ShowsText DisplayHelp text output new_output faults new_faults status = ShowsHelp text output new_output faults new_faults status
 ShowsText DisplayVersion text output new_output faults new_faults status = ShowsHelp text output new_output faults new_faults status
 ShowsText _ text output new_output faults new_faults status = ShowsMistake text output new_output faults new_faults status
 
--- A text of the command line's parser was shown, by the kind of its error. Or memory was wanted for it.
+-- Clap's text was shown, as the kind of its error requires. Or memory for the text was refused.
 abbrev pub Shows : ErrorKind → SinkState → SinkState → SinkState → SinkState → ℕ → Type 0
 Shows kind output new_output faults new_faults status =
     ((text : List ℕ) × ShowsText kind text output new_output faults new_faults status)

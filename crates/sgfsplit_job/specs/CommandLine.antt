@@ -66,7 +66,7 @@ abbrev pub AreFaultless : List (List ℕ) → Type 0
 AreFaultless words =
     (names : FormNames) × (names_of names ≡ forms) × (fault_of (program_app names) words ≡ [])
 
--- clap finds a fault of this kind in them; a wish for help counts as a fault
+-- clap finds a fault of this kind in the words; a request for help counts as a fault
 abbrev pub HasFault : List (List ℕ) → ErrorKind → Type 0
 HasFault words kind =
     (names : FormNames) × (names_of names ≡ forms) × IsAmong kind (fault_of (program_app names) words)

@@ -98,11 +98,12 @@ pub fn tell<E: Sink>(fault: &Fault, faults: &mut E) -> u8
     fault.status()
 }
 
-/// Shows a text of the command line's parser, and answers the exit status.
+/// Shows clap's text, and returns the exit status.
 ///
-/// - Help and the version, by the error's kind, go to `output`, with status 0. If that fails it is a failed write.
-/// - What is wrong with the words goes to `faults`, with status 2, also if that fails.
-/// - Memory may be wanted for the text, and be refused.
+/// - Help and the version, by the kind of the error, go to `output`, with status 0. If
+///   `output` fails, that is reported as a failed write, with status 3.
+/// - The text of a mistake in the words goes to `faults`, with status 2, even if `faults` fails.
+/// - If memory for the text is refused, that is reported with status 4.
 pub fn show<T: Sink, E: Sink>(alloc: Global, error: &Error, output: &mut T, faults: &mut E) -> u8
     requires output_counts { (T.state output.old).failures < u64.MAX }
     requires faults_count { (E.state faults.old).failures < u64.MAX }

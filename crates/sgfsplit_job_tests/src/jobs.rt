@@ -109,7 +109,7 @@ fn the_status_stays_where_its_row_fails(rt: HostRuntime) -> Result<(), Fail> {
     Ok(())
 }
 
-/// A text whose first record in sgf form has 100,003 bytes, which is more than the sink holds, and its second 4.
+/// A text whose first record in sgf form has 100,003 bytes, more than the sink holds; the second record has 4.
 fn long_and_short(alloc: Global) -> Result<Vec<u8>, Fail> {
     let mut text = Vec::new(alloc);
     text.extend_from_slice(b"(;C[")?;

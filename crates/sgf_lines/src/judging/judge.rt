@@ -162,7 +162,7 @@ impl Judge {
         }
     }
 
-    /// Counts the nodes that are played from 0 again.
+    /// Sets the number of nodes that were played to 0.
     pub(crate) fn count_anew(&mut self)
         ensures judged { self.new.judgement ≡ self.old.judgement }
         ensures plays { self.new.plays ≡ 0 }
