@@ -83,7 +83,7 @@ impl<'c, 'a> Follower<'c, 'a> {
         Ok(Some(verdict))
     }
 
-    /// The line of the verdict that was returned last. There is one unless memory was refused since.
+    /// The line of the verdict that was returned last. `next` must have returned one, and memory mustn't have been refused since.
     pub fn line(&self) -> LineRef<'_>
         requires { self.now.shows ≡ true }
         ensures { IsLine self.now.games (self.now.index - 1) result }

@@ -16,7 +16,7 @@ impl<'l> LineRef<'l> {
     ghost use Rattle.sgf_lines.specs.Paths.{leaf_of};
     ghost use Rattle.sgf_lines.specs.Cursor.{shown};
 
-    /// The numbers of its nodes, which count from 0 in file order; the root comes first.
+    /// The numbers of its nodes, from 0 in file order. The root comes first, and there is at least one node.
     pub fn path(&self) -> &'l [usize]
         ensures numbers { result.now ≡ (shown self.now).path.numbers }
         ensures some_node { 0 < length result.now }
