@@ -5,7 +5,7 @@ use crate::board::regions::no_rows;
 use crate::fault::MemoryFault;
 use crate::past::Past;
 use crate::past::colourings::Colourings;
-use crate::past::print::{print_after_stone, print_of};
+use crate::past::print::{print_after_stone, print_from, print_of};
 use crate::past::table::Table;
 use crate::points::Point;
 use crate::stones::Colour;
@@ -177,7 +177,7 @@ impl PrintPast {
         }
         let mut made = newest.copy();
         made.put(colour, point, taken);
-        print_of(&made)
+        print_from(self.prints.newest(), newest, &made)
     }
 
     /// Whether a colouring of the present stretch has that print.
@@ -208,7 +208,7 @@ impl PrintPast {
     {
         let mut made = self.newest().copy();
         made.place(colour, point);
-        let print = print_of(&made);
+        let print = print_from(self.prints.newest(), self.newest(), &made);
         if self.holds_printed(&made, print) {
             return Ok(false);
         }
