@@ -1,9 +1,9 @@
 -- The print of a colouring: sums, the words of rows, and one stone more.
 use Rattle.std.proofs.Common.{◌≡◌, ◌≢◌, inl, inr, ℕ, zero, suc, ◌+◌, ◌-◌, ◌*◌, ◌/◌, ◌%◌, ◌^◌, ◌<◌, ◌≤◌, ◌||◌, Bool, true, false, cond, length, bit_or, refl, sym, ap, ◌∙◌, arith}
 use Rattle.std.specs.Int.{bit_at}
-use Rattle.std.proofs.Math.Nat.{mod-add-mod, add-mul-mod_self_left}
+use Rattle.std.proofs.Math.Nat.{mod-add-mod, add-mul-mod_self_left, mod-add-div, mod-eq_of_lt}
 use Rattle.std.proofs.lemmas.Bool.{cases_Bool, cases_eq, cases_lt, false_from_ne_true, or_parts}
-use Rattle.std.proofs.lemmas.Nat.{pow-add, mul-mod_first}
+use Rattle.std.proofs.lemmas.Nat.{mod_below, pow-add, pow_pos, mul-mod_first}
 use Rattle.std.proofs.lemmas.Nat.Bits.{bit_at_above, bit_at_cat_high, bit_at_cat_low, same_from_bits}
 use denote.Enum.Bare.{sameb}
 use Rattle.go_board.specs.contracts.stones.Colour.{the_type}
@@ -15,7 +15,7 @@ use Rattle.go_board.specs.declared.points.Point.{Point}
 use Rattle.go_board.specs.Colour.{same_cell, stone_of}
 use Rattle.go_board.specs.Point.{IsOn}
 use Rattle.go_board.specs.Grid.{Grid, cell_at, with_cell}
-use Rattle.go_board.specs.inner.Print.{sum_below, word_below, row_word, code_in, weight, mixed, row_print, print_of}
+use Rattle.go_board.specs.inner.Print.{sum_below, word_below, row_word, code_in, weight, mixed, row_print, print_in, print_of}
 use Rattle.go_board.specs.inner.Rows.{has_bit}
 use Rattle.go_board.proofs.GridLemmas.{cell_at-with_cell, cell_at-with_cell_elsewhere}
 use Rattle.go_board.proofs.StoneRowsLemmas.{bit_same}
@@ -167,6 +167,27 @@ module _ (g : Grid) (p : Point) (stone wanted : Cell) (word next : ℕ) (b : Boo
       (λ k is.
       elim (cases_eq k p.col) [ inl at ↦ omega (arith, at, on.0) | inr other ↦ off k (sym (elsewhere k other) ∙ is) ])
 
+-- what is the same but for multiples of a number is the same modulo it
+same_mod : (x y z w m : ℕ) → x + m * y ≡ z + m * w → x % m ≡ z % m
+same_mod x y z w m e = sym (add-mul-mod_self_left x m y) ∙ ap (λ n. n % m) e ∙ add-mul-mod_self_left z m w
+
+-- a row's new print for its old one
+row-exchanged : (print new old : ℕ) → (((print + new % 2 ^ 64) % 2 ^ 64 + (2 ^ 64 - old % 2 ^ 64)) % 2 ^ 64) + old + 2 ^ 64 * ((print + new % 2 ^ 64) / 2 ^ 64 + ((print + new % 2 ^ 64) % 2 ^ 64 + (2 ^ 64 - old % 2 ^ 64)) / 2 ^ 64 + new / 2 ^ 64) ≡ print + new + 2 ^ 64 * (1 + old / 2 ^ 64)
+row-exchanged print new old =
+    let sum = print + new % 2 ^ 64 in
+    let rest = sum % 2 ^ 64 + (2 ^ 64 - old % 2 ^ 64) in
+    let small : old % 2 ^ 64 < 2 ^ 64 = mod_below old (2 ^ 64) (pow_pos 64) in
+    omega (arith, small, mod-add-div sum (2 ^ 64), mod-add-div rest (2 ^ 64), mod-add-div new (2 ^ 64), mod-add-div old (2 ^ 64))
+
+pub rows-more : (found print old new row_old row_new less more : ℕ) → found + old + 2 ^ 64 * less ≡ print + new + 2 ^ 64 * more → (x : ℕ) × (y : ℕ) × ((((found + row_new % 2 ^ 64) % 2 ^ 64 + (2 ^ 64 - row_old % 2 ^ 64)) % 2 ^ 64) + (old + row_old) + 2 ^ 64 * x ≡ print + (new + row_new) + 2 ^ 64 * y)
+rows-more found print old new row_old row_new less more same =
+    (less + ((found + row_new % 2 ^ 64) / 2 ^ 64 + ((found + row_new % 2 ^ 64) % 2 ^ 64 + (2 ^ 64 - row_old % 2 ^ 64)) / 2 ^ 64 + row_new / 2 ^ 64), more + (1 + row_old / 2 ^ 64), omega (arith, same, row-exchanged found row_new row_old))
+
+-- at the end the new rows are left
+pub rows-exchanged : (found print old new less more : ℕ) → found < 2 ^ 64 → print ≡ old % 2 ^ 64 → found + old + 2 ^ 64 * less ≡ print + new + 2 ^ 64 * more → found ≡ new % 2 ^ 64
+rows-exchanged found print old new less more small is same =
+    sym (mod-eq_of_lt small) ∙ same_mod found (old / 2 ^ 64 + less) new more (2 ^ 64) (omega (arith, same, is, mod-add-div old (2 ^ 64)))
+
 -- what is taken off again, modulo the same number
 taken_off : (now less more before m : ℕ) → less ≤ m → now + less ≡ before + more → ((before % m + more) % m + (m - less)) % m ≡ now % m
 taken_off now less more before m small same =
@@ -176,13 +197,25 @@ taken_off now less more before m small same =
     ∙ ap (λ n. n % m) whole
     ∙ add-mul-mod_self_left now m 1
 
+-- a row that is the same on two grids
+pub same-row : (g h : Grid) (row : ℕ) → h.side ≡ g.side → ((col : ℕ) → col < g.side → cell_at g (record { col = col; row = row }) ≡ cell_at h (record { col = col; row = row })) → print_in g row ≡ print_in h row
+same-row g h row side same =
+    ap (λ w. row_print g.side row w (row_word g White row)) (word Black)
+    ∙ ap (λ w. row_print g.side row (row_word h Black row) w) (word White)
+    ∙ ap (λ n. row_print n row (row_word h Black row) (row_word h White row)) (sym side)
+  where
+    coloured : Grid → Cell → ℕ → ℕ
+    coloured k wanted col = cond (same_cell (cell_at k (record { col = col; row = row })) wanted) (2 ^ col) 0
+
+    word : (wanted : Cell) → row_word g wanted row ≡ row_word h wanted row
+    word wanted =
+        sum-same g.side (coloured g wanted) (coloured h wanted) (λ k low. ap (λ c. cond (same_cell c wanted) (2 ^ k) 0) (same k low))
+        ∙ ap (λ n. sum_below n (coloured h wanted)) (sym side)
+
 -- the print with one stone more
 module _ (g : Grid) (p : Point) (stone : Cell) (black white new_black new_white : ℕ) (on : IsOn g.side p) (all : length g.cells ≡ g.side * g.side) where
   abbrev made : Grid
   made = with_cell g p stone
-
-  abbrev of_row : Grid → ℕ → ℕ
-  of_row h r = row_print h.side r (row_word h Black r) (row_word h White r)
 
   other_row : (wanted : Cell) (r : ℕ) → r < g.side → r ≢ p.row → row_word g wanted r ≡ row_word made wanted r
   other_row wanted r low other =
@@ -194,20 +227,17 @@ module _ (g : Grid) (p : Point) (stone : Cell) (black white new_black new_white 
         let add = code_in new_black new_white p.col * weight g.side p in
         let more = mixed p.row new_black new_white in
         let less = mixed p.row black white in
-        let before = sum_below g.side (of_row g) in
-        let now = sum_below g.side (of_row made) in
-        let changed = sum-changed g.side p.row (of_row g) (of_row made) on.1
+        let before = sum_below g.side (print_in g) in
+        let now = sum_below g.side (print_in made) in
+        let changed = sum-changed g.side p.row (print_in g) (print_in made) on.1
         (λ r low other. rw (other_row Black r low other, other_row White r low other) refl) in
-        let old : of_row g p.row ≡ row_print g.side p.row black white = rw (black_is, white_is) refl in
-        let new : of_row made p.row ≡ row_print g.side p.row new_black new_white = rw (new_black_is, new_white_is) refl in
+        let old : print_in g p.row ≡ row_print g.side p.row black white = rw (black_is, white_is) refl in
+        let new : print_in made p.row ≡ row_print g.side p.row new_black new_white = rw (new_black_is, new_white_is) refl in
         ap (λ n. (((n + add) % 2 ^ 64 + more) % 2 ^ 64 + (2 ^ 64 - less)) % 2 ^ 64) is
         ∙ ap (λ n. (n + (2 ^ 64 - less)) % 2 ^ 64) (mod-add-mod (before % 2 ^ 64 + add) (2 ^ 64) more ∙ ap (λ n. n % 2 ^ 64) (omega arith))
         ∙ taken_off now less (add + more) before (2 ^ 64) (omega (arith, small)) (omega (arith, changed, old, new, row_is))
 
 -- Powers of 31, modulo 16384.
-
-same_mod : (x y z w m : ℕ) → x + m * y ≡ z + m * w → x % m ≡ z % m
-same_mod x y z w m e = sym (add-mul-mod_self_left x m y) ∙ ap (λ n. n % m) e ∙ add-mul-mod_self_left z m w
 
 abbrev even : ℕ → ℕ
 even half = 1 + half * (15296 + 2048 * half)

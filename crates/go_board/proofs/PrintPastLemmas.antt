@@ -1,10 +1,10 @@
 -- The prints of past colourings.
-use Rattle.std.proofs.Common.{◌≡◌, ◌≢◌, ℕ, zero, suc, ◌-◌, ◌<◌, ◌≤◌, false, List, [], ◌∷◌, Option, Some, None, length, get_or, map, take, drop, reverse, Contains, sym, ap, ◌∙◌, arith}
-use Rattle.std.proofs.lemmas.List.{get_or-reverse, length-reverse, length-map}
+use Rattle.std.proofs.Common.{Bool, ◌≡◌, ◌≢◌, ℕ, zero, suc, ◌-◌, ◌<◌, ◌≤◌, false, List, [], ◌∷◌, Option, Some, None, length, get_or, map, take, drop, reverse, Contains, sym, ap, ◌∙◌, arith, ◌++◌}
+use Rattle.std.proofs.lemmas.List.{get_or-reverse, reverse-append, length-reverse, length-map}
 use Rattle.std.specs.Option.{is_some}
 use Rattle.std.proofs.lemmas.Bool.{false≢true}
 use Rattle.go_board.specs.Grid.{Grid}
-use Rattle.go_board.specs.Past.{Held, stretch_of}
+use Rattle.go_board.specs.Past.{Held, PastColourings, all_of, stretch_of, with_next}
 use Rattle.go_board.specs.inner.Changes.{first_grid, IsNumber}
 use Rattle.go_board.specs.inner.Print.{print_of, prints_of}
 use Rattle.go_board.specs.inner.Table.{IsLastOf}
@@ -83,3 +83,19 @@ module _ (held : List Held) (prints : List ℕ) (kept : reverse prints ≡ print
       (λ y low high at.
       let within : y < end = omega (arith, high, all, same_length) in
       missing y print g is high (none_found prints print start end found last none y low within) at)
+
+-- the prints with one more
+pub printed-next : (past next : PastColourings) (prints more : List ℕ) (print : ℕ) (grid : Grid) (begins : Bool) → next ≡ with_next past grid begins → more ≡ prints ++ print ∷ [] → print ≡ print_of grid → reverse prints ≡ prints_of (all_of past) → reverse more ≡ prints_of (all_of next)
+printed-next past next prints more print grid begins made pushed is printed =
+    ap (λ (xs : List ℕ). reverse xs) pushed
+    ∙ reverse-append prints (print ∷ [])
+    ∙ ap (λ n. n ∷ reverse prints) is
+    ∙ ap (λ (xs : List ℕ). print_of grid ∷ xs) printed
+    ∙ sym (ap (λ (x : PastColourings). prints_of (all_of x)) made)
+
+-- and with that one taken back
+pub printed-back : (past : PastColourings) (prints more back : List ℕ) (print last : ℕ) → more ≡ prints ++ print ∷ [] → more ≡ back ++ last ∷ [] → reverse prints ≡ prints_of (all_of past) → reverse back ≡ prints_of (all_of past)
+printed-back past prints more back print last pushed popped printed =
+    let turned : ◌≡◌ {A = List ℕ} (last ∷ reverse back) (print ∷ reverse prints) = sym (reverse-append back (last ∷ [])) ∙ ap (λ (xs : List ℕ). reverse xs) (sym popped ∙ pushed) ∙ reverse-append prints (print ∷ []) in
+    let same : reverse back ≡ reverse prints = cc in
+    same ∙ printed

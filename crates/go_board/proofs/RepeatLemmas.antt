@@ -1,12 +1,22 @@
 -- A stone that stays can repeat a colouring of the stretch only on a point that was emptied.
-use Rattle.std.proofs.Common.{◌≡◌, ◌≢◌, zero, suc, inl, inr, List, [], ◌∷◌, Contains, ap, sym, ◌∙◌, arith}
+use Rattle.std.proofs.Common.{◌≡◌, ◌≢◌, ◌*◌, zero, suc, inl, inr, ℕ, Bool, true, false, cond, List, [], ◌∷◌, length, reverse, Contains, refl, ap, sym, subst, ◌∙◌, arith}
 use Rattle.std.proofs.lemmas.Bool.{cases_Bool, false≢true}
 use Rattle.go_board.specs.declared.stones.Cell.TheVariants.{Empty}
+use Rattle.go_board.specs.declared.stones.Colour.{Colour}
 use Rattle.go_board.specs.declared.points.Point.{Point}
-use Rattle.go_board.specs.Colour.{same_cell}
+use Rattle.go_board.specs.Colour.{same_cell, stone_of}
+use Rattle.go_board.specs.Point.{IsOn}
 use Rattle.go_board.specs.Grid.{Grid, cell_at}
+use Rattle.go_board.specs.Clearing.{play}
+use Rattle.go_board.specs.Past.{Held, PastColourings, all_of, newest_grid, only, stretch_of, present_stretch, AllHaveSide, HaveSide}
 use Rattle.go_board.specs.Reason.{WasEmptied}
-use Rattle.go_board.proofs.GridLemmas.{Decides-same_cell}
+use Rattle.go_board.specs.inner.Emptied.{HasEmptied, HasAllEmptied, IsPrintPast}
+use Rattle.go_board.specs.inner.Print.{prints_of}
+use Rattle.go_board.specs.inner.Groups.{TakesOff}
+use Rattle.go_board.specs.inner.Rows.{is_set, IsAmong}
+use Rattle.go_board.proofs.PointLemmas.{same_or_not}
+use Rattle.go_board.proofs.GridLemmas.{Decides-same_cell, cell_at-with_cell, cell_at-with_cell_elsewhere}
+use Rattle.go_board.proofs.GroupLemmas.{stone_of≢Empty}
 
 -- a colouring that has a stone where the newest has none comes back only where that point was emptied
 pub emptied-if_back : (point : Point) (made newest : Grid) (others : List Grid) → cell_at newest point ≡ Empty → cell_at made point ≢ Empty → Contains (newest ∷ others) made → WasEmptied point (newest ∷ others)
@@ -18,3 +28,55 @@ emptied-if_back point made newest (earlier ∷ others) none stone (suc k, h, e) 
       | inl free ↦ inr (emptied-if_back point made earlier others (here.0 free) stone (k, omega (arith, h), e))
       | inr taken ↦ inl (λ is. false≢true (sym taken ∙ here.1 is), none)
     ]
+
+-- among the colourings of a stretch, as far as the second one
+stretch_goes_on : (b : Bool) (point : Point) (later : Grid) (rest : List Grid) → WasEmptied point (later ∷ cond b [] rest) → (b ≡ false) × WasEmptied point (later ∷ rest)
+stretch_goes_on true point later rest was = absurd was
+stretch_goes_on false point later rest was = (refl, was)
+
+-- a point that was emptied in the present stretch is in a set that has all that were
+pub was_in_set : (set : Point → Bool) (side : ℕ) (point : Point) → IsOn side point → (held : List Held) → AllHaveSide side held → HasAllEmptied set held → WasEmptied point (stretch_of held) → set point ≡ true
+was_in_set set side point on [] sides all was = absurd was
+was_in_set set side point on (later ∷ []) sides all was = absurd (stretch_goes_on later.begins point later.colouring [] was).1
+was_in_set set side point on (later ∷ (earlier ∷ others)) sides all was =
+    let on_next = stretch_goes_on later.begins point later.colouring (stretch_of (earlier ∷ others)) was in
+    elim on_next.1 [
+      | inl gone ↦ all.0 on_next.0 point (subst (λ n. IsOn n point) (sym sides.1.0) on) gone.0 gone.1
+      | inr before ↦ was_in_set set side point on (earlier ∷ others) sides.1 all.1 before
+    ]
+
+-- with more points a set still has all
+pub HasAllEmptied-more : (a b : Point → Bool) (held : List Held) → IsAmong a b → HasAllEmptied a held → HasAllEmptied b held
+HasAllEmptied-more a b [] among all = tt
+HasAllEmptied-more a b (later ∷ []) among all = tt
+HasAllEmptied-more a b (later ∷ (earlier ∷ others)) among all =
+    (λ goes_on p on stone free. among p (all.0 goes_on p on stone free), HasAllEmptied-more a b (earlier ∷ others) among all.1)
+
+-- a stone empties what it takes off, and no other point
+pub emptied_by_play : (g : Grid) (k : Colour) (p : Point) (rows : List ℕ) → IsOn g.side p → cell_at g p ≡ Empty → TakesOff g k p rows → HasEmptied (is_set rows) g (play g k p)
+emptied_by_play g k p rows on none takes = λ q at stone free.
+    elim (cases_Bool (is_set rows q)) [
+      | inl taken ↦ taken
+      | inr left ↦
+          absurd (elim (same_or_not q p) [
+            | inl same ↦ stone (ap (cell_at g) same ∙ none)
+            | inr other ↦
+                stone (sym (cell_at-with_cell_elsewhere g p q (stone_of k) on at other) ∙ sym (takes.played.kept q at (λ taken. false≢true (sym left ∙ taken))) ∙ free)
+          ])
+    ]
+
+-- a stone that stays on a point that isn't in the set makes no colouring of the present stretch
+pub never_back : (past : PastColourings) (k : Colour) (p : Point) (rows emptied : List ℕ) → IsOn (newest_grid past).side p → length (newest_grid past).cells ≡ (newest_grid past).side * (newest_grid past).side → cell_at (newest_grid past) p ≡ Empty → HaveSide (newest_grid past).side past → HasAllEmptied (is_set emptied) (all_of past)
+    → TakesOff (newest_grid past) k p rows → is_set emptied p ≡ false → is_set rows p ≡ false → Contains (present_stretch past) (play (newest_grid past) k p) → ⊥
+never_back past k p rows emptied on all none sides kept takes fresh stays has =
+    let g = newest_grid past in
+    let there : cell_at (play g k p) p ≡ stone_of k = takes.played.kept p on (λ taken. false≢true (sym stays ∙ taken)) ∙ cell_at-with_cell g p (stone_of k) on all in
+    let was = emptied-if_back p (play g k p) g (cond past.newest.begins [] (stretch_of past.older)) none (λ e. stone_of≢Empty k (sym there ∙ e)) has in
+    false≢true (sym fresh ∙ was_in_set (is_set emptied) g.side p on (all_of past) sides kept was)
+
+-- a past of one colouring
+pub only_kept : (colourings : PastColourings) (prints emptied : List ℕ) (grid : Grid) → colourings ≡ only grid → reverse prints ≡ prints_of (all_of colourings) → IsPrintPast colourings prints emptied
+only_kept colourings prints emptied grid is printed = record {
+  printed = printed;
+  emptied_in = subst (λ (past : PastColourings). HasAllEmptied (is_set emptied) (all_of past)) (sym is) tt;
+}

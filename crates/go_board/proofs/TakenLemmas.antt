@@ -180,8 +180,8 @@ added_more old rows new row within so_far =
       same = λ r above. get_or-set_other new row r word 0 (omega (arith, above)) ∙ so_far.same r (omega (arith, above));
     }
 
-pub added_all : (old rows new : List ℕ) → length old ≡ length rows → AddedBelow old rows (length rows) new → (p : Point) → is_set new p ≡ (is_set old p || is_set rows p)
-added_all old rows new same each p =
+pub added_all : (old rows new : List ℕ) → AddedBelow old rows (length rows) new → (p : Point) → is_set new p ≡ (is_set old p || is_set rows p)
+added_all old rows new each p =
     elim (cases_lt p.row (length rows)) [
       | inl below ↦ ap (λ w. has_bit w p.col) (each.added p.row below) ∙ has_bit-or (slice_index old p.row) (slice_index rows p.row) p.col
       | inr above ↦

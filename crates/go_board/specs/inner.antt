@@ -13,3 +13,4 @@ pub mod Earlier
 pub mod Print
 pub mod Changes
 pub mod Table
+pub mod Emptied

@@ -1,7 +1,7 @@
 //! The board: reading and setting points, moves and the score (Tromp-Taylor).
 
 mod areas;
-mod capture;
+pub(crate) mod capture;
 pub(crate) mod cells;
 mod fill;
 mod flood;

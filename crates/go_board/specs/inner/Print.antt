@@ -47,10 +47,13 @@ abbrev pub row_print : ℕ → ℕ → ℕ → ℕ → ℕ
 row_print side row black white =
     mixed row black white + sum_below side (λ col. code_in black white col * weight side (record { col = col; row = row }))
 
+-- what a row of a grid adds to its print
+abbrev pub print_in : Grid → ℕ → ℕ
+print_in grid row = row_print grid.side row (row_word grid Black row) (row_word grid White row)
+
 -- the print, a 64-bit number
 abbrev pub print_of : Grid → ℕ
-print_of grid =
-    sum_below grid.side (λ row. row_print grid.side row (row_word grid Black row) (row_word grid White row)) % 2 ^ 64
+print_of grid = sum_below grid.side (print_in grid) % 2 ^ 64
 
 -- the prints of past colourings
 abbrev pub prints_of : List Held → List ℕ

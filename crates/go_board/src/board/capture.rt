@@ -116,9 +116,9 @@ impl Board {
     }
 }
 
-/// Adds the points of a set to another set.
-fn add_points(rows: &[u64], all: &mut [u64])
-    requires { length all.old ≡ length rows.now }
+/// Adds the points of a set to another one, which has as many rows or more.
+pub(crate) fn add_points(rows: &[u64], all: &mut [u64])
+    requires { length rows.now ≤ length all.old }
     ensures both { (p : Point) → is_set all.new p ≡ (is_set all.old p || is_set rows.now p) }
     ensures rows { length all.new ≡ length all.old }
 {

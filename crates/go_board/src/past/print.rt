@@ -11,7 +11,7 @@ ghost use Rattle.go_board.specs.declared.stones.Cell.TheVariants.{Empty};
 ghost use Rattle.go_board.specs.Colour.{stone_of};
 ghost use Rattle.go_board.specs.Point.{IsOn};
 ghost use Rattle.go_board.specs.Grid.{cell_at, with_cell};
-ghost use Rattle.go_board.specs.inner.Print.{code_in, folded, mixed, print_of, row_print, weight};
+ghost use Rattle.go_board.specs.inner.Print.{code_in, folded, mixed, print_in, print_of, row_print, weight};
 ghost use Rattle.go_board.specs.inner.Rows.{has_bit};
 
 use crate::board::Board;
@@ -37,15 +37,28 @@ const WHITE_MIXER: u64 = 0x9e37_79b9_7f4a_7c15;
 pub(crate) fn print_of(board: &Board) -> u64
     ensures { result ≡ print_of board.now }
 {
-    board.has_all_cells();
-    let size = board.size();
     let mut print: u64 = 0;
-    for row in 0..size.side() {
-        let black = board.columns_of(row, Colour::Black);
-        let white = board.columns_of(row, Colour::White);
-        print = print.wrapping_add(row_print(size, row, black, white));
+    for row in 0..board.size().side() {
+        print = print.wrapping_add(print_of_row(board, row));
     }
     print
+}
+
+/// The print of a board, from that of one of the same size: only rows that differ are looked at.
+pub(crate) fn print_from(print: u64, old: &Board, new: &Board) -> u64
+    requires side { new.now.side ≡ old.now.side }
+    requires print { print ≡ print_of old.now }
+    ensures { result ≡ print_of new.now }
+{
+    let mut found = print;
+    for row in 0..old.size().side() {
+        if !old.has_same_row(new, row) {
+            found = found
+                .wrapping_add(print_of_row(new, row))
+                .wrapping_sub(print_of_row(old, row));
+        }
+    }
+    found
 }
 
 /// The print after a stone is put on an empty point, from the print before.
@@ -66,6 +79,16 @@ pub(crate) fn print_after_stone(print: u64, board: &Board, colour: Colour, point
         .wrapping_add(code * weight(board.size(), point))
         .wrapping_add(mixed(point.row, new_black, new_white))
         .wrapping_sub(mixed(point.row, black, white))
+}
+
+/// What a row of a board adds to its print.
+fn print_of_row(board: &Board, row: u8) -> u64
+    requires { row < board.now.side }
+    ensures { result ≡ print_in board.now row % 2 ^ 64 }
+{
+    let black = board.columns_of(row, Colour::Black);
+    let white = board.columns_of(row, Colour::White);
+    row_print(board.size(), row, black, white)
 }
 
 /// What a row adds to a print.

@@ -1,13 +1,23 @@
 //! The past with prints.
 
+ghost use Rattle.std.specs.Prelude.{◌≡◌, ◌≢◌, ◌<◌, IsTrue, length};
+ghost use Rattle.go_board.specs.declared.stones.Cell.TheVariants.{Empty};
+ghost use Rattle.go_board.specs.declared.points.Point.{Point};
+ghost use Rattle.go_board.specs.Point.{IsOn};
+ghost use Rattle.go_board.specs.Grid.{cell_at};
+ghost use Rattle.go_board.specs.inner.Rows.{is_set, IsAmong};
+
 use crate::board::Board;
+use crate::board::capture::add_points;
 use crate::board::regions::no_rows;
+use crate::board::stone_rows::has_column;
 use crate::fault::MemoryFault;
 use crate::past::Past;
 use crate::past::colourings::Colourings;
-use crate::past::print::{print_after_stone, print_of};
+use crate::past::print::{print_after_stone, print_from, print_of};
 use crate::past::table::Table;
 use crate::points::Point;
+use crate::size::MAX_ROWS;
 use crate::stones::Colour;
 use std::alloc::Global;
 use std::marker::Model;
@@ -23,18 +33,20 @@ pub struct PrintPast {
     colourings: Colourings,
     /// The prints of the colourings, oldest first.
     prints: Table,
+    /// The points that were emptied since the game began, and others: a bit for each column of a row. Only on these can a stone
+    /// that stays bring a colouring back. They aren't taken back with a colouring, since that can go back over a setup.
+    emptied: [u64; MAX_ROWS],
 }
 
 impl Model for PrintPast {
-    ghost use Rattle.std.specs.Prelude.{◌≡◌, reverse};
-    ghost use Rattle.go_board.specs.Past.{PastColourings, all_of};
-    ghost use Rattle.go_board.specs.inner.Print.{prints_of};
+    ghost use Rattle.go_board.specs.Past.{PastColourings};
+    ghost use Rattle.go_board.specs.inner.Emptied.{IsPrintPast};
 
     ghost Value = { PastColourings };
 
     ghost view = { λ p. p.colourings };
 
-    ghost invariant = { λ p. reverse p.prints ≡ prints_of (all_of p.colourings) };
+    ghost invariant = { λ p. IsPrintPast p.colourings p.prints p.emptied };
 }
 
 impl Past for PrintPast {
@@ -44,6 +56,7 @@ impl Past for PrintPast {
         Ok(PrintPast {
             colourings: Colourings::new(alloc, board)?,
             prints: Table::new(alloc, print_of(board))?,
+            emptied: no_rows(),
         })
     }
 
@@ -85,6 +98,7 @@ impl Past for PrintPast {
     fn reset(&mut self, _alloc: Global, board: &Board) -> Result<(), MemoryFault> {
         self.colourings.reset(board);
         self.prints.reset(print_of(board));
+        self.emptied = no_rows();
         Ok(())
     }
 }
@@ -96,6 +110,7 @@ impl PrintPast {
     ghost use Rattle.go_board.specs.Grid.{Grid, cell_at};
     ghost use Rattle.go_board.specs.Clearing.{play};
     ghost use Rattle.go_board.specs.Past.{newest_grid, with_next, present_stretch, HaveSide};
+    ghost use Rattle.go_board.specs.declared.stones.Colour.{Colour};
     ghost use Rattle.go_board.specs.inner.Groups.{TakesOff};
     ghost use Rattle.go_board.specs.inner.Print.{print_of};
 
@@ -123,6 +138,7 @@ impl PrintPast {
         ensures ok { OnOk result (self.new ≡ with_next self.old board.now begins) }
         ensures err { OnErr result (self.new ≡ self.old) }
     {
+        add_stones(self.colourings.newest(), &mut self.emptied);
         self.prints.push(print)?;
         if self.colourings.add(board, begins).is_err() {
             self.prints.pop();
@@ -151,8 +167,9 @@ impl PrintPast {
             (¬ Contains (present_stretch self.old) (play (newest_grid self.old) colour point)) }
         ensures err { OnErr result (self.new ≡ self.old) }
     {
+        self.colourings.newest().has_all_cells();
         let print = self.print_once_put(colour, point, taken);
-        if self.has_print(print) {
+        if self.may_have(point, taken, print) {
             return self.play_on_copy(colour, point);
         }
         self.prints.push(print)?;
@@ -160,7 +177,26 @@ impl PrintPast {
             self.prints.pop();
             return Err(MemoryFault);
         }
+        add_points(taken, &mut self.emptied);
         Ok(true)
+    }
+
+    /// Whether the present stretch may have what a stone makes, of that print. Most stones stay on a point that was never emptied,
+    /// and then it can't: no print is looked up.
+    fn may_have(&self, point: Point, taken: &[u64], print: u64) -> bool
+        requires one_side { HaveSide (newest_grid self.now).side self.now }
+        requires on_board { IsOn (newest_grid self.now).side point }
+        requires empty { cell_at (newest_grid self.now) point ≡ Empty }
+        ensures { (colour : Colour) → TakesOff (newest_grid self.now) colour point taken.now
+            → print ≡ print_of (play (newest_grid self.now) colour point)
+            → IsFalse result → ¬ Contains (present_stretch self.now) (play (newest_grid self.now) colour point) }
+    {
+        self.colourings.newest().has_all_cells();
+        let asked = has_point(&self.emptied, point) | has_point(taken, point);
+        if !asked {
+            return false;
+        }
+        self.has_print(print)
     }
 
     /// The print of what a stone makes; `taken` is what the stone takes off.
@@ -177,7 +213,7 @@ impl PrintPast {
         }
         let mut made = newest.copy();
         made.put(colour, point, taken);
-        print_of(&made)
+        print_from(self.prints.newest(), newest, &made)
     }
 
     /// Whether a colouring of the present stretch has this print.
@@ -208,11 +244,36 @@ impl PrintPast {
     {
         let mut made = self.newest().copy();
         made.place(colour, point);
-        let print = print_of(&made);
+        let print = print_from(self.prints.newest(), self.newest(), &made);
         if self.holds_printed(&made, print) {
             return Ok(false);
         }
         self.add(&made, print, false)?;
         Ok(true)
+    }
+}
+
+/// Adds the points of a board's stones to a set.
+fn add_stones(board: &Board, all: &mut [u64])
+    requires { length all.old ≡ MAX_ROWS }
+    ensures kept { IsAmong (is_set all.old) (is_set all.new) }
+    ensures stones { (point : Point) → IsOn board.now.side point → cell_at board.now point ≢ Empty → IsTrue (is_set all.new point) }
+    ensures rows { length all.new ≡ length all.old }
+{
+    board.has_all_cells();
+    add_points(board.rows_of(Colour::Black), all);
+    add_points(board.rows_of(Colour::White), all);
+}
+
+/// Whether a set has a point; it need not have rows for the whole board.
+fn has_point(rows: &[u64], point: Point) -> bool
+    requires { point.col < 64 }
+    ensures { result ≡ is_set rows.now point }
+{
+    let row = usize::from(point.row);
+    if row < rows.len() {
+        has_column(rows[row], usize::from(point.col))
+    } else {
+        false
     }
 }

@@ -1,0 +1,27 @@
+-- Points that were emptied in a game: only on such a point can a stone that stays bring a colouring back.
+use Rattle.std.specs.Prelude.{◌≡◌, ◌≢◌, ℕ, Bool, IsFalse, IsTrue, List, [], ◌∷◌, reverse}
+use Rattle.go_board.specs.declared.stones.Cell.TheVariants.{Empty}
+use Rattle.go_board.specs.declared.points.Point.{Point}
+use Rattle.go_board.specs.Point.{IsOn}
+use Rattle.go_board.specs.Grid.{Grid, cell_at}
+use Rattle.go_board.specs.Past.{Held, PastColourings, all_of}
+use Rattle.go_board.specs.inner.Print.{prints_of}
+use Rattle.go_board.specs.inner.Rows.{is_set}
+
+-- the set has each point on which a stone stood before and none stands after
+abbrev pub HasEmptied : (Point → Bool) → Grid → Grid → Type 0
+HasEmptied set before after =
+    (point : Point) → IsOn before.side point → cell_at before point ≢ Empty → cell_at after point ≡ Empty
+    → IsTrue (set point)
+
+-- the set has each point that one of these colourings, newest first, lost to the next of its stretch
+abbrev pub HasAllEmptied : (Point → Bool) → List Held → Type 0
+HasAllEmptied set [] = Unit {0}
+HasAllEmptied set (later ∷ []) = Unit {0}
+HasAllEmptied set (later ∷ (earlier ∷ others)) =
+    (IsFalse later.begins → HasEmptied set earlier.colouring later.colouring) × HasAllEmptied set (earlier ∷ others)
+
+-- what a past keeps besides its colourings: their prints, oldest first, and rows with each point that was emptied
+pub record IsPrintPast (colourings : PastColourings) (prints emptied : List ℕ) : Type 0 where
+  pub printed : reverse prints ≡ prints_of (all_of colourings)
+  pub emptied_in : HasAllEmptied (is_set emptied) (all_of colourings)
