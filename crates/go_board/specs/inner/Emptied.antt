@@ -1,4 +1,4 @@
--- Points that were emptied in a game: only on such a point can a stone that stays bring a colouring back.
+-- Points that were emptied in a game. A stone that stays can bring a colouring back only on such a point.
 use Rattle.std.specs.Prelude.{◌≡◌, ◌≢◌, ℕ, Bool, IsFalse, IsTrue, List, [], ◌∷◌, reverse}
 use Rattle.go_board.specs.declared.stones.Cell.TheVariants.{Empty}
 use Rattle.go_board.specs.declared.points.Point.{Point}
@@ -8,13 +8,13 @@ use Rattle.go_board.specs.Past.{Held, PastColourings, all_of}
 use Rattle.go_board.specs.inner.Print.{prints_of}
 use Rattle.go_board.specs.inner.Rows.{is_set}
 
--- the set has each point on which a stone stood before and none stands after
+-- the set has each point with a stone before and without one after
 abbrev pub HasEmptied : (Point → Bool) → Grid → Grid → Type 0
 HasEmptied set before after =
     (point : Point) → IsOn before.side point → cell_at before point ≢ Empty → cell_at after point ≡ Empty
     → IsTrue (set point)
 
--- the set has each point that one of these colourings, newest first, lost to the next of its stretch
+-- The set has each point that was emptied from one of these colourings to the next one of its stretch. The list is newest first.
 abbrev pub HasAllEmptied : (Point → Bool) → List Held → Type 0
 HasAllEmptied set [] = Unit {0}
 HasAllEmptied set (later ∷ []) = Unit {0}

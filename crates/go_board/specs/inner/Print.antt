@@ -47,7 +47,7 @@ abbrev pub row_print : ℕ → ℕ → ℕ → ℕ → ℕ
 row_print side row black white =
     mixed row black white + sum_below side (λ col. code_in black white col * weight side (record { col = col; row = row }))
 
--- what a row of a grid adds to its print
+-- what a row of a grid adds to the print of the grid
 abbrev pub print_in : Grid → ℕ → ℕ
 print_in grid row = row_print grid.side row (row_word grid Black row) (row_word grid White row)
 

@@ -116,7 +116,7 @@ impl Board {
     }
 }
 
-/// Adds the points of a set to another one, which has as many rows or more.
+/// Adds the points of a set to another set, which has at least as many rows.
 pub(crate) fn add_points(rows: &[u64], all: &mut [u64])
     requires { length rows.now ≤ length all.old }
     ensures both { (p : Point) → is_set all.new p ≡ (is_set all.old p || is_set rows.now p) }

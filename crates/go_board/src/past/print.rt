@@ -44,7 +44,7 @@ pub(crate) fn print_of(board: &Board) -> u64
     print
 }
 
-/// The print of a board, from that of one of the same size: only rows that differ are looked at.
+/// The print of a board, from the print of a board of the same size. Only rows that differ are looked at.
 pub(crate) fn print_from(print: u64, old: &Board, new: &Board) -> u64
     requires side { new.now.side ≡ old.now.side }
     requires print { print ≡ print_of old.now }
@@ -81,7 +81,7 @@ pub(crate) fn print_after_stone(print: u64, board: &Board, colour: Colour, point
         .wrapping_sub(mixed(point.row, black, white))
 }
 
-/// What a row of a board adds to its print.
+/// What a row of a board adds to the print of the board.
 fn print_of_row(board: &Board, row: u8) -> u64
     requires { row < board.now.side }
     ensures { result ≡ print_in board.now row % 2 ^ 64 }

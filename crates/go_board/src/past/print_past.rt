@@ -33,8 +33,9 @@ pub struct PrintPast {
     colourings: Colourings,
     /// The prints of the colourings, oldest first.
     prints: Table,
-    /// The points that were emptied since the game began, and others: a bit for each column of a row. Only on these can a stone
-    /// that stays bring a colouring back. They aren't taken back with a colouring, since that can go back over a setup.
+    /// All points that were emptied since the game began, and perhaps others: a bit for each
+    /// column of a row. Only on these points can a stone that stays bring a colouring back. They
+    /// aren't taken back with a colouring, because that may go back over a setup.
     emptied: [u64; MAX_ROWS],
 }
 
@@ -181,8 +182,8 @@ impl PrintPast {
         Ok(true)
     }
 
-    /// Whether the present stretch may have what a stone makes, of that print. Most stones stay on a point that was never emptied,
-    /// and then it can't: no print is looked up.
+    /// Whether the present stretch may have what a stone makes; `print` is the print of that. Most stones stay on a point that
+    /// was never emptied. Then the stretch can't have it, and no print is looked up.
     fn may_have(&self, point: Point, taken: &[u64], print: u64) -> bool
         requires one_side { HaveSide (newest_grid self.now).side self.now }
         requires on_board { IsOn (newest_grid self.now).side point }
@@ -227,7 +228,8 @@ impl PrintPast {
             .is_some()
     }
 
-    /// The same as `play`, on a copy of the newest board. It is for stones that need more than a glance.
+    /// The same as `play`, on a copy of the newest board. It is for boards that
+    /// aren't settled, and for stones that may repeat a colouring.
     #[inline(never)]
     fn play_on_copy(&mut self, colour: Colour, point: Point) -> Result<bool, MemoryFault>
         requires one_side { HaveSide (newest_grid self.old).side self.old }
@@ -265,7 +267,7 @@ fn add_stones(board: &Board, all: &mut [u64])
     add_points(board.rows_of(Colour::White), all);
 }
 
-/// Whether a set has a point; it need not have rows for the whole board.
+/// Whether a set has a point. The set may have fewer rows than the board.
 fn has_point(rows: &[u64], point: Point) -> bool
     requires { point.col < 64 }
     ensures { result ≡ is_set rows.now point }
