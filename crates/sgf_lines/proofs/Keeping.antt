@@ -18,8 +18,7 @@ use Rattle.sgf_lines.specs.declared.options.Form.TheVariants.{List as list_form,
 use Rattle.sgf_lines.specs.declared.run.Run.{Run}
 use Rattle.sgf_lines.specs.inner.Judging.{judging, back}
 use Rattle.sgf_lines.specs.inner.Recording.{open_record}
-use Rattle.sgf_lines.specs.inner.Pieces.{no_pieces}
-use Rattle.sgf_lines.specs.inner.Scripting.{empty_script, script_of, script_back, script_ended}
+use Rattle.sgf_lines.specs.inner.Scripting.{script_of, script_back, script_ended}
 use Rattle.sgf_lines.specs.inner.Following.{Continues, first_after, nodes_of, line_in, line_before, nodes_before, path_before}
 use Rattle.sgf_lines.specs.inner.Keeping.{judging_front, KeepsBy, HoldsBy, IsUnusedBy, Holds, PlaysIn, PlaysLine, IsShared, HasPlays, StillHeld, fresh_plays}
 use Rattle.sgf_lines.proofs.Along.{same_root}
