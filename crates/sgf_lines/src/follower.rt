@@ -69,7 +69,7 @@ impl<'c, 'a> Follower<'c, 'a> {
         }
     }
 
-    /// Goes on by one line, and answers its verdict, that of `judge`; after the last line None, again and again.
+    /// Goes on by one line and returns its verdict, as `judge` would; after the last line it returns None, again and again.
     /// After a refusal of memory the same line is next, and none is shown.
     pub fn next(&mut self) -> Result<Option<Verdict>, MemoryFault>
         ensures verdict { IfOk result (GivesVerdict self.old) }
@@ -84,7 +84,7 @@ impl<'c, 'a> Follower<'c, 'a> {
         Ok(Some(verdict))
     }
 
-    /// The line whose verdict was answered last.
+    /// The line whose verdict was returned last.
     pub fn line(&self) -> LineRef<'_>
         requires { self.now.shows ≡ true }
         ensures { IsLine self.now.games (self.now.index - 1) result }
@@ -93,7 +93,7 @@ impl<'c, 'a> Follower<'c, 'a> {
     }
 }
 
-/// Goes on to the next line, and answers how many of its nodes are judged already; None where no line is left.
+/// Goes on to the next line and returns how many of its nodes are judged already; None if no line is left.
 /// After a refusal of memory the cursor is unchanged.
 fn go_on(cursor: &mut Cursor<'_, '_>, before: Before) -> Result<Option<usize>, MemoryFault>
     ensures found { IfOk result (λ held. IfSome held (GoesOnBy before cursor.old cursor.new)) }

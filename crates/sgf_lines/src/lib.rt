@@ -24,7 +24,7 @@
 //! decreases-verdicts l = length (lines l.follower.games) - l.follower.index
 //! ```
 //!
-//! `judge` asks that a line ends in the node. [`laws::named`] says so of each line that a cursor gives.
+//! `judge` needs a node in which a line ends. By [`laws::named`] the last node of each line is one.
 //!
 //! | Module | What it has |
 //! |---|---|

@@ -34,7 +34,7 @@ pub fn judge(
 }
 
 /// The verdict of the line with this place, the offset of the `;` of its last node, judged as `judge` does.
-/// `NoSuchLine` comes exactly where no line has that place, unless memory was refused.
+/// `NoSuchLine` comes exactly if no line has that place, unless memory was refused.
 pub fn judge_at(
     alloc: Global,
     collection: &Collection<'_>,
