@@ -114,7 +114,20 @@ diff -r all killed >&2 || failed "a killed run wasn't mended"
 wait
 diff -r all both >&2 || failed "two calls at once came in each other's way"
 for signal in INT TERM; do
-    timeout --foreground -s "$signal" 0.5 "$library" ended many 2> faults || true
+    rm -rf ended
+    python3 - "$signal" "$library" ended many 2> faults <<'PYTHON'
+import os
+import signal
+import subprocess
+import sys
+import time
+
+tool = subprocess.Popen(sys.argv[2:])
+while tool.poll() is None and not os.path.exists("ended"):
+    time.sleep(0.01)
+tool.send_signal(getattr(signal, "SIG" + sys.argv[1]))
+tool.wait()
+PYTHON
     if grep -q Traceback faults; then failed "$signal: $(cat faults)"; fi
 done
 "$library" ended many

@@ -1,6 +1,5 @@
 -- What stays along a walk: the side of the board, and what was played.
-use Rattle.std.proofs.Common.{◌≡◌, ℕ, List, [], ◌∷◌, ◌++◌, Option, Some, None, Result, Ok, Err, refl, sym, ap, ◌∙◌, append_assoc, append-nil}
-use Rattle.std.specs.Prelude.{fold}
+use Rattle.std.proofs.Common.{◌≡◌, ℕ, List, [], ◌∷◌, Option, Some, None, Result, Ok, refl, sym, ap, ◌∙◌}
 use Rattle.sgf_tree.specs.Tree.{Node}
 use Rattle.go_board.specs.declared.stones.Colour.{Colour}
 use Rattle.go_board.specs.declared.referee.plays.Play.{Play}
@@ -12,7 +11,6 @@ use Rattle.sgf_lines.specs.NodeContents.{Move, Stones, moves, stones, players}
 use Rattle.sgf_lines.specs.NodeValues.{move_value, operations, last_player}
 use Rattle.sgf_lines.specs.Step.{side_in, turn_step, move_step, setup_step, step_by, step}
 use Rattle.go_board.proofs.TurnLemmas.{side-set_up, side-turned}
-use Rattle.sgf_lines.specs.Walk.{TakenNode, IllegalNode, Walk, stepped, next_by, next}
 
 -- a step leaves the side of the board
 side-same : (s t : State) (u : State) → side_in u ≡ side_in s → (let r : Result State Reason = Ok u in r ≡ Ok t) → side_in t ≡ side_in s
@@ -42,22 +40,3 @@ side-by s t [] [] (p ∷ ps) e = side-setup s t (Some []) (last_player None (p �
 
 pub side-step : (s t : State) (n : Node) → step s n ≡ Ok t → side_in t ≡ side_in s
 side-step s t n e = side-by s t (moves n) (stones n) (players n) e
-
--- a walk that goes on keeps what was played
-next_extends : (w : Walk) (n : Node) → (more : List TakenNode) × ((next w n).taken ≡ w.taken ++ more)
-next_extends w n = by_illegal w.illegal
-  where
-    by_step : (r : Result State Reason) → (more : List TakenNode) × ((stepped w n r).taken ≡ w.taken ++ more)
-    by_step (Ok s) = (record { node = n; after = s } ∷ [], refl)
-    by_step (Err reason) = ([], sym (append-nil w.taken))
-
-    by_illegal : (f : Option IllegalNode) → (more : List TakenNode) × ((next_by w f n).taken ≡ w.taken ++ more)
-    by_illegal (Some f) = ([], sym (append-nil w.taken))
-    by_illegal None = by_step (step w.state n)
-
-pub extends : (w : Walk) (ns : List Node) → (more : List TakenNode) × ((fold next w ns).taken ≡ w.taken ++ more)
-extends w [] = ([], sym (append-nil w.taken))
-extends w (n ∷ ns) =
-    let one = next_extends w n in
-    let rest = extends (next w n) ns in
-    (one.0 ++ rest.0, rest.1 ∙ ap (λ ps. ps ++ rest.0) one.1 ∙ append_assoc w.taken one.0 rest.0)

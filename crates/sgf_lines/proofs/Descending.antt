@@ -69,9 +69,6 @@ last_node : {c : Games} {x : ℕ} {way : List ℕ} → IsPathTo c (Some x) way �
 last_node (step {above = above} e up is) = (above, is)
 
 module _ (c : Games) (next : ℕ) (path : List ℕ) (stands : IsAfterLeaf c next path) where
-  way_before : (i : ℕ) → next ≡ i + 1 → IsPathTo c (Some i) path
-  way_before i e = stands.path i e
-
   -- the node from which a cursor goes on is the first one after the path
   pub first_is : first_after path ≡ next
   first_is = by_next next refl

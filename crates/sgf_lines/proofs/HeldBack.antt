@@ -2,6 +2,7 @@
 use Rattle.std.proofs.Common.{◌≡◌, ℕ, ◌≤◌, List, [], ◌++◌, take, drop, length, Option, Some, None, sym, ap, ◌∙◌, append-nil}
 use Rattle.std.specs.Io.KnownBytes.{Appends, Keeps, append_known}
 use Rattle.std.proofs.KnownBytes.{append_known-moved}
+use Rattle.sgf_lines.specs.Ends.{SinkState, Takes}
 use Rattle.std.proofs.lemmas.List.{take-append-drop, drop_all}
 
 -- the writer was handed a front of what is held back
@@ -24,3 +25,9 @@ all_handed_on old new buffer emptied before handed none all is grew =
       rw (rest ∙ sym gone) (handed_on old new buffer before handed none grew),
       none_held new (drop before emptied) rest,
     )
+
+-- a sink that holds nothing back delivers what it takes
+pub takes_at_once : (old new : SinkState) (bytes : List ℕ) → old.failures ≡ 0 → new.failures ≡ old.failures → Appends old.taken new.taken bytes → old.delivered ≡ old.taken → new.delivered ≡ new.taken
+    → Takes old new bytes
+takes_at_once old new bytes never same takes before after =
+    record { never_failed = never; failures = same; taken = takes; grows = (bytes, rw (before, after) takes) }

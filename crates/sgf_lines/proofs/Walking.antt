@@ -54,9 +54,6 @@ walk-illegal side nodes i f e =
     parts (n ∷ ns) (suc i) = ap (λ ks. n ∷ ks) (parts ns i)
 
 module _ (side : ℕ) (nodes : List Node) (i : ℕ) (s : State) (h : StandsAfter (walk side (take i nodes)) s) where
-  pub one_on : (n : Node) (t : State) → slice_get nodes i ≡ Some n → step s n ≡ Ok t → StandsAfter (walk side (take (i + 1) nodes)) t
-  one_on n t e is = rw (walk-more side nodes i n e) (goes_on (walk side (take i nodes)) s h n t is)
-
   pub illegal_at : (n : Node) (r : Reason) → slice_get nodes i ≡ Some n → step s n ≡ Err r → verdict_at (walk side nodes) ≡ Illegal (s.turns + 1) n.place r
   illegal_at n r e is =
       let w = walk side (take i nodes) in

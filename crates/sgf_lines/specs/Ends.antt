@@ -44,16 +44,22 @@ DeliversFront sink = (held : List ℕ) × Appends sink.delivered sink.taken held
 abbrev pub HasDelivered : SinkState → Type 0
 HasDelivered sink = Keeps sink.delivered sink.taken
 
+-- what a sink has delivered stays delivered, and more may be
+abbrev pub DeliversOn : SinkState → SinkState → Type 0
+DeliversOn old new = (more : List ℕ) × Appends old.delivered new.delivered more
+
 -- a sink that had never failed took these bytes
 pub record Takes (old new : SinkState) (bytes : List ℕ) : Type 0 where
   pub never_failed : old.failures ≡ 0
   pub failures : new.failures ≡ old.failures
   pub taken : Appends old.taken new.taken bytes
+  pub grows : DeliversOn old new
 
 -- a sink failed: it counted that, and took nothing; if it had failed before, it delivered nothing either
 pub record TakesNothing (old new : SinkState) : Type 0 where
   pub failures : new.failures ≡ old.failures + 1
   pub taken : Keeps old.taken new.taken
+  pub grows : DeliversOn old new
   pub final : 0 < old.failures → new.delivered ≡ old.delivered
 
 -- a sink that had never failed delivered all that it had taken, and took nothing
@@ -61,6 +67,7 @@ pub record Delivers (old new : SinkState) : Type 0 where
   pub never_failed : old.failures ≡ 0
   pub failures : new.failures ≡ old.failures
   pub taken : Keeps old.taken new.taken
+  pub grows : DeliversOn old new
   pub delivered : HasDelivered new
 
 -- the result of a sink that was given bytes: how many of them it took, from their front, at least one

@@ -5,11 +5,10 @@ ghost use Rattle.sgf_lines.specs.Lines.{lines};
 ghost use Rattle.sgf_lines.specs.Counts.{IsCount, IsWriting, counts_of, counts_row};
 ghost use Rattle.sgf_lines.specs.inner.Running.{PutsAll};
 
+use crate::ends::sink::{Sink, SinkFault, put_all};
+use crate::ends::source::Source;
 use crate::fault::RunFault;
 use crate::run::read_all;
-use crate::sink::{Sink, SinkFault};
-use crate::source::Source;
-use crate::writing::put_all;
 use itoa::Buffer;
 use sgf_tree::{Collection, read};
 use std::alloc::Global;

@@ -24,7 +24,7 @@
 //! decreases-verdicts l = length (lines l.follower.games) - l.follower.index
 //! ```
 //!
-//! The node given to `judge` must be a leaf. [`laws::named`] says that each line of a cursor ends in one.
+//! `judge` needs a node in which a line ends. By [`laws::named`] the last node of each line is one.
 //!
 //! | Module | What it has |
 //! |---|---|
@@ -36,8 +36,8 @@
 //! | `judging/root`, `judging/contents`, `judging/step` | the board of a root's game; what a node holds; playing a node |
 //! | `node_values` | what the values of a node say |
 //! | `form` | the forms in which a line is written, and what lines share of a text |
-//! | `source`, `sink`, `buffered_sink` | what a run reads from and writes to |
-//! | `run`, `writing` | splitting what a source gives into records, and what a run holds from line to line; putting bytes |
+//! | `ends` | where the bytes of a run come from, and where they go |
+//! | `run` | splitting what a source gives into records, which a sink takes, and what a run holds from line to line |
 //! | `plays` | the count of nodes played |
 //! | `counting` | the games, nodes and lines of what a source gives |
 //! | `laws` | what follows from the definitions |
@@ -45,9 +45,9 @@
 //! The tests of the program (`tests/`) cover what a run writes. The crate `sgf_lines_tests` covers the other calls.
 #![tactic(auto)]
 
-mod buffered_sink;
 mod counting;
 mod cursor;
+mod ends;
 mod fault;
 mod follower;
 mod form;
@@ -59,14 +59,13 @@ mod options;
 mod plays;
 mod run;
 mod seek;
-mod sink;
-mod source;
 mod verdict;
-mod writing;
 
-pub use buffered_sink::BufferedSink;
 pub use counting::{Counts, count, write_counts};
 pub use cursor::Cursor;
+pub use ends::buffered_sink::BufferedSink;
+pub use ends::sink::{ArraySink, Sink, SinkFault, WriteSink};
+pub use ends::source::{ReadSource, SliceSource, Source, SourceFault};
 pub use fault::RunFault;
 pub use follower::Follower;
 pub use go_board::Reason;
@@ -77,6 +76,4 @@ pub use plays::Plays;
 pub use run::{split, split_counted};
 pub use seek::SeekFault;
 pub use sgf_tree::{Collection, MAX_LENGTH, MemoryFault, ReadFault, read};
-pub use sink::{ArraySink, Sink, SinkFault, WriteSink};
-pub use source::{ReadSource, SliceSource, Source, SourceFault};
 pub use verdict::Verdict;

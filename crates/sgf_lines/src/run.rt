@@ -14,6 +14,8 @@ ghost use Rattle.sgf_lines.specs.inner.Keeping.{Holds, HoldsBy, IsFresh, IsUnuse
 ghost use Rattle.sgf_lines.specs.inner.Running.{HasRecord, IsReading, IsStart, PutsAll, WritesLines};
 
 use crate::cursor::Cursor;
+use crate::ends::sink::{Sink, SinkFault, put_all};
+use crate::ends::source::Source;
 use crate::fault::RunFault;
 use crate::form::judged::judge_line;
 use crate::form::pieces::Pieces;
@@ -25,9 +27,6 @@ use crate::laws::rise;
 use crate::options::{Form, Options};
 use crate::plays::Plays;
 use crate::seek::SeekFault;
-use crate::sink::{Sink, SinkFault};
-use crate::source::Source;
-use crate::writing::put_all;
 use sgf_tree::{Collection, MAX_LENGTH, MemoryFault, read};
 use std::alloc::Global;
 

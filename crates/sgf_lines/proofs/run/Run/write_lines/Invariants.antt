@@ -1,5 +1,5 @@
 -- So many records were written, the cursor stands after their lines, and the run holds the last of these.
-use Rattle.std.proofs.Common.{take, ◌≡◌, ◌+◌, ◌-◌, ◌<◌, true, false, nat_lt}
+use Rattle.std.proofs.Common.{take, ◌≡◌, ◌-◌, ◌<◌, true, false, nat_lt}
 use Rattle.sgf_lines.specs.inner.Keeping.{Holds}
 use Rattle.sgf_lines.specs.RunPlays.{plays_of}
 use Rattle.sgf_lines.proofs.Paging.{IsSoFar, page_from}

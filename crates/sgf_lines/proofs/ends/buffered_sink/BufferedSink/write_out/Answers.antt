@@ -1,7 +1,7 @@
 -- The writer was handed all that was held back, or a front of it.
-use Rattle.std.proofs.Common.{refl, arith, ap, ◌+◌, sym}
+use Rattle.std.proofs.Common.{take, refl, arith, ap, ◌+◌, sym}
 use Rattle.sgf_lines.proofs.HeldBack.{handed_on, all_handed_on}
-use Rattle.sgf_lines.proofs.buffered_sink.BufferedSink.write_out.Goals as goal
+use Rattle.sgf_lines.proofs.ends.buffered_sink.BufferedSink.write_out.Goals as goal
 
 pub returns-then-handed-len-clause-out : goal.returns-then-handed-len-clause-out
 returns-then-handed-len-clause-out g c =
@@ -11,6 +11,7 @@ returns-then-handed-len-clause-out g c =
       failures = sym (ap (λ n. n + 1) c.requires.never_failed);
       taken = handed_on (g.W.Write.contents s.writer) (g.W.Write.contents c.write_whole-handed.new.writer) s.buffer.items s.handed c.write_whole-handed.result
           (s.whole c.requires.never_failed) wrote;
+      grows = (take c.write_whole-handed.result s.buffer.items, wrote);
       final = λ failed. absurd (omega (arith, failed, c.requires.never_failed));
     }
 
@@ -24,5 +25,6 @@ returns-clause-out g c =
       never_failed = c.requires.never_failed;
       failures = refl;
       taken = all.0;
+      grows = (take c.write_whole-handed.result s.buffer.items, wrote);
       delivered = all.1;
     }

@@ -5,7 +5,7 @@ ghost use Rattle.std.specs.Io.KnownBytes.{Appends, append_known};
 ghost use Rattle.sgf_lines.specs.Ends.{IsPut, IsFlush};
 ghost use Rattle.sgf_lines.specs.inner.HeldBack.{held_back};
 
-use crate::sink::{Sink, SinkFault};
+use crate::ends::sink::{Sink, SinkFault};
 use std::alloc::{AllocError, Global};
 use std::io::Write;
 

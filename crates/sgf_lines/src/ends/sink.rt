@@ -3,6 +3,7 @@
 ghost use Rattle.std.specs.Prelude.{◌≡◌, ◌<◌, ◌≤◌, List, ℕ, [], length, take, Some, None, IfSome, OnErr};
 ghost use Rattle.std.proofs.KnownBytes.{Appends-nil};
 ghost use Rattle.sgf_lines.specs.Ends.{SinkState, IsPut, IsFlush, DeliversFront};
+ghost use Rattle.sgf_lines.specs.inner.Running.{PutsAll};
 
 use std::io::Write;
 use thiserror::Error;
@@ -175,4 +176,19 @@ impl<const N: usize> Sink for ArraySink<N> {
     fn failures(&self) -> u64 {
         self.failures
     }
+}
+
+/// Puts all of `bytes`.
+pub(crate) fn put_all<T: Sink>(bytes: &[u8], sink: &mut T) -> Result<(), SinkFault>
+    requires countable { (T.state sink.old).failures < u64.MAX }
+    ensures { PutsAll (T.state sink.old) (T.state sink.new) bytes.now result }
+{
+    let mut done = 0;
+    'puts: while done < bytes.len() {
+        match sink.put(&bytes[done..]) {
+            Ok(count) => done += count,
+            Err(fault) => return Err(fault),
+        }
+    }
+    Ok(())
 }
