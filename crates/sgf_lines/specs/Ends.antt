@@ -44,7 +44,7 @@ DeliversFront sink = (held : List ℕ) × Appends sink.delivered sink.taken held
 abbrev pub HasDelivered : SinkState → Type 0
 HasDelivered sink = Keeps sink.delivered sink.taken
 
--- what a sink has delivered stays delivered, and more may be
+-- what a sink has delivered stays delivered, and it may deliver more
 abbrev pub DeliversOn : SinkState → SinkState → Type 0
 DeliversOn old new = (more : List ℕ) × Appends old.delivered new.delivered more
 

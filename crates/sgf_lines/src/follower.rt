@@ -68,8 +68,8 @@ impl<'c, 'a> Follower<'c, 'a> {
         }
     }
 
-    /// Goes on by one line and returns its verdict, as `judge` would; after the last line it returns None, again and again.
-    /// After a refusal of memory the same line is next, and none is shown.
+    /// Goes on by one line, and returns its verdict, the same as `judge` returns. After the last line it returns None, however
+    /// often it is called. `MemoryFault` comes only if memory was refused; then the same line is next, and no line is shown.
     pub fn next(&mut self) -> Result<Option<Verdict>, MemoryFault>
         ensures verdict { IfOk result (GivesVerdict self.old) }
         ensures left { LeavesFollower self.old self.new result }
@@ -83,7 +83,7 @@ impl<'c, 'a> Follower<'c, 'a> {
         Ok(Some(verdict))
     }
 
-    /// The line whose verdict was returned last.
+    /// The line of the verdict that was returned last. `next` must have returned one, and memory mustn't have been refused since.
     pub fn line(&self) -> LineRef<'_>
         requires { self.now.shows ≡ true }
         ensures { IsLine self.now.games (self.now.index - 1) result }

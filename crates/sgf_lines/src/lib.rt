@@ -24,7 +24,7 @@
 //! decreases-verdicts l = length (lines l.follower.games) - l.follower.index
 //! ```
 //!
-//! `judge` needs a node in which a line ends. By [`laws::named`] the last node of each line is one.
+//! The node given to `judge` must be a leaf. By [`laws::named`] the last node of each line is one.
 //!
 //! | Module | What it has |
 //! |---|---|

@@ -34,7 +34,9 @@ pub fn judge(
     judge_path(alloc, collection, &path)
 }
 
-/// The verdict of the line with this place, the offset of the `;` of its last node, judged as `judge` does.
+/// The verdict of the line with this place, the same as `judge` returns. A line's
+/// place is the offset in bytes, from 0, of the `;` of its last node.
+///
 /// `NoSuchLine` comes exactly if no line has that place, unless memory was refused.
 pub fn judge_at(
     alloc: Global,
