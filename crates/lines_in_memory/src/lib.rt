@@ -6,8 +6,11 @@ ghost use Rattle.sgf_lines.specs.Lines.{Line};
 ghost use Rattle.sgf_lines.specs.Record.{output};
 ghost use Rattle.sgf_lines.specs.Answer.{HasPage};
 
-use sgf_lines::{Cursor, Options, RunFault, SliceSource, WriteSink, split};
-use sgf_tree::{Collection, MemoryFault};
+use sgf_lines::laws::named;
+use sgf_lines::{
+    Collection, Cursor, Follower, MemoryFault, Options, RunFault, SliceSource, Verdict, WriteSink,
+    judge, split,
+};
 use std::alloc::Global;
 
 #[cfg(test)]
@@ -25,6 +28,34 @@ pub fn records(alloc: Global, text: &[u8], options: &Options) -> Result<Vec<u8>,
         Ok(_) => Ok(sink.into_inner()),
         Err(fault) => Err(fault),
     }
+}
+
+/// The verdict of the first line of a collection; None where it has no line.
+pub fn first_verdict(
+    alloc: Global,
+    collection: &Collection<'_>,
+) -> Result<Option<Verdict>, MemoryFault> {
+    // Each line ends in a leaf, so the verdict can be asked for.
+    named();
+    let mut cursor = Cursor::new(alloc, collection);
+    match cursor.next()? {
+        Some(line) => Ok(Some(judge(alloc, collection, line.leaf())?)),
+        None => Ok(None),
+    }
+}
+
+/// The place of the first line of a collection that has a node which isn't allowed; None where each node is allowed.
+pub fn first_illegal(
+    alloc: Global,
+    collection: &Collection<'_>,
+) -> Result<Option<u64>, MemoryFault> {
+    let mut follower = Follower::new(alloc, Cursor::new(alloc, collection));
+    'verdicts: while let Some(verdict) = follower.next()? {
+        if let Verdict::Illegal { .. } = verdict {
+            return Ok(Some(follower.line().place()));
+        }
+    }
+    Ok(None)
 }
 
 /// How many nodes the longest line of a collection has.

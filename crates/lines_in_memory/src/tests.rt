@@ -1,14 +1,10 @@
-use crate::{longest_line, records};
-use sgf_lines::{Form, Options};
+use crate::{first_illegal, first_verdict, longest_line, records};
+use sgf_lines::{Form, Options, Verdict, read};
 use std::test::Fail;
 
 #[test]
 fn two_lines(rt: HostRuntime) -> Result<(), Fail> {
-    let options = Options {
-        form: Form::Sgf,
-        after: None,
-        limit: None,
-    };
+    let options = Options::all(Form::Sgf);
     let written = records(rt.alloc(), b"(;SZ[3](;B[aa])(;B[bb];W[aa]))", &options)?;
     assert_eq!(rt;
         written.as_slice(),
@@ -19,7 +15,27 @@ fn two_lines(rt: HostRuntime) -> Result<(), Fail> {
 
 #[test]
 fn longest(rt: HostRuntime) -> Result<(), Fail> {
-    let collection = sgf_tree::read(rt.alloc(), b"(;SZ[3](;B[aa])(;B[bb];W[aa]))")?;
+    let collection = read(rt.alloc(), b"(;SZ[3](;B[aa])(;B[bb];W[aa]))")?;
     assert_eq!(rt; longest_line(rt.alloc(), &collection)?, 3);
+    Ok(())
+}
+
+#[test]
+fn first(rt: HostRuntime) -> Result<(), Fail> {
+    let collection = read(rt.alloc(), b"(;SZ[3](;B[aa])(;B[bb];W[aa]))")?;
+    let black_alone = Verdict::Score {
+        black: 9,
+        white: 0,
+        over: false,
+    };
+    assert_eq!(rt; first_verdict(rt.alloc(), &collection)?, Some(black_alone));
+    Ok(())
+}
+
+#[test]
+fn illegal(rt: HostRuntime) -> Result<(), Fail> {
+    // The second line plays on a stone.
+    let collection = read(rt.alloc(), b"(;SZ[3];B[aa](;W[bb])(;W[aa])(;B[aa]))")?;
+    assert_eq!(rt; first_illegal(rt.alloc(), &collection)?, Some(22));
     Ok(())
 }

@@ -1,5 +1,5 @@
 -- The parts of a script, appended one after another.
-use Rattle.std.proofs.Common.{◌≡◌, ℕ, ◌*◌, ◌<◌, cond, List, [], ◌∷◌, ◌++◌, length, slice_get, Some, refl, sym, ap, ◌∙◌, inl, inr, subst, arith, append_assoc, append-nil, Result, Ok, Err}
+use Rattle.std.proofs.Common.{◌≡◌, ℕ, cond, List, [], ◌∷◌, ◌++◌, refl, sym, ap, ◌∙◌, inl, inr, subst, append_assoc, Result, Ok, Err}
 use Rattle.std.specs.Prelude.{filter, OnOk}
 use Rattle.std.specs.List.{flat_map}
 use Rattle.std.proofs.lemmas.Bool.{cases_Bool}
@@ -7,13 +7,9 @@ use Rattle.go_board.specs.declared.stones.Colour.{Colour}
 use Rattle.go_board.specs.declared.points.Point.{Point}
 use Rattle.go_board.specs.declared.referee.plays.Play.TheVariants.{Stone}
 use Rattle.go_board.specs.Colour.{stone_of, same_cell}
-use Rattle.go_board.specs.Point.{points, point_at}
+use Rattle.go_board.specs.Point.{points}
 use Rattle.go_board.specs.Grid.{Grid, cell_at}
-use Rattle.sgf_tree.specs.Tree.{Node}
-use Rattle.go_board.specs.State.{State}
-use Rattle.go_board.proofs.PointLemmas.{IsOn-point_at, index_of-point_at, slice_get-points}
-use Rattle.sgf_lines.specs.NodeContents.{Stones, moves, stones}
-use Rattle.sgf_lines.specs.Script.{comment_rows, play_command, stone_commands, colouring_commands, setup_commands, move_commands, node_script}
+use Rattle.sgf_lines.specs.Script.{play_command, stone_commands}
 use Rattle.sgf_lines.specs.inner.Cutting.{commands_at}
 
 -- the stones of a colour, point by point

@@ -16,10 +16,9 @@ use Rattle.sgf_lines.specs.RunPlays.{plays_in}
 use Rattle.sgf_lines.specs.declared.options.Form.{Form}
 use Rattle.sgf_lines.specs.declared.options.Form.TheVariants.{List as list_form, Sgf as sgf_form, Gtp as gtp_form}
 use Rattle.sgf_lines.specs.declared.run.Run.{Run}
-use Rattle.sgf_lines.specs.inner.Judging.{judging, back}
+use Rattle.sgf_lines.specs.inner.Judging.{Judgement, judging, back}
 use Rattle.sgf_lines.specs.inner.Recording.{open_record}
-use Rattle.sgf_lines.specs.inner.Pieces.{no_pieces}
-use Rattle.sgf_lines.specs.inner.Scripting.{empty_script, script_of, script_back, script_ended}
+use Rattle.sgf_lines.specs.inner.Scripting.{script_of, script_back, script_ended}
 use Rattle.sgf_lines.specs.inner.Following.{Continues, first_after, nodes_of, line_in, line_before, nodes_before, path_before}
 use Rattle.sgf_lines.specs.inner.Keeping.{judging_front, KeepsBy, HoldsBy, IsUnusedBy, Holds, PlaysIn, PlaysLine, IsShared, HasPlays, StillHeld, fresh_plays}
 use Rattle.sgf_lines.proofs.Along.{same_root}
@@ -36,7 +35,7 @@ some_inj (x ∷ xs) [] e = absurd cc
 some_inj (x ∷ xs) (y ∷ ys) e = let head : x ≡ y = cc in let rest = some_inj xs ys cc in cc
 
 -- paths that share a front name the same nodes there
-same_front : (f : ℕ → Option Node) (old new : List ℕ) (was nodes : List Node) (kept : ℕ) → map Some was ≡ map f old → map Some nodes ≡ map f new → Continues old kept new
+pub same_front : (f : ℕ → Option Node) (old new : List ℕ) (was nodes : List Node) (kept : ℕ) → map Some was ≡ map f old → map Some nodes ≡ map f new → Continues old kept new
     → take kept was ≡ take kept nodes
 same_front f old new was nodes kept e g h =
     let count = length-take-le kept old h.kept_within in
@@ -53,16 +52,16 @@ module _ (old nodes : List Node) (count : ℕ) (some : 0 < count) (within : coun
   whole : take (length old) old ≡ old
   whole = take_all (length old) old (omega arith)
 
-  judged_same : (run : Run) → run.judge.judgement ≡ judging_front old (length old) → back count run.judge.judgement ≡ judging_front nodes count
-  judged_same run h =
+  pub judged_same : (judgement : Judgement) → judgement ≡ judging_front old (length old) → back count judgement ≡ judging_front nodes count
+  judged_same judgement h =
       ap (back count) (h ∙ ap (judging (game_kind (root_properties old))) whole) ∙ judging_back (game_kind (root_properties old)) old count within
       ∙ ap (judging (game_kind (root_properties old))) same ∙ ap (λ k. judging k (take count nodes)) kinds
 
   pub keeps : (form : Form) (run : Run) → HoldsBy form old run → KeepsBy form nodes count run
-  keeps list_form run h = judged_same run h
+  keeps list_form run h = judged_same run.judge.judgement h
   keeps sgf_form run h = rw h (record_back old count ∙ ap (λ ns. open_record ns) same)
   keeps gtp_form run h = (
-    judged_same run h.0,
+    judged_same run.judge.judgement h.0,
     ap (script_back count) (h.1 ∙ ap (λ ns. script_ended (script_of (game_kind (root_properties old)) ns)) whole) ∙ script_cut (game_kind (root_properties old)) old count
         ∙ ap (script_of (game_kind (root_properties old))) same ∙ ap (λ k. script_of k (take count nodes)) kinds,
   )
@@ -84,7 +83,7 @@ holds_as sgf_form nodes run held h = h
 holds_as gtp_form nodes run held h = h
 
 -- the cursor went on by a line
-named : (at : CursorState) → map Some (nodes_before at) ≡ map (node_at at.games) (path_before at)
+pub named : (at : CursorState) → map Some (nodes_before at) ≡ map (node_at at.games) (path_before at)
 named at = named_in at.games at.index
 
 pub line_next : (at : CursorState) → line_before (advanced at) ≡ slice_get (lines at.games) at.index

@@ -1,13 +1,14 @@
 -- The ways through games: each goes down by parents to a leaf.
-use Rattle.std.proofs.Common.{◌≡◌, ◌≢◌, ℕ, zero, suc, ◌+◌, List, [], ◌∷◌, ◌++◌, length, Option, Some, None, refl, sym, ◌∙◌, arith, add-zero, append_assoc}
+use Rattle.std.proofs.Common.{◌≡◌, ◌≢◌, ℕ, zero, suc, ◌+◌, ◌<◌, List, [], ◌∷◌, ◌++◌, length, Option, Some, None, refl, sym, ◌∙◌, arith, add-zero, append_assoc, All}
+use Rattle.std.proofs.lemmas.List.Elements.{All-from_recursion}
 use Rattle.std.specs.List.{range_with_len}
 use Rattle.sgf_tree.specs.Tree.{Node, Games, no_games, game, node_count}
 use Rattle.sgf_tree.specs.FileOrder.{IsLeaf}
 use Rattle.sgf_lines.specs.Lines.{through, last_number}
-use Rattle.sgf_lines.specs.Paths.{number_lines, paths_of_game, paths_from, paths}
-use Rattle.sgf_lines.specs.inner.PathTo.{IsPathTo}
-use Rattle.sgf_lines.proofs.Lists.{Each, each_append, each_through, each_map}
-use Rattle.sgf_lines.proofs.Parents.{Among, among_whole, among_below, among_after, last_is_leaf}
+use Rattle.sgf_lines.specs.Paths.{number_lines, paths_of_game, paths_from, paths, EndsInLeaf}
+use Rattle.sgf_lines.specs.inner.PathTo.{IsPathTo, top, step}
+use Rattle.sgf_lines.proofs.Lists.{Each, each_append, each_through, each_map, each_weaker}
+use Rattle.sgf_lines.proofs.Parents.{Among, among_whole, among_below, among_after, last_is_leaf, node_within}
 use Rattle.sgf_lines.proofs.Climbing.{up_own, last_number-append}
 
 -- a way from below `parent` down to a leaf
@@ -79,3 +80,11 @@ paths_are_ways c number (game first more below after) at h =
 -- each path of a collection leads from a root to a leaf
 pub each_path : (c : Games) → Each (λ path. IsDescent c None path.numbers) (paths c)
 each_path c = paths_are_ways c 1 c 0 (among_whole c)
+
+pub node_of_way : {c : Games} {i : ℕ} {way : List ℕ} → IsPathTo c (Some i) way → i < node_count c
+node_of_way {c = c} (step {number = i} {parent = p} e up is) = node_within c i p e
+
+pub each_ends : (c : Games) → All (EndsInLeaf c) (paths c)
+each_ends c =
+    All-from_recursion (EndsInLeaf c) (paths c)
+    (each_weaker (λ p. IsDescent c None p.numbers) (EndsInLeaf c) (λ p way. record { within = node_of_way (way.up [] top); is_leaf = way.is_leaf }) (paths c) (each_path c))

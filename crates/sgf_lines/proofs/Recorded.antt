@@ -1,14 +1,11 @@
 -- What a line that a cursor gave is known by.
-use Rattle.std.proofs.Common.{◌≡◌, ◌≢◌, ℕ, ◌<◌, List, [], ◌∷◌, length, slice_get, Some, None, refl, ap, ◌∙◌, arith}
+use Rattle.std.proofs.Common.{◌≡◌, ◌≢◌, ℕ, ◌<◌, List, [], ◌∷◌, length, slice_get, Some, refl, ap, ◌∙◌, arith}
 use Rattle.std.specs.Prelude.{option_map}
 use Rattle.sgf_tree.specs.Tree.{Games}
 use Rattle.sgf_lines.specs.Lines.{Line, lines, place_of}
-use Rattle.sgf_lines.specs.Paths.{paths}
 use Rattle.sgf_lines.specs.Cursor.{IsLine, shown}
 use Rattle.sgf_lines.specs.inner.Views.{IsShownAs}
 use Rattle.sgf_lines.specs.declared.line.LineRef.{LineRef}
-use Rattle.sgf_lines.proofs.Lists.{each_get}
-use Rattle.sgf_lines.proofs.PathsTo.{IsDescent, each_path}
 use Rattle.sgf_lines.proofs.Named.{line_at}
 
 filled_length : (ns : List ℕ) → ns ≢ [] → 0 < length ns

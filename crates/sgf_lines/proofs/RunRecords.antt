@@ -31,7 +31,7 @@ use Rattle.sgf_lines.proofs.Scripted.{row_made, script_made}
 whole : (nodes : List Node) → judging_front nodes (length nodes) ≡ judging (game_kind (root_properties nodes)) nodes
 whole nodes = ap (judging (game_kind (root_properties nodes))) (take_all (length nodes) nodes (omega arith))
 
-verdict_is : (nodes : List Node) (j : Judgement) (v : Verdict) → v ≡ verdict_in j → j ≡ judging_front nodes (length nodes) → v ≡ verdict_of nodes
+pub verdict_is : (nodes : List Node) (j : Judgement) (v : Verdict) → v ≡ verdict_in j → j ≡ judging_front nodes (length nodes) → v ≡ verdict_of nodes
 verdict_is nodes j v e h = e ∙ ap verdict_in (h ∙ whole nodes) ∙ judging_verdict (game_kind (root_properties nodes)) nodes
 
 module _ (at : CursorState) (line : LineRef) (some : 0 < at.index) (shows : IsLine at.games (at.index - 1) line) where

@@ -22,7 +22,7 @@ within_way top = tt
 within_way {c = c} (step {number = i} {parent = p} {above = above} e up is) =
     subst (Each (λ n. n < node_count c)) (sym is) (each_append (λ n. n < node_count c) above (i ∷ []) (within_way up) (node_within c i p e, tt))
 
-longer : {c : Games} {i : ℕ} {way : List ℕ} → IsPathTo c (Some i) way → 0 < length way
+pub longer : {c : Games} {i : ℕ} {way : List ℕ} → IsPathTo c (Some i) way → 0 < length way
 longer {i = i} (step {above = above} e up is) = omega (arith, ap length is, length-append above (i ∷ []))
 
 each_head : (P : ℕ → Type 0) (ns : List ℕ) (d : ℕ) → 0 < length ns → Each P ns → P (get_or ns 0 d)

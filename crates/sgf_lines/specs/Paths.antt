@@ -1,8 +1,8 @@
 -- The lines of play again, with the nodes' numbers in file order in place of the nodes.
-use Rattle.std.specs.Prelude.{◌≡◌, ℕ, ◌+◌, List, [], ◌∷◌, ◌++◌, length, map, Some}
+use Rattle.std.specs.Prelude.{◌≡◌, ℕ, ◌+◌, ◌<◌, List, [], ◌∷◌, ◌++◌, length, map, Some}
 use Rattle.std.specs.List.{range_with_len}
 use Rattle.sgf_tree.specs.Tree.{Games, no_games, game, node_count}
-use Rattle.sgf_tree.specs.FileOrder.{node_at}
+use Rattle.sgf_tree.specs.FileOrder.{node_at, IsLeaf}
 use Rattle.sgf_lines.specs.Lines.{Line, through, last_number}
 
 -- the variations through games whose first node has the number `first_number`
@@ -37,6 +37,11 @@ paths games = paths_from 1 0 games
 -- the number of a path's last node, which is a leaf
 abbrev pub leaf_of : Path → ℕ
 leaf_of path = last_number path.numbers
+
+-- the path ends in a leaf
+pub record EndsInLeaf (games : Games) (path : Path) : Type 0 where
+  pub within : leaf_of path < node_count games
+  pub is_leaf : IsLeaf games (leaf_of path)
 
 -- the path names the nodes of the line, in the same game
 pub record IsPathOf (games : Games) (line : Line) (path : Path) : Type 0 where

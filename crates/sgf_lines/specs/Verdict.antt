@@ -2,12 +2,13 @@
 -- not judged.
 use Rattle.std.specs.Prelude.{◌≡◌, ℕ, ◌+◌, Option, Some, None, option_map, List, [], slice_get}
 use Rattle.sgf_tree.specs.Tree.{Node, Games}
+use Rattle.sgf_tree.specs.FileOrder.{place_at}
 use Rattle.go_board.specs.declared.stones.Colour.TheVariants.{Black, White}
 use Rattle.go_board.specs.Score.{score_of}
 use Rattle.go_board.specs.State.{State, is_over}
 use Rattle.sgf_lines.specs.declared.verdict.Verdict.{Verdict}
 use Rattle.sgf_lines.specs.declared.verdict.Verdict.TheVariants.{Score, Illegal, NotGo, BadSize}
-use Rattle.sgf_lines.specs.Lines.{Line, lines}
+use Rattle.sgf_lines.specs.Lines.{Line, lines, place_of}
 use Rattle.sgf_lines.specs.Paths.{paths, leaf_of}
 use Rattle.sgf_lines.specs.JudgedGames.{GameKind, not_go, bad_size, board, game_kind, root_properties}
 use Rattle.sgf_lines.specs.Walk.{IllegalNode, Walk, walk, judged_by}
@@ -52,4 +53,13 @@ pub record IsVerdictAt (games : Games) (leaf : ℕ) (told : Verdict) : Type 0 wh
   pub line : Line
   pub found : slice_get (lines games) index ≡ Some line
   pub ends : option_map leaf_of (slice_get (paths games) index) ≡ Some leaf
+  pub placed : place_at games leaf ≡ Some (place_of line)
+  pub verdict_is : told ≡ verdict line
+
+-- the verdict is that of a line of a collection that has this place
+pub record IsVerdictOf (games : Games) (place : ℕ) (told : Verdict) : Type 0 where
+  pub index : ℕ
+  pub line : Line
+  pub found : slice_get (lines games) index ≡ Some line
+  pub placed : place_of line ≡ place
   pub verdict_is : told ≡ verdict line

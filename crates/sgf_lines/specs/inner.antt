@@ -13,5 +13,6 @@ pub mod Pieces
 pub mod Recording
 pub mod Scripting
 pub mod Keeping
+pub mod Followers
 pub mod Cutting
 pub mod HeldBack

@@ -129,11 +129,11 @@ impl<'c, 'a> Cursor<'c, 'a> {
     }
 
     /// The place of that node.
-    pub(crate) fn place(&self, index: usize) -> usize
+    pub(crate) fn place(&self, index: usize) -> u64
         requires { index < length (nodes_before self.now) }
         ensures { (node : Node) → slice_get (nodes_before self.now) index ≡ Some node → result ≡ node.place }
     {
-        self.collection.place(self.path[index])
+        self.collection.place(self.path[index]) as u64
     }
 
     /// The line before the cursor.
@@ -144,7 +144,7 @@ impl<'c, 'a> Cursor<'c, 'a> {
         LineRef {
             path: &self.path,
             game: self.collection.game_of(self.path[0]),
-            place: self.collection.place(self.next - 1),
+            place: self.collection.place(self.next - 1) as u64,
         }
     }
 }

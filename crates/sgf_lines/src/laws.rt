@@ -1,13 +1,13 @@
 //! Laws of the definitions. A function here does nothing: what it ensures is a law that is proved.
 
-ghost use Rattle.std.specs.Prelude.{◌≡◌, ◌≢◌, ◌≤◌, ◌∷◌, ◌++◌, ◌+◌, ◌⊎◌, ℕ, Err, false, List, [], Some, map, length};
+ghost use Rattle.std.specs.Prelude.{◌≡◌, ◌≢◌, ◌≤◌, ◌∷◌, ◌++◌, ◌+◌, ◌⊎◌, ℕ, All, Err, false, List, [], Some, map, length};
 ghost use Rattle.std.specs.List.{AllZip, flat_map};
 ghost use Rattle.std.specs.List.Sorted.{IsStrictlyIncreasing};
 ghost use Rattle.sgf_tree.specs.Appending.{raised, BeginsWithByteOrderMark};
 ghost use Rattle.sgf_tree.specs.Tree.{Games, game_count, node_count, joined};
 ghost use Rattle.sgf_tree.specs.Spelling.{Spells};
 ghost use Rattle.sgf_lines.specs.Lines.{Line, lines, place_of};
-ghost use Rattle.sgf_lines.specs.Paths.{paths, IsPathOf};
+ghost use Rattle.sgf_lines.specs.Paths.{paths, EndsInLeaf, IsPathOf};
 ghost use Rattle.sgf_lines.specs.Page.{page};
 ghost use Rattle.sgf_lines.specs.declared.options.Options.{Options};
 ghost use Rattle.sgf_lines.specs.Plays.{touched_places, all_judged_places, node_places};
@@ -34,9 +34,10 @@ pub fn rise()
     sgf_tree::laws::places_rise();
 }
 
-/// The paths of a collection name the nodes of its lines, one path for each line, in the same order.
+/// The paths of a collection name the nodes of its lines, one path for each line, in the same order, and end in leaves.
 pub fn named()
-    ensures { (games : Games) → AllZip (IsPathOf games) (lines games) (paths games) }
+    ensures nodes { (games : Games) → AllZip (IsPathOf games) (lines games) (paths games) }
+    ensures leaf { (games : Games) → All (EndsInLeaf games) (paths games) }
 {}
 
 /// The sgf output of a page with a line is a text of the grammar, and its whole sgf output is the same bytes.

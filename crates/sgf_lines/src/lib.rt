@@ -1,22 +1,30 @@
 //! The lines of play of a Smart Game Format (SGF FF[4]) collection, from the root of a game to a leaf.
 //!
-//! A [`Cursor`] gives the lines one by one, in file order, over a collection that was read once. [`judge`] tells of a line
-//! its first illegal turn, or the area score at its end (Tromp-Taylor). [`split`] writes each line as a record, a text of
-//! its own.
+//! A [`Cursor`] gives the lines one by one, in file order, over a collection that was read once. [`judge`] says of a line
+//! its first illegal turn, or the area score at its end (Tromp-Taylor). A [`Follower`] judges the lines after a cursor one by
+//! one, and plays what they share once. [`split`] writes each line as a record, a text of its own.
 //!
 //! ```text
-//! let collection = sgf_tree::read(alloc, text)?;
+//! let collection = read(alloc, text)?;
 //! let mut cursor = Cursor::new(alloc, &collection);
 //! 'lines: while let Some(line) = cursor.next()? {
-//!     // line.path(), line.game(), line.place()
+//!     // line.path(), line.leaf(), line.game(), line.place()
+//! }
+//!
+//! let mut follower = Follower::new(alloc, Cursor::new(alloc, &collection));
+//! 'verdicts: while let Some(verdict) = follower.next()? {
+//!     // follower.line().place()
 //! }
 //! ```
 //!
-//! The loop ends, as each turn leaves one line less (`lines_in_memory` has it whole, with its proof):
+//! The loops end, as each turn leaves one line less (`lines_in_memory` has them whole, with their proofs):
 //!
 //! ```text
 //! decreases-lines l = length (lines l.cursor.games) - l.cursor.index
+//! decreases-verdicts l = length (lines l.follower.games) - l.follower.index
 //! ```
+//!
+//! `judge` asks that a line ends in the node. [`laws::named`] says so of each line that a cursor gives.
 //!
 //! | Module | What it has |
 //! |---|---|
@@ -24,6 +32,7 @@
 //! | `options`, `fault` | what a run is asked for; the ways in which it may fail |
 //! | `verdict`, `judging` | what a referee says of a line; judging lines: |
 //! | `judging/one_line`, `judging/judge` | one line; a judge that goes along the nodes of a line, and back |
+//! | `follower` | going over the lines of a collection, and judging each |
 //! | `judging/root`, `judging/contents`, `judging/step` | the board of a root's game; what a node holds; playing a node |
 //! | `node_values` | what the values of a node say |
 //! | `form` | the forms in which a line is written, and what lines share of a text |
@@ -40,6 +49,7 @@ mod buffered_sink;
 mod counting;
 mod cursor;
 mod fault;
+mod follower;
 mod form;
 mod judging;
 pub mod laws;
@@ -58,13 +68,15 @@ pub use buffered_sink::BufferedSink;
 pub use counting::{Counts, count, write_counts};
 pub use cursor::Cursor;
 pub use fault::RunFault;
-pub use judging::one_line::judge;
+pub use follower::Follower;
+pub use go_board::Reason;
+pub use judging::one_line::{judge, judge_at};
 pub use line::LineRef;
 pub use options::{Form, Options};
 pub use plays::Plays;
 pub use run::{split, split_counted};
 pub use seek::SeekFault;
-pub use sgf_tree::MAX_LENGTH;
+pub use sgf_tree::{Collection, MAX_LENGTH, MemoryFault, ReadFault, read};
 pub use sink::{ArraySink, Sink, SinkFault, WriteSink};
 pub use source::{ReadSource, SliceSource, Source, SourceFault};
 pub use verdict::Verdict;

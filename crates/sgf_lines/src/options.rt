@@ -1,5 +1,7 @@
 //! What a run is asked for.
 
+ghost use Rattle.std.specs.Prelude.{◌≡◌, None};
+
 /// How a line of play is written.
 #[derive(Clone, Copy, Debug, PartialEq, Eq)]
 pub enum Form {
@@ -20,4 +22,17 @@ pub struct Options {
     pub after: Option<u64>,
     /// At most so many lines, the first ones of those; none: no limit.
     pub limit: Option<u64>,
+}
+
+impl Options {
+    /// All lines, in that form.
+    pub fn all(form: Form) -> Options
+        ensures { result ≡ record { form = form; after = None; limit = None } }
+    {
+        Options {
+            form,
+            after: None,
+            limit: None,
+        }
+    }
 }

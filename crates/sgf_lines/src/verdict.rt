@@ -19,7 +19,7 @@ pub enum Verdict {
         /// One more than the number of turns, passes among them, that were made before that node.
         turn: u64,
         /// The place of that node: the offset of its `;` in the text.
-        place: usize,
+        place: u64,
         /// The first reason that holds.
         reason: Reason,
     },

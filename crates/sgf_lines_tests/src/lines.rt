@@ -1,12 +1,14 @@
 //! The calls of `sgf_lines` on a collection that was read, and its counts.
 
+ghost use Rattle.std.specs.Prelude.{◌≡◌, true};
+
 use crate::page::Page;
 use crate::seen::Seen;
 use crate::tree::{TWO, collection};
 use go_board::Reason;
 use sgf_lines::{
-    ArraySink, Counts, Cursor, LineRef, RunFault, SeekFault, SliceSource, Verdict, count, judge,
-    write_counts,
+    ArraySink, Counts, Cursor, Follower, LineRef, RunFault, SeekFault, SliceSource, Verdict, count,
+    judge, write_counts,
 };
 use sgf_tree::Collection;
 use std::alloc::Global;
@@ -27,6 +29,7 @@ fn two_lines(alloc: Global, seen: &mut Seen) {
         return;
     };
     goes_over(alloc, &two, seen);
+    follows(alloc, &two, seen);
     let score = Verdict::Score {
         black: 9,
         white: 0,
@@ -85,7 +88,7 @@ fn places(cursor: &mut Cursor<'_, '_>, seen: &mut Seen) {
 }
 
 /// A line by its path and its place.
-type Line<'a> = Option<(&'a [usize], usize)>;
+type Line<'a> = Option<(&'a [usize], u64)>;
 
 /// Goes on by one line, and once more where memory was refused, which gives the same line then.
 fn next(cursor: &mut Cursor<'_, '_>, line: Line<'_>, seen: &mut Seen) {
@@ -128,6 +131,48 @@ fn seek(cursor: &mut Cursor<'_, '_>, place: u64, is_line: bool, seen: &mut Seen)
         }
         Err(SeekFault::Memory) => seen.wrong("a place was refused twice"),
     }
+}
+
+/// Follows both lines of the game of two lines, and to the end.
+fn follows(alloc: Global, two: &Collection<'_>, seen: &mut Seen) {
+    let mut follower = Follower::new(alloc, Cursor::new(alloc, two));
+    follow(&mut follower, Some((9, 0, 8)), seen);
+    follow(&mut follower, Some((1, 1, 22)), seen);
+    follow(&mut follower, None, seen);
+}
+
+/// The scores of Black and White at the end of a line, and its place.
+type Followed = Option<(u32, u32, u64)>;
+
+/// Follows a line, and once more where memory was refused, which gives the same line then.
+fn follow(follower: &mut Follower<'_, '_>, line: Followed, seen: &mut Seen) {
+    seen.call();
+    match follower.next() {
+        Ok(Some(verdict)) => return is_followed(follower, verdict, line, seen),
+        Ok(None) => return seen.right(line.is_none(), "the end of the lines"),
+        Err(_) => seen.want(),
+    }
+    match follower.next() {
+        Ok(Some(verdict)) => is_followed(follower, verdict, line, seen),
+        Ok(None) => seen.right(line.is_none(), "the end after a refused line"),
+        Err(_) => seen.wrong("a line was refused twice"),
+    }
+}
+
+/// Looks at a line that was followed.
+fn is_followed(follower: &Follower<'_, '_>, verdict: Verdict, line: Followed, seen: &mut Seen)
+    requires { follower.now.shows ≡ true }
+{
+    let Some((black, white, place)) = line else {
+        return seen.wrong("a line after the last one");
+    };
+    let score = Verdict::Score {
+        black,
+        white,
+        over: false,
+    };
+    let is_line = verdict == score && follower.line().place() == place;
+    seen.right(is_line, "a line followed");
 }
 
 /// Judges the line that ends in a leaf, and once more where memory was refused.

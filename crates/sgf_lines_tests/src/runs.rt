@@ -77,11 +77,7 @@ pub fn calls(alloc: Global, seen: &mut Seen) {
     ] {
         let run = Run {
             text,
-            options: Options {
-                form,
-                after: None,
-                limit: None,
-            },
+            options: Options::all(form),
             records,
             plays,
         };

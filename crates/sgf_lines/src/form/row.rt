@@ -42,7 +42,7 @@ pub(crate) fn push_list_row_comment(
 
 /// Appends the row of a line with this place, in the game of this number, with so many nodes; and a line feed.
 fn push_row(
-    place: usize,
+    place: u64,
     game: usize,
     nodes: usize,
     verdict: Verdict,
@@ -58,7 +58,7 @@ fn push_row(
     row.put(b" ");
     row.put_number(game as u64);
     row.put(b" ");
-    row.put_number(place as u64);
+    row.put_number(place);
     push_bytes(row.text(), output)
 }
 
@@ -138,14 +138,14 @@ impl Row {
         self.put(b"score ");
     }
 
-    fn put_illegal(&mut self, turn: u64, place: usize, reason: Reason)
+    fn put_illegal(&mut self, turn: u64, place: u64, reason: Reason)
         requires { 70 ≤ self.old.start }
         ensures text { built_text self.new ≡ verdict_text (Verdict.Illegal turn place reason) ++ built_text self.old }
         ensures room { self.old.start ≤ self.new.start + 70 }
     {
         self.put(reason.word().as_bytes());
         self.put(b" ");
-        self.put_number(place as u64);
+        self.put_number(place);
         self.put(b" ");
         self.put_number(turn);
         self.put(b"illegal ");

@@ -97,7 +97,7 @@ impl Script {
     fn take(
         &mut self,
         node: &NodeRef<'_, '_>,
-        place: usize,
+        place: u64,
         judge: &mut Judge,
     ) -> Result<(), MemoryFault>
         requires place { place ≡ node.now.place }

@@ -96,7 +96,7 @@ impl Judge {
     pub(crate) fn take<'a>(
         &mut self,
         node: &NodeRef<'_, 'a>,
-        place: usize,
+        place: u64,
     ) -> Result<Option<TakenStep<'a>>, MemoryFault>
         requires place { place ≡ node.now.place }
         requires countable { self.old.plays < u64.MAX }
@@ -162,6 +162,14 @@ impl Judge {
             Some(referee) => Some(referee.board()),
             None => None,
         }
+    }
+
+    /// Counts the nodes that are played from 0 again.
+    pub(crate) fn count_anew(&mut self)
+        ensures judged { self.new.judgement ≡ self.old.judgement }
+        ensures plays { self.new.plays ≡ 0 }
+    {
+        self.plays = 0;
     }
 
     /// How many nodes were played.

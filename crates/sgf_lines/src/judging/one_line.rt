@@ -1,13 +1,14 @@
 //! Judges one line.
 
-ghost use Rattle.std.specs.Prelude.{◌<◌, ◌≤◌, ◌+◌, ◌≡◌, All, IfOk, OnOk, List, Some, map, fold, length};
+ghost use Rattle.std.specs.Prelude.{◌<◌, ◌≤◌, ◌+◌, ◌≡◌, All, IfErr, IfOk, OnOk, List, Some, map, fold, length};
 ghost use Rattle.sgf_tree.specs.Tree.{Node, node_count};
 ghost use Rattle.sgf_tree.specs.FileOrder.{node_at, IsLeaf};
-ghost use Rattle.sgf_lines.specs.Verdict.{IsVerdictAt, verdict_of};
+ghost use Rattle.sgf_lines.specs.Verdict.{IsVerdictAt, IsVerdictOf, verdict_of};
+ghost use Rattle.sgf_lines.specs.Cursor.{IsSeekFault};
 ghost use Rattle.sgf_lines.specs.inner.Judging.{after};
 
 use crate::judging::judge::Judge;
-use crate::seek::write_path;
+use crate::seek::{SeekFault, leaf_at, write_path};
 use crate::verdict::Verdict;
 use sgf_tree::{Collection, MemoryFault};
 use std::alloc::Global;
@@ -30,6 +31,22 @@ pub fn judge(
     let mut path = Vec::new(alloc);
     write_path(collection, leaf, &mut path)?;
     judge_path(alloc, collection, &path)
+}
+
+/// The verdict of the line with this place, the offset of the `;` of its last node, judged as `judge` does.
+/// `NoSuchLine` comes exactly where no line has that place, unless memory was refused.
+pub fn judge_at(
+    alloc: Global,
+    collection: &Collection<'_>,
+    place: u64,
+) -> Result<Verdict, SeekFault>
+    ensures verdict { IfOk result (IsVerdictOf collection.now place) }
+    ensures why { IfErr result (IsSeekFault collection.now place) }
+{
+    match leaf_at(collection, place) {
+        Some(leaf) => Ok(judge(alloc, collection, leaf)?),
+        None => Err(SeekFault::NoSuchLine { place }),
+    }
 }
 
 /// The verdict of the line of a path, the root's number first.
@@ -61,7 +78,7 @@ fn take_path(
         → OnOk result (judge.new.judgement ≡ fold after judge.old.judgement nodes) }
 {
     for number in path {
-        judge.take(&collection.node(*number), collection.place(*number))?;
+        judge.take(&collection.node(*number), collection.place(*number) as u64)?;
     }
     Ok(())
 }

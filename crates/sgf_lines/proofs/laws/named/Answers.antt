@@ -1,6 +1,10 @@
--- The two definitions go through the same tree.
+-- The two definitions go through the same tree, and each path goes down to a leaf.
 use Rattle.sgf_lines.proofs.Named.{each_named}
+use Rattle.sgf_lines.proofs.PathsTo.{each_ends}
 use Rattle.sgf_lines.proofs.laws.named.Goals as goal
 
-pub returns : goal.returns
-returns c = each_named
+pub returns-clause-nodes : goal.returns-clause-nodes
+returns-clause-nodes c = each_named
+
+pub returns-clause-leaf : goal.returns-clause-leaf
+returns-clause-leaf c = each_ends

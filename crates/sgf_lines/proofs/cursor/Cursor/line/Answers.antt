@@ -28,3 +28,8 @@ pub returns : goal.returns
 returns c =
     line_is c.self.inside.collection.now c.self.inside.next c.args.self.now c.self.view_is c.self.inside.path.items _ c.index.result.now c.self.invariant c.requires c.deref.ensures.value
     c.index.ensures c.game_of.ensures c.place.ensures
+
+pub invariant_of-result : goal.invariant_of-result
+invariant_of-result c =
+    let h = shows_line c.self.inside.collection.now c.self.inside.next c.args.self.now c.self.view_is c.self.inside.path.items c.self.invariant c.requires in
+    record { some_node = rw c.deref.ensures.value h.some_node }
