@@ -1,10 +1,11 @@
 -- The nodes of the line before a cursor, by its path.
-use Rattle.std.proofs.Common.{◌≡◌, ℕ, zero, suc, ◌<◌, List, length, map, get_or, slice_get, Option, Some, None, refl, sym, ap, ◌∙◌, inl, inr, arith}
+use Rattle.std.proofs.Common.{◌≡◌, ℕ, zero, suc, ◌+◌, ◌<◌, List, [], ◌∷◌, length, map, drop, get_or, get_or-drop, length-drop, slice_get, Option, Some, None, refl, sym, ap, ◌∙◌, inl, inr, arith}
 use Rattle.std.proofs.lemmas.Option.{slice_get_within, slice_get_past}
 use Rattle.std.proofs.lemmas.Bool.{cases_lt}
-use Rattle.std.specs.Prelude.{option_map}
+use Rattle.std.specs.Prelude.{option_map, option_to_list}
+use Rattle.std.specs.List.{flat_map, drop-map}
 use Rattle.sgf_tree.specs.Tree.{Node, Games, node_count}
-use Rattle.sgf_tree.specs.FileOrder.{OrderedNode, ordered_nodes, node_at, place_at}
+use Rattle.sgf_tree.specs.FileOrder.{OrderedNode, ordered_nodes, node_at, nodes_at, place_at}
 use Rattle.sgf_tree.proofs.OrderedNodes.{length-nodes_from}
 use Rattle.sgf_lines.specs.Lines.{lines}
 use Rattle.sgf_lines.specs.Paths.{paths}
@@ -17,6 +18,15 @@ use Rattle.sgf_lines.proofs.Joins.{as_many, node_named}
 use Rattle.sgf_lines.proofs.Along.{named_at}
 use Rattle.sgf_lines.proofs.Shows.{before}
 use Rattle.sgf_lines.proofs.Descending.{path_is}
+
+-- nodes that numbers name
+named_nodes : (f : ℕ → Option Node) (nodes : List Node) (numbers : List ℕ) → map Some nodes ≡ map f numbers → flat_map (λ k. option_to_list (f k)) numbers ≡ nodes
+named_nodes f [] [] e = refl
+named_nodes f [] (k ∷ ks) e = absurd cc
+named_nodes f (n ∷ ns) [] e = absurd cc
+named_nodes f (n ∷ ns) (k ∷ ks) e =
+    let here : f k ≡ Some n = cc in
+    rw here (ap (λ ms. n ∷ ms) (named_nodes f ns ks cc))
 
 -- they are those that the path names
 pub named_in : (c : Games) (k : ℕ) → map Some (nodes_of (line_in c k)) ≡ map (node_at c) (numbers_before c k)
@@ -61,3 +71,10 @@ module _ (c : Games) (next : ℕ) (at : CursorState) (is : before c next ≡ at)
       let same : f.0 ≡ n = cc in
       let here : place_at c (get_or path i d) ≡ Some f.0.place = place_of_node c (get_or path i d) f.0 (sym f.2) in
       cc
+
+  -- those that the path names from an index on
+  pub nodes_after : (i : ℕ) → nodes_at c (drop i path) ≡ drop i (nodes_before at)
+  nodes_after i = named_nodes (node_at c) (drop i (nodes_before at)) (drop i path) (sym (drop-map Some i (nodes_before at)) ∙ ap (drop i) path_named ∙ drop-map (node_at c) i path)
+
+  pub path_within : (i k d : ℕ) → k < length (drop i path) → get_or (drop i path) k d < node_count c
+  path_within i k d lt = rw get_or-drop (node_within (i + k) d (omega (arith, as_many_nodes, length-drop i path)))

@@ -1,9 +1,10 @@
 -- A text in pieces is appended to, closed and cut back.
-use Rattle.std.proofs.Common.{◌≡◌, ℕ, zero, suc, ◌+◌, ◌-◌, ◌≤◌, List, [], ◌∷◌, ◌++◌, length, take, drop, slice_get, Some, refl, sym, ap, ◌∙◌, arith, append_assoc}
+use Rattle.std.proofs.Common.{◌≡◌, ℕ, zero, suc, ◌+◌, ◌-◌, ◌≤◌, List, [], ◌∷◌, ◌++◌, length, take, drop, slice_get, Some, refl, sym, ap, ◌∙◌, arith, append_assoc, append-nil}
 use Rattle.std.specs.Prelude.{unwrap_or}
 use Rattle.std.specs.List.{concat}
 use Rattle.std.proofs.lemmas.List.{take_all, drop_all, take-take, drop-take, take-append-le, drop-append-le, take-append-drop, length-take, length-drop, length-append}
-use Rattle.sgf_lines.specs.inner.Pieces.{PiecesState, pushed, closed, cut, pieces_from, rest_from, AreEnds}
+use Rattle.sgf_tree.specs.Written.{ends_from}
+use Rattle.sgf_lines.specs.inner.Pieces.{PiecesState, pushed, closed, longer, cut, pieces_from, rest_from, AreEnds}
 
 -- more is begun
 pub pieces_more : (start : ℕ) (ends text more : List ℕ) → AreEnds start ends text → pieces_from start ends (text ++ more) ≡ pieces_from start ends text
@@ -136,3 +137,29 @@ cut_at count end ends text h is =
 pub length_pieces : (start : ℕ) (ends text : List ℕ) → length (pieces_from start ends text) ≡ length ends
 length_pieces start [] text = refl
 length_pieces start (end ∷ ends) text = ap suc (length_pieces end ends (drop (end - start) text))
+
+-- texts after the pieces, where nothing is begun
+pub seen_longer : (ends text : List ℕ) (texts : List (List ℕ)) → AreEnds 0 ends text → rest_from 0 ends text ≡ []
+    → (seen (ends ++ ends_from (length text) texts) (text ++ concat texts) ≡ longer (seen ends text) texts)
+    × AreEnds 0 (ends ++ ends_from (length text) texts) (text ++ concat texts)
+seen_longer ends text [] h none =
+    let pieces = append-nil (pieces_from 0 ends text) in
+    rw (append-nil, append-nil) (cc, h)
+seen_longer ends text (x ∷ xs) h none =
+    let last : ℕ = length text + length x in
+    let more : List ℕ = text ++ x in
+    let is : last ≡ length more = sym (length-append text x) in
+    let at : last ≡ 0 + length more = omega (arith, is) in
+    let within = ends_more 0 ends text x h in
+    let whole : PiecesState = closed (seen ends more) in
+    let once : seen (ends ++ last ∷ []) more ≡ closed (pushed (seen ends text) x) = seen_closed last ends more within is ∙ ap closed (seen_pushed ends text x h) in
+    let rest = seen_longer (ends ++ last ∷ []) more xs (ends_closed 0 last ends more within at) (rest_closed 0 last ends more within at) in
+    let ends_are : (ends ++ last ∷ []) ++ ends_from (length more) xs ≡ ends ++ last ∷ ends_from last xs =
+    append_assoc ends (last ∷ []) (ends_from (length more) xs) ∙ ap (λ k. ends ++ last ∷ ends_from k xs) (sym is) in
+    let text_is : more ++ concat xs ≡ text ++ (x ++ concat xs) = append_assoc text x (concat xs) in
+    let pieces : longer (seen (ends ++ last ∷ []) more) xs ≡ longer (seen ends text) (x ∷ xs) =
+    ap (λ s. longer s xs) once ∙ ap (λ b. longer (closed (pushed (record { pieces = pieces_from 0 ends text; begun = b }) x)) xs) none
+    ∙ ap (λ ps. let r : PiecesState = record { pieces = ps; begun = [] } in r) (append_assoc (pieces_from 0 ends text) (x ∷ []) xs) in (
+      rw (← ends_are, ← text_is) (rest.0 ∙ pieces),
+      rw (← ends_are, ← text_is) rest.1,
+    )

@@ -1,18 +1,17 @@
--- A record in sgf form goes on by a node, and back.
-use Rattle.std.proofs.Common.{◌≡◌, ℕ, suc, ◌+◌, List, [], ◌∷◌, ◌++◌, take, map, slice_get, Some, refl, sym, ap, ◌∙◌, add-one}
+-- A record in sgf form goes on by nodes, and back.
+use Rattle.std.proofs.Common.{◌≡◌, ℕ, suc, ◌+◌, List, [], ◌∷◌, ◌++◌, take, drop, map, refl, sym, ap, ◌∙◌, add-one}
 use Rattle.std.specs.Prelude.{codes}
 use Rattle.std.specs.List.{concat, flat_map}
-use Rattle.std.proofs.lemmas.List.{take-map, map-append}
+use Rattle.std.proofs.lemmas.List.{take-map, map-append, take-append-drop}
 use Rattle.sgf_tree.specs.Tree.{Node}
 use Rattle.sgf_lines.specs.Record.{node_text, sgf_record}
-use Rattle.sgf_lines.specs.inner.Pieces.{PiecesState, pushed, closed, cut}
+use Rattle.sgf_lines.specs.inner.Pieces.{PiecesState, longer, cut}
 use Rattle.sgf_lines.specs.inner.Recording.{open_record, whole_record}
-use Rattle.sgf_lines.proofs.Lists.{front_more}
 
-pub record_more : (nodes : List Node) (i : ℕ) (n : Node) → slice_get nodes i ≡ Some n → closed (pushed (open_record (take i nodes)) (node_text n)) ≡ open_record (take (i + 1) nodes)
-record_more nodes i n at =
-    let more : map node_text (take (i + 1) nodes) ≡ map node_text (take i nodes) ++ node_text n ∷ [] = ap (map node_text) (front_more nodes i n at) ∙ map-append node_text (take i nodes) (n ∷ []) in
-    ap (λ ps. let r : PiecesState = record { pieces = codes "(" ∷ ps; begun = [] } in r) (sym more)
+pub record_more : (nodes : List Node) (k : ℕ) → longer (open_record (take k nodes)) (map node_text (drop k nodes)) ≡ open_record nodes
+record_more nodes k =
+    let more : map node_text (take k nodes) ++ map node_text (drop k nodes) ≡ map node_text nodes = sym (map-append node_text (take k nodes) (drop k nodes)) ∙ ap (map node_text) (take-append-drop k nodes) in
+    ap (λ ps. let r : PiecesState = record { pieces = codes "(" ∷ ps; begun = [] } in r) more
 
 -- back to the first nodes of a line
 pub record_back : (nodes : List Node) (k : ℕ) → cut (k + 1) (whole_record nodes) ≡ open_record (take k nodes)
@@ -21,7 +20,7 @@ record_back nodes k =
     ap (λ n. cut n (whole_record nodes)) next ∙ ap (λ ps. let r : PiecesState = record { pieces = codes "(" ∷ ps; begun = [] } in r) (take-map node_text k nodes)
 
 -- its text
-joined : (nodes : List Node) → concat (map node_text nodes) ≡ flat_map node_text nodes
+pub joined : (nodes : List Node) → concat (map node_text nodes) ≡ flat_map node_text nodes
 joined [] = refl
 joined (n ∷ ns) = ap (λ t. node_text n ++ t) (joined ns)
 

@@ -1,8 +1,9 @@
 //! Going over the lines of play of a collection.
 
-ghost use Rattle.std.specs.Prelude.{◌≡◌, ◌+◌, ◌-◌, ◌<◌, ◌≤◌, ◌++◌, None, Some, length, take, vec_len, slice_get, OnOk, OnErr, IfOk, IfErr, IfSome, IfNone, MatchOption};
-ghost use Rattle.std.specs.List.{range_with_len};
+ghost use Rattle.std.specs.Prelude.{◌≡◌, ◌+◌, ◌-◌, ◌<◌, ◌≤◌, ◌++◌, None, Some, length, map, take, drop, vec_len, slice_get, OnOk, OnErr, IfOk, IfErr, IfSome, IfNone, MatchOption};
+ghost use Rattle.std.specs.List.{flat_map, range_with_len};
 ghost use Rattle.sgf_tree.specs.Tree.{Node, node_count};
+ghost use Rattle.sgf_tree.specs.Written.{node_text, ends_from};
 ghost use Rattle.sgf_lines.specs.Lines.{lines};
 ghost use Rattle.sgf_lines.specs.Cursor.{advanced, IsLine};
 ghost use Rattle.sgf_lines.specs.inner.PathTo.{IsLeafSearch};
@@ -126,6 +127,25 @@ impl<'c, 'a> Cursor<'c, 'a> {
         self.collection.node(self.path[index])
     }
 
+    /// Appends the nodes of that line from an index on to `out` as the sgf form writes them, and to `ends` where in `out` each
+    /// of them ends. After a refusal of memory both are unchanged.
+    pub(crate) fn push_nodes(
+        &self,
+        from: usize,
+        out: &mut Vec<u8>,
+        ends: &mut Vec<usize>,
+    ) -> Result<(), MemoryFault>
+        requires { from ≤ length (nodes_before self.now) }
+        ensures appended { OnOk result (out.new.items ≡ out.old.items ++ flat_map node_text (drop from (nodes_before self.now))) }
+        ensures ends { OnOk result (ends.new.items
+            ≡ ends.old.items ++ ends_from (length out.old.items) (map node_text (drop from (nodes_before self.now)))) }
+        ensures unchanged { OnErr result (out.new.items ≡ out.old.items) }
+        ensures ends_unchanged { OnErr result (ends.new.items ≡ ends.old.items) }
+    {
+        self.collection
+            .push_nodes(numbers_from(&self.path, from), out, ends)
+    }
+
     /// The place of that node.
     pub(crate) fn place(&self, index: usize) -> u64
         requires { index < length (nodes_before self.now) }
@@ -175,6 +195,14 @@ fn cut_back(path: &[usize], parent: Option<usize>) -> usize
         kept -= 1;
     }
     kept
+}
+
+/// The numbers of a path from an index on.
+fn numbers_from(path: &[usize], from: usize) -> &[usize]
+    requires { from ≤ length path.now }
+    ensures { result.now ≡ drop from path.now }
+{
+    &path[from..]
 }
 
 /// Cuts a path back to its first `kept` nodes, and appends the nodes from

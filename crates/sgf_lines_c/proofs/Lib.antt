@@ -1,2 +1,1 @@
 pub mod InMemory
-pub mod Placed

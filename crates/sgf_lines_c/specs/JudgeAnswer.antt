@@ -1,12 +1,12 @@
 -- What a judge reports, and what that says of the text and of its line with a place.
-use Rattle.std.specs.Prelude.{◌≡◌, ◌≢◌, ℕ, ◌+◌, ◌<◌, ◌≤◌, false, All, List, length, slice_get, Some}
+use Rattle.std.specs.Prelude.{◌≡◌, ℕ, ◌+◌, ◌<◌, ◌≤◌, false, List, length}
 use Rattle.sgf_tree.specs.Tree.{Games}
 use Rattle.sgf_tree.specs.Spelling.{Spells}
 use Rattle.sgf_tree.specs.Refusal.{IsFaultyAt}
 use Rattle.go_board.specs.declared.reason.Reason.{Reason}
 use Rattle.go_board.specs.Reason.{rank_of}
-use Rattle.sgf_lines.specs.Lines.{Line, lines, place_of}
-use Rattle.sgf_lines.specs.Verdict.{verdict}
+use Rattle.sgf_lines.specs.Cursor.{HasNoLineAt}
+use Rattle.sgf_lines.specs.Verdict.{IsVerdictOf}
 pub use Rattle.sgf_lines.specs.Answer.{MAX_LENGTH}
 use Rattle.sgf_lines.specs.declared.verdict.Verdict.{Verdict}
 use Rattle.sgf_lines.specs.declared.verdict.Verdict.TheVariants.{Score, Illegal, NotGo, BadSize}
@@ -30,22 +30,14 @@ verdict_told (Illegal turn place reason) = record (no_verdict 0) { verdict = 2; 
 verdict_told NotGo = record (no_verdict 0) { verdict = 3 }
 verdict_told BadSize = record (no_verdict 0) { verdict = 4 }
 
--- a line of the collection has this place, and its verdict is reported
-pub record IsVerdictOf (games : Games) (place : ℕ) (answer : JudgeAnswer) : Type 0 where
-  pub index : ℕ
-  pub line : Line
-  pub found : slice_get (lines games) index ≡ Some line
-  pub place_is : place_of line ≡ place
-  pub told_is : answer ≡ verdict_told (verdict line)
-
 -- what each status says of the text, the place and the answer
 abbrev pub Says : List ℕ → ℕ → JudgeAnswer → Status → Type 0
-Says text place answer Done = (length text ≤ MAX_LENGTH) × ((games : Games) × Spells games text × IsVerdictOf games place answer)
+Says text place answer Done = (length text ≤ MAX_LENGTH) × ((games : Games) × Spells games text × ((told : Verdict) × IsVerdictOf games place told × (answer ≡ verdict_told told)))
 Says text place answer NotSgf = (length text ≤ MAX_LENGTH) × IsFaultyAt text answer.at × (answer.at < length text) × (answer ≡ no_verdict answer.at)
 Says text place answer EndsEarly = (length text ≤ MAX_LENGTH) × IsFaultyAt text answer.at × (answer.at ≡ length text) × (answer ≡ no_verdict answer.at)
 Says text place answer TooLong = (MAX_LENGTH < length text) × (answer ≡ no_verdict 0)
 Says text place answer NoSuchLine =
-    (length text ≤ MAX_LENGTH) × ((games : Games) × Spells games text × All (λ line. place_of line ≢ place) (lines games)) × (answer ≡ no_verdict place)
+    (length text ≤ MAX_LENGTH) × ((games : Games) × Spells games text × HasNoLineAt games place) × (answer ≡ no_verdict place)
 Says text place answer UnknownForm = ⊥
 Says text place answer RoomTooSmall = ⊥
 Says text place answer OutOfMemory = answer ≡ no_verdict 0

@@ -141,7 +141,7 @@ impl JudgeAnswer {
             } => {
                 answer.verdict = 2;
                 answer.turn = turn;
-                answer.place = place as u64;
+                answer.place = place;
                 answer.reason = reason_number(reason);
             }
             Verdict::NotGo => answer.verdict = 3,

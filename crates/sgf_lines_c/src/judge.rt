@@ -3,11 +3,10 @@
 ghost use Rattle.std.specs.Prelude.{◌≤◌, List, ℕ, length};
 ghost use Rattle.sgf_tree.specs.Spelling.{Spells};
 ghost use Rattle.sgf_lines_c.specs.JudgeAnswer.{IsJudged, MAX_LENGTH, Says};
-ghost use Rattle.sgf_lines_c.specs.inner.Running.{IsLeafAt};
 
 use crate::answer::JudgeAnswer;
 use crate::status::Status;
-use sgf_lines::judge;
+use sgf_lines::{SeekFault, judge_at};
 use sgf_tree::{Collection, ReadFault, read};
 use std::alloc::Global;
 
@@ -53,23 +52,9 @@ fn judge_line(alloc: Global, collection: &Collection<'_>, place: u64) -> (Status
     ensures { (text : List ℕ) → length text ≤ MAX_LENGTH → Spells collection.now text
         → Says text place result.1 result.0 }
 {
-    let Some(leaf) = leaf_at(collection, place) else {
-        return (Status::NoSuchLine, JudgeAnswer::at(place));
-    };
-    match judge(alloc, collection, leaf) {
+    match judge_at(alloc, collection, place) {
         Ok(verdict) => (Status::Done, JudgeAnswer::of(verdict)),
-        Err(_) => (Status::OutOfMemory, JudgeAnswer::at(0)),
+        Err(SeekFault::NoSuchLine { place }) => (Status::NoSuchLine, JudgeAnswer::at(place)),
+        Err(SeekFault::Memory) => (Status::OutOfMemory, JudgeAnswer::at(0)),
     }
-}
-
-/// The number of the leaf with this place, if there is one.
-fn leaf_at(collection: &Collection<'_>, place: u64) -> Option<usize>
-    ensures { IsLeafAt collection.now place result }
-{
-    for node in 0..collection.nodes() {
-        if collection.place(node) as u64 == place && collection.is_leaf(node) {
-            return Some(node);
-        }
-    }
-    None
 }

@@ -1,5 +1,5 @@
 -- The end of a game, in the flat vectors.
-use Rattle.std.proofs.Common.{◌≡◌, ℕ, ◌+◌, ◌-◌, ◌<◌, ◌≤◌, inl, inr, List, [], ◌∷◌, ◌++◌, length, get_or, take, drop, map, replicate, slice_get, Option, Some, None, option_map, refl, sym, ap, subst, ◌∙◌, arith, append_assoc, length-append}
+use Rattle.std.proofs.Common.{◌≡◌, ℕ, ◌+◌, ◌-◌, ◌<◌, ◌≤◌, true, inl, inr, List, [], ◌∷◌, ◌++◌, length, get_or, take, drop, map, replicate, slice_get, Option, Some, None, option_map, refl, sym, ap, subst, ◌∙◌, arith, append_assoc, length-append}
 use Rattle.std.proofs.Math.ListN.{get_or-map}
 use Rattle.std.proofs.lemmas.Bool.{cases_lt, lt-ltb, le-ltb}
 use Rattle.std.proofs.lemmas.List.{length-map, length-replicate, take_at, drop_at}
@@ -9,6 +9,7 @@ use Rattle.sgf_tree.specs.FileOrder.{game_of}
 use Rattle.sgf_tree.specs.inner.Machine.{OpenGame, whole_game}
 use Rattle.sgf_tree.specs.inner.Layout.{outline, outline_by, outlines_by}
 use Rattle.sgf_tree.specs.inner.GamesRead.{open_count, lasts, open_lasts, IsRootOf, HoldStack, without_last, ClosesGame}
+use Rattle.sgf_tree.specs.declared.layout.Link.TheVariants.{Next}
 use Rattle.sgf_tree.specs.declared.layout.NodeEntry.{NodeEntry}
 use Rattle.sgf_tree.proofs.Completion.{add_games}
 use Rattle.sgf_tree.proofs.Closing.{last_of}
@@ -78,17 +79,19 @@ module _ (t : List ℕ) (closed : Games) (g : OpenGame) (gs : List OpenGame) whe
       → HoldStack t (record { closed = closed; unclosed = g ∷ gs }) ns → ClosesGame ns ns' (open_count closed gs) (open_count closed gs + length g.more) parent
       → HoldStack t (add_games closed gs (whole_game g)) ns'
   game-closed ns ns' parent held closes =
+      let same : (k : ℕ) (d : NodeEntry) → without_last (get_or ns' k d) ≡ without_last (get_or ns k d) = λ k d.
+      sym (get_or-map without_last ns' k d) ∙ ap (λ xs. get_or xs k (without_last d)) closes.same ∙ get_or-map without_last ns k d in
+      let count : length ns' ≡ length ns =
+      sym (length-map ns' without_last) ∙ ap length closes.same ∙ length-map ns without_last in
       record {
         same_order =
             ap (map outline) (open_nodes-closed closed g gs) ∙ held.same_order ∙ sym (outlines-without_last 0 ns) ∙ ap (outlines_by 0) (sym closes.same) ∙ outlines-without_last 0 ns';
         same_lasts =
             lasts-got closed g gs (map last_of ns) (length ns) (sym held.same_lasts) (nodes-held t (record { closed = closed; unclosed = g ∷ gs }) ns held) ∙ sym closes.lasts_are;
-        places_within = λ k d lt.
-            let same : (get_or ns' k d).place ≡ (get_or ns k d).place =
-            ap (λ (n : NodeEntry). n.place) (sym (get_or-map without_last ns' k d) ∙ ap (λ xs. get_or xs k (without_last d)) closes.same ∙ get_or-map without_last ns k d) in
-            let count : length ns' ≡ length ns =
-            sym (length-map ns' without_last) ∙ ap length closes.same ∙ length-map ns without_last in
-            subst (λ p. p < length t) (sym same) (held.places_within k d (omega arith));
+        places_within = λ k d lt. subst (λ p. p < length t) (ap (λ (n : NodeEntry). n.place) (sym (same k d))) (held.places_within k d (omega (arith, count)));
+        beside = λ k d lt e.
+            let is : (get_or ns (k + 1) d).link ≡ Next true = ap (λ (n : NodeEntry). n.link) (sym (same (k + 1) d)) ∙ e in
+            rw (ap (λ (n : NodeEntry). n.place) (same k d), ap (λ (n : NodeEntry). n.place) (same (k + 1) d)) (held.beside k d (omega (arith, count)) is);
         roots = λ i n r here is.
             let old = mapped without_last (slice_get ns i) (without_last n) (sym (slice_get-map without_last ns i) ∙ ap (λ xs. slice_get xs i) (sym closes.same) ∙ slice_get-map without_last ns' i ∙ ap (option_map without_last) here) in
             root-closed closed g gs i r (held.roots i old.0 r old.1 (ap (λ (m : NodeEntry). m.link) old.2 ∙ is));

@@ -1,11 +1,12 @@
 -- What the flat vectors of a collection say of its nodes.
-use Rattle.std.proofs.Common.{◌≡◌, ℕ, zero, suc, ◌+◌, ◌-◌, ◌<◌, ◌≤◌, List, [], ◌∷◌, length, map, get_or, drop, All, slice_get, Option, Some, None, option_map, refl, vec_len, sym, ap, subst, ◌∙◌, arith}
+use Rattle.std.proofs.Common.{◌≡◌, ℕ, zero, suc, ◌+◌, ◌-◌, ◌<◌, ◌≤◌, Bool, true, false, List, [], ◌∷◌, length, map, get_or, drop, slice_range, All, slice_get, Option, Some, None, option_map, refl, vec_len, sym, ap, subst, ◌∙◌, arith}
 use Rattle.std.proofs.lemmas.List.{drop-drop, get_or_default, length-map}
 use Rattle.std.proofs.lemmas.Option.{slice_get-get_or, slice_get-map}
 use Rattle.sgf_tree.specs.declared.fault.TheConstants.{MAX_LENGTH}
 use Rattle.sgf_tree.specs.Tree.{Node, Games, node_count}
 use Rattle.sgf_tree.specs.Spelling.{Spells, AreProperties}
-use Rattle.sgf_tree.specs.inner.NodeText.{properties_in, ArePropertiesIn, IsNodeIn}
+use Rattle.sgf_tree.specs.inner.NodeText.{properties_in, ArePropertiesIn, IsNodeIn, IsNodeWritten}
+use Rattle.sgf_tree.specs.Written.{node_text}
 use Rattle.sgf_tree.specs.FileOrder.{OrderedNode, ordered_nodes, node_at, place_at, parent_at, game_of, IsLastBelow, PlacesRise}
 use Rattle.sgf_tree.specs.inner.Layout.{games_in, Outline, outline, outline_by, outlines_by, parent_by, IsLaidOut}
 use Rattle.sgf_tree.specs.declared.collection.Collection.TheInside.{Inside}
@@ -62,8 +63,8 @@ module _ (s : Inside) (held : Holds s) (g : Games) (is : games_in s.text.now ≡
       ∙ ap (option_map (λ (o : Outline). o.parent)) (ordered_at-held i x h e) ∙ ap (λ k. Some (parent_by k i)) f
 
   -- a node that follows the node before it is not the first one
-  pub next-held : (i : ℕ) (x : NodeEntry) → i < node_count g → x ≡ get_or s.nodes.items i x → x.link ≡ Next → 1 ≤ i
-  next-held i x h e f = omega (arith, parent_at-lt g i (i - 1) (parent-held i x Next h e f))
+  pub next-held : {beside : Bool} (i : ℕ) (x : NodeEntry) → i < node_count g → x ≡ get_or s.nodes.items i x → x.link ≡ Next beside → 1 ≤ i
+  next-held {beside} i x h e f = omega (arith, parent_at-lt g i (i - 1) (parent-held i x (Next beside) h e f))
 
   -- the game of a node is that of its parent
   pub game-held : (i p : ℕ) (x : NodeEntry) (l : Link) → i < node_count g → x ≡ get_or s.nodes.items i x → x.link ≡ l → parent_by l i ≡ Some p → (p < i) × (game_of g p ≡ game_of g i)
@@ -81,22 +82,31 @@ module _ (s : Inside) (held : Holds s) (g : Games) (is : games_in s.text.now ≡
   last-held i x h e =
       subst (λ c. IsLastBelow c i x.last_below) is (held.last_known i x (slice_get-get_or s.nodes.items i x (omega (arith, s.nodes.ok.0, count-held)) ∙ ap Some (sym e)))
 
-  pub places-held : (i p : ℕ) → place_at g i ≡ Some p → p < MAX_LENGTH
-  places-held i p h =
-      let within : i < node_count g = omega (arith, option_map-within (λ (r : OrderedNode). r.node.place) (ordered_nodes g) i p h, length-ordered_nodes g) in
-      let none : NodeEntry = record { place = 0; link = Next; last_below = 0 } in
-      let inside : i < length s.nodes.items = omega (arith, s.nodes.ok.0, count-held) in
-      let x : NodeEntry = get_or s.nodes.items i none in
-      let same : Some x.place ≡ Some p = sym (place-held i x within (get_or_default s.nodes.items i none x inside)) ∙ h in
-      let place : x.place ≡ p = cc in
-      omega (arith, held.places_within i none inside, held.short)
-
-  pub rise-held : PlacesRise g
-  rise-held = subst PlacesRise is (places-rise (games_in s.text.now) s.text.now held.spelled)
-
   pub place-within : (i : ℕ) (x : NodeEntry) → i < node_count g → x ≡ get_or s.nodes.items i x → x.place < length s.text.now
   place-within i x h e =
       subst (λ (y : NodeEntry). y.place < length s.text.now) (sym e) (held.places_within i x (omega (arith, s.nodes.ok.0, count-held)))
+
+  -- the entry of a node of that place
+  pub entry-held : (i p : ℕ) → place_at g i ≡ Some p → (x : NodeEntry) × (i < node_count g) × (x ≡ get_or s.nodes.items i x) × (x.place ≡ p)
+  entry-held i p h =
+      let within : i < node_count g = omega (arith, option_map-within (λ (r : OrderedNode). r.node.place) (ordered_nodes g) i p h, length-ordered_nodes g) in
+      let none : NodeEntry = record { place = 0; link = Next false; last_below = 0 } in
+      let inside : i < length s.nodes.items = omega (arith, s.nodes.ok.0, count-held) in
+      let x : NodeEntry = get_or s.nodes.items i none in
+      let here : x ≡ get_or s.nodes.items i x = get_or_default s.nodes.items i none x inside in
+      let same : Some x.place ≡ Some p = sym (place-held i x within here) ∙ h in
+      (x, within, here, cc)
+
+  pub inside-held : (i p : ℕ) → place_at g i ≡ Some p → p < length s.text.now
+  inside-held i p h =
+      let entry = entry-held i p h in
+      subst (λ q. q < length s.text.now) entry.3 (place-within i entry.0 entry.1 entry.2)
+
+  pub places-held : (i p : ℕ) → place_at g i ≡ Some p → p < MAX_LENGTH
+  places-held i p h = omega (arith, inside-held i p h, held.short)
+
+  pub rise-held : PlacesRise g
+  rise-held = subst PlacesRise is (places-rise (games_in s.text.now) s.text.now held.spelled)
 
   -- its properties are spelled after its `;`
   spelled-at : (i : ℕ) (x : NodeEntry) (o : Option OrderedNode) → slice_get (ordered_nodes g) i ≡ o → i < node_count g → x ≡ get_or s.nodes.items i x
@@ -130,4 +140,25 @@ module _ (s : Inside) (held : Holds s) (g : Games) (is : games_in s.text.now ≡
           properties =
               subst ArePropertiesIn (sym after) (record { properties = n.properties; rest = at.3.rest; spelled = spelled; ends = at.3.ends });
         },
+      )
+
+  -- a node that is beside another one stands where that one ends, as it is written
+  pub beside-held : (i p q : ℕ) (y : NodeEntry) → place_at g i ≡ Some p → y ≡ get_or s.nodes.items (i + 1) y → y.link ≡ Next true → i + 1 < node_count g → place_at g (i + 1) ≡ Some q
+      → (n : Node) × (node_at g i ≡ Some n) × (p < q) × (slice_range s.text.now p q ≡ node_text n)
+  beside-held i p q y h here is lt f =
+      let entry = entry-held i p h in
+      let x : NodeEntry = entry.0 in
+      let next : Some y.place ≡ Some q = sym (place-held (i + 1) y lt here) ∙ f in
+      let at : y.place ≡ q = cc in
+      let within : i < length s.nodes.items = omega (arith, s.nodes.ok.0, count-held, lt) in
+      let first : get_or s.nodes.items i y ≡ x = get_or_default s.nodes.items i y x within ∙ sym entry.2 in
+      let written : IsNodeWritten s.text.now (get_or s.nodes.items i y).place (get_or s.nodes.items (i + 1) y).place =
+      held.beside i y (omega (arith, s.nodes.ok.0, count-held, lt)) (ap (λ (m : NodeEntry). m.link) (sym here) ∙ is) in
+      let there : IsNodeWritten s.text.now x.place q =
+      subst (λ k. IsNodeWritten s.text.now x.place k) at (subst (λ (m : NodeEntry). IsNodeWritten s.text.now x.place m.place) (sym here) (subst (λ (m : NodeEntry). IsNodeWritten s.text.now m.place (get_or s.nodes.items (i + 1) y).place) first written)) in
+      let place : x.place ≡ p = entry.3 in (
+        record { place = x.place; properties = properties_in (drop 1 (drop x.place s.text.now)) },
+        (node-held i x entry.1 entry.2).0,
+        subst (λ k. k < q) place there.rises,
+        ap (λ k. slice_range s.text.now k q) (sym place) ∙ there.text,
       )

@@ -52,3 +52,4 @@ pub mod Iterating
 pub mod Taking
 pub mod WrittenParts
 pub mod LoneNodes
+pub mod Runs

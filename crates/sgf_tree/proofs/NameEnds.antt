@@ -7,7 +7,8 @@ use Rattle.sgf_tree.specs.Spelling.{is_white_space, is_upper, is_lower}
 use Rattle.sgf_tree.specs.inner.Machine.{Started, MachineState, in_name, after_name, in_value, next_state, accepted}
 use Rattle.sgf_tree.specs.Refusal.{IsFaultyAt}
 use Rattle.sgf_tree.specs.inner.NodeText.{is_letter, name_in}
-use Rattle.sgf_tree.specs.inner.Progress.{ComesTo, IsSpan}
+use Rattle.sgf_tree.specs.inner.Progress.{ComesTo, IsSpan, IsBracket}
+use Rattle.sgf_tree.specs.inner.PropertiesRead.{IsNameRead}
 use Rattle.sgf_tree.proofs.Classes.{white-not_upper, white-not_lower}
 use Rattle.sgf_tree.proofs.Run.{run-take-step}
 use Rattle.sgf_tree.proofs.Skipping.{stays-after_name}
@@ -40,7 +41,7 @@ name-begins t start end lt capital letters =
     let longer : start < end = name-longer t start end lt capital letters in
     sym (span-join t start (start + 1) end (omega arith) (omega arith)) ∙ ap (λ s. s ++ slice_range t (start + 1) end) (span-one t start lt)
 
-pub name-reached : (t : List ℕ) (start end : ℕ) (n : Started) → start < length t → IsTrue (is_upper (get_or t start 0)) → IsSpan is_letter t start end
+name-reached : (t : List ℕ) (start end : ℕ) (n : Started) → start < length t → IsTrue (is_upper (get_or t start 0)) → IsSpan is_letter t start end
     → ComesTo t (start + 1) (in_name n (get_or t start 0 ∷ [])) → ComesTo t end (in_name n (name_in (slice_range t start end)))
 name-reached t start end n lt capital letters h =
     let b : ℕ = get_or t start 0 in
@@ -90,9 +91,11 @@ after-unaccepted : (n : Started) (name : List ℕ) → accepted (after_name n na
 unfolding accepted
 after-unaccepted n name = refl
 
-pub name-after : (t : List ℕ) (start end at : ℕ) (n : Started) (name : List ℕ) → IsSpan is_letter t start end → IsSpan is_white_space t end at
-    → ComesTo t end (in_name n name) → StandsAfterName t at n name
-name-after t start end at n name letters white h =
+pub name-after : (t : List ℕ) (start end at : ℕ) (n : Started) → start < length t → IsTrue (is_upper (get_or t start 0)) → IsSpan is_letter t start end → IsSpan is_white_space t end at
+    → ComesTo t (start + 1) (in_name n (get_or t start 0 ∷ [])) → StandsAfterName t at n (name_in (slice_range t start end))
+name-after t start end at n inside capital letters white begins =
+    let name : List ℕ = name_in (slice_range t start end) in
+    let h : ComesTo t end (in_name n name) = name-reached t start end n inside capital letters begins in
     let low : end ≤ at = white.rises in
     let within : at ≤ length t = white.within in
     elim (cases_lt end at) [
@@ -127,5 +130,27 @@ name-faulty t at n name after le other =
     ]
 
 -- the `[`
-pub name-value : (t : List ℕ) (at : ℕ) (n : Started) (name : List ℕ) → StandsAfterName t at n name → at < length t → get_or t at 0 ≡ 91 → ComesTo t (at + 1) (in_value n name [] [])
+name-value : (t : List ℕ) (at : ℕ) (n : Started) (name : List ℕ) → StandsAfterName t at n name → at < length t → get_or t at 0 ≡ 91 → ComesTo t (at + 1) (in_value n name [] [])
 name-value t at n name after lt e = run-take-step t at after.state (in_value n name [] []) after.reached lt (rw e after.bracket)
+
+pub name-read : (t : List ℕ) (start end at : ℕ) → start < length t → IsTrue (is_upper (get_or t start 0)) → IsSpan is_letter t start end → IsSpan is_white_space t end at
+    → IsBracket t at → IsNameRead t start at
+name-read t start end at inside capital letters white stands =
+    record {
+      rises = omega (arith, white.rises, name-longer t start end inside capital letters);
+      stands = stands;
+      reached = λ n h. (
+        name_in (slice_range t start end),
+        name-value t at n (name_in (slice_range t start end)) (name-after t start end at n inside capital letters white h) stands.within stands.bracket,
+      );
+    }
+
+-- no white space stands before a `[` that is there
+pub bracket-here : (t : List ℕ) (at : ℕ) → IsBracket t at → IsSpan is_white_space t at at
+bracket-here t at stands =
+    record {
+      rises = omega arith;
+      within = omega (arith, stands.within);
+      passing = λ i low high. absurd (omega arith);
+      stops = λ lt. rw stands.bracket refl;
+    }

@@ -1,10 +1,12 @@
 -- How the machine goes over the own nodes of a game.
-use Rattle.std.proofs.Common.{◌≡◌, ◌≢◌, ℕ, ◌+◌, ◌<◌, ◌≤◌, true, false, inl, inr, List, [], ◌∷◌, ◌++◌, length, get_or, Some, None, refl, sym, ap, subst, ◌∙◌, arith, length-append, ne_eqb}
+use Rattle.std.proofs.Common.{◌≡◌, ◌≢◌, ℕ, ◌+◌, ◌-◌, ◌<◌, ◌≤◌, Bool, true, false, IsTrue, inl, inr, List, [], ◌∷◌, ◌++◌, length, get_or, Some, None, refl, sym, ap, subst, ◌∙◌, arith, length-append, ne_eqb}
 use Rattle.std.proofs.lemmas.Bool.{cases_lt}
+use Rattle.std.proofs.lemmas.List.{get_or_push}
 use Rattle.sgf_tree.specs.Tree.{Games, no_games, game}
 use Rattle.sgf_tree.specs.Spelling.{is_white_space}
 use Rattle.sgf_tree.specs.inner.Machine.{OpenGame, Stack, Started, opened, in_node, after_game, after_node, between_games, ended, new_game, new_node, next_state, accepted}
 use Rattle.sgf_tree.specs.Refusal.{IsFaultyAt}
+use Rattle.sgf_tree.specs.inner.NodeText.{AreWritten}
 use Rattle.sgf_tree.specs.inner.Progress.{ComesTo, IsSpan}
 use Rattle.sgf_tree.specs.inner.PropertiesRead.{StandsAfterNode, with_properties}
 use Rattle.sgf_tree.specs.inner.GamesRead.{HoldStack, IsOpening, IsNodeRead, IsSequenceRead}
@@ -16,6 +18,7 @@ use Rattle.sgf_tree.proofs.Run.{run-take-step}
 use Rattle.sgf_tree.proofs.Skipping.{stays-opened}
 use Rattle.sgf_tree.proofs.Spans.{run-white}
 use Rattle.sgf_tree.proofs.ValueEnds.{ends-faulty, refused-faulty}
+use Rattle.sgf_tree.proofs.WrittenParts.{node-written}
 
 opened-node : (at : ℕ) (k : Stack) → next_state at (opened k) 59 ≡ Some (new_node k true at)
 unfolding next_state
@@ -65,7 +68,7 @@ module _ (t : List ℕ) where
       run-take-step t end stands.state (new_node (ended whole) false end) stands.reached lt (stands.next lt ∙ ap (after_node end (ended whole)) e)
 
   -- nodes of the game were read, and the last one is `whole`
-  pub record SequenceSoFar (end : ℕ) (k : Stack) (ns : List NodeEntry) : Type 0 where
+  pub record SequenceSoFar (end : ℕ) (is_written : Bool) (k : Stack) (ns : List NodeEntry) : Type 0 where
     pub whole : Started
     pub last : OpenGame
     pub stands : StandsAfterNode t end whole
@@ -73,11 +76,22 @@ module _ (t : List ℕ) where
     pub held : HoldStack t (record { closed = k.closed; unclosed = last ∷ k.unclosed }) ns
     pub nothing_below : last.below ≡ no_games
     pub not_white_space : end < length t → is_white_space (get_or t end 0) ≡ false
+    pub written : IsTrue is_written → (d : NodeEntry) → let place = (get_or ns (length ns - 1) d).place in (get_or t place 0 ≡ 59) × AreWritten t (place + 1) end
 
-  pub sequence-first : (at place end : ℕ) (k : Stack) (link : Link) (ns ns' : List NodeEntry)
+  -- the node that was pushed last is written, if it is
+  last-written : (place end : ℕ) (is_written : Bool) (link : Link) (ns ns' : List NodeEntry) → get_or t place 0 ≡ 59 → IsNodeRead t place end link ns ns'
+      → (IsTrue is_written → AreWritten t (place + 1) end) → IsTrue is_written → (d : NodeEntry)
+      → let last = (get_or ns' (length ns' - 1) d).place in (get_or t last 0 ≡ 59) × AreWritten t (last + 1) end
+  last-written place end is_written link ns ns' e read written is d =
+      let n : NodeEntry = record { place = place; link = link; last_below = 0 } in
+      let at : length ns ≡ length ns' - 1 = omega (arith, ap length read.pushed, length-append ns (n ∷ [])) in
+      let here : get_or ns' (length ns' - 1) d ≡ n = ap (λ ms. get_or ms (length ns' - 1) d) read.pushed ∙ get_or_push ns n d (length ns' - 1) at in
+      rw here (e, written is)
+
+  pub sequence-first : (at place end : ℕ) (is_written : Bool) (k : Stack) (link : Link) (ns ns' : List NodeEntry)
       → IsSpan is_white_space t at place → ComesTo t at (opened k) → HoldStack t k ns → IsOpening k link → place < length t → get_or t place 0 ≡ 59
-      → IsNodeRead t place end link ns ns' → SequenceSoFar end k ns'
-  sequence-first at place end k link ns ns' white after held opening lt e read =
+      → IsNodeRead t place end link ns ns' → (IsTrue is_written → AreWritten t (place + 1) end) → SequenceSoFar end is_written k ns'
+  sequence-first at place end is_written k link ns ns' white after held opening lt e read written =
       let n : Started = record { stack = k; opens = true; place = place; properties = [] } in
       let own = read.properties.reached n refl (place-node at place k white after lt e) in
       record {
@@ -88,11 +102,13 @@ module _ (t : List ℕ) where
         held = first-held t k place end own.0 link ns ns' held opening read lt;
         nothing_below = refl;
         not_white_space = read.properties.not_white_space;
+        written = last-written place end is_written link ns ns' e read written;
       }
 
-  pub sequence-next : (place end : ℕ) (k : Stack) (ns ns' : List NodeEntry)
-      → SequenceSoFar place k ns → place < length t → get_or t place 0 ≡ 59 → IsNodeRead t place end Next ns ns' → SequenceSoFar end k ns'
-  sequence-next place end k ns ns' so_far lt e read =
+  pub sequence-next : (place end : ℕ) (beside is_written : Bool) (k : Stack) (ns ns' : List NodeEntry)
+      → SequenceSoFar place beside k ns → place < length t → get_or t place 0 ≡ 59 → IsNodeRead t place end (Next beside) ns ns'
+      → (IsTrue is_written → AreWritten t (place + 1) end) → SequenceSoFar end is_written k ns'
+  sequence-next place end beside is_written k ns ns' so_far lt e read written =
       let k' : Stack = record { closed = k.closed; unclosed = so_far.last ∷ k.unclosed } in
       let n : Started = record { stack = k'; opens = false; place = place; properties = [] } in
       let begins : ComesTo t (place + 1) (in_node n) =
@@ -103,14 +119,16 @@ module _ (t : List ℕ) where
         last = record { first = so_far.last.first; more = so_far.last.more ++ record { place = place; properties = own.0 } ∷ []; below = so_far.last.below };
         stands = own.1;
         stack_is = refl;
-        held = next-held t k.closed so_far.last k.unclosed place end own.0 ns ns' so_far.held so_far.nothing_below read lt;
+        held = next-held t k.closed so_far.last k.unclosed place end own.0 ns ns' beside so_far.held so_far.nothing_below read lt
+            (λ is d. let before = so_far.written is d in node-written t (get_or ns (length ns - 1) d).place place before.0 lt e before.1);
         nothing_below = so_far.nothing_below;
         not_white_space = read.properties.not_white_space;
+        written = last-written place end is_written (Next beside) ns ns' e read written;
       }
 
   -- no further node follows
-  pub sequence-done : (end : ℕ) (k : Stack) (ns : List NodeEntry) → SequenceSoFar end k ns → (end < length t → get_or t end 0 ≢ 59) → IsSequenceRead t end k ns
-  sequence-done end k ns so_far other =
+  pub sequence-done : (end : ℕ) (is_written : Bool) (k : Stack) (ns : List NodeEntry) → SequenceSoFar end is_written k ns → (end < length t → get_or t end 0 ≢ 59) → IsSequenceRead t end k ns
+  sequence-done end is_written k ns so_far other =
       let k' : Stack = record { closed = k.closed; unclosed = so_far.last ∷ k.unclosed } in
       record {
         last = so_far.last;
@@ -126,9 +144,9 @@ module _ (t : List ℕ) where
       }
 
   -- a further node's `;` begins a node
-  pub sequence-node : (end : ℕ) (k : Stack) (ns : List NodeEntry) → SequenceSoFar end k ns → end < length t → get_or t end 0 ≡ 59
+  pub sequence-node : (end : ℕ) (is_written : Bool) (k : Stack) (ns : List NodeEntry) → SequenceSoFar end is_written k ns → end < length t → get_or t end 0 ≡ 59
       → (n : Started) × ((n.properties ≡ []) × ComesTo t (end + 1) (in_node n))
-  sequence-node end k ns so_far lt e = (
+  sequence-node end is_written k ns so_far lt e = (
     record { stack = ended so_far.whole; opens = false; place = end; properties = [] },
     (refl, next-node end so_far.whole so_far.stands lt e),
   )

@@ -45,4 +45,5 @@ module _ (t : List ℕ) (c : Games) (ns : List NodeEntry) (read : IsRead t c ns)
             subst (λ g. IsLastBelow g i n.last_below) (sym whole-games)
             (lasts-below c i n.last_below (ap (λ ls. slice_get ls i) read.held.same_lasts ∙ slice_get-map last_of ns i ∙ ap (option_map last_of) here));
         places_within = read.held.places_within;
+        beside = read.held.beside;
       }

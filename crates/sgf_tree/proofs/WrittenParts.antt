@@ -1,14 +1,14 @@
 -- Parts of a text that stand as the sgf form writes them.
-use Rattle.std.proofs.Common.{◌≡◌, ◌≢◌, ℕ, zero, suc, ◌+◌, ◌-◌, ◌<◌, ◌≤◌, true, IsTrue, List, [], ◌∷◌, ◌++◌, length, get_or, take, drop, slice_range, refl, sym, ap, subst, ◌∙◌, inl, inr, arith, append_assoc, append-nil, get_or-drop, length-drop, length-take}
+use Rattle.std.proofs.Common.{◌≡◌, ◌≢◌, ℕ, zero, suc, ◌+◌, ◌-◌, ◌<◌, ◌≤◌, Bool, true, false, IsTrue, List, [], ◌∷◌, ◌++◌, length, get_or, take, drop, slice_range, refl, sym, ap, subst, ◌∙◌, inl, inr, arith, append_assoc, append-nil, get_or-drop, length-drop, length-take}
 use Rattle.std.proofs.lemmas.Bool.{cases_lt, false≢true}
 use Rattle.std.proofs.lemmas.Grind.{flat_map-append}
 use Rattle.std.proofs.lemmas.List.{drop-drop}
 use Rattle.std.specs.List.{flat_map}
 use Rattle.sgf_tree.specs.Tree.{Property}
 use Rattle.sgf_tree.specs.RawValue.{IsValue}
-use Rattle.sgf_tree.specs.Spelling.{is_white_space, is_upper, WhiteSpace, no_white_space, Letters, no_letter, upper, IsPropValue, prop_value, ArePropValues, no_value, value, IsProperty, property, AreProperties, no_property, properties}
+use Rattle.sgf_tree.specs.Spelling.{is_white_space, is_upper, WhiteSpace, no_white_space, white_space, Letters, no_letter, upper, IsPropValue, prop_value, ArePropValues, no_value, value, IsProperty, property, AreProperties, no_property, properties}
 use Rattle.sgf_tree.specs.Written.{value_text, property_text}
-use Rattle.sgf_tree.specs.inner.NodeText.{is_letter, left_after, front, values_in, property_from, name_in, after_values_up_to, properties_in, NoValueFollows, NoPropertyFollows, ArePropertiesIn, AreValuesWritten, IsPropertyWritten, ArePropertiesWritten}
+use Rattle.sgf_tree.specs.inner.NodeText.{is_letter, left_after, front, values_in, property_from, name_in, after_values_up_to, properties_in, NoValueFollows, NoPropertyFollows, ArePropertiesIn, AreValuesWritten, IsPropertyWritten, ArePropertiesWritten, AreWritten, IsNodeWritten}
 use Rattle.sgf_tree.specs.inner.Progress.{IsSpan, SpellsValue}
 use Rattle.sgf_tree.proofs.Classes.{upper-not_white_space}
 use Rattle.sgf_tree.proofs.NameEnds.{span-one}
@@ -22,6 +22,10 @@ capitals : (n : ℕ) (s : List ℕ) → n ≤ length s → ((i : ℕ) → i < n 
 capitals zero s le h = no_letter
 capitals (suc n) [] le h = absurd (omega arith)
 capitals (suc n) (b ∷ s) le h = upper (h 0 (omega arith)) (capitals n s (omega arith) (λ i lt. h (suc i) (omega arith)))
+
+-- nothing more of a span stands at its end
+pub span-done : {test : ℕ → Bool} {t : List ℕ} {at end : ℕ} → IsSpan test t at end → IsSpan test t end end
+span-done span = record { rises = omega arith; within = span.within; passing = λ i low high. absurd (omega arith); stops = span.stops }
 
 -- no value follows a run of white space before another byte
 ends-run : (s : List ℕ) (k : ℕ) → IsSpan is_white_space s 0 k → (k < length s → get_or s k 0 ≢ 91) → NoValueFollows s
@@ -63,6 +67,15 @@ head-same {qs = qs} {m = m} (property {b} {name} {v} {t = t} {u} {r = r} {vs = v
       ap (λ n. property_from n (x ∷ xs)) names ∙ ap (property_from (b ∷ name)) all,
       subst (λ a. AreProperties qs a m) left are,
     )
+
+properties-more : {ps : List Property} {p : Property} {s m r : List ℕ} → AreProperties ps s m → IsProperty p m r → AreProperties (ps ++ p ∷ []) s r
+properties-more no_property is = properties is no_property
+properties-more (properties q qs) is = properties q (properties-more qs is)
+
+-- a node ends before a `;`
+semicolon-ends : {b : ℕ} {r u : List ℕ} → WhiteSpace (59 ∷ r) (b ∷ u) → (b ≢ 91) × (is_upper b ≡ false)
+semicolon-ends no_white_space = ((λ e. omega arith), refl)
+semicolon-ends (white_space h w) = absurd (false≢true h)
 
 -- a node doesn't end before a property
 upper-first : {p : Property} {s r : List ℕ} → IsProperty p s r → ¬ NoPropertyFollows s
@@ -152,6 +165,14 @@ module _ (t : List ℕ) where
       let e : from - from ≡ 0 = omega arith in
       record { rises = omega arith; within = le; left = held; front = record { taken = []; front = refl; written = rw e } }
 
+  text-more : (from at end : ℕ) (ps : List Property) → from ≤ at → slice_range t from at ≡ flat_map property_text ps → (one : IsPropertyWritten t at end)
+      → slice_range t from end ≡ flat_map property_text (ps ++ one.property ∷ [])
+  text-more from at end ps low text one =
+      let rises : at < end = one.rises in
+      sym (span-join t from at end low (omega arith)) ∙ ap (λ s. s ++ slice_range t at end) text
+      ∙ ap (λ s. flat_map property_text ps ++ s) (one.text ∙ sym (append-nil (property_text one.property)))
+      ∙ sym (flat_map-append property_text ps (one.property ∷ []))
+
   pub front-more : (from at end : ℕ) → ArePropertiesWritten t from at → IsPropertyWritten t at end → ArePropertiesWritten t from end
   front-more from at end before one =
       let after = left-after before.left one.spelled one.ends in
@@ -165,9 +186,38 @@ module _ (t : List ℕ) where
           taken = before.front.taken ++ p ∷ [];
           front =
               before.front.front ∙ ap (λ ps. before.front.taken ++ ps) after.0 ∙ sym (append_assoc before.front.taken (p ∷ []) (properties_in (drop end t)));
-          written =
-              sym (span-join t from at end before.rises (omega arith)) ∙ ap (λ s. s ++ slice_range t at end) before.front.written
-              ∙ ap (λ s. flat_map property_text before.front.taken ++ s) (one.text ∙ sym (append-nil (property_text p)))
-              ∙ sym (flat_map-append property_text before.front.taken (p ∷ []));
+          written = text-more from at end before.front.taken before.rises before.front.written one;
         };
+      }
+
+  -- properties, one after another
+  pub written-none : (from : ℕ) → from ≤ length t → AreWritten t from from
+  written-none from le =
+      let e : from - from ≡ 0 = omega arith in
+      record { rises = omega arith; within = le; properties = []; spelled = no_property; text = rw e }
+
+  pub written-more : (from at end : ℕ) → AreWritten t from at → IsPropertyWritten t at end → AreWritten t from end
+  written-more from at end before one =
+      record {
+        rises = omega (arith, before.rises, one.rises);
+        within = one.within;
+        properties = before.properties ++ one.property ∷ [];
+        spelled = properties-more before.spelled one.spelled;
+        text = text-more from at end before.properties before.rises before.text one;
+      }
+
+  -- those of a node, before the next one
+  pub node-written : (place end : ℕ) → get_or t place 0 ≡ 59 → end < length t → get_or t end 0 ≡ 59 → AreWritten t (place + 1) end → IsNodeWritten t place end
+  node-written place end e lt f written =
+      let low : place + 1 ≤ end = written.rises in
+      let ends : NoPropertyFollows (drop end t) =
+      subst NoPropertyFollows (sym (byte-at t end lt ∙ ap (λ b. b ∷ drop (end + 1) t) f)) (λ b u w. semicolon-ends w) in
+      let own : properties_in (drop 1 (drop place t)) ≡ written.properties =
+      ap properties_in (drop-drop 1 place t) ∙ properties-in written.spelled ends in
+      record {
+        rises = omega arith;
+        within = written.within;
+        text =
+            sym (span-join t place (place + 1) end (omega arith) low) ∙ ap (λ s. s ++ slice_range t (place + 1) end) (span-one t place (omega arith) ∙ ap (λ b. b ∷ []) e)
+            ∙ ap (λ s. 59 ∷ s) written.text ∙ ap (λ ps. 59 ∷ flat_map property_text ps) (sym own);
       }

@@ -1,5 +1,6 @@
 -- The nodes of a collection in file order, numbered from 0.
-use Rattle.std.specs.Prelude.{◌≡◌, ◌≢◌, ℕ, ◌+◌, ◌-◌, ◌<◌, ◌≤◌, Bool, true, false, if◌then◌else◌, nat_lt, List, [], ◌∷◌, ◌++◌, length, slice_get, Option, Some, None, option_map}
+use Rattle.std.specs.Prelude.{◌≡◌, ◌≢◌, ℕ, ◌+◌, ◌-◌, ◌<◌, ◌≤◌, Bool, true, false, if◌then◌else◌, nat_lt, List, [], ◌∷◌, ◌++◌, length, slice_get, Option, Some, None, option_map, option_to_list}
+use Rattle.std.specs.List.{flat_map}
 use Rattle.sgf_tree.specs.Tree.{Node, Games, no_games, game, node_count}
 
 -- A node, the number of its parent, and whether it is the first after a `(`. The parent is
@@ -31,6 +32,10 @@ ordered_nodes games = nodes_from 0 None games
 -- the node with a number, its place, and the number of the node before it on its line
 abbrev pub node_at : Games → ℕ → Option Node
 node_at games number = option_map (λ ordered. ordered.node) (slice_get (ordered_nodes games) number)
+
+-- the nodes of numbers
+abbrev pub nodes_at : Games → List ℕ → List Node
+nodes_at games numbers = flat_map (λ number. option_to_list (node_at games number)) numbers
 
 abbrev pub place_at : Games → ℕ → Option ℕ
 place_at games number = option_map (λ ordered. ordered.node.place) (slice_get (ordered_nodes games) number)

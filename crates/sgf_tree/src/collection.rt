@@ -1,17 +1,22 @@
 //! A collection that was read: its nodes in file order, numbered from 0.
 
-ghost use Rattle.std.specs.Prelude.{◌≡◌, ◌<◌, ◌↔◌, ℕ, IsTrue};
+ghost use Rattle.std.specs.Prelude.{◌≡◌, ◌<◌, ◌≤◌, ◌++◌, ◌↔◌, ℕ, length, take, map, All, IsTrue, IfOk, OnOk, OnErr};
+ghost use Rattle.std.specs.List.{flat_map};
 ghost use Rattle.sgf_tree.specs.declared.fault.TheConstants.{MAX_LENGTH};
 ghost use Rattle.sgf_tree.specs.Tree.{game_count, node_count};
-ghost use Rattle.sgf_tree.specs.FileOrder.{node_at, place_at, parent_at, IsLeaf, game_of, IsLastBelow, PlacesRise};
+ghost use Rattle.sgf_tree.specs.Written.{node_text, ends_from};
+ghost use Rattle.sgf_tree.specs.inner.NodeText.{ArePushed, GoesOn};
+ghost use Rattle.sgf_tree.specs.FileOrder.{node_at, nodes_at, place_at, parent_at, IsLeaf, game_of, IsLastBelow, PlacesRise};
 
+use crate::fault::MemoryFault;
 use crate::layout::{Link, LongValue, NodeEntry};
 use crate::node::NodeRef;
-use crate::reader::scan::rest_from;
+use crate::reader::scan::{part, rest_from};
 use std::marker::Model;
 
-/// The collection that a text spells (SGF FF[4], EBNF). It refers to the
-/// text, and copies no names or values. No call on it takes memory.
+/// The collection that a text spells (SGF FF[4], EBNF).
+/// It refers to the text, whose names and values are not copied.
+/// Only `push_nodes` takes memory.
 #[derive(Drop)]
 pub struct Collection<'a> {
     text: &'a [u8],
@@ -89,6 +94,90 @@ impl<'a> Collection<'a> {
         }
     }
 
+    /// Appends the nodes of these numbers to `out` as the sgf form writes them, and to `ends` where in `out` each of them ends.
+    /// What stands in the text as it is to be written is copied at once.
+    /// After a refusal of memory both are unchanged.
+    pub fn push_nodes(
+        &self,
+        numbers: &[usize],
+        out: &mut Vec<u8>,
+        ends: &mut Vec<usize>,
+    ) -> Result<(), MemoryFault>
+        requires { All (λ number. number < node_count self.now) numbers.now }
+        ensures appended { OnOk result (out.new.items ≡ out.old.items ++ flat_map node_text (nodes_at self.now numbers.now)) }
+        ensures ends { OnOk result (ends.new.items
+            ≡ ends.old.items ++ ends_from (length out.old.items) (map node_text (nodes_at self.now numbers.now))) }
+        ensures unchanged { OnErr result (out.new.items ≡ out.old.items) }
+        ensures ends_unchanged { OnErr result (ends.new.items ≡ ends.old.items) }
+    {
+        let bytes = out.len();
+        let count = ends.len();
+        let pushed = self.push_runs(numbers, out, ends);
+        if pushed.is_err() {
+            out.truncate(bytes);
+            ends.truncate(count);
+        }
+        pushed
+    }
+
+    /// Appends them run by run.
+    /// After a refusal of memory some of them are appended.
+    fn push_runs(
+        &self,
+        numbers: &[usize],
+        out: &mut Vec<u8>,
+        ends: &mut Vec<usize>,
+    ) -> Result<(), MemoryFault>
+        requires { All (λ number. number < node_count self.now) numbers.now }
+        ensures pushed { OnOk result (ArePushed (nodes_at self.now numbers.now) out.old.items out.new.items ends.old.items ends.new.items) }
+        ensures goes_on { GoesOn out.old.items out.new.items }
+        ensures ends_go_on { GoesOn ends.old.items ends.new.items }
+    {
+        let mut done = 0;
+        'runs: while done < numbers.len() {
+            done += self.push_run(&numbers[done..], out, ends)?;
+        }
+        Ok(())
+    }
+
+    /// Appends the first nodes of a list, each but the first of which is beside the one before it.
+    /// The result is how many they are. After a refusal of memory some of them are appended.
+    fn push_run(
+        &self,
+        numbers: &[usize],
+        out: &mut Vec<u8>,
+        ends: &mut Vec<usize>,
+    ) -> Result<usize, MemoryFault>
+        requires some { 0 < length numbers.now }
+        requires within { All (λ number. number < node_count self.now) numbers.now }
+        ensures some { IfOk result (λ count. 0 < count) }
+        ensures within { IfOk result (λ count. count ≤ length numbers.now) }
+        ensures pushed { IfOk result (λ count. ArePushed (nodes_at self.now (take count numbers.now))
+            out.old.items out.new.items ends.old.items ends.new.items) }
+        ensures goes_on { GoesOn out.old.items out.new.items }
+        ensures ends_go_on { GoesOn ends.old.items ends.new.items }
+    {
+        let text = self.text;
+        let start = out.len();
+        let mut last = numbers[0];
+        let first = self.place(last);
+        let mut end = first;
+        let mut count = 1;
+        'beside: while count < numbers.len()
+            && numbers[count] == last + 1
+            && self.nodes[last + 1].link.is_beside()
+        {
+            last += 1;
+            count += 1;
+            end = self.place(last);
+            ends.push(start + (end - first))?;
+        }
+        out.extend_from_slice(part(text, first, end))?;
+        self.node(last).push_to(out)?;
+        ends.push(out.len())?;
+        Ok(count)
+    }
+
     /// The number of the parent of node `i`, the node before it on its line. None for the root of a game.
     pub fn parent(&self, i: usize) -> Option<usize>
         requires { i < node_count self.now }
@@ -97,7 +186,7 @@ impl<'a> Collection<'a> {
         match self.nodes[i].link {
             Link::Root(_) => None,
             Link::Variation(parent) => Some(parent as usize),
-            Link::Next => Some(i - 1),
+            Link::Next { .. } => Some(i - 1),
         }
     }
 
@@ -127,7 +216,7 @@ impl<'a> Collection<'a> {
             match self.nodes[at].link {
                 Link::Root(game) => return game as usize,
                 Link::Variation(parent) => at = parent as usize,
-                Link::Next => at -= 1,
+                Link::Next { .. } => at -= 1,
             }
         }
     }

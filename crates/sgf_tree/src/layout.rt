@@ -1,5 +1,8 @@
 //! The entries of the flat vectors that hold a collection: 16 bytes for each node, and 8 bytes for each long value.
 
+ghost use Rattle.std.specs.Prelude.{◌≡◌, true, IsTrue};
+ghost use Rattle.sgf_tree.specs.declared.layout.Link.TheVariants.{Next};
+
 /// How a node follows the nodes before it.
 #[derive(Clone, Copy)]
 pub(crate) enum Link {
@@ -7,8 +10,21 @@ pub(crate) enum Link {
     Root(u32),
     /// It is the first node after a `(`, and the node with this number is its parent.
     Variation(u32),
-    /// The node before it in the file is its parent.
-    Next,
+    /// The node before it in the file is its parent. Where it is beside that one, the sgf form writes the parent as the text
+    /// stands between the two.
+    Next { beside: bool },
+}
+
+impl Link {
+    /// Whether a node is beside the one before it.
+    pub(crate) fn is_beside(self) -> bool
+        ensures { IsTrue result → self ≡ Next true }
+    {
+        match self {
+            Link::Next { beside } => beside,
+            Link::Root(_) | Link::Variation(_) => false,
+        }
+    }
 }
 
 /// A node. Its properties are read from the text again.

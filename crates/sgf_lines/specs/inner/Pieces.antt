@@ -17,6 +17,10 @@ pushed old more = record { pieces = old.pieces; begun = old.begun ++ more }
 abbrev pub closed : PiecesState → PiecesState
 closed old = record { pieces = old.pieces ++ old.begun ∷ []; begun = [] }
 
+-- pieces more
+abbrev pub longer : PiecesState → List (List ℕ) → PiecesState
+longer old more = record { pieces = old.pieces ++ more; begun = [] }
+
 -- the first `count` pieces alone
 abbrev pub cut : ℕ → PiecesState → PiecesState
 cut count old = record { pieces = take count old.pieces; begun = [] }

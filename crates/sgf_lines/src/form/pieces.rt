@@ -1,11 +1,13 @@
 //! A text in pieces, kept for what the next line shares of it.
 
-ghost use Rattle.std.specs.Prelude.{◌≡◌, ◌++◌, length, OnOk, OnErr};
+ghost use Rattle.std.specs.Prelude.{◌≡◌, ◌≤◌, ◌++◌, [], length, map, drop, OnOk, OnErr};
 ghost use Rattle.std.specs.List.{concat};
 ghost use Rattle.sgf_lines.specs.Record.{node_text};
-ghost use Rattle.sgf_lines.specs.inner.Pieces.{no_pieces, pushed, closed, cut};
+ghost use Rattle.sgf_lines.specs.inner.Following.{nodes_before};
+ghost use Rattle.sgf_lines.specs.inner.Pieces.{no_pieces, pushed, closed, longer, cut};
 
-use sgf_tree::{MemoryFault, NodeRef};
+use crate::cursor::Cursor;
+use sgf_tree::MemoryFault;
 use std::alloc::Global;
 use std::marker::Model;
 
@@ -46,12 +48,18 @@ impl Pieces {
         self.ends.len()
     }
 
-    /// Appends a node as the sgf form writes it.
-    pub(crate) fn push_node(&mut self, node: &NodeRef<'_, '_>) -> Result<(), MemoryFault>
-        ensures pushed { OnOk result (self.new ≡ pushed self.old (node_text node.now)) }
+    /// Appends a piece for each node of the line before a cursor from an index on, as the sgf form writes it.
+    pub(crate) fn push_nodes(
+        &mut self,
+        cursor: &Cursor<'_, '_>,
+        from: usize,
+    ) -> Result<(), MemoryFault>
+        requires within { from ≤ length (nodes_before cursor.now) }
+        requires nothing_begun { self.old.begun ≡ [] }
+        ensures pushed { OnOk result (self.new ≡ longer self.old (map node_text (drop from (nodes_before cursor.now)))) }
         ensures unchanged { OnErr result (self.new ≡ self.old) }
     {
-        node.push_to(&mut self.text)?;
+        cursor.push_nodes(from, &mut self.text, &mut self.ends)?;
         Ok(())
     }
 

@@ -21,16 +21,14 @@ pub(crate) fn follow(
     requires keeps { 0 < held → cut (held + 1) kept.old ≡ open_record (take held (nodes_before cursor.now)) }
     ensures { OnOk result (kept.new ≡ whole_record (nodes_before cursor.now)) }
 {
-    let end = cursor.len();
+    // A line has fewer nodes than there are numbers.
+    let _nodes = cursor.len();
     if held == 0 {
         begin(kept)?;
     } else {
         kept.cut_back(held + 1);
     }
-    for index in held..end {
-        kept.push_node(&cursor.node(index))?;
-        kept.close()?;
-    }
+    kept.push_nodes(cursor, held)?;
     kept.push(b")\n")
 }
 

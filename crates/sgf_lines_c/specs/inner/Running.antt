@@ -1,7 +1,5 @@
--- What the parts of a split, a count and a judge do.
-use Rattle.std.specs.Prelude.{◌≡◌, ◌≢◌, ℕ, ◌<◌, ◌≤◌, List, ◌++◌, length, drop, Option, Some, None}
-use Rattle.sgf_tree.specs.Tree.{Games, node_count}
-use Rattle.sgf_tree.specs.FileOrder.{place_at, IsLeaf}
+-- What the parts of a split and a count do.
+use Rattle.std.specs.Prelude.{◌≡◌, ℕ, ◌<◌, ◌≤◌, List, ◌++◌, length, drop}
 use Rattle.sgf_tree.specs.Refusal.{IsFaultyAt}
 use Rattle.sgf_lines.specs.Answer.{MAX_LENGTH, HasNoLine}
 use Rattle.sgf_lines.specs.declared.fault.RunFault.{RunFault}
@@ -36,8 +34,3 @@ Puts bytes old new TooLong = ⊥
 Puts bytes old new NoSuchLine = ⊥
 Puts bytes old new UnknownForm = ⊥
 Puts bytes old new OutOfMemory = ⊥
-
--- a leaf with this place; None if no leaf has it
-abbrev pub IsLeafAt : Games → ℕ → Option ℕ → Type 0
-IsLeafAt games place (Some leaf) = (leaf < node_count games) × IsLeaf games leaf × (place_at games leaf ≡ Some place)
-IsLeafAt games place None = (leaf : ℕ) → IsLeaf games leaf → place_at games leaf ≢ Some place

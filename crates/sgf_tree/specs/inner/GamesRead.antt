@@ -4,7 +4,7 @@ use Rattle.sgf_tree.specs.Tree.{Games, no_games, game, game_count, node_count}
 use Rattle.sgf_tree.specs.Spelling.{is_white_space}
 use Rattle.sgf_tree.specs.FileOrder.{OrderedNode, further_nodes, nodes_from, game_of}
 use Rattle.sgf_tree.specs.inner.Machine.{OpenGame, Stack, MachineState, opened, after_game, between_games, next_state, accepted}
-use Rattle.sgf_tree.specs.inner.Layout.{parent_by, opens_by, outline, outlines_by}
+use Rattle.sgf_tree.specs.inner.Layout.{parent_by, opens_by, outline, outlines_by, AreBeside}
 use Rattle.sgf_tree.specs.inner.Progress.{ComesTo, IsTrueFault}
 use Rattle.sgf_tree.specs.inner.PropertiesRead.{ArePropertiesRead}
 use Rattle.sgf_tree.specs.declared.layout.Link.{Link}
@@ -56,13 +56,14 @@ pub record HoldStack (text : List ℕ) (stack : Stack) (nodes : List NodeEntry) 
   pub same_order : map outline (open_nodes stack.closed stack.unclosed) ≡ outlines_by 0 nodes
   pub same_lasts : open_lasts stack.closed stack.unclosed ≡ map (λ (n : NodeEntry). n.last_below) nodes
   pub places_within : All (λ (n : NodeEntry). n.place < length text) nodes
+  pub beside : AreBeside text nodes
   pub roots : (node_number : ℕ) (entry : NodeEntry) (game_number : ℕ) → slice_get nodes node_number ≡ Some entry → entry.link ≡ Root game_number → IsRootOf stack.closed node_number game_number
 
 -- the link of the first node of a game that begins when the machine has this stack
 abbrev pub IsOpening : Stack → Link → Type 0
 IsOpening stack (Root game_number) = (stack.unclosed ≡ []) × (game_number ≡ game_count stack.closed + 1)
 IsOpening stack (Variation parent) = tip stack.closed stack.unclosed ≡ Some parent
-IsOpening stack Next = ⊥
+IsOpening stack (Next beside) = ⊥
 
 -- the machine has the games of the stack, and a `(`, a `)` or the end of the text may come next
 pub record StandsBetween (text : List ℕ) (at : ℕ) (stack : Stack) : Type 0 where

@@ -1,9 +1,10 @@
 -- How a flat vector holds the collection that a text spells. The properties of a node are read from the text again.
-use Rattle.std.specs.Prelude.{◌≡◌, ℕ, ◌+◌, ◌-◌, ◌<◌, ◌≤◌, Bool, true, false, List, [], ◌∷◌, length, map, All, slice_get, Option, Some, None, unwrap_or}
+use Rattle.std.specs.Prelude.{◌≡◌, ℕ, ◌+◌, ◌-◌, ◌<◌, ◌≤◌, Bool, true, false, List, [], ◌∷◌, length, map, All, get_or, slice_get, Option, Some, None, unwrap_or}
 use Rattle.sgf_tree.specs.Tree.{Games, no_games, game_count}
 use Rattle.sgf_tree.specs.FileOrder.{OrderedNode, ordered_nodes, game_of, IsLastBelow}
 use Rattle.sgf_tree.specs.Spelling.{Spells}
 use Rattle.sgf_tree.specs.inner.Machine.{collection_of}
+use Rattle.sgf_tree.specs.inner.NodeText.{IsNodeWritten}
 use Rattle.sgf_tree.specs.declared.fault.TheConstants.{MAX_LENGTH}
 use Rattle.sgf_tree.specs.declared.layout.Link.{Link}
 use Rattle.sgf_tree.specs.declared.layout.Link.TheVariants.{Root, Variation, Next}
@@ -17,13 +18,13 @@ games_in text = unwrap_or (collection_of text) no_games
 abbrev pub parent_by : Link → ℕ → Option ℕ
 parent_by (Root game) number = None
 parent_by (Variation parent) number = Some parent
-parent_by Next number = Some (number - 1)
+parent_by (Next beside) number = Some (number - 1)
 
 -- whether the link is for the first node after a `(`
 abbrev pub opens_by : Link → Bool
 opens_by (Root game) = true
 opens_by (Variation parent) = true
-opens_by Next = false
+opens_by (Next beside) = false
 
 -- an ordered node without its properties
 pub record Outline : Type 0 where
@@ -43,6 +44,12 @@ abbrev pub outlines_by : ℕ → List NodeEntry → List Outline
 outlines_by number [] = []
 outlines_by number (entry ∷ rest) = outline_by number entry ∷ outlines_by (number + 1) rest
 
+-- each node that is said to be beside the one before it stands where that one ends, as the sgf form writes it
+abbrev pub AreBeside : List ℕ → List NodeEntry → Type 0
+AreBeside text nodes =
+    (number : ℕ) (default : NodeEntry) → number + 1 < length nodes → (get_or nodes (number + 1) default).link ≡ Next true
+    → IsNodeWritten text (get_or nodes number default).place (get_or nodes (number + 1) default).place
+
 -- the entries hold the collection that the text spells
 pub record IsLaidOut (text : List ℕ) (games : ℕ) (nodes : List NodeEntry) : Type 0 where
   pub short : length text ≤ MAX_LENGTH
@@ -52,3 +59,4 @@ pub record IsLaidOut (text : List ℕ) (games : ℕ) (nodes : List NodeEntry) : 
   pub games_numbered : (number : ℕ) (entry : NodeEntry) (game_number : ℕ) → slice_get nodes number ≡ Some entry → entry.link ≡ Root game_number → game_of (games_in text) number ≡ game_number
   pub last_known : (number : ℕ) (entry : NodeEntry) → slice_get nodes number ≡ Some entry → IsLastBelow (games_in text) number entry.last_below
   pub places_within : All (λ (n : NodeEntry). n.place < length text) nodes
+  pub beside : AreBeside text nodes

@@ -1,11 +1,11 @@
 -- The properties and the raw values at the front of a text, as functions, so that they can be the view of a part of the text.
 -- `ArePropertiesIn` and `AreValuesIn` tie them to the grammar.
-use Rattle.std.specs.Prelude.{◌≡◌, ◌≢◌, ℕ, zero, suc, ◌+◌, ◌<◌, ◌≤◌, Bool, false, ◌||◌, ◌==◌, if◌then◌else◌, List, [], ◌∷◌, ◌++◌, length, drop, slice_range, filter, IsTrue, Option, None, Some}
+use Rattle.std.specs.Prelude.{◌≡◌, ◌≢◌, ℕ, zero, suc, ◌+◌, ◌<◌, ◌≤◌, Bool, false, ◌||◌, ◌==◌, if◌then◌else◌, List, [], ◌∷◌, ◌++◌, length, drop, slice_range, filter, map, IsTrue, Option, None, Some}
 use Rattle.std.specs.List.{flat_map}
 use Rattle.sgf_tree.specs.Bytes.{semicolon, open_bracket, backslash, close_bracket}
-use Rattle.sgf_tree.specs.Tree.{Property}
+use Rattle.sgf_tree.specs.Tree.{Property, Node}
 use Rattle.sgf_tree.specs.Spelling.{WhiteSpace, is_white_space, is_upper, is_lower, IsPropValue, ArePropValues, IsProperty, AreProperties}
-use Rattle.sgf_tree.specs.Written.{value_text, property_text}
+use Rattle.sgf_tree.specs.Written.{value_text, property_text, node_text, ends_from}
 
 -- a letter of an identifier
 abbrev pub is_letter : ℕ → Bool
@@ -177,3 +177,22 @@ pub record ArePropertiesWritten (whole_text : List ℕ) (from end : ℕ) : Type 
   pub within : end ≤ length whole_text
   pub left : ArePropertiesIn (drop end whole_text)
   pub front : IsWrittenFront (properties_in (drop from whole_text)) (properties_in (drop end whole_text)) (slice_range whole_text from end)
+
+-- nodes were appended to a text as the sgf form writes them, and where each of them ends to other ends
+pub record ArePushed (nodes : List Node) (old new ends new_ends : List ℕ) : Type 0 where
+  pub text : new ≡ old ++ flat_map node_text nodes
+  pub ends_are : new_ends ≡ ends ++ ends_from (length old) (map node_text nodes)
+
+-- properties stand from one offset to another as the sgf form writes them
+pub record AreWritten (whole_text : List ℕ) (from end : ℕ) : Type 0 where
+  pub rises : from ≤ end
+  pub within : end ≤ length whole_text
+  pub properties : List Property
+  pub spelled : AreProperties properties (drop from whole_text) (drop end whole_text)
+  pub text : slice_range whole_text from end ≡ flat_map property_text properties
+
+-- and so does the node whose `;` stands at `place`
+pub record IsNodeWritten (whole_text : List ℕ) (place end : ℕ) : Type 0 where
+  pub rises : place < end
+  pub within : end ≤ length whole_text
+  pub text : slice_range whole_text place end ≡ node_text (record { place = place; properties = properties_in (drop 1 (drop place whole_text)) })

@@ -38,6 +38,11 @@ pub record ArePlain (text : List ℕ) (at end : ℕ) : Type 0 where
 abbrev pub HasNoBracket : List ℕ → ℕ → ℕ → Type 0
 HasNoBracket text at end = (index : ℕ) → at ≤ index → index < end → slice_index text index ≢ close_bracket
 
+-- a `[` stands at `at`
+pub record IsBracket (text : List ℕ) (at : ℕ) : Type 0 where
+  pub within : at < length text
+  pub bracket : slice_index text at ≡ open_bracket
+
 -- the first `]` from `at` on is at `end`
 pub record IsNextBracket (text : List ℕ) (at end : ℕ) : Type 0 where
   pub rises : at ≤ end

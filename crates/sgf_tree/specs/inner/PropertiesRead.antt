@@ -4,7 +4,7 @@ use Rattle.sgf_tree.specs.Bytes.{open_bracket}
 use Rattle.sgf_tree.specs.Tree.{Property}
 use Rattle.sgf_tree.specs.Spelling.{is_white_space}
 use Rattle.sgf_tree.specs.inner.Machine.{Started, MachineState, in_node, in_name, in_value, after_value, after_node, ended, next_state, accepted}
-use Rattle.sgf_tree.specs.inner.Progress.{ComesTo, IsTrueFault}
+use Rattle.sgf_tree.specs.inner.Progress.{ComesTo, IsTrueFault, IsBracket}
 use Rattle.sgf_tree.specs.declared.reader.fault.PartFault.{PartFault}
 
 -- the byte at `end`, if there is one, is neither white space nor `[`
@@ -18,6 +18,13 @@ pub record AreValuesRead (text : List ℕ) (bracket end : ℕ) : Type 0 where
   pub stops : StopsValues text end
   pub reached : (node : Started) (name : List ℕ) → ComesTo text (bracket + 1) (in_value node name [] [])
       → (property : Property) × ComesTo text end (after_value node property)
+
+-- the identifier that begins at `start` was read up to a `[`
+pub record IsNameRead (text : List ℕ) (start bracket : ℕ) : Type 0 where
+  pub rises : start < bracket
+  pub stands : IsBracket text bracket
+  pub reached : (node : Started) → ComesTo text (start + 1) (in_name node (slice_index text start ∷ []))
+      → (name : List ℕ) × ComesTo text (bracket + 1) (in_value node name [] [])
 
 -- the property whose identifier begins at `start` was read up to `end`
 pub record IsPropertyRead (text : List ℕ) (start end : ℕ) : Type 0 where

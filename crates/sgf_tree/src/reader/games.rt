@@ -1,10 +1,11 @@
 //! Reading nodes and games.
 
-ghost use Rattle.std.specs.Prelude.{◌≡◌, ◌<◌, ◌≤◌, ◌+◌, ℕ, [], length, IfOk, IfErr, OnOk};
+ghost use Rattle.std.specs.Prelude.{◌≡◌, ◌<◌, ◌≤◌, ◌+◌, ℕ, [], length, IsTrue, IfOk, IfErr, OnOk};
 ghost use Rattle.sgf_tree.specs.Tree.{no_games, game_count};
 ghost use Rattle.sgf_tree.specs.inner.Machine.{Stack};
 ghost use Rattle.sgf_tree.specs.inner.Progress.{IsTrueFault};
 ghost use Rattle.sgf_tree.specs.inner.KeptEnds.{AreKeptEnds};
+ghost use Rattle.sgf_tree.specs.inner.NodeText.{AreWritten};
 ghost use Rattle.sgf_tree.specs.inner.PropertiesRead.{IsFaultInNode};
 ghost use Rattle.sgf_tree.specs.inner.GamesRead.{tip, IsOpening, AreOwnNodes, ClosesGame};
 ghost use Rattle.sgf_tree.specs.inner.GamesRead.{StandsBetween, IsNodeRead, ReadsSequence, ReadsWhole, IsFaultInSequence};
@@ -12,7 +13,7 @@ ghost use Rattle.sgf_tree.specs.inner.GamesRead.{StandsBetween, IsNodeRead, Read
 use crate::fault::MAX_LENGTH;
 use crate::layout::{Link, LongValue, NodeEntry};
 use crate::reader::fault::PartFault;
-use crate::reader::properties::{ends_at_once, read_properties};
+use crate::reader::properties::{PartRead, ends_at_once, read_properties};
 use crate::reader::scan::skip_white_space;
 
 /// Reads all games; the first `(` may be at `at`. Returns the number of games.
@@ -95,14 +96,15 @@ fn read_sequence(
     if place == text.len() || text[place] != b';' {
         return Err(PartFault::NotSgf(place));
     }
-    let mut end = read_node(text, place, link, nodes, long)?;
-    'nodes: while end < text.len() && text[end] == b';' {
-        end = read_node(text, end, Link::Next, nodes, long)?;
+    let mut read = read_node(text, place, link, nodes, long)?;
+    'nodes: while read.end < text.len() && text[read.end] == b';' {
+        let beside = read.is_written;
+        read = read_node(text, read.end, Link::Next { beside }, nodes, long)?;
     }
-    Ok(end)
+    Ok(read.end)
 }
 
-/// Reads the node whose `;` is at `place`. Returns the offset after the node and the white space there.
+/// Reads the node whose `;` stands at `place`.
 #[inline(always)]
 fn read_node(
     text: &[u8],
@@ -110,17 +112,21 @@ fn read_node(
     link: Link,
     nodes: &mut Vec<NodeEntry>,
     long: &mut Vec<LongValue>,
-) -> Result<usize, PartFault>
+) -> Result<PartRead, PartFault>
     requires short { length text.now ≤ MAX_LENGTH }
     requires within { place < length text.now }
     requires room { length nodes.old.items ≤ place }
     requires kept { AreKeptEnds text.now long.old.items }
-    ensures read { IfOk result (λ end. IsNodeRead text.now place end link nodes.old.items nodes.new.items) }
+    ensures read { IfOk result (λ read. IsNodeRead text.now place read.end link nodes.old.items nodes.new.items) }
+    ensures written { IfOk result (λ read. IsTrue read.is_written → AreWritten text.now (place + 1) read.end) }
     ensures fault { IfErr result (IsFaultInNode text.now (place + 1)) }
     ensures kept { OnOk result (AreKeptEnds text.now long.new.items) }
 {
-    let end = if ends_at_once(text, place + 1) {
-        place + 1
+    let read = if ends_at_once(text, place + 1) {
+        PartRead {
+            end: place + 1,
+            is_written: true,
+        }
     } else {
         read_properties(text, place + 1, long)?
     };
@@ -129,7 +135,7 @@ fn read_node(
         link,
         last_below: 0,
     })?;
-    Ok(end)
+    Ok(read)
 }
 
 /// Notes in the own nodes of a game that the last node of all is the last one below them.
@@ -149,7 +155,7 @@ fn close_game(nodes: &mut Vec<NodeEntry>, tip: u32) -> Option<u32>
         match node.link {
             Link::Root(_) => return None,
             Link::Variation(parent) => return Some(parent),
-            Link::Next => at -= 1,
+            Link::Next { .. } => at -= 1,
         }
     }
 }

@@ -1,14 +1,16 @@
 //! Reading the properties of a node.
 
-ghost use Rattle.std.specs.Prelude.{◌≡◌, ◌<◌, ◌≤◌, length, slice_index, IsTrue, IfOk, IfErr, OnOk};
+ghost use Rattle.std.specs.Prelude.{◌≡◌, ◌<◌, ◌≤◌, false, length, slice_index, IsTrue, IfOk, IfErr, OnOk};
 ghost use Rattle.sgf_tree.specs.Spelling.{is_upper};
-ghost use Rattle.sgf_tree.specs.inner.PropertiesRead.{IsPropertyRead, ArePropertiesRead, IsFaultInProperty, IsFaultInNode};
+ghost use Rattle.sgf_tree.specs.inner.Progress.{IsSpan};
+ghost use Rattle.sgf_tree.specs.inner.NodeText.{IsPropertyWritten, AreWritten};
+ghost use Rattle.sgf_tree.specs.inner.PropertiesRead.{IsNameRead, IsPropertyRead, ArePropertiesRead, IsFaultInProperty, IsFaultInNode};
 ghost use Rattle.sgf_tree.specs.inner.KeptEnds.{AreKeptEnds};
 
 use crate::fault::MAX_LENGTH;
 use crate::layout::LongValue;
 use crate::reader::fault::PartFault;
-use crate::reader::scan::{identifier_end, skip_to_bracket, skip_white_space};
+use crate::reader::scan::{letters_end, short_name_end, skip_white_space};
 use crate::reader::value::read_value;
 
 /// Whether the node before `at` has no properties, because the byte there ends the node, as a `;` or a parenthesis does. This is
@@ -23,49 +25,104 @@ pub(crate) fn ends_at_once(text: &[u8], at: usize) -> bool
     false
 }
 
-/// Reads the properties of a node, which begin at `at` or after white space
-/// there. Returns the offset after them and the white space there.
+/// How far a part of a text was read.
+#[derive(Clone, Copy)]
+pub(crate) struct PartRead {
+    /// The offset of the byte after it and the white space there.
+    pub end: usize,
+    /// Whether the text up to there is what the sgf form writes for it. Where it is not set, nothing is known.
+    pub is_written: bool,
+}
+
+/// Reads the properties of a node, which begin at `at` or after white space there.
 #[inline(never)]
 pub(crate) fn read_properties(
     text: &[u8],
     at: usize,
     long: &mut Vec<LongValue>,
-) -> Result<usize, PartFault>
+) -> Result<PartRead, PartFault>
     requires short { length text.now ≤ MAX_LENGTH }
     requires within { at ≤ length text.now }
     requires kept { AreKeptEnds text.now long.old.items }
-    ensures read { IfOk result (ArePropertiesRead text.now at) }
+    ensures read { IfOk result (λ read. ArePropertiesRead text.now at read.end) }
+    ensures written { IfOk result (λ read. IsTrue read.is_written → AreWritten text.now at read.end) }
     ensures fault { IfErr result (IsFaultInNode text.now at) }
     ensures kept { OnOk result (AreKeptEnds text.now long.new.items) }
 {
     let mut end = skip_white_space(text, at);
+    let mut is_written = end == at;
     'properties: while end < text.len() && text[end].is_ascii_uppercase() {
-        end = read_property(text, end, long)?;
+        let property = read_property(text, end, long)?;
+        is_written &= property.is_written;
+        end = property.end;
     }
-    Ok(end)
+    Ok(PartRead { end, is_written })
 }
 
-/// Reads the property whose identifier begins at `start`, value after
-/// value. Returns the offset after it and the white space there.
-fn read_property(text: &[u8], start: usize, long: &mut Vec<LongValue>) -> Result<usize, PartFault>
+/// Reads the property whose identifier begins at `start`, value after value.
+fn read_property(
+    text: &[u8],
+    start: usize,
+    long: &mut Vec<LongValue>,
+) -> Result<PartRead, PartFault>
     requires short { length text.now ≤ MAX_LENGTH }
     requires within { start < length text.now }
     requires capital { IsTrue (is_upper (slice_index text.now start)) }
     requires kept { AreKeptEnds text.now long.old.items }
-    ensures read { IfOk result (IsPropertyRead text.now start) }
+    ensures read { IfOk result (λ read. IsPropertyRead text.now start read.end) }
+    ensures written { IfOk result (λ read. IsTrue read.is_written → IsPropertyWritten text.now start read.end) }
     ensures fault { IfErr result (IsFaultInProperty text.now start) }
     ensures kept { OnOk result (AreKeptEnds text.now long.new.items) }
 {
-    let bracket = skip_to_bracket(text, identifier_end(text, start));
-    if bracket == text.len() || text[bracket] != b'[' {
-        return Err(PartFault::NotSgf(bracket));
-    }
-    let mut at = bracket;
+    let name = read_name(text, start)?;
+    let mut at = name.end;
+    let mut is_written = name.is_written;
     'values: loop {
-        let end = read_value(text, at + 1, long)?;
-        at = skip_white_space(text, end + 1);
+        let end = read_value(text, at + 1, long)? + 1;
+        at = skip_white_space(text, end);
+        is_written &= at == end;
         if at == text.len() || text[at] != b'[' {
-            return Ok(at);
+            return Ok(PartRead {
+                end: at,
+                is_written,
+            });
         }
     }
+}
+
+/// Reads the identifier that begins at `start`, up to the `[` after it.
+#[inline(always)]
+fn read_name(text: &[u8], start: usize) -> Result<PartRead, PartFault>
+    requires within { start < length text.now }
+    requires capital { IsTrue (is_upper (slice_index text.now start)) }
+    ensures read { IfOk result (λ read. IsNameRead text.now start read.end) }
+    ensures written { IfOk result (λ read. IsTrue read.is_written → IsSpan is_upper text.now start read.end) }
+    ensures fault { IfErr result (IsFaultInProperty text.now start) }
+{
+    match short_name_end(text, start) {
+        Some(end) => Ok(PartRead {
+            end,
+            is_written: true,
+        }),
+        None => read_far_name(text, start),
+    }
+}
+
+/// Reads an identifier that may have small letters, and white space after it.
+#[inline(never)]
+fn read_far_name(text: &[u8], start: usize) -> Result<PartRead, PartFault>
+    requires within { start < length text.now }
+    requires capital { IsTrue (is_upper (slice_index text.now start)) }
+    ensures read { IfOk result (λ read. IsNameRead text.now start read.end) }
+    ensures written { IfOk result (λ read. read.is_written ≡ false) }
+    ensures fault { IfErr result (IsFaultInProperty text.now start) }
+{
+    let end = skip_white_space(text, letters_end(text, start));
+    if end == text.len() || text[end] != b'[' {
+        return Err(PartFault::NotSgf(end));
+    }
+    Ok(PartRead {
+        end,
+        is_written: false,
+    })
 }

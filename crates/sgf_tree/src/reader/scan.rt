@@ -3,7 +3,7 @@
 ghost use Rattle.std.specs.Prelude.{◌≡◌, ◌≤◌, ◌<◌, length, drop, slice_index, slice_range, IsTrue, IfSome};
 ghost use Rattle.sgf_tree.specs.Spelling.{is_white_space, is_upper};
 ghost use Rattle.sgf_tree.specs.inner.NodeText.{is_letter};
-ghost use Rattle.sgf_tree.specs.inner.Progress.{IsSpan, IsNodeEnd, IsPropertyEnd, IsShortFront, IsLoneNode, IsLoneFront};
+ghost use Rattle.sgf_tree.specs.inner.Progress.{IsSpan, IsBracket, IsNodeEnd, IsPropertyEnd, IsShortFront, IsLoneNode, IsLoneFront};
 
 use crate::reader::value::is_two_plain;
 
@@ -70,11 +70,12 @@ pub(crate) fn identifier_end(text: &[u8], at: usize) -> usize
 /// The end of the name whose first capital is at `at`. It is found if the name has one or two
 /// letters, as nearly all have, and a `[` follows. If it is None, nothing is known.
 #[inline(always)]
-fn short_name_end(text: &[u8], at: usize) -> Option<usize>
+pub(crate) fn short_name_end(text: &[u8], at: usize) -> Option<usize>
     requires within { at < length text.now }
     requires capital { IsTrue (is_upper (slice_index text.now at)) }
     ensures letters { IfSome result (IsSpan is_letter text.now at) }
     ensures capitals { IfSome result (IsSpan is_upper text.now at) }
+    ensures bracket { IfSome result (IsBracket text.now) }
 {
     if text.len() - at > 2 {
         if text[at + 1] == b'[' {
@@ -88,7 +89,7 @@ fn short_name_end(text: &[u8], at: usize) -> Option<usize>
 }
 
 /// The end of the letters at `at`.
-fn letters_end(text: &[u8], at: usize) -> usize
+pub(crate) fn letters_end(text: &[u8], at: usize) -> usize
     requires { at ≤ length text.now }
     ensures { IsSpan is_letter text.now at result }
 {

@@ -29,6 +29,7 @@ pub(crate) fn read_value(
     requires within { at ≤ length text.now }
     requires kept { AreKeptEnds text.now long.old.items }
     ensures read { IfOk result (IsValueEnd text.now at) }
+    ensures spelled { IfOk result (SpellsValue text.now at) }
     ensures fault { IfErr result (IsFaultInValue text.now at) }
     ensures kept { OnOk result (AreKeptEnds text.now long.new.items) }
 {
@@ -45,6 +46,7 @@ fn read_far_value(text: &[u8], at: usize, long: &mut Vec<LongValue>) -> Result<u
     requires within { at ≤ length text.now }
     requires kept { AreKeptEnds text.now long.old.items }
     ensures read { IfOk result (IsValueEnd text.now at) }
+    ensures spelled { IfOk result (SpellsValue text.now at) }
     ensures fault { IfErr result (IsFaultInValue text.now at) }
     ensures kept { OnOk result (AreKeptEnds text.now long.new.items) }
 {

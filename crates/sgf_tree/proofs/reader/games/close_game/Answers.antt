@@ -1,4 +1,4 @@
-use Rattle.std.proofs.Common.{◌≡◌, ℕ, ◌+◌, ◌-◌, ◌<◌, ◌≤◌, length, set, subst, arith}
+use Rattle.std.proofs.Common.{◌≡◌, ℕ, Bool, ◌+◌, ◌-◌, ◌<◌, ◌≤◌, length, set, subst, arith}
 use Rattle.sgf_tree.specs.declared.layout.NodeEntry.{NodeEntry}
 use Rattle.sgf_tree.specs.declared.layout.Link.TheVariants.{Next}
 use Rattle.sgf_tree.specs.inner.GamesRead.{AreOwnNodes}
@@ -36,7 +36,7 @@ returns-in-Variation c first own =
     (parent-link old c.own.nodes.items c.args.tip (at + 1) at c.index_mut-node.result.now _ c.own.invariant.lasts lt c.index_mut-node.ensures.value c.in-Variation.is)
 
 -- where its link says so, there is an own node before it
-after-another : (c : After-index_mut-node) → c.index_mut-node.result.now.link ≡ Next → 1 ≤ c.own.at
+after-another : (c : After-index_mut-node) {beside : Bool} → c.index_mut-node.result.now.link ≡ Next beside → 1 ≤ c.own.at
 after-another c is =
     let old = c.args.nodes.now.items in
     let at = c.own.at in

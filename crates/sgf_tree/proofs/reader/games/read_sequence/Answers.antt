@@ -14,56 +14,57 @@ returns-then-place-text-clause-fault c k after held opening =
     ] in
     place-faulty t c.args.at place k c.skip_white_space-place.ensures after other
 
-pub returns-in_err-end-clause-fault : goal.returns-in_err-end-clause-fault
-returns-in_err-end-clause-fault c =
+pub returns-in_err-read-clause-fault : goal.returns-in_err-read-clause-fault
+returns-in_err-read-clause-fault c =
     let p = err_from_is_err_and c.from_residual.result c.from_residual.ensures.1 in
     let t = c.args.text.now in
     let place = c.skip_white_space-place.result in
     let lt : place < length t = omega (arith, c.skip_white_space-place.ensures.within) in
     rw (p.1, p.2)
     (λ k after held opening.
-    c.in_err-end.ensures.fault _ refl (place-node t c.args.at place k c.skip_white_space-place.ensures after lt c.if-text-place-ne59.false))
+    c.in_err-read.ensures.fault _ refl (place-node t c.args.at place k c.skip_white_space-place.ensures after lt c.if-text-place-ne59.false))
 
 pub nodes-init : goal.nodes-init
 nodes-init c =
     let t = c.args.text.now in
     let place = c.skip_white_space-place.result in
     let lt : place < length t = omega (arith, c.skip_white_space-place.ensures.within) in
-    let read = c.in_ok-end.ensures.read in
+    let read = c.in_ok-read.ensures.read in
     record {
       rises = omega (arith, c.skip_white_space-place.ensures.rises, read.properties.rises);
       within = read.properties.within;
-      room = node-room t place c.in_ok-end.end c.args.link _ _ (omega (arith, c.requires.room, c.skip_white_space-place.ensures.rises)) read;
+      room = node-room t place c.in_ok-read.read.end c.args.link _ _ (omega (arith, c.requires.room, c.skip_white_space-place.ensures.rises)) read;
       so_far = λ k after held opening.
-          sequence-first t c.args.at place c.in_ok-end.end k c.args.link _ _ c.skip_white_space-place.ensures after held opening lt c.if-text-place-ne59.false read;
-      kept = c.in_ok-end.ensures.kept;
+          sequence-first t c.args.at place c.in_ok-read.read.end c.in_ok-read.read.is_written k c.args.link _ _ c.skip_white_space-place.ensures after held opening lt c.if-text-place-ne59.false read c.in_ok-read.ensures.written;
+      kept = c.in_ok-read.ensures.kept;
     }
 
-pub returns-in_err-end-2-clause-fault : goal.returns-in_err-end-2-clause-fault
-returns-in_err-end-2-clause-fault c =
-    let p = err_from_is_err_and c.from_residual-in_err-end-2.result c.from_residual-in_err-end-2.ensures.1 in
+pub returns-in_err-read-2-clause-fault : goal.returns-in_err-read-2-clause-fault
+returns-in_err-read-2-clause-fault c =
+    let p = err_from_is_err_and c.from_residual-in_err-read-2.result c.from_residual-in_err-read-2.ensures.1 in
     rw (p.1, p.2)
     (λ k after held opening.
-    let node = sequence-node c.args.text.now c.nodes.end k _ (c.nodes.invariant.so_far k after held opening) c.nodes-test.true c.if-text-end-eq59.true in
-    c.in_err-end-2.ensures.fault node.0 node.1.0 node.1.1)
+    let node = sequence-node c.args.text.now c.nodes.read.end c.nodes.read.is_written k _ (c.nodes.invariant.so_far k after held opening) c.nodes-test.true c.if-text-read-eq59.true in
+    c.in_err-read-2.ensures.fault node.0 node.1.0 node.1.1)
 
 pub nodes-preserved : goal.nodes-preserved
 nodes-preserved c =
     let t = c.args.text.now in
-    let read = c.in_ok-end-2.ensures.read in
+    let read = c.in_ok-read-2.ensures.read in
     record {
       rises = omega (arith, c.nodes.invariant.rises, read.properties.rises);
       within = read.properties.within;
-      room = node-room t c.nodes.end c.in_ok-end-2.end _ _ _ c.nodes.invariant.room read;
+      room = node-room t c.nodes.read.end c.in_ok-read-2.read.end _ _ _ c.nodes.invariant.room read;
       so_far = λ k after held opening.
-          sequence-next t c.nodes.end c.in_ok-end-2.end k _ _ (c.nodes.invariant.so_far k after held opening) c.nodes-test.true c.if-text-end-eq59.true read;
-      kept = c.in_ok-end-2.ensures.kept;
+          sequence-next t c.nodes.read.end c.in_ok-read-2.read.end c.nodes.read.is_written c.in_ok-read-2.read.is_written k _ _ (c.nodes.invariant.so_far k after held opening) c.nodes-test.true c.if-text-read-eq59.true read
+          c.in_ok-read-2.ensures.written;
+      kept = c.in_ok-read-2.ensures.kept;
     }
 
-pub returns-else-text-end-eq59-clause-read : goal.returns-else-text-end-eq59-clause-read
-returns-else-text-end-eq59-clause-read c k after held opening =
-    sequence-done c.args.text.now c.nodes.end k _ (c.nodes.invariant.so_far k after held opening) (λ _. c.if-text-end-eq59.false)
+pub returns-else-text-read-eq59-clause-read : goal.returns-else-text-read-eq59-clause-read
+returns-else-text-read-eq59-clause-read c k after held opening =
+    sequence-done c.args.text.now c.nodes.read.end c.nodes.read.is_written k _ (c.nodes.invariant.so_far k after held opening) (λ _. c.if-text-read-eq59.false)
 
 pub returns-after-nodes-clause-read : goal.returns-after-nodes-clause-read
 returns-after-nodes-clause-read c k after held opening =
-    sequence-done c.args.text.now c.nodes.end k _ (c.nodes.invariant.so_far k after held opening) (λ lt. absurd (omega (arith, c.nodes-test.false)))
+    sequence-done c.args.text.now c.nodes.read.end c.nodes.read.is_written k _ (c.nodes.invariant.so_far k after held opening) (λ lt. absurd (omega (arith, c.nodes-test.false)))

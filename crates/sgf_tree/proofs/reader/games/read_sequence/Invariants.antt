@@ -8,13 +8,13 @@ use Rattle.sgf_tree.proofs.reader.games.read_sequence.Given as goal
 
 abbrev pub invariant-nodes : goal.invariant-nodes
 invariant-nodes l = record {
-  rises : l.at ≤ l.end;
-  within : l.end ≤ length l.text;
-  room : length l.nodes.items ≤ l.end;
+  rises : l.at ≤ l.read.end;
+  within : l.read.end ≤ length l.text;
+  room : length l.nodes.items ≤ l.read.end;
   so_far : (k : Stack) → ComesTo l.text l.at (opened k) → HoldStack l.text k l.fn.nodes.items → IsOpening k l.fn.link
-      → SequenceSoFar l.text l.end k l.nodes.items;
+      → SequenceSoFar l.text l.read.end l.read.is_written k l.nodes.items;
   kept : AreKeptEnds l.text l.long.items;
 }
 
 abbrev pub decreases-nodes : goal.decreases-nodes
-decreases-nodes l = length l.text - l.end
+decreases-nodes l = length l.text - l.read.end

@@ -1,27 +1,33 @@
 use Rattle.std.proofs.Common.{◌∙◌, sym, arith}
+use Rattle.std.proofs.lemmas.Bool.{and_parts, eqb-true}
 use Rattle.std.proofs.lemmas.Result.{err_from_is_err_and}
 use Rattle.sgf_tree.proofs.NodeEnds.{node-name, properties-begin, properties-more, properties-done}
+use Rattle.sgf_tree.proofs.WrittenParts.{written-none, written-more}
 use Rattle.sgf_tree.proofs.reader.properties.read_properties.Goals as goal
 
 pub properties-init : goal.properties-init
 properties-init c = record {
   so_far = properties-begin c.args.text.now c.args.at c.skip_white_space-end.result c.skip_white_space-end.ensures;
+  written = λ is. rw (eqb-true c.skip_white_space-end.result c.args.at is) (written-none c.args.text.now c.args.at c.requires.within);
   kept = c.requires.kept;
 }
 
-pub returns-in_err-end-clause-fault : goal.returns-in_err-end-clause-fault
-returns-in_err-end-clause-fault c =
+pub returns-in_err-property-clause-fault : goal.returns-in_err-property-clause-fault
+returns-in_err-property-clause-fault c =
     let p = err_from_is_err_and c.from_residual.result c.from_residual.ensures.1 in
     let capital = sym c.is_ascii_uppercase.ensures.value ∙ c.if-is_ascii_uppercase.true in
     rw (p.1, p.2)
-    (λ n none h. c.in_err-end.ensures.fault _ (node-name c.args.text.now c.properties.end _ (c.properties.invariant.so_far.reached n none h).1 c.properties-test.true capital))
+    (λ n none h. c.in_err-property.ensures.fault _ (node-name c.args.text.now c.properties.end _ (c.properties.invariant.so_far.reached n none h).1 c.properties-test.true capital))
 
 pub properties-preserved : goal.properties-preserved
 properties-preserved c =
     let capital = sym c.is_ascii_uppercase.ensures.value ∙ c.if-is_ascii_uppercase.true in
     record {
-      so_far = properties-more c.args.text.now c.args.at c.properties.end c.in_ok-end.end c.properties.invariant.so_far c.properties-test.true capital c.in_ok-end.ensures.read;
-      kept = c.in_ok-end.ensures.kept;
+      so_far = properties-more c.args.text.now c.args.at c.properties.end c.in_ok-property.property.end c.properties.invariant.so_far c.properties-test.true capital c.in_ok-property.ensures.read;
+      written = λ is.
+          let both = and_parts c.properties.is_written _ is in
+          written-more c.args.text.now c.args.at c.properties.end c.in_ok-property.property.end (c.properties.invariant.written both.0) (c.in_ok-property.ensures.written both.1);
+      kept = c.in_ok-property.ensures.kept;
     }
 
 pub returns-else-is_ascii_uppercase-clause-read : goal.returns-else-is_ascii_uppercase-clause-read

@@ -1,12 +1,16 @@
-use Rattle.std.proofs.Common.{◌-◌, ◌<◌, length}
+use Rattle.std.proofs.Common.{◌-◌, IsTrue, length}
+use Rattle.sgf_tree.specs.Spelling.{is_upper}
 use Rattle.sgf_tree.specs.inner.KeptEnds.{AreKeptEnds}
+use Rattle.sgf_tree.specs.inner.NodeText.{AreValuesWritten}
+use Rattle.sgf_tree.specs.inner.Progress.{IsSpan, IsBracket}
 use Rattle.sgf_tree.proofs.ValuesRead.{ValuesSoFar}
 use Rattle.sgf_tree.proofs.reader.properties.read_property.Given as goal
 
 abbrev pub invariant-values : goal.invariant-values
 invariant-values l = record {
-  within : l.at < length l.text;
+  stands : IsBracket l.text l.at;
   so_far : ValuesSoFar l.text l.initial.at l.at;
+  written : IsTrue l.is_written → IsSpan is_upper l.text l.start l.initial.at × AreValuesWritten l.text l.initial.at l.at;
   kept : AreKeptEnds l.text l.long.items;
 }
 
