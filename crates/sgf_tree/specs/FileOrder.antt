@@ -33,7 +33,7 @@ ordered_nodes games = nodes_from 0 None games
 abbrev pub node_at : Games → ℕ → Option Node
 node_at games number = option_map (λ ordered. ordered.node) (slice_get (ordered_nodes games) number)
 
--- the nodes of numbers
+-- the nodes with these numbers
 abbrev pub nodes_at : Games → List ℕ → List Node
 nodes_at games numbers = flat_map (λ number. option_to_list (node_at games number)) numbers
 

@@ -94,9 +94,8 @@ impl<'a> Collection<'a> {
         }
     }
 
-    /// Appends the nodes of these numbers to `out` as the sgf form writes them, and to `ends` where in `out` each of them ends.
-    /// What stands in the text as it is to be written is copied at once.
-    /// After a refusal of memory both are unchanged.
+    /// Appends the nodes with these numbers to `out` as the sgf form writes them. Appends to `ends` the offset in `out` at which
+    /// each of them ends. What the text has in that form is copied at once. After a refusal of memory both are unchanged.
     pub fn push_nodes(
         &self,
         numbers: &[usize],

@@ -10,8 +10,8 @@ pub(crate) enum Link {
     Root(u32),
     /// It is the first node after a `(`, and the node with this number is its parent.
     Variation(u32),
-    /// The node before it in the file is its parent. Where it is beside that one, the sgf form writes the parent as the text
-    /// stands between the two.
+    /// The node before it in the file is its parent. If it is beside that node, the
+    /// sgf form writes the parent just as the text stands between the two.
     Next { beside: bool },
 }
 

@@ -30,7 +30,7 @@ pub(crate) fn ends_at_once(text: &[u8], at: usize) -> bool
 pub(crate) struct PartRead {
     /// The offset of the byte after it and the white space there.
     pub end: usize,
-    /// Whether the text up to there is what the sgf form writes for it. Where it is not set, nothing is known.
+    /// Whether the text up to there is what the sgf form writes for it. If it is false, nothing is known.
     pub is_written: bool,
 }
 
