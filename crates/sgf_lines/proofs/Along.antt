@@ -18,7 +18,3 @@ same_root zero old nodes lt le e = absurd (omega arith)
 same_root (suc k) [] nodes lt le e = absurd (omega arith)
 same_root (suc k) (m ∷ ms) [] lt le e = absurd cc
 same_root (suc k) (m ∷ ms) (n ∷ ns) lt le e = let same : m ≡ n = cc in ap (λ (n : Node). n.properties) same
-
-pub not_zero : (n : ℕ) → (n ≡ 0 → ⊥) → 0 < n
-not_zero zero other = absurd (other refl)
-not_zero (suc n) other = omega arith

@@ -29,7 +29,6 @@ pub mod Shows
 pub mod Descending
 pub mod Sought
 pub mod Joins
-pub mod Records
 pub mod Steps
 pub mod Gathered
 pub mod Judgements

@@ -68,10 +68,6 @@ last_is start (end ∷ ends) =
     ap (λ k. unwrap_or (slice_get (end ∷ ends) k) start) before ∙ ap (λ o. unwrap_or o start) (last_at end ends)
 
 -- the text is cut after the last of some pieces
-late : (start : ℕ) (ends text : List ℕ) → AreEnds start ends text → start ≤ last_end start ends
-late start [] text h = omega arith
-late start (end ∷ ends) text h = omega (arith, h.0, late end ends (drop (end - start) text) h.2)
-
 pub record IsCutTo (start : ℕ) (ends text : List ℕ) (count : ℕ) : Type 0 where
   pub last_late : start ≤ last_end start (take count ends)
   pub pieces : pieces_from start (take count ends) (take (last_end start (take count ends) - start) text) ≡ take count (pieces_from start ends text)

@@ -1,5 +1,5 @@
 -- What a line that a cursor gave is known by.
-use Rattle.std.proofs.Common.{◌≡◌, ◌≢◌, ℕ, ◌<◌, List, [], ◌∷◌, length, slice_get, Some, refl, ap, ◌∙◌, arith}
+use Rattle.std.proofs.Common.{◌≡◌, ℕ, slice_get, Some}
 use Rattle.std.specs.Prelude.{option_map}
 use Rattle.sgf_tree.specs.Tree.{Games}
 use Rattle.sgf_lines.specs.Lines.{Line, lines, place_of}
@@ -8,19 +8,8 @@ use Rattle.sgf_lines.specs.inner.Views.{IsShownAs}
 use Rattle.sgf_lines.specs.declared.line.LineRef.{LineRef}
 use Rattle.sgf_lines.proofs.Named.{line_at}
 
-filled_length : (ns : List ℕ) → ns ≢ [] → 0 < length ns
-filled_length [] h = absurd (h refl)
-filled_length (n ∷ ns) h = omega arith
-
-line_shown : (c : Games) (k : ℕ) (line : LineRef) → IsLine c k line → (l : Line) × (slice_get (lines c) k ≡ Some l) × IsShownAs c l line
+pub line_shown : (c : Games) (k : ℕ) (line : LineRef) → IsLine c k line → (l : Line) × (slice_get (lines c) k ≡ Some l) × IsShownAs c l line
 line_shown c k line h =
     let f = line_at c k (shown line).path h.path in
     let place : option_map place_of (Some f.0) ≡ Some (shown line).place = rw f.1.found at h.place in
     (f.0, f.1.found, record { game_number = f.1.game_number; place = cc; nodes = f.1.nodes })
-
--- the same over a collection that is called by another name
-pub line_shown_in : (c games : Games) (k : ℕ) (line : LineRef) → games ≡ c → IsLine games k line → (l : Line) × (slice_get (lines games) k ≡ Some l) × IsShownAs c l line
-line_shown_in c games k line same h =
-    let there : IsLine c k line = rw same at h in
-    let l = line_shown c k line there in
-    (l.0, ap (λ d. slice_get (lines d) k) same ∙ l.1, l.2)

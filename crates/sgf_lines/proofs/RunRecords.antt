@@ -24,7 +24,7 @@ use Rattle.sgf_lines.specs.inner.Scripting.{ScriptState, empty_script, script_of
 use Rattle.sgf_lines.specs.inner.Keeping.{judging_front, script_front, record_in}
 use Rattle.sgf_lines.proofs.Judgements.{judging_verdict}
 use Rattle.sgf_lines.proofs.Keeping.{line_is}
-use Rattle.sgf_lines.proofs.Recorded.{line_shown_in}
+use Rattle.sgf_lines.proofs.Recorded.{line_shown}
 use Rattle.sgf_lines.proofs.Recordings.{record_text}
 use Rattle.sgf_lines.proofs.Scripted.{row_made, script_made}
 
@@ -41,7 +41,7 @@ module _ (at : CursorState) (line : LineRef) (some : 0 < at.index) (shows : IsLi
     shown : IsShownAs at.games own line
 
   the_line : Shown
-  the_line = let l = line_shown_in at.games at.games (at.index - 1) line refl shows in record { own = l.0; before = line_is at some ∙ l.1; shown = l.2 }
+  the_line = let l = line_shown at.games (at.index - 1) line shows in record { own = l.0; before = line_is at some ∙ l.1; shown = l.2 }
 
   nodes_are : nodes_before at ≡ the_line.own.nodes
   nodes_are = ap nodes_of the_line.before
