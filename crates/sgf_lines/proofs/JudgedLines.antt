@@ -9,7 +9,7 @@ use Rattle.sgf_lines.specs.Walk.{IllegalNode, Walk, before_root, next_by, next, 
 use Rattle.sgf_lines.specs.JudgedGames.{GameKind, not_go, bad_size, board, game_kind, root_properties}
 use Rattle.sgf_lines.specs.Verdict.{judged_on}
 use Rattle.sgf_lines.specs.inner.Judging.{Judgement, unjudged, judged, Judging, judging, after, next_plays}
-use Rattle.sgf_lines.specs.inner.Keeping.{judging_front, PlaysFresh}
+use Rattle.sgf_lines.specs.inner.Keeping.{judging_front, fresh_plays, PlaysUpTo}
 use Rattle.sgf_lines.proofs.Walking.{after_illegal}
 use Rattle.sgf_lines.proofs.Lists.{front_more}
 use Rattle.sgf_lines.proofs.Judgements.{one_judged, judging_more, plays_more}
@@ -119,7 +119,7 @@ module _ (nodes : List Node) (held old i : ℕ) (judge : Judging) (h : JudgesTo 
   }
 
   -- or none, or its play alone, for want of memory
-  pub stopped : {A E : Type 0} (e : E) (new : ℕ) → held ≤ length nodes → judge.plays ≤ new → new ≤ judge.plays + next_plays judge.judgement → PlaysFresh {A = A} old new nodes held (Err e)
+  pub stopped : {A E : Type 0} (e : E) (new : ℕ) → held ≤ length nodes → judge.plays ≤ new → new ≤ judge.plays + next_plays judge.judgement → PlaysUpTo {A = A} old new (fresh_plays nodes held) (Err e)
   stopped e new within more less =
       let fresh = fresh_after (game_kind (root_properties nodes)) nodes held within in
       let fewer = fewer_in_front (game_kind (root_properties nodes)) nodes (i + 1) in
@@ -131,10 +131,10 @@ pub on_any : {A E : Type 0} {P : Type 0} (r : Result A E) → P → OnOk r P
 on_any (Ok x) p = p
 on_any (Err e) p = tt
 
-pub fresh_of_ok : {A B E F : Type 0} {old new held : ℕ} {nodes : List Node} (x : A) (r : Result B F) → PlaysFresh {E = E} old new nodes held (Ok x) → PlaysFresh old new nodes held r
+pub fresh_of_ok : {A B E F : Type 0} {old new count : ℕ} (x : A) (r : Result B F) → PlaysUpTo {E = E} old new count (Ok x) → PlaysUpTo old new count r
 fresh_of_ok x r h = record { not_fewer = h.not_fewer; not_more = h.not_more; each = on_any r h.each }
 
-pub fresh_of_err : {B E F : Type 0} (A : Type 0) {old new held : ℕ} {nodes : List Node} (e : E) (r : Result B F) → IsErr r → PlaysFresh {A = A} old new nodes held (Err e) → PlaysFresh old new nodes held r
+pub fresh_of_err : {B E F : Type 0} (A : Type 0) {old new count : ℕ} (e : E) (r : Result B F) → IsErr r → PlaysUpTo {A = A} old new count (Err e) → PlaysUpTo old new count r
 fresh_of_err A e (Ok x) bad h = absurd cc
 fresh_of_err A e (Err f) is h = record { not_fewer = h.not_fewer; not_more = h.not_more; each = tt }
 
@@ -143,7 +143,7 @@ pub judged_all : (nodes : List Node) (held old i : ℕ) (judge : Judging) → Ju
 judged_all nodes held old i judge h le =
     h.judged ∙ ap (judging (game_kind (root_properties nodes))) (take_all i nodes le ∙ sym (take_all (length nodes) nodes (omega arith)))
 
-pub fresh_all : {A E : Type 0} (nodes : List Node) (held old i : ℕ) (judge : Judging) (r : Result A E) → JudgesTo nodes held old i judge → length nodes ≤ i → held ≤ length nodes → PlaysFresh old judge.plays nodes held r
+pub fresh_all : {A E : Type 0} (nodes : List Node) (held old i : ℕ) (judge : Judging) (r : Result A E) → JudgesTo nodes held old i judge → length nodes ≤ i → held ≤ length nodes → PlaysUpTo old judge.plays (fresh_plays nodes held) r
 fresh_all nodes held old i judge r h le within =
     let all : length (judged_on (game_kind (root_properties nodes)) (take i nodes)) ≡ length (judged_on (game_kind (root_properties nodes)) nodes) =
     ap (λ ns. length (judged_on (game_kind (root_properties nodes)) ns)) (take_all i nodes le) in

@@ -20,7 +20,7 @@ use Rattle.sgf_lines.specs.inner.Judging.{Judgement, judging, back}
 use Rattle.sgf_lines.specs.inner.Recording.{open_record}
 use Rattle.sgf_lines.specs.inner.Scripting.{script_of, script_back, script_ended}
 use Rattle.sgf_lines.specs.inner.Following.{Continues, first_after, nodes_of, line_in, line_before, nodes_before, path_before}
-use Rattle.sgf_lines.specs.inner.Keeping.{judging_front, KeepsBy, HoldsBy, IsUnusedBy, Holds, PlaysIn, PlaysLine, IsShared, HasPlays, StillHeld, fresh_plays}
+use Rattle.sgf_lines.specs.inner.Keeping.{judging_front, KeepsBy, HoldsBy, IsUnusedBy, Holds, PlaysUpTo, PlaysLine, IsShared, HasPlays, StillHeld, fresh_plays}
 use Rattle.sgf_lines.proofs.Along.{same_root}
 use Rattle.sgf_lines.proofs.Joins.{as_many}
 use Rattle.sgf_lines.proofs.Judgements.{judging_back}
@@ -178,14 +178,10 @@ module _ (run : Run) (h : Holds run) (new : CursorState) (shared still : ℕ) (m
 
 -- what was counted for it
 pub plays_line : {A : Type 0} (E : Type 0) (form : Form) (b : Bool) (at : CursorState) (old new : ℕ) (nodes : List Node) (shared : ℕ) (u : A) → HasPlays form b at (plays_in form (fresh_plays nodes shared))
-    → PlaysIn {E = E} form old new nodes shared (Ok u) → (n : ℕ) × HasPlays form b at n × (new ≡ old + n)
-plays_line E list_form b at old new nodes shared u h counts = (fresh_plays nodes shared, h, counts.each)
-plays_line E sgf_form b at old new nodes shared u h counts = (0, h, omega (arith, counts))
-plays_line E gtp_form b at old new nodes shared u h counts = (fresh_plays nodes shared, h, counts.each)
+    → PlaysUpTo {E = E} old new (plays_in form (fresh_plays nodes shared)) (Ok u) → (n : ℕ) × HasPlays form b at n × (new ≡ old + n)
+plays_line E form b at old new nodes shared u h counts = (plays_in form (fresh_plays nodes shared), h, counts.each)
 
 pub plays_refused : {E F : Type 0} (A : Type 0) (form : Form) (b : Bool) (at : CursorState) (old new : ℕ) (nodes : List Node) (shared : ℕ) (e : E) (r : Result Bool F) → IsErr r → HasPlays form b at (plays_in form (fresh_plays nodes shared))
-    → PlaysIn {A = A} form old new nodes shared (Err e) → PlaysLine form b at old new r
+    → PlaysUpTo {A = A} old new (plays_in form (fresh_plays nodes shared)) (Err e) → PlaysLine form b at old new r
 plays_refused A form b at old new nodes shared e (Ok x) bad h counts = absurd cc
-plays_refused A list_form b at old new nodes shared e (Err f) is h counts = inr (fresh_plays nodes shared, h, counts.not_fewer, counts.not_more)
-plays_refused A sgf_form b at old new nodes shared e (Err f) is h counts = inl counts
-plays_refused A gtp_form b at old new nodes shared e (Err f) is h counts = inr (fresh_plays nodes shared, h, counts.not_fewer, counts.not_more)
+plays_refused A form b at old new nodes shared e (Err f) is h counts = inr (plays_in form (fresh_plays nodes shared), h, counts.not_fewer, counts.not_more)

@@ -8,9 +8,9 @@ ghost use Rattle.sgf_lines.specs.Ends.{HasDelivered};
 ghost use Rattle.sgf_lines.specs.Answer.{IsRun, read_failures, write_failures};
 ghost use Rattle.sgf_lines.specs.Lines.{lines};
 ghost use Rattle.sgf_lines.specs.Record.{record_of};
-ghost use Rattle.sgf_lines.specs.RunPlays.{IsRunWithPlays};
+ghost use Rattle.sgf_lines.specs.RunPlays.{IsRunWithPlays, plays_in};
 ghost use Rattle.sgf_lines.specs.inner.Following.{line_before, nodes_before};
-ghost use Rattle.sgf_lines.specs.inner.Keeping.{Holds, HoldsBy, IsFresh, IsUnusedBy, KeepsBy, PlaysIn, PlaysLine, StillHeld, record_in};
+ghost use Rattle.sgf_lines.specs.inner.Keeping.{Holds, HoldsBy, IsFresh, IsUnusedBy, KeepsBy, PlaysLine, PlaysUpTo, StillHeld, fresh_plays, record_in};
 ghost use Rattle.sgf_lines.specs.inner.Running.{HasRecord, IsReading, IsStart, PutsAll, WritesLines};
 
 use crate::cursor::Cursor;
@@ -39,6 +39,7 @@ const CHUNK: usize = 65_536;
 /// The lines are those that follow the line with the place `options.after`, or all. Of these the first `options.limit` are
 /// written, or all. Each is written in the form `options.form`, in file order. A record is built whole before its first byte is
 /// put. After `Ok` the sink was flushed once, after the last record. It was flushed even if there was no record.
+/// After `Read`, `TooLong`, `NotSgf` and `NoSuchLine` the sink is as it was: nothing was put, and it was not flushed.
 ///
 /// The faults come in this order:
 ///
@@ -283,7 +284,8 @@ impl<'c, 'a> Run<'c, 'a> {
         ensures made { OnOk result (Some (record_in self.new) ≡ option_map (record_of self.old.form) (line_before self.old.cursor)) }
         ensures holds { OnOk result (HoldsBy self.old.form (nodes_before self.old.cursor) self.new) }
         ensures unused { IsUnusedBy self.old.form self.new }
-        ensures plays { PlaysIn self.old.form self.old.judge.plays self.new.judge.plays (nodes_before self.old.cursor) held result }
+        ensures plays { PlaysUpTo self.old.judge.plays self.new.judge.plays
+            (plays_in self.old.form (fresh_plays (nodes_before self.old.cursor) held)) result }
         ensures cursor { self.new.cursor ≡ self.old.cursor }
         ensures form { self.new.form ≡ self.old.form }
         ensures held { self.new.held ≡ self.old.held }

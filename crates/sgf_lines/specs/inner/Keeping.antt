@@ -64,16 +64,11 @@ StillHeld held shared still = MatchBool (nat_lt 0 held) (still ≡ shared) (stil
 abbrev pub fresh_plays : List Node → ℕ → ℕ
 fresh_plays nodes shared = length (judged_on (game_kind (root_properties nodes)) nodes) - shared
 
--- The plays went from `old` to `new` for this line. Each fresh node counts once; if memory was refused, at most once.
-pub record PlaysFresh {A E : Type 0} (old new : ℕ) (nodes : List Node) (shared : ℕ) (result : Result A E) : Type 0 where
+-- The plays went from `old` to `new` by this many. If memory was refused, by at most so many.
+pub record PlaysUpTo {A E : Type 0} (old new count : ℕ) (result : Result A E) : Type 0 where
   pub not_fewer : old ≤ new
-  pub not_more : new ≤ old + fresh_plays nodes shared
-  pub each : OnOk result (new ≡ old + fresh_plays nodes shared)
-
-abbrev pub PlaysIn : {A E : Type 0} → Form → ℕ → ℕ → List Node → ℕ → Result A E → Type 0
-PlaysIn list_form old new nodes shared result = PlaysFresh old new nodes shared result
-PlaysIn sgf_form old new nodes shared result = new ≡ old
-PlaysIn gtp_form old new nodes shared result = PlaysFresh old new nodes shared result
+  pub not_more : new ≤ old + count
+  pub each : OnOk result (new ≡ old + count)
 
 -- How many nodes of a cursor's next line are played already: those shared
 -- with the line before it, if the run holds that line; else 0.

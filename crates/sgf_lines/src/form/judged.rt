@@ -3,7 +3,7 @@
 ghost use Rattle.std.specs.Prelude.{◌≡◌, ◌+◌, ◌<◌, ◌≤◌, length, OnOk};
 ghost use Rattle.sgf_lines.specs.inner.Following.{nodes_before};
 ghost use Rattle.sgf_lines.specs.inner.Judging.{back};
-ghost use Rattle.sgf_lines.specs.inner.Keeping.{judging_front, PlaysFresh};
+ghost use Rattle.sgf_lines.specs.inner.Keeping.{judging_front, fresh_plays, PlaysUpTo};
 
 use crate::cursor::Cursor;
 use crate::judging::judge::Judge;
@@ -21,7 +21,7 @@ pub(crate) fn judge_line(
     requires judged { 0 < held → back held judge.old.judgement ≡ judging_front (nodes_before cursor.now) held }
     requires countable { judge.old.plays + length (nodes_before cursor.now) < u64.MAX }
     ensures judged { OnOk result (judge.new.judgement ≡ judging_front (nodes_before cursor.now) (length (nodes_before cursor.now))) }
-    ensures plays { PlaysFresh judge.old.plays judge.new.plays (nodes_before cursor.now) held result }
+    ensures plays { PlaysUpTo judge.old.plays judge.new.plays (fresh_plays (nodes_before cursor.now) held) result }
 {
     let end = cursor.len();
     begin_or_go_back(cursor, held, judge)?;

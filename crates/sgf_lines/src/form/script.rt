@@ -3,7 +3,7 @@
 ghost use Rattle.std.specs.Prelude.{◌≡◌, ◌+◌, ◌<◌, ◌≤◌, false, length, OnOk};
 ghost use Rattle.sgf_lines.specs.inner.Following.{nodes_before};
 ghost use Rattle.sgf_lines.specs.inner.Judging.{back, after, next_plays, board_in};
-ghost use Rattle.sgf_lines.specs.inner.Keeping.{judging_front, script_front, PlaysFresh};
+ghost use Rattle.sgf_lines.specs.inner.Keeping.{judging_front, script_front, fresh_plays, PlaysUpTo};
 ghost use Rattle.sgf_lines.specs.inner.Scripting.{IsLettered, IsPlayable, empty_script, is_unreaching, no_script, said_after, said_on, script_back, script_begun, script_ended, script_on, script_text, step_script};
 
 use crate::cursor::Cursor;
@@ -161,7 +161,7 @@ pub(crate) fn follow(
     requires countable { judge.old.plays + length (nodes_before cursor.now) < u64.MAX }
     ensures judged { OnOk result (judge.new.judgement ≡ judging_front (nodes_before cursor.now) (length (nodes_before cursor.now))) }
     ensures said { OnOk result (script.new ≡ script_ended (script_front (nodes_before cursor.now) (length (nodes_before cursor.now)))) }
-    ensures plays { PlaysFresh judge.old.plays judge.new.plays (nodes_before cursor.now) held result }
+    ensures plays { PlaysUpTo judge.old.plays judge.new.plays (fresh_plays (nodes_before cursor.now) held) result }
 {
     let end = cursor.len();
     begin_or_go_back(cursor, held, judge)?;

@@ -1,4 +1,5 @@
 -- The line was followed by what its form keeps, and then its row was laid out.
+use Rattle.std.proofs.Common.{arith}
 use Rattle.std.proofs.lemmas.Result.{on_ok_weaker}
 use Rattle.sgf_lines.specs.declared.options.Form.TheVariants.{List as list_form, Sgf as sgf_form, Gtp as gtp_form}
 use Rattle.sgf_lines.specs.declared.run.Run.{Run}
@@ -33,6 +34,9 @@ returns-in-Sgf-clause-made c =
 
 pub returns-in-Sgf-clause-holds : goal.returns-in-Sgf-clause-holds
 returns-in-Sgf-clause-holds c = rw c.in-Sgf.is c.follow.ensures
+
+pub returns-in-Sgf-clause-plays : goal.returns-in-Sgf-clause-plays
+returns-in-Sgf-clause-plays c = rw c.in-Sgf.is (record { not_fewer = omega arith; not_more = omega arith; each = on_any c.follow.result (omega arith) })
 
 pub returns-in_ok-follow-in-Gtp-clause-made : goal.returns-in_ok-follow-in-Gtp-clause-made
 returns-in_ok-follow-in-Gtp-clause-made c =
