@@ -18,9 +18,6 @@ ends-append start (n ∷ ns) ms =
     let sum : next + length (flat_map node_text ns) ≡ start + length (node_text n ++ flat_map node_text ns) = omega (arith, length-append (node_text n) (flat_map node_text ns)) in
     ap (λ es. next ∷ es) (ends-append next ns ms ∙ ap (λ k. ends_from next (map node_text ns) ++ ends_from k (map node_text ms)) sum)
 
-pub pushed-none : (a e : List ℕ) → ArePushed [] a a e e
-pushed-none a e = record { text = sym (append-nil a); ends_are = sym (append-nil e) }
-
 pub pushed-join : {ns ms : List Node} {a b c e f g : List ℕ} → ArePushed ns a b e f → ArePushed ms b c f g → ArePushed (ns ++ ms) a c e g
 pushed-join {ns} {ms} {a} {b} {c} {e} {f} {g} first then =
     let count : length b ≡ length a + length (flat_map node_text ns) = ap length first.text ∙ length-append a (flat_map node_text ns) in

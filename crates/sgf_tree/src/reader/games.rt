@@ -1,6 +1,6 @@
 //! Reading nodes and games.
 
-ghost use Rattle.std.specs.Prelude.{◌≡◌, ◌<◌, ◌≤◌, ◌+◌, ℕ, [], length, IsTrue, IfOk, IfErr, OnOk};
+ghost use Rattle.std.specs.Prelude.{◌≡◌, ◌<◌, ◌≤◌, ◌+◌, ℕ, [], length, IfOk, IfErr, OnOk};
 ghost use Rattle.sgf_tree.specs.Tree.{no_games, game_count};
 ghost use Rattle.sgf_tree.specs.inner.Machine.{Stack};
 ghost use Rattle.sgf_tree.specs.inner.Progress.{IsTrueFault};
@@ -98,7 +98,7 @@ fn read_sequence(
     }
     let mut read = read_node(text, place, link, nodes, long)?;
     'nodes: while read.end < text.len() && text[read.end] == b';' {
-        let beside = read.is_written;
+        let beside = read.left_out == 0;
         read = read_node(text, read.end, Link::Next { beside }, nodes, long)?;
     }
     Ok(read.end)
@@ -118,14 +118,14 @@ fn read_node(
     requires room { length nodes.old.items ≤ place }
     requires kept { AreKeptEnds text.now long.old.items }
     ensures read { IfOk result (λ read. IsNodeRead text.now place read.end link nodes.old.items nodes.new.items) }
-    ensures written { IfOk result (λ read. IsTrue read.is_written → AreWritten text.now (place + 1) read.end) }
+    ensures written { IfOk result (λ read. read.left_out ≡ 0 → AreWritten text.now (place + 1) read.end) }
     ensures fault { IfErr result (IsFaultInNode text.now (place + 1)) }
     ensures kept { OnOk result (AreKeptEnds text.now long.new.items) }
 {
     let read = if ends_at_once(text, place + 1) {
         PartRead {
             end: place + 1,
-            is_written: true,
+            left_out: 0,
         }
     } else {
         read_properties(text, place + 1, long)?

@@ -1,6 +1,6 @@
 //! Reading the properties of a node.
 
-ghost use Rattle.std.specs.Prelude.{◌≡◌, ◌<◌, ◌≤◌, false, length, slice_index, IsTrue, IfOk, IfErr, OnOk};
+ghost use Rattle.std.specs.Prelude.{◌≡◌, ◌<◌, ◌≤◌, ◌+◌, length, slice_index, IsTrue, IfOk, IfErr, OnOk};
 ghost use Rattle.sgf_tree.specs.Spelling.{is_upper};
 ghost use Rattle.sgf_tree.specs.inner.Progress.{IsSpan};
 ghost use Rattle.sgf_tree.specs.inner.NodeText.{IsPropertyWritten, AreWritten};
@@ -30,8 +30,8 @@ pub(crate) fn ends_at_once(text: &[u8], at: usize) -> bool
 pub(crate) struct PartRead {
     /// The offset of the byte after it and the white space there.
     pub end: usize,
-    /// Whether the text up to there is what the sgf form writes for it. If it is false, nothing is known.
-    pub is_written: bool,
+    /// How many bytes up to there the sgf form may leave out. If it is 0, the sgf form writes the part as it stands in the text.
+    pub left_out: usize,
 }
 
 /// Reads the properties of a node, which begin at `at` or after white space there.
@@ -45,18 +45,18 @@ pub(crate) fn read_properties(
     requires within { at ≤ length text.now }
     requires kept { AreKeptEnds text.now long.old.items }
     ensures read { IfOk result (λ read. ArePropertiesRead text.now at read.end) }
-    ensures written { IfOk result (λ read. IsTrue read.is_written → AreWritten text.now at read.end) }
+    ensures written { IfOk result (λ read. read.left_out ≡ 0 → AreWritten text.now at read.end) }
     ensures fault { IfErr result (IsFaultInNode text.now at) }
     ensures kept { OnOk result (AreKeptEnds text.now long.new.items) }
 {
     let mut end = skip_white_space(text, at);
-    let mut is_written = end == at;
+    let mut left_out = end - at;
     'properties: while end < text.len() && text[end].is_ascii_uppercase() {
         let property = read_property(text, end, long)?;
-        is_written &= property.is_written;
+        left_out += property.left_out;
         end = property.end;
     }
-    Ok(PartRead { end, is_written })
+    Ok(PartRead { end, left_out })
 }
 
 /// Reads the property whose identifier begins at `start`, value after value.
@@ -70,22 +70,20 @@ fn read_property(
     requires capital { IsTrue (is_upper (slice_index text.now start)) }
     requires kept { AreKeptEnds text.now long.old.items }
     ensures read { IfOk result (λ read. IsPropertyRead text.now start read.end) }
-    ensures written { IfOk result (λ read. IsTrue read.is_written → IsPropertyWritten text.now start read.end) }
+    ensures written { IfOk result (λ read. read.left_out ≡ 0 → IsPropertyWritten text.now start read.end) }
+    ensures few { IfOk result (λ read. start + read.left_out ≤ read.end) }
     ensures fault { IfErr result (IsFaultInProperty text.now start) }
     ensures kept { OnOk result (AreKeptEnds text.now long.new.items) }
 {
     let name = read_name(text, start)?;
     let mut at = name.end;
-    let mut is_written = name.is_written;
+    let mut left_out = name.left_out;
     'values: loop {
         let end = read_value(text, at + 1, long)? + 1;
         at = skip_white_space(text, end);
-        is_written &= at == end;
+        left_out += at - end;
         if at == text.len() || text[at] != b'[' {
-            return Ok(PartRead {
-                end: at,
-                is_written,
-            });
+            return Ok(PartRead { end: at, left_out });
         }
     }
 }
@@ -96,14 +94,12 @@ fn read_name(text: &[u8], start: usize) -> Result<PartRead, PartFault>
     requires within { start < length text.now }
     requires capital { IsTrue (is_upper (slice_index text.now start)) }
     ensures read { IfOk result (λ read. IsNameRead text.now start read.end) }
-    ensures written { IfOk result (λ read. IsTrue read.is_written → IsSpan is_upper text.now start read.end) }
+    ensures written { IfOk result (λ read. read.left_out ≡ 0 → IsSpan is_upper text.now start read.end) }
+    ensures few { IfOk result (λ read. start + read.left_out ≤ read.end) }
     ensures fault { IfErr result (IsFaultInProperty text.now start) }
 {
     match short_name_end(text, start) {
-        Some(end) => Ok(PartRead {
-            end,
-            is_written: true,
-        }),
+        Some(end) => Ok(PartRead { end, left_out: 0 }),
         None => read_far_name(text, start),
     }
 }
@@ -114,15 +110,12 @@ fn read_far_name(text: &[u8], start: usize) -> Result<PartRead, PartFault>
     requires within { start < length text.now }
     requires capital { IsTrue (is_upper (slice_index text.now start)) }
     ensures read { IfOk result (λ read. IsNameRead text.now start read.end) }
-    ensures written { IfOk result (λ read. read.is_written ≡ false) }
+    ensures written { IfOk result (λ read. read.left_out ≡ 1) }
     ensures fault { IfErr result (IsFaultInProperty text.now start) }
 {
     let end = skip_white_space(text, letters_end(text, start));
     if end == text.len() || text[end] != b'[' {
         return Err(PartFault::NotSgf(end));
     }
-    Ok(PartRead {
-        end,
-        is_written: false,
-    })
+    Ok(PartRead { end, left_out: 1 })
 }

@@ -1,5 +1,4 @@
-use Rattle.std.proofs.Common.{◌∙◌, sym, arith}
-use Rattle.std.proofs.lemmas.Bool.{and_parts, eqb-true}
+use Rattle.std.proofs.Common.{◌≡◌, ◌∙◌, sym, arith}
 use Rattle.std.proofs.lemmas.Result.{err_from_is_err_and}
 use Rattle.sgf_tree.proofs.NodeEnds.{node-name, properties-begin, properties-more, properties-done}
 use Rattle.sgf_tree.proofs.WrittenParts.{written-none, written-more}
@@ -8,7 +7,10 @@ use Rattle.sgf_tree.proofs.reader.properties.read_properties.Goals as goal
 pub properties-init : goal.properties-init
 properties-init c = record {
   so_far = properties-begin c.args.text.now c.args.at c.skip_white_space-end.result c.skip_white_space-end.ensures;
-  written = λ is. rw (eqb-true c.skip_white_space-end.result c.args.at is) (written-none c.args.text.now c.args.at c.requires.within);
+  written = λ is.
+      let same : c.skip_white_space-end.result ≡ c.args.at = omega (arith, is, c.skip_white_space-end.ensures.rises) in
+      rw same (written-none c.args.text.now c.args.at c.requires.within);
+  few = omega arith;
   kept = c.requires.kept;
 }
 
@@ -25,8 +27,8 @@ properties-preserved c =
     record {
       so_far = properties-more c.args.text.now c.args.at c.properties.end c.in_ok-property.property.end c.properties.invariant.so_far c.properties-test.true capital c.in_ok-property.ensures.read;
       written = λ is.
-          let both = and_parts c.properties.is_written _ is in
-          written-more c.args.text.now c.args.at c.properties.end c.in_ok-property.property.end (c.properties.invariant.written both.0) (c.in_ok-property.ensures.written both.1);
+          written-more c.args.text.now c.args.at c.properties.end c.in_ok-property.property.end (c.properties.invariant.written (omega (arith, is))) (c.in_ok-property.ensures.written (omega (arith, is)));
+      few = omega (arith, c.properties.invariant.few, c.in_ok-property.ensures.few);
       kept = c.in_ok-property.ensures.kept;
     }
 
@@ -37,3 +39,6 @@ returns-else-is_ascii_uppercase-clause-read c =
 pub returns-after-properties-clause-read : goal.returns-after-properties-clause-read
 returns-after-properties-clause-read c =
     properties-done c.args.text.now c.args.at c.properties.end c.properties.invariant.so_far (λ lt. absurd (omega (arith, c.properties-test.false)))
+
+pub overflow_add-left_out : goal.overflow_add-left_out
+overflow_add-left_out c = omega (arith, c.properties.invariant.few, c.in_ok-property.ensures.few, c.in_ok-property.ensures.read.within, c.requires.short)
