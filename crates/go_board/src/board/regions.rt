@@ -171,7 +171,7 @@ fn points_beside(rows: &[u64], others: &[u64], beside: &mut [u64])
 }
 
 /// Whether a set has no point.
-fn is_none(rows: &[u64]) -> bool
+pub(crate) fn is_none(rows: &[u64]) -> bool
     ensures { IsTrue result ↔ ((p : Point) → is_set rows.now p ≡ false) }
 {
     for row in rows {
