@@ -25,15 +25,16 @@
 //! ```
 //!
 //! The node given to `judge` must be a leaf. By [`laws::named`] the last node of each line is one.
+//! [`judge_at`] needs only the place of a line.
 //!
 //! | Module | What it has |
 //! |---|---|
 //! | `line`, `cursor`, `seek` | what is shown of a line; going over the lines of a collection; seeking the line with a place |
 //! | `options`, `fault` | what a run is asked for; how it may fail |
 //! | `verdict`, `judging` | the verdict of a line; judging lines: |
-//! | `judging/one_line`, `judging/judge` | one line; a judge that goes along the nodes of a line, and back |
-//! | `follower` | going over the lines of a collection, and judging each |
+//! | `judging/one_line`, `judging/judge` | one line, by its leaf or its place; a judge that goes along the nodes of a line, and back |
 //! | `judging/root`, `judging/contents`, `judging/step` | the board of a root's game; what a node holds; playing a node |
+//! | `follower` | going over the lines that follow a cursor, and judging each |
 //! | `node_values` | what the values of a node say |
 //! | `form` | the forms in which a line is written, and what lines share of a text |
 //! | `ends` | where the bytes of a run come from, and where they go |
