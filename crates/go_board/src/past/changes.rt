@@ -37,7 +37,7 @@ pub(crate) struct Older {
     /// How many changes there were before those that lead back to it from the colouring after it.
     pub start: usize,
     /// How many older colourings its stretch has: none, where it begins one.
-    pub older_in_stretch: u32,
+    pub older_in_stretch: usize,
     /// Whether it is known that every stone reaches empty.
     pub settled: bool,
 }

@@ -27,7 +27,7 @@ const FIRST_OLDER: usize = 64;
 pub(crate) struct Colourings {
     newest: Board,
     /// How many older colourings the newest one's stretch has.
-    older_in_stretch: u32,
+    older_in_stretch: usize,
     /// What is kept of the older colourings, oldest first.
     older: Vec<Older>,
     /// Their changes, oldest first.
@@ -76,7 +76,7 @@ impl Colourings {
         ensures stretch { present_stretch self.now
             ≡ map (λ (h : Held). h.colouring) (take (length (all_of self.now) - result) (all_of self.now)) }
     {
-        self.older.len() - self.older_in_stretch as usize
+        self.older.len() - self.older_in_stretch
     }
 
     /// Whether that is the colouring of that number.
@@ -104,8 +104,7 @@ impl Colourings {
         }
     }
 
-    /// Adds a colouring, which begins a stretch or goes on in the present one. After a refusal nothing is changed. It
-    /// is refused memory, too, for more than 4,294,967,296 colourings of one stretch.
+    /// Adds a colouring, which begins a stretch or goes on in the present one. After a refusal nothing is changed.
     pub(crate) fn add(&mut self, board: &Board, begins: bool) -> Result<(), MemoryFault>
         requires { (newest_grid self.old).side ≡ board.now.side }
         ensures ok { OnOk result (self.new ≡ with_next self.old board.now begins) }
@@ -142,7 +141,7 @@ impl Colourings {
     }
 
     /// Adds the colouring that a stone makes of which it is known what it takes off. It goes on in the present stretch. After a
-    /// refusal nothing is changed; it is refused memory as by `add`.
+    /// refusal nothing is changed.
     pub(crate) fn add_stone(
         &mut self,
         colour: Colour,
@@ -199,7 +198,7 @@ impl Colourings {
 }
 
 /// How many older colourings the stretch of a colouring has that comes after one with so many.
-fn next_older_in_stretch(older_in_stretch: u32, begins: bool) -> Result<u32, MemoryFault>
+fn next_older_in_stretch(older_in_stretch: usize, begins: bool) -> Result<usize, MemoryFault>
     ensures { IfOk result (λ next. next ≡ (if begins then 0 else older_in_stretch + 1)) }
 {
     if begins {

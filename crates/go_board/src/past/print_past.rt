@@ -26,8 +26,7 @@ use std::marker::Model;
 /// looked up by its print, a number of 64 bits made of what stands on all its points, and only in the present stretch;
 /// where the prints are the same, all points are compared.
 ///
-/// A colouring with one stone more than the one before it takes some 30 bytes. No past is given memory for more than
-/// 4,294,967,295 colourings: a call that would add one more is refused as if there were none.
+/// A colouring with one stone more than the one before it takes some 64 bytes.
 #[derive(Drop)]
 pub struct PrintPast {
     colourings: Colourings,
