@@ -23,7 +23,7 @@ pub mod NeighbourLemmas
 pub mod FloodLemmas
 pub mod ColourFloodLemmas
 pub mod SweepLemmas
-pub mod EntryLemmas
+pub mod ListPastLemmas
 pub mod EarlierLemmas
 pub mod AreaLemmas
 pub mod TurnLemmas

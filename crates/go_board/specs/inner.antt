@@ -8,7 +8,6 @@ pub mod Glance
 pub mod Search
 pub mod Flood
 pub mod Groups
-pub mod Entries
 pub mod Earlier
 pub mod Print
 pub mod Changes

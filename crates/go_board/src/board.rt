@@ -2,7 +2,6 @@
 
 mod areas;
 pub(crate) mod capture;
-pub(crate) mod cells;
 mod fill;
 mod flood;
 mod glance;

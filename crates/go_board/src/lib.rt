@@ -28,7 +28,7 @@
 //! | `board/regions`, `board/fill` | sets of points as rows of bits; filling them: the score, whether all stones reach empty |
 //! | `board/group`, `board/capture` | the group of a stone, by rows of bits; what a stone takes off, as rows |
 //! | `board/glance` | a glance at the rows around a stone, which usually shows that the stone takes nothing off |
-//! | `board/areas`, `board/cells` | colouring areas and emptying sets of points; a board as a list of cells |
+//! | `board/areas` | colouring areas and emptying sets of points |
 //! | `past` | the colourings that a game has been through; `past/list_past` and `past/print_past` keep them |
 //! | `past/colourings`, `past/changes` | past colourings as changes that lead back |
 //! | `past/print`, `past/table` | the print of a colouring, mixed from whole rows; prints looked up in a table |

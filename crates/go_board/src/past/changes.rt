@@ -37,7 +37,7 @@ pub(crate) struct Older {
     /// The index of the first of the changes that lead back to it from the colouring after it.
     pub start: usize,
     /// The number of older colourings in its stretch: 0 if it begins the stretch.
-    pub older_in_stretch: u32,
+    pub older_in_stretch: usize,
     /// Whether every stone of it is known to reach empty.
     pub settled: bool,
 }

@@ -27,7 +27,7 @@ const FIRST_OLDER: usize = 64;
 pub(crate) struct Colourings {
     newest: Board,
     /// The number of older colourings in the stretch of the newest one.
-    older_in_stretch: u32,
+    older_in_stretch: usize,
     /// What is kept of the older colourings, oldest first.
     older: Vec<Older>,
     /// Their changes, oldest first.
@@ -76,7 +76,7 @@ impl Colourings {
         ensures stretch { present_stretch self.now
             ≡ map (λ (h : Held). h.colouring) (take (length (all_of self.now) - result) (all_of self.now)) }
     {
-        self.older.len() - self.older_in_stretch as usize
+        self.older.len() - self.older_in_stretch
     }
 
     /// Whether the colouring with this number is that of the board.
@@ -104,8 +104,7 @@ impl Colourings {
         }
     }
 
-    /// Adds a colouring, which begins a stretch or continues the present one. After a refusal nothing is changed. Memory is also
-    /// refused for more than 4,294,967,296 colourings of one stretch.
+    /// Adds a colouring, which begins a stretch or continues the present one. After a refusal nothing is changed.
     pub(crate) fn add(&mut self, board: &Board, begins: bool) -> Result<(), MemoryFault>
         requires { (newest_grid self.old).side ≡ board.now.side }
         ensures ok { OnOk result (self.new ≡ with_next self.old board.now begins) }
@@ -142,7 +141,7 @@ impl Colourings {
     }
 
     /// Adds the colouring that a stone makes; `taken` is what the stone takes off. The colouring continues the present stretch.
-    /// After a refusal nothing is changed. Memory is refused as by `add`.
+    /// After a refusal nothing is changed.
     pub(crate) fn add_stone(
         &mut self,
         colour: Colour,
@@ -199,8 +198,8 @@ impl Colourings {
 }
 
 /// How many older colourings the stretch has after one more colouring: one more than before, or 0
-/// if the new one begins a stretch. Memory is refused if the number doesn't fit.
-fn next_older_in_stretch(older_in_stretch: u32, begins: bool) -> Result<u32, MemoryFault>
+/// if the new one begins a stretch.
+fn next_older_in_stretch(older_in_stretch: usize, begins: bool) -> Result<usize, MemoryFault>
     ensures { IfOk result (λ next. next ≡ (if begins then 0 else older_in_stretch + 1)) }
 {
     if begins {

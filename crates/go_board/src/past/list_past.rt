@@ -1,43 +1,44 @@
 //! The plain past: all colourings in one vector.
 
-ghost use Rattle.std.specs.Prelude.{◌≡◌, ◌*◌, ◌↔◌, length, IsTrue, Contains};
+ghost use Rattle.std.specs.Prelude.{◌↔◌, IsTrue, Contains, reverse};
 ghost use Rattle.go_board.specs.Past.{stretch_of};
-ghost use Rattle.go_board.specs.inner.Entries.{entries};
 
 use crate::board::Board;
-use crate::board::cells::nothing;
 use crate::fault::MemoryFault;
 use crate::past::Past;
-use crate::size::{MAX_POINTS, Size};
-use crate::stones::Cell;
 use std::alloc::Global;
 use std::marker::Model;
 
-/// A past that keeps each colouring whole, and compares colourings point by
-/// point. A colouring takes one byte for each point, and one byte more.
+/// A past that keeps each colouring whole, and compares colourings one by one.
 #[derive(Drop)]
 pub struct ListPast {
-    newest: Board,
+    newest: Kept,
+    /// The colourings before the newest, oldest first.
+    older: Vec<Kept>,
+}
+
+/// A colouring, and whether it begins a stretch.
+#[derive(Drop)]
+struct Kept {
+    board: Board,
     begins: bool,
-    /// The points of the colourings before the newest one, oldest first.
-    cells: Vec<Cell>,
-    /// Whether each of those colourings begins a stretch.
-    begin_flags: Vec<bool>,
+}
+
+impl Model for Kept {
+    ghost use Rattle.go_board.specs.Past.{Held};
+
+    ghost Value = { Held };
+
+    ghost view = { λ k. record { colouring = k.board; begins = k.begins } };
 }
 
 impl Model for ListPast {
-    ghost use Rattle.std.specs.Prelude.{◌≡◌, ◌*◌, length};
+    ghost use Rattle.std.specs.Prelude.{reverse};
     ghost use Rattle.go_board.specs.Past.{PastColourings};
-    ghost use Rattle.go_board.specs.inner.Entries.{entries};
 
     ghost Value = { PastColourings };
 
-    ghost view = { λ p. record {
-      newest = record { colouring = p.newest; begins = p.begins };
-      older = entries p.newest.side p.cells.items p.begin_flags.items (length p.begin_flags.items);
-    } };
-
-    ghost invariant = { λ p. length p.cells.items ≡ length p.begin_flags.items * (p.newest.side * p.newest.side) };
+    ghost view = { λ p. record { newest = p.newest; older = reverse p.older.items } };
 }
 
 impl Past for ListPast {
@@ -45,29 +46,20 @@ impl Past for ListPast {
 
     fn new(alloc: Global, board: &Board) -> Result<ListPast, MemoryFault> {
         Ok(ListPast {
-            newest: board.copy(),
-            begins: true,
-            cells: Vec::new(alloc),
-            begin_flags: Vec::new(alloc),
+            newest: Kept {
+                board: board.copy(),
+                begins: true,
+            },
+            older: Vec::new(alloc),
         })
     }
 
     fn holds(&self, board: &Board) -> bool {
-        if self.newest.same(board) {
-            return true;
-        }
-        if self.begins {
-            return false;
-        }
-        let size = board.size();
-        let mut room = nothing::<MAX_POINTS>();
-        let cells = &mut room[..size.points()];
-        board.write_cells(cells);
-        stretch_has(size, &self.cells, &self.begin_flags, cells)
+        self.newest.board.same(board) || !self.newest.begins && stretch_has(&self.older, board)
     }
 
     fn newest(&self) -> &Board {
-        &self.newest
+        &self.newest.board
     }
 
     fn push(&mut self, board: &Board) -> Result<(), MemoryFault> {
@@ -79,52 +71,41 @@ impl Past for ListPast {
     }
 
     fn pop(&mut self) {
-        let points = self.newest.size().points();
-        let kept = self.cells.len() - points;
-        self.newest.set_cells(&self.cells[kept..]);
-        self.cells.truncate(kept);
-        self.begins = self.begin_flags.pop().unwrap();
+        self.newest = self.older.pop().unwrap();
     }
 }
 
 impl ListPast {
     ghost use Rattle.std.specs.Prelude.{◌≡◌, OnOk, OnErr};
-    ghost use Rattle.go_board.specs.Past.{HaveSide, with_next};
+    ghost use Rattle.go_board.specs.Past.{with_next};
 
     /// Adds a colouring, which begins a stretch or not.
     fn add(&mut self, board: &Board, begins: bool) -> Result<(), MemoryFault>
-        requires { HaveSide board.now.side self.old }
         ensures ok { OnOk result (self.new ≡ with_next self.old board.now begins) }
         ensures err { OnErr result (self.new ≡ self.old) }
     {
-        self.begin_flags.reserve(1)?;
-        self.newest.has_all_cells();
-        let mut room = nothing::<MAX_POINTS>();
-        let cells = &mut room[..self.newest.size().points()];
-        self.newest.write_cells(cells);
-        self.cells.extend_from_slice(cells)?;
-        self.begin_flags.push(self.begins).unwrap();
-        self.newest = board.copy();
-        self.begins = begins;
+        self.older.push(Kept {
+            board: self.newest.board.copy(),
+            begins: self.newest.begins,
+        })?;
+        self.newest = Kept {
+            board: board.copy(),
+            begins,
+        };
         Ok(())
     }
 }
 
-/// Whether the newest stretch of these colourings has the one with these cells. A
-/// colouring has as many cells as a board of that size has points.
-fn stretch_has(size: Size, all: &[Cell], begin_flags: &[bool], cells: &[Cell]) -> bool
-    requires all { length all.now ≡ length begin_flags.now * (size * size) }
-    requires one { length cells.now ≡ size * size }
-    ensures { IsTrue result
-        ↔ Contains (stretch_of (entries size all.now begin_flags.now (length begin_flags.now)))
-        (record { side = size; cells = cells.now }) }
+/// Whether the newest stretch of these colourings, oldest first, has the one of this board.
+fn stretch_has(older: &[Kept], board: &Board) -> bool
+    ensures { IsTrue result ↔ Contains (stretch_of (reverse older.now)) board.now }
 {
-    let points = size.points();
-    for i in (0..begin_flags.len()).rev() {
-        if &all[i * points..(i + 1) * points] == cells {
+    for i in (0..older.len()).rev() {
+        let kept = &older[i];
+        if kept.board.same(board) {
             return true;
         }
-        if begin_flags[i] {
+        if kept.begins {
             return false;
         }
     }

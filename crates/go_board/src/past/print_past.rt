@@ -26,8 +26,7 @@ use std::marker::Model;
 /// it. A colouring is looked up by its print, a 64-bit number made from what stands on all its points,
 /// and only in the present stretch. If two prints are equal, all points are compared.
 ///
-/// A colouring with one stone more than the one before it takes some 50 bytes. A past can have at
-/// most 4,294,967,295 colourings: a call that would add one more fails with `MemoryFault`.
+/// A colouring with one stone more than the one before it takes some 64 bytes.
 #[derive(Drop)]
 pub struct PrintPast {
     colourings: Colourings,

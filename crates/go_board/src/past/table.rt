@@ -1,6 +1,6 @@
 //! A list of prints in which a print is found without looking at most of the others.
 
-ghost use Rattle.std.specs.Prelude.{◌≡◌, ◌+◌, ◌-◌, ◌<◌, ◌≤◌, ◌^◌, [], ◌∷◌, ◌++◌, IfOk, OnOk, OnErr, length, replicate, slice_index};
+ghost use Rattle.std.specs.Prelude.{◌≡◌, ◌+◌, ◌-◌, ◌<◌, ◌≤◌, [], ◌∷◌, ◌++◌, IfOk, OnOk, OnErr, length, replicate, slice_index};
 ghost use Rattle.go_board.specs.inner.Table.{key_of, AreLinked, IsLastOf};
 
 use crate::fault::MemoryFault;
@@ -17,15 +17,15 @@ const FIRST_PRINTS: usize = 64;
 /// The number of heads that can be emptied at once in the time in which one print is taken back.
 const HEADS_AT_ONCE: usize = 64;
 
-/// Prints, oldest first. Those with the same key are linked from the newest to the oldest. There
-/// are at least as many keys as prints, so on average a key has at most one print.
+/// Prints, oldest first. Those with the same key are linked from the newest to the oldest. There is at
+/// least one key for two prints, so on average a key has at most two prints.
 #[derive(Drop)]
 pub(crate) struct Table {
     /// For each key the number of the newest print that has it: the print's index plus 1, or 0 if there is none.
-    heads: Vec<u32>,
+    heads: Vec<usize>,
     prints: Vec<u64>,
     /// For each print the number of the newest earlier print with the same key.
-    links: Vec<u32>,
+    links: Vec<usize>,
 }
 
 impl Model for Table {
@@ -81,29 +81,25 @@ impl Table {
         requires { end ≤ length self.now }
         ensures { IsLastOf self.now print start end result }
     {
-        let mut number = self.heads[key_of(self.heads.len(), print)] as usize;
+        let mut number = self.heads[key_of(self.heads.len(), print)];
         while number > start {
             let index = number - 1;
             if index < end && self.prints[index] == print {
                 return Some(index);
             }
-            number = self.links[index] as usize;
+            number = self.links[index];
         }
         None
     }
 
-    /// Adds a print. After a refusal nothing is changed. Memory is also refused for more than 4,294,967,295 prints.
+    /// Adds a print. After a refusal nothing is changed.
     // inlined, so that the key is worked out once for this and for the look-up before it
     #[inline(always)]
     pub(crate) fn push(&mut self, print: u64) -> Result<(), MemoryFault>
         ensures ok { OnOk result (self.new ≡ self.old ++ print ∷ []) }
         ensures err { OnErr result (self.new ≡ self.old) }
     {
-        let index = self.prints.len();
-        if index >= u32::MAX as usize {
-            return Err(MemoryFault);
-        }
-        if index >= self.heads.len() {
+        if self.prints.len() / 2 >= self.heads.len() {
             self.grow()?;
         }
         self.add(print)
@@ -112,7 +108,6 @@ impl Table {
     /// Doubles the number of heads, and links all prints anew.
     #[inline(never)]
     fn grow(&mut self) -> Result<(), MemoryFault>
-        requires { length self.old < 2 ^ 32 }
         ensures { self.new ≡ self.old }
     {
         let size = self.heads.len().checked_mul(2).ok_or(MemoryFault)?;
@@ -125,11 +120,10 @@ impl Table {
     /// Adds a print, with the heads that there are.
     #[inline(always)]
     fn add(&mut self, print: u64) -> Result<(), MemoryFault>
-        requires { length self.old + 1 < 2 ^ 32 }
         ensures ok { OnOk result (self.new ≡ self.old ++ print ∷ []) }
         ensures err { OnErr result (self.new ≡ self.old) }
     {
-        let number = (self.prints.len() + 1) as u32;
+        let number = self.prints.len() + 1;
         let key = key_of(self.heads.len(), print);
         self.prints.push(print)?;
         if self.links.push(self.heads[key]).is_err() {
@@ -211,32 +205,30 @@ fn key_of(heads: usize, print: u64) -> usize
 }
 
 /// Heads for keys that no print has.
-fn no_heads(alloc: Global, size: usize) -> Result<Vec<u32>, MemoryFault>
+fn no_heads(alloc: Global, size: usize) -> Result<Vec<usize>, MemoryFault>
     ensures { IfOk result (λ heads. heads.items ≡ replicate size 0) }
 {
     Ok(vec![in alloc; 0; size]?)
 }
 
 /// Links one more print.
-fn link(heads: &mut [u32], prints: &[u64], links: &mut [u32], index: usize)
+fn link(heads: &mut [usize], prints: &[u64], links: &mut [usize], index: usize)
     requires some { 0 < length heads.old }
     requires index { index < length prints.now }
     requires one_each { length links.old ≡ length prints.now }
-    requires fits { index + 1 < 2 ^ 32 }
     requires linked { AreLinked prints.now index heads.old links.old }
     ensures { AreLinked prints.now (index + 1) heads.new links.new }
 {
     let key = key_of(heads.len(), prints[index]);
     links[index] = heads[key];
-    heads[key] = (index + 1) as u32;
+    heads[key] = index + 1;
 }
 
 /// Links all prints; no key has one yet.
-fn link_all(heads: &mut [u32], prints: &[u64], links: &mut [u32])
+fn link_all(heads: &mut [usize], prints: &[u64], links: &mut [usize])
     requires some { 0 < length heads.old }
     requires none { heads.old ≡ replicate (length heads.old) 0 }
     requires one_each { length links.old ≡ length prints.now }
-    requires fits { length prints.now < 2 ^ 32 }
     ensures { AreLinked prints.now (length prints.now) heads.new links.new }
 {
     for index in 0..prints.len() {

@@ -9,7 +9,7 @@ invariant_of-self-2 c =
     let t = c.self.inside in
     let key : c.key_of-key.result ≡ key_of (length t.heads.items) c.args.print = search rules in
     let inside : c.key_of-key.result < length t.heads.items = search rules in
-    let number : c.len.result ≡ length t.prints.items = search rules in
+    let number : c.len-number.result ≡ length t.prints.items = search rules in
     let prints : c.push.new.self.items ≡ t.prints.items ++ c.args.print ∷ [] = search rules in
     let newest : c.index.result.now ≡ get_or t.heads.items c.key_of-key.result 0 =
     c.index.ensures ∙ get_or_default t.heads.items c.key_of-key.result c.index.result.now 0 inside in
