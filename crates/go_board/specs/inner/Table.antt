@@ -19,11 +19,11 @@ pub record AreLinked (prints : List ℕ) (count : ℕ) (heads links : List ℕ) 
   pub by_link : (index : ℕ) → index < count
       → IsNewest (length heads) prints index (key_of (length heads) (slice_index prints index)) (slice_index links index)
 
--- a table of these prints
+-- a table of these prints; as many as there are links are linked, the oldest
 pub record IsTable (heads prints links : List ℕ) : Type 0 where
   pub some : 0 < length heads
-  pub one_each : length links ≡ length prints
-  pub linked : AreLinked prints (length prints) heads links
+  pub few : length links ≤ length prints
+  pub linked : AreLinked prints (length links) heads links
 
 -- the index of the last print of a range that equals `print`; None if the range doesn't have it
 abbrev pub IsLastOf : List ℕ → ℕ → ℕ → ℕ → Option ℕ → Type 0

@@ -186,19 +186,21 @@ impl PrintPast {
 
     /// Whether the present stretch may have what a stone makes; `print` is the print of that. Most stones stay on a point that
     /// was never emptied. Then the stretch can't have it, and no print is looked up.
-    fn may_have(&self, point: Point, taken: &[u64], print: u64) -> bool
-        requires one_side { HaveSide (newest_grid self.now).side self.now }
-        requires on_board { IsOn (newest_grid self.now).side point }
-        requires empty { cell_at (newest_grid self.now) point ≡ Empty }
-        ensures { (colour : Colour) → TakesOff (newest_grid self.now) colour point taken.now
-            → print ≡ print_of (play (newest_grid self.now) colour point)
-            → IsFalse result → ¬ Contains (present_stretch self.now) (play (newest_grid self.now) colour point) }
+    fn may_have(&mut self, point: Point, taken: &[u64], print: u64) -> bool
+        requires one_side { HaveSide (newest_grid self.old).side self.old }
+        requires on_board { IsOn (newest_grid self.old).side point }
+        requires empty { cell_at (newest_grid self.old) point ≡ Empty }
+        ensures kept { self.new ≡ self.old }
+        ensures may { (colour : Colour) → TakesOff (newest_grid self.old) colour point taken.now
+            → print ≡ print_of (play (newest_grid self.old) colour point)
+            → IsFalse result → ¬ Contains (present_stretch self.old) (play (newest_grid self.old) colour point) }
     {
         self.colourings.newest().has_all_cells();
         let asked = has_point(&self.emptied, point) | has_point(taken, point);
         if !asked {
             return false;
         }
+        self.prints.link_rest();
         self.has_print(print)
     }
 

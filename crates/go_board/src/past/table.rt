@@ -1,7 +1,7 @@
 //! A list of prints in which a print is found without looking at most of the others.
 
-ghost use Rattle.std.specs.Prelude.{◌≡◌, ◌+◌, ◌-◌, ◌<◌, ◌≤◌, [], ◌∷◌, ◌++◌, IfOk, OnOk, OnErr, length, replicate, slice_index};
-ghost use Rattle.go_board.specs.inner.Table.{key_of, AreLinked, IsLastOf};
+ghost use Rattle.std.specs.Prelude.{◌≡◌, ℕ, ◌+◌, ◌-◌, ◌<◌, ◌≤◌, [], ◌∷◌, ◌++◌, IfOk, OnOk, OnErr, length, replicate, slice_index};
+ghost use Rattle.go_board.specs.inner.Table.{key_of, IsTable, IsLastOf};
 
 use crate::fault::MemoryFault;
 use crate::past::print::FINGERPRINT_BITS;
@@ -17,14 +17,14 @@ const FIRST_PRINTS: usize = 64;
 /// The number of heads that can be emptied at once in the time in which one print is taken back.
 const HEADS_AT_ONCE: usize = 64;
 
-/// Prints, oldest first. Those with the same key are linked from the newest to the oldest. There is at
-/// least one key for two prints, so on average a key has at most two prints.
+/// Prints, oldest first. Most of them are never asked for, so a print is linked only when one is looked up: then each has a link to
+/// the newest earlier print with the same key. There is at least one key for two linked prints, so on average a key has at most two.
 #[derive(Drop)]
 pub(crate) struct Table {
-    /// For each key the number of the newest print that has it: the print's index plus 1, or 0 if there is none.
+    /// For each key the number of the newest linked print that has it: the print's index plus 1, or 0 if there is none.
     heads: Vec<usize>,
     prints: Vec<u64>,
-    /// For each print the number of the newest earlier print with the same key.
+    /// For each linked print the number of the newest earlier print with the same key. The newest prints may have none yet.
     links: Vec<usize>,
 }
 
@@ -76,11 +76,16 @@ impl Table {
         self.prints[self.prints.len() - 1]
     }
 
-    /// The index of the last print that equals this one, from `start` on and before `end`; None if there is none.
+    /// The index of the last print that equals this one, from `start` on and before `end`; None if there is none. Prints that
+    /// aren't linked are looked at one by one.
     pub(crate) fn last_between(&self, print: u64, start: usize, end: usize) -> Option<usize>
         requires { end ≤ length self.now }
         ensures { IsLastOf self.now print start end result }
     {
+        let unlinked = start.max(self.links.len());
+        if let Some(index) = last_of(&self.prints, print, unlinked, end) {
+            return Some(index);
+        }
         let mut number = self.heads[key_of(self.heads.len(), print)];
         while number > start {
             let index = number - 1;
@@ -92,45 +97,33 @@ impl Table {
         None
     }
 
-    /// Adds a print. After a refusal nothing is changed.
-    // inlined, so that the key is worked out once for this and for the look-up before it
-    #[inline(always)]
-    pub(crate) fn push(&mut self, print: u64) -> Result<(), MemoryFault>
-        ensures ok { OnOk result (self.new ≡ self.old ++ print ∷ []) }
-        ensures err { OnErr result (self.new ≡ self.old) }
+    /// Links the prints that aren't linked yet, as far as there is memory for it.
+    pub(crate) fn link_rest(&mut self)
+        ensures { self.new ≡ self.old }
     {
-        if self.prints.len() / 2 >= self.heads.len() {
-            self.grow()?;
+        if self.prints.len() / 2 >= self.heads.len() && self.grow().is_err() {
+            return;
         }
-        self.add(print)
+        link(&mut self.heads, &self.prints, &mut self.links);
     }
 
-    /// Doubles the number of heads, and links all prints anew.
+    /// Makes as many heads as the prints ask for. No print is linked then.
     #[inline(never)]
     fn grow(&mut self) -> Result<(), MemoryFault>
         ensures { self.new ≡ self.old }
     {
-        let size = self.heads.len().checked_mul(2).ok_or(MemoryFault)?;
-        let mut heads = no_heads(*self.heads.allocator(), size)?;
-        link_all(&mut heads, &self.prints, &mut self.links);
-        self.heads = heads;
+        let size = (self.prints.len() / 2 + 1).next_power_of_two();
+        self.heads = no_heads(*self.heads.allocator(), size)?;
+        self.links.clear();
         Ok(())
     }
 
-    /// Adds a print, with the heads that there are.
-    #[inline(always)]
-    fn add(&mut self, print: u64) -> Result<(), MemoryFault>
+    /// Adds a print. After a refusal nothing is changed.
+    pub(crate) fn push(&mut self, print: u64) -> Result<(), MemoryFault>
         ensures ok { OnOk result (self.new ≡ self.old ++ print ∷ []) }
         ensures err { OnErr result (self.new ≡ self.old) }
     {
-        let number = self.prints.len() + 1;
-        let key = key_of(self.heads.len(), print);
         self.prints.push(print)?;
-        if self.links.push(self.heads[key]).is_err() {
-            let _ = self.prints.pop();
-            return Err(MemoryFault);
-        }
-        self.heads[key] = number;
         Ok(())
     }
 
@@ -140,9 +133,11 @@ impl Table {
         ensures { self.old ≡ self.new ++ result ∷ [] }
     {
         let print = self.prints.pop().unwrap();
-        let number = self.links.pop().unwrap();
-        let key = key_of(self.heads.len(), print);
-        self.heads[key] = number;
+        if self.links.len() > self.prints.len() {
+            let number = self.links.pop().unwrap();
+            let key = key_of(self.heads.len(), print);
+            self.heads[key] = number;
+        }
         print
     }
 
@@ -151,49 +146,12 @@ impl Table {
         requires { 0 < length self.old }
         ensures { self.new ≡ print ∷ [] }
     {
-        if self.heads.len() / HEADS_AT_ONCE <= self.prints.len() {
-            self.reset_all_heads(print);
-        } else {
-            self.reset_used_heads(print);
-        }
-    }
-
-    /// The same, if there are few heads compared with the prints: all heads are emptied at once.
-    fn reset_all_heads(&mut self, print: u64)
-        requires { 0 < length self.old }
-        ensures { self.new ≡ print ∷ [] }
-    {
-        self.heads.fill(0);
+        unlink(&mut self.heads, &self.prints, &self.links);
+        self.links.clear();
         self.prints.truncate(1);
-        self.links.truncate(1);
         self.prints[0] = print;
-        link(&mut self.heads, &self.prints, &mut self.links, 0);
-    }
-
-    /// The same, if the table has many heads because it once had to be large. The heads of the
-    /// prints are emptied one by one, so the time depends on the number of prints.
-    fn reset_used_heads(&mut self, print: u64)
-        requires { 0 < length self.old }
-        ensures { self.new ≡ print ∷ [] }
-    {
-        self.keep_oldest();
-        let key = key_of(self.heads.len(), self.prints[0]);
-        self.heads[key] = 0;
-        self.prints[0] = print;
-        link(&mut self.heads, &self.prints, &mut self.links, 0);
-    }
-
-    /// Takes back all prints but the oldest.
-    fn keep_oldest(&mut self)
-        requires { 0 < length self.old }
-        ensures { length self.new ≡ 1 }
-    {
-        while self.prints.len() > 1 {
-            self.pop();
-        }
     }
 }
-
 /// The key of a print in a table with this many heads. The fingerprint isn't part of it, because that is linear in the cells:
 /// moves can be chosen whose fingerprints are equal. With it as the key, each look-up would go over all these prints.
 fn key_of(heads: usize, print: u64) -> usize
@@ -211,27 +169,45 @@ fn no_heads(alloc: Global, size: usize) -> Result<Vec<usize>, MemoryFault>
     Ok(vec![in alloc; 0; size]?)
 }
 
-/// Links one more print.
-fn link(heads: &mut [usize], prints: &[u64], links: &mut [usize], index: usize)
-    requires some { 0 < length heads.old }
-    requires index { index < length prints.now }
-    requires one_each { length links.old ≡ length prints.now }
-    requires linked { AreLinked prints.now index heads.old links.old }
-    ensures { AreLinked prints.now (index + 1) heads.new links.new }
+/// The index of the last print that equals this one, from `start` on and before `end`; None if there is none.
+fn last_of(prints: &[u64], print: u64, start: usize, end: usize) -> Option<usize>
+    requires { end ≤ length prints.now }
+    ensures { IsLastOf prints.now print start end result }
 {
-    let key = key_of(heads.len(), prints[index]);
-    links[index] = heads[key];
-    heads[key] = index + 1;
+    'prints: for index in (start..end).rev() {
+        if prints[index] == print {
+            return Some(index);
+        }
+    }
+    None
 }
 
-/// Links all prints; no key has one yet.
-fn link_all(heads: &mut [usize], prints: &[u64], links: &mut [usize])
-    requires some { 0 < length heads.old }
-    requires none { heads.old ≡ replicate (length heads.old) 0 }
-    requires one_each { length links.old ≡ length prints.now }
-    ensures { AreLinked prints.now (length prints.now) heads.new links.new }
+/// Links the prints that aren't linked yet, as far as there is memory for it.
+fn link(heads: &mut [usize], prints: &[u64], links: &mut Vec<usize>)
+    requires { IsTable heads.old prints.now links.old.items }
+    ensures table { IsTable heads.new prints.now links.new.items }
+    ensures heads { length heads.new ≡ length heads.old }
 {
-    for index in 0..prints.len() {
-        link(heads, prints, links, index);
+    'prints: for index in links.len()..prints.len() {
+        let key = key_of(heads.len(), prints[index]);
+        if links.push(heads[key]).is_err() {
+            return;
+        }
+        heads[key] = index + 1;
+    }
+}
+
+/// Empties all heads: at once, or those of the linked prints one by one, if these are few.
+fn unlink(heads: &mut [usize], prints: &[u64], links: &[usize])
+    requires { IsTable heads.old prints.now links.now }
+    ensures none { (key : ℕ) → key < length heads.new → slice_index heads.new key ≡ 0 }
+    ensures heads { length heads.new ≡ length heads.old }
+{
+    if heads.len() / HEADS_AT_ONCE <= links.len() {
+        heads.fill(0);
+        return;
+    }
+    'prints: for index in 0..links.len() {
+        heads[key_of(heads.len(), prints[index])] = 0;
     }
 }

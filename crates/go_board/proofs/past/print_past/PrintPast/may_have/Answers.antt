@@ -7,8 +7,8 @@ use Rattle.go_board.specs.inner.Rows.{is_set}
 use Rattle.go_board.proofs.RepeatLemmas.{never_back}
 use Rattle.go_board.proofs.past.print_past.PrintPast.may_have.Goals as goal
 
-pub returns-then-not-asked : goal.returns-then-not-asked
-returns-then-not-asked c = λ k takes is none has.
+pub returns-then-not-asked-clause-may : goal.returns-then-not-asked-clause-may
+returns-then-not-asked-clause-may c = λ k takes is none has.
     let was = c.self.inside in
     let past = c.args.self.now in
     let g = newest_grid past in

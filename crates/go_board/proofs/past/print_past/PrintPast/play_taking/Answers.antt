@@ -1,10 +1,10 @@
-use Rattle.std.proofs.Common.{◌≡◌, ◌≤◌, length, false, ap, subst, sym, ◌∙◌, arith, rules}
+use Rattle.std.proofs.Common.{◌≡◌, ◌≤◌, ◌↔◌, IfOk, IsFalse, Contains, length, false, ap, subst, sym, ◌∙◌, arith, rules}
 use Rattle.std.proofs.lemmas.Bool.{or_left, or_right}
 use Rattle.go_board.specs.declared.stones.Cell.TheVariants.{Empty}
 use Rattle.go_board.specs.Point.{IsOn}
 use Rattle.go_board.specs.Grid.{Grid, cell_at}
 use Rattle.go_board.specs.Clearing.{play}
-use Rattle.go_board.specs.Past.{PastColourings, all_of, newest_grid, with_next}
+use Rattle.go_board.specs.Past.{PastColourings, all_of, newest_grid, present_stretch, with_next}
 use Rattle.go_board.specs.inner.Emptied.{HasAllEmptied}
 use Rattle.go_board.specs.inner.Groups.{TakesOff}
 use Rattle.go_board.specs.inner.Print.{print_of}
@@ -21,20 +21,26 @@ add_points-requires c =
 
 pub invariant_of-self-2 : goal.invariant_of-self-2
 invariant_of-self-2 c =
-    let was = c.self.inside in
+    let was = c.self-2.inside in
+    let kept : was.colourings ≡ c.args.self.now = c.self-2.view_is ∙ c.may_have.ensures.kept in
     let k = c.args.colour in
     let p = c.args.point in
     let rows = c.args.taken.now in
     let g = newest_grid was.colourings in
     let made : c.add_stone.new.self ≡ with_next was.colourings (play g k p) false = search rules in
-    let print : c.print_once_put-print.result ≡ print_of (play g k p) = c.print_once_put-print.ensures ∙ ap (λ (past : PastColourings). print_of (play (newest_grid past) k p)) (sym c.self.view_is) in
-    let on : IsOn g.side p = subst (λ (past : PastColourings). IsOn (newest_grid past).side p) (sym c.self.view_is) c.requires.on_board in
-    let empty : cell_at g p ≡ Empty = ap (λ (past : PastColourings). cell_at (newest_grid past) p) c.self.view_is ∙ c.requires.empty in
-    let takes : TakesOff g k p rows = subst (λ (past : PastColourings). TakesOff (newest_grid past) k p rows) (sym c.self.view_is) c.requires.taken in
+    let print : c.print_once_put-print.result ≡ print_of (play g k p) = c.print_once_put-print.ensures ∙ ap (λ (past : PastColourings). print_of (play (newest_grid past) k p)) (sym kept) in
+    let on : IsOn g.side p = subst (λ (past : PastColourings). IsOn (newest_grid past).side p) (sym kept) c.requires.on_board in
+    let empty : cell_at g p ≡ Empty = ap (λ (past : PastColourings). cell_at (newest_grid past) p) kept ∙ c.requires.empty in
+    let takes : TakesOff g k p rows = subst (λ (past : PastColourings). TakesOff (newest_grid past) k p rows) (sym kept) c.requires.taken in
     record {
-      printed = printed-next was.colourings c.add_stone.new.self was.prints c.push.new.self c.print_once_put-print.result (play g k p) false made c.in_ok-push.ensures.ok print c.self.invariant.printed;
+      printed = printed-next was.colourings c.add_stone.new.self was.prints c.push.new.self c.print_once_put-print.result (play g k p) false made c.in_ok-push.ensures.ok print c.self-2.invariant.printed;
       emptied_in = subst (λ (past : PastColourings). HasAllEmptied (is_set c.add_points.new.all) (all_of past)) (sym made) (
         λ goes_on q at some free. c.add_points.ensures.both q ∙ or_right _ _ (emptied_by_play g k p rows on empty takes q at some free),
-        HasAllEmptied-more (is_set was.emptied) (is_set c.add_points.new.all) (all_of was.colourings) (λ q is. c.add_points.ensures.both q ∙ or_left _ _ is) c.self.invariant.emptied_in,
+        HasAllEmptied-more (is_set was.emptied) (is_set c.add_points.new.all) (all_of was.colourings) (λ q is. c.add_points.ensures.both q ∙ or_left _ _ is) c.self-2.invariant.emptied_in,
       );
     }
+
+pub returns-then-may_have-clause-known : goal.returns-then-may_have-clause-known
+returns-then-may_have-clause-known c =
+    subst (λ (past : PastColourings). IfOk c.play_on_copy.result (λ added. IsFalse added ↔ Contains (present_stretch past) (play (newest_grid past) c.args.colour c.args.point)))
+    c.may_have.ensures.kept c.play_on_copy.ensures.known

@@ -5,9 +5,9 @@ use Rattle.go_board.proofs.past.table.Table.last_between.Given as goal
 
 abbrev pub invariant-loop-number : goal.invariant-loop-number
 invariant-loop-number l = record {
-  within : l.number ≤ length l.self-inside.prints.items;
+  within : l.number ≤ length l.self-inside.links.items;
   there : 0 < l.number → key_of (length l.self-inside.heads.items) (slice_index l.self-inside.prints.items (l.number - 1)) ≡ key_of (length l.self-inside.heads.items) l.print;
-  none : (y : ℕ) → l.number ≤ y → y < l.end → slice_index l.self-inside.prints.items y ≢ l.print;
+  none : (y : ℕ) → l.start ≤ y → l.number ≤ y → y < l.end → slice_index l.self-inside.prints.items y ≢ l.print;
 }
 
 abbrev pub decreases-loop-number : goal.decreases-loop-number
