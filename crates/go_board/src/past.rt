@@ -71,7 +71,7 @@ pub trait Past: Drop {
     /// Plays a stone on an empty point of the newest colouring, with its captures or its suicide (Tromp-Taylor). Adds the
     /// colouring that this makes to the present stretch, unless the stretch has it already. Returns whether it was added.
     ///
-    /// Memory is asked for only once it is known that the stretch doesn't have the colouring.
+    /// Memory is refused only once it is known that the stretch doesn't have the colouring.
     fn play(&mut self, colour: Colour, point: Point) -> Result<bool, MemoryFault>
         requires one_side { HaveSide (newest_grid (held self.old)).side (held self.old) }
         requires on_board { IsOn (newest_grid (held self.old)).side point }

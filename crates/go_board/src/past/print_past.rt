@@ -84,13 +84,7 @@ impl Past for PrintPast {
         if newest.takes_nothing_at_a_glance(colour, point) {
             return self.play_taking(colour, point, &[]);
         }
-        let mut words = no_rows();
-        let taken = &mut words[..usize::from(newest.size().side())];
-        self.colourings.find_taken(colour, point, taken);
-        if is_none(taken) {
-            return self.play_taking(colour, point, &[]);
-        }
-        self.play_taking(colour, point, taken)
+        self.play_in_doubt(colour, point)
     }
 
     fn pop(&mut self) {
@@ -111,7 +105,7 @@ impl PrintPast {
     ghost use Rattle.go_board.specs.declared.stones.Cell.TheVariants.{Empty};
     ghost use Rattle.go_board.specs.Point.{IsOn};
     ghost use Rattle.go_board.specs.Grid.{Grid, cell_at};
-    ghost use Rattle.go_board.specs.Clearing.{play};
+    ghost use Rattle.go_board.specs.Clearing.{has_unreaching, play};
     ghost use Rattle.go_board.specs.Past.{newest_grid, with_next, present_stretch, HaveSide};
     ghost use Rattle.go_board.specs.declared.stones.Colour.{Colour};
     ghost use Rattle.go_board.specs.inner.Groups.{TakesOff};
@@ -150,7 +144,34 @@ impl PrintPast {
         Ok(())
     }
 
+    /// The same as `play`, for a stone of which a glance doesn't show that it takes nothing off, on a board that is settled.
+    #[inline(never)]
+    fn play_in_doubt(&mut self, colour: Colour, point: Point) -> Result<bool, MemoryFault>
+        requires one_side { HaveSide (newest_grid self.old).side self.old }
+        requires on_board { IsOn (newest_grid self.old).side point }
+        requires empty { cell_at (newest_grid self.old) point ≡ Empty }
+        requires settled { has_unreaching (newest_grid self.old) ≡ false }
+        ensures known { IfOk result (λ added. IsFalse added
+            ↔ Contains (present_stretch self.old) (play (newest_grid self.old) colour point)) }
+        ensures ok { IfOk result (λ added. self.new ≡ (if added
+            then with_next self.old (play (newest_grid self.old) colour point) false
+            else self.old)) }
+        ensures refused { OnErr result
+            (¬ Contains (present_stretch self.old) (play (newest_grid self.old) colour point)) }
+        ensures err { OnErr result (self.new ≡ self.old) }
+    {
+        let mut words = no_rows();
+        let taken = &mut words[..usize::from(self.newest().size().side())];
+        self.colourings.find_taken(colour, point, taken);
+        if is_none(taken) {
+            return self.play_taking(colour, point, &[]);
+        }
+        self.play_taking(colour, point, taken)
+    }
+
     /// The same as `play`; `taken` is what the stone takes off.
+    // inlined, as most stones take nothing off
+    #[inline(always)]
     fn play_taking(
         &mut self,
         colour: Colour,
