@@ -142,6 +142,7 @@ impl Colourings {
 
     /// Adds the colouring that a stone makes; `taken` is what the stone takes off. The colouring continues the present stretch.
     /// After a refusal nothing is changed.
+    #[inline(always)]
     pub(crate) fn add_stone(
         &mut self,
         colour: Colour,

@@ -164,13 +164,37 @@ impl PrintPast {
         let taken = &mut words[..usize::from(self.newest().size().side())];
         self.colourings.find_taken(colour, point, taken);
         if is_none(taken) {
-            return self.play_taking(colour, point, &[]);
+            return self.play_known(colour, point, &[]);
         }
+        self.play_known(colour, point, taken)
+    }
+
+    /// The same as `play_taking`, and not inlined.
+    #[inline(never)]
+    fn play_known(
+        &mut self,
+        colour: Colour,
+        point: Point,
+        taken: &[u64],
+    ) -> Result<bool, MemoryFault>
+        requires one_side { HaveSide (newest_grid self.old).side self.old }
+        requires on_board { IsOn (newest_grid self.old).side point }
+        requires empty { cell_at (newest_grid self.old) point ≡ Empty }
+        requires taken { TakesOff (newest_grid self.old) colour point taken.now }
+        ensures known { IfOk result (λ added. IsFalse added
+            ↔ Contains (present_stretch self.old) (play (newest_grid self.old) colour point)) }
+        ensures ok { IfOk result (λ added. self.new ≡ (if added
+            then with_next self.old (play (newest_grid self.old) colour point) false
+            else self.old)) }
+        ensures refused { OnErr result
+            (¬ Contains (present_stretch self.old) (play (newest_grid self.old) colour point)) }
+        ensures err { OnErr result (self.new ≡ self.old) }
+    {
         self.play_taking(colour, point, taken)
     }
 
     /// The same as `play`; `taken` is what the stone takes off.
-    // inlined, as most stones take nothing off
+    // inlined, because most stones take nothing off, and then little is left of it
     #[inline(always)]
     fn play_taking(
         &mut self,
@@ -207,6 +231,7 @@ impl PrintPast {
 
     /// Whether the present stretch may have what a stone makes; `print` is the print of that. Most stones stay on a point that
     /// was never emptied. Then the stretch can't have it, and no print is looked up.
+    #[inline(always)]
     fn may_have(&mut self, point: Point, taken: &[u64], print: u64) -> bool
         requires one_side { HaveSide (newest_grid self.old).side self.old }
         requires on_board { IsOn (newest_grid self.old).side point }
@@ -243,6 +268,7 @@ impl PrintPast {
     }
 
     /// Whether a colouring of the present stretch has this print.
+    #[inline(never)]
     fn has_print(&self, print: u64) -> bool
         ensures { (grid : Grid) → IsFalse result → print ≡ print_of grid
             → ¬ Contains (present_stretch self.now) grid }

@@ -98,6 +98,7 @@ impl Table {
     }
 
     /// Links the prints that aren't linked yet, as far as there is memory for it.
+    #[inline(never)]
     pub(crate) fn link_rest(&mut self)
         ensures { self.new ≡ self.old }
     {
