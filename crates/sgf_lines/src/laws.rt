@@ -100,8 +100,8 @@ pub fn pages()
     sgf_tree::laws::places_rise();
 }
 
-/// A script with commands, read from its bytes and followed from the top by an engine that begins without a board. It sets the
-/// size, and clears the board before the first stone. It plays no stone on a point that isn't empty. The last board is the
+/// An engine that begins without a board reads the bytes of a script with commands, and follows it from the top. The script sets
+/// the size, and clears the board before the first stone. It plays no stone on a point that isn't empty. The last board is the
 /// colouring of the judged line after the nodes before its first illegal one, or after all nodes.
 /// So an engine that plays stones by the same rules shows the position that was judged.
 pub fn replay()

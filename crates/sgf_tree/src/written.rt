@@ -1,4 +1,4 @@
-//! Writing a node as the sgf form does. What the text already has in that form is appended as it is, and the rest part by part.
+//! Writing a node as the sgf form does. Text that already has that form is appended as it is. The rest is appended part by part.
 
 ghost use Rattle.std.specs.Prelude.{◌≡◌, ◌≤◌, ◌++◌, OnOk, IfSome, length, drop};
 ghost use Rattle.std.specs.List.{flat_map};

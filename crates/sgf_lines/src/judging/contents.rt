@@ -80,7 +80,7 @@ impl<'a> Contents<'a> {
         }
     }
 
-    /// What a property holds that has a name of one letter and one value.
+    /// What a property holds if its name has one letter and it has one value.
     fn of_lone(letter: u8, raw: &'a [u8]) -> Contents<'a>
         ensures { (side : ℕ) → IsGathered side (lone_property letter raw.now ∷ []) [] result }
     {
