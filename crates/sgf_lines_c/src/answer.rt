@@ -30,7 +30,7 @@ impl Answer {
         Answer::at(0)
     }
 
-    /// An answer with a place alone.
+    /// An answer that has only a place.
     pub(crate) fn at(at: u64) -> Answer
         ensures { result ≡ told 0 0 at }
     {
@@ -41,7 +41,7 @@ impl Answer {
         }
     }
 
-    /// An answer with a number of lines alone.
+    /// An answer that has only a number of lines.
     pub(crate) fn lines(lines: u64) -> Answer
         ensures { result ≡ told lines 0 0 }
     {
@@ -68,7 +68,7 @@ pub struct CountAnswer {
 }
 
 impl CountAnswer {
-    /// An answer with a place alone.
+    /// An answer that has only a place.
     pub(crate) fn at(at: u64) -> CountAnswer
         ensures { result ≡ fault_told at }
     {
