@@ -160,7 +160,7 @@ fn with_moves<'a>(moves: Moves<'a>, colour: Colour, property: &PropRef<'a>) -> M
     }
 }
 
-/// The comment that was found before; if none was, that of a property.
+/// The comment that was found before; if there was none, the comment of a property.
 fn first_comment<'a>(comment: Option<&'a [u8]>, property: &PropRef<'a>) -> Option<&'a [u8]>
     ensures { option_copied result ≡ first_comment (option_copied comment.entry) property.now.first }
 {
