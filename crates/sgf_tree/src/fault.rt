@@ -24,7 +24,7 @@ pub enum ReadFault {
     Memory,
 }
 
-/// Memory was refused. The value that was called, or that the call was to append to, is unchanged.
+/// Memory was refused. The value that the call was made on, or was to append to, is unchanged.
 #[derive(Clone, Copy, Debug, PartialEq, Eq, Error)]
 #[error("out of memory")]
 pub struct MemoryFault;
