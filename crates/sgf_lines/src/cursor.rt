@@ -127,7 +127,7 @@ impl<'c, 'a> Cursor<'c, 'a> {
         self.collection.node(self.path[index])
     }
 
-    /// Appends the nodes of that line from an index on to `out` as the sgf form writes them. Appends to `ends` the offset in
+    /// Appends to `out` the nodes of that line from an index on, as the sgf form writes them. Appends to `ends` the offset in
     /// `out` at which each of them ends. After a refusal of memory both are unchanged.
     pub(crate) fn push_nodes(
         &self,
