@@ -8,7 +8,7 @@ ghost use Rattle.sgf_lines_c.specs.JudgeAnswer.{reason_number as number_of, verd
 use go_board::Reason;
 use sgf_lines::Verdict;
 
-/// What a split reports. A number without a meaning under the status is 0.
+/// What a split reports. A number that has no meaning for the status is 0.
 #[repr(C)]
 #[derive(Clone, Copy)]
 pub struct Answer {
@@ -53,7 +53,7 @@ impl Answer {
     }
 }
 
-/// What a count reports. A number without a meaning under the status is 0.
+/// What a count reports. A number that has no meaning for the status is 0.
 #[repr(C)]
 #[derive(Clone, Copy)]
 pub struct CountAnswer {
@@ -81,7 +81,7 @@ impl CountAnswer {
     }
 }
 
-/// What a judge reports. A number without a meaning under the status or the verdict is 0.
+/// What a judge reports. A number that has no meaning for the status or the verdict is 0.
 #[repr(C)]
 #[derive(Clone, Copy)]
 pub struct JudgeAnswer {
