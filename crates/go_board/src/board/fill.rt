@@ -8,7 +8,7 @@ ghost use Rattle.go_board.specs.inner.Rows.{has_bit, is_set, row_above, IsPart, 
 use crate::board::regions::with_column;
 use crate::board::stone_rows::without_column;
 
-/// Adds to a set all points to which a path within the room leads from the set. A row takes the points beside it. When a row
+/// Adds to a set all points that a path within the room connects to it. A row takes the points beside it. When a row
 /// grew, the rows beside it that can take a point from it wait for their turn.
 pub(crate) fn fill(rows: &mut [u64], room: &[u64])
     requires same { length rows.old ≡ length room.now }
