@@ -11,7 +11,7 @@ pub(crate) enum Link {
     /// It is the first node after a `(`, and the node with this number is its parent.
     Variation(u32),
     /// The node before it in the file is its parent. If it is beside that node, the text from
-    /// the parent's `;` to its own is already as the sgf form writes the parent.
+    /// the parent's `;` to its own `;` already has the sgf form.
     Next { beside: bool },
 }
 

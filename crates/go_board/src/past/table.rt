@@ -199,7 +199,7 @@ fn link(heads: &mut [usize], prints: &[u64], links: &mut Vec<usize>)
     }
 }
 
-/// Empties all heads: at once, or those of the linked prints one by one, if these are few.
+/// Empties all heads. If few prints are linked, their heads are emptied one by one; otherwise all heads at once.
 fn unlink(heads: &mut [usize], prints: &[u64], links: &[usize])
     requires { IsTable heads.old prints.now links.now }
     ensures none { (key : ℕ) → key < length heads.new → slice_index heads.new key ≡ 0 }
