@@ -272,7 +272,7 @@ impl<'c, 'a> Run<'c, 'a> {
         if self.held > 0 { shared } else { 0 }
     }
 
-    /// Makes the record of the line before the cursor. The first `held` of its nodes are held.
+    /// Makes the record of the line before the cursor. The run has kept its first `held` nodes already.
     fn make(&mut self, held: usize) -> Result<(), MemoryFault>
         requires some_node { 0 < length (nodes_before self.old.cursor) }
         requires some_line { 0 < self.old.cursor.index }

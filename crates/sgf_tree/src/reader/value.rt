@@ -66,8 +66,8 @@ fn read_far_value(text: &[u8], at: usize, long: &mut Vec<LongValue>) -> Result<u
 
 /// The offset of the `]` that ends the raw value at `at`. None if the text ends before it.
 ///
-/// The kept lengths are passed as a reference to a vector, because that is one word:
-/// they pass through many calls, and few of these read them.
+/// The kept lengths are passed as a reference to a vector, because that is one word.
+/// Many calls pass it on, and few read it.
 pub(crate) fn value_end(text: &[u8], at: usize, long: Option<&Vec<LongValue>>) -> Option<usize>
     requires within { at ≤ length text.now }
     requires kept { IfSome long (λ kept. AreKeptEnds text.now kept.now.items) }
