@@ -31,8 +31,8 @@ REASONS = ["", "mixed", "two-moves", "bad-setup", "bad-point", "over", "turn", "
 Counts = namedtuple("Counts", "games nodes lines")
 Counts.__doc__ = "The number of games of a collection, of their nodes, and of its lines of play."
 Row = namedtuple("Row", "place game nodes verdict")
-Row.__doc__ = """A line of play: its place, which is the offset of the `;` of its last node, its game's number from 1, the number of its
-nodes, and its verdict, which is a Score, an Illegal, NotGo() or BadSize()."""
+Row.__doc__ = """A line of play. `place` is the offset of the `;` of its last node, `game` the number of its game, from 1, and `nodes` the
+number of its nodes. `verdict` is a Score, an Illegal, NotGo() or BadSize()."""
 Score = namedtuple("Score", "black white over")
 Score.__doc__ = "Each player's area at the end of a line, and whether two passes in a row ended the game."
 Illegal = namedtuple("Illegal", "turn place reason")

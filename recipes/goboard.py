@@ -93,7 +93,7 @@ class Board:
                 if 0 <= c < self.side and 0 <= r < self.side]
 
     def region(self, point):
-        """The connected points of the same colour as this one, and the colours beside them, None for empty."""
+        """The connected points of the same colour as this one, and the colours beside them (None means empty)."""
         own = self.stones.get(point)
         seen, waiting, borders = {point}, [point], set()
         while waiting:

@@ -116,8 +116,8 @@ def here(work):
 
 
 def there(work, machines):
-    """The answers to the batches, from several machines by GNU Parallel. No name stands on a command line: batches and answers are rows of
-    JSON, and the command consists of variables."""
+    """The answers to the batches, from several machines by GNU Parallel. No name is put on a command line: batches and answers are rows of
+    JSON, and the command has only variables."""
     if shutil.which("parallel") is None:
         raise sgfsplit.Trouble("--sshlogin needs GNU Parallel, which isn't installed")
     settings = {"TOOL": os.path.abspath(__file__), "FOLDER": os.getcwd(), "SGFSPLIT": sgfsplit.program()}

@@ -117,7 +117,7 @@ def is_ours(path):
 
 
 def shown(name):
-    """A name as a row of text shows it: control characters as \\n or \\x1b, and therefore \\ as \\\\."""
+    """A name as it is shown in a row of text: control characters as \\n or \\x1b, and therefore \\ as \\\\."""
     return re.sub(r"[\x00-\x1f\x7f-\x9f\\]", lambda found: CONTROLS.get(found[0], f"\\x{ord(found[0]):02x}"), name)
 
 

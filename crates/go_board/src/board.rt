@@ -76,7 +76,7 @@ impl Board {
         self.size
     }
 
-    /// States for proofs that every point has a cell, and that the board is no larger than the largest one.
+    /// For proofs: every point has a cell, and the board is no larger than the largest one.
     pub(crate) fn has_all_cells(&self)
         ensures all { length self.now.cells ≡ self.now.side * self.now.side }
         ensures few { self.now.side ≤ MAX_ROWS }

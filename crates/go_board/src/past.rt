@@ -24,7 +24,7 @@ pub use list_past::ListPast;
 pub use print_past::PrintPast;
 use std::alloc::Global;
 
-/// The colourings that a game has been through: at least one, each with whether it begins a
+/// The colourings that a game has been through, at least one. Each is marked if it begins a
 /// stretch. The present stretch is the newest colouring that begins one, and all after it.
 ///
 /// The boards given to `holds`, `push` and `restart` must have the size of these

@@ -31,7 +31,7 @@ fn stones(board: &Board) -> (usize, usize) {
     (black, white)
 }
 
-/// Moves one after the other; how many stones of each colour stand after each, and why.
+/// Moves one after the other. After each come the numbers of black and white stones that then stand, and the reason.
 const MOVES: [(Colour, u8, u8, (usize, usize), &str); 7] = [
     (Colour::Black, 1, 0, (1, 0), "one stone"),
     (Colour::White, 0, 0, (1, 1), "one liberty is left"),

@@ -9,7 +9,7 @@ use std::alloc::Global;
 use std::process::Abort;
 use std::test::Fail;
 
-/// Takes a turn, and returns why it isn't allowed, if so. A stone must be on the board.
+/// Takes a turn. If it isn't allowed, returns the reason. A stone must be on the board.
 pub(crate) fn turn<P: Past>(
     rt: &impl Abort,
     referee: &mut Referee<P>,

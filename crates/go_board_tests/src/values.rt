@@ -3,7 +3,7 @@
 use crate::given::size;
 use go_board::{Point, Rect, point, rect};
 
-/// Values, the side of a board, and the point that each names there.
+/// Each value has the side of a board, and the point that it names there.
 const POINTS: [(&str, u8, Option<Point>); 11] = [
     ("aa", 1, Some(Point { col: 0, row: 0 })),
     ("ba", 1, None),

@@ -45,7 +45,7 @@ pub fn first_verdict(
     }
 }
 
-/// The place of the first line of a collection whose verdict is that it has an illegal node; None if there is no such line.
+/// The place of the first line of a collection that is judged to have an illegal node; None if there is no such line.
 pub fn first_illegal(
     alloc: Global,
     collection: &Collection<'_>,

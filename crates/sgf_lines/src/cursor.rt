@@ -15,16 +15,16 @@ use sgf_tree::{Collection, MemoryFault, NodeRef};
 use std::alloc::Global;
 use std::marker::Model;
 
-/// A cursor over the lines of a collection, in file order: those of an earlier game, and of an earlier variation, come first. It
-/// is seen as the collection and the index of its next line, from 0.
+/// A cursor over the lines of a collection, in file order: the lines of an earlier game or variation come first.
+/// Contracts see it as the collection and the index of its next line, from 0.
 #[derive(Drop)]
 pub struct Cursor<'c, 'a> {
     collection: &'c Collection<'a>,
 
-    /// The node from which on the next leaf is sought.
+    /// The node at which the search for the next leaf begins.
     next: usize,
 
-    /// The nodes from the root to the leaf before that node; none before the first line.
+    /// The nodes from the root to the last leaf before that node; none before the first line.
     path: Vec<usize>,
 }
 
@@ -57,7 +57,7 @@ impl<'c, 'a> Cursor<'c, 'a> {
         }
     }
 
-    /// Goes on by one line, and returns it. After the last line it returns None, however often it is called.
+    /// Moves on by one line, and returns that line. After the last line it returns None, however often it is called.
     /// `MemoryFault` comes only if memory was refused; then the cursor is unchanged.
     pub fn next<'l>(&'l mut self) -> Result<Option<LineRef<'l>>, MemoryFault>
         ensures* goes_on { sem 𝓛 (OnceReturned self.entry (LeavesCursor self.entry.now result)) }
@@ -69,8 +69,8 @@ impl<'c, 'a> Cursor<'c, 'a> {
         }
     }
 
-    /// Moves the cursor directly after the line with this place, from wherever it stood. A
-    /// line's place is the offset in bytes, from 0, of the `;` of its last node.
+    /// Moves the cursor to just after the line with this place, wherever it was before. A line's
+    /// place is the offset in bytes, from 0, of the `;` of its last node.
     ///
     /// `NoSuchLine` comes exactly if no line has that place, unless memory was refused. After a refusal the cursor is unchanged.
     pub fn seek_after(&mut self, place: u64) -> Result<(), SeekFault>
@@ -86,7 +86,7 @@ impl<'c, 'a> Cursor<'c, 'a> {
         Ok(())
     }
 
-    /// Goes on by one line, and returns how many nodes this line shares with the line before it;
+    /// Moves on by one line, and returns how many nodes this line shares with the line before it;
     /// None if no line is left. After a refusal of memory the cursor is unchanged.
     pub(crate) fn advance(&mut self) -> Result<Option<usize>, MemoryFault>
         ensures moved { IfOk result (λ shared. MatchOption shared (self.new ≡ self.old) (λ _. self.new ≡ advanced self.old)) }
@@ -127,7 +127,7 @@ impl<'c, 'a> Cursor<'c, 'a> {
         self.collection.node(self.path[index])
     }
 
-    /// Appends the nodes of that line from an index on to `out` as the sgf form writes them. Appends to `ends` the offset in
+    /// Appends to `out` the nodes of that line from an index on, as the sgf form writes them. Appends to `ends` the offset in
     /// `out` at which each of them ends. After a refusal of memory both are unchanged.
     pub(crate) fn push_nodes(
         &self,
@@ -180,7 +180,7 @@ fn next_leaf(collection: &Collection<'_>, from: usize) -> Option<usize>
     None
 }
 
-/// The number of nodes of a path up to and including `parent`, which is sought from the path's end; 0 if there is no parent.
+/// The number of nodes of a path up to and including `parent`; 0 if there is no parent. The search begins at the path's end.
 fn cut_back(path: &[usize], parent: Option<usize>) -> usize
     ensures { IsCutBack path.now parent result }
 {

@@ -20,8 +20,8 @@ pub enum RunFault {
     TooLong,
 
     /// What the source gave, `len` bytes, spells no collection (SGF FF[4], EBNF).
-    /// Its first `at` bytes begin some text of the grammar, and no more of
-    /// them do. So if `at` is `len`, the input ends too early.
+    /// Some text of the grammar begins with its first `at` bytes, and none with
+    /// more of them. So if `at` is `len`, the input ends too early.
     /// Nothing was written.
     #[error("byte {at}: not SGF")]
     NotSgf { at: usize, len: usize },
@@ -32,7 +32,7 @@ pub enum RunFault {
     NoSuchLine { place: u64 },
 
     /// The sink failed, at a put or at the flush.
-    /// It has taken the records of the first `lines` lines whole, and less than the whole of the next, if there is one.
+    /// It has taken the whole records of the first `lines` lines, and less than the whole record of the next, if there is one.
     #[error("write failed")]
     Write { lines: u64 },
 

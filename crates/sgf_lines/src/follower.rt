@@ -18,8 +18,8 @@ use std::alloc::Global;
 use std::marker::Model;
 
 /// A follower goes over the lines after a cursor, in file order, and judges each. Nodes that a
-/// line shares with the line before it are not played again. It is seen as the collection, the
-/// index of its next line, from 0, and whether it shows the line before that one.
+/// line shares with the line before it are not played again. Contracts see it as the collection, the
+/// index (from 0) of its next line, and whether it shows the line before that one.
 #[derive(Drop)]
 pub struct Follower<'c, 'a> {
     cursor: Cursor<'c, 'a>,

@@ -5,7 +5,7 @@
 //! | `row` | the row of a line, alone or as a comment |
 //! | `record` | the record of a line in sgf form |
 //! | `script`, `commands` | the script of a line in gtp form; the commands of a node |
-//! | `judged` | judging a line from where it leaves the one before it |
+//! | `judged` | judging a line from the first node that isn't shared with the line before it |
 //! | `pieces`, `text` | a text in pieces; bytes and numbers that are appended |
 
 pub(crate) mod commands;

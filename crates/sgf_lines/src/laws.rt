@@ -61,8 +61,8 @@ pub fn kept()
 }
 
 /// One text after another, in list form. Let each of two texts spell games, and let the second not begin with a byte order mark.
-/// Then the two joined spell the games of both. Their rows are those of the first text, and then those of the second. In these,
-/// places are raised by the length of the first text, and game numbers by its number of games.
+/// Then the two joined spell the games of both. Their rows are those of the first text, and then those of the second. In
+/// the latter, places are raised by the length of the first text, and game numbers by its number of games.
 /// So a database that grows at its end leaves all earlier rows unchanged.
 pub fn append()
     ensures spelled { (games others : Games) (text later : List ℕ) → Spells games text → Spells others later
@@ -88,8 +88,8 @@ pub fn touched()
     sgf_tree::laws::places_rise();
 }
 
-/// Take a page with a limit, and the page of all lines after its last line. The two join
-/// to the page without the limit, for a collection that some text spells.
+/// Take a page with a limit, and the page of all lines after its last line. If some
+/// text spells the collection, the two joined are the page without the limit.
 /// So runs of at least one line, each begun after the last place of the run before, make the whole output.
 pub fn pages()
     ensures { (games : Games) (text : List ℕ) → Spells games text → (options : Options) (front : List Line) (last : Line)
@@ -100,8 +100,8 @@ pub fn pages()
     sgf_tree::laws::places_rise();
 }
 
-/// A script with commands, read from its bytes and followed from the top by an engine that begins without a board. It sets the
-/// size, and clears the board before the first stone. It plays no stone on a point that isn't empty. The last board is the
+/// An engine that begins without a board reads the bytes of a script with commands, and follows it from the top. The script sets
+/// the size, and clears the board before the first stone. It plays no stone on a point that isn't empty. The last board is the
 /// colouring of the judged line after the nodes before its first illegal one, or after all nodes.
 /// So an engine that plays stones by the same rules shows the position that was judged.
 pub fn replay()

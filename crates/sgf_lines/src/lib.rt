@@ -38,7 +38,7 @@
 //! | `node_values` | what the values of a node say |
 //! | `form` | the forms in which a line is written, and what lines share of a text |
 //! | `ends` | where the bytes of a run come from, and where they go |
-//! | `run` | splitting what a source gives into records, which a sink takes, and what a run holds from line to line |
+//! | `run` | splitting what a source gives into records for a sink; what a run holds from line to line |
 //! | `plays` | the count of nodes played |
 //! | `counting` | the games, nodes and lines of what a source gives |
 //! | `laws` | what follows from the definitions |

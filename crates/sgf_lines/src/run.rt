@@ -67,10 +67,10 @@ pub fn split<S: Source, T: Sink>(
 /// Splits as `split` does, with the same results, and adds to `plays` the number of nodes that it played. A node is played when
 /// its step is worked out, and not again for another line that shares it. `plays` must have room for `MAX_LENGTH` more.
 ///
-/// After `Ok` the number is that of the different nodes that are judged on the lines written. On a line these are all nodes, or
-/// those up to the first that isn't allowed, that one included. If the line's game isn't judged, they are none.
+/// After `Ok` this is the number of different nodes that are judged on the lines written. On a line these are all nodes, or the
+/// nodes up to and including the first that isn't allowed. If the line's game isn't judged, there are none.
 ///
-/// After `Write` or `Memory` the number is at least that for the first `lines` lines, and at most that for these and the next
+/// After `Write` or `Memory` it is at least the number for the first `lines` lines, and at most the number for these and the next
 /// one. After any other fault it is 0. In the form `Form::Sgf`, which has no verdict, it is always 0.
 pub fn split_counted<S: Source, T: Sink>(
     alloc: Global,
@@ -162,7 +162,6 @@ pub(crate) struct Run<'c, 'a> {
 
     /// How many nodes of the line before the cursor are held: all of them, or
     /// none before the first line and after a refusal of memory.
-    /// held before the first line and after a refusal of memory.
     held: usize,
 
     /// The judgement on that line, in the forms that judge.
@@ -273,7 +272,7 @@ impl<'c, 'a> Run<'c, 'a> {
         if self.held > 0 { shared } else { 0 }
     }
 
-    /// Makes the record of the line before the cursor. The first `held` of its nodes are held.
+    /// Makes the record of the line before the cursor. The run has kept its first `held` nodes already.
     fn make(&mut self, held: usize) -> Result<(), MemoryFault>
         requires some_node { 0 < length (nodes_before self.old.cursor) }
         requires some_line { 0 < self.old.cursor.index }

@@ -50,8 +50,8 @@ pub(crate) fn leaf_at(collection: &Collection<'_>, place: u64) -> Option<usize>
     None
 }
 
-/// The node to look at after a node that is before the place. It is the next node; or the first
-/// one after all nodes below this one, if the last of these is before the place, too.
+/// The node to look at after a node that is before the place. Usually it is the next node. But if the last
+/// node below this one is before the place, too, it is the first one after all nodes below.
 fn go_on_from(collection: &Collection<'_>, node: usize, place: u64) -> usize
     requires within { node < node_count collection.now }
     requires small { node_count collection.now ≤ usize.MAX }

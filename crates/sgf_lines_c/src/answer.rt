@@ -8,7 +8,7 @@ ghost use Rattle.sgf_lines_c.specs.JudgeAnswer.{reason_number as number_of, verd
 use go_board::Reason;
 use sgf_lines::Verdict;
 
-/// What a split reports. A number without a meaning under the status is 0.
+/// What a split reports. A number that has no meaning for the status is 0.
 #[repr(C)]
 #[derive(Clone, Copy)]
 pub struct Answer {
@@ -30,7 +30,7 @@ impl Answer {
         Answer::at(0)
     }
 
-    /// An answer with a place alone.
+    /// An answer that has only a place.
     pub(crate) fn at(at: u64) -> Answer
         ensures { result ≡ told 0 0 at }
     {
@@ -41,7 +41,7 @@ impl Answer {
         }
     }
 
-    /// An answer with a number of lines alone.
+    /// An answer that has only a number of lines.
     pub(crate) fn lines(lines: u64) -> Answer
         ensures { result ≡ told lines 0 0 }
     {
@@ -53,7 +53,7 @@ impl Answer {
     }
 }
 
-/// What a count reports. A number without a meaning under the status is 0.
+/// What a count reports. A number that has no meaning for the status is 0.
 #[repr(C)]
 #[derive(Clone, Copy)]
 pub struct CountAnswer {
@@ -68,7 +68,7 @@ pub struct CountAnswer {
 }
 
 impl CountAnswer {
-    /// An answer with a place alone.
+    /// An answer that has only a place.
     pub(crate) fn at(at: u64) -> CountAnswer
         ensures { result ≡ fault_told at }
     {
@@ -81,7 +81,7 @@ impl CountAnswer {
     }
 }
 
-/// What a judge reports. A number without a meaning under the status or the verdict is 0.
+/// What a judge reports. A number that has no meaning for the status or the verdict is 0.
 #[repr(C)]
 #[derive(Clone, Copy)]
 pub struct JudgeAnswer {

@@ -42,7 +42,7 @@ pub extern "C" fn sgf_lines_split(
     status.number()
 }
 
-/// Writes the records of the lines that the options select to the front of the room.
+/// Writes to the front of the room the records of the lines that the options select.
 fn split_into(alloc: Global, text: &[u8], options: &Options, room: &mut [u8]) -> (Status, Answer)
     ensures { Says options.now text.now room.old room.new result.1 result.0 }
 {

@@ -103,7 +103,7 @@ fn next(cursor: &mut Cursor<'_, '_>, line: Line<'_>, seen: &mut Seen) {
     }
 }
 
-/// Whether it is that line of the first game; for None, whether there is no line.
+/// Whether `given` is `line`, in the first game, or both are None.
 fn is_line(given: Option<LineRef<'_>>, line: Line<'_>) -> bool {
     match (given, line) {
         (Some(given), Some((path, place))) => {

@@ -44,7 +44,7 @@ impl Seen {
         }
     }
 
-    /// What was wrong first.
+    /// The first thing that was wrong, if there is one.
     pub fn first_wrong(&self) -> Option<&'static str> {
         self.wrong
     }

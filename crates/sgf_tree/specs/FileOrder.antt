@@ -15,8 +15,8 @@ abbrev pub further_nodes : ℕ → List Node → List OrderedNode
 further_nodes last [] = []
 further_nodes last (node ∷ rest) = record { node = node; parent = Some last; opens = false } ∷ further_nodes (last + 1) rest
 
--- The nodes of some games. Their first node has the number `number` and follows `parent`. For each game come its own nodes, those
--- of the games below its last own node, and those of the games after it.
+-- The nodes of some games. The first node has the number `number`, and its parent is `parent`. The list begins with the
+-- own nodes of the first game. Then come the nodes of the games below its last own node, and then those of the games after it.
 abbrev pub nodes_from : ℕ → Option ℕ → Games → List OrderedNode
 nodes_from number parent no_games = []
 nodes_from number parent (game first more below after) =
@@ -54,12 +54,12 @@ game_of (game first more below after) number =
     let size = 1 + length more + node_count below in
     if nat_lt number size then 1 else 1 + game_of after (number - size)
 
--- the other number is that of the node `number`, or of a node below it
+-- the other number belongs to the node `number`, or to a node below it
 pub data IsAtOrBelow (games : Games) (number : ℕ) : ℕ → Type 0 where
   itself : IsAtOrBelow games number number
   below : {parent child : ℕ} → parent_at games child ≡ Some (Some parent) → IsAtOrBelow games number parent → IsAtOrBelow games number child
 
--- the greatest number of the node `number` and the nodes below it
+-- the greatest number among the node `number` and the nodes below it
 pub record IsLastBelow (games : Games) (number last : ℕ) : Type 0 where
   pub under : IsAtOrBelow games number last
   pub greatest : (other : ℕ) → IsAtOrBelow games number other → other ≤ last

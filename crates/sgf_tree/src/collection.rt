@@ -15,7 +15,7 @@ use crate::reader::scan::{part, rest_from};
 use std::marker::Model;
 
 /// The collection that a text spells (SGF FF[4], EBNF).
-/// It refers to the text, whose names and values are not copied.
+/// It refers to the text, and doesn't copy names or values.
 /// Only `push_nodes` takes memory.
 #[derive(Drop)]
 pub struct Collection<'a> {
@@ -95,7 +95,7 @@ impl<'a> Collection<'a> {
     }
 
     /// Appends the nodes with these numbers to `out` as the sgf form writes them. Appends to `ends` the offset in `out` at which
-    /// each of them ends. What the text has in that form is copied at once. After a refusal of memory both are unchanged.
+    /// each of them ends. Text that already has that form is copied in one piece. After a refusal of memory both are unchanged.
     pub fn push_nodes(
         &self,
         numbers: &[usize],
@@ -119,8 +119,7 @@ impl<'a> Collection<'a> {
         pushed
     }
 
-    /// Appends them run by run.
-    /// After a refusal of memory some of them are appended.
+    /// The same as `push_nodes`, but after a refusal of memory some of the nodes may be appended.
     fn push_runs(
         &self,
         numbers: &[usize],
@@ -139,8 +138,8 @@ impl<'a> Collection<'a> {
         Ok(())
     }
 
-    /// Appends the first nodes of a list, each but the first of which is beside the one before it.
-    /// The result is how many they are. After a refusal of memory some of them are appended.
+    /// Appends the first node of a list, and the nodes after it as long as each is beside the one before it.
+    /// Returns how many these are. After a refusal of memory some of them may be appended.
     fn push_run(
         &self,
         numbers: &[usize],

@@ -14,8 +14,8 @@ pub enum ReadFault {
     TooLong,
 
     /// The text spells no collection (SGF FF[4], EBNF).
-    /// Its first `at` bytes begin some text of the grammar, and no more of them
-    /// do. So if `at` is the text's length, the text ends too early.
+    /// Some text of the grammar begins with its first `at` bytes, and none with more
+    /// of them. So if `at` is the text's length, the text ends too early.
     #[error("byte {at}: not SGF")]
     NotSgf { at: usize },
 
@@ -24,7 +24,7 @@ pub enum ReadFault {
     Memory,
 }
 
-/// Memory was refused. What the call was made on, or was to append to, is unchanged.
+/// Memory was refused. The value that the call was made on, or was to append to, is unchanged.
 #[derive(Clone, Copy, Debug, PartialEq, Eq, Error)]
 #[error("out of memory")]
 pub struct MemoryFault;

@@ -204,7 +204,7 @@ fn values_end(text: &[u8], at: usize, long: &Vec<LongValue>) -> usize
     }
 }
 
-/// Whether a value may be at `at`: white space, or none, and then a `[`.
+/// Whether a value may be at `at`: after any white space there, a `[` comes.
 fn begins_value(text: &[u8], at: usize) -> bool
     requires { at ≤ length text.now }
     ensures { result ≡ false → IsNoPropValue (drop at text.now) }

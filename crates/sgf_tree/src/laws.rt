@@ -26,8 +26,8 @@ pub fn places_rise()
     ensures { (games : Games) (text : List ℕ) → Spells games text → PlacesRise games }
 {}
 
-/// The function that computes the decoded text of a raw value agrees with the rows that define it (SGF FF\[4\], Text). By these
-/// rows each raw value has exactly one text, and the function computes it.
+/// The function that computes the decoded text of a raw value agrees with the rules that define it (SGF FF\[4\], Text). By these
+/// rules each raw value has exactly one text, and the function computes it.
 pub fn decoded()
     ensures { (raw text : List ℕ) → IsDecoded raw text ↔ (text ≡ text_of raw) }
 {}

@@ -10,8 +10,8 @@ pub(crate) enum Link {
     Root(u32),
     /// It is the first node after a `(`, and the node with this number is its parent.
     Variation(u32),
-    /// The node before it in the file is its parent. If it is beside that node, the
-    /// sgf form writes the parent just as the text stands between the two.
+    /// The node before it in the file is its parent. If it is beside that node, the text from
+    /// the parent's `;` to its own `;` already has the sgf form.
     Next { beside: bool },
 }
 
@@ -40,7 +40,8 @@ pub(crate) struct NodeEntry {
 /// A long raw value. Its length is kept, so that steps over its node don't search for its end again.
 #[derive(Clone, Copy)]
 pub(crate) struct LongValue {
-    /// How many bytes of the text are left where it begins. This is the same for each part of the text that goes up to its end.
+    /// How many bytes of the text are left from its first byte on. The count is the same for a
+    /// part of the text that ends where the text ends.
     pub left: u32,
     pub bytes: u32,
 }

@@ -24,7 +24,7 @@
 //! | `reader/games`, `reader/properties` | reading nodes and games; reading the properties of a node |
 //! | `reader/value` | what ends a raw value, and keeping where long values end |
 //! | `reader/mark`, `reader/scan` | the byte order mark; where spans of a text end |
-//! | `reader/fault` | why a text isn't read on, and how the place of the first fault is found |
+//! | `reader/fault` | why reading a text stopped, and how the place of the first fault is found |
 //! | `collection`, `node`, `property` | looking into a collection that was read |
 //! | `iter` | the properties of a node and the values of a property, one after another |
 //! | `written` | writing a node as the sgf form does |

@@ -1,7 +1,7 @@
 //! Reading a text.
 //!
-//! The text is gone over once. Each node that ends is pushed to a vector, and the length of each long value to another. A fault
-//! is reported at the first byte that no text of the grammar can have there.
+//! The reader goes over the text once. Each node that ends is pushed to a vector, and the length of each long value to another.
+//! A fault is reported at the first byte that no text of the grammar can have there.
 
 ghost use Rattle.std.specs.Prelude.{◌≡◌, ◌<◌, ◌≤◌, ◌↔◌, [], length, Err, IfOk, IfErr, OnOk};
 ghost use Rattle.sgf_tree.specs.Spelling.{Spells};

@@ -83,7 +83,7 @@ fn first_bit(mask: u64) -> usize
     }
 }
 
-/// The byte that the front of a raw value becomes, if it becomes one, and the rest of the value.
+/// What the front of a raw value becomes, a byte or nothing, and the rest of the value.
 fn decode_front(raw: &[u8]) -> (Option<u8>, &[u8])
     ensures decoded { text_of raw.now ≡ option_to_list result.0 ++ text_of result.1.now }
     ensures room { length (option_to_list result.0) + length result.1.now ≤ length raw.now }

@@ -1,4 +1,4 @@
-//! Writing a node as the sgf form does. What the text already has in that form is appended as it is, and the rest part by part.
+//! Writing a node as the sgf form does. Text that already has that form is appended as it is. The rest is appended part by part.
 
 ghost use Rattle.std.specs.Prelude.{◌≡◌, ◌≤◌, ◌++◌, OnOk, IfSome, length, drop};
 ghost use Rattle.std.specs.List.{flat_map};
@@ -70,7 +70,7 @@ fn push_value(value: &[u8], out: &mut Vec<u8>) -> Result<(), MemoryFault>
     Ok(())
 }
 
-/// The end of the properties at `at`, as far as they are written as the sgf form writes them.
+/// The end of the properties at `at`, as far as they have the sgf form.
 pub(crate) fn written_properties_end(text: &[u8], at: usize, long: &Vec<LongValue>) -> usize
     requires within { at ≤ length text.now }
     requires held { ArePropertiesIn (drop at text.now) }
@@ -84,7 +84,7 @@ pub(crate) fn written_properties_end(text: &[u8], at: usize, long: &Vec<LongValu
     end
 }
 
-/// The end of the property at `at`. None if there is none, or if it isn't written as the sgf form writes it.
+/// The end of the property at `at`. None if there is none, or if it doesn't have the sgf form.
 fn written_end(text: &[u8], at: usize, long: &Vec<LongValue>) -> Option<usize>
     requires within { at ≤ length text.now }
     requires kept { AreKeptEnds text.now long.now.items }
@@ -104,8 +104,8 @@ fn written_end(text: &[u8], at: usize, long: &Vec<LongValue>) -> Option<usize>
     Some(end)
 }
 
-/// The end of the values at `at`, as far as they are written as the sgf form
-/// writes them, with nothing between them. None if one of them doesn't end.
+/// The end of the values at `at`, as far as they have the sgf form, with
+/// nothing between them. None if one of them doesn't end.
 fn written_values_end(text: &[u8], at: usize, long: &Vec<LongValue>) -> Option<usize>
     requires within { at ≤ length text.now }
     requires kept { AreKeptEnds text.now long.now.items }

@@ -16,7 +16,7 @@ use std::alloc::{AllocError, Global};
 /// The names that `--form` takes.
 const FORMS: [&str; 3] = ["list", "sgf", "gtp"];
 
-/// The text after the list of commands in the program's help. Its last row has the version of the file VERSION.
+/// The text after the list of commands in the program's help. Its last row has the version that is in the file VERSION.
 const EXAMPLE: &str = "\
 Example:
   sgfsplit split --form sgf joseki.sgf > lines.sgf

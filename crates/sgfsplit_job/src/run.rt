@@ -100,7 +100,7 @@ pub fn tell<E: Sink>(fault: &Fault, faults: &mut E) -> u8
 
 /// Shows clap's text, and returns the exit status.
 ///
-/// - Help and the version, by the kind of the error, go to `output`, with status 0. If
+/// - If the kind of the error is help or the version, the text goes to `output`, with status 0. If
 ///   `output` fails, that is reported as a failed write, with status 3.
 /// - The text of a mistake in the words goes to `faults`, with status 2, even if `faults` fails.
 /// - If memory for the text is refused, that is reported with status 4.

@@ -8,7 +8,7 @@ use Rattle.go_board.specs.Past.{Held, PastColourings, all_of}
 use Rattle.go_board.specs.inner.Print.{prints_of}
 use Rattle.go_board.specs.inner.Rows.{is_set}
 
--- the set has each point with a stone before and without one after
+-- the set has each point that has a stone on the grid `before` and none on the grid `after`
 abbrev pub HasEmptied : (Point → Bool) → Grid → Grid → Type 0
 HasEmptied set before after =
     (point : Point) → IsOn before.side point → cell_at before point ≢ Empty → cell_at after point ≡ Empty
@@ -21,7 +21,7 @@ HasAllEmptied set (later ∷ []) = Unit {0}
 HasAllEmptied set (later ∷ (earlier ∷ others)) =
     (IsFalse later.begins → HasEmptied set earlier.colouring later.colouring) × HasAllEmptied set (earlier ∷ others)
 
--- what a past keeps besides its colourings: their prints, oldest first, and rows with each point that was emptied
+-- what a past keeps besides its colourings: their prints, oldest first, and a set of rows that has each emptied point
 pub record IsPrintPast (colourings : PastColourings) (prints emptied : List ℕ) : Type 0 where
   pub printed : reverse prints ≡ prints_of (all_of colourings)
   pub emptied_in : HasAllEmptied (is_set emptied) (all_of colourings)

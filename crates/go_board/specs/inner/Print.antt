@@ -1,5 +1,5 @@
--- The print of a colouring: one number made from what stands on all its points. Its low 14 bits are the fingerprint, in which the
--- code of each point is multiplied by a power of 31. The bits above are mixed from whole rows.
+-- The print of a colouring: one number made from what stands on all its points. Its low 14 bits are the fingerprint: a sum in
+-- which the code of each point is multiplied by a power of 31. The bits above are mixed from whole rows.
 use Rattle.std.specs.Prelude.{ℕ, zero, suc, ◌+◌, ◌-◌, ◌*◌, ◌/◌, ◌%◌, ◌^◌, Bool, List, map, if◌then◌else◌, bit_xor}
 use Rattle.std.specs.Int.{bit_at}
 use Rattle.go_board.specs.declared.stones.Cell.{Cell}
@@ -10,7 +10,7 @@ use Rattle.go_board.specs.Point.{index_of}
 use Rattle.go_board.specs.Grid.{Grid, cell_at}
 use Rattle.go_board.specs.Past.{Held}
 
--- the sum of what the function returns for all numbers below a number
+-- the sum of the function's values at all numbers below a number
 abbrev pub sum_below : ℕ → (ℕ → ℕ) → ℕ
 sum_below zero f = 0
 sum_below (suc n) f = sum_below n f + f n
@@ -35,7 +35,7 @@ weight side point = 31 ^ (side * side - 1 - index_of side point) % 16384
 abbrev pub folded : ℕ → ℕ
 folded word = bit_xor word (word / 2 ^ 32)
 
--- a number above the fingerprint that depends on all stones of a row, and isn't linear in them
+-- a number in the bits above the fingerprint; it depends on all stones of a row, and isn't linear in them
 unfoldable pub mixed : ℕ → ℕ → ℕ → ℕ
 mixed row black white =
     let first : ℕ = (row * 2 ^ 52 % 2 ^ 64 + black) % 2 ^ 64 in

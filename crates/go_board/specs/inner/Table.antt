@@ -19,7 +19,7 @@ pub record AreLinked (prints : List ℕ) (count : ℕ) (heads links : List ℕ) 
   pub by_link : (index : ℕ) → index < count
       → IsNewest (length heads) prints index (key_of (length heads) (slice_index prints index)) (slice_index links index)
 
--- a table of these prints; as many as there are links are linked, the oldest
+-- a table of these prints; the oldest ones are linked, as many as there are links
 pub record IsTable (heads prints links : List ℕ) : Type 0 where
   pub some : 0 < length heads
   pub few : length links ≤ length prints

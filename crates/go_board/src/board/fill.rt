@@ -8,8 +8,8 @@ ghost use Rattle.go_board.specs.inner.Rows.{has_bit, is_set, row_above, IsPart, 
 use crate::board::regions::with_column;
 use crate::board::stone_rows::without_column;
 
-/// Adds to a set of points all those that a path within the room leads to. A row takes the points beside it. When a row grew, the
-/// rows beside it that lack a point of it have to wait for their turn.
+/// Adds to a set all points that a path within the room connects to it. A row takes the points beside it. When a row
+/// grew, the rows beside it that can take a point from it wait for their turn.
 pub(crate) fn fill(rows: &mut [u64], room: &[u64])
     requires same { length rows.old ≡ length room.now }
     requires few { length rows.old < 64 }
@@ -30,7 +30,7 @@ pub(crate) fn fill(rows: &mut [u64], room: &[u64])
 }
 
 /// Lets each row take the points beside it, from the first row to the last.
-/// Returns the rows that lack a point of the row below them.
+/// Returns the rows that can take a point from the row below them.
 fn grow_down(rows: &mut [u64], room: &[u64]) -> u64
     requires same { length rows.old ≡ length room.now }
     requires few { length rows.old < 64 }
@@ -47,7 +47,7 @@ fn grow_down(rows: &mut [u64], room: &[u64]) -> u64
     waiting
 }
 
-/// The rows that wait, and those beside a row that lack a point of it.
+/// The rows that wait, and the rows beside `row` that can take a point from it.
 fn with_rows_lacking(waiting: u64, rows: &[u64], room: &[u64], row: usize) -> u64
     requires same { length room.now ≡ length rows.now }
     requires few { length rows.now < 64 }
@@ -69,7 +69,7 @@ fn with_rows_lacking(waiting: u64, rows: &[u64], room: &[u64], row: usize) -> u6
     }
 }
 
-/// Whether a row lacks a column of a word that the room has.
+/// Whether a word has a column that the room has in this row, and that the row lacks.
 fn lacks(rows: &[u64], room: &[u64], row: usize, word: u64) -> bool
     requires same { length room.now ≡ length rows.now }
     requires row { row < length rows.now }

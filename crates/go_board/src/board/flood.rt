@@ -18,8 +18,8 @@ use crate::steps::Steps;
 use crate::stones::Cell;
 
 impl Board {
-    /// The points that reach a colour (Tromp-Taylor); points of that colour are among them. Adds one step for each marked point,
-    /// so at most the square of the side. The count of steps must have room for that.
+    /// The points that reach a colour (Tromp-Taylor); points of that colour are among them. Adds one step for each marked point:
+    /// at most as many as the board has points. The count of steps must have room for that.
     pub fn reaching(&self, target: Cell, steps: &mut Steps) -> Marks
         requires { steps.old + self.now.side * self.now.side ≤ u64.MAX }
         ensures side { result.side ≡ self.now.side }

@@ -84,7 +84,7 @@ fn leaves_all_alive(own: &[u64], others: &[u64], point: Point) -> bool
     some_of(up.alive, along.alive, down.alive) && none_of(up.shut, along.shut, down.shut)
 }
 
-/// What stands on a row near the row `middle`. `i` counts the rows from the second one above it.
+/// What stands on a row near the row `middle`. `i` is 0 for the second row above it, and 2 for `middle` itself.
 fn row_at(own: &[u64], others: &[u64], middle: usize, i: usize) -> RowStones
     requires same { length others.now ≡ length own.now }
     requires few { length own.now < 64 }

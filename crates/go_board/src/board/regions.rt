@@ -69,7 +69,7 @@ impl Board {
         is_none(shut)
     }
 
-    /// Writes the stones of a colour that don't reach empty to `shut`.
+    /// Writes to `shut` the stones of a colour that don't reach empty.
     pub(crate) fn shut_stones(&self, colour: Colour, shut: &mut [u64])
         requires { length shut.old ≡ self.now.side }
         ensures shut { AreRowsOf self.now.side (is_shut self.now colour) shut.new }

@@ -1,4 +1,4 @@
-//! Past colourings. The newest is kept whole; of each older one the changes are kept that lead back to it.
+//! Past colourings. The newest is kept whole. An older one is kept as the changes that lead back to it.
 
 ghost use Rattle.std.specs.Prelude.{◌≡◌, ◌<◌, ◌≤◌, ◌&&◌, ◌==◌, ℕ, IsTrue, OnOk, OnErr, if◌then◌else◌, length, take};
 ghost use Rattle.go_board.specs.declared.points.Point.{Point};

@@ -1,4 +1,4 @@
-//! Past colourings. The newest is kept whole; of each older one the changes are kept that lead back to it.
+//! Past colourings. The newest is kept whole. An older one is kept as the changes that lead back to it.
 
 ghost use Rattle.std.specs.Prelude.{◌≡◌, ◌+◌, ◌-◌, ◌*◌, ◌<◌, ◌≤◌, ◌↔◌, ◌∷◌, false, IsTrue, IfOk, OnOk, OnErr, if◌then◌else◌, length, map, take, drop};
 ghost use Rattle.go_board.specs.declared.stones.Cell.TheVariants.{Empty};
@@ -79,7 +79,7 @@ impl Colourings {
         self.older.len() - self.older_in_stretch
     }
 
-    /// Whether the colouring with this number is that of the board.
+    /// Whether the colouring with this number is the same as the board's.
     pub(crate) fn is_at(&self, number: usize, board: &Board) -> bool
         requires { number < length (all_of self.now) }
         ensures { IsTrue result ↔ IsNumber (all_of self.now) number board.now }
@@ -89,7 +89,8 @@ impl Colourings {
         board.same(&earlier)
     }
 
-    /// Takes the newest colouring back to the one with this number. Begins at the next full step after it, if there is one.
+    /// Changes the board from the newest colouring back to the one with this number. Begins at the next full step after that one,
+    /// if there is one.
     fn go_back(&self, number: usize, board: &mut Board)
         requires number { number < length (all_of self.now) }
         requires newest { board.old ≡ newest_grid self.now }
@@ -209,8 +210,8 @@ fn next_older_in_stretch(older_in_stretch: usize, begins: bool) -> Result<usize,
     older_in_stretch.checked_add(1).ok_or(MemoryFault)
 }
 
-/// Where to start to work out the colouring with this number: the next colouring before which a step kept all points, or else the
-/// newest one. Returns that colouring's number, and how many changes there were up to it.
+/// The colouring from which to work out the one with this number. It is the next one whose step kept all points of the colouring
+/// before it, or else the newest. Returns its number, and how many changes there were up to it.
 fn next_full(older: &[Older], changes: usize, number: usize) -> (usize, usize)
     requires { number ≤ length older.now }
     ensures low { number ≤ result.0 }

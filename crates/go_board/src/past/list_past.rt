@@ -79,7 +79,7 @@ impl ListPast {
     ghost use Rattle.std.specs.Prelude.{◌≡◌, OnOk, OnErr};
     ghost use Rattle.go_board.specs.Past.{with_next};
 
-    /// Adds a colouring, which begins a stretch or not.
+    /// Adds a colouring, which begins a stretch or continues the present one.
     fn add(&mut self, board: &Board, begins: bool) -> Result<(), MemoryFault>
         ensures ok { OnOk result (self.new ≡ with_next self.old board.now begins) }
         ensures err { OnErr result (self.new ≡ self.old) }
@@ -96,7 +96,7 @@ impl ListPast {
     }
 }
 
-/// Whether the newest stretch of these colourings, oldest first, has the one of this board.
+/// Whether this board's colouring is in the newest stretch of these colourings, which are listed oldest first.
 fn stretch_has(older: &[Kept], board: &Board) -> bool
     ensures { IsTrue result ↔ Contains (stretch_of (reverse older.now)) board.now }
 {

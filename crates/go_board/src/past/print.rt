@@ -146,7 +146,7 @@ fn power(exponent: usize) -> u64
     }
 }
 
-/// A number above the fingerprint that depends on all stones of a row, and isn't linear in them.
+/// A number in the bits above the fingerprint. It depends on all stones of a row, and isn't linear in them.
 #[tactic(auto, unfolding(crate::specs::inner::Print::mixed))]
 fn mixed(row: u8, black: u64, white: u64) -> u64
     ensures { result ≡ mixed row black white }

@@ -1,4 +1,4 @@
-//! The past with prints.
+//! A past that looks colourings up by their prints.
 
 ghost use Rattle.std.specs.Prelude.{◌≡◌, ◌≢◌, ◌<◌, IsTrue, length};
 ghost use Rattle.go_board.specs.declared.stones.Cell.TheVariants.{Empty};
@@ -22,19 +22,19 @@ use crate::stones::Colour;
 use std::alloc::Global;
 use std::marker::Model;
 
-/// A past that keeps the newest colouring whole, and of each older one the changes that lead back to
-/// it. A colouring is looked up by its print, a 64-bit number made from what stands on all its points,
-/// and only in the present stretch. If two prints are equal, all points are compared.
+/// A past that keeps the newest colouring whole. Of each older one it keeps the changes that lead back to
+/// it. A colouring is looked up only in the present stretch, and by its print: a 64-bit number made from
+/// what stands on all its points. If two prints are equal, all points are compared.
 ///
-/// A colouring with one stone more than the one before it takes some 64 bytes.
+/// A colouring that only adds one stone to the one before it takes some 64 bytes.
 #[derive(Drop)]
 pub struct PrintPast {
     colourings: Colourings,
     /// The prints of the colourings, oldest first.
     prints: Table,
     /// All points that were emptied since the game began, and perhaps others: a bit for each
-    /// column of a row. Only on these points can a stone that stays bring a colouring back. They
-    /// aren't taken back with a colouring, because that may go back over a setup.
+    /// column of a row. A stone that stays can bring a colouring back only on one of these points.
+    /// Taking a colouring back leaves this set as it is, because that may go back over a setup.
     emptied: [u64; MAX_ROWS],
 }
 
@@ -144,7 +144,7 @@ impl PrintPast {
         Ok(())
     }
 
-    /// The same as `play`, for a stone of which a glance doesn't show that it takes nothing off, on a board that is settled.
+    /// The same as `play`, on a settled board, for a stone that may take something off: a glance doesn't rule it out.
     #[inline(never)]
     fn play_in_doubt(&mut self, colour: Colour, point: Point) -> Result<bool, MemoryFault>
         requires one_side { HaveSide (newest_grid self.old).side self.old }
@@ -169,7 +169,7 @@ impl PrintPast {
         self.play_known(colour, point, taken)
     }
 
-    /// The same as `play_taking`, and not inlined.
+    /// The same as `play_taking`, but not inlined.
     #[inline(never)]
     fn play_known(
         &mut self,
@@ -194,7 +194,7 @@ impl PrintPast {
     }
 
     /// The same as `play`; `taken` is what the stone takes off.
-    // inlined, because most stones take nothing off, and then little is left of it
+    // Inlined: most stones take nothing off, and then most of this code drops out.
     #[inline(always)]
     fn play_taking(
         &mut self,
@@ -229,8 +229,8 @@ impl PrintPast {
         Ok(true)
     }
 
-    /// Whether the present stretch may have what a stone makes; `print` is the print of that. Most stones stay on a point that
-    /// was never emptied. Then the stretch can't have it, and no print is looked up.
+    /// Whether the present stretch may have the colouring that a stone makes, whose print is `print`. Most stones stay on a
+    /// point that was never emptied. Then the stretch can't have that colouring, and no print is looked up.
     #[inline(always)]
     fn may_have(&mut self, point: Point, taken: &[u64], print: u64) -> bool
         requires one_side { HaveSide (newest_grid self.old).side self.old }
@@ -250,7 +250,7 @@ impl PrintPast {
         self.has_print(print)
     }
 
-    /// The print of what a stone makes; `taken` is what the stone takes off.
+    /// The print of the colouring that a stone makes; `taken` is what the stone takes off.
     fn print_once_put(&self, colour: Colour, point: Point, taken: &[u64]) -> u64
         requires on_board { IsOn (newest_grid self.now).side point }
         requires empty { cell_at (newest_grid self.now) point ≡ Empty }

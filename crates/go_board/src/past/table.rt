@@ -1,4 +1,4 @@
-//! A list of prints in which a print is found without looking at most of the others.
+//! A list of prints. A look-up skips most of them.
 
 ghost use Rattle.std.specs.Prelude.{◌≡◌, ℕ, ◌+◌, ◌-◌, ◌<◌, ◌≤◌, [], ◌∷◌, ◌++◌, IfOk, OnOk, OnErr, length, replicate, slice_index};
 ghost use Rattle.go_board.specs.inner.Table.{key_of, IsTable, IsLastOf};
@@ -14,11 +14,12 @@ const FIRST_HEADS: usize = 1024;
 /// The number of prints that a new past has room for.
 const FIRST_PRINTS: usize = 64;
 
-/// The number of heads that can be emptied at once in the time in which one print is taken back.
+/// How many heads can be emptied together in the time that emptying the head of one print takes.
 const HEADS_AT_ONCE: usize = 64;
 
-/// Prints, oldest first. Most of them are never asked for, so a print is linked only when one is looked up: then each has a link to
-/// the newest earlier print with the same key. There is at least one key for two linked prints, so on average a key has at most two.
+/// Prints, oldest first. Most of them are never looked up, so prints are linked only when a look-up
+/// comes. Each linked print has a link to the newest earlier print with the same key. For two
+/// linked prints there is at least one key, so on average a key has at most two prints.
 #[derive(Drop)]
 pub(crate) struct Table {
     /// For each key the number of the newest linked print that has it: the print's index plus 1, or 0 if there is none.
@@ -97,7 +98,7 @@ impl Table {
         None
     }
 
-    /// Links the prints that aren't linked yet, as far as there is memory for it.
+    /// Links the prints that aren't linked yet. If memory is refused, some of them stay unlinked.
     #[inline(never)]
     pub(crate) fn link_rest(&mut self)
         ensures { self.new ≡ self.old }
@@ -108,7 +109,7 @@ impl Table {
         link(&mut self.heads, &self.prints, &mut self.links);
     }
 
-    /// Makes as many heads as the prints ask for. No print is linked then.
+    /// Makes as many heads as this number of prints needs. After that no print is linked.
     #[inline(never)]
     fn grow(&mut self) -> Result<(), MemoryFault>
         ensures { self.new ≡ self.old }
@@ -154,7 +155,7 @@ impl Table {
     }
 }
 /// The key of a print in a table with this many heads. The fingerprint isn't part of it, because that is linear in the cells:
-/// moves can be chosen whose fingerprints are equal. With it as the key, each look-up would go over all these prints.
+/// someone could choose moves whose fingerprints are all equal. If it were the key, each look-up would go over all their prints.
 fn key_of(heads: usize, print: u64) -> usize
     requires { 0 < heads }
     ensures value { result ≡ key_of heads print }
@@ -183,7 +184,7 @@ fn last_of(prints: &[u64], print: u64, start: usize, end: usize) -> Option<usize
     None
 }
 
-/// Links the prints that aren't linked yet, as far as there is memory for it.
+/// Links the prints that aren't linked yet. If memory is refused, some of them stay unlinked.
 fn link(heads: &mut [usize], prints: &[u64], links: &mut Vec<usize>)
     requires { IsTable heads.old prints.now links.old.items }
     ensures table { IsTable heads.new prints.now links.new.items }
@@ -198,7 +199,7 @@ fn link(heads: &mut [usize], prints: &[u64], links: &mut Vec<usize>)
     }
 }
 
-/// Empties all heads: at once, or those of the linked prints one by one, if these are few.
+/// Empties all heads. If few prints are linked, their heads are emptied one by one; otherwise all heads at once.
 fn unlink(heads: &mut [usize], prints: &[u64], links: &[usize])
     requires { IsTable heads.old prints.now links.now }
     ensures none { (key : ℕ) → key < length heads.new → slice_index heads.new key ≡ 0 }

@@ -1,7 +1,7 @@
--- A text in pieces, by the offsets where they end.
+-- A text that is divided into pieces by the offsets where they end.
 use Rattle.std.specs.Prelude.{ℕ, ◌-◌, ◌≤◌, List, [], ◌∷◌, ◌++◌, length, take, drop}
 
--- pieces of text, one after the other, and the text begun after them
+-- pieces of text, one after the other, and an unfinished piece after them
 pub record PiecesState : Type 0 where
   pub pieces : List (List ℕ)
   pub begun : List ℕ
@@ -9,19 +9,19 @@ pub record PiecesState : Type 0 where
 abbrev pub no_pieces : PiecesState
 no_pieces = record { pieces = []; begun = [] }
 
--- more text is begun
+-- text is appended to the unfinished piece
 abbrev pub pushed : PiecesState → List ℕ → PiecesState
 pushed old more = record { pieces = old.pieces; begun = old.begun ++ more }
 
--- the text begun becomes a piece
+-- the unfinished piece is finished, and a new one begins empty
 abbrev pub closed : PiecesState → PiecesState
 closed old = record { pieces = old.pieces ++ old.begun ∷ []; begun = [] }
 
--- pieces more
+-- whole pieces are appended, and the unfinished one is empty
 abbrev pub longer : PiecesState → List (List ℕ) → PiecesState
 longer old more = record { pieces = old.pieces ++ more; begun = [] }
 
--- the first `count` pieces alone
+-- only the first `count` pieces are left
 abbrev pub cut : ℕ → PiecesState → PiecesState
 cut count old = record { pieces = take count old.pieces; begun = [] }
 
@@ -35,7 +35,7 @@ abbrev pub rest_from : ℕ → List ℕ → List ℕ → List ℕ
 rest_from start [] text = text
 rest_from start (end ∷ ends) text = rest_from end ends (drop (end - start) text)
 
--- the ends don't fall, and are within the text
+-- each end is at or after the one before it, and within the text
 abbrev pub AreEnds : ℕ → List ℕ → List ℕ → Type 0
 AreEnds start [] text = Unit {0}
 AreEnds start (end ∷ ends) text = (start ≤ end) × (end - start ≤ length text) × AreEnds end ends (drop (end - start) text)

@@ -43,7 +43,8 @@ pub trait Sink {
     ghost delivers_front: { (sink : Self) → DeliversFront (state sink) };
 }
 
-/// A sink over any writer, which may be a `&mut Vec<u8>`. It reports the bytes that it has taken if the writer does.
+/// A sink over any writer, which may be a `&mut Vec<u8>`. If the writer reports its bytes, the sink reports
+/// those that it has taken.
 ///
 /// It holds nothing back: what it takes is passed on to the writer. Its flush flushes the writer. An interrupted write, or one of
 /// 0 bytes, counts as failed, too. After a failure the writer isn't called again.

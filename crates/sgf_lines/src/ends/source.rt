@@ -69,7 +69,7 @@ impl<'a> Source for SliceSource<'a> {
     }
 }
 
-/// A source over any reader. It reports the bytes still to come if the reader does.
+/// A source over any reader. If the reader reports the bytes still to come, so does the source.
 ///
 /// An interrupted read counts as failed, too. After a failure the reader isn't called again.
 #[derive(Debug, Drop)]

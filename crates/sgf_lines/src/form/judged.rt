@@ -1,4 +1,4 @@
-//! Judging a line from where it leaves the line before it.
+//! Judging a line from the first node that it doesn't share with the line before it.
 
 ghost use Rattle.std.specs.Prelude.{◌≡◌, ◌+◌, ◌<◌, ◌≤◌, length, OnOk};
 ghost use Rattle.sgf_lines.specs.inner.Following.{nodes_before};

@@ -1,4 +1,4 @@
-//! A text in pieces, kept for what the next line shares of it.
+//! A text in pieces. It is kept because the next line shares some of the pieces.
 
 ghost use Rattle.std.specs.Prelude.{◌≡◌, ◌≤◌, ◌++◌, [], length, map, drop, OnOk, OnErr};
 ghost use Rattle.std.specs.List.{concat};
@@ -11,7 +11,8 @@ use sgf_tree::MemoryFault;
 use std::alloc::Global;
 use std::marker::Model;
 
-/// A text of pieces, one after the other, and of text begun after them. It can be cut back to any number of its first pieces.
+/// A text of pieces, one after the other, and an unfinished piece after them. It can be cut
+/// back to any number of its first pieces.
 #[derive(Drop)]
 pub(crate) struct Pieces {
     text: Vec<u8>,
@@ -31,7 +32,7 @@ impl Model for Pieces {
 }
 
 impl Pieces {
-    /// No pieces, and no text begun.
+    /// No pieces, and an empty unfinished one.
     pub(crate) fn new(alloc: Global) -> Pieces
         ensures { result ≡ no_pieces }
     {
@@ -63,7 +64,7 @@ impl Pieces {
         Ok(())
     }
 
-    /// Appends to the text begun.
+    /// Appends to the unfinished piece.
     pub(crate) fn push(&mut self, bytes: &[u8]) -> Result<(), MemoryFault>
         ensures pushed { OnOk result (self.new ≡ pushed self.old bytes.now) }
         ensures unchanged { OnErr result (self.new ≡ self.old) }
@@ -72,7 +73,7 @@ impl Pieces {
         Ok(())
     }
 
-    /// Turns the text begun into a piece.
+    /// Finishes the unfinished piece, and begins an empty one.
     pub(crate) fn close(&mut self) -> Result<(), MemoryFault>
         ensures closed { OnOk result (self.new ≡ closed self.old) }
         ensures unchanged { OnErr result (self.new ≡ self.old) }
@@ -81,7 +82,7 @@ impl Pieces {
         Ok(())
     }
 
-    /// Goes back to the first `count` pieces, or to all if there are fewer. No text is begun after them.
+    /// Goes back to the first `count` pieces, or to all if there are fewer. The unfinished piece is empty then.
     pub(crate) fn cut_back(&mut self, count: usize)
         ensures { self.new ≡ cut count self.old }
     {

@@ -9,9 +9,9 @@ use crate::cursor::Cursor;
 use crate::form::pieces::Pieces;
 use sgf_tree::MemoryFault;
 
-/// Goes on to the record of the line before the cursor. The first `held` of its nodes
-/// are held. After a refusal of memory nothing is known of the record.
-/// The record is a piece for the parenthesis, a piece for each node, and its end, which the next line cuts off.
+/// Changes `kept` to the record of the line before the cursor. `kept` has the first `held` nodes of that line already.
+/// The record is a piece for the parenthesis, a piece for each node, and an unfinished piece for its end.
+/// The next line cuts that off. After a refusal of memory nothing is known of the record.
 pub(crate) fn follow(
     cursor: &Cursor<'_, '_>,
     held: usize,
@@ -32,7 +32,7 @@ pub(crate) fn follow(
     kept.push(b")\n")
 }
 
-/// Begins a record anew, with its parenthesis.
+/// Begins a new record, with its parenthesis.
 fn begin(kept: &mut Pieces) -> Result<(), MemoryFault>
     ensures { OnOk result (kept.new ≡ open_record []) }
 {

@@ -23,8 +23,11 @@ pub(crate) struct Script {
     /// The commands that begin a game on the board, and then a piece for each taken node.
     pieces: Pieces,
 
-    /// Whether the line can't be written as commands, for one of three reasons. The line isn't judged. Or its board has more
-    /// columns than vertices have letters. Or the setup of the node after the pieces leaves a stone without a liberty.
+    /// Whether the line can't be written as commands, for one of three reasons:
+    ///
+    /// - The line isn't judged.
+    /// - Its board has more columns than vertices have letters.
+    /// - The setup of the node after the pieces leaves a stone without a liberty.
     silent: bool,
 
     /// A buffer for the commands of a node.
@@ -134,7 +137,7 @@ impl Script {
         self.pieces.push(b"\n")
     }
 
-    /// What is written of the script.
+    /// The bytes of the script that are written.
     pub(crate) fn text(&self) -> &[u8]
         ensures { result.now ≡ script_text self.now }
     {
@@ -146,8 +149,8 @@ impl Script {
     }
 }
 
-/// Goes on to the script of the line before the cursor, and judges that line. The first `held` of its nodes are held. After a
-/// refusal of memory nothing is known of the script and of the judgement.
+/// Changes `script` to the script of the line before the cursor, and judges that line. The script and the judge have the first
+/// `held` nodes of that line already. After a refusal of memory nothing is known of the script and of the judgement.
 pub(crate) fn follow(
     cursor: &Cursor<'_, '_>,
     held: usize,

@@ -80,7 +80,7 @@ impl<'a> Contents<'a> {
         }
     }
 
-    /// What a property holds that has a name of one letter and one value.
+    /// What a property holds if its name has one letter and it has one value.
     fn of_lone(letter: u8, raw: &'a [u8]) -> Contents<'a>
         ensures { (side : ℕ) → IsGathered side (lone_property letter raw.now ∷ []) [] result }
     {
@@ -160,7 +160,7 @@ fn with_moves<'a>(moves: Moves<'a>, colour: Colour, property: &PropRef<'a>) -> M
     }
 }
 
-/// The comment that was found before; if none was, that of a property.
+/// The comment that was found before; if there was none, the comment of a property.
 fn first_comment<'a>(comment: Option<&'a [u8]>, property: &PropRef<'a>) -> Option<&'a [u8]>
     ensures { option_copied result ≡ first_comment (option_copied comment.entry) property.now.first }
 {

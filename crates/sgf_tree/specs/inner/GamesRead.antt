@@ -12,7 +12,7 @@ use Rattle.sgf_tree.specs.declared.layout.Link.TheVariants.{Root, Variation, Nex
 use Rattle.sgf_tree.specs.declared.layout.NodeEntry.{NodeEntry}
 use Rattle.sgf_tree.specs.declared.reader.fault.PartFault.{PartFault}
 
--- how many nodes the whole and the open games have
+-- how many nodes the closed and the open games have
 abbrev pub open_count : Games → List OpenGame → ℕ
 open_count closed [] = node_count closed
 open_count closed (inmost ∷ outer) = open_count closed outer + 1 + length inmost.more + node_count inmost.below
@@ -28,7 +28,7 @@ own_nodes number parent open_game =
     let last = number + length open_game.more in
     record { node = open_game.first; parent = parent; opens = true } ∷ further_nodes number open_game.more ++ nodes_from (last + 1) (Some last) open_game.below
 
--- the ordered nodes of the whole and the open games
+-- the ordered nodes of the closed and the open games
 abbrev pub open_nodes : Games → List OpenGame → List OrderedNode
 open_nodes closed [] = nodes_from 0 None closed
 open_nodes closed (inmost ∷ outer) = open_nodes closed outer ++ own_nodes (open_count closed outer) (tip closed outer) inmost
@@ -40,13 +40,13 @@ lasts number (game first more below after) =
     let next = number + 1 + length more in
     replicate (1 + length more) (number + length more + node_count below) ++ lasts next below ++ lasts (next + node_count below) after
 
--- the same for the whole and the open games, with 0 for an open game's own nodes
+-- the same for the closed and the open games; each own node of an open game has 0
 abbrev pub open_lasts : Games → List OpenGame → List ℕ
 open_lasts closed [] = lasts 0 closed
 open_lasts closed (inmost ∷ outer) =
     open_lasts closed outer ++ replicate (1 + length inmost.more) 0 ++ lasts (open_count closed outer + 1 + length inmost.more) inmost.below
 
--- the node is a root, and this is the number of its game, which is one of the closed games or the next one
+-- the node is the root of the game with this number; the game is closed, or it is the next one after the closed games
 abbrev pub IsRootOf : Games → ℕ → ℕ → Type 0
 IsRootOf closed node_number game_number =
     ((node_number < node_count closed) × (game_of closed node_number ≡ game_number)) ⊎ ((node_number ≡ node_count closed) × (game_number ≡ game_count closed + 1))
@@ -78,7 +78,7 @@ pub record IsNodeRead (text : List ℕ) (place end : ℕ) (link : Link) (old new
   pub properties : ArePropertiesRead text (place + 1) end
   pub pushed : new ≡ old ++ record { place = place; link = link; last_below = 0 } ∷ []
 
--- the own nodes of a game that began at this stack were read up to `end`
+-- a game began when the machine had this stack, and its own nodes were read up to `end`
 pub record IsSequenceRead (text : List ℕ) (end : ℕ) (stack : Stack) (nodes : List NodeEntry) : Type 0 where
   pub last : OpenGame
   pub stands : StandsBetween text end (record { closed = stack.closed; unclosed = last ∷ stack.unclosed })
@@ -99,8 +99,8 @@ pub record AreOwnNodes (nodes : List NodeEntry) (first last : ℕ) : Type 0 wher
 abbrev pub without_last : NodeEntry → NodeEntry
 without_last entry = record { place = entry.place; link = entry.link; last_below = 0 }
 
--- The nodes from `first` to `last` got the number of the last node, and
--- nothing else changed. `parent` is the parent of the first.
+-- The nodes from `first` to `last` now have the number of the newest node as their last node below.
+-- Nothing else changed. `parent` is the parent of the node `first`.
 pub record ClosesGame (old new : List NodeEntry) (first last : ℕ) (parent : Option ℕ) : Type 0 where
   pub same : map without_last new ≡ map without_last old
   pub lasts_are : map (λ (n : NodeEntry). n.last_below) new
@@ -114,7 +114,7 @@ pub record IsRead (text : List ℕ) (games : Games) (nodes : List NodeEntry) : T
   pub accepts : accepted reached ≡ Some games
   pub held : HoldStack text (record { closed = games; unclosed = [] }) nodes
 
--- what may come before the first game was read: the byte order mark, or nothing
+-- the part before the first game was read: a byte order mark, or nothing
 pub record IsMarkRead (text : List ℕ) (at : ℕ) : Type 0 where
   pub within : at ≤ length text
   pub state : MachineState
@@ -123,7 +123,7 @@ pub record IsMarkRead (text : List ℕ) (at : ℕ) : Type 0 where
       → next_state at state (slice_index text at) ≡ between_games (record { closed = no_games; unclosed = [] }) (slice_index text at)
   pub end : accepted state ≡ accepted (after_game (record { closed = no_games; unclosed = [] }))
 
--- If the machine has the games of a stack, and is after a `(` at `at`, then the game's own nodes were read up to `end`.
+-- If the machine has the games of a stack and `at` is just after a `(`, then the own nodes of that game were read up to `end`.
 abbrev pub ReadsSequence : List ℕ → ℕ → ℕ → Link → List NodeEntry → List NodeEntry → Type 0
 ReadsSequence text at end link old new =
     (stack : Stack) → ComesTo text at (opened stack) → HoldStack text stack old → IsOpening stack link → IsSequenceRead text end stack new

@@ -14,13 +14,13 @@ use Rattle.sgf_tree.specs.declared.layout.NodeEntry.{NodeEntry}
 abbrev pub games_in : List ℕ → Games
 games_in text = unwrap_or (collection_of text) no_games
 
--- the parent that a link gives to the node with this number
+-- the parent of the node with this number, by its link
 abbrev pub parent_by : Link → ℕ → Option ℕ
 parent_by (Root game) number = None
 parent_by (Variation parent) number = Some parent
 parent_by (Next beside) number = Some (number - 1)
 
--- whether the link is for the first node after a `(`
+-- whether a node with this link is the first after a `(`
 abbrev pub opens_by : Link → Bool
 opens_by (Root game) = true
 opens_by (Variation parent) = true
@@ -44,7 +44,8 @@ abbrev pub outlines_by : ℕ → List NodeEntry → List Outline
 outlines_by number [] = []
 outlines_by number (entry ∷ rest) = outline_by number entry ∷ outlines_by (number + 1) rest
 
--- each node that is said to be beside the one before it stands where that one ends, as the sgf form writes it
+-- If an entry says that a node is beside the one before it, then the text from that one's `;` up to this
+-- node's `;` is just as the sgf form writes that one.
 abbrev pub AreBeside : List ℕ → List NodeEntry → Type 0
 AreBeside text nodes =
     (number : ℕ) (default : NodeEntry) → number + 1 < length nodes → (get_or nodes (number + 1) default).link ≡ Next true

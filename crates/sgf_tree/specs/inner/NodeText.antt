@@ -1,5 +1,5 @@
--- The properties and the raw values at the front of a text, as functions, so that they can be the view of a part of the text.
--- `ArePropertiesIn` and `AreValuesIn` tie them to the grammar.
+-- Functions that return the properties and the raw values at the front of a text. A part of the text has them as its view.
+-- `ArePropertiesIn` and `AreValuesIn` say that they agree with the grammar.
 use Rattle.std.specs.Prelude.{◌≡◌, ◌≢◌, ℕ, zero, suc, ◌+◌, ◌<◌, ◌≤◌, Bool, false, ◌||◌, ◌==◌, if◌then◌else◌, List, [], ◌∷◌, ◌++◌, length, drop, slice_range, filter, map, IsTrue, Option, None, Some}
 use Rattle.std.specs.List.{flat_map}
 use Rattle.sgf_tree.specs.Bytes.{semicolon, open_bracket, backslash, close_bracket}
@@ -11,12 +11,12 @@ use Rattle.sgf_tree.specs.Written.{value_text, property_text, node_text, ends_fr
 abbrev pub is_letter : ℕ → Bool
 is_letter byte = is_upper byte || is_lower byte
 
--- what is left after the first elements that pass a test
+-- the elements after the longest front that passes a test
 unfoldable pub left_after : (ℕ → Bool) → List ℕ → List ℕ
 left_after test [] = []
 left_after test (byte ∷ rest) = if test byte then left_after test rest else byte ∷ rest
 
--- those elements
+-- that front
 unfoldable pub front : (ℕ → Bool) → List ℕ → List ℕ
 front test [] = []
 front test (byte ∷ rest) = if test byte then byte ∷ front test rest else []
@@ -30,7 +30,7 @@ raw_value (byte ∷ next ∷ rest) =
     else (if byte == backslash then byte ∷ next ∷ raw_value rest
     else byte ∷ raw_value (next ∷ rest))
 
--- what is left after that `]`
+-- the bytes after that `]`
 unfoldable pub after_raw_value : List ℕ → List ℕ
 after_raw_value [] = []
 after_raw_value (byte ∷ []) = []
@@ -39,7 +39,7 @@ after_raw_value (byte ∷ next ∷ rest) =
     else (if byte == backslash then after_raw_value rest
     else after_raw_value (next ∷ rest))
 
--- what the function returns for the first byte and the bytes after it; `none` if there is no byte
+-- the function applied to the first byte and the bytes after it; `none` if there is no byte
 abbrev pub by_front : {A : Type 0} → (ℕ → List ℕ → A) → A → List ℕ → A
 by_front function none [] = none
 by_front function none (byte ∷ rest) = function byte rest
@@ -50,7 +50,7 @@ values_up_to zero text = []
 values_up_to (suc count) text =
     by_front (λ byte rest. if byte == open_bracket then raw_value rest ∷ values_up_to count (after_raw_value rest) else []) [] (left_after is_white_space text)
 
--- what is left after those
+-- the text after those values
 unfoldable pub after_values_up_to : ℕ → List ℕ → List ℕ
 after_values_up_to zero text = text
 after_values_up_to (suc count) text =
@@ -133,28 +133,28 @@ pub record IsValueAt (text : List ℕ) (from start close : ℕ) : Type 0 where
   pub within : close < length text
   pub spelled : IsPropValue (slice_range text start close) (drop from text) (drop (close + 1) text)
 
--- what is left after all values at the front
+-- the text after all values at the front
 pub record IsPastValues (text rest : List ℕ) : Type 0 where
   pub values : List (List ℕ)
   pub spelled : ArePropValues values text rest
   pub none_left : IsNoPropValue rest
 
--- the same, as the offset where it begins
+-- the same; `end` is the offset where that text begins
 pub record IsValuesEnd (text : List ℕ) (from end : ℕ) : Type 0 where
   pub within : end ≤ length text
   pub past : IsPastValues (drop from text) (drop end text)
 
--- the new list is the old one and more
+-- the new list is the old one, perhaps with elements appended
 abbrev pub GoesOn : List ℕ → List ℕ → Type 0
 GoesOn old new = (more : List ℕ) × (new ≡ old ++ more)
 
--- properties were taken off the front of others, and `text` is what the sgf form writes for them
+-- some properties were taken off the front of `old`, which left `new`; `text` is what the sgf form writes for them
 pub record IsWrittenFront (old new : List Property) (text : List ℕ) : Type 0 where
   pub taken : List Property
   pub front : old ≡ taken ++ new
   pub written : text ≡ flat_map property_text taken
 
--- from one offset to the other, values stand just as the sgf form writes them
+-- the text between the two offsets is values, written as the sgf form writes them
 pub record AreValuesWritten (whole_text : List ℕ) (from end : ℕ) : Type 0 where
   pub rises : from ≤ end
   pub within : end ≤ length whole_text
@@ -171,19 +171,19 @@ pub record IsPropertyWritten (whole_text : List ℕ) (at end : ℕ) : Type 0 whe
   pub ends : NoValueFollows (drop end whole_text)
   pub text : slice_range whole_text at end ≡ property_text property
 
--- the same for the properties up to an offset, with the other properties after it
+-- the text between the two offsets is the first properties, written as the sgf form writes them; the others come after it
 pub record ArePropertiesWritten (whole_text : List ℕ) (from end : ℕ) : Type 0 where
   pub rises : from ≤ end
   pub within : end ≤ length whole_text
   pub left : ArePropertiesIn (drop end whole_text)
   pub front : IsWrittenFront (properties_in (drop from whole_text)) (properties_in (drop end whole_text)) (slice_range whole_text from end)
 
--- nodes were appended to a text as the sgf form writes them, and where each of them ends to other ends
+-- nodes were appended to a text as the sgf form writes them, and the offset where each of them ends to `ends`
 pub record ArePushed (nodes : List Node) (old new ends new_ends : List ℕ) : Type 0 where
   pub text : new ≡ old ++ flat_map node_text nodes
   pub ends_are : new_ends ≡ ends ++ ends_from (length old) (map node_text nodes)
 
--- properties stand from one offset to another as the sgf form writes them
+-- the text between the two offsets is properties, written as the sgf form writes them
 pub record AreWritten (whole_text : List ℕ) (from end : ℕ) : Type 0 where
   pub rises : from ≤ end
   pub within : end ≤ length whole_text
@@ -191,7 +191,7 @@ pub record AreWritten (whole_text : List ℕ) (from end : ℕ) : Type 0 where
   pub spelled : AreProperties properties (drop from whole_text) (drop end whole_text)
   pub text : slice_range whole_text from end ≡ flat_map property_text properties
 
--- and so does the node whose `;` stands at `place`
+-- the same for the node whose `;` is at `place`
 pub record IsNodeWritten (whole_text : List ℕ) (place end : ℕ) : Type 0 where
   pub rises : place < end
   pub within : end ≤ length whole_text

@@ -8,7 +8,7 @@ use Rattle.sgf_tree.specs.Refusal.{IsFaultyAt}
 use Rattle.sgf_tree.specs.declared.reader.fault.PartFault.{PartFault}
 use Rattle.sgf_tree.specs.declared.reader.fault.PartFault.TheVariants.{NotSgf, Memory}
 
--- the first `at` bytes take the machine to that state
+-- after the first `at` bytes the machine has this state
 abbrev pub ComesTo : List ℕ → ℕ → MachineState → Type 0
 ComesTo text at state = run 0 start (take at text) ≡ Some state
 
@@ -50,19 +50,19 @@ pub record IsNextBracket (text : List ℕ) (at end : ℕ) : Type 0 where
   pub bracket : slice_index text end ≡ close_bracket
   pub before : HasNoBracket text at end
 
--- the same, and no `\` is directly before it
+-- the same, and no `\` is just before it
 pub record IsBareBracket (text : List ℕ) (at end : ℕ) : Type 0 where
   pub next : IsNextBracket text at end
   pub bare : at < end → slice_index text (end - 1) ≢ backslash
 
--- The bytes from `first` to `end` are all the `\` that stand directly before `end`, from `at` on.
+-- the bytes from `first` to `end` are the run of `\` just before `end`; bytes before `at` aren't counted
 pub record AreBackslashesBefore (text : List ℕ) (at first end : ℕ) : Type 0 where
   pub low : at ≤ first
   pub rises : first ≤ end
   pub escapes : (index : ℕ) → first ≤ index → index < end → slice_index text index ≡ backslash
   pub begins : at < first → slice_index text (first - 1) ≢ backslash
 
--- escapes, each of a `\` and a byte, stand side by side from `at` to `end`
+-- the bytes from `at` to `end` are escapes, each of a `\` and a byte
 pub record AreEscapes (text : List ℕ) (at end : ℕ) : Type 0 where
   pub within : end ≤ length text
   pub count : ℕ
@@ -87,21 +87,22 @@ pub record IsTwoPlain (text : List ℕ) (at : ℕ) : Type 0 where
   pub plain : ArePlain text at (at + 2)
   pub bracket : slice_index text (at + 2) ≡ close_bracket
 
--- white space, or none, begins at `at`, and a byte follows that is less than every letter and bracket
+-- after any white space at `at` comes a byte that is less than every letter and bracket
 pub record IsNodeEnd (text : List ℕ) (at : ℕ) : Type 0 where
   pub next : ℕ
   pub white_space : IsSpan is_white_space text at next
   pub inside : next < length text
   pub below : slice_index text next < capital_a
 
--- a `;`, one capital, two plain bytes between brackets, with nothing in between; then at least one more byte
+-- the text begins like `;B[pd]`, without a gap: a `;`, a capital, and two plain bytes between brackets. At least one
+-- more byte follows.
 pub record IsShortFront (text : List ℕ) : Type 0 where
   pub within : 6 < length text
   pub capital : IsTrue (is_upper (slice_index text 1))
   pub bracket : slice_index text 2 ≡ open_bracket
   pub value : IsTwoPlain text 3
 
--- white space, or none, begins at `at`, and no `[` follows
+-- after any white space at `at` no `[` comes
 pub record IsPropertyEnd (text : List ℕ) (at : ℕ) : Type 0 where
   pub next : ℕ
   pub white_space : IsSpan is_white_space text at next

@@ -34,7 +34,7 @@ pub record IsPropertyRead (text : List ℕ) (start end : ℕ) : Type 0 where
   pub reached : (node : Started) → ComesTo text (start + 1) (in_name node (slice_index text start ∷ []))
       → (property : Property) × ComesTo text end (after_value node property)
 
--- a node was read up to `end`; there only what may come after a node may follow
+-- a node was read up to `end`; only what may come after a node may come next
 pub record StandsAfterNode (text : List ℕ) (end : ℕ) (whole : Started) : Type 0 where
   pub state : MachineState
   pub reached : ComesTo text end state
@@ -53,16 +53,16 @@ pub record ArePropertiesRead (text : List ℕ) (at end : ℕ) : Type 0 where
   pub reached : (node : Started) → node.properties ≡ [] → ComesTo text at (in_node node)
       → (properties : List Property) × StandsAfterNode text end (with_properties node properties)
 
--- if the machine was at `at` after a `[`, the fault is the first one of the text
+-- if `at` is just after the `[` of a value, the fault is the first one of the text
 abbrev pub IsFaultInValue : List ℕ → ℕ → PartFault → Type 0
 IsFaultInValue text at fault =
     (node : Started) (name : List ℕ) (before : List (List ℕ)) → ComesTo text at (in_value node name before []) → IsTrueFault text fault
 
--- the same after the letter at `start`, which began a name
+-- the same, if a name began with the letter at `start`
 abbrev pub IsFaultInProperty : List ℕ → ℕ → PartFault → Type 0
 IsFaultInProperty text start fault =
     (node : Started) → ComesTo text (start + 1) (in_name node (slice_index text start ∷ [])) → IsTrueFault text fault
 
--- the same in a node without properties at `at`
+-- the same, if `at` is in a node that has no properties yet
 abbrev pub IsFaultInNode : List ℕ → ℕ → PartFault → Type 0
 IsFaultInNode text at fault = (node : Started) → node.properties ≡ [] → ComesTo text at (in_node node) → IsTrueFault text fault

@@ -60,7 +60,7 @@ pub(crate) fn read_games(
     Ok(games)
 }
 
-/// The link of a game's first node, after `games` whole games. `innermost` is the last node of the innermost open game.
+/// The link of a game's first node, after `games` finished games. `innermost` is the last node of the innermost open game.
 fn opening_link(games: u32, innermost: Option<u32>) -> Link
     requires { games < MAX_LENGTH }
     ensures { (k : Stack) → tip k.closed k.unclosed ≡ innermost → game_count k.closed ≡ games
@@ -138,7 +138,7 @@ fn read_node(
     Ok(read)
 }
 
-/// Notes in the own nodes of a game that the last node of all is the last one below them.
+/// Stores the number of the newest node in each own node of a game, as the last node below it.
 /// `tip` is the last own node. Returns the parent of the first own node.
 fn close_game(nodes: &mut Vec<NodeEntry>, tip: u32) -> Option<u32>
     requires few { length nodes.old.items ≤ MAX_LENGTH }

@@ -6,7 +6,7 @@ ghost use Rattle.sgf_tree.specs.inner.GamesRead.{IsMarkRead};
 
 use crate::reader::fault::PartFault;
 
-/// The end of the UTF-8 byte order mark, EF BB BF, which may be at the start of the text; 0 if it isn't there.
+/// The end of the UTF-8 byte order mark (EF BB BF) at the start of the text; 0 if the text has none.
 pub(crate) fn mark_end(text: &[u8]) -> Result<usize, PartFault>
     ensures read { IfOk result (IsMarkRead text.now) }
     ensures fault { IfErr result (IsTrueFault text.now) }

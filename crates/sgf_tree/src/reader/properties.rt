@@ -13,8 +13,8 @@ use crate::reader::fault::PartFault;
 use crate::reader::scan::{letters_end, short_name_end, skip_white_space};
 use crate::reader::value::read_value;
 
-/// Whether the node before `at` has no properties, because the byte there ends the node, as a `;` or a parenthesis does. This is
-/// tested before anything is called. If it is false, nothing is known.
+/// Whether the byte at `at` ends the node before any property, as a `;` or a parenthesis does. This is tested
+/// before anything is called. If it is false, nothing is known.
 #[inline(always)]
 pub(crate) fn ends_at_once(text: &[u8], at: usize) -> bool
     ensures { IsTrue result → ArePropertiesRead text.now at at }

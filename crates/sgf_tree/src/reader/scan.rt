@@ -114,7 +114,7 @@ pub(crate) fn capitals_end(text: &[u8], at: usize) -> usize
     }
 }
 
-/// The same, byte by byte.
+/// The same, found byte by byte.
 fn far_capitals_end(text: &[u8], at: usize) -> usize
     requires { at ≤ length text.now }
     ensures { IsSpan is_upper text.now at result }

@@ -12,11 +12,12 @@ use crate::reader::fault::PartFault;
 use memchr::memchr;
 use std::simd::prelude::*;
 
-/// The number of bytes that are looked at before a search, which costs more to begin. Sizes, names and clock times are short.
+/// The number of bytes that are compared before a search is begun, because a search costs more to begin. Sizes, names and clock
+/// times are short.
 const NEAR: usize = 16;
 
 /// The least length of a value whose length is kept. Nearly all comments are shorter, so few
-/// lengths are kept. And a search over this many bytes costs more than a look-up.
+/// lengths are kept. A search over this many bytes costs more than looking up a length.
 const LONG: usize = 4096;
 
 /// Reads the raw value at `at`. Returns the offset of its `]`.
@@ -65,8 +66,8 @@ fn read_far_value(text: &[u8], at: usize, long: &mut Vec<LongValue>) -> Result<u
 
 /// The offset of the `]` that ends the raw value at `at`. None if the text ends before it.
 ///
-/// What was kept is passed as a reference to a vector, which is one word.
-/// It is passed through many calls, and few of them read it.
+/// The kept lengths are passed as a reference to a vector, because that is one word.
+/// Many calls pass it on, and few read it.
 pub(crate) fn value_end(text: &[u8], at: usize, long: Option<&Vec<LongValue>>) -> Option<usize>
     requires within { at ≤ length text.now }
     requires kept { IfSome long (λ kept. AreKeptEnds text.now kept.now.items) }
@@ -78,7 +79,7 @@ pub(crate) fn value_end(text: &[u8], at: usize, long: Option<&Vec<LongValue>>) -
     }
 }
 
-/// The offset of the `]` that ends the raw value at `at`, by what was kept or by searches. None if the text ends before it.
+/// The offset of the `]` that ends the raw value at `at`, from a kept length or by searches. None if the text ends before it.
 #[inline(never)]
 fn far_end(text: &[u8], at: usize, long: Option<&Vec<LongValue>>) -> Option<usize>
     requires within { at ≤ length text.now }
@@ -177,8 +178,8 @@ fn near_bracket(text: &[u8], at: usize) -> Option<usize>
 
 /// The offset of the `]` that ends the raw value at `at`, by searches. None if the text ends before it.
 ///
-/// A `]` is escaped if an odd number of `\` is directly before it. These are counted from the value's start on, or from the end
-/// of an escape on, because the bytes before that belong to other units.
+/// A `]` is escaped if an odd number of `\` is just before it. Only those after the start of the value, or after the end of an
+/// escape, are counted: earlier bytes belong to other units.
 #[inline(never)]
 fn far_value_end(text: &[u8], at: usize) -> Option<usize>
     requires { at ≤ length text.now }
@@ -208,7 +209,7 @@ fn far_bracket(text: &[u8], at: usize) -> Option<usize>
     }
 }
 
-/// The first of the `\` that are directly before `end`, from `at` on; `end` if there are none.
+/// The first `\` of the run of `\` just before `end`; `end` if there is none. Bytes before `at` aren't counted.
 fn first_escape(text: &[u8], at: usize, end: usize) -> usize
     requires rises { at ≤ end }
     requires within { end ≤ length text.now }
@@ -221,7 +222,7 @@ fn first_escape(text: &[u8], at: usize, end: usize) -> usize
     first
 }
 
-/// The end of the escapes that stand side by side at `at`.
+/// The end of the run of escapes that begins at `at`.
 fn escapes_end(text: &[u8], at: usize) -> usize
     requires { at ≤ length text.now }
     ensures { AreEscapes text.now at result }
