@@ -164,32 +164,8 @@ impl PrintPast {
         let taken = &mut words[..usize::from(self.newest().size().side())];
         self.colourings.find_taken(colour, point, taken);
         if is_none(taken) {
-            return self.play_known(colour, point, &[]);
+            return self.play_taking(colour, point, &[]);
         }
-        self.play_known(colour, point, taken)
-    }
-
-    /// The same as `play_taking`, but not inlined.
-    #[inline(never)]
-    fn play_known(
-        &mut self,
-        colour: Colour,
-        point: Point,
-        taken: &[u64],
-    ) -> Result<bool, MemoryFault>
-        requires one_side { HaveSide (newest_grid self.old).side self.old }
-        requires on_board { IsOn (newest_grid self.old).side point }
-        requires empty { cell_at (newest_grid self.old) point ≡ Empty }
-        requires taken { TakesOff (newest_grid self.old) colour point taken.now }
-        ensures known { IfOk result (λ added. IsFalse added
-            ↔ Contains (present_stretch self.old) (play (newest_grid self.old) colour point)) }
-        ensures ok { IfOk result (λ added. self.new ≡ (if added
-            then with_next self.old (play (newest_grid self.old) colour point) false
-            else self.old)) }
-        ensures refused { OnErr result
-            (¬ Contains (present_stretch self.old) (play (newest_grid self.old) colour point)) }
-        ensures err { OnErr result (self.new ≡ self.old) }
-    {
         self.play_taking(colour, point, taken)
     }
 

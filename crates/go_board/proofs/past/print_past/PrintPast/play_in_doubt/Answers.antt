@@ -9,8 +9,8 @@ use Rattle.go_board.proofs.past.print_past.PrintPast.play_in_doubt.Goals as goal
 pub find_taken-requires-clause-none : goal.find_taken-requires-clause-none
 find_taken-requires-clause-none c = λ p. none_in_front c.from.result 52 c.no_rows-words.result p c.no_rows-words.ensures
 
-pub play_known-requires-clause-taken : goal.play_known-requires-clause-taken
-play_known-requires-clause-taken c =
+pub play_taking-requires-clause-taken : goal.play_taking-requires-clause-taken
+play_taking-requires-clause-taken c =
     let k = c.args.colour in
     let p = c.args.point in
     subst (λ (past : PastColourings). TakesOff (newest_grid past) k p []) (sym c.find_taken.ensures.unchanged)
@@ -20,12 +20,12 @@ pub returns-then-is_none-clause-known : goal.returns-then-is_none-clause-known
 returns-then-is_none-clause-known c =
     let k = c.args.colour in
     let p = c.args.point in
-    subst (λ (past : PastColourings). IfOk c.play_known.result (λ added. IsFalse added ↔ Contains (present_stretch past) (play (newest_grid past) k p)))
-    (c.find_taken.ensures.unchanged ∙ c.self.view_is) c.play_known.ensures.known
+    subst (λ (past : PastColourings). IfOk c.play_taking.result (λ added. IsFalse added ↔ Contains (present_stretch past) (play (newest_grid past) k p)))
+    (c.find_taken.ensures.unchanged ∙ c.self.view_is) c.play_taking.ensures.known
 
 pub returns-clause-known : goal.returns-clause-known
 returns-clause-known c =
     let k = c.args.colour in
     let p = c.args.point in
-    subst (λ (past : PastColourings). IfOk c.play_known-2.result (λ added. IsFalse added ↔ Contains (present_stretch past) (play (newest_grid past) k p)))
-    (c.find_taken.ensures.unchanged ∙ c.self.view_is) c.play_known-2.ensures.known
+    subst (λ (past : PastColourings). IfOk c.play_taking-2.result (λ added. IsFalse added ↔ Contains (present_stretch past) (play (newest_grid past) k p)))
+    (c.find_taken.ensures.unchanged ∙ c.self.view_is) c.play_taking-2.ensures.known
