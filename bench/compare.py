@@ -2,6 +2,7 @@
 """Measures sgfsplit, and compares it with another program of the same words if there is one.
 
   bench/compare.py [--repetitions N] [--only NAME,..] [--forms list,sgf,gtp,count] [--bytes N] [--table FILE]
+  bench/compare.py --instructions [--only ..] [--forms ..] [--bytes N]
 
   SGFSPLIT   the program (crates/sgfsplit/out/sgfsplit)
   PEER       the program to compare with; without it only sgfsplit is measured
@@ -10,6 +11,10 @@
 It prints for each input and form the median of the wall times, the median of the processor times, and the peak memory. With PEER it checks
 first that both programs write the same bytes. Then their runs take turns, and the ratios are printed too. Peak memory needs /usr/bin/time.
 --table writes the numbers as tab-separated columns. The last line is the worst ratio.
+
+--instructions counts instructions with valgrind instead, once for each program. PEER may then name several programs, with colons between
+them. It prints a row for each input: for each form our millions of instructions, and their ratio to each other program. Standard error says
+what is measured next.
 """
 import argparse
 import glob
@@ -53,6 +58,18 @@ def peak(command, source=subprocess.DEVNULL):
     return int(re.search(rb"peak (\d+)", measured.stderr)[1]) / 1024
 
 
+def instructions(command):
+    """Instructions of one run, as valgrind counts them."""
+    counted = subprocess.run(["valgrind", "--tool=callgrind", "--callgrind-out-file=/dev/null"] + command, stdin=subprocess.DEVNULL,
+                             stdout=subprocess.DEVNULL, stderr=subprocess.PIPE, check=True)
+    return int(re.search(rb"Collected : (\d+)", counted.stderr)[1])
+
+
+def progress(text):
+    """Says what is measured next, because a run is silent for a while."""
+    print(text, file=sys.stderr, flush=True)
+
+
 def digest(command):
     child = subprocess.Popen(command, stdin=subprocess.DEVNULL, stdout=subprocess.PIPE)
     seen = hashlib.sha256()
@@ -84,16 +101,33 @@ def shown(number, digits):
 
 
 def inputs(arguments, folder):
+    """The paths of the inputs. Those that aren't given are made in the folder."""
+    names = arguments.only.split(",") if arguments.only else None
     if "INPUTS" in os.environ:
         paths = sorted(glob.glob(os.path.join(os.environ["INPUTS"], "*.sgf")))
-    else:
-        paths = []
-        for kind in KINDS:
-            paths.append(os.path.join(folder, kind + ".sgf"))
-            with open(paths[-1], "wb") as file:
-                subprocess.run([sys.executable, os.path.join(HERE, "games.py"), kind, str(arguments.bytes)], stdout=file, check=True)
-    names = arguments.only.split(",") if arguments.only else None
-    return [p for p in paths if names is None or os.path.basename(p)[:-4] in names]
+        return [path for path in paths if names is None or os.path.basename(path)[:-4] in names]
+    paths = []
+    for kind in KINDS if names is None else [kind for kind in KINDS if kind in names]:
+        progress(f"making {kind}")
+        paths.append(os.path.join(folder, kind + ".sgf"))
+        with open(paths[-1], "wb") as file:
+            subprocess.run([sys.executable, os.path.join(HERE, "games.py"), kind, str(arguments.bytes)], stdout=file, check=True)
+    return paths
+
+
+def count_instructions(arguments, paths):
+    """Prints the table of instructions."""
+    forms = arguments.forms.split(",")
+    programs = [PROGRAM] + (PEER.split(":") if PEER else [])
+    print("| Input | " + " | ".join(forms) + " |\n|" + "---|" * (len(forms) + 1))
+    for path in paths:
+        name = os.path.basename(path)[:-4]
+        cells = []
+        for form in forms:
+            progress(f"counting {name} {form}")
+            own, *others = [instructions(words(program, form, path)) for program in programs]
+            cells.append(", ".join([f"{own / 1e6:,.0f}"] + [f"{own / other:.2f}" for other in others]))
+        print(f"| {name} | " + " | ".join(cells) + " |", flush=True)
 
 
 def main():
@@ -103,7 +137,12 @@ def main():
     parser.add_argument("--forms", default="list,sgf,gtp,count")
     parser.add_argument("--bytes", type=int, default=4_000_000)
     parser.add_argument("--table")
+    parser.add_argument("--instructions", action="store_true")
     arguments = parser.parse_args()
+    if arguments.instructions:
+        with tempfile.TemporaryDirectory() as folder:
+            count_instructions(arguments, inputs(arguments, folder))
+        return
     programs = [PROGRAM] + ([PEER] if PEER else [])
     worst = (0.0, "-")
     table = []
@@ -113,6 +152,7 @@ def main():
         for path in inputs(arguments, folder):
             name, size = os.path.basename(path)[:-4], os.path.getsize(path)
             for form in arguments.forms.split(","):
+                progress(f"measuring {name} {form}")
                 note = ""
                 if PEER and digest(words(PROGRAM, form, path)) != digest(words(PEER, form, path)):
                     note = "  OUTPUTS DIFFER"

@@ -1,17 +1,20 @@
 #!/usr/bin/env python3
 """Measures sgfsplit on inputs that are made to hurt, and prints a table.
 
-  bench/hostile.py [--mib N] [--only NAME,..] [--forms list,sgf,gtp,count] [--limit GIB] [--seconds N] [--table FILE]
+  bench/hostile.py [--mib N,..] [--only NAME,..] [--forms list,sgf,gtp,count] [--limit GIB] [--seconds N] [--table FILE]
   bench/hostile.py --from FILE                the short table of an earlier run
 
   SGFSPLIT   the program (crates/sgfsplit/out/sgfsplit)
+  PEER       another program with the same words, which is run beside it
 
-Each input is made as large as N MiB allow (64, the program's limit), or smaller if its output would grow with its square. A run has at
-most GIB of memory (16) and N seconds (300). For each input and form the table has the bytes read and written, the processor seconds, and the
-nanoseconds per byte read or written. It also has the peak memory, that memory per byte read, and the status if it isn't 0. The short table
-of docs/PERFORMANCE.md comes last. Needs /usr/bin/time.
+Each input is made as large as N MiB allow (64, the program's limit), or smaller if its output would grow with its square; with several N, once
+for each. A run has at most GIB of memory (16) and N seconds (300). For each input and form the table has the bytes read and written, the
+processor seconds, and the nanoseconds per byte read or written. It also has the peak memory, that memory per byte read, and the status if it
+isn't 0. With PEER it has that program's processor seconds, and says if the outputs differ. The short table of docs/PERFORMANCE.md comes last.
+Needs /usr/bin/time.
 """
 import argparse
+import hashlib
 import os
 import random
 import re
@@ -20,7 +23,7 @@ import subprocess
 import sys
 import tempfile
 
-from compare import PROGRAM, words
+from compare import PEER, PROGRAM, progress, words
 
 LETTERS = "abcdefghijklmnopqrstuvwxyzABCDEFGHIJKLMNOPQRSTUVWXYZ"
 FORMS = ["list", "sgf", "gtp", "count"]
@@ -270,25 +273,34 @@ INPUTS = {
 
 
 def run(command, gib, seconds):
-    """The status, bytes written, processor seconds and peak memory in bytes of a run. The status is 'time' if the run took too long."""
+    """The status, bytes written, their hash, processor seconds and peak memory in bytes of a run. The status is 'time' if it took too long."""
     limits = lambda: (resource.setrlimit(resource.RLIMIT_AS, (gib << 30, gib << 30)), resource.setrlimit(resource.RLIMIT_CPU, (seconds, seconds)))
     with tempfile.NamedTemporaryFile() as told:
         timed = ["/usr/bin/time", "-q", "-o", told.name, "-f", "%U %S %M"] + command
         program = subprocess.Popen(timed, stdin=subprocess.DEVNULL, stdout=subprocess.PIPE, stderr=subprocess.DEVNULL, preexec_fn=limits)
-        counter = subprocess.run(["wc", "-c"], stdin=program.stdout, stdout=subprocess.PIPE, check=True)
-        program.stdout.close()
+        written, seen = 0, hashlib.sha256()
+        for piece in iter(lambda: program.stdout.read(1 << 20), b""):
+            written += len(piece)
+            seen.update(piece)
         status = program.wait()
         user, system, peak = re.findall(r"[0-9.]+", told.read().decode().split("\n")[-2])
     taken = float(user) + float(system)
-    return "time" if taken >= seconds - 1 else status, int(counter.stdout), taken, int(peak) * 1024
+    return "time" if taken >= seconds - 1 else status, written, seen.digest(), taken, int(peak) * 1024
+
+
+def beside(form, path, arguments, status, seen):
+    """What the table says of PEER's run on the same input."""
+    other_status, _, other, taken, _ = run(words(PEER, form, path), arguments.limit, arguments.seconds)
+    if other_status == "time":
+        return "  peer: too long"
+    return f"  peer {taken:.2f} s" + ("" if (status, seen) == (other_status, other) else ", OUTPUTS DIFFER")
 
 
 def short(table):
     """A row for each input: seconds and nanoseconds per byte in each form, and the greatest memory per byte read."""
     print("\n| Input | Bytes | list: s, ns | sgf: s, ns | gtp: s, ns | count: s, ns | memory |\n|---|---|---|---|---|---|---|")
-    for name in dict.fromkeys(row[0] for row in table):
-        rows = {row[2]: row for row in table if row[0] == name}
-        size = next(iter(rows.values()))[3]
+    for name, size in dict.fromkeys((row[0], row[3]) for row in table):
+        rows = {row[2]: row for row in table if (row[0], row[3]) == (name, size)}
         cells = []
         for form in FORMS:
             if form not in rows:
@@ -308,9 +320,22 @@ def earlier(path):
             yield name, what, form, int(size), int(written), float(seconds), int(peak), status
 
 
+def measure(name, path, arguments):
+    """Runs the forms of an input, and prints a row for each. Yields the rows of the table."""
+    what, _, forms = INPUTS[name]
+    size = os.path.getsize(path)
+    for form in forms:
+        if arguments.forms and form not in arguments.forms.split(","):
+            continue
+        status, written, seen, seconds, peak = run(words(PROGRAM, form, path), arguments.limit, arguments.seconds)
+        print(f"{name:12}{form:6}{size:10}{written:12}{seconds:9.2f}{seconds * 1e9 / (size + written):9.1f}{peak / 2**20:9.0f}{peak / size:9.1f}"
+              + (f"  status {status}" if status else "") + (beside(form, path, arguments, status, seen) if PEER else ""), flush=True)
+        yield name, what, form, size, written, seconds, peak, status
+
+
 def main():
     parser = argparse.ArgumentParser()
-    parser.add_argument("--mib", type=float, default=64)
+    parser.add_argument("--mib", default="64")
     parser.add_argument("--only")
     parser.add_argument("--forms")
     parser.add_argument("--limit", type=int, default=16)
@@ -329,17 +354,11 @@ def main():
     with tempfile.TemporaryDirectory() as folder:
         path = os.path.join(folder, "input.sgf")
         for name in names:
-            what, make, forms = INPUTS[name]
-            with open(path, "w", encoding="ascii", newline="") as file:
-                file.write(make(min(int(arguments.mib * (1 << 20)), LIMIT)))
-            size = os.path.getsize(path)
-            for form in forms:
-                if arguments.forms and form not in arguments.forms.split(","):
-                    continue
-                status, written, seconds, peak = run(words(PROGRAM, form, path), arguments.limit, arguments.seconds)
-                print(f"{name:12}{form:6}{size:10}{written:12}{seconds:9.2f}{seconds * 1e9 / (size + written):9.1f}{peak / 2**20:9.0f}{peak / size:9.1f}"
-                      + (f"  status {status}" if status else ""), flush=True)
-                table.append((name, what, form, size, written, seconds, peak, status))
+            for mib in arguments.mib.split(","):
+                progress(f"making {name}, {mib} MiB")
+                with open(path, "w", encoding="ascii", newline="") as file:
+                    file.write(INPUTS[name][1](min(int(float(mib) * (1 << 20)), LIMIT)))
+                table += measure(name, path, arguments)
     if arguments.table:
         with open(arguments.table, "w", encoding="utf-8") as file:
             for row in table:
