@@ -1,6 +1,10 @@
 //! What a run is asked for.
 
-ghost use Rattle.std.specs.Prelude.{◌≡◌, None};
+ghost use Rattle.std.specs.Prelude.{◌≡◌, List, ℕ, IfSome, None, Some, map, slice_get};
+ghost use Rattle.sgf_lines.specs.Form.{forms, form_word};
+
+/// The words that name the forms, in the order of their numbers.
+const WORDS: [&str; 3] = ["list", "sgf", "gtp"];
 
 /// How a line of play is written.
 #[derive(Clone, Copy, Debug, PartialEq, Eq)]
@@ -11,6 +15,40 @@ pub enum Form {
     Sgf,
     /// A script of the Go Text Protocol, version 2.
     Gtp,
+}
+
+impl Form {
+    /// The words that name the forms, in the order of their numbers.
+    pub fn words() -> &'static [&'static str]
+        ensures { map (λ word. word.now) result.now ≡ map form_word forms }
+    {
+        WORDS.as_slice()
+    }
+
+    /// The form that a word names; None if it names none.
+    pub fn named(word: &str) -> Option<Form>
+        ensures named { IfSome result (λ form. form_word form ≡ word.now) }
+        ensures all { (form : Form) → form_word form ≡ word.now → result ≡ Some form }
+    {
+        match word {
+            "list" => Some(Form::List),
+            "sgf" => Some(Form::Sgf),
+            "gtp" => Some(Form::Gtp),
+            _ => None,
+        }
+    }
+
+    /// The form with this number; None if none has it.
+    pub fn numbered(number: u32) -> Option<Form>
+        ensures { result ≡ slice_get forms number }
+    {
+        match number {
+            0 => Some(Form::List),
+            1 => Some(Form::Sgf),
+            2 => Some(Form::Gtp),
+            _ => None,
+        }
+    }
 }
 
 /// Which lines of play are written, and how.

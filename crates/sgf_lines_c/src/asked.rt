@@ -1,7 +1,7 @@
 //! What a caller asks for.
 
 ghost use Rattle.std.specs.Prelude.{◌≡◌};
-ghost use Rattle.sgf_lines_c.specs.Asked.{options_of, given, form_of};
+ghost use Rattle.sgf_lines_c.specs.Asked.{options_of, given};
 
 use sgf_lines::{Form, Options};
 
@@ -28,24 +28,12 @@ impl Asked {
     pub(crate) fn options(&self) -> Option<Options>
         ensures { result ≡ options_of self.now }
     {
-        let form = form_of_number(self.form)?;
+        let form = Form::numbered(self.form)?;
         Some(Options {
             form,
             after: given_number(self.has_after, self.after),
             limit: given_number(self.has_limit, self.limit),
         })
-    }
-}
-
-/// The form with this number, if there is one.
-fn form_of_number(number: u32) -> Option<Form>
-    ensures { result ≡ form_of number }
-{
-    match number {
-        0 => Some(Form::List),
-        1 => Some(Form::Sgf),
-        2 => Some(Form::Gtp),
-        _ => None,
     }
 }
 

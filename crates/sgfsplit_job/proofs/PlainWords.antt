@@ -21,9 +21,10 @@ use Rattle.clap.specs.declared.builder.value_parser.ValueParser.TheVariants.{Uns
 use Rattle.clap.proofs.ValueTestLemmas.{Accepts-accepts}
 use Rattle.sgf_lines.specs.declared.options.Form.{Form}
 use Rattle.sgf_lines.specs.declared.options.Form.TheVariants as form
-use Rattle.sgfsplit_job.specs.CommandLine.{FormNames, forms, names_of, program_app}
-use Rattle.sgfsplit_job.specs.PlainWords.{ArePlainWords, IsFileWord, IsNameWord, IsNumberWord, SplitWords, Word, count_words, file_words, split_words, form_word, hyphen}
-use Rattle.sgfsplit_job.specs.inner.Found.{HoldSplitWords, form_named, rows_found}
+use Rattle.sgfsplit_job.specs.CommandLine.{FormNames, form_names, names_of, program_app}
+use Rattle.sgfsplit_job.specs.PlainWords.{ArePlainWords, IsFileWord, IsNameWord, IsNumberWord, SplitWords, Word, count_words, file_words, split_words, hyphen}
+use Rattle.sgf_lines.specs.Form.{form_word}
+use Rattle.sgfsplit_job.specs.inner.Found.{HoldSplitWords, rows_found}
 use Rattle.sgfsplit_job.proofs.CommandLine.{AreAccepted, IsNoOption, accepts_form, accepts_number, after_row, count_entered, count_level, count_row, count_rules, count_taken, file_row, form_row, limit_row, split_entered, split_level, split_rows_are, split_rules, split_taken, words_after}
 
 -- ---- names
@@ -50,10 +51,10 @@ accepted_as : (names : List (Bor (List ℕ))) (word : Word) → list_any (λ nam
 accepted_as [] word = refl
 accepted_as (x ∷ xs) word = rw (accepted_as xs word) refl
 
-pub form_accepted : (names : FormNames) → names_of names ≡ forms → (f : Form) → accepts_form names (form_word f) ≡ true
+pub form_accepted : (names : FormNames) → names_of names ≡ form_names → (f : Form) → accepts_form names (form_word f) ≡ true
 form_accepted names e f = accepted_as names.now (form_word f) ∙ ap (λ all. list_any (λ name. same_text false name (form_word f)) all) e ∙ go f
   where
-    go : (f : Form) → list_any (λ name. same_text false name (form_word f)) forms ≡ true
+    go : (f : Form) → list_any (λ name. same_text false name (form_word f)) form_names ≡ true
     go form.List = refl
     go form.Sgf = refl
     go form.Gtp = refl
@@ -105,7 +106,7 @@ each_some : (w : Option Word) (P Q : Word → Type 0) → ((x : Word) → P x �
 each_some None P Q f h = tt
 each_some (Some x) P Q f h = f x h
 
-module _ (names : FormNames) (are : names_of names ≡ forms) where
+module _ (names : FormNames) (are : names_of names ≡ form_names) where
   abbrev after_split : SplitWords → List Word
   after_split given = words_after (option_map form_word given.form) given.after given.limit given.file
 
@@ -167,11 +168,6 @@ given_word (Some y) x w e is = cc
 pub nothing_given : (o : Option (Bor (List ℕ))) (w : Option Word) → option_map (λ s. s.now) o ≡ w → o ≡ None → w ≡ None
 nothing_given None w e is = sym e
 nothing_given (Some y) w e is = cc
-
-pub named_again : (f : Form) → form_named (form_word f) ≡ f
-named_again form.List = refl
-named_again form.Sgf = refl
-named_again form.Gtp = refl
 
 pub word_given : (o : Option (Bor (List ℕ))) (w : Option Word) (x : Bor (List ℕ)) → option_map (λ s. s.now) o ≡ w → o ≡ Some x → w ≡ Some x.now
 word_given o w x e is = sym e ∙ ap (option_map (λ s. s.now)) is

@@ -8,6 +8,7 @@ use Rattle.clap.specs.Walk.{Rule}
 use Rattle.clap.specs.Simple.{App, new_app, new_rule, on_top, with_rule, with_subcommand}
 use Rattle.clap.specs.declared.builder.value_parser.ValueParser.TheVariants.{Names, Unsigned}
 use Rattle.clap.specs.declared.error.kind.ErrorKind.{ErrorKind}
+use Rattle.sgf_lines.specs.Form.{forms, form_word}
 use Rattle.sgfsplit_job.specs.declared.request.JobFault.{JobFault}
 use Rattle.sgfsplit_job.specs.declared.request.JobFault.TheVariants.{Words, Memory}
 
@@ -58,18 +59,18 @@ abbrev pub program_app : FormNames → App
 program_app names = with_subcommand (with_subcommand program_alone (split_app names).top) count_app.top
 
 -- the names that `--form` takes
-abbrev pub forms : List (List ℕ)
-forms = codes "list" ∷ codes "sgf" ∷ codes "gtp" ∷ []
+abbrev pub form_names : List (List ℕ)
+form_names = map form_word forms
 
 -- clap finds no fault in the words, read as a command line of the program
 abbrev pub AreFaultless : List (List ℕ) → Type 0
 AreFaultless words =
-    (names : FormNames) × (names_of names ≡ forms) × (fault_of (program_app names) words ≡ [])
+    (names : FormNames) × (names_of names ≡ form_names) × (fault_of (program_app names) words ≡ [])
 
 -- clap finds a fault of this kind in the words; a request for help counts as a fault
 abbrev pub HasFault : List (List ℕ) → ErrorKind → Type 0
 HasFault words kind =
-    (names : FormNames) × (names_of names ≡ forms) × IsAmong kind (fault_of (program_app names) words)
+    (names : FormNames) × (names_of names ≡ form_names) × IsAmong kind (fault_of (program_app names) words)
 
 -- words are refused only for a fault that they have
 abbrev pub IsTrueOf : List (List ℕ) → JobFault → Type 0

@@ -6,17 +6,12 @@ use Rattle.std.specs.Str.Parse.{AllDigits, digits_value}
 use Rattle.sgf_lines.specs.declared.options.Form.{Form}
 use Rattle.sgf_lines.specs.declared.options.Form.TheVariants as form
 use Rattle.sgf_lines.specs.declared.options.Options.{Options}
+use Rattle.sgf_lines.specs.Form.{form_word}
 use Rattle.sgfsplit_job.specs.declared.request.Job.{Job}
 use Rattle.sgfsplit_job.specs.declared.request.Job.TheVariants.{Split, Count}
 
 abbrev pub Word : Type 0
 Word = List ℕ
-
--- how a form is named
-abbrev pub form_word : Form → Word
-form_word form.List = codes "list"
-form_word form.Sgf = codes "sgf"
-form_word form.Gtp = codes "gtp"
 
 -- 1 to 18 decimal digits
 abbrev pub IsNumberWord : Word → Type 0

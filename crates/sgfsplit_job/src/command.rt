@@ -8,13 +8,11 @@
 ghost use Rattle.std.specs.Prelude.{◌≡◌, false, IfOk};
 ghost use Rattle.clap.specs.Walk.{rule_of};
 ghost use Rattle.clap.specs.Simple.{app_of};
-ghost use Rattle.sgfsplit_job.specs.CommandLine.{FormNames, names_of, forms, form_rule, number_rule, file_rule, split_app, count_app, program_app};
+ghost use Rattle.sgfsplit_job.specs.CommandLine.{FormNames, names_of, form_names, form_rule, number_rule, file_rule, split_app, count_app, program_app};
 
 use clap::{Arg, Command, value_parser};
+use sgf_lines::Form;
 use std::alloc::{AllocError, Global};
-
-/// The names that `--form` takes.
-const FORMS: [&str; 3] = ["list", "sgf", "gtp"];
 
 /// The text after the list of commands in the program's help. Its last row has the version that is in the file VERSION.
 const EXAMPLE: &str = "\
@@ -77,7 +75,7 @@ writes three numbers: games, nodes, lines of play.";
 /// The whole command line.
 pub fn command<'a>(alloc: Global) -> Result<Command<'a>, AllocError>
     ensures { IfOk result (λ c. (names : FormNames)
-        × (names_of names ≡ forms) × (app_of c ≡ program_app names)) }
+        × (names_of names ≡ form_names) × (app_of c ≡ program_app names)) }
 {
     let split = split_command(alloc)?;
     let program = Command::new(alloc, "sgfsplit")
@@ -92,7 +90,7 @@ pub fn command<'a>(alloc: Global) -> Result<Command<'a>, AllocError>
 /// The command `split`.
 fn split_command<'a>(alloc: Global) -> Result<Command<'a>, AllocError>
     ensures { IfOk result (λ c. (names : FormNames)
-        × (names_of names ≡ forms) × (app_of c ≡ split_app names)) }
+        × (names_of names ≡ form_names) × (app_of c ≡ split_app names)) }
 {
     let split = Command::new(alloc, "split")
         .about("Writes one record per line of play, in the order of the file")
@@ -120,9 +118,9 @@ fn count_command<'a>(alloc: Global) -> Result<Command<'a>, AllocError>
     Ok(count)
 }
 
-/// The option `--form`, which takes one of `FORMS`.
+/// The option `--form`, which takes the name of a form.
 fn form_option<'a>(alloc: Global) -> Arg<'a>
-    ensures rule { (names : FormNames) × (names_of names ≡ forms) × (rule_of result ≡ form_rule names) }
+    ensures rule { (names : FormNames) × (names_of names ≡ form_names) × (rule_of result ≡ form_rule names) }
     ensures local { result.global ≡ false }
 {
     Arg::new(alloc, "form")
@@ -130,7 +128,7 @@ fn form_option<'a>(alloc: Global) -> Arg<'a>
         .value_name("FORM")
         .help("How each line of play is written")
         .default_value("list")
-        .value_parser(FORMS.as_slice())
+        .value_parser(Form::words())
 }
 
 /// An option that takes a 64-bit number.

@@ -6,9 +6,10 @@ ghost use Rattle.clap.specs.Matches.{has_subcommand};
 ghost use Rattle.clap.specs.Simple.{subcommand_rows_of};
 ghost use Rattle.clap.specs.Walk.{Row, first_of, one_of};
 ghost use Rattle.sgf_lines.specs.declared.options.Form.{Form};
+ghost use Rattle.sgf_lines.specs.Form.{form_word};
 ghost use Rattle.sgfsplit_job.specs.CommandLine.{AreFaultless, IsTrueOf};
-ghost use Rattle.sgfsplit_job.specs.PlainWords.{Word, SplitWords, ArePlainWords, IsNumberWord, IsFileWord, SplitsBy, CountsFile, form_word, file_of as file_of_rule, options_of, split_words, count_words};
-ghost use Rattle.sgfsplit_job.specs.inner.Found.{rows_found, form_named, HoldSplitWords};
+ghost use Rattle.sgfsplit_job.specs.PlainWords.{Word, SplitWords, ArePlainWords, IsNumberWord, IsFileWord, SplitsBy, CountsFile, file_of as file_of_rule, options_of, split_words, count_words};
+ghost use Rattle.sgfsplit_job.specs.inner.Found.{rows_found, HoldSplitWords};
 
 use crate::command::command;
 use crate::request::{Job, JobFault};
@@ -102,21 +103,8 @@ fn form_given(found: &ArgMatches) -> Form
     ensures { (form : Form) → first_of (codes "form") (rows_found found.now) ≡ Some (form_word form) → result ≡ form }
 {
     match found.get_str("form") {
-        Some(word) => form_named(word),
+        Some(word) => Form::named(word).unwrap_or(Form::List),
         None => Form::List,
-    }
-}
-
-/// The form with this name: List unless it is `sgf` or `gtp`.
-fn form_named(word: &str) -> Form
-    ensures { result ≡ form_named word.now }
-{
-    if word == "sgf" {
-        Form::Sgf
-    } else if word == "gtp" {
-        Form::Gtp
-    } else {
-        Form::List
     }
 }
 

@@ -1,19 +1,14 @@
 -- What clap found for the arguments of `split`.
-use Rattle.std.specs.Prelude.{◌≡◌, List, Some, unwrap_or, codes, if◌then◌else◌}
-use Rattle.std.specs.Str.{bytes_eq}
+use Rattle.std.specs.Prelude.{◌≡◌, List, Some, unwrap_or, codes}
 use Rattle.clap.specs.Walk.{Row, first_of, one_of, rows_of}
 use Rattle.clap.specs.Matches.{found_of}
 use Rattle.clap.specs.declared.parser.matches.ArgMatches.{ArgMatches}
-use Rattle.sgf_lines.specs.declared.options.Form.{Form}
 use Rattle.sgf_lines.specs.declared.options.Form.TheVariants as form
-use Rattle.sgfsplit_job.specs.PlainWords.{SplitWords, Word, form_word}
+use Rattle.sgf_lines.specs.Form.{form_word}
+use Rattle.sgfsplit_job.specs.PlainWords.{SplitWords}
 
 abbrev pub rows_found : ArgMatches → List Row
 rows_found found = rows_of (found_of found)
-
--- the form with this name
-abbrev pub form_named : Word → Form
-form_named word = if bytes_eq word (codes "sgf") then form.Sgf else (if bytes_eq word (codes "gtp") then form.Gtp else form.List)
 
 -- the rows hold these words
 pub record HoldSplitWords (words : SplitWords) (rows : List Row) : Type 0 where

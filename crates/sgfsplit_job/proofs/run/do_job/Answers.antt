@@ -1,4 +1,4 @@
-use Rattle.std.proofs.Common.{◌+◌, ◌∙◌, ap, sym, subst, refl, arith, Ok, Err, Some, None}
+use Rattle.std.proofs.Common.{sym, subst, refl, arith, Ok, Err, Some, None}
 use Rattle.std.specs.Result.{result_err}
 use Rattle.sgfsplit_job.specs.Act.{DoesJob}
 use Rattle.sgfsplit_job.specs.declared.request.Job.{Job}
