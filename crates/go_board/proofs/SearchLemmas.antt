@@ -1,5 +1,5 @@
 -- What a search keeps as points are found.
-use Rattle.std.proofs.Common.{◌≡◌, ℕ, zero, suc, ◌+◌, ◌*◌, ◌<◌, ◌≤◌, Bool, true, false, cond, List, [], ◌∷◌, ◌++◌, length, get_or, take, set, refl, sym, ap, ◌∙◌, subst, arith, IsTrue, inl, inr}
+use Rattle.std.proofs.Common.{◌≡◌, ℕ, zero, suc, ◌+◌, ◌*◌, ◌<◌, ◌≤◌, Bool, true, false, cond, List, [], ◌∷◌, ◌++◌, length, get_or, take, set, refl, sym, ap, ◌∙◌, subst, arith, IsTrue}
 use Rattle.std.proofs.lemmas.List.{get_or-set_same, length-set, length_push, take_more_set, length-take-le}
 use Rattle.std.proofs.lemmas.List.Elements.{All-push, All-get_or, All-from_get_or}
 use Rattle.std.proofs.lemmas.List.Sums.{sum_by-set, count_by-le-length}

@@ -1,6 +1,6 @@
 -- What the rows of a stone's group tell of a grid: the stone reaches empty, or its group has no liberty.
-use Rattle.std.proofs.Common.{◌≡◌, inl, inr, ℕ, ◌&&◌, ◌||◌, Bool, true, false, not, IsTrue, List, [], length, refl, sym, ap, ◌∙◌, subst}
-use Rattle.std.proofs.lemmas.Bool.{and_parts, and_from, false≢true, true≢false}
+use Rattle.std.proofs.Common.{◌≡◌, inl, inr, ℕ, ◌&&◌, ◌||◌, Bool, true, false, not, List, [], length, refl, sym, ◌∙◌, subst}
+use Rattle.std.proofs.lemmas.Bool.{and_parts, and_from, false≢true}
 use Rattle.go_board.specs.declared.stones.Cell.TheVariants.{Empty}
 use Rattle.go_board.specs.declared.stones.Colour.{Colour}
 use Rattle.go_board.specs.declared.points.Point.{Point}
@@ -8,13 +8,13 @@ use Rattle.go_board.specs.Colour.{opponent, stone_of, same_cell}
 use Rattle.go_board.specs.Point.{IsOn}
 use Rattle.go_board.specs.Grid.{Grid, cell_at}
 use Rattle.go_board.specs.Reaching.{Reaches, reaches}
-use Rattle.go_board.specs.inner.Groups.{IsWithoutLiberty, LosesShut, IsWithout}
+use Rattle.go_board.specs.inner.Groups.{IsWithoutLiberty}
 use Rattle.go_board.specs.inner.Rows.{is_set, IsClosed}
 use Rattle.go_board.specs.inner.Regions.{AreRowsOf}
 use Rattle.go_board.specs.inner.Linked.{IsLiberty, IsShutIn}
-use Rattle.go_board.proofs.GridLemmas.{one_grid, Decides-same_cell}
+use Rattle.go_board.proofs.GridLemmas.{Decides-same_cell}
 use Rattle.go_board.proofs.NeighbourLemmas.{AreAdjacent-sym}
-use Rattle.go_board.proofs.GroupLemmas.{neither_stone, stone_of≢Empty, LosesShut-group}
+use Rattle.go_board.proofs.GroupLemmas.{neither_stone, stone_of≢Empty}
 use Rattle.go_board.proofs.ReachingLemmas.{Decides-reaches, path_by_step}
 
 not_true : (x y : Bool) → x ≡ true → (not x || y) ≡ true → y ≡ true
@@ -85,12 +85,3 @@ rows_of_colour g k d rows is are = subst (λ c. AreRowsOf g.side (λ p. same_cel
 -- the rows of the other colour
 pub rows_of_opponent : (g : Grid) (k d : Colour) (rows : List ℕ) → d ≡ opponent k → AreRowsOf g.side (λ p. same_cell (cell_at g p) (stone_of d)) rows → AreRowsOf g.side (λ p. same_cell (cell_at g p) (stone_of (opponent k))) rows
 rows_of_opponent g k d rows is are = subst (λ c. AreRowsOf g.side (λ p. same_cell (cell_at g p) (stone_of c)) rows) is are
-
--- a group without a liberty is taken off by emptying its points
-pub LosesShut-without : (g h : Grid) (k : Colour) (rows : List ℕ) → IsWithoutLiberty g k (λ p. is_set rows p) → IsWithout g h (λ p. IsTrue (is_set rows p)) → LosesShut g h k
-LosesShut-without g h k rows shut is =
-    let same : record g { cells = h.cells } ≡ h = one_grid (record g { cells = h.cells }) h (sym is.same_side) refl in
-    subst (λ x. LosesShut g x k) same
-    (LosesShut-group g k (λ p. is_set rows p) shut h.cells is.all
-    (λ p on at. ap (λ x. cell_at x p) same ∙ is.emptied p on at)
-    (λ p on other. ap (λ x. cell_at x p) same ∙ is.kept p on (λ gone. true≢false (sym gone ∙ other))))
