@@ -1,5 +1,5 @@
 -- What the words of bits around a point tell of a stone on it.
-use Rattle.std.proofs.Common.{◌≡◌, ◌≢◌, ◌⊎◌, inl, inr, ℕ, ◌+◌, ◌^◌, ◌<◌, true, false, not, List, [], length, get_or, bit_and, bit_or, w64, refl, sym, ap, ◌∙◌, arith, subst}
+use Rattle.std.proofs.Common.{◌≡◌, ◌≢◌, ◌⊎◌, inl, inr, ℕ, ◌+◌, ◌^◌, ◌<◌, ◌||◌, Bool, true, false, not, List, [], length, get_or, bit_and, bit_or, w64, refl, sym, ap, ◌∙◌, arith, subst}
 use Rattle.std.specs.Int.{bit_not}
 use Rattle.std.proofs.lemmas.Bool.{or_cases, or_parts, and_parts, and_from, not-true, false≢true, cases_eq}
 use Rattle.go_board.specs.declared.stones.Cell.TheVariants.{Empty}
@@ -84,6 +84,19 @@ row_inside own others middle i r free at below within off = record {
   are_own = λ col is. (record { col = col; row = r }, (refl, at), is);
   has_others = λ p there is. ap (λ n. has_bit (get_or others n 0) p.col) (omega (arith, there, at)) ∙ is;
 }
+
+or_from : (a b : Bool) → a ≡ false → b ≡ false → (a || b) ≡ false
+or_from a b first second = rw (first, second)
+
+pub row_free : (own others : List ℕ) (middle i r free : ℕ) → r + 2 ≡ middle + i
+    → ((col : ℕ) → col < length own → has_bit free col ≡ not (has_bit (bit_or (get_or own r 0) (get_or others r 0)) col))
+    → (p : Point) → p.row + 2 ≡ middle + i → IsOn (length own) p → is_set own p ≡ false → is_set others p ≡ false → has_bit free p.col ≡ true
+row_free own others middle i r free at within p there on not_own not_other =
+    let same : p.row ≡ r = omega (arith, there, at) in
+    within p.col on.0
+    ∙ ap not
+    (has_bit-or (get_or own r 0) (get_or others r 0) p.col
+    ∙ or_from _ _ (ap (λ n. has_bit (get_or own n 0) p.col) (sym same) ∙ not_own) (ap (λ n. has_bit (get_or others n 0) p.col) (sym same) ∙ not_other))
 
 pub row_all_but : (own others : List ℕ) (middle i free : ℕ) (row : RowStones) → ((col : ℕ) → has_bit free col ≡ true → has_bit row.free col ≡ true)
     → IsRowAt own others middle i row → IsRowAt own others middle i (record { own = row.own; others = row.others; free = free })

@@ -2,7 +2,7 @@
 use Rattle.std.specs.Prelude.{◌≡◌, ◌⊎◌, ℕ, Bool, false, IsTrue, List, length}
 use Rattle.go_board.specs.declared.points.Point.{Point}
 use Rattle.go_board.specs.Point.{IsOn, AreAdjacent}
-use Rattle.go_board.specs.inner.Rows.{is_set, IsAmong, IsClosed, IsRowClosed}
+use Rattle.go_board.specs.inner.Rows.{is_set, IsAmong, IsClosed}
 
 -- Every set that has the one point and is closed within the room has the other point, too.
 abbrev pub IsLinked : (Point → Bool) → Point → Point → Type 0
@@ -21,14 +21,6 @@ pub record IsLiberty (own others : List ℕ) (from point : Point) : Type 0 where
   pub linked : IsLinked (is_set own) from stone
   pub not_own : is_set own point ≡ false
   pub not_other : is_set others point ≡ false
-
--- the stones of a group, all in one row
-pub record IsRowGroup (own : List ℕ) (from : Point) (group : List ℕ) : Type 0 where
-  pub within : IsAmong (is_set group) (is_set own)
-  pub start : IsTrue (is_set group from)
-  pub linked : (point : Point) → IsTrue (is_set group point) → IsLinked (is_set own) from point
-  pub one_row : (point : Point) → IsTrue (is_set group point) → point.row ≡ from.row
-  pub closed : IsRowClosed (is_set own) (is_set group) from.row
 
 -- the group of the stone on a point; all points beside the group are filled
 pub record IsShutIn (own others : List ℕ) (from : Point) (group : List ℕ) : Type 0 where

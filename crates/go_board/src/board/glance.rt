@@ -1,16 +1,16 @@
 //! A glance at the points around a point, by words of bits. Usually it shows that a stone there captures nothing.
 
-ghost use Rattle.std.specs.Prelude.{◌≡◌, ◌⊎◌, false, ℕ, ◌<◌, ◌≤◌, IsTrue, List, [], length};
+ghost use Rattle.std.specs.Prelude.{◌≡◌, ◌⊎◌, ◌+◌, false, ℕ, ◌<◌, ◌≤◌, IsTrue, List, [], length};
 ghost use Rattle.go_board.specs.declared.points.Point.{Point};
 ghost use Rattle.go_board.specs.declared.stones.Colour.{Colour};
 ghost use Rattle.go_board.specs.Colour.{opponent, same_cell, stone_of};
-ghost use Rattle.go_board.specs.Point.{IsOn, DifferByOne};
+ghost use Rattle.go_board.specs.Point.{IsOn};
 ghost use Rattle.go_board.specs.Grid.{Grid, cell_at, with_cell};
 ghost use Rattle.go_board.specs.Clearing.{has_unreaching};
 ghost use Rattle.go_board.specs.inner.Glance.{IsRowAt};
 ghost use Rattle.go_board.specs.inner.Groups.{AllLive, TakesOff};
 ghost use Rattle.go_board.specs.inner.Regions.{AreRowsOf};
-ghost use Rattle.go_board.specs.inner.Rows.{has_bit, IsInOrBeside};
+ghost use Rattle.go_board.specs.inner.Rows.{has_bit, is_set, IsInOrBeside};
 
 use crate::board::Board;
 use crate::board::group::columns_beside;
@@ -35,10 +35,10 @@ impl Board {
 /// The columns of a row with a stone of the player, with one of the opponent, and
 /// without a stone. A row outside the board has none of these columns.
 #[derive(Clone, Copy)]
-struct RowStones {
-    own: u64,
-    others: u64,
-    free: u64,
+pub(crate) struct RowStones {
+    pub(crate) own: u64,
+    pub(crate) others: u64,
+    pub(crate) free: u64,
 }
 
 /// Some columns of a row: those in which the player's stone finds a liberty,
@@ -78,12 +78,14 @@ fn leaves_all_alive(own: &[u64], others: &[u64], point: Point) -> bool
 }
 
 /// What stands on a row near the row `middle`. `i` is 0 for the second row above it, and 2 for `middle` itself.
-fn row_at(own: &[u64], others: &[u64], middle: usize, i: usize) -> RowStones
+pub(crate) fn row_at(own: &[u64], others: &[u64], middle: usize, i: usize) -> RowStones
     requires same { length others.now ≡ length own.now }
     requires few { length own.now < 64 }
     requires middle { middle < length own.now }
     requires near { i ≤ 4 }
-    ensures { IsRowAt own.now others.now middle i result }
+    ensures is { IsRowAt own.now others.now middle i result }
+    ensures free { (point : Point) → point.row + 2 ≡ middle + i → IsOn (length own.now) point → is_set own.now point ≡ false
+        → is_set others.now point ≡ false → IsTrue (has_bit result.free point.col) }
 {
     if 2 <= middle + i && middle + i - 2 < own.len() {
         let row = middle + i - 2;

@@ -25,16 +25,16 @@ returns-then-alive-ne0 c = λ g k side is_own is_others none.
     let last = c.row_at-last.result in
     let stone = c.with_column-stone.result in
     let wide = c.columns_beside.result in
-    let is_first : IsRowAt own others p.row 0 first = subst (λ m. IsRowAt own others m 0 first) at c.row_at-first.ensures in
-    let is_above : IsRowAt own others p.row 1 above = subst (λ m. IsRowAt own others m 1 above) at c.row_at-above.ensures in
+    let is_first : IsRowAt own others p.row 0 first = subst (λ m. IsRowAt own others m 0 first) at c.row_at-first.ensures.is in
+    let is_above : IsRowAt own others p.row 1 above = subst (λ m. IsRowAt own others m 1 above) at c.row_at-above.ensures.is in
     let still = λ (n : ℕ) (there : has_bit free n ≡ true).
     elim (cases_eq n c.from-col.result) as (λ _. has_bit c.row_at-here.result.free n ≡ true) [
       | inl same ↦ absurd (false≢true (sym c.without_column.ensures.there ∙ ap (has_bit free) (sym same) ∙ there))
       | inr other ↦ sym (c.without_column.ensures.elsewhere n other) ∙ there
     ] in
-    let is_here : IsRowAt own others p.row 2 here = subst (λ m. IsRowAt own others m 2 here) at (row_all_but own others c.from-middle.result 2 free c.row_at-here.result still c.row_at-here.ensures) in
-    let is_below : IsRowAt own others p.row 3 below = subst (λ m. IsRowAt own others m 3 below) at c.row_at-below.ensures in
-    let is_last : IsRowAt own others p.row 4 last = subst (λ m. IsRowAt own others m 4 last) at c.row_at-last.ensures in
+    let is_here : IsRowAt own others p.row 2 here = subst (λ m. IsRowAt own others m 2 here) at (row_all_but own others c.from-middle.result 2 free c.row_at-here.result still c.row_at-here.ensures.is) in
+    let is_below : IsRowAt own others p.row 3 below = subst (λ m. IsRowAt own others m 3 below) at c.row_at-below.ensures.is in
+    let is_last : IsRowAt own others p.row 4 last = subst (λ m. IsRowAt own others m 4 last) at c.row_at-last.ensures.is in
     let free_first = free_elsewhere g k p own others side on is_own is_others 0 first is_first (λ e. omega (arith, e)) in
     let free_above = free_elsewhere g k p own others side on is_own is_others 1 above is_above (λ e. omega (arith, e)) in
     let free_here = free_besides g k p own others side on is_own is_others here is_here (ap (has_bit free) (sym col) ∙ c.without_column.ensures.there) in
