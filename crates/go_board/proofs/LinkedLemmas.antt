@@ -1,14 +1,13 @@
 -- The group of a stone, and the points beside it.
-use Rattle.std.proofs.Common.{◌≡◌, ◌≢◌, inl, inr, ℕ, zero, suc, ◌+◌, ◌*◌, ◌/◌, ◌%◌, ◌^◌, ◌<◌, subst, true, false, not, nat_eq, w64, List, length, get_or, set, take, replicate, bit_and, bit_or, slice_index, refl, sym, ap, ◌∙◌, arith}
-use Rattle.std.proofs.lemmas.Bool.{or_cases, or_left, or_right, and_parts, and_from, false≢true, true≢false, cases_eq, cases_Bool}
-use Rattle.std.proofs.lemmas.Bool.Decides.{Decides-not, Decides-eqb}
+use Rattle.std.proofs.Common.{◌≡◌, ◌≢◌, inl, inr, ℕ, zero, suc, ◌+◌, ◌*◌, ◌/◌, ◌%◌, ◌^◌, ◌<◌, subst, true, false, w64, List, length, get_or, set, take, replicate, bit_and, bit_or, slice_index, refl, sym, ap, ◌∙◌, arith}
+use Rattle.std.proofs.lemmas.Bool.{or_cases, or_left, or_right, and_parts, false≢true, cases_eq}
 use Rattle.std.specs.Int.{trailing_zeros}
 use Rattle.std.proofs.lemmas.List.{length-set, get_or-set_same, get_or-set_other}
 use Rattle.go_board.specs.declared.points.Point.{Point}
 use Rattle.go_board.specs.declared.board.glance.RowStones.{RowStones}
 use Rattle.go_board.specs.Point.{IsOn, DifferByOne, AreAdjacent}
-use Rattle.go_board.specs.inner.Rows.{has_bit, is_set, row_above, IsTaken, Grows, IsInOrBeside}
-use Rattle.go_board.specs.inner.Linked.{IsLiberty}
+use Rattle.go_board.specs.inner.Rows.{has_bit, is_set, IsTaken, Grows, IsInOrBeside}
+use Rattle.go_board.specs.inner.Linked.{HasLiberty, IsLiberty}
 use Rattle.go_board.specs.inner.Fill.{IsFilledBut}
 use Rattle.go_board.specs.inner.Glance.{IsRowAt}
 use Rattle.go_board.proofs.PointLemmas.{one_point}
@@ -52,25 +51,12 @@ beside-to above here below col low is =
           ∙ or_right _ _ (ap (has_bit (here * 2 ^ 1 % 2 ^ 64)) (sym next) ∙ has_bit-left here d (omega arith) ∙ there))
     ])
 
--- the columns that two sets have in common
-pub common-some : (a b : ℕ) → a < 2 ^ 64 → not (nat_eq (bit_and a b) 0) ≡ true → (col : ℕ) × (has_bit a col ≡ true) × (has_bit b col ≡ true)
-common-some a b low some =
-    let lowest = lowest_left a (bit_and a b) ((Decides-not _ (Decides-eqb (bit_and a b) 0)).0 some) low (λ c is. (and_parts _ _ (sym (has_bit-and a b c) ∙ is)).0) in
+-- a column that two sets have in common
+pub common_column : (a b : ℕ) → a < 2 ^ 64 → bit_and a b ≢ 0 → (col : ℕ) × (has_bit a col ≡ true) × (has_bit b col ≡ true)
+common_column a b low some =
+    let lowest = lowest_left a (bit_and a b) some low (λ c is. (and_parts _ _ (sym (has_bit-and a b c) ∙ is)).0) in
     let both = and_parts _ _ (sym (has_bit-and a b (trailing_zeros w64 (bit_and a b))) ∙ lowest.0) in
     (trailing_zeros w64 (bit_and a b), both.0, both.1)
-
-pub common-none : (a b : ℕ) → not (nat_eq (bit_and a b) 0) ≡ false → (col : ℕ) → has_bit a col ≡ true → has_bit b col ≡ false
-common-none a b none col is =
-    elim (cases_Bool (nat_eq (bit_and a b) 0)) [
-      | inl zero_is ↦
-          let same : bit_and a b ≡ 0 = (Decides-eqb (bit_and a b) 0).0 zero_is in
-          elim (cases_Bool (has_bit b col)) [
-            | inl there ↦
-                absurd (false≢true (sym (ap (λ w. has_bit w col) same ∙ has_bit-zero col) ∙ has_bit-and a b col ∙ and_from _ _ is there))
-            | inr gone ↦ gone
-          ]
-      | inr other ↦ absurd (true≢false (sym (ap not other) ∙ none))
-    ]
 
 -- with no row set no point is
 pub none_in_front : (n m : ℕ) (words : List ℕ) (p : Point) → words ≡ replicate m 0 → is_set (take n words) p ≡ false
@@ -82,28 +68,18 @@ none_in_front n m words p is = ap (λ ws. is_set (take n ws) p) is ∙ ap (λ w.
     zeros (suc n) (suc m) zero = refl
     zeros (suc n) (suc m) (suc r) = zeros n m r
 
-above_from : (rows : List ℕ) (row col : ℕ) → has_bit (row_above rows row) col ≡ true → (q : Point) × AreAdjacent (record { col = col; row = row }) q × (is_set rows q ≡ true)
-above_from rows zero col is = absurd (false≢true (sym (has_bit-zero col) ∙ is))
-above_from rows (suc r) col is = (record { col = col; row = r }, inl (refl, inr (omega arith)), is)
-
--- a column of a row, in the rows above and below it or beside it in the row, has a set point beside it
-pub adjacent-from : (rows : List ℕ) (row col : ℕ) → IsInOrBeside (row_above rows row) (slice_index rows row) (slice_index rows (row + 1)) col → (q : Point) × AreAdjacent (record { col = col; row = row }) q × (is_set rows q ≡ true)
-adjacent-from rows row col (inl up) = above_from rows row col up
-adjacent-from rows row col (inr (inl down)) = (record { col = col; row = row + 1 }, inl (refl, inl refl), down)
-adjacent-from rows row col (inr (inr (d, differ, there))) = (record { col = d; row = row }, inr (refl, differ), there)
-
 -- the points around a row that have no stone
 module _ (own others : List ℕ) (row : ℕ) (above here below : RowStones) (is_above : IsRowAt own others row 1 above) (is_here : IsRowAt own others row 2 here) (is_below : IsRowAt own others row 3 below) where
-  pub free_beside : (col : ℕ) → IsInOrBeside above.free here.free below.free col → (z : Point) × IsOn (length own) z × AreAdjacent z (record { col = col; row = row }) × (is_set own z ≡ false) × (is_set others z ≡ false)
+  pub free_beside : (col : ℕ) → IsInOrBeside above.free here.free below.free col → HasLiberty own others (record { col = col; row = row })
   free_beside col (inl up) =
       let f = is_above.are_free col up in
-      (f.0, f.2, inl (f.1.0, inl (omega (arith, f.1.1))), f.3, f.4)
+      (f.0, (f.2, f.3, f.4), inl (f.1.0, inl (omega (arith, f.1.1))))
   free_beside col (inr (inl down)) =
       let f = is_below.are_free col down in
-      (f.0, f.2, inl (f.1.0, inr (omega (arith, f.1.1))), f.3, f.4)
+      (f.0, (f.2, f.3, f.4), inl (f.1.0, inr (omega (arith, f.1.1))))
   free_beside col (inr (inr (d, differ, there))) =
       let f = is_here.are_free d there in
-      (f.0, f.2, inr (omega (arith, f.1.1), subst (λ n. DifferByOne n col) (sym f.1.0) (DifferByOne-sym col d differ)), f.3, f.4)
+      (f.0, (f.2, f.3, f.4), inr (omega (arith, f.1.1), subst (λ n. DifferByOne n col) (sym f.1.0) (DifferByOne-sym col d differ)))
 
 -- the free columns of a row around another one
 abbrev pub HasFree : List ℕ → List ℕ → ℕ → ℕ → ℕ → Type 0
@@ -154,14 +130,10 @@ module _ (own others : List ℕ) (from : Point) where
           (λ differ. taken r differ below none_waits);
     }
 
-  -- a point beside the group that is in neither set is a liberty
-  pub IsLiberty-beside : (first group : List ℕ) (p q : Point) → ((x : Point) → is_set first x ≡ true → x ≡ from) → Grows (is_set own) (is_set first) (is_set group) → IsOn (length own) p → AreAdjacent p q → is_set group q ≡ true → is_set own p ≡ false → is_set others p ≡ false → IsLiberty own others from p
-  IsLiberty-beside first group p q only grows on adjacent is not_own not_other = record {
-    stone = q;
-    on_grid = on;
-    adjacent = adjacent;
+  -- a stone of the group that has a liberty
+  pub IsLiberty-in : (first group : List ℕ) (q : Point) → ((x : Point) → is_set first x ≡ true → x ≡ from) → Grows (is_set own) (is_set first) (is_set group) → is_set group q ≡ true → HasLiberty own others q → IsLiberty own others from q
+  IsLiberty-in first group q only grows is liberty = record {
     own_stone = grows.within q is;
     linked = λ set closed has. grows.least set closed (λ x there. ap set (only x there) ∙ has) q is;
-    not_own = not_own;
-    not_other = not_other;
+    liberty = liberty;
   }

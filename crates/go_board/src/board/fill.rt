@@ -99,7 +99,7 @@ fn lacks(rows: &[u64], room: &[u64], row: usize, word: u64) -> bool
 }
 
 /// Adds the points of a row that are in the room and beside points of the set.
-pub(crate) fn grow_row(rows: &mut [u64], room: &[u64], row: usize)
+fn grow_row(rows: &mut [u64], room: &[u64], row: usize)
     requires same { length rows.old ≡ length room.now }
     requires row { row < length rows.old }
     requires within { IsAmong (is_set rows.old) (is_set room.now) }
@@ -150,7 +150,7 @@ fn with_before(word: u64, room: u64) -> u64
 }
 
 /// The row above a row; empty above the first.
-pub(crate) fn row_above(rows: &[u64], row: usize) -> u64
+fn row_above(rows: &[u64], row: usize) -> u64
     requires { row < length rows.now }
     ensures { result ≡ row_above rows.now row }
 {
@@ -158,7 +158,7 @@ pub(crate) fn row_above(rows: &[u64], row: usize) -> u64
 }
 
 /// The row below a row; empty below the last.
-pub(crate) fn row_below(rows: &[u64], row: usize) -> u64
+fn row_below(rows: &[u64], row: usize) -> u64
     requires { row < length rows.now }
     ensures { result ≡ slice_index rows.now (row + 1) }
 {

@@ -2,9 +2,9 @@
 
 ghost use Rattle.std.specs.Prelude.{◌≡◌, false, ℕ, ◌<◌, IsTrue, IsFalse, length};
 ghost use Rattle.go_board.specs.declared.points.Point.{Point};
-ghost use Rattle.go_board.specs.Point.{IsOn, AreAdjacent};
+ghost use Rattle.go_board.specs.Point.{IsOn};
 ghost use Rattle.go_board.specs.inner.Rows.{has_bit, is_set, IsInOrBeside};
-ghost use Rattle.go_board.specs.inner.Linked.{IsFilled, IsLiberty, IsShutIn};
+ghost use Rattle.go_board.specs.inner.Linked.{HasLiberty, IsLiberty, IsShutIn};
 
 use crate::board::fill::{grow_lowest, with_rows_lacking};
 use crate::board::glance::row_at;
@@ -30,7 +30,8 @@ pub(crate) fn has_liberty(own: &[u64], others: &[u64], from: Point, group: &mut 
     let mut waiting = with_rows_lacking(alone, group, own, first);
     'rows: while waiting != 0 {
         let (row, left) = grow_lowest(group, own, waiting);
-        if row_has_liberty(own, others, group, row) {
+        let alive = group[row] & columns_with_liberty(own, others, row);
+        if alive != 0 {
             return true;
         }
         waiting = left;
@@ -38,21 +39,19 @@ pub(crate) fn has_liberty(own: &[u64], others: &[u64], from: Point, group: &mut 
     false
 }
 
-/// Whether a stone of `group` on a row has a point beside it that is in neither `own` nor `others`.
-fn row_has_liberty(own: &[u64], others: &[u64], group: &[u64], row: usize) -> bool
-    requires own_rows { length own.now ≡ length group.now }
-    requires other_rows { length others.now ≡ length group.now }
-    requires few { length group.now < 64 }
-    requires row { row < length group.now }
-    ensures some { IsTrue result → (point stone : Point) × IsOn (length own.now) point × AreAdjacent point stone
-        × IsTrue (is_set group.now stone) × (is_set own.now point ≡ false) × (is_set others.now point ≡ false) }
-    ensures none { IsFalse result → (point stone : Point) → stone.row ≡ row → IsOn (length own.now) point
-        → AreAdjacent point stone → IsTrue (is_set group.now stone) → IsFilled own.now others.now point }
+/// The columns of a row whose points have a liberty: a point beside them that is in neither of two sets.
+pub(crate) fn columns_with_liberty(own: &[u64], others: &[u64], row: usize) -> u64
+    requires same { length others.now ≡ length own.now }
+    requires few { length own.now < 64 }
+    requires row { row < length own.now }
+    ensures from { (col : ℕ) → IsTrue (has_bit result col) → HasLiberty own.now others.now (record { col = col; row = row }) }
+    ensures to { (stone : Point) → stone.row ≡ row → stone.col < 64 → HasLiberty own.now others.now stone
+        → IsTrue (has_bit result stone.col) }
 {
     let above = row_at(own, others, row, 1);
     let here = row_at(own, others, row, 2);
     let below = row_at(own, others, row, 3);
-    group[row] & columns_beside(above.free, here.free, below.free) != 0
+    columns_beside(above.free, here.free, below.free)
 }
 
 /// The columns of a row whose points are beside a point of a set. The set is given by its columns above, in and below the row.

@@ -1,14 +1,14 @@
-use Rattle.std.proofs.Common.{◌≡◌, ◌≢◌, ℕ, List, length, set, slice_index, true, false, inl, inr, sym, ap, ◌∙◌, subst, arith}
+use Rattle.std.proofs.Common.{◌≡◌, ◌≢◌, ◌<◌, ◌^◌, ℕ, List, length, set, slice_index, true, false, inl, inr, sym, ap, ◌∙◌, subst, arith, rules}
 use Rattle.std.proofs.Math.Bool.{or-true}
-use Rattle.std.proofs.lemmas.Bool.{cases_Bool, cases_eq, false≢true}
+use Rattle.std.proofs.lemmas.Bool.{and_from, cases_Bool, cases_eq, false≢true}
 use Rattle.std.proofs.lemmas.List.{length-set}
 use Rattle.go_board.specs.declared.points.Point.{Point}
 use Rattle.go_board.specs.Point.{DifferByOne}
 use Rattle.go_board.specs.inner.Rows.{has_bit, is_set, IsTaken}
 use Rattle.go_board.specs.inner.Fill.{IsFilledBut}
-use Rattle.go_board.proofs.WordLemmas.{from_more, has_bit-zero}
+use Rattle.go_board.proofs.WordLemmas.{from_more, has_bit-and, has_bit-zero, column_below}
 use Rattle.go_board.proofs.FillLemmas.{IsClosed-all}
-use Rattle.go_board.proofs.LinkedLemmas.{in_first, from_in_first, first_filled, IsLiberty-beside}
+use Rattle.go_board.proofs.LinkedLemmas.{in_first, from_in_first, first_filled, common_column, IsLiberty-in}
 use Rattle.go_board.proofs.board.group.has_liberty.Goals as goal
 
 -- the group at first
@@ -59,7 +59,7 @@ rows-init c = record {
   only = only c;
   start = start c;
   filled = filled c;
-  shut = λ p q none on adjacent is.
+  shut = λ q none is.
       absurd (false≢true (sym none ∙ ap (λ (x : Point). has_bit c.with_rows_lacking-waiting.result x.row) (only c q is) ∙ waits c));
 }
 
@@ -68,24 +68,32 @@ rows-preserved c = record {
   only = c.rows.invariant.only;
   start = c.rows.invariant.start;
   filled = c.grow_lowest-row.ensures.filled _ c.rows.invariant.filled;
-  shut = λ p q none on adjacent is.
+  shut = λ q none is free.
       elim (cases_eq q.row c.grow_lowest-row.result.0) [
-        | inl at ↦ c.row_has_liberty.ensures.none c.if-row_has_liberty.false p q at on adjacent is
+        | inl at ↦
+            let word = slice_index c.grow_lowest-row.new.rows c.grow_lowest-row.result.0 in
+            let low : word < 2 ^ 64 = search rules in
+            let stone : has_bit word q.col ≡ true = ap (λ r. has_bit (slice_index c.grow_lowest-row.new.rows r) q.col) (sym at) ∙ is in
+            let alive = c.columns_with_liberty.ensures.to q at (column_below 64 word q.col low stone) free in
+            false≢true (sym (ap (λ w. has_bit w q.col) c.if-alive-ne0.false ∙ has_bit-zero q.col) ∙ has_bit-and word c.columns_with_liberty.result q.col ∙ and_from _ _ stone alive)
         | inr other ↦
-            c.rows.invariant.shut p q
+            c.rows.invariant.shut q
             (elim (cases_Bool (has_bit c.rows.waiting q.row)) [
               | inl waits ↦ absurd (false≢true (sym none ∙ c.grow_lowest-row.ensures.wait q.row other waits))
               | inr out ↦ out
             ])
-            on adjacent (ap (λ w. has_bit w q.col) (sym (c.grow_lowest-row.ensures.others q.row other)) ∙ is)
+            (ap (λ w. has_bit w q.col) (sym (c.grow_lowest-row.ensures.others q.row other)) ∙ is) free
       ];
 }
 
-pub returns-then-row_has_liberty-clause-lives : goal.returns-then-row_has_liberty-clause-lives
-returns-then-row_has_liberty-clause-lives c = λ _.
-    let found = c.row_has_liberty.ensures.some c.if-row_has_liberty.true in
+pub returns-then-alive-ne0-clause-lives : goal.returns-then-alive-ne0-clause-lives
+returns-then-alive-ne0-clause-lives c = λ _.
+    let row = c.grow_lowest-row.result.0 in
+    let word = slice_index c.grow_lowest-row.new.rows row in
+    let low : word < 2 ^ 64 = search rules in
+    let both = common_column word c.columns_with_liberty.result low c.if-alive-ne0.true in
     let grown = c.grow_lowest-row.ensures.filled _ c.rows.invariant.filled in
-    (found.0, IsLiberty-beside c.args.own.now c.args.others.now c.args.from _ c.grow_lowest-row.new.rows found.0 found.1 c.rows.invariant.only grown.grows found.2 found.3 found.4 found.5 found.6)
+    (record { col = both.0; row = row }, IsLiberty-in c.args.own.now c.args.others.now c.args.from _ c.grow_lowest-row.new.rows (record { col = both.0; row = row }) c.rows.invariant.only grown.grows both.1 (c.columns_with_liberty.ensures.from both.0 both.2))
 
 pub returns-clause-shut : goal.returns-clause-shut
 returns-clause-shut c = λ _.
@@ -94,5 +102,5 @@ returns-clause-shut c = λ _.
       within = l.invariant.filled.grows.within;
       start = l.invariant.filled.grows.kept c.args.from l.invariant.start;
       closed = IsClosed-all c.args.own.now _ l.group l.waiting l.invariant.filled c.rows-test.false;
-      filled = λ p q on adjacent is. l.invariant.shut p q (ap (λ w. has_bit w q.row) c.rows-test.false ∙ has_bit-zero q.row) on adjacent is;
+      shut = λ q is. l.invariant.shut q (ap (λ w. has_bit w q.row) c.rows-test.false ∙ has_bit-zero q.row) is;
     }
