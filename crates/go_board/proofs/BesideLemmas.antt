@@ -1,64 +1,48 @@
--- The points of a set beside those of another one, as rows of words.
-use Rattle.std.proofs.Common.{◌≡◌, inl, inr, ℕ, ◌+◌, ◌<◌, true, List, length, set, bit_and, sym, ap, ◌∙◌, arith, subst, slice_index}
+-- The stones of a set that have a liberty, row by row.
+use Rattle.std.proofs.Common.{◌≡◌, ◌≢◌, ◌&&◌, inl, inr, ℕ, ◌+◌, ◌<◌, true, List, length, set, bit_and, sym, ap, ◌∙◌, arith, subst, slice_index}
 use Rattle.std.proofs.lemmas.Bool.{and_parts, and_from, cases_eq}
 use Rattle.std.proofs.lemmas.List.{get_or-set_same, get_or-set_other}
 use Rattle.go_board.specs.declared.points.Point.{Point}
-use Rattle.go_board.specs.Point.{AreAdjacent}
-use Rattle.go_board.specs.inner.Rows.{has_bit, is_set, row_above, IsInOrBeside}
-use Rattle.go_board.specs.inner.Regions.{AreBeside}
+use Rattle.go_board.specs.inner.Rows.{has_bit, is_set}
+use Rattle.go_board.specs.inner.Regions.{HaveLiberty}
+use Rattle.go_board.specs.inner.Linked.{HasLiberty}
 use Rattle.go_board.proofs.WordLemmas.{has_bit-and}
-use Rattle.go_board.proofs.GrowLemmas.{row_below, above_at}
-use Rattle.go_board.proofs.LinkedLemmas.{adjacent-from}
+use Rattle.go_board.proofs.GrowLemmas.{row_below}
 
--- a set has a point beside the column of a row
-abbrev pub IsNear : List ℕ → ℕ → ℕ → Type 0
-IsNear others row col = IsInOrBeside (row_above others row) (slice_index others row) (slice_index others (row + 1)) col
+-- the first rows are written
+pub record AliveBelow (own others : List ℕ) (n : ℕ) (alive : List ℕ) : Type 0 where
+  pub from : (q : Point) → q.row < n → is_set alive q ≡ true → (is_set own q ≡ true) × HasLiberty own others q
+  pub to : (q : Point) → q.row < n → q.col < 64 → is_set own q ≡ true → HasLiberty own others q → is_set alive q ≡ true
 
-near_from : (others : List ℕ) (p q : Point) → AreAdjacent p q → is_set others q ≡ true → IsNear others p.row p.col
-near_from others p q (inl (cols, inl next)) is =
-    inr (inl (ap (λ r. has_bit (slice_index others r) p.col) next ∙ ap (has_bit (slice_index others q.row)) cols ∙ is))
-near_from others p q (inl (cols, inr next)) is = inl (above_at others p.row p.col q next (sym cols) is)
-near_from others p q (inr (line, differ)) is =
-    inr (inr (q.col, differ, ap (λ r. has_bit (slice_index others r) q.col) line ∙ is))
+pub alive_more : (own others alive : List ℕ) (row wide : ℕ) → row < length alive → AliveBelow own others row alive → ((col : ℕ) → has_bit wide col ≡ true → HasLiberty own others (record { col = col; row = row })) → ((q : Point) → q.row ≡ row → q.col < 64 → HasLiberty own others q → has_bit wide q.col ≡ true) → AliveBelow own others (row + 1) (set alive row (bit_and (slice_index own row) wide))
+alive_more own others alive row wide within before from to = record {
+  from = λ q below is.
+      elim (cases_eq q.row row) [
+        | inl same ↦
+            let both = and_parts _ _ (sym (here q same) ∙ is) in (
+              ap (λ r. has_bit (slice_index own r) q.col) same ∙ both.0,
+              subst (λ r. HasLiberty own others (record { col = q.col; row = r })) (sym same) (from q.col both.1),
+            )
+        | inr apart ↦ before.from q (omega (arith, below, apart)) (sym (elsewhere q apart) ∙ is)
+      ];
+  to = λ q below low stone free.
+      elim (cases_eq q.row row) [
+        | inl same ↦ here q same ∙ and_from _ _ (ap (λ r. has_bit (slice_index own r) q.col) (sym same) ∙ stone) (to q same low free)
+        | inr apart ↦ elsewhere q apart ∙ before.to q (omega (arith, below, apart)) low stone free
+      ];
+}
+  where
+    here : (q : Point) → q.row ≡ row → is_set (set alive row (bit_and (slice_index own row) wide)) q ≡ (has_bit (slice_index own row) q.col && has_bit wide q.col)
+    here q same =
+        ap (λ r. has_bit (slice_index (set alive row (bit_and (slice_index own row) wide)) r) q.col) same
+        ∙ ap (λ w. has_bit w q.col) (get_or-set_same alive row (bit_and (slice_index own row) wide) 0 within)
+        ∙ has_bit-and (slice_index own row) wide q.col
 
--- one row more is written
-abbrev pub BesideBelow : List ℕ → List ℕ → ℕ → List ℕ → Type 0
-BesideBelow rows others n beside =
-    (r : ℕ) → r < n
-    → ((col : ℕ) → has_bit (slice_index beside r) col ≡ true → (has_bit (slice_index rows r) col ≡ true) × IsNear others r col)
-    × ((col : ℕ) → col < 64 → has_bit (slice_index rows r) col ≡ true → IsNear others r col → has_bit (slice_index beside r) col ≡ true)
+    elsewhere : (q : Point) → q.row ≢ row → is_set (set alive row (bit_and (slice_index own row) wide)) q ≡ is_set alive q
+    elsewhere q apart = ap (λ w. has_bit w q.col) (get_or-set_other alive row q.row (bit_and (slice_index own row) wide) 0 apart)
 
-pub beside_more : (rows others beside : List ℕ) (row around : ℕ) → row < length beside → BesideBelow rows others row beside → ((col : ℕ) → has_bit around col ≡ true → IsNear others row col) → ((col : ℕ) → col < 64 → IsNear others row col → has_bit around col ≡ true) → BesideBelow rows others (row + 1) (set beside row (bit_and (slice_index rows row) around))
-beside_more rows others beside row around within before from to =
-    let word = bit_and (slice_index rows row) around in
-    let next = set beside row word in
-    let there : slice_index next row ≡ word = get_or-set_same beside row word 0 within in
-    λ r below.
-    elim (cases_eq r row) [
-      | inl same ↦ (
-        λ col is.
-            let here : has_bit word col ≡ true = ap (λ w. has_bit w col) (sym there) ∙ ap (λ k. has_bit (slice_index next k) col) (sym same) ∙ is in
-            let both = and_parts _ _ (sym (has_bit-and (slice_index rows row) around col) ∙ here) in
-            (ap (λ k. has_bit (slice_index rows k) col) same ∙ both.0, subst (λ k. IsNear others k col) (sym same) (from col both.1)),
-        λ col low own near.
-            ap (λ k. has_bit (slice_index next k) col) same
-            ∙ ap (λ w. has_bit w col) there
-            ∙ has_bit-and (slice_index rows row) around col
-            ∙ and_from _ _ (ap (λ k. has_bit (slice_index rows k) col) (sym same) ∙ own) (to col low (subst (λ k. IsNear others k col) same near)),
-      )
-      | inr apart ↦
-          let kept : slice_index next r ≡ slice_index beside r = get_or-set_other beside row r word 0 apart in
-          let old = before r (omega (arith, below, apart)) in (
-            λ col is. old.0 col (ap (λ w. has_bit w col) (sym kept) ∙ is),
-            λ col low own near. ap (λ w. has_bit w col) kept ∙ old.1 col low own near,
-          )
-    ]
-
-pub AreBeside-all : (rows others beside : List ℕ) → length beside ≡ length rows → BesideBelow rows others (length rows) beside → AreBeside rows others beside
-AreBeside-all rows others beside long each = record {
-  from = λ p is.
-      let row : p.row < length rows = rw (← long) (row_below beside p is) in
-      let both = (each p.row row).0 p.col is in
-      (both.0, adjacent-from others p.row p.col both.1);
-  to = λ p q row col own adjacent is. (each p.row row).1 p.col col own (near_from others p q adjacent is);
+pub HaveLiberty-all : (own others alive : List ℕ) → length alive ≡ length own → AliveBelow own others (length own) alive → HaveLiberty own others alive
+HaveLiberty-all own others alive long each = record {
+  from = λ q is. each.from q (rw (← long) (row_below alive q is)) is;
+  to = λ q low stone free. each.to q (row_below own q stone) low stone free;
 }

@@ -1,11 +1,11 @@
 -- Widening a set of columns: a sum carries from a column on as far as there is room, and steps go back from there.
-use Rattle.std.proofs.Common.{◌≡◌, ◌⊎◌, inl, inr, ℕ, zero, suc, ◌+◌, ◌-◌, ◌*◌, ◌/◌, ◌%◌, ◌^◌, ◌<◌, ◌≤◌, ◌&&◌, Bool, true, false, not, bit_and, bit_or, w64, sym, ap, ◌∙◌, arith}
+use Rattle.std.proofs.Common.{◌≡◌, ◌⊎◌, inl, inr, ℕ, zero, suc, ◌+◌, ◌-◌, ◌*◌, ◌/◌, ◌%◌, ◌^◌, ◌<◌, ◌≤◌, Bool, true, false, not, bit_and, bit_or, w64, sym, ap, ◌∙◌, arith}
 use Rattle.std.specs.Int.{bit_at, bit_not}
 use Rattle.std.proofs.Math.Nat.{add-mod, add-mod_left, mod-eq_of_lt, two-pow-succ}
-use Rattle.std.proofs.lemmas.Bool.{or_cases, or_left, or_right, and_parts, and_from, not_from_false, false≢true, cases_lt, cases_Bool}
+use Rattle.std.proofs.lemmas.Bool.{or_cases, or_left, or_right, and_parts, and_from, false≢true, cases_lt, cases_Bool}
 use Rattle.std.proofs.lemmas.Nat.{mod-pow-add, mod_below, pow_pos}
 use Rattle.go_board.specs.inner.Rows.{has_bit, IsPart, HasBeside, HasNext, IsWidened}
-use Rattle.go_board.proofs.WordLemmas.{in_the_other, has_bit-or, has_bit-and, has_bit-without, has_bit-low, has_bit-zero, has_bit-right, bit_at-there, bit_at-gone, column_below}
+use Rattle.go_board.proofs.WordLemmas.{has_bit-or, has_bit-and, has_bit-without, has_bit-low, has_bit-right, bit_at-there, bit_at-gone, column_below}
 
 -- a word with one column more of it
 low-more : (n c : ℕ) → n % 2 ^ suc c ≡ bit_at n c * 2 ^ c + n % 2 ^ c
@@ -210,28 +210,3 @@ module _ (room seed word : ℕ) (widened : IsWidened room seed word) where
   HasBeside-before same c d (inr left) in_room is =
       let at : c ≡ suc d = omega (arith, left) in
       ap (has_bit word) at ∙ widened.next d is (ap (has_bit room) (sym at) ∙ in_room)
-
-module _ (room : ℕ) (low : room < 2 ^ 64) (set : ℕ → Bool) (beside : HasBeside (has_bit room) set) where
-  -- a set with the last column of each run has all that there is room for
-  pub room-least : (word : ℕ) → word < 2 ^ 64 → IsPart (has_bit word) set → bit_and (bit_and room (bit_not w64 (room / 2 ^ 1))) (bit_not w64 word) ≡ 0 → IsPart (has_bit room) set
-  room-least word fits in_set ended c is =
-      let column = column_below 64 room c low is in
-      downwards (64 - c) c (omega (arith, column)) is
-    where
-      half : room / 2 ^ 1 < 2 ^ 64
-      half = omega (arith, low)
-
-      downwards : (n c : ℕ) → c + n ≡ 64 → has_bit room c ≡ true → set c ≡ true
-      downwards zero c at is = absurd (let column = column_below 64 room c low is in omega (arith, at, column))
-      downwards (suc n) c at is =
-          elim (cases_Bool (has_bit room (suc c))) [
-            | inl next ↦ beside c (suc c) (inl (omega arith)) is (downwards n (suc c) (omega (arith, at)) next)
-            | inr last ↦
-                let column : c < 64 = omega (arith, at) in
-                let both : ((has_bit room c && not (has_bit (room / 2 ^ 1) c)) && not (has_bit word c)) ≡ false =
-                ap (λ b. b && not (has_bit word c)) (sym (has_bit-without room (room / 2 ^ 1) c half column))
-                ∙ sym (has_bit-without (bit_and room (bit_not w64 (room / 2 ^ 1))) word c fits column)
-                ∙ ap (λ w. has_bit w c) ended
-                ∙ has_bit-zero c in
-                in_set c (in_the_other _ _ (and_from _ _ is (not_from_false _ (has_bit-right room c ∙ last))) both)
-          ]

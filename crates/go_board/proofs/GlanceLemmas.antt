@@ -1,7 +1,7 @@
 -- What the words of bits around a point tell of a stone on it.
-use Rattle.std.proofs.Common.{◌≡◌, ◌≢◌, ◌⊎◌, inl, inr, ℕ, suc, ◌+◌, ◌*◌, ◌/◌, ◌%◌, ◌^◌, ◌<◌, true, false, not, List, [], length, get_or, bit_and, bit_or, w64, refl, sym, ap, ◌∙◌, arith, subst}
+use Rattle.std.proofs.Common.{◌≡◌, ◌≢◌, ◌⊎◌, inl, inr, ℕ, ◌+◌, ◌^◌, ◌<◌, ◌||◌, Bool, true, false, not, List, [], length, get_or, bit_and, bit_or, w64, refl, sym, ap, ◌∙◌, arith, subst}
 use Rattle.std.specs.Int.{bit_not}
-use Rattle.std.proofs.lemmas.Bool.{or_cases, or_left, or_right, or_parts, and_parts, and_from, not-true, false≢true, cases_eq}
+use Rattle.std.proofs.lemmas.Bool.{or_cases, or_parts, and_parts, and_from, not-true, false≢true, cases_eq}
 use Rattle.go_board.specs.declared.stones.Cell.TheVariants.{Empty}
 use Rattle.go_board.specs.declared.stones.Colour.{Colour}
 use Rattle.go_board.specs.declared.points.Point.{Point}
@@ -18,22 +18,13 @@ use Rattle.go_board.proofs.GridLemmas.{Decides-same_cell, cell_at-with_cell_else
 use Rattle.go_board.proofs.GroupLemmas.{neither_stone}
 use Rattle.go_board.proofs.ReachingLemmas.{path_by_step}
 use Rattle.go_board.proofs.SweepLemmas.{lowest_left}
-use Rattle.go_board.proofs.WordLemmas.{in_the_other, has_bit-or, has_bit-and, has_bit-without, has_bit-zero, has_bit-left, has_bit-right, from_left, column_below}
+use Rattle.go_board.proofs.WordLemmas.{in_the_other, has_bit-or, has_bit-and, has_bit-without, has_bit-zero, column_below}
 
--- the columns beside those of a word
-pub beside_from : (w c : ℕ) → has_bit (bit_or (w * 2 ^ 1 % 2 ^ 64) (w / 2 ^ 1)) c ≡ true → (d : ℕ) × DifferByOne c d × (has_bit w d ≡ true)
-beside_from w c is =
-    elim (or_cases _ _ (sym (has_bit-or (w * 2 ^ 1 % 2 ^ 64) (w / 2 ^ 1) c) ∙ is)) [
-      | inl left ↦ (let from = from_left w c left in (from.0, inr from.1, from.2))
-      | inr right ↦ (suc c, inl (omega arith), sym (has_bit-right w c) ∙ right)
-    ]
-
-pub beside_to : (w c d : ℕ) → c < 64 → DifferByOne c d → has_bit w d ≡ true → has_bit (bit_or (w * 2 ^ 1 % 2 ^ 64) (w / 2 ^ 1)) c ≡ true
-beside_to w c d low (inl right) is =
-    has_bit-or (w * 2 ^ 1 % 2 ^ 64) (w / 2 ^ 1) c ∙ or_right _ _ (has_bit-right w c ∙ ap (has_bit w) (omega arith) ∙ is)
-beside_to w c d low (inr left) is =
-    has_bit-or (w * 2 ^ 1 % 2 ^ 64) (w / 2 ^ 1) c
-    ∙ or_left _ _ (ap (has_bit (w * 2 ^ 1 % 2 ^ 64)) (sym left) ∙ has_bit-left w d (omega arith) ∙ is)
+-- between rows with no column
+pub only_beside : (here c : ℕ) → IsInOrBeside 0 here 0 c → (d : ℕ) × DifferByOne c d × (has_bit here d ≡ true)
+only_beside here c (inl up) = absurd (false≢true (sym (has_bit-zero c) ∙ up))
+only_beside here c (inr (inl down)) = absurd (false≢true (sym (has_bit-zero c) ∙ down))
+only_beside here c (inr (inr near)) = near
 
 -- the columns of a word that are in another one, or in two more
 pub either_from : (columns one other with c : ℕ) → has_bit (bit_and columns (bit_or one (bit_and other with))) c ≡ true
@@ -94,6 +85,19 @@ row_inside own others middle i r free at below within off = record {
   has_others = λ p there is. ap (λ n. has_bit (get_or others n 0) p.col) (omega (arith, there, at)) ∙ is;
 }
 
+or_from : (a b : Bool) → a ≡ false → b ≡ false → (a || b) ≡ false
+or_from a b first second = rw (first, second)
+
+pub row_free : (own others : List ℕ) (middle i r free : ℕ) → r + 2 ≡ middle + i
+    → ((col : ℕ) → col < length own → has_bit free col ≡ not (has_bit (bit_or (get_or own r 0) (get_or others r 0)) col))
+    → (p : Point) → p.row + 2 ≡ middle + i → IsOn (length own) p → is_set own p ≡ false → is_set others p ≡ false → has_bit free p.col ≡ true
+row_free own others middle i r free at within p there on not_own not_other =
+    let same : p.row ≡ r = omega (arith, there, at) in
+    within p.col on.0
+    ∙ ap not
+    (has_bit-or (get_or own r 0) (get_or others r 0) p.col
+    ∙ or_from _ _ (ap (λ n. has_bit (get_or own n 0) p.col) (sym same) ∙ not_own) (ap (λ n. has_bit (get_or others n 0) p.col) (sym same) ∙ not_other))
+
 pub row_all_but : (own others : List ℕ) (middle i free : ℕ) (row : RowStones) → ((col : ℕ) → has_bit free col ≡ true → has_bit row.free col ≡ true)
     → IsRowAt own others middle i row → IsRowAt own others middle i (record { own = row.own; others = row.others; free = free })
 row_all_but own others middle i free row part is = record {
@@ -101,19 +105,6 @@ row_all_but own others middle i free row part is = record {
   are_own = is.are_own;
   has_others = is.has_others;
 }
-
--- a column of three words
-pub open_from : (above here below wide c : ℕ) → ((col : ℕ) → has_bit wide col ≡ true → (d : ℕ) × DifferByOne col d × (has_bit here d ≡ true))
-    → has_bit (bit_or (bit_or above below) wide) c ≡ true → IsInOrBeside above here below c
-open_from above here below wide c from is =
-    elim (or_cases _ _ (sym (has_bit-or (bit_or above below) wide c) ∙ is)) [
-      | inl low ↦
-          elim (or_cases _ _ (sym (has_bit-or above below c) ∙ low)) [
-            | inl up ↦ inl up
-            | inr down ↦ inr (inl down)
-          ]
-      | inr along ↦ inr (inr (from c along))
-    ]
 
 -- the point beside another one is another
 apart : (p q : Point) → AreAdjacent p q → q ≢ p

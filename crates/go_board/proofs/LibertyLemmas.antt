@@ -1,6 +1,5 @@
 -- Whether all stones of a colour reach empty, by filling rows of words from the empty points.
 use Rattle.std.proofs.Common.{◌≡◌, Decides, inl, inr, ℕ, ◌≤◌, ◌&&◌, Bool, true, false, not, List, [], ◌∷◌, length, refl, sym, ap, ◌∙◌, arith, subst}
-use Rattle.std.proofs.Math.Bool.{or_self}
 use Rattle.std.proofs.lemmas.Bool.{and_parts, and_from, false≢true, cases_Bool}
 use Rattle.go_board.specs.declared.stones.Cell.{Cell}
 use Rattle.go_board.specs.declared.stones.Cell.TheVariants.{Black as BlackStone, White as WhiteStone, Empty}
@@ -12,57 +11,35 @@ use Rattle.go_board.specs.Point.{IsOn}
 use Rattle.go_board.specs.Grid.{Grid, cell_at}
 use Rattle.go_board.specs.inner.Groups.{AllReach, is_shut}
 use Rattle.go_board.specs.inner.Rows.{is_set, IsAmong, IsClosed, Grows}
-use Rattle.go_board.specs.inner.Regions.{is_either, AreRowsOf, IsDifference, AreBeside}
+use Rattle.go_board.specs.inner.Regions.{AreRowsOf, IsDifference, HaveLiberty}
+use Rattle.go_board.specs.inner.Linked.{IsFree}
 use Rattle.go_board.specs.Reaching.{Leads, reaches}
 use Rattle.go_board.specs.Clearing.{has_unreaching}
 use Rattle.go_board.proofs.GridLemmas.{Decides-same_cell}
 use Rattle.go_board.proofs.SettledLemmas.{both_reach, AllReach-settled}
 use Rattle.go_board.proofs.ReachingLemmas.{Decides-reaches, path_by_step}
-use Rattle.go_board.proofs.GroupLemmas.{stone_of≢Empty}
+use Rattle.go_board.proofs.GroupLemmas.{stone_of≢Empty, neither_stone}
+use Rattle.go_board.proofs.NeighbourLemmas.{AreAdjacent-sym}
 use Rattle.go_board.proofs.GrowLemmas.{Grows-none}
 use Rattle.go_board.proofs.WordLemmas.{in_the_other}
-use Rattle.go_board.proofs.RegionLemmas.{AreRowsOf-same, same_bools, either_first}
+use Rattle.go_board.proofs.RegionLemmas.{same_bools}
 
--- the cells with neither player's stone
-neither : (k : Colour) (c : Cell) → (not (same_cell c (stone_of (opponent k))) && not (same_cell c (stone_of k))) ≡ is_either c Empty Empty
-neither Black BlackStone = refl
-neither Black WhiteStone = refl
-neither Black Empty = refl
-neither White BlackStone = refl
-neither White WhiteStone = refl
-neither White Empty = refl
+empty_apart : (k : Colour) (c : Cell) → c ≡ Empty → same_cell c (stone_of k) ≡ false
+empty_apart Black Empty is = refl
+empty_apart White Empty is = refl
+empty_apart k BlackStone is = cc
+empty_apart k WhiteStone is = cc
 
 of_own : (own way : Bool) → (own && not (own && way)) ≡ (own && not way)
 of_own true way = refl
 of_own false way = refl
 
-module _ (g : Grid) (k : Colour) (rows others room empty first : List ℕ) (small : g.side ≤ 52) (all : length rows ≡ g.side) (other_all : length others ≡ g.side) (room_all : length room ≡ g.side) (is_own : AreRowsOf g.side (λ p. same_cell (cell_at g p) (stone_of k)) rows) (is_other : AreRowsOf g.side (λ p. same_cell (cell_at g p) (stone_of (opponent k))) others) (is_room : AreRowsOf (length others) (λ p. not (is_set others p)) room) (is_empty : IsDifference room rows empty) (are_first : AreBeside rows empty first) where
-  not_other : AreRowsOf g.side (λ p. not (same_cell (cell_at g p) (stone_of (opponent k)))) room
-  not_other =
-      AreRowsOf-same g.side _ _ room (λ p on. ap not (is_other.on p on))
-      (subst (λ n. AreRowsOf n (λ p. not (is_set others p)) room) other_all is_room)
-
-  empty_rows : AreRowsOf g.side (λ p. is_either (cell_at g p) Empty Empty) empty
-  empty_rows = record {
-    on = λ p on.
-        is_empty.on p (omega (arith, on.1, room_all)) (omega (arith, on.0, small))
-        ∙ ap (λ b. b && not (is_set rows p)) (not_other.on p on)
-        ∙ ap (λ b. not (same_cell (cell_at g p) (stone_of (opponent k))) && not b) (is_own.on p on)
-        ∙ neither k (cell_at g p);
-    off = λ p is. not_other.off p (is_empty.off p is);
-  }
-
+module _ (g : Grid) (k : Colour) (rows others first : List ℕ) (small : g.side ≤ 52) (all : length rows ≡ g.side) (is_own : AreRowsOf g.side (λ p. same_cell (cell_at g p) (stone_of k)) rows) (is_other : AreRowsOf g.side (λ p. same_cell (cell_at g p) (stone_of (opponent k))) others) (alive : HaveLiberty rows others first) where
   own_stone : (p : Point) → is_set rows p ≡ true → cell_at g p ≡ stone_of k
   own_stone p is = (Decides-same_cell _ _).0 (sym (is_own.on p (is_own.off p is)) ∙ is)
 
-  empty_cell : (p : Point) → is_set empty p ≡ true → cell_at g p ≡ Empty
-  empty_cell p is = (Decides-same_cell _ _).0 (sym (or_self _) ∙ sym (empty_rows.on p (empty_rows.off p is)) ∙ is)
-
-  empty_set : (p : Point) → IsOn g.side p → cell_at g p ≡ Empty → is_set empty p ≡ true
-  empty_set p on is = empty_rows.on p on ∙ either_first (cell_at g p) Empty Empty is
-
   first_among : IsAmong (is_set first) (is_set rows)
-  first_among p is = (are_first.from p is).0
+  first_among p is = (alive.from p is).0
 
   pub Grows-first : Grows (is_set rows) (is_set first) (is_set first)
   Grows-first = Grows-none rows first first_among
@@ -85,20 +62,23 @@ module _ (g : Grid) (k : Colour) (rows others room empty first : List ℕ) (smal
     first_reaches : IsAmong (is_set first) reaching
     unfolding reaching
     first_reaches p is =
-        let found = are_first.from p is in
+        let found = alive.from p is in
         let q = found.1.0 in
+        let free = found.1.1 in
         let on = is_own.off p found.0 in
-        let at = empty_rows.off q found.1.2 in
-        let goal = empty_cell q found.1.2 in
+        let at = subst (λ n. IsOn n q) all free.0 in
+        let goal : cell_at g q ≡ Empty = neither_stone k (cell_at g q) (sym (is_own.on q at) ∙ free.1) (sym (is_other.on q at) ∙ free.2) in
         and_from _ _ found.0
-        ((Decides-reaches g Empty p on).1 (path_by_step g Empty p q on found.1.1 at (inr goal) ([], (at, goal))))
+        ((Decides-reaches g Empty p on).1 (path_by_step g Empty p q on (AreAdjacent-sym q p found.1.2) at (inr goal) ([], (at, goal))))
 
     module _ (closed : IsClosed (is_set rows) (is_set reached)) where
       along : (p : Point) (path : List Point) → is_set rows p ≡ true → Leads g (stone_of k) Empty p path → is_set reached p ≡ true
       along p [] own way = absurd (stone_of≢Empty k (sym (own_stone p own) ∙ way.1))
       along p (q ∷ []) own way =
           let on = is_own.off p own in
-          grows.kept p (are_first.to p q (omega (arith, on.1, all)) (omega (arith, on.0, small)) own way.2 (empty_set q way.3.0 way.3.1))
+          let at = way.3.0 in
+          let free : IsFree rows others q = (subst (λ n. IsOn n q) (sym all) at, is_own.on q at ∙ empty_apart k (cell_at g q) way.3.1, is_other.on q at ∙ empty_apart (opponent k) (cell_at g q) way.3.1) in
+          grows.kept p (alive.to p (omega (arith, on.0, small)) own (q, free, AreAdjacent-sym p q way.2))
       along p (q ∷ r ∷ path) own way =
           let next : is_set rows q ≡ true = is_own.on q way.3.0 ∙ (Decides-same_cell _ _).1 way.3.1 in
           closed p q way.2 own (along q (r ∷ path) next way.3)

@@ -1,14 +1,19 @@
 -- The group of a stone, and the points beside it.
-use Rattle.std.proofs.Common.{◌≡◌, ◌≢◌, ◌⊎◌, inl, inr, ℕ, zero, suc, ◌+◌, ◌*◌, ◌/◌, ◌%◌, ◌^◌, ◌<◌, true, false, not, nat_eq, w64, List, length, get_or, set, take, replicate, bit_and, bit_or, slice_index, refl, sym, ap, ◌∙◌, arith}
-use Rattle.std.proofs.lemmas.Bool.{or_cases, or_left, or_right, or_parts, and_parts, and_from, not-true, not-false, false≢true, true≢false, cases_eq, cases_Bool}
-use Rattle.std.proofs.lemmas.Bool.Decides.{Decides-not, Decides-eqb}
+use Rattle.std.proofs.Common.{◌≡◌, ◌≢◌, inl, inr, ℕ, zero, suc, ◌+◌, ◌*◌, ◌/◌, ◌%◌, ◌^◌, ◌<◌, subst, true, false, w64, List, length, get_or, set, take, replicate, bit_and, bit_or, slice_index, refl, sym, ap, ◌∙◌, arith}
+use Rattle.std.proofs.lemmas.Bool.{or_cases, or_left, or_right, and_parts, false≢true, cases_eq}
 use Rattle.std.specs.Int.{trailing_zeros}
-use Rattle.std.proofs.lemmas.List.{get_or-set_same, get_or-set_other}
+use Rattle.std.proofs.lemmas.List.{length-set, get_or-set_same, get_or-set_other}
 use Rattle.go_board.specs.declared.points.Point.{Point}
-use Rattle.go_board.specs.Point.{IsOn, AreAdjacent}
-use Rattle.go_board.specs.inner.Rows.{has_bit, is_set, row_above, IsAmong, IsRowClosed, Grows, IsInOrBeside}
-use Rattle.go_board.specs.inner.Linked.{IsLinked, IsLiberty, IsRowGroup}
+use Rattle.go_board.specs.declared.board.glance.RowStones.{RowStones}
+use Rattle.go_board.specs.Point.{IsOn, DifferByOne, AreAdjacent}
+use Rattle.go_board.specs.inner.Rows.{has_bit, is_set, IsTaken, Grows, IsInOrBeside}
+use Rattle.go_board.specs.inner.Linked.{HasLiberty, IsLiberty}
+use Rattle.go_board.specs.inner.Fill.{IsFilledBut}
+use Rattle.go_board.specs.inner.Glance.{IsRowAt}
 use Rattle.go_board.proofs.PointLemmas.{one_point}
+use Rattle.go_board.proofs.NeighbourLemmas.{DifferByOne-sym}
+use Rattle.go_board.proofs.GrowLemmas.{Grows-none}
+use Rattle.go_board.proofs.FillLemmas.{closed_still}
 use Rattle.go_board.proofs.WordLemmas.{has_bit-or, has_bit-and, has_bit-left, from_left, has_bit-right, has_bit-zero}
 use Rattle.go_board.proofs.SweepLemmas.{lowest_left}
 
@@ -46,32 +51,12 @@ beside-to above here below col low is =
           ∙ or_right _ _ (ap (has_bit (here * 2 ^ 1 % 2 ^ 64)) (sym next) ∙ has_bit-left here d (omega arith) ∙ there))
     ])
 
--- the columns that two sets have in common
-pub common-some : (a b : ℕ) → a < 2 ^ 64 → not (nat_eq (bit_and a b) 0) ≡ true → (col : ℕ) × (has_bit a col ≡ true) × (has_bit b col ≡ true)
-common-some a b low some =
-    let lowest = lowest_left a (bit_and a b) ((Decides-not _ (Decides-eqb (bit_and a b) 0)).0 some) low (λ c is. (and_parts _ _ (sym (has_bit-and a b c) ∙ is)).0) in
+-- a column that two sets have in common
+pub common_column : (a b : ℕ) → a < 2 ^ 64 → bit_and a b ≢ 0 → (col : ℕ) × (has_bit a col ≡ true) × (has_bit b col ≡ true)
+common_column a b low some =
+    let lowest = lowest_left a (bit_and a b) some low (λ c is. (and_parts _ _ (sym (has_bit-and a b c) ∙ is)).0) in
     let both = and_parts _ _ (sym (has_bit-and a b (trailing_zeros w64 (bit_and a b))) ∙ lowest.0) in
     (trailing_zeros w64 (bit_and a b), both.0, both.1)
-
-pub common-none : (a b : ℕ) → not (nat_eq (bit_and a b) 0) ≡ false → (col : ℕ) → has_bit a col ≡ true → has_bit b col ≡ false
-common-none a b none col is =
-    elim (cases_Bool (nat_eq (bit_and a b) 0)) [
-      | inl zero_is ↦
-          let same : bit_and a b ≡ 0 = (Decides-eqb (bit_and a b) 0).0 zero_is in
-          elim (cases_Bool (has_bit b col)) [
-            | inl there ↦
-                absurd (false≢true (sym (ap (λ w. has_bit w col) same ∙ has_bit-zero col) ∙ has_bit-and a b col ∙ and_from _ _ is there))
-            | inr gone ↦ gone
-          ]
-      | inr other ↦ absurd (true≢false (sym (ap not other) ∙ none))
-    ]
-
--- the columns in neither of two sets, and in one of them
-pub in_neither : (a b col : ℕ) → not (has_bit (bit_or a b) col) ≡ true → (has_bit a col ≡ false) × (has_bit b col ≡ false)
-in_neither a b col none = or_parts _ _ (sym (has_bit-or a b col) ∙ not-true _ none)
-
-pub in_either : (a b col : ℕ) → not (has_bit (bit_or a b) col) ≡ false → (has_bit a col ≡ true) ⊎ (has_bit b col ≡ true)
-in_either a b col some = or_cases _ _ (sym (has_bit-or a b col) ∙ not-false _ some)
 
 -- with no row set no point is
 pub none_in_front : (n m : ℕ) (words : List ℕ) (p : Point) → words ≡ replicate m 0 → is_set (take n words) p ≡ false
@@ -83,20 +68,36 @@ none_in_front n m words p is = ap (λ ws. is_set (take n ws) p) is ∙ ap (λ w.
     zeros (suc n) (suc m) zero = refl
     zeros (suc n) (suc m) (suc r) = zeros n m r
 
-above_from : (rows : List ℕ) (row col : ℕ) → has_bit (row_above rows row) col ≡ true → (q : Point) × AreAdjacent (record { col = col; row = row }) q × (is_set rows q ≡ true)
-above_from rows zero col is = absurd (false≢true (sym (has_bit-zero col) ∙ is))
-above_from rows (suc r) col is = (record { col = col; row = r }, inl (refl, inr (omega arith)), is)
+-- the points around a row that have no stone
+module _ (own others : List ℕ) (row : ℕ) (above here below : RowStones) (is_above : IsRowAt own others row 1 above) (is_here : IsRowAt own others row 2 here) (is_below : IsRowAt own others row 3 below) where
+  pub free_beside : (col : ℕ) → IsInOrBeside above.free here.free below.free col → HasLiberty own others (record { col = col; row = row })
+  free_beside col (inl up) =
+      let f = is_above.are_free col up in
+      (f.0, (f.2, f.3, f.4), inl (f.1.0, inl (omega (arith, f.1.1))))
+  free_beside col (inr (inl down)) =
+      let f = is_below.are_free col down in
+      (f.0, (f.2, f.3, f.4), inl (f.1.0, inr (omega (arith, f.1.1))))
+  free_beside col (inr (inr (d, differ, there))) =
+      let f = is_here.are_free d there in
+      (f.0, (f.2, f.3, f.4), inr (omega (arith, f.1.1), subst (λ n. DifferByOne n col) (sym f.1.0) (DifferByOne-sym col d differ)))
 
--- a column of a row, in the rows above and below it or beside it in the row, has a set point beside it
-pub adjacent-from : (rows : List ℕ) (row col : ℕ) → IsInOrBeside (row_above rows row) (slice_index rows row) (slice_index rows (row + 1)) col → (q : Point) × AreAdjacent (record { col = col; row = row }) q × (is_set rows q ≡ true)
-adjacent-from rows row col (inl up) = above_from rows row col up
-adjacent-from rows row col (inr (inl down)) = (record { col = col; row = row + 1 }, inl (refl, inl refl), down)
-adjacent-from rows row col (inr (inr (d, differ, there))) = (record { col = d; row = row }, inr (refl, differ), there)
+-- the free columns of a row around another one
+abbrev pub HasFree : List ℕ → List ℕ → ℕ → ℕ → ℕ → Type 0
+HasFree own others row i free =
+    (p : Point) → p.row + 2 ≡ row + i → IsOn (length own) p → is_set own p ≡ false → is_set others p ≡ false → has_bit free p.col ≡ true
+
+pub open_beside : (own others : List ℕ) (row above here below : ℕ) → HasFree own others row 1 above → HasFree own others row 2 here → HasFree own others row 3 below → (p q : Point) → q.row ≡ row → IsOn (length own) p → AreAdjacent p q → is_set own p ≡ false → is_set others p ≡ false → IsInOrBeside above here below q.col
+open_beside own others row above here below is_above is_here is_below p q at on (inl (cols, inl up)) not_own not_other =
+    inl (ap (has_bit above) (sym cols) ∙ is_above p (omega (arith, up, at)) on not_own not_other)
+open_beside own others row above here below is_above is_here is_below p q at on (inl (cols, inr down)) not_own not_other =
+    inr (inl (ap (has_bit below) (sym cols) ∙ is_below p (omega (arith, down, at)) on not_own not_other))
+open_beside own others row above here below is_above is_here is_below p q at on (inr (rows, differ)) not_own not_other =
+    inr (inr (p.col, DifferByOne-sym p.col q.col differ, is_here p (omega (arith, rows, at)) on not_own not_other))
 
 module _ (own others : List ℕ) (from : Point) where
-  -- at first the group is one row
-  module _ (old first grown : List ℕ) (word : ℕ) (none : (p : Point) → is_set old p ≡ false) (within_row : from.row < length old) (there : has_bit word from.col ≡ true) (alone : (k : ℕ) → k ≢ from.col → has_bit word k ≡ false) (first_is : first ≡ set old from.row word) where
-    in_first : (p : Point) → is_set first p ≡ true → p ≡ from
+  -- at first the group is the stone alone
+  module _ (old first : List ℕ) (word : ℕ) (none : (p : Point) → is_set old p ≡ false) (within_row : from.row < length old) (there : has_bit word from.col ≡ true) (alone : (k : ℕ) → k ≢ from.col → has_bit word k ≡ false) (first_is : first ≡ set old from.row word) where
+    pub in_first : (p : Point) → is_set first p ≡ true → p ≡ from
     in_first p is =
         elim (cases_eq p.row from.row) [
           | inl row ↦
@@ -112,33 +113,27 @@ module _ (own others : List ℕ) (from : Point) where
               (sym (ap (λ rows. is_set rows p) first_is ∙ ap (λ w. has_bit w p.col) (get_or-set_other old from.row p.row word 0 other) ∙ none p) ∙ is))
         ]
 
-    from_in_first : is_set first from ≡ true
+    pub from_in_first : is_set first from ≡ true
     from_in_first = ap (λ rows. is_set rows from) first_is ∙ ap (λ w. has_bit w from.col) (get_or-set_same old from.row word 0 within_row) ∙ there
 
-    pub first_within : is_set own from ≡ true → IsAmong (is_set first) (is_set own)
-    first_within stone = λ p is. ap (is_set own) (in_first p is) ∙ stone
-
-    pub IsRowGroup-grown : is_set own from ≡ true → Grows (is_set own) (is_set first) (is_set grown) → ((k : ℕ) → k ≢ from.row → slice_index grown k ≡ slice_index first k) → IsRowClosed (is_set own) (is_set grown) from.row → IsRowGroup own from grown
-    IsRowGroup-grown stone grows others_same closed = record {
-      within = grows.within;
-      start = grows.kept from from_in_first;
-      linked = λ p is set shut has. grows.least set shut (λ q there_q. ap set (in_first q there_q) ∙ has) p is;
-      one_row = λ p is.
-          elim (cases_eq p.row from.row) [
-            | inl same ↦ same
-            | inr other ↦ ap (λ (x : Point). x.row) (in_first p (ap (λ w. has_bit w p.col) (sym (others_same p.row other)) ∙ is))
-          ];
-      closed = closed;
+    -- all rows but those that wait are closed
+    pub first_filled : (waiting : ℕ) → is_set own from ≡ true → length old ≡ length own → has_bit waiting from.row ≡ true → ((r : ℕ) → has_bit waiting r ≡ true → r < length own) → ((r : ℕ) → DifferByOne r from.row → r < length own → has_bit waiting r ≡ false → IsTaken own first r (slice_index first from.row)) → IsFilledBut own first first waiting
+    first_filled waiting stone long waits rows_in taken = record {
+      all = ap (λ (l : List ℕ). length l) first_is ∙ length-set old from.row word ∙ long;
+      grows = Grows-none own first (λ p is. ap (is_set own) (in_first p is) ∙ stone);
+      rows_in = rows_in;
+      closed = λ r below none_waits.
+          closed_still own old first from.row r (λ p is. absurd (false≢true (sym (none p) ∙ is)))
+          (λ k other. ap (λ l. slice_index l k) first_is ∙ get_or-set_other old from.row k word 0 other)
+          (λ same. false≢true (sym none_waits ∙ ap (has_bit waiting) same ∙ waits))
+          (λ p q at adjacent own_p is. absurd (false≢true (sym (none q) ∙ is)))
+          (λ differ. taken r differ below none_waits);
     }
 
-  -- a point beside the group that is in neither set is a liberty
-  pub IsLiberty-beside : (group : List ℕ) (p q : Point) → IsAmong (is_set group) (is_set own) → ((x : Point) → is_set group x ≡ true → IsLinked (is_set own) from x) → IsOn (length own) p → AreAdjacent p q → is_set group q ≡ true → is_set own p ≡ false → is_set others p ≡ false → IsLiberty own others from p
-  IsLiberty-beside group p q within linked on adjacent is not_own not_other = record {
-    stone = q;
-    on_grid = on;
-    adjacent = adjacent;
-    own_stone = within q is;
-    linked = linked q is;
-    not_own = not_own;
-    not_other = not_other;
+  -- a stone of the group that has a liberty
+  pub IsLiberty-in : (first group : List ℕ) (q : Point) → ((x : Point) → is_set first x ≡ true → x ≡ from) → Grows (is_set own) (is_set first) (is_set group) → is_set group q ≡ true → HasLiberty own others q → IsLiberty own others from q
+  IsLiberty-in first group q only grows is liberty = record {
+    own_stone = grows.within q is;
+    linked = λ set closed has. grows.least set closed (λ x there. ap set (only x there) ∙ has) q is;
+    liberty = liberty;
   }

@@ -1,6 +1,7 @@
--- A move on a grid where every stone reaches empty: taking off the groups without a liberty beside the stone, and then its
--- own where that has none, is the whole move.
-use Rattle.std.proofs.Common.{◌≡◌, ◌≢◌, ◌⊎◌, inl, inr, ◌*◌, false, List, [], ◌∷◌, length, refl, sym, ap, subst, ◌∙◌}
+-- A move on a grid where every stone reaches empty: taking off the groups without a liberty beside the stone, or else its own
+-- where that has none, is the whole move.
+use Rattle.std.proofs.Common.{◌≡◌, ◌≢◌, ◌⊎◌, inl, inr, ◌*◌, ◌≤◌, Bool, true, false, List, [], ◌∷◌, length, refl, sym, subst, ◌∙◌, IsTrue, arith, ℕ}
+use Rattle.std.proofs.lemmas.Bool.{cases_Bool, false≢true}
 use Rattle.std.proofs.lemmas.List.{length-set}
 use Rattle.go_board.specs.declared.stones.Cell.{Cell}
 use Rattle.go_board.specs.declared.stones.Cell.TheVariants.{Empty}
@@ -12,27 +13,41 @@ use Rattle.go_board.specs.Point.{IsOn, AreAdjacent, index_of}
 use Rattle.go_board.specs.Grid.{Grid, cell_at, with_cell}
 use Rattle.go_board.specs.Reaching.{Leads, Reaches}
 use Rattle.go_board.specs.Clearing.{clear, play, has_unreaching}
-use Rattle.go_board.specs.inner.Groups.{AllReach, ReachBeside, ReachesIfStone, LosesShut}
+use Rattle.go_board.specs.inner.Groups.{IsWithoutLiberty, AreShutGroups, AllReach, ReachBeside, IsWithout, IsTakenOrReaches, AreTakenOrReachBeside, TakesOff}
+use Rattle.go_board.specs.inner.Rows.{is_set}
 use Rattle.go_board.proofs.PointLemmas.{same_or_not}
-use Rattle.go_board.proofs.GridLemmas.{one_grid, cell_at-with_cell, cell_at-with_cell_elsewhere}
+use Rattle.go_board.proofs.GridLemmas.{cell_at-with_cell, cell_at-with_cell_elsewhere}
 use Rattle.go_board.proofs.ReachingLemmas.{Leads-on, Leads-next, path_by_step}
 use Rattle.go_board.proofs.NeighbourLemmas.{AreAdjacent-sym}
-use Rattle.go_board.proofs.GroupLemmas.{stone_of≢Empty}
+use Rattle.go_board.proofs.RuleLemmas.{side-clear, length-clear, cell_at-clear, emptied, kept, others_kept}
+use Rattle.go_board.proofs.GroupLemmas.{coloured_or_not, stone_of≢Empty}
 use Rattle.go_board.proofs.SettledLemmas.{clear-AllReach, AllReach-settled}
 
 opponent_differs : (k : Colour) → stone_of k ≢ stone_of (opponent k)
 opponent_differs Black = λ e. cc
 opponent_differs White = λ e. cc
 
--- a stone of the colour that is left was there before
-pub left_over : (g h : Grid) (k d : Colour) (p : Point) → LosesShut g h k → IsOn g.side p → cell_at h p ≡ stone_of d → cell_at g p ≡ stone_of d
-left_over g h k d p loses on left =
-    elim (loses.taken p on)
-    [ inl same ↦ sym same ∙ left | inr gone ↦ absurd (stone_of≢Empty d (sym left ∙ gone.0)) ]
+-- with no point there is no group
+pub IsWithoutLiberty-none : (g : Grid) (k : Colour) (test : Point → Bool) → ((p : Point) → test p ≡ false) → IsWithoutLiberty g k test
+IsWithoutLiberty-none g k test none = record {
+  stones = λ p on is. absurd (false≢true (sym (none p) ∙ is));
+  shut = λ p q on at next is. absurd (false≢true (sym (none p) ∙ is));
+  whole = λ p q on at next is own. absurd (false≢true (sym (none p) ∙ is));
+}
 
--- After a point p of g was coloured and some points were emptied, which gives h: all stones of a colour still reach empty
--- if those beside p do, and that on p.
-module _ (g : Grid) (cells : List Cell) (p : Point) (k : Colour) (fewer : (r : Point) → IsOn g.side r → r ≢ p → (cell_at (record g { cells = cells }) r ≡ Empty) ⊎ (cell_at (record g { cells = cells }) r ≡ cell_at g r)) (beside : (q : Point) → IsOn g.side q → AreAdjacent p q → cell_at (record g { cells = cells }) q ≡ stone_of k → Reaches (record g { cells = cells }) Empty q) (there : cell_at (record g { cells = cells }) p ≡ stone_of k → Reaches (record g { cells = cells }) Empty p) where
+-- no path leads from a group without a liberty to an empty point
+group_shut : (g : Grid) (k : Colour) (test : Point → Bool) → IsWithoutLiberty g k test → (path : List Point) (p : Point) → IsOn g.side p → test p ≡ true → Leads g (stone_of k) Empty p path → ⊥
+group_shut g k test group [] p on there way = stone_of≢Empty k (sym (group.stones p on there) ∙ way.1)
+group_shut g k test group (q ∷ path) p on there way =
+    let next = Leads-on g (stone_of k) Empty q path way.3 in
+    elim (Leads-next g (stone_of k) Empty q path way.3) [
+      | inl own ↦ group_shut g k test group path q next (group.whole p q on next way.2 there own) way.3
+      | inr free ↦ group.shut p q on next way.2 there free
+    ]
+
+-- After a point p of g was coloured and some points were emptied, which gives h: each stone of a colour is in one of some groups
+-- without a liberty or reaches empty, if that holds of the stones beside p and of the one on p.
+module _ (g : Grid) (cells : List Cell) (p : Point) (k : Colour) (gone : Point → Bool) (group : IsWithoutLiberty (record g { cells = cells }) k gone) (fewer : (r : Point) → IsOn g.side r → r ≢ p → (cell_at (record g { cells = cells }) r ≡ Empty) ⊎ (cell_at (record g { cells = cells }) r ≡ cell_at g r)) (beside : (q : Point) → IsOn g.side q → AreAdjacent p q → cell_at (record g { cells = cells }) q ≡ stone_of k → (gone q ≡ true) ⊎ Reaches (record g { cells = cells }) Empty q) (there : cell_at (record g { cells = cells }) p ≡ stone_of k → (gone p ≡ true) ⊎ Reaches (record g { cells = cells }) Empty p) (reach : AllReach g k) where
   h : Grid
   h = record g { cells = cells }
 
@@ -40,11 +55,15 @@ module _ (g : Grid) (cells : List Cell) (p : Point) (k : Colour) (fewer : (r : P
   unfolding h
   step_to_empty q r on next at free = (r ∷ [], (on, refl, next, (at, free)))
 
-  follow : (path : List Point) (q : Point) → Leads g (stone_of k) Empty q path → cell_at h q ≡ stone_of k → Reaches h Empty q
+  at_point : (q : Point) → q ≡ p → cell_at h q ≡ stone_of k → (gone q ≡ true) ⊎ Reaches h Empty q
+  unfolding h
+  at_point q same own = subst (λ r. (gone r ≡ true) ⊎ Reaches h Empty r) (sym same) (there (subst (λ r. cell_at h r ≡ stone_of k) same own))
+
+  follow : (path : List Point) (q : Point) → Leads g (stone_of k) Empty q path → cell_at h q ≡ stone_of k → (gone q ≡ true) ⊎ Reaches h Empty q
   unfolding h
   follow [] q way own =
       elim (same_or_not q p) [
-        | inl same ↦ subst (λ r. Reaches h Empty r) (sym same) (there (subst (λ r. cell_at h r ≡ stone_of k) same own))
+        | inl same ↦ at_point q same own
         | inr other ↦
             elim (fewer q way.0 other) [
               | inl free ↦ absurd (stone_of≢Empty k (sym own ∙ free))
@@ -57,107 +76,113 @@ module _ (g : Grid) (cells : List Cell) (p : Point) (k : Colour) (fewer : (r : P
         | inl same ↦ beside q way.0 (AreAdjacent-sym q p (subst (λ s. AreAdjacent q s) same way.2)) own
         | inr other ↦
             elim (fewer r at other) [
-              | inl free ↦ step_to_empty q r way.0 way.2 at free
-              | inr kept ↦
+              | inl free ↦ inr (step_to_empty q r way.0 way.2 at free)
+              | inr kept_r ↦
                   elim (Leads-next g (stone_of k) Empty r path way.3) [
-                    | inl stone ↦ path_by_step h Empty q r way.0 way.2 at (inl (kept ∙ stone ∙ sym own)) (follow path r way.3 (kept ∙ stone))
-                    | inr free ↦ step_to_empty q r way.0 way.2 at (kept ∙ free)
+                    | inr free ↦ inr (step_to_empty q r way.0 way.2 at (kept_r ∙ free))
+                    | inl stone ↦
+                        elim (follow path r way.3 (kept_r ∙ stone)) [
+                          | inl taken ↦ inl (group.whole r q at way.0 (AreAdjacent-sym q r way.2) taken own)
+                          | inr on ↦ inr (path_by_step h Empty q r way.0 way.2 at (inl (kept_r ∙ stone ∙ sym own)) on)
+                        ]
                   ]
             ]
       ]
 
-  pub AllReach-after : AllReach g k → AllReach (record g { cells = cells }) k
+  pub gone_or_reaches : (q : Point) → IsOn g.side q → cell_at (record g { cells = cells }) q ≡ stone_of k → (gone q ≡ true) ⊎ Reaches (record g { cells = cells }) Empty q
   unfolding h
-  AllReach-after before =
-      λ q on own.
+  gone_or_reaches q on own =
       elim (same_or_not q p) [
-        | inl same ↦ subst (λ r. Reaches h Empty r) (sym same) (there (subst (λ r. cell_at h r ≡ stone_of k) same own))
+        | inl same ↦ at_point q same own
         | inr other ↦
             elim (fewer q on other) [
               | inl free ↦ absurd (stone_of≢Empty k (sym own ∙ free))
-              | inr kept ↦
-                  let stone = sym kept ∙ own in
-                  let way = before q on stone in
+              | inr kept_q ↦
+                  let stone = sym kept_q ∙ own in
+                  let way = reach q on stone in
                   follow way.0 q (subst (λ c. Leads g c Empty q way.0) stone way.1) own
             ]
       ]
 
--- A stone is played on a grid where every stone reaches empty; then the opponent's groups without a liberty are taken off, and
--- the own one.
-module _ (g : Grid) (p : Point) (k : Colour) (on : IsOn g.side p) (all : length g.cells ≡ g.side * g.side) (settled : has_unreaching g ≡ false) where
-  module _ (cells : List Cell) (first : LosesShut (with_cell g p (stone_of k)) (record g { cells = cells }) (opponent k)) (around : ReachBeside (record g { cells = cells }) (opponent k) p) where
-    after : Grid
-    after = record g { cells = cells }
+  pub AllReach-after : ((q : Point) → gone q ≡ false) → AllReach (record g { cells = cells }) k
+  unfolding h
+  AllReach-after none =
+      λ q on own. elim (gone_or_reaches q on own) [ inl is ↦ absurd (false≢true (sym (none q) ∙ is)) | inr way ↦ way ]
 
-    length-after : length after.cells ≡ g.side * g.side
-    unfolding after
-    length-after = first.all ∙ length-set g.cells (index_of g.side p) (stone_of k) ∙ all
+  -- so clearing the colour takes off exactly these groups
+  pub clear_without : length cells ≡ g.side * g.side → IsWithout (record g { cells = cells }) (clear (record g { cells = cells }) k) (λ q. IsTrue (gone q))
+  unfolding h
+  clear_without all = record {
+    same_side = side-clear h k;
+    all = length-clear h k ∙ sym all;
+    emptied = λ q on is.
+        let stone = group.stones q on is in
+        cell_at-clear h k q on
+        ∙ emptied h k q on stone (λ way. group_shut h k gone group way.0 q on is (subst (λ c. Leads h c Empty q way.0) stone way.1));
+    kept = λ q on left.
+        cell_at-clear h k q on
+        ∙ (elim (coloured_or_not (cell_at h q) (stone_of k)) [
+          | inr other ↦ others_kept h k q other
+          | inl own ↦ elim (gone_or_reaches q on own) [ inl is ↦ absurd (left is) | inr way ↦ kept h k q on way ]
+        ]);
+  }
 
-    -- the stone is still there
-    stone_stays : cell_at after p ≡ stone_of k
-    unfolding after
-    stone_stays =
-        elim (first.taken p on) [
-          | inl same ↦ same ∙ cell_at-with_cell g p (stone_of k) on all
-          | inr gone ↦ absurd (opponent_differs k (sym (cell_at-with_cell g p (stone_of k) on all) ∙ gone.1))
-        ]
+-- A stone is played on a grid where every stone reaches empty.
+module _ (g : Grid) (p : Point) (k : Colour) (on : IsOn g.side p) (all : length g.cells ≡ g.side * g.side) (settled : has_unreaching g ≡ false) (rows : List ℕ) where
+  abbrev placed : Grid
+  placed = with_cell g p (stone_of k)
 
-    fewer : (r : Point) → IsOn g.side r → r ≢ p → (cell_at after r ≡ Empty) ⊎ (cell_at after r ≡ cell_at g r)
-    unfolding after
-    fewer r at other =
-        elim (first.taken r at)
-        [ inl same ↦ inr (same ∙ cell_at-with_cell_elsewhere g p r (stone_of k) on at other) | inr gone ↦ inl gone.0 ]
+  long : length placed.cells ≡ g.side * g.side
+  long = length-set g.cells (index_of g.side p) (stone_of k) ∙ all
 
-    opponent_cleared : clear (with_cell g p (stone_of k)) (opponent k) ≡ after
-    unfolding after
-    opponent_cleared =
-        sym first.cleared
-        ∙ clear-AllReach after (opponent k) length-after
-        (AllReach-after g cells p (opponent k) fewer around
-        (λ e. absurd (opponent_differs k (sym stone_stays ∙ e)))
-        (AllReach-settled g (opponent k) settled))
+  stone_there : cell_at placed p ≡ stone_of k
+  stone_there = cell_at-with_cell g p (stone_of k) on all
 
-    module _ (rest : List Cell) (second : LosesShut (record g { cells = cells }) (record g { cells = rest }) k) (own : ReachesIfStone (record g { cells = rest }) k p) where
-      left : Grid
-      left = record g { cells = rest }
+  others_kept_there : (r : Point) → IsOn g.side r → r ≢ p → cell_at placed r ≡ cell_at g r
+  others_kept_there r at other = cell_at-with_cell_elsewhere g p r (stone_of k) on at other
 
-      fewer_left : (r : Point) → IsOn g.side r → r ≢ p → (cell_at left r ≡ Empty) ⊎ (cell_at left r ≡ cell_at g r)
-      unfolding left after
-      fewer_left r at other =
-          elim (second.taken r at) [
-            | inl same ↦ elim (fewer r at other) [ inl free ↦ inl (same ∙ free) | inr was ↦ inr (same ∙ was) ]
-            | inr gone ↦ inl gone.0
-          ]
+  not_opponent : cell_at placed p ≡ stone_of (opponent k) → ⊥
+  not_opponent e = opponent_differs k (sym stone_there ∙ e)
 
-      -- a neighbour of the stone's colour reaches empty by the stone, or by the point that it left
-      own_beside : ReachBeside left k p
-      unfolding left after
-      own_beside = λ q at next stone.
-          elim (second.taken p on) [
-            | inl same ↦
-                path_by_step left Empty q p at (AreAdjacent-sym p q next) on (inl (same ∙ stone_stays ∙ sym stone)) (own (same ∙ stone_stays))
-            | inr gone ↦ (p ∷ [], (at, refl, AreAdjacent-sym p q next, (on, gone.0)))
-          ]
+  -- the opponent's groups beside the stone are taken off, if there are any
+  pub takes_off_beside : AreShutGroups (with_cell g p (stone_of k)) (opponent k) rows → AreTakenOrReachBeside (with_cell g p (stone_of k)) (opponent k) p rows → (q : Point) × IsOn g.side q × AreAdjacent p q × (is_set rows q ≡ true) → TakesOff g k p rows
+  unfolding clear play
+  takes_off_beside are beside some =
+      let left = clear placed (opponent k) in
+      let is = clear_without g placed.cells p (opponent k) (is_set rows) are.shut (λ r at other. inr (others_kept_there r at other)) beside (λ e. absurd (not_opponent e)) (AllReach-settled g (opponent k) settled) long in
+      let stays : cell_at left p ≡ stone_of k = is.kept p on (λ taken. not_opponent (are.shut.stones p on taken)) ∙ stone_there in
+      let way : Reaches left Empty p = (some.0 ∷ [], (on, refl, some.2, (some.1, is.emptied some.0 some.1 some.3))) in
+      let reach : AllReach left k =
+      AllReach-after g left.cells p k (λ _. false) (IsWithoutLiberty-none left k (λ _. false) (λ _. refl))
+      (λ r at other.
+      elim (cases_Bool (is_set rows r)) [
+        | inl taken ↦ inl (is.emptied r at taken)
+        | inr none ↦ inr (is.kept r at (λ taken. false≢true (sym none ∙ taken)) ∙ others_kept_there r at other)
+      ])
+      (λ q at next stone. inr (path_by_step left Empty q p at (AreAdjacent-sym p q next) on (inl (stays ∙ sym stone)) way))
+      (λ _. inr way) (AllReach-settled g k settled) (λ _. refl) in
+      record {
+        few = omega (arith, are.all);
+        on_grid = are.on_grid;
+        played = subst (λ x. IsWithout placed x (λ q. IsTrue (is_set rows q))) (sym (clear-AllReach left k (length-clear placed (opponent k)) reach)) is;
+      }
 
-      pub is_play : record g { cells = rest } ≡ play g k p
-      unfolding left after play
-      is_play =
-          sym
-          (ap (λ x. clear x k) opponent_cleared
-          ∙ sym second.cleared
-          ∙ clear-AllReach left k (second.all ∙ length-after)
-          (AllReach-after g rest p k fewer_left own_beside own (AllReach-settled g k settled)))
-
--- the move, where every stone reaches empty: the opponent's groups without a liberty beside the point are taken off, and
--- then its own
-pub captured_is_play : (g h i : Grid) (p : Point) (k : Colour) → IsOn g.side p → length g.cells ≡ g.side * g.side → has_unreaching g ≡ false → LosesShut (with_cell g p (stone_of k)) h (opponent k) → ReachBeside h (opponent k) p → LosesShut h i k → ReachesIfStone i k p → i ≡ play g k p
-captured_is_play g h i p k on all settled first around second own =
-    let eh = one_grid (record g { cells = h.cells }) h (sym first.same_side) refl in
-    let ei = one_grid (record g { cells = i.cells }) i (sym (second.same_side ∙ first.same_side)) refl in
-    sym ei
-    ∙ is_play g p k on all settled h.cells
-    (subst (λ x. LosesShut (with_cell g p (stone_of k)) x (opponent k)) (sym eh) first)
-    (subst (λ x. ReachBeside x (opponent k) p) (sym eh) around)
-    i.cells
-    (subst (λ x. LosesShut (record g { cells = h.cells }) x k) (sym ei) (subst (λ x. LosesShut x i k) (sym eh) second))
-    (subst (λ x. ReachesIfStone x k p) (sym ei) own)
+  -- and else the stone's own group, if it has no liberty
+  pub takes_off_own : length rows ≤ g.side → ((q : Point) → is_set rows q ≡ true → IsOn g.side q) → IsWithoutLiberty (with_cell g p (stone_of k)) k (is_set rows) → ReachBeside (with_cell g p (stone_of k)) (opponent k) p → IsTakenOrReaches (with_cell g p (stone_of k)) k rows p → TakesOff g k p rows
+  unfolding clear play
+  takes_off_own few on_grid shut around there =
+      let others : AllReach placed (opponent k) =
+      AllReach-after g placed.cells p (opponent k) (λ _. false) (IsWithoutLiberty-none placed (opponent k) (λ _. false) (λ _. refl)) (λ r at other. inr (others_kept_there r at other))
+      (λ q at next stone. inr (around q at next stone)) (λ e. absurd (not_opponent e)) (AllReach-settled g (opponent k) settled) (λ _. refl) in
+      let is = clear_without g placed.cells p k (is_set rows) shut (λ r at other. inr (others_kept_there r at other))
+      (λ q at next stone.
+      elim (there stone_there) [
+        | inl taken ↦ inl (shut.whole p q on at next taken stone)
+        | inr way ↦ inr (path_by_step placed Empty q p at (AreAdjacent-sym p q next) on (inl (stone_there ∙ sym stone)) way)
+      ])
+      there (AllReach-settled g k settled) long in
+      record {
+        few = few;
+        on_grid = on_grid;
+        played = subst (λ x. IsWithout placed (clear x k) (λ q. IsTrue (is_set rows q))) (sym (clear-AllReach placed (opponent k) long others)) is;
+      }

@@ -1,12 +1,12 @@
 -- What a search keeps as points are found.
-use Rattle.std.proofs.Common.{◌≡◌, ℕ, zero, suc, ◌+◌, ◌*◌, ◌<◌, ◌≤◌, Bool, true, false, cond, List, [], ◌∷◌, ◌++◌, length, get_or, take, set, refl, sym, ap, ◌∙◌, subst, arith, IsTrue, inl, inr}
+use Rattle.std.proofs.Common.{◌≡◌, ℕ, zero, suc, ◌+◌, ◌*◌, ◌<◌, ◌≤◌, Bool, true, false, cond, List, [], ◌∷◌, ◌++◌, length, get_or, take, set, refl, sym, ap, ◌∙◌, subst, arith, IsTrue}
 use Rattle.std.proofs.lemmas.List.{get_or-set_same, length-set, length_push, take_more_set, length-take-le}
 use Rattle.std.proofs.lemmas.List.Elements.{All-push, All-get_or, All-from_get_or}
 use Rattle.std.proofs.lemmas.List.Sums.{sum_by-set, count_by-le-length}
 use Rattle.go_board.specs.declared.points.Point.{Point}
 use Rattle.go_board.specs.Point.{IsOn, index_of}
 use Rattle.go_board.specs.Marking.{Marking, is_marked, marked_count}
-use Rattle.go_board.specs.inner.Search.{Searched, with_mark, with_found, IsSound, HasRoom}
+use Rattle.go_board.specs.inner.Search.{Searched, with_mark, with_found, IsSound}
 use Rattle.go_board.proofs.PointLemmas.{origin, index_below}
 
 -- a mark that is set stays so
@@ -68,10 +68,6 @@ searched_in m ps filled taken = record { marking = m; found = take filled ps; ta
 
 -- finding a point that isn't marked, as writes to the arrays
 module _ (m : Marking) (ps : List Point) (filled taken : ℕ) (p : Point) (within : filled ≤ length ps) (sound : IsSound (searched_in m ps filled taken)) (on : IsOn m.side p) (not_yet : is_marked m p ≡ false) where
-  pub room_in : HasRoom (length ps) 1 (searched_in m ps filled taken) → filled < length ps
-  room_in (inl all) = omega (arith, room (searched_in m ps filled taken) p sound on not_yet, length-take-le filled ps within)
-  room_in (inr more) = omega (arith, length-take-le filled ps within)
-
   same_search : (a b : Marking) (f g : List Point) → a ≡ b → f ≡ g → ◌≡◌ {A = Searched} (record { marking = a; found = f; taken = taken }) (record { marking = b; found = g; taken = taken })
   same_search a b f g e h =
       ap (λ x. record { marking = x; found = f; taken = taken }) e ∙ ap (λ x. record { marking = b; found = x; taken = taken }) h
@@ -85,19 +81,14 @@ module _ (m : Marking) (ps : List Point) (filled taken : ℕ) (p : Point) (withi
   IsSound-searched_in next e below =
       subst IsSound (sym (searched_in-set next e below)) (IsSound-with_mark (searched_in m ps filled taken) p sound on not_yet)
 
--- a search with room for one more point, held by arrays of that size, has a place for it
-pub place_for : (m : Marking) (ps : List Point) (filled taken size : ℕ) (s : Searched) (p : Point) → searched_in m ps filled taken ≡ s → length ps ≡ size → filled ≤ size → IsSound (searched_in m ps filled taken) → IsOn s.marking.side p → is_marked m p ≡ false → HasRoom size 1 s → IsOn m.side p × (filled < length ps)
-place_for m ps filled taken size s p is all within sound on not_yet room =
+-- an array for all points of the grid has a place for a point that isn't marked
+pub place_for : (m : Marking) (ps : List Point) (filled taken : ℕ) (s : Searched) (p : Point) → searched_in m ps filled taken ≡ s → filled ≤ length ps → m.side * m.side ≤ length ps → IsSound (searched_in m ps filled taken) → IsOn s.marking.side p → is_marked m p ≡ false → IsOn m.side p × (filled < length ps)
+place_for m ps filled taken s p is within fits sound on not_yet =
     let on_m : IsOn m.side p = subst (λ x. IsOn x.marking.side p) (sym is) on in
-    let space : HasRoom (length ps) 1 (searched_in m ps filled taken) = subst (λ n. HasRoom n 1 (searched_in m ps filled taken)) (sym all) (subst (HasRoom size 1) (sym is) room) in
-    (on_m, room_in m ps filled taken p (omega (arith, within, all)) sound on_m not_yet space)
+    (on_m, omega (arith, room (searched_in m ps filled taken) p sound on_m not_yet, length-take-le filled ps within))
 
 pub with_found-new : (s : Searched) (p : Point) → is_marked s.marking p ≡ false → with_found s p ≡ record { marking = with_mark s.marking p; found = s.found ++ p ∷ []; taken = s.taken }
 with_found-new s p not_yet = rw not_yet
 
 pub with_found-old : (s : Searched) (p : Point) → is_marked s.marking p ≡ true → with_found s p ≡ s
 with_found-old s p before = rw before
-
-pub HasRoom-less : (room more : ℕ) (s : Searched) → HasRoom room (more + 1) s → HasRoom room more s
-HasRoom-less room more s (inl all) = inl all
-HasRoom-less room more s (inr left) = inr (omega arith)

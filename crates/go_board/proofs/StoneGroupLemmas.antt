@@ -1,6 +1,6 @@
 -- What the rows of a stone's group tell of a grid: the stone reaches empty, or its group has no liberty.
-use Rattle.std.proofs.Common.{◌≡◌, inl, inr, ℕ, ◌&&◌, ◌||◌, Bool, true, false, not, IsTrue, List, [], length, refl, sym, ap, ◌∙◌, subst}
-use Rattle.std.proofs.lemmas.Bool.{and_parts, and_from, false≢true, true≢false}
+use Rattle.std.proofs.Common.{◌≡◌, inl, inr, ℕ, ◌&&◌, ◌||◌, Bool, true, false, not, List, [], length, refl, sym, ◌∙◌, subst}
+use Rattle.std.proofs.lemmas.Bool.{and_parts, and_from, cases_Bool, false≢true}
 use Rattle.go_board.specs.declared.stones.Cell.TheVariants.{Empty}
 use Rattle.go_board.specs.declared.stones.Colour.{Colour}
 use Rattle.go_board.specs.declared.points.Point.{Point}
@@ -8,13 +8,13 @@ use Rattle.go_board.specs.Colour.{opponent, stone_of, same_cell}
 use Rattle.go_board.specs.Point.{IsOn}
 use Rattle.go_board.specs.Grid.{Grid, cell_at}
 use Rattle.go_board.specs.Reaching.{Reaches, reaches}
-use Rattle.go_board.specs.inner.Groups.{IsWithoutLiberty, LosesShut, IsWithout}
+use Rattle.go_board.specs.inner.Groups.{IsWithoutLiberty}
 use Rattle.go_board.specs.inner.Rows.{is_set, IsClosed}
 use Rattle.go_board.specs.inner.Regions.{AreRowsOf}
 use Rattle.go_board.specs.inner.Linked.{IsLiberty, IsShutIn}
-use Rattle.go_board.proofs.GridLemmas.{one_grid, Decides-same_cell}
+use Rattle.go_board.proofs.GridLemmas.{Decides-same_cell}
 use Rattle.go_board.proofs.NeighbourLemmas.{AreAdjacent-sym}
-use Rattle.go_board.proofs.GroupLemmas.{neither_stone, stone_of≢Empty, LosesShut-group}
+use Rattle.go_board.proofs.GroupLemmas.{neither_stone, stone_of≢Empty}
 use Rattle.go_board.proofs.ReachingLemmas.{Decides-reaches, path_by_step}
 
 not_true : (x y : Bool) → x ≡ true → (not x || y) ≡ true → y ≡ true
@@ -39,11 +39,10 @@ module _ (g : Grid) (k : Colour) (own others : List ℕ) (from : Point) (all : l
   pub IsWithoutLiberty-shut : (group : List ℕ) → IsShutIn own others from group → IsWithoutLiberty g k (λ p. is_set group p)
   IsWithoutLiberty-shut group shut = record {
     stones = λ p on is. own_stone p (shut.within p is);
-    shut = λ p q on at adjacent is free.
-        elim (shut.filled q p (subst (λ n. IsOn n q) (sym all) at) (AreAdjacent-sym p q adjacent) is) [
-          | inl own_q ↦ stone_of≢Empty k (sym (own_stone q own_q) ∙ free)
-          | inr other_q ↦ stone_of≢Empty (opponent k) (sym (other_stone q other_q) ∙ free)
-        ];
+    shut = λ p q on at adjacent is empty.
+        let not_own = elim (cases_Bool (is_set own q)) as (λ _. is_set own q ≡ false) [ inl own_q ↦ absurd (stone_of≢Empty k (sym (own_stone q own_q) ∙ empty)) | inr out ↦ out ] in
+        let not_other = elim (cases_Bool (is_set others q)) as (λ _. is_set others q ≡ false) [ inl other_q ↦ absurd (stone_of≢Empty (opponent k) (sym (other_stone q other_q) ∙ empty)) | inr out ↦ out ] in
+        shut.shut p is (q, (subst (λ n. IsOn n q) (sym all) at, not_own, not_other), AreAdjacent-sym p q adjacent);
     whole = λ p q on at adjacent is stone_q. shut.closed q p (AreAdjacent-sym p q adjacent) (own_set q at stone_q) is;
   }
 
@@ -66,16 +65,17 @@ module _ (g : Grid) (k : Colour) (own others : List ℕ) (from : Point) (all : l
       ((Decides-reaches g Empty p on_p).0 way)))
       both.1))
 
-  pub Reaches-liberty : IsOn g.side from → cell_at g from ≡ stone_of k → (p : Point) → IsLiberty own others from p → Reaches g Empty from
+  pub Reaches-liberty : IsOn g.side from → cell_at g from ≡ stone_of k → (q : Point) → IsLiberty own others from q → Reaches g Empty from
   unfolding carries
-  Reaches-liberty on_from cell p free =
+  Reaches-liberty on_from cell q is =
       let stone : is_set own from ≡ true = own_set from on_from cell in
-      let q = free.stone in
-      let on_p = subst (λ n. IsOn n p) all free.on_grid in
-      let on_q = is_own.off q free.own_stone in
-      let empty : cell_at g p ≡ Empty = neither_stone k (cell_at g p) (sym (is_own.on p on_p) ∙ free.not_own) (sym (is_other.on p on_p) ∙ free.not_other) in
-      let way : Reaches g Empty q = path_by_step g Empty q p on_q (AreAdjacent-sym p q free.adjacent) on_p (inr empty) ([], (on_p, empty)) in
-      let both = and_parts _ _ (free.linked carries carries-closed (and_from _ _ stone (implies (reaches g Empty from) (reaches g Empty from) (λ is. is)))) in
+      let p = is.liberty.0 in
+      let free = is.liberty.1 in
+      let on_p = subst (λ n. IsOn n p) all free.0 in
+      let on_q = is_own.off q is.own_stone in
+      let empty : cell_at g p ≡ Empty = neither_stone k (cell_at g p) (sym (is_own.on p on_p) ∙ free.1) (sym (is_other.on p on_p) ∙ free.2) in
+      let way : Reaches g Empty q = path_by_step g Empty q p on_q (AreAdjacent-sym p q is.liberty.2) on_p (inr empty) ([], (on_p, empty)) in
+      let both = and_parts _ _ (is.linked carries carries-closed (and_from _ _ stone (implies (reaches g Empty from) (reaches g Empty from) (λ t. t)))) in
       (Decides-reaches g Empty from on_from).0 (not_true _ _ ((Decides-reaches g Empty q on_q).1 way) both.1)
 
 -- the rows of a colour, by another word
@@ -85,12 +85,3 @@ rows_of_colour g k d rows is are = subst (λ c. AreRowsOf g.side (λ p. same_cel
 -- the rows of the other colour
 pub rows_of_opponent : (g : Grid) (k d : Colour) (rows : List ℕ) → d ≡ opponent k → AreRowsOf g.side (λ p. same_cell (cell_at g p) (stone_of d)) rows → AreRowsOf g.side (λ p. same_cell (cell_at g p) (stone_of (opponent k))) rows
 rows_of_opponent g k d rows is are = subst (λ c. AreRowsOf g.side (λ p. same_cell (cell_at g p) (stone_of c)) rows) is are
-
--- a group without a liberty is taken off by emptying its points
-pub LosesShut-without : (g h : Grid) (k : Colour) (rows : List ℕ) → IsWithoutLiberty g k (λ p. is_set rows p) → IsWithout g h (λ p. IsTrue (is_set rows p)) → LosesShut g h k
-LosesShut-without g h k rows shut is =
-    let same : record g { cells = h.cells } ≡ h = one_grid (record g { cells = h.cells }) h (sym is.same_side) refl in
-    subst (λ x. LosesShut g x k) same
-    (LosesShut-group g k (λ p. is_set rows p) shut h.cells is.all
-    (λ p on at. ap (λ x. cell_at x p) same ∙ is.emptied p on at)
-    (λ p on other. ap (λ x. cell_at x p) same ∙ is.kept p on (λ gone. true≢false (sym gone ∙ other))))

@@ -1,5 +1,5 @@
 -- What a stone takes off, as rows: playing it is putting it on its point and emptying these.
-use Rattle.std.proofs.Common.{◌≡◌, ◌≢◌, ◌⊎◌, ◌==◌, ◌&&◌, inl, inr, ◌*◌, ◌+◌, ◌<◌, ◌≤◌, ◌||◌, true, false, cond, Option, Some, ℕ, List, [], ◌∷◌, length, set, slice_index, bit_or, refl, sym, ap, subst, ◌∙◌, arith}
+use Rattle.std.proofs.Common.{◌≡◌, ◌≢◌, ◌⊎◌, ◌==◌, ◌&&◌, inl, inr, ◌*◌, ◌+◌, ◌<◌, ◌≤◌, ◌||◌, true, false, cond, Option, Some, ℕ, List, [], length, set, slice_index, bit_or, refl, sym, ap, subst, ◌∙◌, arith}
 use Rattle.std.specs.Option.{ForSome}
 use Rattle.std.proofs.Math.Bool.{or-false}
 use Rattle.std.proofs.lemmas.Bool.{and_parts, cases_Bool, cases_eq, cases_lt, or_cases, or_left, or_right, false≢true}
@@ -9,44 +9,28 @@ use Rattle.go_board.specs.declared.stones.Cell.{Cell}
 use Rattle.go_board.specs.declared.stones.Cell.TheVariants.{Empty}
 use Rattle.go_board.specs.declared.stones.Colour.{Colour}
 use Rattle.go_board.specs.declared.points.Point.{Point}
-use Rattle.go_board.specs.Colour.{opponent, stone_of}
+use Rattle.go_board.specs.Colour.{stone_of}
 use Rattle.go_board.specs.Point.{IsOn, AreAdjacent, index_of}
-use Rattle.go_board.specs.Grid.{Grid, cell_at, with_cell, grid_of}
+use Rattle.go_board.specs.Grid.{Grid, cell_at, with_cell}
 use Rattle.go_board.specs.Clearing.{play, has_unreaching}
 use Rattle.go_board.specs.inner.Neighbour.{left_of, right_of, above, below}
 use Rattle.go_board.specs.inner.Rows.{has_bit, is_set, IsAmong}
 use Rattle.go_board.specs.declared.past.changes.Change.{Change}
 use Rattle.go_board.specs.inner.Changes.{after_changes, LeadBack, MakeMore}
-use Rattle.go_board.specs.inner.Groups.{AreShutGroups, AreTakenOrReachBeside, IsTakenOrReaches, IsWithout, LosesShut, AllLive, ReachBeside, ReachesIfStone, TakesOff}
+use Rattle.go_board.specs.inner.Groups.{AreShutGroups, AreTakenOrReachBeside, IsTakenOrReaches, IsWithout, AllLive, TakesOff}
 use Rattle.go_board.proofs.PointLemmas.{one_point, same_or_not}
-use Rattle.go_board.proofs.GridLemmas.{cell_at-grid_of, length-grid_of, cell_at-with_cell, cell_at-with_cell_elsewhere}
+use Rattle.go_board.proofs.GridLemmas.{cell_at-with_cell, cell_at-with_cell_elsewhere}
 use Rattle.go_board.proofs.NeighbourLemmas.{IsNeighbour, IsNeighbour-adjacent, AllNeighbour}
-use Rattle.go_board.proofs.GroupLemmas.{stone_of≢Empty}
-use Rattle.go_board.proofs.StoneGroupLemmas.{LosesShut-without}
-use Rattle.go_board.proofs.MoveLemmas.{captured_is_play, left_over}
+use Rattle.go_board.proofs.MoveLemmas.{IsWithoutLiberty-none, takes_off_own}
 use Rattle.go_board.proofs.ChangesLemmas.{one_colouring, after-side, after-length, one_column}
 use Rattle.go_board.proofs.WordLemmas.{has_bit-or, has_bit-zero}
-
--- taking nothing off
-LosesShut-none : (g : Grid) (k : Colour) → LosesShut g g k
-LosesShut-none g k = record {
-  same_side = refl;
-  all = refl;
-  taken = λ p on. inl refl;
-  still = λ p on way. way;
-  cleared = refl;
-}
 
 -- no group
 pub AreShutGroups-none : (g : Grid) (k : Colour) (rows : List ℕ) → length rows ≡ g.side → ((p : Point) → is_set rows p ≡ false) → AreShutGroups g k rows
 AreShutGroups-none g k rows all none = record {
   all = all;
   on_grid = λ p is. absurd (false≢true (sym (none p) ∙ is));
-  shut = record {
-    stones = λ p on is. absurd (false≢true (sym (none p) ∙ is));
-    shut = λ p q on at next is. absurd (false≢true (sym (none p) ∙ is));
-    whole = λ p q on at next is own. absurd (false≢true (sym (none p) ∙ is));
-  };
+  shut = IsWithoutLiberty-none g k (is_set rows) none;
 }
 
 -- some groups, and others
@@ -89,20 +73,6 @@ found_beside side p at to a b is each among found =
     let near = each found.0 (sym is ∙ found.1) in
     (found.0, near.0, near.1, among found.0 found.2)
 
--- a grid without the points of some rows
-abbrev without : Grid → List ℕ → Grid
-without g rows = grid_of g.side (λ p. cond (is_set rows p) Empty (cell_at g p))
-
-without-is : (g : Grid) (rows : List ℕ) → length g.cells ≡ g.side * g.side → IsWithout g (without g rows) (λ p. is_set rows p ≡ true)
-without-is g rows all = record {
-  same_side = refl;
-  all = length-grid_of g.side (λ p. cond (is_set rows p) Empty (cell_at g p)) ∙ sym all;
-  emptied = λ p on is. cell_at-grid_of g.side (λ q. cond (is_set rows q) Empty (cell_at g q)) p on ∙ ap (λ b. cond b Empty (cell_at g p)) is;
-  kept = λ p on left.
-      cell_at-grid_of g.side (λ q. cond (is_set rows q) Empty (cell_at g q)) p on
-      ∙ (elim (cases_Bool (is_set rows p)) [ inl is ↦ absurd (left is) | inr none ↦ ap (λ b. cond b Empty (cell_at g p)) none ]);
-}
-
 -- the point of a stone emptied again
 pub taken_away : (g : Grid) (p : Point) (stone : Cell) → IsOn g.side p → length g.cells ≡ g.side * g.side → cell_at g p ≡ Empty → with_cell (with_cell g p stone) p Empty ≡ g
 taken_away g p stone on all free =
@@ -114,48 +84,6 @@ taken_away g p stone on all free =
       | inl same ↦ ap (cell_at (with_cell h p Empty)) same ∙ cell_at-with_cell h p Empty on long ∙ sym (ap (cell_at g) same ∙ free)
       | inr other ↦ cell_at-with_cell_elsewhere h p q Empty on at other ∙ cell_at-with_cell_elsewhere g p q stone on at other
     ])
-
-module _ (g : Grid) (p : Point) (k : Colour) (on : IsOn g.side p) (all : length g.cells ≡ g.side * g.side) (settled : has_unreaching g ≡ false) (rows : List ℕ) where
-  abbrev placed : Grid
-  placed = with_cell g p (stone_of k)
-
-  long : length placed.cells ≡ placed.side * placed.side
-  long = length-set g.cells (index_of g.side p) (stone_of k) ∙ all
-
-  -- the opponent's groups beside the stone are taken off, if there are any
-  taken_beside : AreShutGroups (with_cell g p (stone_of k)) (opponent k) rows → AreTakenOrReachBeside (with_cell g p (stone_of k)) (opponent k) p rows → (q : Point) × IsOn g.side q × AreAdjacent p q × (is_set rows q ≡ true) → IsWithout (with_cell g p (stone_of k)) (play g k p) (λ q. is_set rows q ≡ true)
-  taken_beside are beside some =
-      let left = without placed rows in
-      let is = without-is placed rows long in
-      let loses : LosesShut placed left (opponent k) = LosesShut-without placed left (opponent k) rows are.shut is in
-      let around : ReachBeside left (opponent k) p = λ q at next stone.
-      elim (beside q at next (left_over placed left (opponent k) (opponent k) q loses at stone)) [
-        | inl gone ↦ absurd (stone_of≢Empty (opponent k) (sym stone ∙ is.emptied q at gone))
-        | inr way ↦ loses.still q at way
-      ] in
-      let own : ReachesIfStone left k p = λ stone. (some.0 ∷ [], (on, refl, some.2, (some.1, is.emptied some.0 some.1 some.3))) in
-      subst (λ i. IsWithout placed i (λ q. is_set rows q ≡ true)) (captured_is_play g left left p k on all settled loses around (LosesShut-none left k) own) is
-
-  -- and else the stone's own group, if it has no liberty
-  taken_own : (none : List ℕ) → ((q : Point) → is_set none q ≡ false) → AreTakenOrReachBeside (with_cell g p (stone_of k)) (opponent k) p none → AreShutGroups (with_cell g p (stone_of k)) k rows → IsTakenOrReaches (with_cell g p (stone_of k)) k rows p → IsWithout (with_cell g p (stone_of k)) (play g k p) (λ q. is_set rows q ≡ true)
-  taken_own none no_bit beside are there =
-      let left = without placed rows in
-      let is = without-is placed rows long in
-      let loses : LosesShut placed left k = LosesShut-without placed left k rows are.shut is in
-      let around : ReachBeside placed (opponent k) p = λ q at next stone.
-      elim (beside q at next stone) [ inl gone ↦ absurd (false≢true (sym (no_bit q) ∙ gone)) | inr way ↦ way ] in
-      let own : ReachesIfStone left k p = λ stone.
-      elim (there (left_over placed left k k p loses on stone)) [
-        | inl gone ↦ absurd (stone_of≢Empty k (sym stone ∙ is.emptied p on gone))
-        | inr way ↦ loses.still p on way
-      ] in
-      subst (λ i. IsWithout placed i (λ q. is_set rows q ≡ true)) (captured_is_play g placed left p k on all settled (LosesShut-none placed (opponent k)) around loses own) is
-
-  pub takes_off_beside : AreShutGroups (with_cell g p (stone_of k)) (opponent k) rows → AreTakenOrReachBeside (with_cell g p (stone_of k)) (opponent k) p rows → (q : Point) × IsOn g.side q × AreAdjacent p q × (is_set rows q ≡ true) → TakesOff g k p rows
-  takes_off_beside are beside some = record { few = omega (arith, are.all); on_grid = are.on_grid; played = taken_beside are beside some }
-
-  pub takes_off_own : (none : List ℕ) → ((q : Point) → is_set none q ≡ false) → AreTakenOrReachBeside (with_cell g p (stone_of k)) (opponent k) p none → AreShutGroups (with_cell g p (stone_of k)) k rows → IsTakenOrReaches (with_cell g p (stone_of k)) k rows p → TakesOff g k p rows
-  takes_off_own none no_bit beside are there = record { few = omega (arith, are.all); on_grid = are.on_grid; played = taken_own none no_bit beside are there }
 
 -- the rows before one have the points of others, too
 pub record AddedBelow (old rows : List ℕ) (row : ℕ) (new : List ℕ) : Type 0 where
@@ -215,13 +143,8 @@ without-none g rows none = record {
 -- where all live, the stone is the whole move
 pub takes_nothing : (g : Grid) (p : Point) (k : Colour) → IsOn g.side p → length g.cells ≡ g.side * g.side → has_unreaching g ≡ false → AllLive (with_cell g p (stone_of k)) k p → TakesOff g k p []
 takes_nothing g p k on all settled live =
-    let h = with_cell g p (stone_of k) in
-    let alone : h ≡ play g k p = captured_is_play g h h p k on all settled (LosesShut-none h (opponent k)) live.1 (LosesShut-none h k) live.0 in
-    record {
-      few = omega arith;
-      on_grid = λ q is. absurd (false≢true (sym (has_bit-zero q.col) ∙ is));
-      played = subst (λ x. IsWithout h x (λ q. is_set [] q ≡ true)) alone (without-none h [] refl);
-    }
+    takes_off_own g p k on all settled [] (omega arith) (λ q is. absurd (false≢true (sym (has_bit-zero q.col) ∙ is)))
+    (IsWithoutLiberty-none (with_cell g p (stone_of k)) k (is_set []) (λ q. has_bit-zero q.col)) live.1 (λ stone. inr (live.0 stone))
 
 -- a stone that takes off the points of rows with no point takes nothing off
 pub takes_none : (g : Grid) (k : Colour) (p : Point) (rows : List ℕ) → ((q : Point) → is_set rows q ≡ false) → TakesOff g k p rows → TakesOff g k p []

@@ -194,45 +194,17 @@ impl Board {
 
     /// Makes a whole move (Tromp-Taylor). The point, which must be empty and on the board, takes the player's colour. Then the
     /// opponent's colour is cleared, and then the player's own, which is suicide.
-    #[tactic(auto, using(crate::proofs::SettledLemmas::settled_by_play, crate::proofs::SettledLemmas::side_play))]
+    #[tactic(auto, using(crate::proofs::SettledLemmas::settled_by_play, crate::proofs::SettledLemmas::side_play), unfolding(crate::specs::Clearing::play))]
     pub fn place(&mut self, colour: Colour, point: Point)
         requires on_board { IsOn self.old.side point }
         requires empty { cell_at self.old point ≡ Empty }
         ensures value { self.new ≡ play self.old colour point }
         ensures side { self.new.side ≡ self.old.side }
     {
-        self.work_settled_out();
-        if self.settled {
-            self.place_settled(colour, point);
-        } else {
-            self.place_unsettled(colour, point);
-        }
-        self.settled = true;
-    }
-
-    /// Makes a whole move on a board on which every stone reaches empty.
-    fn place_settled(&mut self, colour: Colour, point: Point)
-        requires on_board { IsOn self.old.side point }
-        requires empty { cell_at self.old point ≡ Empty }
-        requires settled { has_unreaching self.old ≡ false }
-        ensures { self.new ≡ play self.old colour point }
-    {
-        self.has_all_cells();
-        let mut words = no_rows();
-        let taken = &mut words[..usize::from(self.size.side())];
-        self.find_taken(colour, point, taken);
-        self.put(colour, point, taken);
-    }
-
-    /// Makes a whole move on any board.
-    #[tactic(auto, unfolding(crate::specs::Clearing::play))]
-    fn place_unsettled(&mut self, colour: Colour, point: Point)
-        requires { IsOn self.old.side point }
-        ensures { self.new ≡ play self.old colour point }
-    {
         self.set(point, colour.stone());
         self.clear(colour.opponent());
         self.clear(colour);
+        self.settled = true;
     }
 
     /// The area scores of Black and of White, in points (Tromp-Taylor): a player's points, and the empty points that reach her

@@ -13,12 +13,6 @@ pub(crate) const MAX_ROWS: usize = MAX_SIDE as usize;
 /// The number of points of the largest board.
 pub const MAX_POINTS: usize = MAX_ROWS * MAX_ROWS;
 
-/// The number of points of a board of side 9. The worklist of a flood on boards up to that side has this length.
-pub(crate) const SMALL_POINTS: usize = 81;
-
-/// The number of points of a board of side 19. The worklist of a flood on larger boards, up to that side, has this length.
-pub(crate) const USUAL_POINTS: usize = 361;
-
 /// The side of a square board, in points: 1 to `MAX_SIDE`.
 #[derive(Clone, Copy, Debug, PartialEq, Eq)]
 pub struct Size {

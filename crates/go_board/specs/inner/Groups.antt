@@ -7,7 +7,7 @@ use Rattle.go_board.specs.Colour.{opponent, stone_of, same_cell}
 use Rattle.go_board.specs.Point.{IsOn, AreAdjacent}
 use Rattle.go_board.specs.Grid.{Grid, cell_at, with_cell}
 use Rattle.go_board.specs.Reaching.{Reaches, reaches}
-use Rattle.go_board.specs.Clearing.{clear, play}
+use Rattle.go_board.specs.Clearing.{play}
 use Rattle.go_board.specs.inner.Rows.{is_set}
 
 -- The points that pass the test are stones of one colour. Each stone of that
@@ -53,17 +53,6 @@ pub record IsWithout (before after : Grid) (Gone : Point → Type 0) : Type 0 wh
   pub all : length after.cells ≡ length before.cells
   pub emptied : (point : Point) → IsOn before.side point → Gone point → cell_at after point ≡ Empty
   pub kept : (point : Point) → IsOn before.side point → (¬ Gone point) → cell_at after point ≡ cell_at before point
-
--- `after` is `before` without some stones of a colour. What reached empty
--- still does, and clearing the colour gives the same grid.
-pub record LosesShut (before after : Grid) (colour : Colour) : Type 0 where
-  pub same_side : after.side ≡ before.side
-  pub all : length after.cells ≡ length before.cells
-  pub taken : (point : Point) → IsOn before.side point
-      → (cell_at after point ≡ cell_at before point)
-      ⊎ ((cell_at after point ≡ Empty) × (cell_at before point ≡ stone_of colour))
-  pub still : (point : Point) → IsOn before.side point → Reaches before Empty point → Reaches after Empty point
-  pub cleared : clear after colour ≡ clear before colour
 
 -- a stone of the colour on the point is in the rows, or it reaches empty
 abbrev pub IsTakenOrReaches : Grid → Colour → List ℕ → Point → Type 0

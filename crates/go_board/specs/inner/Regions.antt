@@ -6,9 +6,10 @@ use Rattle.go_board.specs.declared.size.TheConstants.{MAX_ROWS}
 use Rattle.go_board.specs.declared.board.stone_rows.StoneRows.{StoneRows}
 use Rattle.go_board.specs.declared.points.Point.{Point}
 use Rattle.go_board.specs.Colour.{same_cell}
-use Rattle.go_board.specs.Point.{IsOn, AreAdjacent, points}
+use Rattle.go_board.specs.Point.{IsOn, points}
 use Rattle.go_board.specs.Grid.{Grid, cell_at, grid_of}
 use Rattle.go_board.specs.Reaching.{reaches}
+use Rattle.go_board.specs.inner.Linked.{HasLiberty}
 use Rattle.go_board.specs.inner.Rows.{has_bit, is_set}
 
 -- the cell is one of the two
@@ -57,9 +58,7 @@ pub record IsDifference (rows others left : List ℕ) : Type 0 where
       → is_set left point ≡ (is_set rows point && not (is_set others point))
   pub off : (point : Point) → IsTrue (is_set left point) → IsTrue (is_set rows point)
 
--- the points of one set that are beside a point of the other
-pub record AreBeside (rows others beside : List ℕ) : Type 0 where
-  pub from : (point : Point) → IsTrue (is_set beside point)
-      → IsTrue (is_set rows point) × ((neighbour : Point) × AreAdjacent point neighbour × IsTrue (is_set others neighbour))
-  pub to : (point neighbour : Point) → point.row < length rows → point.col < 64 → IsTrue (is_set rows point)
-      → AreAdjacent point neighbour → IsTrue (is_set others neighbour) → IsTrue (is_set beside point)
+-- the stones of one set that have a liberty of their own
+pub record HaveLiberty (own others alive : List ℕ) : Type 0 where
+  pub from : (stone : Point) → IsTrue (is_set alive stone) → IsTrue (is_set own stone) × HasLiberty own others stone
+  pub to : (stone : Point) → stone.col < 64 → IsTrue (is_set own stone) → HasLiberty own others stone → IsTrue (is_set alive stone)

@@ -1,5 +1,5 @@
 -- A search over the points of a grid: the points found so far, each marked, and how many of them were taken.
-use Rattle.std.specs.Prelude.{◌≡◌, ◌⊎◌, ℕ, ◌+◌, ◌*◌, ◌≤◌, true, List, [], ◌∷◌, ◌++◌, All, IsTrue, if◌then◌else◌, replicate, length, slice_set, false}
+use Rattle.std.specs.Prelude.{◌≡◌, ℕ, ◌*◌, ◌≤◌, true, List, [], ◌∷◌, ◌++◌, All, IsTrue, if◌then◌else◌, replicate, length, slice_set, false}
 use Rattle.go_board.specs.declared.points.Point.{Point}
 use Rattle.go_board.specs.Point.{IsOn, index_of}
 use Rattle.go_board.specs.Marking.{Marking, is_marked, marked_count}
@@ -36,7 +36,3 @@ pub record IsSound (search : Searched) : Type 0 where
   pub in_turn : search.taken ≤ length search.found
   pub on_grid : All (IsOn search.marking.side) search.found
   pub marked : All (λ point. IsTrue (is_marked search.marking point)) search.found
-
--- a search with this much room can find this many more points; with room for all points of the grid it always can
-abbrev pub HasRoom : ℕ → ℕ → Searched → Type 0
-HasRoom room more search = (search.marking.side * search.marking.side ≤ room) ⊎ (length search.found + more ≤ room)

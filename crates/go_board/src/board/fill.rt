@@ -1,6 +1,6 @@
 //! Filling sets of points: a word for each row, with a bit for each column.
 
-ghost use Rattle.std.specs.Prelude.{◌≡◌, ◌≢◌, ◌⊎◌, ℕ, ◌+◌, ◌<◌, ◌≤◌, false, Bool, IsTrue, length, slice_index};
+ghost use Rattle.std.specs.Prelude.{◌≡◌, ◌≢◌, ◌⊎◌, ℕ, ◌+◌, ◌*◌, ◌^◌, ◌<◌, ◌≤◌, false, Bool, IsTrue, List, length, slice_index};
 ghost use Rattle.go_board.specs.Point.{DifferByOne};
 ghost use Rattle.go_board.specs.inner.Fill.{IsFilledBut};
 ghost use Rattle.go_board.specs.inner.Rows.{has_bit, is_set, row_above, IsPart, HasBeside, IsWidened, IsTaken, IsAmong, IsClosed, IsRowClosed, Grows, lacking};
@@ -19,14 +19,34 @@ pub(crate) fn fill(rows: &mut [u64], room: &[u64])
 {
     let mut waiting = grow_down(rows, room);
     'rows: while waiting != 0 {
-        let row = waiting.trailing_zeros() as usize;
-        waiting = without_column(waiting, row);
-        let old = rows[row];
-        grow_row(rows, room, row);
-        if rows[row] != old {
-            waiting = with_rows_lacking(waiting, rows, room, row);
-        }
+        let (_, left) = grow_lowest(rows, room, waiting);
+        waiting = left;
     }
+}
+
+/// Lets the first row that waits take the points beside it. If it grew, the rows beside it that can take a point from it
+/// wait, too. Returns that row, and the rows that wait then.
+pub(crate) fn grow_lowest(rows: &mut [u64], room: &[u64], waiting: u64) -> (usize, u64)
+    requires same { length rows.old ≡ length room.now }
+    requires few { length rows.old < 64 }
+    requires within { IsAmong (is_set rows.old) (is_set room.now) }
+    requires some { waiting ≢ 0 }
+    requires rows_in { (row : ℕ) → IsTrue (has_bit waiting row) → row < length room.now }
+    ensures row { result.0 < length rows.new }
+    ensures rows { length rows.new ≡ length rows.old }
+    ensures filled { (first : List ℕ) → IsFilledBut room.now first rows.old waiting → IsFilledBut room.now first rows.new result.1 }
+    ensures others { (other : ℕ) → other ≢ result.0 → slice_index rows.new other ≡ slice_index rows.old other }
+    ensures wait { (other : ℕ) → other ≢ result.0 → IsTrue (has_bit waiting other) → IsTrue (has_bit result.1 other) }
+    ensures less { lacking rows.new * 2 ^ 64 + result.1 < lacking rows.old * 2 ^ 64 + waiting }
+{
+    let row = waiting.trailing_zeros() as usize;
+    let left = without_column(waiting, row);
+    let old = rows[row];
+    grow_row(rows, room, row);
+    if rows[row] == old {
+        return (row, left);
+    }
+    (row, with_rows_lacking(left, rows, room, row))
 }
 
 /// Lets each row take the points beside it, from the first row to the last.
@@ -48,7 +68,7 @@ fn grow_down(rows: &mut [u64], room: &[u64]) -> u64
 }
 
 /// The rows that wait, and the rows beside `row` that can take a point from it.
-fn with_rows_lacking(waiting: u64, rows: &[u64], room: &[u64], row: usize) -> u64
+pub(crate) fn with_rows_lacking(waiting: u64, rows: &[u64], room: &[u64], row: usize) -> u64
     requires same { length room.now ≡ length rows.now }
     requires few { length rows.now < 64 }
     requires row { row < length rows.now }
@@ -79,7 +99,7 @@ fn lacks(rows: &[u64], room: &[u64], row: usize, word: u64) -> bool
 }
 
 /// Adds the points of a row that are in the room and beside points of the set.
-pub(crate) fn grow_row(rows: &mut [u64], room: &[u64], row: usize)
+fn grow_row(rows: &mut [u64], room: &[u64], row: usize)
     requires same { length rows.old ≡ length room.now }
     requires row { row < length rows.old }
     requires within { IsAmong (is_set rows.old) (is_set room.now) }
@@ -93,8 +113,7 @@ pub(crate) fn grow_row(rows: &mut [u64], room: &[u64], row: usize)
     rows[row] = widened((rows[row] | beside) & room[row], room[row]);
 }
 
-/// Widens a set of columns by the columns of the room beside it, until there are no more. Usually a
-/// few steps are enough, or the set has a column in each run of columns of the room.
+/// Widens a set of columns by the columns of the room beside it, until there are no more.
 fn widened(seed: u64, room: u64) -> u64
     requires { IsPart (has_bit seed) (has_bit room) }
     ensures within { IsPart (has_bit result) (has_bit room) }
@@ -103,14 +122,7 @@ fn widened(seed: u64, room: u64) -> u64
     ensures least { (set : ℕ → Bool) → HasBeside (has_bit room) set → IsPart (has_bit seed) set
         → IsPart (has_bit result) set }
 {
-    let near = with_before(with_before(carried(seed, room), room), room);
-    let mut word = with_before(near, room);
-    if word == near {
-        return near;
-    }
-    if has_all_ends(word, room) {
-        return room;
-    }
+    let mut word = carried(seed, room);
     'widen: loop {
         let wider = with_before(word, room);
         if wider == word {
@@ -137,16 +149,8 @@ fn with_before(word: u64, room: u64) -> u64
     word | room & word >> 1
 }
 
-/// Whether a set has the last column of each run of columns of the room.
-fn has_all_ends(word: u64, room: u64) -> bool
-    ensures { IsTrue result → (set : ℕ → Bool) → HasBeside (has_bit room) set → IsPart (has_bit word) set
-        → IsPart (has_bit room) set }
-{
-    room & !(room >> 1) & !word == 0
-}
-
 /// The row above a row; empty above the first.
-pub(crate) fn row_above(rows: &[u64], row: usize) -> u64
+fn row_above(rows: &[u64], row: usize) -> u64
     requires { row < length rows.now }
     ensures { result ≡ row_above rows.now row }
 {
@@ -154,7 +158,7 @@ pub(crate) fn row_above(rows: &[u64], row: usize) -> u64
 }
 
 /// The row below a row; empty below the last.
-pub(crate) fn row_below(rows: &[u64], row: usize) -> u64
+fn row_below(rows: &[u64], row: usize) -> u64
     requires { row < length rows.now }
     ensures { result ≡ slice_index rows.now (row + 1) }
 {

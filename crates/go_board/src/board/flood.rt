@@ -6,14 +6,12 @@ ghost use Rattle.go_board.specs.declared.points.Point.{Point};
 ghost use Rattle.go_board.specs.Point.{IsOn};
 ghost use Rattle.go_board.specs.Marking.{is_marked, marked_count};
 ghost use Rattle.go_board.specs.Reaching.{Reaches};
-ghost use Rattle.go_board.specs.inner.Search.{HasRoom};
 ghost use Rattle.go_board.specs.inner.Flood.{reaches_through, with_neighbour, with_neighbours, with_colour};
 
 use crate::board::Board;
 use crate::board::search::Search;
 use crate::marks::Marks;
 use crate::points::Point;
-use crate::size::{MAX_POINTS, SMALL_POINTS, USUAL_POINTS};
 use crate::steps::Steps;
 use crate::stones::Cell;
 
@@ -28,28 +26,7 @@ impl Board {
         ensures all { length result.marks ≡ self.now.side * self.now.side }
         ensures steps { steps.new ≡ steps.old + marked_count result }
     {
-        let points = self.size().points();
-        if points <= SMALL_POINTS {
-            self.flood::<SMALL_POINTS>(target, steps)
-        } else if points <= USUAL_POINTS {
-            self.flood::<USUAL_POINTS>(target, steps)
-        } else {
-            self.flood::<MAX_POINTS>(target, steps)
-        }
-    }
-
-    /// The points that reach a colour, by a search with room for all points of the board.
-    fn flood<const N: usize>(&self, target: Cell, steps: &mut Steps) -> Marks
-        requires steps { steps.old + self.now.side * self.now.side ≤ u64.MAX }
-        requires room { self.now.side * self.now.side ≤ N }
-        requires at_most { N ≤ MAX_POINTS }
-        ensures side { result.side ≡ self.now.side }
-        ensures marks { (point : Point) → IsOn self.now.side point
-            → (IsTrue (is_marked result point) ↔ Reaches self.now target point) }
-        ensures all { length result.marks ≡ self.now.side * self.now.side }
-        ensures steps { steps.new ≡ steps.old + marked_count result }
-    {
-        let mut search = self.search_from::<N>(target);
+        let mut search = self.search_from(target);
         while let Some(point) = search.take_one() {
             steps.tick();
             self.offer_neighbours(target, point, &mut search);
@@ -58,12 +35,10 @@ impl Board {
     }
 
     /// A search that has found the points of a colour.
-    fn search_from<const N: usize>(&self, target: Cell) -> Search<N>
-        requires room { self.now.side * self.now.side ≤ N }
-        requires at_most { N ≤ MAX_POINTS }
+    fn search_from(&self, target: Cell) -> Search
         ensures { result ≡ with_colour self.now target }
     {
-        let mut search = Search::<N>::new(self.size());
+        let mut search = Search::new(self.size());
         for index in 0..self.size().points() {
             let point = Point::of_index(index, self.size());
             if self.at(point) == target {
@@ -75,15 +50,9 @@ impl Board {
 
     /// Adds the neighbours of a point that reach a colour through the point.
     #[tactic(auto, unfolding(crate::specs::inner::Flood::with_neighbours))]
-    pub(crate) fn offer_neighbours<const N: usize>(
-        &self,
-        target: Cell,
-        from: Point,
-        search: &mut Search<N>,
-    )
+    fn offer_neighbours(&self, target: Cell, from: Point, search: &mut Search)
         requires on_board { IsOn self.now.side from }
         requires same_side { search.old.marking.side ≡ self.now.side }
-        requires room { HasRoom N 4 search.old }
         ensures { search.new ≡ with_neighbours self.now target from search.old }
     {
         let size = self.size();
@@ -95,20 +64,12 @@ impl Board {
 
     /// Adds a neighbour of a point, if there is one and it reaches a colour through the point.
     #[tactic(auto, unfolding(crate::specs::inner::Flood::with_neighbour))]
-    fn offer<const N: usize>(
-        &self,
-        target: Cell,
-        from: Point,
-        to: Option<Point>,
-        search: &mut Search<N>,
-    )
+    fn offer(&self, target: Cell, from: Point, to: Option<Point>, search: &mut Search)
         requires from_on_board { IsOn self.now.side from }
         requires to_on_board { ForSome to (IsOn self.now.side) }
         requires same_side { search.old.marking.side ≡ self.now.side }
-        requires room { HasRoom N 1 search.old }
         ensures value { search.new ≡ with_neighbour self.now target from to search.old }
         ensures same_side { search.new.marking.side ≡ self.now.side }
-        ensures room { (more : ℕ) → HasRoom N (more + 1) search.old → HasRoom N more search.new }
     {
         if let Some(to) = to {
             if self.reaches_through(target, from, to) {

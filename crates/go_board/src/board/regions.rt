@@ -8,11 +8,11 @@ ghost use Rattle.go_board.specs.Colour.{same_cell, stone_of};
 ghost use Rattle.go_board.specs.Grid.{cell_at};
 ghost use Rattle.go_board.specs.inner.Groups.{AllReach, is_shut};
 ghost use Rattle.go_board.specs.inner.Rows.{has_bit, is_set};
-ghost use Rattle.go_board.specs.inner.Regions.{AreRowsOf, IsDifference, AreBeside, reaches_through_own, count_apart};
+ghost use Rattle.go_board.specs.inner.Regions.{AreRowsOf, IsDifference, HaveLiberty, reaches_through_own, count_apart};
 
 use crate::board::Board;
-use crate::board::fill::{fill, row_above, row_below};
-use crate::board::group::columns_beside;
+use crate::board::fill::fill;
+use crate::board::group::columns_with_liberty;
 use crate::size::MAX_ROWS;
 use crate::stones::Colour;
 
@@ -30,8 +30,8 @@ impl Board {
         let side = usize::from(self.size().side());
         let black_room = &mut black_words[..side];
         let white_room = &mut white_words[..side];
-        self.write_rows_of(Colour::Black, black);
-        self.write_rows_of(Colour::White, white);
+        black.copy_from_slice(self.rows_of(Colour::Black));
+        white.copy_from_slice(self.rows_of(Colour::White));
         other_points(white, black_room);
         other_points(black, white_room);
         fill(black, black_room);
@@ -48,15 +48,6 @@ impl Board {
             Colour::Black => &self.rows.black[..side],
             Colour::White => &self.rows.white[..side],
         }
-    }
-
-    /// Writes the points with a stone of a colour.
-    fn write_rows_of(&self, colour: Colour, rows: &mut [u64])
-        requires { length rows.old ≡ self.now.side }
-        ensures are { AreRowsOf self.now.side (λ p. same_cell (cell_at self.now p) (stone_of colour)) rows.new }
-        ensures rows { length rows.new ≡ self.now.side }
-    {
-        rows.copy_from_slice(self.rows_of(colour));
     }
 
     /// Whether all stones of a colour reach empty.
@@ -77,15 +68,9 @@ impl Board {
     {
         let own = self.rows_of(colour);
         let others = self.rows_of(colour.opponent());
-        let (mut room_words, mut empty_words) = (no_rows(), no_rows());
-        let mut reached_words = no_rows();
-        let side = usize::from(self.size().side());
-        let room = &mut room_words[..side];
-        let empty = &mut empty_words[..side];
-        let reached = &mut reached_words[..side];
-        other_points(others, room);
-        difference(room, own, empty);
-        points_beside(own, empty, reached);
+        let mut words = no_rows();
+        let reached = &mut words[..usize::from(self.size().side())];
+        stones_with_liberty(own, others, reached);
         // usually each stone has an empty point beside it; then nothing is filled
         difference(own, reached, shut);
         if is_none(shut) {
@@ -158,15 +143,15 @@ fn difference(rows: &[u64], others: &[u64], left: &mut [u64])
     }
 }
 
-/// The points of a set that are beside a point of another set.
-fn points_beside(rows: &[u64], others: &[u64], beside: &mut [u64])
-    requires others { length others.now ≡ length rows.now }
-    requires beside { length beside.old ≡ length rows.now }
-    ensures { AreBeside rows.now others.now beside.new }
+/// The stones of one colour that have a liberty of their own. `others` has those of the other colour.
+fn stones_with_liberty(own: &[u64], others: &[u64], alive: &mut [u64])
+    requires few { length own.now < 64 }
+    requires others { length others.now ≡ length own.now }
+    requires alive { length alive.old ≡ length own.now }
+    ensures { HaveLiberty own.now others.now alive.new }
 {
-    for row in 0..rows.len() {
-        let around = columns_beside(row_above(others, row), others[row], row_below(others, row));
-        beside[row] = rows[row] & around;
+    for row in 0..own.len() {
+        alive[row] = own[row] & columns_with_liberty(own, others, row);
     }
 }
 

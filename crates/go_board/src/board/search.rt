@@ -6,41 +6,44 @@ use crate::size::{MAX_POINTS, Size};
 use std::marker::Model;
 
 /// The points that a search found, in the order in which it found them, and how many
-/// of them were taken for a closer look. There is room for `N` points.
+/// of them were taken for a closer look.
 #[derive(Drop)]
-pub(crate) struct Search<const N: usize> {
+pub(crate) struct Search {
     marks: Marks,
-    points: [Point; N],
+    points: [Point; MAX_POINTS],
     filled: usize,
     taken: usize,
 }
 
-impl<const N: usize> Model for Search<N> {
+impl Model for Search {
     ghost use Rattle.std.specs.Prelude.{◌≡◌, ◌*◌, ◌≤◌, length, take};
+    ghost use Rattle.go_board.specs.declared.size.TheConstants.{MAX_POINTS};
     ghost use Rattle.go_board.specs.inner.Search.{Searched, IsSound};
 
     ghost Value = { Searched };
 
     ghost view = { λ s. record { marking = s.marks; found = take s.filled s.points; taken = s.taken } };
 
-    ghost invariant = { λ s. (length s.points ≡ N)
-        × (s.filled ≤ N)
+    ghost invariant = { λ s. (length s.points ≡ MAX_POINTS)
+        × (s.filled ≤ MAX_POINTS)
+        × (s.marks.side * s.marks.side ≤ MAX_POINTS)
         × IsSound (record { marking = s.marks; found = take s.filled s.points; taken = s.taken }) };
 }
 
-impl<const N: usize> Search<N> {
+impl Search {
     ghost use Rattle.std.specs.Prelude.{◌≡◌, ◌*◌, ◌<◌, ◌≤◌, ◌+◌, ◌↔◌, IsTrue, IfSome, IfNone, Some, All, slice_get, length};
     ghost use Rattle.go_board.specs.Point.{IsOn};
     ghost use Rattle.go_board.specs.Marking.{is_marked, marked_count};
-    ghost use Rattle.go_board.specs.inner.Search.{nothing_found, with_found, HasRoom};
+    ghost use Rattle.go_board.specs.inner.Search.{nothing_found, with_found};
 
     /// A search that has found nothing yet.
-    pub(crate) fn new(size: Size) -> Search<N>
+    pub(crate) fn new(size: Size) -> Search
         ensures { result ≡ nothing_found size }
     {
+        prove!(size.points() <= MAX_POINTS);
         Search {
             marks: Marks::none(size),
-            points: [FIRST; N],
+            points: [FIRST; MAX_POINTS],
             filled: 0,
             taken: 0,
         }
@@ -48,8 +51,7 @@ impl<const N: usize> Search<N> {
 
     /// Adds a point, unless it was found before.
     pub(crate) fn offer(&mut self, point: Point)
-        requires on_board { IsOn self.old.marking.side point }
-        requires room { HasRoom N 1 self.old }
+        requires { IsOn self.old.marking.side point }
         ensures { self.new ≡ with_found self.old point }
     {
         if !self.marks.has(point) {
@@ -79,8 +81,8 @@ impl<const N: usize> Search<N> {
 
     /// The points found, as a set.
     pub(crate) fn into_marks(self) -> Marks
-        ensures marks { result ≡ self.entry.marking }
-        ensures counted { marked_count result ≡ length self.entry.found }
+        ensures marks { result ≡ self.marking }
+        ensures counted { marked_count result ≡ length self.found }
     {
         let Search {
             marks,

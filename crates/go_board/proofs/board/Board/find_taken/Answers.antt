@@ -1,4 +1,5 @@
-use Rattle.std.proofs.Common.{◌≡◌, ap, sym, ◌∙◌, true, subst, refl}
+use Rattle.std.proofs.Common.{◌≡◌, inl, inr, ap, sym, ◌∙◌, true, subst, refl, arith}
+use Rattle.std.proofs.lemmas.Bool.{false≢true}
 use Rattle.go_board.specs.declared.stones.Cell.TheVariants.{Empty}
 use Rattle.go_board.specs.declared.points.Point.{Point}
 use Rattle.go_board.specs.Colour.{opponent, stone_of}
@@ -7,7 +8,8 @@ use Rattle.go_board.specs.Grid.{Grid, with_cell}
 use Rattle.go_board.specs.Clearing.{has_unreaching}
 use Rattle.go_board.specs.inner.Rows.{is_set}
 use Rattle.go_board.specs.inner.Groups.{AreShutGroups, AreTakenOrReachBeside, IsTakenOrReaches, TakesOff}
-use Rattle.go_board.proofs.TakenLemmas.{AreShutGroups-none, taken_away, takes_off_beside, takes_off_own}
+use Rattle.go_board.proofs.TakenLemmas.{AreShutGroups-none, taken_away}
+use Rattle.go_board.proofs.MoveLemmas.{takes_off_beside, takes_off_own}
 use Rattle.go_board.proofs.board.Board.find_taken.Goals as goal
 use Rattle.go_board.proofs.board.Board.find_taken.Goals.{then-not-find_shut_beside, else-not-find_shut_beside}
 
@@ -42,9 +44,13 @@ returns-clause-taken c =
       | then-not-find_shut_beside w ↦
           let none : first.new.shut ≡ c.args.taken.now = first.ensures.none w.if-not-find_shut_beside.true in
           subst (λ rows. TakesOff g k p rows) (sym w.taken-is)
-          (takes_off_own g p k c.requires.on_board c.has_all_cells.ensures.all c.requires.settled w.find_shut.new.shut c.args.taken.now c.requires.none
-          (subst (λ rows. AreTakenOrReachBeside placed (opponent k) p rows) none beside)
-          (subst (λ h. AreShutGroups h k w.find_shut.new.shut) here w.find_shut.ensures.shut)
+          (let own = subst (λ h. AreShutGroups h k w.find_shut.new.shut) here w.find_shut.ensures.shut in
+          takes_off_own g p k c.requires.on_board c.has_all_cells.ensures.all c.requires.settled w.find_shut.new.shut (omega (arith, own.all)) own.on_grid own.shut
+          (λ q at next stone.
+          elim (beside q at next stone) [
+            | inl gone ↦ absurd (false≢true (sym (c.requires.none q) ∙ ap (λ rows. is_set rows q) (sym none) ∙ gone))
+            | inr way ↦ way
+          ])
           (subst (λ h. IsTakenOrReaches h k w.find_shut.new.shut p) here (w.find_shut.ensures.beside p refl)))
       | else-not-find_shut_beside w ↦
           subst (λ rows. TakesOff g k p rows) (sym w.taken-is)

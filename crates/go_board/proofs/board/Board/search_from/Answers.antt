@@ -13,7 +13,7 @@ use Rattle.go_board.proofs.board.Board.search_from.Goals.{then-eq, else-eq}
 
 pub loop-index-init : goal.loop-index-init
 unfolding with_colour
-loop-index-init r c =
+loop-index-init c =
     let g = c.args.self.now in
     let found = c.new-search.ensures ∙ ap nothing_found c.size.ensures in
     record {
@@ -22,7 +22,7 @@ loop-index-init r c =
     }
 
 pub loop-index-preserved : goal.loop-index-preserved
-loop-index-preserved r c =
+loop-index-preserved c =
     let g = c.args.self.now in
     let l = c.loop-index in
     let p = c.of_index-point.result in
@@ -43,5 +43,5 @@ loop-index-preserved r c =
     }
 
 pub returns : goal.returns
-returns r c =
+returns c =
     with_points-all c.args.self.now c.args.target c.loop-index.index c.loop-index.search (omega (arith, c.loop-index-test.false, c.points-index-end.ensures.value, ap (λ n. n * n) c.size-2.ensures)) ∙ c.loop-index.invariant.remaining

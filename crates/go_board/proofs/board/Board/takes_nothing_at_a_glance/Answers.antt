@@ -1,9 +1,12 @@
-use Rattle.go_board.proofs.StoneRowsLemmas.{all_cells}
+use Rattle.std.proofs.Common.{sym}
+use Rattle.go_board.proofs.StoneGroupLemmas.{rows_of_opponent}
 use Rattle.go_board.proofs.TakenLemmas.{takes_nothing}
 use Rattle.go_board.proofs.board.Board.takes_nothing_at_a_glance.Goals as goal
 
 pub returns : goal.returns
 returns c = λ live.
-    let i = c.self.inside in
     let g = c.args.self.now in
-    takes_nothing g c.args.point c.args.colour c.requires.on_board (all_cells i.size i.rows g c.self.view_is) c.requires.settled (c.all_live_at_a_glance.ensures live)
+    let k = c.args.colour in
+    takes_nothing g c.args.point k c.requires.on_board c.has_all_cells.ensures.all c.requires.settled
+    (c.leaves_all_alive.ensures g k (sym c.rows_of.ensures.rows) c.rows_of.ensures.are
+    (rows_of_opponent g k c.opponent.result c.rows_of-2.result.now c.opponent.ensures c.rows_of-2.ensures.are) live)

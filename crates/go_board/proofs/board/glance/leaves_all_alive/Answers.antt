@@ -1,15 +1,16 @@
-use Rattle.std.proofs.Common.{◌≡◌, ℕ, inl, inr, true, refl, sym, ap, ◌∙◌, arith, subst}
-use Rattle.std.proofs.lemmas.Bool.{cases_eq, or_right, false≢true}
+use Rattle.std.proofs.Common.{◌≡◌, ◌<◌, ◌^◌, rules, ℕ, inl, inr, true, refl, sym, ap, ◌∙◌, arith, subst}
+use Rattle.std.proofs.lemmas.Bool.{cases_eq, eqb-true, or_right, false≢true}
+use Rattle.go_board.specs.declared.board.glance.RowStones.{RowStones}
 use Rattle.go_board.specs.Point.{IsOn, DifferByOne}
 use Rattle.go_board.specs.inner.Glance.{IsRowAt}
 use Rattle.go_board.specs.inner.Rows.{has_bit}
 use Rattle.go_board.proofs.WordLemmas.{has_bit-zero}
 use Rattle.go_board.proofs.NeighbourLemmas.{DifferByOne-sym}
-use Rattle.go_board.proofs.GlanceLemmas.{AreBeside, free_elsewhere, free_besides, alive_reaches, left_reaches}
+use Rattle.go_board.proofs.GlanceLemmas.{AreBeside, only_beside, row_all_but, some_of_three, none_of_three, free_elsewhere, free_besides, alive_reaches, left_reaches}
 use Rattle.go_board.proofs.board.glance.leaves_all_alive.Goals as goal
 
-pub returns-then-some_of : goal.returns-then-some_of
-returns-then-some_of c = λ g k side is_own is_others none.
+pub returns-then-alive-ne0 : goal.returns-then-alive-ne0
+returns-then-alive-ne0 c = λ g k side is_own is_others none.
     let p = c.args.point in
     let own = c.args.own.now in
     let others = c.args.others.now in
@@ -18,24 +19,33 @@ returns-then-some_of c = λ g k side is_own is_others none.
     let col : c.from-col.result ≡ p.col = c.from-col.ensures in
     let first = c.row_at-first.result in
     let above = c.row_at-above.result in
-    let here = c.all_but-here.result in
+    let free = c.without_column.result in
+    let here : RowStones = record { own = c.row_at-here.result.own; others = c.row_at-here.result.others; free = free } in
     let below = c.row_at-below.result in
     let last = c.row_at-last.result in
     let stone = c.with_column-stone.result in
-    let wide = c.beside.result in
-    let is_first : IsRowAt own others p.row 0 first = subst (λ m. IsRowAt own others m 0 first) at c.row_at-first.ensures in
-    let is_above : IsRowAt own others p.row 1 above = subst (λ m. IsRowAt own others m 1 above) at c.row_at-above.ensures in
-    let is_here : IsRowAt own others p.row 2 here = subst (λ m. IsRowAt own others m 2 here) at (c.all_but-here.ensures.still own others c.from-middle.result 2 c.row_at.ensures) in
-    let is_below : IsRowAt own others p.row 3 below = subst (λ m. IsRowAt own others m 3 below) at c.row_at-below.ensures in
-    let is_last : IsRowAt own others p.row 4 last = subst (λ m. IsRowAt own others m 4 last) at c.row_at-last.ensures in
+    let wide = c.columns_beside.result in
+    let is_first : IsRowAt own others p.row 0 first = subst (λ m. IsRowAt own others m 0 first) at c.row_at-first.ensures.is in
+    let is_above : IsRowAt own others p.row 1 above = subst (λ m. IsRowAt own others m 1 above) at c.row_at-above.ensures.is in
+    let still = λ (n : ℕ) (there : has_bit free n ≡ true).
+    elim (cases_eq n c.from-col.result) as (λ _. has_bit c.row_at-here.result.free n ≡ true) [
+      | inl same ↦ absurd (false≢true (sym c.without_column.ensures.there ∙ ap (has_bit free) (sym same) ∙ there))
+      | inr other ↦ sym (c.without_column.ensures.elsewhere n other) ∙ there
+    ] in
+    let is_here : IsRowAt own others p.row 2 here = subst (λ m. IsRowAt own others m 2 here) at (row_all_but own others c.from-middle.result 2 free c.row_at-here.result still c.row_at-here.ensures.is) in
+    let is_below : IsRowAt own others p.row 3 below = subst (λ m. IsRowAt own others m 3 below) at c.row_at-below.ensures.is in
+    let is_last : IsRowAt own others p.row 4 last = subst (λ m. IsRowAt own others m 4 last) at c.row_at-last.ensures.is in
     let free_first = free_elsewhere g k p own others side on is_own is_others 0 first is_first (λ e. omega (arith, e)) in
     let free_above = free_elsewhere g k p own others side on is_own is_others 1 above is_above (λ e. omega (arith, e)) in
-    let free_here = free_besides g k p own others side on is_own is_others here is_here (ap (has_bit here.free) (sym col) ∙ c.all_but-here.ensures.there) in
+    let free_here = free_besides g k p own others side on is_own is_others here is_here (ap (has_bit free) (sym col) ∙ c.without_column.ensures.there) in
     let free_below = free_elsewhere g k p own others side on is_own is_others 3 below is_below (λ e. omega (arith, e)) in
     let free_last = free_elsewhere g k p own others side on is_own is_others 4 last is_last (λ e. omega (arith, e)) in
     let up = c.look_at_row-up in
     let along = c.look_at_row-along in
     let down = c.look_at_row-down in
+    let up_low : up.result.alive < 2 ^ 64 = search rules in
+    let along_low : along.result.alive < 2 ^ 64 = search rules in
+    let down_low : down.result.alive < 2 ^ 64 = search rules in
     let alone = λ (n : ℕ) (is : has_bit stone n ≡ true).
     elim (cases_eq n p.col) as (λ _. n ≡ p.col) [
       | inl same ↦ same
@@ -46,11 +56,11 @@ returns-then-some_of c = λ g k side is_own is_others none.
     let beside_up : AreBeside p 1 stone = λ q row is. inl (sym (alone q.col is), inr (omega (arith, row))) in
     let beside_down : AreBeside p 3 stone = λ q row is. inl (sym (alone q.col is), inl (omega (arith, row))) in
     let beside_along : AreBeside p 2 wide = λ q row is.
-    let w = c.beside.ensures.from q.col is in
+    let w = only_beside stone q.col (c.columns_beside.ensures.from q.col is) in
     inr (omega (arith, row), DifferByOne-sym q.col p.col (subst (DifferByOne q.col) (alone w.0 w.2) w.1)) in
-    let lost = c.none_of.ensures none in (
+    let lost = λ (n : ℕ). none_of_three up.result.shut along.result.shut down.result.shut n (eqb-true _ _ none) in (
       λ own_stone.
-          elim (c.some_of.ensures c.if-some_of.true) [
+          elim (some_of_three up.result.alive along.result.alive down.result.alive up_low along_low down_low c.if-alive-ne0.true) [
             | inl some ↦
                 alive_reaches g k p own others side on is_own is_others 0 stone first.free above here.free is_above free_first free_above free_here
                 up.result.alive beside_up up.ensures.alive some own_stone
@@ -72,6 +82,6 @@ returns-then-some_of c = λ g k side is_own is_others none.
             | inr (same, differ) ↦
                 left_reaches g k p own others side on is_own is_others 1 wide above.free here below.free is_here free_above free_here free_below
                 along.result.shut along.ensures.shut (λ n. (lost n).1) q (omega (arith, same)) on_q (inr (same, differ))
-                (c.beside.ensures.to q.col p.col (omega (arith, on_q.0, side, c.requires.few)) (DifferByOne-sym p.col q.col differ) there)
+                (c.columns_beside.ensures.to q.col (omega (arith, on_q.0, side, c.requires.few)) (inr (inr (p.col, DifferByOne-sym p.col q.col differ, there))))
           ],
     )

@@ -1,38 +1,106 @@
-use Rattle.std.proofs.Common.{◌≡◌, length, sym, subst, rules}
-use Rattle.go_board.specs.Point.{IsOn}
-use Rattle.go_board.proofs.LinkedLemmas.{IsLiberty-beside}
+use Rattle.std.proofs.Common.{◌≡◌, ◌≢◌, ◌<◌, ◌^◌, ℕ, List, length, set, slice_index, true, false, inl, inr, sym, ap, ◌∙◌, subst, arith, rules}
+use Rattle.std.proofs.Math.Bool.{or-true}
+use Rattle.std.proofs.lemmas.Bool.{and_from, cases_Bool, cases_eq, false≢true}
+use Rattle.std.proofs.lemmas.List.{length-set}
+use Rattle.go_board.specs.declared.points.Point.{Point}
+use Rattle.go_board.specs.Point.{DifferByOne}
+use Rattle.go_board.specs.inner.Rows.{has_bit, is_set, IsTaken}
+use Rattle.go_board.specs.inner.Fill.{IsFilledBut}
+use Rattle.go_board.proofs.WordLemmas.{from_more, has_bit-and, has_bit-zero, column_below}
+use Rattle.go_board.proofs.FillLemmas.{IsClosed-all}
+use Rattle.go_board.proofs.LinkedLemmas.{in_first, from_in_first, first_filled, common_column, IsLiberty-in}
 use Rattle.go_board.proofs.board.group.has_liberty.Goals as goal
 
-pub returns-then-near_row_has_liberty-clause-lives : goal.returns-then-near_row_has_liberty-clause-lives
-returns-then-near_row_has_liberty-clause-lives c = λ _.
-    let found = c.near_row_has_liberty.ensures c.if-near_row_has_liberty.true in
-    let p = found.0 in
-    let own = c.args.own.now in
-    let group = c.begin.new.group in
-    let same : length group ≡ length own = search rules in
-    (p, IsLiberty-beside own c.args.others.now c.args.from group p found.1 c.begin.ensures.within c.begin.ensures.linked (subst (λ n. IsOn n p) same found.2) found.3 found.4 found.5 found.6)
+-- the group at first
+module _ (c : goal.After-with_rows_lacking-waiting) where
+  abbrev begun : List ℕ
+  begun = set c.args.group.now c.from-first.result c.with_column.result
 
-pub returns-clause-lives : goal.returns-clause-lives
-returns-clause-lives c = λ some.
-    let found = c.some_row_has_liberty.ensures.some some in
-    let p = found.0 in
-    let own = c.args.own.now in
-    let group = c.fill.new.rows in
-    let same : length group ≡ length own = search rules in (
-      p,
-      IsLiberty-beside own c.args.others.now c.args.from group p found.1 c.fill.ensures.grows.within
-          (λ q is. λ set closed has. c.fill.ensures.grows.least set closed (λ r there. c.begin.ensures.linked r there set closed has) q is)
-          (subst (λ n. IsOn n p) same found.2) found.3 found.4 found.5 found.6,
-    )
+  there : has_bit c.with_column.result c.args.from.col ≡ true
+  there = ap (has_bit c.with_column.result) (sym c.from.ensures) ∙ c.with_column.ensures.there ∙ or-true (has_bit 0 c.from.result)
+
+  elsewhere : (k : ℕ) → k ≢ c.args.from.col → has_bit c.with_column.result k ≡ false
+  elsewhere k other = c.with_column.ensures.elsewhere k (λ e. other (e ∙ c.from.ensures)) ∙ has_bit-zero k
+
+  first_is : begun ≡ set c.args.group.now c.args.from.row c.with_column.result
+  first_is = ap (λ r. set c.args.group.now r c.with_column.result) c.from-first.ensures
+
+  pub only : (p : Point) → is_set begun p ≡ true → p ≡ c.args.from
+  only = in_first c.args.own.now c.args.others.now c.args.from c.args.group.now begun c.with_column.result c.requires.none c.requires.on_board.1 there elsewhere first_is
+
+  pub start : is_set begun c.args.from ≡ true
+  start = from_in_first c.args.own.now c.args.others.now c.args.from c.args.group.now begun c.with_column.result c.requires.none c.requires.on_board.1 there elsewhere first_is
+
+  pub waits : has_bit c.with_rows_lacking-waiting.result c.args.from.row ≡ true
+  waits =
+      ap (has_bit c.with_rows_lacking-waiting.result) (sym c.from-first.ensures)
+      ∙ c.with_rows_lacking-waiting.ensures.kept _ (c.with_column-alone.ensures.there ∙ or-true (has_bit 0 c.from-first.result))
+
+  pub filled : IsFilledBut c.args.own.now begun begun c.with_rows_lacking-waiting.result
+  filled =
+      let lacking = c.with_rows_lacking-waiting.ensures in
+      let long : length begun ≡ length c.args.own.now = length-set c.args.group.now _ _ ∙ sym c.requires.own_rows in
+      first_filled c.args.own.now c.args.others.now c.args.from c.args.group.now begun c.with_column.result c.requires.none c.requires.on_board.1 there elsewhere first_is
+      c.with_rows_lacking-waiting.result c.requires.stone (sym c.requires.own_rows) waits
+      (λ r is.
+      elim (lacking.from r is) [
+        | inl at ↦ (elim (from_more _ _ _ c.with_column-alone.ensures.there c.with_column-alone.ensures.elsewhere r at) [
+          | inl before ↦ absurd (false≢true (sym (has_bit-zero r) ∙ before))
+          | inr same ↦ omega (arith, same, c.from-first.ensures, c.requires.on_board.1, c.requires.own_rows)
+        ])
+        | inr below ↦ omega (arith, below, long)
+      ])
+      (λ r differ below none.
+      subst (λ n. IsTaken c.args.own.now begun r (slice_index begun n)) c.from-first.ensures
+      (lacking.taken r (subst (DifferByOne r) (sym c.from-first.ensures) differ) (omega (arith, below, long)) none))
+
+pub rows-init : goal.rows-init
+rows-init c = record {
+  only = only c;
+  start = start c;
+  filled = filled c;
+  shut = λ q none is.
+      absurd (false≢true (sym none ∙ ap (λ (x : Point). has_bit c.with_rows_lacking-waiting.result x.row) (only c q is) ∙ waits c));
+}
+
+pub rows-preserved : goal.rows-preserved
+rows-preserved c = record {
+  only = c.rows.invariant.only;
+  start = c.rows.invariant.start;
+  filled = c.grow_lowest-row.ensures.filled _ c.rows.invariant.filled;
+  shut = λ q none is free.
+      elim (cases_eq q.row c.grow_lowest-row.result.0) [
+        | inl at ↦
+            let word = slice_index c.grow_lowest-row.new.rows c.grow_lowest-row.result.0 in
+            let low : word < 2 ^ 64 = search rules in
+            let stone : has_bit word q.col ≡ true = ap (λ r. has_bit (slice_index c.grow_lowest-row.new.rows r) q.col) (sym at) ∙ is in
+            let alive = c.columns_with_liberty.ensures.to q at (column_below 64 word q.col low stone) free in
+            false≢true (sym (ap (λ w. has_bit w q.col) c.if-alive-ne0.false ∙ has_bit-zero q.col) ∙ has_bit-and word c.columns_with_liberty.result q.col ∙ and_from _ _ stone alive)
+        | inr other ↦
+            c.rows.invariant.shut q
+            (elim (cases_Bool (has_bit c.rows.waiting q.row)) [
+              | inl waits ↦ absurd (false≢true (sym none ∙ c.grow_lowest-row.ensures.wait q.row other waits))
+              | inr out ↦ out
+            ])
+            (ap (λ w. has_bit w q.col) (sym (c.grow_lowest-row.ensures.others q.row other)) ∙ is) free
+      ];
+}
+
+pub returns-then-alive-ne0-clause-lives : goal.returns-then-alive-ne0-clause-lives
+returns-then-alive-ne0-clause-lives c = λ _.
+    let row = c.grow_lowest-row.result.0 in
+    let word = slice_index c.grow_lowest-row.new.rows row in
+    let low : word < 2 ^ 64 = search rules in
+    let both = common_column word c.columns_with_liberty.result low c.if-alive-ne0.true in
+    let grown = c.grow_lowest-row.ensures.filled _ c.rows.invariant.filled in
+    (record { col = both.0; row = row }, IsLiberty-in c.args.own.now c.args.others.now c.args.from _ c.grow_lowest-row.new.rows (record { col = both.0; row = row }) c.rows.invariant.only grown.grows both.1 (c.columns_with_liberty.ensures.from both.0 both.2))
 
 pub returns-clause-shut : goal.returns-clause-shut
-returns-clause-shut c = λ none.
-    let own = c.args.own.now in
-    let group = c.fill.new.rows in
-    let same : length group ≡ length own = search rules in
+returns-clause-shut c = λ _.
+    let l = c.rows in
     record {
-      within = c.fill.ensures.grows.within;
-      start = c.fill.ensures.grows.kept c.args.from c.begin.ensures.start;
-      closed = c.fill.ensures.closed;
-      filled = λ p q on adjacent is. c.some_row_has_liberty.ensures.none none p q (subst (λ n. IsOn n p) (sym same) on) adjacent is;
+      within = l.invariant.filled.grows.within;
+      start = l.invariant.filled.grows.kept c.args.from l.invariant.start;
+      closed = IsClosed-all c.args.own.now _ l.group l.waiting l.invariant.filled c.rows-test.false;
+      shut = λ q is. l.invariant.shut q (ap (λ w. has_bit w q.row) c.rows-test.false ∙ has_bit-zero q.row) is;
     }

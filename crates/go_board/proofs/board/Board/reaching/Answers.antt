@@ -8,11 +8,10 @@ use Rattle.go_board.proofs.PointLemmas.{origin}
 use Rattle.go_board.specs.Reaching.{Reaches}
 use Rattle.go_board.proofs.FloodLemmas.{IsUnderWay, IsUnderWay-step}
 use Rattle.go_board.proofs.ColourFloodLemmas.{IsSeeded, IsUnderWay-with_colour, reached_through, complete}
-use Rattle.go_board.proofs.board.Board.flood.Given.{Over}
-use Rattle.go_board.proofs.board.Board.flood.Goals as goal
+use Rattle.go_board.proofs.board.Board.reaching.Goals as goal
 
 pub loop-point-init : goal.loop-point-init
-loop-point-init r c =
+loop-point-init c =
     let g = c.args.self.now in
     let begun = IsUnderWay-with_colour g c.args.target in
     record {
@@ -22,9 +21,9 @@ loop-point-init r c =
     }
 
 -- the search once the point that was taken is dealt with
-after_neighbours : (r : Over) (c : goal.After-offer_neighbours r) → IsUnderWay c.args.self.now c.args.target (Reaches c.args.self.now c.args.target) c.offer_neighbours.new.search × IsSeeded c.args.self.now c.args.target c.offer_neighbours.new.search × (c.offer_neighbours.new.search.taken ≡ c.loop-point.search.taken + 1)
+after_neighbours : (c : goal.After-offer_neighbours) → IsUnderWay c.args.self.now c.args.target (Reaches c.args.self.now c.args.target) c.offer_neighbours.new.search × IsSeeded c.args.self.now c.args.target c.offer_neighbours.new.search × (c.offer_neighbours.new.search.taken ≡ c.loop-point.search.taken + 1)
 unfolding IsSeeded
-after_neighbours r c =
+after_neighbours c =
     let g = c.args.self.now in
     let k = c.args.target in
     let s = c.loop-point.search in
@@ -40,14 +39,14 @@ after_neighbours r c =
     (step.0, (λ q at colour. step.1.keeps q (c.loop-point.invariant.seeded q at colour)), step.1.same_taken)
 
 pub loop-point-smaller : goal.loop-point-smaller
-loop-point-smaller r c =
+loop-point-smaller c =
     let s = c.loop-point.search in
     let sides = ap (λ n. n * n) c.loop-point.invariant.way.flood.same_side in
-    omega (arith, (after_neighbours r c).2, c.in-Some.ensures.within, sides)
+    omega (arith, (after_neighbours c).2, c.in-Some.ensures.within, sides)
 
 pub loop-point-preserved : goal.loop-point-preserved
-loop-point-preserved r c =
-    let next = after_neighbours r c in
+loop-point-preserved c =
+    let next = after_neighbours c in
     record {
       way = next.0;
       seeded = next.1;
@@ -55,7 +54,7 @@ loop-point-preserved r c =
     }
 
 pub returns-clause-marks : goal.returns-clause-marks
-returns-clause-marks r c = λ p on.
+returns-clause-marks c = λ p on.
     let g = c.args.self.now in
     let k = c.args.target in
     let s = c.loop-point.search in
