@@ -1,24 +1,28 @@
 -- Changes that lead back from a colouring to the one before it.
-use Rattle.std.proofs.Common.{◌≡◌, ◌≢◌, ◌==◌, ◌||◌, ◌&&◌, ℕ, zero, suc, ◌+◌, ◌*◌, ◌%◌, ◌^◌, ◌<◌, inl, inr, Bool, true, false, not, cond, List, [], ◌∷◌, ◌++◌, length, bit_and, bit_xor, w64, refl, sym, ap, subst, ◌∙◌, arith, append_assoc}
-use Rattle.std.specs.Int.{bit_at, bit_not}
-use Rattle.std.proofs.lemmas.Bool.{cases_eq, false≢true}
+use Rattle.std.proofs.Common.{◌≡◌, ◌≢◌, ◌⊎◌, ◌==◌, ◌||◌, ◌&&◌, ℕ, ◌+◌, ◌*◌, ◌<◌, inl, inr, Bool, true, false, not, cond, List, [], ◌∷◌, ◌++◌, length, take, refl, sym, ap, subst, ◌∙◌, arith, append_assoc, All, slice_index}
+use Rattle.std.proofs.lemmas.Bool.{cases_Bool, cases_eq, false≢true}
 use Rattle.std.proofs.lemmas.Bool.Decides.{Decides-eqb}
-use Rattle.std.proofs.lemmas.Nat.Bits.{bit_at_xor, bit_at-lt}
-use Rattle.std.proofs.lemmas.List.{append-nil}
-use Rattle.std.proofs.lemmas.List.Elements.{All-append, All-push}
+use Rattle.std.proofs.lemmas.List.{append-nil, take_at, length-set}
+use Rattle.std.proofs.lemmas.List.Elements.{All-nil, All-push, All-head, All-tail, All-weaker}
 use Rattle.go_board.specs.declared.stones.Cell.{Cell}
 use Rattle.go_board.specs.declared.stones.Cell.TheVariants.{Black, White, Empty}
 use Rattle.go_board.specs.declared.points.Point.{Point}
 use Rattle.go_board.specs.declared.past.changes.Change.{Change}
-use Rattle.go_board.specs.Colour.{same_cell}
-use Rattle.go_board.specs.Point.{IsOn}
+use Rattle.go_board.specs.declared.stones.Colour.{Colour}
+use Rattle.go_board.specs.Colour.{same_cell, stone_of}
+use Rattle.go_board.specs.Point.{IsOn, index_of}
 use Rattle.go_board.specs.Grid.{Grid, cell_at, grid_of}
+use Rattle.go_board.specs.Clearing.{play}
+use Rattle.go_board.specs.inner.Groups.{TakesOff}
+use Rattle.go_board.specs.inner.Regions.{with_columns}
 use Rattle.go_board.specs.inner.Rows.{has_bit}
-use Rattle.go_board.specs.inner.Changes.{with_change, after_changes, IsChangeOn, MakeMore, MakeOne, differ, is_put_back}
+use Rattle.go_board.specs.inner.Changes.{with_change, after_changes, AreOn, IsChangeOn, IsRowOf, HasRow, KeepRows, CoverChange, MakeOne}
 use Rattle.go_board.proofs.RuleLemmas.{false_from_Decides}
+use Rattle.go_board.proofs.GridLemmas.{cell_at-grid_of, length-grid_of, cell_at-with_cell_elsewhere}
 use Rattle.go_board.proofs.GroupLemmas.{grid_of-cells}
+use Rattle.go_board.proofs.GrowLemmas.{row_below}
+use Rattle.go_board.proofs.WordLemmas.{has_bit-zero}
 use Rattle.go_board.proofs.StoneRowsLemmas.{side-coloured, cell_at-coloured, length-coloured}
-use Rattle.go_board.proofs.WordLemmas.{has_bit-and, has_bit-without, has_bit-zero}
 
 -- two colourings of one side with the same on each point are one
 pub one_colouring : (g h : Grid) → g.side ≡ h.side → length g.cells ≡ g.side * g.side → length h.cells ≡ h.side * h.side → ((p : Point) → IsOn g.side p → cell_at g p ≡ cell_at h p) → g ≡ h
@@ -27,156 +31,152 @@ one_colouring g h side all all' each =
     ∙ ap (λ n. grid_of n (cell_at g)) side
     ∙ grid_of-cells h (cell_at g) all' (λ p on. each p (subst (λ n. IsOn n p) (sym side) on))
 
+-- what stands in a row once it is changed
+abbrev stone_of_bits : Bool → Bool → Cell
+stone_of_bits black white = cond white White (cond black Black Empty)
+
+side-changed : (g : Grid) (c : Change) → (with_change g c).side ≡ g.side
+unfolding with_change
+side-changed g c = refl
+
+length-changed : (g : Grid) (c : Change) → length (with_change g c).cells ≡ g.side * g.side
+unfolding with_change
+length-changed g c = length-grid_of g.side _
+
+cell_at-changed : (g : Grid) (c : Change) (p : Point) → IsOn g.side p → cell_at (with_change g c) p ≡ cond (p.row == c.row) (stone_of_bits (has_bit c.black p.col) (has_bit c.white p.col)) (cell_at g p)
+unfolding with_change
+cell_at-changed g c p on = cell_at-grid_of g.side (λ q. cond (q.row == c.row) (stone_of_bits (has_bit c.black q.col) (has_bit c.white q.col)) (cell_at g q)) p on
+
 -- the side stays, and so does the number of cells
 pub after-side : (g : Grid) (cs : List Change) → (after_changes g cs).side ≡ g.side
 after-side g [] = refl
-after-side g (x ∷ xs) = after-side (with_change g x) xs ∙ side-coloured g x.row x.columns x.cell
+after-side g (x ∷ xs) = after-side (with_change g x) xs ∙ side-changed g x
 
 pub after-length : (g : Grid) (cs : List Change) → length g.cells ≡ g.side * g.side → length (after_changes g cs).cells ≡ g.side * g.side
 after-length g [] all = all
 after-length g (x ∷ xs) all =
-    let side = side-coloured g x.row x.columns x.cell in
-    after-length (with_change g x) xs (length-coloured g x.row x.columns x.cell ∙ ap (λ n. n * n) (sym side)) ∙ ap (λ n. n * n) side
-
-after-append : (g : Grid) (xs ys : List Change) → after_changes g (xs ++ ys) ≡ after_changes (after_changes g xs) ys
-after-append g [] ys = refl
-after-append g (x ∷ xs) ys = after-append (with_change g x) xs ys
+    let side = side-changed g x in
+    after-length (with_change g x) xs (length-changed g x ∙ ap (λ n. n * n) (sym side)) ∙ ap (λ n. n * n) side
 
 pub after-push : (g : Grid) (cs : List Change) (c : Change) → after_changes g (cs ++ c ∷ []) ≡ with_change (after_changes g cs) c
-after-push g cs c = after-append g cs (c ∷ [])
+after-push g [] c = refl
+after-push g (x ∷ xs) c = after-push (with_change g x) xs c
 
--- no more changes
-pub MakeMore-none : (side : ℕ) (old new : List Change) → new ≡ old → MakeMore side (λ p x. x) old new
-MakeMore-none side old new same =
-    record { more = []; added = same ∙ sym (append-nil old); on_grid = λ k d h. absurd (omega (arith, h)); made = λ g p e on. refl }
+-- a row is put back by three sets of columns
+by_row : (e a w b : Bool) (x : Cell) → a ≡ true → cond (e && w) White (cond (e && b) Black (cond (e && a) Empty x)) ≡ cond e (stone_of_bits b w) x
+by_row false a w b x is = refl
+by_row true true w b x is = refl
+by_row true false w b x is = absurd (false≢true is)
 
--- one more
-pub MakeMore-one : (side : ℕ) (c : Change) (old new : List Change) → IsChangeOn side c → new ≡ old ++ c ∷ [] → MakeMore side (λ p x. cond ((p.row == c.row) && has_bit c.columns p.col) c.cell x) old new
-MakeMore-one side c old new on is = record {
-  more = c ∷ [];
-  added = is;
-  on_grid = All-push (IsChangeOn side) [] c (λ k d h. absurd (omega (arith, h))) on;
-  made = λ g p e on_board. cell_at-coloured g c.row c.columns c.cell p (subst (λ n. IsOn n p) (sym e) on_board);
+pub three_columns : (g : Grid) (all : ℕ) (c : Change) → ((col : ℕ) → col < g.side → has_bit all col ≡ true) → with_columns (with_columns (with_columns g c.row all Empty) c.row c.black Black) c.row c.white White ≡ with_change g c
+three_columns g all c is =
+    let empty = with_columns g c.row all Empty in
+    let black = with_columns empty c.row c.black Black in
+    let side_empty : empty.side ≡ g.side = side-coloured g c.row all Empty in
+    let side_black : black.side ≡ g.side = side-coloured empty c.row c.black Black ∙ side_empty in
+    let side_white : (with_columns black c.row c.white White).side ≡ g.side = side-coloured black c.row c.white White ∙ side_black in
+    one_colouring (with_columns black c.row c.white White) (with_change g c) (side_white ∙ sym (side-changed g c))
+    (length-coloured black c.row c.white White ∙ ap (λ n. n * n) (side_black ∙ sym side_white))
+    (length-changed g c ∙ ap (λ n. n * n) (sym (side-changed g c)))
+    (λ p at.
+    let on : IsOn g.side p = subst (λ n. IsOn n p) side_white at in
+    let e = p.row == c.row in
+    cell_at-coloured black c.row c.white White p (subst (λ n. IsOn n p) (sym side_black) on)
+    ∙ ap (λ x. cond (e && has_bit c.white p.col) White x) (cell_at-coloured empty c.row c.black Black p (subst (λ n. IsOn n p) (sym side_empty) on))
+    ∙ ap (λ x. cond (e && has_bit c.white p.col) White (cond (e && has_bit c.black p.col) Black x)) (cell_at-coloured g c.row all Empty p on)
+    ∙ by_row e (has_bit all p.col) (has_bit c.white p.col) (has_bit c.black p.col) (cell_at g p) (is p.col on.0)
+    ∙ sym (cell_at-changed g c p on))
+
+-- a row of a colouring, put back, has what stood there
+stone_back : (c : Cell) → stone_of_bits (same_cell c Black) (same_cell c White) ≡ c
+stone_back Black = refl
+stone_back White = refl
+stone_back Empty = refl
+
+row_back : (old g : Grid) (c : Change) → g.side ≡ old.side → IsRowOf old c → (p : Point) → IsOn old.side p → c.row ≡ p.row → cell_at (with_change g c) p ≡ cell_at old p
+row_back old g c side is p on at =
+    let here : ◌≡◌ {A = Point} (record { col = p.col; row = c.row }) p = ap (λ n. record { col = p.col; row = n }) at in
+    cell_at-changed g c p (subst (λ n. IsOn n p) (sym side) on)
+    ∙ ap (λ b. cond b (stone_of_bits (has_bit c.black p.col) (has_bit c.white p.col)) (cell_at g p)) ((Decides-eqb p.row c.row).1 (sym at))
+    ∙ ap (λ b. stone_of_bits b (has_bit c.white p.col)) (is.black p.col on.0 ∙ ap (λ (q : Point). same_cell (cell_at old q) Black) here)
+    ∙ ap (λ b. stone_of_bits (same_cell (cell_at old p) Black) b) (is.white p.col on.0 ∙ ap (λ (q : Point). same_cell (cell_at old q) White) here)
+    ∙ stone_back (cell_at old p)
+
+other_row : (g : Grid) (c : Change) (p : Point) → IsOn g.side p → c.row ≢ p.row → cell_at (with_change g c) p ≡ cell_at g p
+other_row g c p on other =
+    cell_at-changed g c p on
+    ∙ ap (λ b. cond b (stone_of_bits (has_bit c.black p.col) (has_bit c.white p.col)) (cell_at g p)) (false_from_Decides (p.row == c.row) (Decides-eqb p.row c.row) (λ e. other (sym e)))
+
+-- a point has what stood there, or its row is yet to be put back
+abbrev IsToBeBack : Grid → Grid → Point → List Change → Type 0
+IsToBeBack old g p cs = HasRow p.row cs ⊎ (cell_at g p ≡ cell_at old p)
+
+still : (old g : Grid) (c : Change) (cs : List Change) (p : Point) → IsOn g.side p → c.row ≢ p.row → IsToBeBack old g p (c ∷ cs) → IsToBeBack old (with_change g c) p cs
+still old g c cs p on other (inl (inl at)) = absurd (other at)
+still old g c cs p on other (inl (inr later)) = inl later
+still old g c cs p on other (inr same) = inr (other_row g c p on other ∙ same)
+
+all_back : (old g : Grid) (cs : List Change) → g.side ≡ old.side → All (IsRowOf old) cs → (p : Point) → IsOn old.side p → IsToBeBack old g p cs → cell_at (after_changes g cs) p ≡ cell_at old p
+all_back old g [] side are p on (inl none) = absurd none
+all_back old g [] side are p on (inr same) = same
+all_back old g (c ∷ cs) side are p on h =
+    all_back old (with_change g c) cs (side-changed g c ∙ side) (All-tail (IsRowOf old) c cs are) p on (elim (cases_eq c.row p.row) [
+      | inl at ↦ inr (row_back old g c side (All-head (IsRowOf old) c cs are) p on at)
+      | inr other ↦ still old g c cs p (subst (λ n. IsOn n p) (sym side) on) other h
+    ])
+
+-- no row is kept yet
+pub KeepRows-none : (g : Grid) (rows : ℕ → Bool) (a : List Change) → ((row : ℕ) → rows row ≡ true → ⊥) → KeepRows g rows a a
+KeepRows-none g rows a none = record { more = []; added = sym (append-nil a); are = All-nil (IsRowOf g); all = λ r is. absurd (none r is) }
+
+has_row-front : (row : ℕ) (xs : List Change) (c : Change) → HasRow row xs → HasRow row (xs ++ c ∷ [])
+has_row-front row [] c has = absurd has
+has_row-front row (x ∷ xs) c (inl at) = inl at
+has_row-front row (x ∷ xs) c (inr later) = inr (has_row-front row xs c later)
+
+has_row-last : (row : ℕ) (xs : List Change) (c : Change) → c.row ≡ row → HasRow row (xs ++ c ∷ [])
+has_row-last row [] c at = inl at
+has_row-last row (x ∷ xs) c at = inr (has_row-last row xs c at)
+
+-- one row more
+pub KeepRows-more : (g : Grid) (rows more : ℕ → Bool) (a b next : List Change) (c : Change) → next ≡ b ++ c ∷ [] → IsRowOf g c → ((row : ℕ) → more row ≡ true → (c.row ≡ row) ⊎ (rows row ≡ true)) → KeepRows g rows a b → KeepRows g more a next
+KeepRows-more g rows more a b next c pushed is each h = record {
+  more = h.more ++ c ∷ [];
+  added = pushed ∙ ap (λ xs. xs ++ c ∷ []) h.added ∙ append_assoc a h.more (c ∷ []);
+  are = All-push (IsRowOf g) h.more c h.are is;
+  all = λ r there. elim (each r there) [ inl at ↦ has_row-last r h.more c at | inr before ↦ has_row-front r h.more c (h.all r before) ];
 }
 
--- some, and then others
-pub MakeMore-then : (side : ℕ) (first second : Point → Cell → Cell) (a b c : List Change) → MakeMore side first a b → MakeMore side second b c → MakeMore side (λ p x. second p (first p x)) a c
-MakeMore-then side first second a b c h k = record {
-  more = h.more ++ k.more;
-  added = k.added ∙ ap (λ xs. xs ++ k.more) h.added ∙ append_assoc a h.more k.more;
-  on_grid = All-append (IsChangeOn side) h.more k.more h.on_grid k.on_grid;
-  made = λ g p e on.
-      ap (λ (x : Grid). cell_at x p) (after-append g h.more k.more)
-      ∙ k.made (after_changes g h.more) p (after-side g h.more ∙ e) on
-      ∙ ap (second p) (h.made g p e on);
-}
+pub KeepRows-front : (g : Grid) (rows : ℕ → Bool) (a b : List Change) → KeepRows g rows a b → take (length a) b ≡ a
+KeepRows-front g rows a b h = ap (take (length a)) h.added ∙ take_at a h.more (length a) refl
 
-pub MakeMore-like : (side : ℕ) (first second : Point → Cell → Cell) (a b : List Change) → ((p : Point) (x : Cell) → IsOn side p → first p x ≡ second p x) → MakeMore side first a b → MakeMore side second a b
-MakeMore-like side first second a b same h = record {
-  more = h.more;
-  added = h.added;
-  on_grid = h.on_grid;
-  made = λ g p e on. h.made g p e on ∙ same p (cell_at g p) on;
-}
+pub KeepRows-like : (g : Grid) (rows more : ℕ → Bool) (a b : List Change) → ((row : ℕ) → more row ≡ true → rows row ≡ true) → KeepRows g rows a b → KeepRows g more a b
+KeepRows-like g rows more a b each h = record { more = h.more; added = h.added; are = h.are; all = λ r there. h.all r (each r there) }
 
--- a change of no columns makes nothing else
-pub no_columns : (r : Bool) (columns col : ℕ) (cell x : Cell) → columns ≡ 0 → x ≡ cond (r && has_bit columns col) cell x
-no_columns r columns col cell x none = sym (ap (λ b. cond (r && b) cell x) (ap (λ n. has_bit n col) none ∙ has_bit-zero col) ∙ never r cell x)
-  where
-    never : (r : Bool) (cell x : Cell) → cond (r && false) cell x ≡ x
-    never true cell x = refl
-    never false cell x = refl
+-- the rows of a stone and of what it takes off are all that it changes
+pub stone_covered : (g : Grid) (k : Colour) (p : Point) (taken : List ℕ) (rows : ℕ → Bool) → IsOn g.side p → TakesOff g k p taken → rows p.row ≡ true → ((row : ℕ) → row < length taken → slice_index taken row ≢ 0 → rows row ≡ true) → (q : Point) → IsOn g.side q → rows q.row ≡ false → cell_at (play g k p) q ≡ cell_at g q
+stone_covered g k p taken rows on takes there each q at none =
+    takes.played.kept q at (λ gone. false≢true (sym none ∙ each q.row (row_below taken q gone) (λ zero. false≢true (sym (ap (λ w. has_bit w q.col) zero ∙ has_bit-zero q.col) ∙ gone))))
+    ∙ cell_at-with_cell_elsewhere g p q (stone_of k) on at (λ same. false≢true (sym none ∙ ap (λ (x : Point). rows x.row) same ∙ there))
 
--- the columns of a row, by what stood on them
-by_cell : (r k : Bool) (c x : Cell) → cond (r && ((k && not (same_cell c Black)) && not (same_cell c White))) Empty (cond (r && (k && same_cell c White)) White (cond (r && (k && same_cell c Black)) Black x)) ≡ cond (r && k) c x
-by_cell false k c x = refl
-by_cell true false c x = refl
-by_cell true true Black x = refl
-by_cell true true White x = refl
-by_cell true true Empty x = refl
+pub play_cells : (g : Grid) (k : Colour) (p : Point) (taken : List ℕ) → length g.cells ≡ g.side * g.side → TakesOff g k p taken → length (play g k p).cells ≡ (play g k p).side * (play g k p).side
+play_cells g k p taken all takes =
+    takes.played.all ∙ length-set g.cells (index_of g.side p) (stone_of k) ∙ all ∙ ap (λ n. n * n) (sym takes.played.same_side)
 
-pub row_put_back : (old : Grid) (row columns black white : ℕ) → old.side < 64 → black < 2 ^ 64 → white < 2 ^ 64
-    → ((col : ℕ) → col < old.side → has_bit black col ≡ same_cell (cell_at old (record { col = col; row = row })) Black)
-    → ((col : ℕ) → col < old.side → has_bit white col ≡ same_cell (cell_at old (record { col = col; row = row })) White)
-    → (p : Point) (x : Cell) → IsOn old.side p
-    → cond ((p.row == row) && has_bit (bit_and (bit_and columns (bit_not w64 black)) (bit_not w64 white)) p.col) Empty
-    (cond ((p.row == row) && has_bit (bit_and columns white) p.col) White (cond ((p.row == row) && has_bit (bit_and columns black) p.col) Black x))
-    ≡ cond ((p.row == row) && has_bit columns p.col) (cell_at old p) x
-row_put_back old row columns black white few low_black low_white is_black is_white p x on =
-    let narrow : p.col < 64 = omega (arith, on.0) in
-    elim (cases_eq p.row row) [
-      | inr other ↦ rw (false_from_Decides (p.row == row) (Decides-eqb p.row row) other) refl
-      | inl e ↦ (let here : ◌≡◌ {A = Point} (record { col = p.col; row = row }) p = ap (λ n. record { col = p.col; row = n }) (sym e) in
-          let black_here : has_bit black p.col ≡ same_cell (cell_at old p) Black = is_black p.col on.0 ∙ ap (λ (q : Point). same_cell (cell_at old q) Black) here in
-          let white_here : has_bit white p.col ≡ same_cell (cell_at old p) White = is_white p.col on.0 ∙ ap (λ (q : Point). same_cell (cell_at old q) White) here in
-          rw (has_bit-without (bit_and columns (bit_not w64 black)) white p.col low_white narrow, has_bit-without columns black p.col low_black narrow, has_bit-and columns white p.col, has_bit-and columns black p.col, black_here, white_here)
-          (by_cell (p.row == row) (has_bit columns p.col) (cell_at old p) x))
-    ]
+-- the rows kept lead back to the colouring, from each colouring that they cover, and if all are kept, from any
+module _ (old new : Grid) (all : Bool) (rows : ℕ → Bool) (a b : List Change) (cells : length old.cells ≡ old.side * old.side) (cover : CoverChange old new all rows) (h : KeepRows old rows a b) where
+  back : (g : Grid) → g.side ≡ old.side → length g.cells ≡ g.side * g.side → ((p : Point) → IsOn old.side p → rows p.row ≡ false → cell_at g p ≡ cell_at old p) → after_changes g h.more ≡ old
+  back g side all_cells same =
+      one_colouring (after_changes g h.more) old (after-side g h.more ∙ side) (after-length g h.more all_cells ∙ ap (λ n. n * n) (sym (after-side g h.more))) cells
+      (λ p at.
+      let on : IsOn old.side p = subst (λ n. IsOn n p) (after-side g h.more ∙ side) at in
+      all_back old g h.more side h.are p on (elim (cases_Bool (rows p.row)) [ inl there ↦ inl (h.all p.row there) | inr none ↦ inr (same p on none) ]))
 
--- the bits that one of two words has, and not the other
-test_apart : (x y : ℕ) → x < 2 → y < 2 → ((x + y) % 2 == 1) ≡ differ (x == 1) (y == 1)
-test_apart zero zero hx hy = refl
-test_apart zero (suc zero) hx hy = refl
-test_apart zero (suc (suc y)) hx hy = absurd (omega arith)
-test_apart (suc zero) zero hx hy = refl
-test_apart (suc zero) (suc zero) hx hy = refl
-test_apart (suc zero) (suc (suc y)) hx hy = absurd (omega arith)
-test_apart (suc (suc x)) y hx hy = absurd (omega arith)
+  pub leads_back : new.side ≡ old.side → length new.cells ≡ new.side * new.side → after_changes new h.more ≡ old
+  leads_back side new_cells = back new side new_cells cover.same
 
-pub has_bit-apart : (a b c : ℕ) → has_bit (bit_xor a b) c ≡ differ (has_bit a c) (has_bit b c)
-has_bit-apart a b c = ap (λ n. n == 1) (bit_at_xor a b c) ∙ test_apart (bit_at a c) (bit_at b c) (bit_at-lt a c) (bit_at-lt b c)
-
--- points with different colours are apart in black or in white
-pub apart_by_colour : (a b : Cell) → (differ (same_cell a Black) (same_cell b Black) || differ (same_cell a White) (same_cell b White)) ≡ not (same_cell a b)
-apart_by_colour Black Black = refl
-apart_by_colour Black White = refl
-apart_by_colour Black Empty = refl
-apart_by_colour White Black = refl
-apart_by_colour White White = refl
-apart_by_colour White Empty = refl
-apart_by_colour Empty Black = refl
-apart_by_colour Empty White = refl
-apart_by_colour Empty Empty = refl
-
-either_is : (a b : Cell) → cond (not (same_cell a b)) a b ≡ a
-either_is Black Black = refl
-either_is Black White = refl
-either_is Black Empty = refl
-either_is White Black = refl
-either_is White White = refl
-either_is White Empty = refl
-either_is Empty Black = refl
-either_is Empty White = refl
-either_is Empty Empty = refl
-
--- what the changes that put points back make
-abbrev pub put_back : Bool → Grid → Grid → Point → Cell → Cell
-put_back all old new point cell = cond (is_put_back all old new point) (cell_at old point) cell
-
-module _ (all : Bool) (old new : Grid) (a b : List Change) (side : new.side ≡ old.side) (cells : length old.cells ≡ old.side * old.side) (new_cells : length new.cells ≡ new.side * new.side) (h : MakeMore old.side (put_back all old new) a b) where
-  -- they lead back from the new colouring
-  pub leads_back : after_changes new h.more ≡ old
-  leads_back =
-      one_colouring (after_changes new h.more) old (after-side new h.more ∙ side) (after-length new h.more new_cells ∙ ap (λ n. n * n) (sym (after-side new h.more))) cells
-      (λ p on.
-      let on_old : IsOn old.side p = subst (λ n. IsOn n p) (after-side new h.more ∙ side) on in
-      h.made new p side on_old ∙ by all p)
-    where
-      by : (b : Bool) (p : Point) → put_back b old new p (cell_at new p) ≡ cell_at old p
-      by true p = refl
-      by false p = either_is (cell_at old p) (cell_at new p)
-
-  -- where all are put back, they do so from any colouring
   pub makes_one : all ≡ true → MakeOne old h.more
-  makes_one is g same_side g_cells =
-      one_colouring (after_changes g h.more) old (after-side g h.more ∙ same_side) (after-length g h.more g_cells ∙ ap (λ n. n * n) (sym (after-side g h.more))) cells
-      (λ p on.
-      let on_old : IsOn old.side p = subst (λ n. IsOn n p) (after-side g h.more ∙ same_side) on in
-      h.made g p same_side on_old ∙ ap (λ b. put_back b old new p (cell_at g p)) is)
+  makes_one is g side g_cells = back g side (g_cells) (λ p on none. absurd (false≢true (sym none ∙ cover.whole is p.row on.1)))
 
--- one column alone
-pub one_column : (columns col k : ℕ) → ((other : ℕ) → other ≢ col → has_bit columns other ≡ false) → has_bit columns k ≡ true → k ≡ col
-one_column columns col k elsewhere there = elim (cases_eq k col) [
-  | inl e ↦ e
-  | inr other ↦ absurd (false≢true (sym (elsewhere k other) ∙ there))
-]
+  pub kept_on : AreOn old.side h.more
+  kept_on = All-weaker (IsRowOf old) (IsChangeOn old.side) (λ c is. is.on) h.more h.are

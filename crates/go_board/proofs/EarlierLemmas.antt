@@ -1,51 +1,90 @@
 -- A referee has as many earlier states as it keeps something of.
-use Rattle.std.proofs.Common.{◌≡◌, ℕ, suc, ◌+◌, ◌≤◌, Bool, true, false, Option, Some, List, [], ◌∷◌, ◌++◌, length, reverse, refl, sym, ap, subst, ◌∙◌, arith}
+use Rattle.std.proofs.Common.{◌≡◌, ℕ, suc, ◌+◌, ◌-◌, ◌≤◌, Bool, true, false, cond, Option, List, [], ◌∷◌, ◌++◌, length, reverse, refl, sym, ap, subst, ◌∙◌, arith}
+use Rattle.std.specs.Int.{from_bool}
 use Rattle.std.proofs.lemmas.List.{length-reverse, reverse-append}
 use Rattle.go_board.specs.declared.referee.Earlier.{Earlier}
 use Rattle.go_board.specs.declared.stones.Colour.{Colour}
-use Rattle.go_board.specs.declared.points.Point.{Point}
-use Rattle.go_board.specs.declared.referee.plays.Play.TheVariants.{Stone}
-use Rattle.go_board.specs.Colour.{opponent}
 use Rattle.go_board.specs.Grid.{Grid}
-use Rattle.go_board.specs.Clearing.{play}
-use Rattle.go_board.specs.Past.{PastColourings, newest_grid, with_next, HaveSide}
-use Rattle.go_board.specs.State.{States, starting, followed_by, turned}
-use Rattle.go_board.specs.inner.Earlier.{past_before, states_before, states_of, IsRefereeKept}
+use Rattle.go_board.specs.Past.{Held, PastColourings, newest_grid, with_next, AllHaveSide, HaveSide}
+use Rattle.go_board.specs.State.{starting}
+use Rattle.go_board.specs.inner.Earlier.{past_before, past_of_older, states_before, turns_before, grown, turn_count, IsRefereeKept}
 
-length-states_before : (past : PastColourings) (es : List Earlier) → length (states_before past es) ≡ length es
-length-states_before past [] = refl
-length-states_before past (e ∷ es) = ap suc (length-states_before (past_before past e) es)
+length-states_before : (past : PastColourings) (turns : ℕ) (es : List Earlier) → length (states_before past turns es) ≡ length es
+length-states_before past turns [] = refl
+length-states_before past turns (e ∷ es) = ap suc (length-states_before (past_before past e) (turns_before turns e) es)
 
-pub length-earlier : (past : PastColourings) (es : List Earlier) → length (states_before past (reverse es)) ≡ length es
-length-earlier past es = length-states_before past (reverse es) ∙ length-reverse es
+pub length-earlier : (past : PastColourings) (turns : ℕ) (es : List Earlier) → length (states_before past turns (reverse es)) ≡ length es
+length-earlier past turns es = length-states_before past turns (reverse es) ∙ length-reverse es
+
+-- no more calls were turns than there were calls
+pub turns_at_most : (es : List Earlier) → turn_count es ≤ length es
+turns_at_most [] = omega arith
+turns_at_most (e ∷ es) = by e.turned (turns_at_most es)
+  where
+    by : (b : Bool) → turn_count es ≤ length es → from_bool b + turn_count es ≤ suc (length es)
+    by true h = omega (arith, h)
+    by false h = omega (arith, h)
+
+-- a past with its newest colouring taken back, if a call had added it
+abbrev IsOneSided : ℕ → ℕ → PastColourings → Type 0
+IsOneSided side n past = ((newest_grid past).side ≡ side) × HaveSide side past × (n ≤ length past.older)
+
+older_sided : (side n : ℕ) (past : PastColourings) (older : List Held) → AllHaveSide side older → suc n ≤ length older → IsOneSided side n (past_of_older past older)
+older_sided side n past [] sides few = absurd (omega (arith, few))
+older_sided side n past (first ∷ others) sides few = (sides.0, sides, omega (arith, few))
+
+before_sided : (side n : ℕ) (past : PastColourings) (grew : Bool) → HaveSide side past → cond grew 1 0 + n ≤ length past.older → IsOneSided side n (cond grew (past_of_older past past.older) past)
+before_sided side n past true sides few = older_sided side n past past.older sides.1 (omega (arith, few))
+before_sided side n past false sides few = (sides.0, sides, omega (arith, few))
+
+-- what a referee keeps once its newest call is taken back
+pub IsRefereeKept-back : (past now : PastColourings) (player : Option Colour) (passes turns : ℕ) (earlier less : List Earlier) (kept : Earlier) → earlier ≡ less ++ kept ∷ [] → now ≡ past_before past kept → IsRefereeKept past player passes turns (reverse earlier)
+    → IsRefereeKept now kept.player kept.passes (turns_before turns kept) (reverse less)
+IsRefereeKept-back past now player passes turns earlier less kept parts is whole =
+    let turned : reverse earlier ≡ kept ∷ reverse less = ap reverse parts ∙ reverse-append less (kept ∷ []) in
+    let all : IsRefereeKept past player passes turns (kept ∷ reverse less) = subst (λ (es : List Earlier). IsRefereeKept past player passes turns es) turned whole in
+    let side : ℕ = (newest_grid past).side in
+    let one : IsOneSided side (grown (reverse less)) (past_before past kept) = before_sided side (grown (reverse less)) past kept.grew all.one_side all.enough in
+    let counted : turn_count (reverse less) ≡ turns - from_bool kept.turned = omega (arith, all.counted) in
+    subst (λ (p : PastColourings). IsRefereeKept p kept.player kept.passes (turns_before turns kept) (reverse less)) (sym is)
+    (record {
+      one_side = subst (λ n. HaveSide n (past_before past kept)) (sym one.0) one.1;
+      enough = one.2;
+      few_passes = all.bounded.0;
+      few_turns = omega (arith, counted, turns_at_most (reverse less));
+      counted = counted;
+      bounded = all.bounded.1;
+      from_start = all.from_start ∙ ap starting (sym one.0);
+    })
 
 -- what is kept of a state is what the referee had of it
-saved_as : (saved : Earlier) (turns : ℕ) (player : Option Colour) (passes : ℕ) (grew : Bool) → saved.turns ≡ turns → saved.player ≡ player → saved.passes ≡ passes → saved.grew ≡ grew
-    → saved ≡ record { turns = turns; player = player; passes = passes; grew = grew }
-saved_as saved turns player passes grew e f g h =
-    ap (λ n. record { turns = n; player = saved.player; passes = saved.passes; grew = saved.grew }) e
-    ∙ ap (λ p. record { turns = turns; player = p; passes = saved.passes; grew = saved.grew }) f
-    ∙ ap (λ n. record { turns = turns; player = player; passes = n; grew = saved.grew }) g
-    ∙ ap (λ b. record { turns = turns; player = player; passes = passes; grew = b }) h
+saved_as : (saved : Earlier) (player : Option Colour) (passes : ℕ) (grew turned : Bool) → saved.player ≡ player → saved.passes ≡ passes → saved.grew ≡ grew → saved.turned ≡ turned
+    → saved ≡ record { player = player; passes = passes; grew = grew; turned = turned }
+saved_as saved player passes grew turned e f g h =
+    ap (λ p. record { player = p; passes = saved.passes; grew = saved.grew; turned = saved.turned }) e
+    ∙ ap (λ n. record { player = player; passes = n; grew = saved.grew; turned = saved.turned }) f
+    ∙ ap (λ b. record { player = player; passes = passes; grew = b; turned = saved.turned }) g
+    ∙ ap (λ b. record { player = player; passes = passes; grew = grew; turned = b }) h
 
 -- once the past grew by a colouring, and what was had of the state before is kept
-module _ (past : PastColourings) (player : Option Colour) (passes turns : ℕ) (earlier : List Earlier) (saved : Earlier) (same_turns : saved.turns ≡ turns) (same_player : saved.player ≡ player) (same_passes : saved.passes ≡ passes) (grew : saved.grew ≡ true) where
+module _ (past : PastColourings) (player : Option Colour) (passes turns : ℕ) (earlier : List Earlier) (saved : Earlier) (is_turn : Bool) (same_player : saved.player ≡ player) (same_passes : saved.passes ≡ passes) (grew : saved.grew ≡ true) (same_turn : saved.turned ≡ is_turn) (turns' : ℕ) (more : turns' ≡ from_bool is_turn + turns) where
+  less : turns' - from_bool is_turn ≡ turns
+  less = omega (arith, more)
+
   -- what a referee keeps then
-  pub IsRefereeKept-grown : IsRefereeKept past player passes turns (reverse earlier) → (now : PastColourings) (made : Grid) (begins : Bool) (next : Option Colour) (turns' : ℕ) (earlier' : List Earlier) → now ≡ with_next past made begins → made.side ≡ (newest_grid past).side → earlier' ≡ earlier ++ saved ∷ [] → turns' ≤ turns + 1 → IsRefereeKept now next 0 turns' (reverse earlier')
-  IsRefereeKept-grown kept now made begins next turns' earlier' is side longer few =
-      rw (is, longer, reverse-append earlier (saved ∷ []), saved_as saved turns player passes true same_turns same_player same_passes grew)
+  pub IsRefereeKept-grown : IsRefereeKept past player passes turns (reverse earlier) → (now : PastColourings) (made : Grid) (begins : Bool) (next : Option Colour) (earlier' : List Earlier) → now ≡ with_next past made begins → made.side ≡ (newest_grid past).side → earlier' ≡ earlier ++ saved ∷ [] → IsRefereeKept now next 0 turns' (reverse earlier')
+  IsRefereeKept-grown kept now made begins next earlier' is side longer =
+      rw (is, longer, reverse-append earlier (saved ∷ []), saved_as saved player passes true is_turn same_player same_passes grew same_turn)
       (record {
         one_side = (refl, subst (λ n. HaveSide n past) (sym side) kept.one_side);
         enough = omega (arith, kept.enough);
         few_passes = omega arith;
-        few_turns = omega (arith, kept.few_turns, few);
-        bounded = (kept.few_passes, kept.few_turns, kept.bounded);
-        from_start = kept.from_start ∙ ap starting (sym side);
+        few_turns = few is_turn more;
+        counted = sym (more ∙ ap (λ n. from_bool is_turn + n) (sym kept.counted));
+        bounded = (kept.few_passes, kept.bounded);
+        from_start = rw less (kept.from_start ∙ ap starting (sym side));
       })
-
-  -- its states, where the colouring is that which a stone makes
-  pub states_of-turned : (states : States) (colour : Colour) (point : Point) (now : PastColourings) (next : Colour) (earlier' : List Earlier) → states_of past player passes turns earlier ≡ states → now ≡ with_next past (play (newest_grid past) colour point) false → next ≡ opponent colour → earlier' ≡ earlier ++ saved ∷ []
-      → states_of now (Some next) 0 (turns + 1) earlier' ≡ followed_by states (turned states.present colour (Stone point))
-  states_of-turned states colour point now next earlier' was is next_is longer =
-      subst (λ (s : States). states_of now (Some next) 0 (turns + 1) earlier' ≡ followed_by s (turned s.present colour (Stone point))) was
-      (rw (is, next_is, longer, reverse-append earlier (saved ∷ []), saved_as saved turns player passes true same_turns same_player same_passes grew) refl)
+    where
+      few : (b : Bool) → turns' ≡ from_bool b + turns → turns' ≤ suc (length (reverse earlier))
+      few true e = omega (arith, kept.few_turns)
+      few false e = omega (arith, kept.few_turns)

@@ -15,14 +15,12 @@ use Rattle.go_board.specs.Grid.{Grid, cell_at, with_cell}
 use Rattle.go_board.specs.Clearing.{play, has_unreaching}
 use Rattle.go_board.specs.inner.Neighbour.{left_of, right_of, above, below}
 use Rattle.go_board.specs.inner.Rows.{has_bit, is_set, IsAmong}
-use Rattle.go_board.specs.declared.past.changes.Change.{Change}
-use Rattle.go_board.specs.inner.Changes.{after_changes, LeadBack, MakeMore}
 use Rattle.go_board.specs.inner.Groups.{AreShutGroups, AreTakenOrReachBeside, IsTakenOrReaches, IsWithout, AllLive, TakesOff}
 use Rattle.go_board.proofs.PointLemmas.{one_point, same_or_not}
 use Rattle.go_board.proofs.GridLemmas.{cell_at-with_cell, cell_at-with_cell_elsewhere}
 use Rattle.go_board.proofs.NeighbourLemmas.{IsNeighbour, IsNeighbour-adjacent, AllNeighbour}
 use Rattle.go_board.proofs.MoveLemmas.{IsWithoutLiberty-none, takes_off_own}
-use Rattle.go_board.proofs.ChangesLemmas.{one_colouring, after-side, after-length, one_column}
+use Rattle.go_board.proofs.ChangesLemmas.{one_colouring}
 use Rattle.go_board.proofs.WordLemmas.{has_bit-or, has_bit-zero}
 
 -- no group
@@ -164,43 +162,3 @@ pub takes_nothing-alone : (g : Grid) (p : Point) (k : Colour) (rows : List ℕ) 
 takes_nothing-alone g p k rows all none takes =
     let h = with_cell g p (stone_of k) in
     same_without h (play g k p) h rows (length-set g.cells (index_of g.side p) (stone_of k) ∙ all) takes.played (without-none h rows none)
-
--- one colouring led back to the one before the stone: the taken points are put back, and then the stone's point is emptied
-pub stone_leads_back : (g : Grid) (k : Colour) (p : Point) (rows : List ℕ) (columns : ℕ) (a b : List Change) → IsOn g.side p → length g.cells ≡ g.side * g.side → cell_at g p ≡ Empty → TakesOff g k p rows → has_bit columns p.col ≡ true → ((c : ℕ) → c ≢ p.col → has_bit columns c ≡ false)
-    → MakeMore g.side (λ q x. cond ((q.row == p.row) && has_bit columns q.col) Empty (cond (is_set rows q) (cell_at g q) x)) a b → LeadBack (play g k p) g a b
-stone_leads_back g k p rows columns a b on all free takes there elsewhere h =
-    let made = play g k p in
-    let side : made.side ≡ g.side = takes.played.same_side in
-    let long : length made.cells ≡ made.side * made.side = takes.played.all ∙ length-set g.cells (index_of g.side p) (stone_of k) ∙ all ∙ ap (λ n. n * n) (sym side) in
-    let same_side : (after_changes made h.more).side ≡ g.side = after-side made h.more ∙ side in
-    record {
-      more = h.more;
-      added = h.added;
-      on_grid = h.on_grid;
-      back = one_colouring (after_changes made h.more) g same_side (after-length made h.more long ∙ ap (λ n. n * n) (sym (after-side made h.more))) all
-          (λ q at. let on_g = subst (λ n. IsOn n q) same_side at in h.made made q side on_g ∙ each q on_g);
-    }
-  where
-    put_back : (q : Point) → IsOn g.side q → q ≢ p → cond (is_set rows q) (cell_at g q) (cell_at (play g k p) q) ≡ cell_at g q
-    put_back q on_g other =
-        elim (cases_Bool (is_set rows q)) [
-          | inl gone ↦ ap (λ b. cond b (cell_at g q) (cell_at (play g k p) q)) gone
-          | inr left ↦
-              ap (λ b. cond b (cell_at g q) (cell_at (play g k p) q)) left
-              ∙ takes.played.kept q on_g (λ gone. false≢true (sym left ∙ gone))
-              ∙ cell_at-with_cell_elsewhere g p q (stone_of k) on on_g other
-        ]
-
-    each : (q : Point) → IsOn g.side q → cond ((q.row == p.row) && has_bit columns q.col) Empty (cond (is_set rows q) (cell_at g q) (cell_at (play g k p) q)) ≡ cell_at g q
-    each q on_g =
-        elim (same_or_not q p) [
-          | inl same ↦
-              subst (λ (x : Point). cond ((x.row == p.row) && has_bit columns x.col) Empty (cond (is_set rows x) (cell_at g x) (cell_at (play g k p) x)) ≡ cell_at g x) (sym same)
-              (rw ((Decides-eqb p.row p.row).1 refl, there) (sym free))
-          | inr other ↦ elim (cases_Bool ((q.row == p.row) && has_bit columns q.col)) [
-            | inr apart ↦ ap (λ b. cond b Empty (cond (is_set rows q) (cell_at g q) (cell_at (play g k p) q))) apart ∙ put_back q on_g other
-            | inl is ↦
-                let both = and_parts _ _ is in
-                absurd (other (one_point q p (one_column columns p.col q.col elsewhere both.1) ((Decides-eqb q.row p.row).0 both.0)))
-          ]
-        ]

@@ -1,7 +1,10 @@
 -- The past colourings of a game, each with whether it begins a stretch. Positional
 -- superko looks at the present stretch alone. Reason.antt defines what it forbids.
-use Rattle.std.specs.Prelude.{◌≡◌, ℕ, Bool, true, List, [], ◌∷◌, if◌then◌else◌}
+use Rattle.std.specs.Prelude.{◌≡◌, ◌↔◌, ℕ, Bool, true, false, List, [], ◌∷◌, if◌then◌else◌, Result, IsFalse, IfOk, OnErr, Contains}
+use Rattle.go_board.specs.declared.stones.Colour.{Colour}
+use Rattle.go_board.specs.declared.points.Point.{Point}
 use Rattle.go_board.specs.Grid.{Grid}
+use Rattle.go_board.specs.Clearing.{play}
 
 -- a past colouring, and whether it begins a stretch
 pub record Held : Type 0 where
@@ -46,3 +49,12 @@ AllHaveSide side (first ∷ others) = (first.colouring.side ≡ side) × AllHave
 
 abbrev pub HaveSide : ℕ → PastColourings → Type 0
 HaveSide side past = AllHaveSide side (all_of past)
+
+-- what becomes of a past when a stone is played; the result says whether the colouring that the stone makes was added
+pub record IsPlayed {E : Type 0} (colour : Colour) (point : Point) (old new : PastColourings) (result : Result Bool E) : Type 0 where
+  -- it wasn't added exactly if the present stretch has it already
+  pub known : IfOk result (λ added. IsFalse added ↔ Contains (present_stretch old) (play (newest_grid old) colour point))
+  pub ok : IfOk result (λ added. new ≡ (if added then with_next old (play (newest_grid old) colour point) false else old))
+  -- memory is refused only if the stretch doesn't have it
+  pub refused : OnErr result (¬ Contains (present_stretch old) (play (newest_grid old) colour point))
+  pub err : OnErr result (new ≡ old)

@@ -7,13 +7,12 @@ pub(crate) mod print;
 mod print_past;
 mod table;
 
-ghost use Rattle.std.specs.Prelude.{◌≡◌, ◌<◌, ◌↔◌, ◌∷◌, true, false, All, fold, length, IsTrue, IsFalse, IfOk, OnOk, OnErr, Contains, if◌then◌else◌};
+ghost use Rattle.std.specs.Prelude.{◌≡◌, ◌<◌, ◌↔◌, ◌∷◌, true, false, All, fold, length, IsTrue, IfOk, OnOk, OnErr, Contains};
 ghost use Rattle.go_board.specs.declared.stones.Cell.TheVariants.{Empty};
 ghost use Rattle.go_board.specs.Point.{IsOn, IsRectOn};
 ghost use Rattle.go_board.specs.Grid.{cell_at};
-ghost use Rattle.go_board.specs.Clearing.{play};
 ghost use Rattle.go_board.specs.State.{with_area};
-ghost use Rattle.go_board.specs.Past.{PastColourings, newest_grid, only, with_next, present_stretch, HaveSide};
+ghost use Rattle.go_board.specs.Past.{PastColourings, newest_grid, only, with_next, present_stretch, HaveSide, IsPlayed};
 
 use crate::board::Board;
 use crate::fault::MemoryFault;
@@ -76,14 +75,7 @@ pub trait Past: Drop {
         requires one_side { HaveSide (newest_grid (held self.old)).side (held self.old) }
         requires on_board { IsOn (newest_grid (held self.old)).side point }
         requires empty { cell_at (newest_grid (held self.old)) point ≡ Empty }
-        ensures known { IfOk result (λ added. IsFalse added
-            ↔ Contains (present_stretch (held self.old)) (play (newest_grid (held self.old)) colour point)) }
-        ensures ok { IfOk result (λ added. held self.new ≡ (if added
-            then with_next (held self.old) (play (newest_grid (held self.old)) colour point) false
-            else held self.old)) }
-        ensures refused { OnErr result
-            (¬ Contains (present_stretch (held self.old)) (play (newest_grid (held self.old)) colour point)) }
-        ensures err { OnErr result (held self.new ≡ held self.old) }
+        ensures { IsPlayed colour point (held self.old) (held self.new) result }
     {
         let mut made = self.newest().copy();
         made.place(colour, point);

@@ -1,5 +1,5 @@
-//! The referee: the Tromp-Taylor rules over a past, with undo. Each accepted call keeps the player, the passes and the turns from
-//! before it (`Earlier`), and `undo` restores them. If the call added a colouring to the past, `undo` takes that off.
+//! The referee: the Tromp-Taylor rules over a past, with undo. Each accepted call keeps the player and the passes from before it, and
+//! whether it was a turn (`Earlier`). `undo` restores them. If the call added a colouring to the past, `undo` takes that off.
 
 mod plays;
 mod reset;
@@ -34,14 +34,14 @@ pub struct Referee<P: Past> {
 /// What is kept of the state before an accepted call, besides the past.
 #[derive(Clone, Copy)]
 struct Earlier {
-    /// How many turns were made.
-    turns: u64,
     /// Who had to move; None if either player could.
     player: Option<Colour>,
     /// How many passes in a row were made last, at most 2.
     passes: u8,
     /// Whether the call added a colouring to the past.
     grew: bool,
+    /// Whether the call was a turn.
+    turned: bool,
 }
 
 impl<P: Past> Model for Referee<P> {
@@ -93,12 +93,12 @@ impl<P: Past> Referee<P> {
         ensures side { self.new.present.colouring.side ≡ self.old.present.colouring.side }
     {
         let earlier = self.earlier.pop().unwrap();
+        self.player = earlier.player;
+        self.passes = earlier.passes;
+        self.turns -= u64::from(earlier.turned);
         if earlier.grew {
             self.past.pop();
         }
-        self.player = earlier.player;
-        self.passes = earlier.passes;
-        self.turns = earlier.turns;
     }
 
     /// The present board.
@@ -133,18 +133,19 @@ impl<P: Past> Referee<P> {
         self.past.newest().score()
     }
 
-    /// What is kept of the present state besides the past. `grew` says whether the call adds a colouring.
-    fn present_kept(&self, grew: bool) -> Earlier
+    /// What is kept of the present state besides the past. `grew` says whether the call adds a colouring, and `turned` whether it
+    /// is a turn.
+    fn present_kept(&self, grew: bool, turned: bool) -> Earlier
         ensures player { result.player ≡ self.now.present.player }
         ensures passes { result.passes ≡ self.now.present.passes }
-        ensures turns { result.turns ≡ self.now.present.turns }
         ensures grew { result.grew ≡ grew }
+        ensures turned { result.turned ≡ turned }
     {
         Earlier {
-            turns: self.turns,
             player: self.player,
             passes: self.passes,
             grew,
+            turned,
         }
     }
 }

@@ -1,16 +1,15 @@
--- Past colourings. The newest is kept whole; of each older one the changes are kept that lead back to it.
-use Rattle.std.specs.Prelude.{◌≡◌, ◌==◌, ℕ, suc, ◌-◌, ◌*◌, ◌%◌, ◌<◌, ◌≤◌, Bool, false, ◌||◌, not, List, [], ◌∷◌, ◌++◌, IsTrue, All, if◌then◌else◌, Option, Some, None, length, take, drop, reverse, slice_index_or}
-use Rattle.go_board.specs.declared.stones.Cell.{Cell}
+-- Past colourings. The newest is kept whole; of each older one the rows are kept that lead back to it.
+use Rattle.std.specs.Prelude.{◌≡◌, ◌⊎◌, ◌==◌, ℕ, suc, ◌-◌, ◌*◌, ◌%◌, ◌<◌, ◌≤◌, Bool, List, [], ◌∷◌, ◌++◌, IsTrue, IsFalse, All, false, if◌then◌else◌, Option, Some, None, length, take, drop, reverse, slice_index_or}
+use Rattle.go_board.specs.declared.stones.Cell.TheVariants.{Black, White, Empty}
 use Rattle.go_board.specs.declared.points.Point.{Point}
 use Rattle.go_board.specs.declared.past.changes.Change.{Change}
 use Rattle.go_board.specs.declared.past.changes.Older.{Older}
 use Rattle.go_board.specs.declared.past.changes.TheConstants.{FULL}
 use Rattle.go_board.specs.Colour.{same_cell}
 use Rattle.go_board.specs.Point.{IsOn}
-use Rattle.go_board.specs.Grid.{Grid, cell_at}
+use Rattle.go_board.specs.Grid.{Grid, cell_at, grid_of}
 use Rattle.go_board.specs.Clearing.{has_unreaching}
 use Rattle.go_board.specs.Past.{Held}
-use Rattle.go_board.specs.inner.Regions.{with_columns}
 use Rattle.go_board.specs.inner.Rows.{has_bit}
 
 -- the first of these colourings
@@ -22,15 +21,20 @@ first_grid (first ∷ others) = Some first.colouring
 abbrev pub IsNumber : List Held → ℕ → Grid → Type 0
 IsNumber held number grid = first_grid (drop (length held - 1 - number) held) ≡ Some grid
 
--- the grid with the points of a change coloured
-abbrev pub with_change : Grid → Change → Grid
-with_change grid change = with_columns grid change.row change.columns change.cell
+-- the grid with the stones of a change in its row
+unfoldable pub with_change : Grid → Change → Grid
+with_change grid change =
+    grid_of grid.side (λ point. if point.row == change.row
+    then (if has_bit change.white point.col then White else (if has_bit change.black point.col then Black else Empty))
+    else cell_at grid point)
 
--- all points of a change are on the grid
-abbrev pub IsChangeOn : ℕ → Change → Type 0
-IsChangeOn side change = (change.row < side) × ((col : ℕ) → IsTrue (has_bit change.columns col) → col < side)
+-- a change's row and all its stones are on a grid of that side
+pub record IsChangeOn (side : ℕ) (change : Change) : Type 0 where
+  pub row : change.row < side
+  pub black : (col : ℕ) → IsTrue (has_bit change.black col) → col < side
+  pub white : (col : ℕ) → IsTrue (has_bit change.white col) → col < side
 
--- all points of each change are on the grid
+-- the same of each change
 abbrev pub AreOn : ℕ → List Change → Type 0
 AreOn side changes = All (IsChangeOn side) changes
 
@@ -39,31 +43,32 @@ abbrev pub after_changes : Grid → List Change → Grid
 after_changes grid [] = grid
 after_changes grid (change ∷ others) = after_changes (with_change grid change) others
 
--- The new changes are the old ones and some more. On each point of a grid of
--- that side, those turn what stands there into what `make` says.
-pub record MakeMore (side : ℕ) (make : Point → Cell → Cell) (old new : List Change) : Type 0 where
+-- a change has the stones of its row of the grid
+pub record IsRowOf (grid : Grid) (change : Change) : Type 0 where
+  pub on : IsChangeOn grid.side change
+  pub black : (col : ℕ) → col < grid.side
+      → has_bit change.black col ≡ same_cell (cell_at grid (record { col = col; row = change.row })) Black
+  pub white : (col : ℕ) → col < grid.side
+      → has_bit change.white col ≡ same_cell (cell_at grid (record { col = col; row = change.row })) White
+
+-- one of the changes is of the row
+abbrev pub HasRow : ℕ → List Change → Type 0
+HasRow row [] = ⊥
+HasRow row (change ∷ others) = (change.row ≡ row) ⊎ HasRow row others
+
+-- the new changes are the old ones and some rows of the grid, all rows of a set among them
+pub record KeepRows (grid : Grid) (rows : ℕ → Bool) (old new : List Change) : Type 0 where
   pub more : List Change
   pub added : new ≡ old ++ more
-  pub on_grid : AreOn side more
-  pub made : (grid : Grid) (point : Point) → grid.side ≡ side → IsOn side point
-      → cell_at (after_changes grid more) point ≡ make point (cell_at grid point)
+  pub are : All (IsRowOf grid) more
+  pub all : (row : ℕ) → IsTrue (rows row) → HasRow row more
 
--- the new changes are the old ones and some more; those lead from one colouring back to another
-pub record LeadBack (from to : Grid) (old new : List Change) : Type 0 where
-  pub more : List Change
-  pub added : new ≡ old ++ more
-  pub on_grid : AreOn to.side more
-  pub back : after_changes from more ≡ to
+-- a set has all rows in which two grids differ, and if `all`, all rows
+pub record CoverChange (old new : Grid) (all : Bool) (rows : ℕ → Bool) : Type 0 where
+  pub same : (point : Point) → IsOn old.side point → IsFalse (rows point.row) → cell_at new point ≡ cell_at old point
+  pub whole : IsTrue all → (row : ℕ) → row < old.side → IsTrue (rows row)
 
--- exactly one of the two
-abbrev pub differ : Bool → Bool → Bool
-differ one other = if one then not other else other
-
--- a point is to be put back: every point, or only a point that changed
-abbrev pub is_put_back : Bool → Grid → Grid → Point → Bool
-is_put_back all old new point = all || not (same_cell (cell_at old point) (cell_at new point))
-
--- the step after this many others keeps all points of the colouring before it
+-- the step after this many others keeps all rows of the colouring before it
 abbrev pub is_full : ℕ → Bool
 is_full count = count % FULL == FULL - 1
 

@@ -1,5 +1,6 @@
 -- A referee's states, made from a past and from what else the referee keeps of each earlier state.
-use Rattle.std.specs.Prelude.{◌≡◌, ℕ, ◌+◌, ◌≤◌, false, Option, List, [], ◌∷◌, if◌then◌else◌, length, reverse}
+use Rattle.std.specs.Prelude.{◌≡◌, ℕ, ◌+◌, ◌-◌, ◌≤◌, false, Option, List, [], ◌∷◌, if◌then◌else◌, length, reverse}
+use Rattle.std.specs.Int.{from_bool}
 use Rattle.go_board.specs.declared.stones.Colour.{Colour}
 use Rattle.go_board.specs.declared.referee.plays.Play.{Play}
 use Rattle.go_board.specs.declared.referee.Earlier.{Earlier}
@@ -29,16 +30,21 @@ past_of_older past (first ∷ others) = record { newest = first; older = others 
 abbrev pub past_before : PastColourings → Earlier → PastColourings
 past_before past kept = if kept.grew then past_of_older past past.older else past
 
+-- how many turns were made before the call that this was kept at
+abbrev pub turns_before : ℕ → Earlier → ℕ
+turns_before turns kept = turns - from_bool kept.turned
+
 -- the earlier states, newest first
-abbrev pub states_before : PastColourings → List Earlier → List State
-states_before past [] = []
-states_before past (kept ∷ others) =
-    state_of (past_before past kept) kept.player kept.passes kept.turns ∷ states_before (past_before past kept) others
+abbrev pub states_before : PastColourings → ℕ → List Earlier → List State
+states_before past turns [] = []
+states_before past turns (kept ∷ others) =
+    state_of (past_before past kept) kept.player kept.passes (turns_before turns kept)
+    ∷ states_before (past_before past kept) (turns_before turns kept) others
 
 -- the present state and the earlier ones; what is kept of the earlier ones stands oldest first
 abbrev pub states_of : PastColourings → Option Colour → ℕ → ℕ → List Earlier → States
 states_of past player passes turns earlier =
-    record { present = state_of past player passes turns; earlier = states_before past (reverse earlier) }
+    record { present = state_of past player passes turns; earlier = states_before past turns (reverse earlier) }
 
 -- no reason but Repeat can forbid the turn
 abbrev pub MayOnlyRepeat : State → Colour → Play → Type 0
@@ -55,19 +61,24 @@ abbrev pub grown : List Earlier → ℕ
 grown [] = 0
 grown (kept ∷ others) = (if kept.grew then 1 else 0) + grown others
 
--- each earlier state, newest first, has at most two passes, and at most as many turns as there are states before it
+-- how many of the calls were turns
+abbrev pub turn_count : List Earlier → ℕ
+turn_count [] = 0
+turn_count (kept ∷ others) = from_bool kept.turned + turn_count others
+
+-- each earlier state has at most two passes
 abbrev pub AreBounded : List Earlier → Type 0
 AreBounded [] = Unit {0}
-AreBounded (kept ∷ others) = (kept.passes ≤ 2) × (kept.turns ≤ length others) × AreBounded others
+AreBounded (kept ∷ others) = (kept.passes ≤ 2) × AreBounded others
 
--- What a referee keeps, with its earlier states newest first. The past colourings have one side,
--- and at least as many older ones as calls made the past grow. There are at most two passes, and
--- at most as many turns as earlier states. The oldest state is the starting one.
+-- What a referee keeps, with its earlier states newest first. The past colourings have one side, and at least as many older
+-- ones as calls made the past grow. There are at most two passes, and as many turns as calls were turns. The oldest state is the starting one.
 pub record IsRefereeKept (past : PastColourings) (player : Option Colour) (passes turns : ℕ) (earlier : List Earlier) : Type 0 where
   pub one_side : HaveSide (newest_grid past).side past
   pub enough : grown earlier ≤ length past.older
   pub few_passes : passes ≤ 2
   pub few_turns : turns ≤ length earlier
+  pub counted : turn_count earlier ≡ turns
   pub bounded : AreBounded earlier
-  pub from_start : oldest_of (state_of past player passes turns) (states_before past earlier)
+  pub from_start : oldest_of (state_of past player passes turns) (states_before past turns earlier)
       ≡ starting (newest_grid past).side

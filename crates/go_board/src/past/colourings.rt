@@ -13,7 +13,9 @@ ghost use Rattle.go_board.specs.declared.points.Point.{Point};
 
 use crate::board::Board;
 use crate::fault::MemoryFault;
-use crate::past::changes::{Change, FULL, Older, is_full, lead_back, lead_back_stone, take_back};
+use crate::past::changes::{
+    Change, FULL, Older, is_full, keep_rows, rows_apart, rows_played, take_back,
+};
 use crate::points::Point;
 use crate::stones::Colour;
 use std::alloc::Global;
@@ -121,7 +123,8 @@ impl Colourings {
             settled: self.newest.is_settled(),
         };
         let all = is_full(self.older.len());
-        lead_back(&self.newest, board, all, &mut self.changes)?;
+        let rows = rows_apart(&self.newest, board, all);
+        keep_rows(&self.newest, rows, &mut self.changes)?;
         self.older.push(kept).unwrap();
         self.newest = board.copy();
         self.older_in_stretch = older_in_stretch;
@@ -157,11 +160,6 @@ impl Colourings {
         ensures err { OnErr result (self.new ≡ self.old) }
     {
         self.newest.has_all_cells();
-        if is_full(self.older.len()) {
-            let mut made = self.newest.copy();
-            made.put(colour, point, taken);
-            return self.add(&made, false);
-        }
         let older_in_stretch = next_older_in_stretch(self.older_in_stretch, false)?;
         self.older.reserve(1)?;
         let kept = Older {
@@ -169,7 +167,9 @@ impl Colourings {
             older_in_stretch: self.older_in_stretch,
             settled: self.newest.is_settled(),
         };
-        lead_back_stone(&self.newest, point, taken, &mut self.changes)?;
+        let full = is_full(self.older.len());
+        let rows = rows_played(&self.newest, point, taken, full);
+        keep_rows(&self.newest, rows, &mut self.changes)?;
         self.newest.put(colour, point, taken);
         self.older.push(kept).unwrap();
         self.older_in_stretch = older_in_stretch;

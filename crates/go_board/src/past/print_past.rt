@@ -101,12 +101,12 @@ impl Past for PrintPast {
 }
 
 impl PrintPast {
-    ghost use Rattle.std.specs.Prelude.{◌≡◌, ◌↔◌, false, if◌then◌else◌, IsFalse, IsTrue, IfOk, OnOk, OnErr, Contains};
+    ghost use Rattle.std.specs.Prelude.{◌≡◌, ◌↔◌, false, IsFalse, IsTrue, OnOk, OnErr, Contains};
     ghost use Rattle.go_board.specs.declared.stones.Cell.TheVariants.{Empty};
     ghost use Rattle.go_board.specs.Point.{IsOn};
     ghost use Rattle.go_board.specs.Grid.{Grid, cell_at};
     ghost use Rattle.go_board.specs.Clearing.{has_unreaching, play};
-    ghost use Rattle.go_board.specs.Past.{newest_grid, with_next, present_stretch, HaveSide};
+    ghost use Rattle.go_board.specs.Past.{newest_grid, with_next, present_stretch, HaveSide, IsPlayed};
     ghost use Rattle.go_board.specs.declared.stones.Colour.{Colour};
     ghost use Rattle.go_board.specs.inner.Groups.{TakesOff};
     ghost use Rattle.go_board.specs.inner.Print.{print_of};
@@ -151,14 +151,7 @@ impl PrintPast {
         requires on_board { IsOn (newest_grid self.old).side point }
         requires empty { cell_at (newest_grid self.old) point ≡ Empty }
         requires settled { has_unreaching (newest_grid self.old) ≡ false }
-        ensures known { IfOk result (λ added. IsFalse added
-            ↔ Contains (present_stretch self.old) (play (newest_grid self.old) colour point)) }
-        ensures ok { IfOk result (λ added. self.new ≡ (if added
-            then with_next self.old (play (newest_grid self.old) colour point) false
-            else self.old)) }
-        ensures refused { OnErr result
-            (¬ Contains (present_stretch self.old) (play (newest_grid self.old) colour point)) }
-        ensures err { OnErr result (self.new ≡ self.old) }
+        ensures { IsPlayed colour point self.old self.new result }
     {
         let mut words = no_rows();
         let taken = &mut words[..usize::from(self.newest().size().side())];
@@ -182,14 +175,7 @@ impl PrintPast {
         requires on_board { IsOn (newest_grid self.old).side point }
         requires empty { cell_at (newest_grid self.old) point ≡ Empty }
         requires taken { TakesOff (newest_grid self.old) colour point taken.now }
-        ensures known { IfOk result (λ added. IsFalse added
-            ↔ Contains (present_stretch self.old) (play (newest_grid self.old) colour point)) }
-        ensures ok { IfOk result (λ added. self.new ≡ (if added
-            then with_next self.old (play (newest_grid self.old) colour point) false
-            else self.old)) }
-        ensures refused { OnErr result
-            (¬ Contains (present_stretch self.old) (play (newest_grid self.old) colour point)) }
-        ensures err { OnErr result (self.new ≡ self.old) }
+        ensures { IsPlayed colour point self.old self.new result }
     {
         self.colourings.newest().has_all_cells();
         let print = self.print_once_put(colour, point, taken);
@@ -262,14 +248,7 @@ impl PrintPast {
         requires one_side { HaveSide (newest_grid self.old).side self.old }
         requires on_board { IsOn (newest_grid self.old).side point }
         requires empty { cell_at (newest_grid self.old) point ≡ Empty }
-        ensures known { IfOk result (λ added. IsFalse added
-            ↔ Contains (present_stretch self.old) (play (newest_grid self.old) colour point)) }
-        ensures ok { IfOk result (λ added. self.new ≡ (if added
-            then with_next self.old (play (newest_grid self.old) colour point) false
-            else self.old)) }
-        ensures refused { OnErr result
-            (¬ Contains (present_stretch self.old) (play (newest_grid self.old) colour point)) }
-        ensures err { OnErr result (self.new ≡ self.old) }
+        ensures { IsPlayed colour point self.old self.new result }
     {
         let mut made = self.newest().copy();
         made.place(colour, point);

@@ -14,7 +14,7 @@ impl<P: Past> Referee<P> {
         ensures ok { OnOk result (self.new ≡ followed_by self.old self.old.present) }
         ensures err { OnErr result (self.new ≡ self.old) }
     {
-        let present = self.present_kept(false);
+        let present = self.present_kept(false, false);
         self.earlier.push(present)?;
         Ok(())
     }

@@ -69,7 +69,7 @@ impl<P: Past> Referee<P> {
         ensures ok { OnOk result (self.new ≡ followed_by self.old (turned self.old.present colour Pass)) }
         ensures err { OnErr result (self.new ≡ self.old) }
     {
-        let present = self.present_kept(false);
+        let present = self.present_kept(false, true);
         self.earlier.push(present)?;
         self.player = Some(colour.opponent());
         self.passes += 1;
@@ -88,7 +88,7 @@ impl<P: Past> Referee<P> {
             ≡ (if taken then followed_by self.old (turned self.old.present colour (Stone point)) else self.old)) }
         ensures err { OnErr result (self.new ≡ self.old) }
     {
-        let present = self.present_kept(true);
+        let present = self.present_kept(true, true);
         if !self.past.play(colour, point)? {
             return Ok(false);
         }

@@ -48,5 +48,5 @@ invariant_of-self-2 g c =
     let now : g.P.Past.held c.play.new.self ≡ with_next past made false = rw c.if-not-branch.false at c.in_ok-play.ensures.ok in
     let items : c.push.new.self.items ≡ was.earlier.items ++ kept.result ∷ [] = search rules in
     IsRefereeKept-grown past was.player was.passes was.turns was.earlier.items
-    kept.result (kept.ensures.turns ∙ sym (ap (λ (states : States). states.present.turns) c.self.view_is)) (kept.ensures.player ∙ sym (ap (λ (states : States). states.present.player) c.self.view_is)) (kept.ensures.passes ∙ sym (ap (λ (states : States). states.present.passes) c.self.view_is)) kept.ensures.grew
-    c.self.invariant (g.P.Past.held c.play.new.self) made false (Some c.opponent.result) (was.turns + 1) c.push.new.self.items now (side_play (newest_grid past) c.args.colour c.args.point) items (omega arith)
+    kept.result true (kept.ensures.player ∙ sym (ap (λ (states : States). states.present.player) c.self.view_is)) (kept.ensures.passes ∙ sym (ap (λ (states : States). states.present.passes) c.self.view_is)) kept.ensures.grew kept.ensures.turned
+    (was.turns + 1) (omega arith) c.self.invariant (g.P.Past.held c.play.new.self) made false (Some c.opponent.result) c.push.new.self.items now (side_play (newest_grid past) c.args.colour c.args.point) items

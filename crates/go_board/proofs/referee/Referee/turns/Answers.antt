@@ -7,4 +7,4 @@ pub returns-clause-at_most : goal.returns-clause-at_most
 returns-clause-at_most g c =
     let few : c.self.inside.turns ≤ length (reverse c.self.inside.earlier.items) = c.self.invariant.few_turns in
     rw (← c.self.view_is)
-    (rw (length-earlier (g.P.Past.held c.self.inside.past) c.self.inside.earlier.items) (rw length-reverse at few))
+    (rw (length-earlier (g.P.Past.held c.self.inside.past) c.self.inside.turns c.self.inside.earlier.items) (rw length-reverse at few))

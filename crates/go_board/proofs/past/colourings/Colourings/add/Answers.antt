@@ -3,7 +3,8 @@ use Rattle.go_board.specs.declared.past.changes.Older.{Older}
 use Rattle.go_board.specs.Grid.{Grid}
 use Rattle.go_board.specs.Past.{PastColourings, newest_grid, with_next}
 use Rattle.go_board.specs.inner.Changes.{after_changes, is_full, AreOn}
-use Rattle.go_board.proofs.ChangesLemmas.{leads_back, makes_one}
+use Rattle.go_board.specs.inner.Rows.{has_bit}
+use Rattle.go_board.proofs.ChangesLemmas.{leads_back, makes_one, kept_on}
 use Rattle.go_board.proofs.ColouringsLemmas.{past_held, past-push, held-push}
 use Rattle.go_board.proofs.past.colourings.Colourings.add.Goals as goal
 
@@ -12,31 +13,33 @@ invariant_of-self-2 c =
     let was = c.self.inside in
     let board : Grid = c.args.board.now in
     let kept : Older = record { start = c.len.result; older_in_stretch = was.older_in_stretch; settled = c.is_settled.result } in
-    let m = c.in_ok-lead_back.ensures.ok in
+    let m = c.in_ok-keep_rows.ensures.ok in
+    let rows = has_bit c.rows_apart-rows.result in
     let side : board.side ≡ was.newest.side = sym c.requires ∙ sym (ap (λ (past : PastColourings). (newest_grid past).side) c.self.view_is) in
     let same_side : c.copy-self-inside.result.side ≡ was.newest.side = ap (λ (g : Grid). g.side) c.copy-self-inside.ensures ∙ side in
-    let back = ap (λ (b : Grid). after_changes b m.more) c.copy-self-inside.ensures ∙ leads_back c.is_full-all.result was.newest board was.changes.items c.lead_back.new.changes.items side c.has_all_cells.ensures.all c.has_all_cells-2.ensures.all m in
+    let back = ap (λ (b : Grid). after_changes b m.more) c.copy-self-inside.ensures ∙ leads_back was.newest board c.is_full-all.result rows was.changes.items c.keep_rows.new.changes.items c.has_all_cells.ensures.all c.rows_apart-rows.ensures.cover m side c.has_all_cells-2.ensures.all in
     let count : c.len-2.result ≡ length was.older.items = search rules in
     let start : c.len.result ≡ length was.changes.items = search rules in
     let older : c.push.new.self.items ≡ was.older.items ++ kept ∷ [] = search rules in
     rw older
-    (past-push was.newest c.copy-self-inside.result was.older_in_stretch c.in_ok-older_in_stretch.older_in_stretch was.older.items kept was.changes.items m.more c.lead_back.new.changes.items c.args.begins
+    (past-push was.newest c.copy-self-inside.result was.older_in_stretch c.in_ok-older_in_stretch.older_in_stretch was.older.items kept was.changes.items m.more c.keep_rows.new.changes.items c.args.begins
     c.in_ok-older_in_stretch.ensures refl start m.added back c.self.invariant c.is_settled.ensures
-    (λ is. makes_one c.is_full-all.result was.newest board was.changes.items c.lead_back.new.changes.items side c.has_all_cells.ensures.all c.has_all_cells-2.ensures.all m (c.is_full-all.ensures ∙ ap is_full count ∙ is))
-    (subst (λ n. AreOn n was.changes.items) (sym same_side) c.self.invariant.on_grid) (subst (λ n. AreOn n m.more) (sym same_side) m.on_grid))
+    (λ is. makes_one was.newest board c.is_full-all.result rows was.changes.items c.keep_rows.new.changes.items c.has_all_cells.ensures.all c.rows_apart-rows.ensures.cover m (c.is_full-all.ensures ∙ ap is_full count ∙ is))
+    (subst (λ n. AreOn n was.changes.items) (sym same_side) c.self.invariant.on_grid) (subst (λ n. AreOn n m.more) (sym same_side) (kept_on was.newest board c.is_full-all.result rows was.changes.items c.keep_rows.new.changes.items c.has_all_cells.ensures.all c.rows_apart-rows.ensures.cover m)))
 
 pub returns-clause-ok : goal.returns-clause-ok
 returns-clause-ok c =
     let was = c.self.inside in
     let board : Grid = c.args.board.now in
     let kept : Older = record { start = c.len.result; older_in_stretch = was.older_in_stretch; settled = c.is_settled.result } in
-    let m = c.in_ok-lead_back.ensures.ok in
+    let m = c.in_ok-keep_rows.ensures.ok in
+    let rows = has_bit c.rows_apart-rows.result in
     let side : board.side ≡ was.newest.side = sym c.requires ∙ sym (ap (λ (past : PastColourings). (newest_grid past).side) c.self.view_is) in
-    let back = ap (λ (b : Grid). after_changes b m.more) c.copy-self-inside.ensures ∙ leads_back c.is_full-all.result was.newest board was.changes.items c.lead_back.new.changes.items side c.has_all_cells.ensures.all c.has_all_cells-2.ensures.all m in
+    let back = ap (λ (b : Grid). after_changes b m.more) c.copy-self-inside.ensures ∙ leads_back was.newest board c.is_full-all.result rows was.changes.items c.keep_rows.new.changes.items c.has_all_cells.ensures.all c.rows_apart-rows.ensures.cover m side c.has_all_cells-2.ensures.all in
     let start : c.len.result ≡ length was.changes.items = search rules in
     let older : c.push.new.self.items ≡ was.older.items ++ kept ∷ [] = search rules in
     rw older
-    (held-push was.newest c.copy-self-inside.result was.older_in_stretch c.in_ok-older_in_stretch.older_in_stretch was.older.items kept was.changes.items m.more c.lead_back.new.changes.items c.args.begins
+    (held-push was.newest c.copy-self-inside.result was.older_in_stretch c.in_ok-older_in_stretch.older_in_stretch was.older.items kept was.changes.items m.more c.keep_rows.new.changes.items c.args.begins
     c.in_ok-older_in_stretch.ensures refl start m.added back
     ∙ ap (λ (b : Grid). with_next (past_held was.newest was.older_in_stretch (reverse was.older.items) was.changes.items) b c.args.begins) c.copy-self-inside.ensures
     ∙ ap (λ (past : PastColourings). with_next past board c.args.begins) c.self.view_is)

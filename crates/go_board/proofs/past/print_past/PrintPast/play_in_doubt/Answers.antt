@@ -1,6 +1,5 @@
-use Rattle.std.proofs.Common.{◌∙◌, subst, IsFalse, IfOk, ◌↔◌, Contains, sym, []}
-use Rattle.go_board.specs.Past.{PastColourings, newest_grid, present_stretch}
-use Rattle.go_board.specs.Clearing.{play}
+use Rattle.std.proofs.Common.{◌∙◌, subst, sym, []}
+use Rattle.go_board.specs.Past.{PastColourings, newest_grid, IsPlayed}
 use Rattle.go_board.specs.inner.Groups.{TakesOff}
 use Rattle.go_board.proofs.LinkedLemmas.{none_in_front}
 use Rattle.go_board.proofs.TakenLemmas.{takes_none}
@@ -16,16 +15,10 @@ play_taking-requires-clause-taken c =
     subst (λ (past : PastColourings). TakesOff (newest_grid past) k p []) (sym c.find_taken.ensures.unchanged)
     (takes_none _ k p c.find_taken.new.taken (c.is_none.ensures.0 c.if-is_none.true) c.find_taken.ensures.taken)
 
-pub returns-then-is_none-clause-known : goal.returns-then-is_none-clause-known
-returns-then-is_none-clause-known c =
-    let k = c.args.colour in
-    let p = c.args.point in
-    subst (λ (past : PastColourings). IfOk c.play_taking.result (λ added. IsFalse added ↔ Contains (present_stretch past) (play (newest_grid past) k p)))
-    (c.find_taken.ensures.unchanged ∙ c.self.view_is) c.play_taking.ensures.known
+pub returns-then-is_none : goal.returns-then-is_none
+returns-then-is_none c =
+    subst (λ (past : PastColourings). IsPlayed c.args.colour c.args.point past c.play_taking.new.self c.play_taking.result) (c.find_taken.ensures.unchanged ∙ c.self.view_is) c.play_taking.ensures
 
-pub returns-clause-known : goal.returns-clause-known
-returns-clause-known c =
-    let k = c.args.colour in
-    let p = c.args.point in
-    subst (λ (past : PastColourings). IfOk c.play_taking-2.result (λ added. IsFalse added ↔ Contains (present_stretch past) (play (newest_grid past) k p)))
-    (c.find_taken.ensures.unchanged ∙ c.self.view_is) c.play_taking-2.ensures.known
+pub returns : goal.returns
+returns c =
+    subst (λ (past : PastColourings). IsPlayed c.args.colour c.args.point past c.play_taking-2.new.self c.play_taking-2.result) (c.find_taken.ensures.unchanged ∙ c.self.view_is) c.play_taking-2.ensures

@@ -1,10 +1,10 @@
-use Rattle.std.proofs.Common.{◌≡◌, ◌≤◌, ◌↔◌, IfOk, IsFalse, Contains, length, false, ap, subst, sym, ◌∙◌, arith, rules}
+use Rattle.std.proofs.Common.{◌≡◌, ◌≤◌, length, false, ap, subst, sym, ◌∙◌, arith, rules}
 use Rattle.std.proofs.lemmas.Bool.{or_left, or_right}
 use Rattle.go_board.specs.declared.stones.Cell.TheVariants.{Empty}
 use Rattle.go_board.specs.Point.{IsOn}
 use Rattle.go_board.specs.Grid.{Grid, cell_at}
 use Rattle.go_board.specs.Clearing.{play}
-use Rattle.go_board.specs.Past.{PastColourings, all_of, newest_grid, present_stretch, with_next}
+use Rattle.go_board.specs.Past.{PastColourings, all_of, newest_grid, with_next, IsPlayed}
 use Rattle.go_board.specs.inner.Emptied.{HasAllEmptied}
 use Rattle.go_board.specs.inner.Groups.{TakesOff}
 use Rattle.go_board.specs.inner.Print.{print_of}
@@ -40,7 +40,6 @@ invariant_of-self-2 c =
       );
     }
 
-pub returns-then-may_have-clause-known : goal.returns-then-may_have-clause-known
-returns-then-may_have-clause-known c =
-    subst (λ (past : PastColourings). IfOk c.play_on_copy.result (λ added. IsFalse added ↔ Contains (present_stretch past) (play (newest_grid past) c.args.colour c.args.point)))
-    c.may_have.ensures.kept c.play_on_copy.ensures.known
+pub returns-then-may_have : goal.returns-then-may_have
+returns-then-may_have c =
+    subst (λ (past : PastColourings). IsPlayed c.args.colour c.args.point past c.play_on_copy.new.self c.play_on_copy.result) c.may_have.ensures.kept c.play_on_copy.ensures
