@@ -1,29 +1,17 @@
 //! Reading the properties of a node.
 
-ghost use Rattle.std.specs.Prelude.{◌≡◌, ◌<◌, ◌≤◌, ◌+◌, length, slice_index, IsTrue, IfOk, IfErr, OnOk};
+ghost use Rattle.std.specs.Prelude.{◌≡◌, ◌<◌, ◌≤◌, ◌+◌, length, slice_index, IsTrue, IfSome, IfOk, IfErr, OnOk};
 ghost use Rattle.sgf_tree.specs.Spelling.{is_upper};
 ghost use Rattle.sgf_tree.specs.inner.Progress.{IsSpan};
 ghost use Rattle.sgf_tree.specs.inner.NodeText.{IsPropertyWritten, AreWritten};
-ghost use Rattle.sgf_tree.specs.inner.PropertiesRead.{IsNameRead, IsPropertyRead, ArePropertiesRead, IsFaultInProperty, IsFaultInNode};
+ghost use Rattle.sgf_tree.specs.inner.PropertiesRead.{IsNameRead, IsPropertyRead, IsShortProperty, AreShortProperties, ArePropertiesRead, IsFaultInProperty, IsFaultInNode};
 ghost use Rattle.sgf_tree.specs.inner.KeptEnds.{AreKeptEnds};
 
 use crate::fault::MAX_LENGTH;
 use crate::layout::LongValue;
 use crate::reader::fault::PartFault;
 use crate::reader::scan::{letters_end, short_name_end, skip_white_space};
-use crate::reader::value::read_value;
-
-/// Whether the byte at `at` ends the node before any property, as a `;` or a parenthesis does. This is tested
-/// before anything is called. If it is false, nothing is known.
-#[inline(always)]
-pub(crate) fn ends_at_once(text: &[u8], at: usize) -> bool
-    ensures { IsTrue result → ArePropertiesRead text.now at at }
-{
-    if at < text.len() && b' ' < text[at] && text[at] < b'A' {
-        return true;
-    }
-    false
-}
+use crate::reader::value::{read_value, short_value_end};
 
 /// How far a part of a text was read.
 #[derive(Clone, Copy)]
@@ -34,9 +22,75 @@ pub(crate) struct PartRead {
     pub left_out: usize,
 }
 
-/// Reads the properties of a node, which begin at `at` or after white space there.
-#[inline(never)]
+/// Reads the properties of a node that are left, which begin at `at` or after white space there.
+#[inline(always)]
 pub(crate) fn read_properties(
+    text: &[u8],
+    at: usize,
+    long: &mut Vec<LongValue>,
+) -> Result<PartRead, PartFault>
+    requires short { length text.now ≤ MAX_LENGTH }
+    requires within { at ≤ length text.now }
+    requires kept { AreKeptEnds text.now long.old.items }
+    ensures read { IfOk result (λ read. ArePropertiesRead text.now at read.end) }
+    ensures written { IfOk result (λ read. read.left_out ≡ 0 → AreWritten text.now at read.end) }
+    ensures fault { IfErr result (IsFaultInNode text.now at) }
+    ensures kept { OnOk result (AreKeptEnds text.now long.new.items) }
+{
+    let end = short_properties_end(text, at);
+    if ends_node(text, end) {
+        return Ok(PartRead { end, left_out: 0 });
+    }
+    read_further_properties(text, end, long)
+}
+
+/// The end of the properties at `at`, as far as they are short.
+#[inline(always)]
+fn short_properties_end(text: &[u8], at: usize) -> usize
+    requires { at ≤ length text.now }
+    ensures { AreShortProperties text.now at result }
+{
+    let mut end = at;
+    'properties: while let Some(next) = short_property_end(text, end) {
+        end = next;
+    }
+    end
+}
+
+/// The end of the property at `at`, if its name and its only value are short and a byte comes after them that goes on with
+/// neither values nor white space. Most properties are like that. If it is None, nothing is known.
+#[inline(always)]
+fn short_property_end(text: &[u8], at: usize) -> Option<usize>
+    requires { at ≤ length text.now }
+    ensures { IfSome result (IsShortProperty text.now at) }
+{
+    if at == text.len() || !text[at].is_ascii_uppercase() {
+        return None;
+    }
+    let bracket = short_name_end(text, at)?;
+    let close = short_value_end(text, bracket + 1)?;
+    let end = close + 1;
+    if end < text.len() && b' ' < text[end] && text[end] != b'[' {
+        Some(end)
+    } else {
+        None
+    }
+}
+
+/// Whether the byte at `at` ends the node, as a `;` or a parenthesis does. If it is false, nothing is known.
+#[inline(always)]
+fn ends_node(text: &[u8], at: usize) -> bool
+    ensures { IsTrue result → ArePropertiesRead text.now at at }
+{
+    if at < text.len() && b' ' < text[at] && text[at] < b'A' {
+        return true;
+    }
+    false
+}
+
+/// Reads the properties of a node that are left, byte by byte. They may be any properties, with white space between their parts.
+#[inline(never)]
+fn read_further_properties(
     text: &[u8],
     at: usize,
     long: &mut Vec<LongValue>,

@@ -120,7 +120,7 @@ fn kept_end(text: &[u8], at: usize, long: &[LongValue]) -> Option<usize>
 
 /// The offset of the `]` that ends the raw value at `at`, if the value is short, as most are. If it is None, nothing is known.
 #[inline(always)]
-fn short_value_end(text: &[u8], at: usize) -> Option<usize>
+pub(crate) fn short_value_end(text: &[u8], at: usize) -> Option<usize>
     requires { at ≤ length text.now }
     ensures read { IfSome result (IsValueEnd text.now at) }
     ensures spelled { IfSome result (SpellsValue text.now at) }

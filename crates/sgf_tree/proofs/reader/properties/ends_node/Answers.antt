@@ -1,5 +1,5 @@
 use Rattle.sgf_tree.proofs.NodeEnds.{properties-none}
-use Rattle.sgf_tree.proofs.reader.properties.ends_at_once.Goals as goal
+use Rattle.sgf_tree.proofs.reader.properties.ends_node.Goals as goal
 
 pub returns-then-text-at-lt65 : goal.returns-then-text-at-lt65
 returns-then-text-at-lt65 c _ =

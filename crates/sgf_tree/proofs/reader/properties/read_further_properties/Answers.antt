@@ -1,0 +1,47 @@
+use Rattle.std.proofs.Common.{◌≡◌, ◌∙◌, sym, arith}
+use Rattle.std.proofs.lemmas.Result.{err_from_is_err_and}
+use Rattle.sgf_tree.proofs.NodeEnds.{node-name, passed-white, passed-more, properties-done}
+use Rattle.sgf_tree.proofs.WrittenParts.{written-none, written-more}
+use Rattle.sgf_tree.proofs.reader.properties.read_further_properties.Goals as goal
+
+pub properties-init : goal.properties-init
+properties-init c = record {
+  passed = passed-white c.args.text.now c.args.at c.skip_white_space-end.result c.skip_white_space-end.ensures;
+  not_white_space = c.skip_white_space-end.ensures.stops;
+  written = λ is.
+      let same : c.skip_white_space-end.result ≡ c.args.at = omega (arith, is, c.skip_white_space-end.ensures.rises) in
+      rw same (written-none c.args.text.now c.args.at c.requires.within);
+  few = omega arith;
+  kept = c.requires.kept;
+}
+
+pub returns-in_err-property-clause-fault : goal.returns-in_err-property-clause-fault
+returns-in_err-property-clause-fault c =
+    let p = err_from_is_err_and c.from_residual.result c.from_residual.ensures.1 in
+    let capital = sym c.is_ascii_uppercase.ensures.value ∙ c.if-is_ascii_uppercase.true in
+    rw (p.1, p.2)
+    (λ n h. c.in_err-property.ensures.fault _ (node-name c.args.text.now c.properties.end _ (c.properties.invariant.passed.reached n h).1 c.properties-test.true capital))
+
+pub properties-preserved : goal.properties-preserved
+properties-preserved c =
+    let capital = sym c.is_ascii_uppercase.ensures.value ∙ c.if-is_ascii_uppercase.true in
+    let read = c.in_ok-property.ensures.read in
+    record {
+      passed = passed-more c.args.text.now c.args.at c.properties.end c.in_ok-property.property.end c.properties.invariant.passed c.properties-test.true capital read;
+      not_white_space = λ lt. (read.stops lt).0;
+      written = λ is.
+          written-more c.args.text.now c.args.at c.properties.end c.in_ok-property.property.end (c.properties.invariant.written (omega (arith, is))) (c.in_ok-property.ensures.written (omega (arith, is)));
+      few = omega (arith, c.properties.invariant.few, c.in_ok-property.ensures.few);
+      kept = c.in_ok-property.ensures.kept;
+    }
+
+pub returns-else-is_ascii_uppercase-clause-read : goal.returns-else-is_ascii_uppercase-clause-read
+returns-else-is_ascii_uppercase-clause-read c =
+    properties-done c.args.text.now c.args.at c.properties.end c.properties.invariant.passed c.properties.invariant.not_white_space (λ lt. sym c.is_ascii_uppercase.ensures.value ∙ c.if-is_ascii_uppercase.false)
+
+pub returns-after-properties-clause-read : goal.returns-after-properties-clause-read
+returns-after-properties-clause-read c =
+    properties-done c.args.text.now c.args.at c.properties.end c.properties.invariant.passed c.properties.invariant.not_white_space (λ lt. absurd (omega (arith, c.properties-test.false)))
+
+pub overflow_add-left_out : goal.overflow_add-left_out
+overflow_add-left_out c = omega (arith, c.properties.invariant.few, c.in_ok-property.ensures.few, c.in_ok-property.ensures.read.within, c.requires.short)
