@@ -8,12 +8,11 @@ use Rattle.sgf_tree.specs.inner.Machine.{OpenGame, Stack, Started, opened, in_no
 use Rattle.sgf_tree.specs.Refusal.{IsFaultyAt}
 use Rattle.sgf_tree.specs.inner.NodeText.{AreWritten}
 use Rattle.sgf_tree.specs.inner.Progress.{ComesTo, IsSpan}
-use Rattle.sgf_tree.specs.inner.PropertiesRead.{StandsInNode, StandsAfterNode, with_properties}
+use Rattle.sgf_tree.specs.inner.PropertiesRead.{StandsAfterNode, with_properties}
 use Rattle.sgf_tree.specs.inner.GamesRead.{HoldStack, IsOpening, IsNodeRead, IsSequenceRead}
 use Rattle.sgf_tree.specs.declared.layout.Link.{Link}
 use Rattle.sgf_tree.specs.declared.layout.Link.TheVariants.{Next}
 use Rattle.sgf_tree.specs.declared.layout.NodeEntry.{NodeEntry}
-use Rattle.sgf_tree.proofs.NodeEnds.{stands-first}
 use Rattle.sgf_tree.proofs.NodesRead.{first-held, next-held}
 use Rattle.sgf_tree.proofs.Run.{run-take-step}
 use Rattle.sgf_tree.proofs.Skipping.{stays-opened}
@@ -94,7 +93,7 @@ module _ (t : List ℕ) where
       → IsNodeRead t place end link ns ns' → (IsTrue is_written → AreWritten t (place + 1) end) → SequenceSoFar end is_written k ns'
   sequence-first at place end is_written k link ns ns' white after held opening lt e read written =
       let n : Started = record { stack = k; opens = true; place = place; properties = [] } in
-      let own = read.properties.reached n (stands-first t n (place-node at place k white after lt e)) in
+      let own = read.properties.reached n refl (place-node at place k white after lt e) in
       record {
         whole = with_properties n own.0;
         last = new_game (record { place = place; properties = own.0 });
@@ -114,7 +113,7 @@ module _ (t : List ℕ) where
       let n : Started = record { stack = k'; opens = false; place = place; properties = [] } in
       let begins : ComesTo t (place + 1) (in_node n) =
       subst (λ s. ComesTo t (place + 1) (new_node s false place)) so_far.stack_is (next-node place so_far.whole so_far.stands lt e) in
-      let own = read.properties.reached n (stands-first t n begins) in
+      let own = read.properties.reached n refl begins in
       record {
         whole = with_properties n own.0;
         last = record { first = so_far.last.first; more = so_far.last.more ++ record { place = place; properties = own.0 } ∷ []; below = so_far.last.below };
@@ -146,10 +145,11 @@ module _ (t : List ℕ) where
 
   -- a further node's `;` begins a node
   pub sequence-node : (end : ℕ) (is_written : Bool) (k : Stack) (ns : List NodeEntry) → SequenceSoFar end is_written k ns → end < length t → get_or t end 0 ≡ 59
-      → (n : Started) × StandsInNode t (end + 1) n
-  sequence-node end is_written k ns so_far lt e =
-      let n : Started = record { stack = ended so_far.whole; opens = false; place = end; properties = [] } in
-      (n, stands-first t n (next-node end so_far.whole so_far.stands lt e))
+      → (n : Started) × ((n.properties ≡ []) × ComesTo t (end + 1) (in_node n))
+  sequence-node end is_written k ns so_far lt e = (
+    record { stack = ended so_far.whole; opens = false; place = end; properties = [] },
+    (refl, next-node end so_far.whole so_far.stands lt e),
+  )
 
   -- there are no more nodes than bytes
   pub node-room : (place end : ℕ) (link : Link) (ns ns' : List NodeEntry) → length ns ≤ place → IsNodeRead t place end link ns ns' → length ns' ≤ end

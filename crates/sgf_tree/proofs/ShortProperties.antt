@@ -1,47 +1,30 @@
--- Properties that are read at a glance: name, value and what comes after them are short, and stand as the sgf form writes them.
-use Rattle.std.proofs.Common.{◌≢◌, ℕ, ◌+◌, ◌<◌, ◌≤◌, IsTrue, List, length, get_or, arith}
+-- A property with one value, as the code tells it.
+use Rattle.std.proofs.Common.{◌≡◌, ◌≢◌, ℕ, ◌+◌, ◌-◌, ◌<◌, IsTrue, List, length, get_or, arith}
 use Rattle.sgf_tree.specs.Spelling.{is_white_space, is_upper}
 use Rattle.sgf_tree.specs.inner.NodeText.{is_letter}
-use Rattle.sgf_tree.specs.inner.Progress.{IsSpan, IsBracket, IsValueEnd, SpellsValue}
-use Rattle.sgf_tree.specs.inner.PropertiesRead.{IsShortProperty, AreShortProperties}
-use Rattle.sgf_tree.proofs.Classes.{between-not_white_space}
+use Rattle.sgf_tree.specs.inner.Progress.{IsSpan, IsBracket, IsValueEnd}
+use Rattle.sgf_tree.specs.inner.PropertiesRead.{IsWholePropertyRead}
 use Rattle.sgf_tree.proofs.NameEnds.{name-read, bracket-here}
-use Rattle.sgf_tree.proofs.NodeEnds.{passed-none, passed-more}
 use Rattle.sgf_tree.proofs.ValuesRead.{values-begin, values-step, values-done}
-use Rattle.sgf_tree.proofs.WrittenParts.{values-none, values-one, property-one, written-none, written-more}
+use Rattle.sgf_tree.proofs.WrittenParts.{values-none, values-one, property-one, span-done}
 
-module _ (t : List ℕ) where
-  pub short-none : (at : ℕ) → at ≤ length t → AreShortProperties t at at
-  short-none at le = record { passed = passed-none t at le; written = written-none t at le }
-
-  pub short-more : (at mid end : ℕ) → AreShortProperties t at mid → IsShortProperty t mid end → AreShortProperties t at end
-  short-more at mid end before one = record {
-    passed = passed-more t at mid end before.passed one.inside one.capital one.read;
-    written = written-more t at mid end before.written one.written;
-  }
-
-  pub short-one : (at bracket close : ℕ) → at < length t → IsTrue (is_upper (get_or t at 0)) → IsSpan is_letter t at bracket → IsSpan is_upper t at bracket
-      → IsBracket t bracket → IsValueEnd t (bracket + 1) close → SpellsValue t (bracket + 1) close
-      → close + 1 < length t → 32 < get_or t (close + 1) 0 → get_or t (close + 1) 0 ≢ 91 → IsShortProperty t at (close + 1)
-  short-one at bracket close lt capital letters capitals stands value spelled room above other =
-      let none : IsSpan is_white_space t (close + 1) (close + 1) = record {
-        rises = omega arith;
-        within = omega arith;
-        passing = λ i low high. absurd (omega arith);
-        stops = λ _. between-not_white_space (get_or t (close + 1) 0) above;
-      } in
-      let name = name-read t at bracket bracket lt capital letters (bracket-here t bracket stands) stands in
-      let values = values-done t bracket (close + 1) (values-step t bracket bracket close (close + 1) (values-begin t bracket) value none) (λ _. other) in
+module _ (t : List ℕ) (start bracket close next : ℕ) where
+  pub short-property : start < length t → IsTrue (is_upper (get_or t start 0)) → IsSpan is_letter t start bracket → IsSpan is_upper t start bracket
+      → IsBracket t bracket → IsValueEnd t (bracket + 1) close → IsSpan is_white_space t (close + 1) next → (next < length t → get_or t next 0 ≢ 91)
+      → IsWholePropertyRead t start (record { end = next; left_out = next - (close + 1) })
+  short-property lt capital letters capitals stands value white other =
+      let name = name-read t start bracket bracket lt capital letters (bracket-here t bracket stands) stands in
+      let values = values-done t bracket next (values-step t bracket bracket close next (values-begin t bracket) value white) other in
+      let alone = values-one t bracket bracket close (values-none t bracket (omega (arith, stands.within))) stands.within stands.bracket value.rises value.within value.bracket value.spelled in
       record {
-        inside = lt;
-        capital = capital;
-        read = record {
+        property = record {
           rises = omega (arith, values.rises, name.rises);
           within = values.within;
           stops = values.stops;
           reached = λ n h. let after = name.reached n h in values.reached n after.0 after.1;
         };
-        written = property-one t at bracket (close + 1) (close + 1) capitals
-            (values-one t bracket bracket close (values-none t bracket (omega (arith, stands.within))) stands.within stands.bracket value.rises value.within value.bracket spelled)
-            (λ e. omega (arith, name.rises)) (λ e. omega (arith, value.rises)) none (λ _. other);
+        written = λ is.
+            let same : next ≡ close + 1 = omega (arith, white.rises, is) in
+            property-one t start bracket next next capitals (rw same alone) (λ e. omega (arith, name.rises)) (λ e. omega (arith, values.rises)) (span-done white) other;
+        few = omega (arith, name.rises, value.rises, white.rises);
       }

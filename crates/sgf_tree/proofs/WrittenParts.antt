@@ -72,10 +72,6 @@ properties-more : {ps : List Property} {p : Property} {s m r : List ℕ} → Are
 properties-more no_property is = properties is no_property
 properties-more (properties q qs) is = properties q (properties-more qs is)
 
-properties-join : {ps qs : List Property} {s m r : List ℕ} → AreProperties ps s m → AreProperties qs m r → AreProperties (ps ++ qs) s r
-properties-join no_property qs = qs
-properties-join (properties p ps) qs = properties p (properties-join ps qs)
-
 -- a node ends before a `;`
 semicolon-ends : {b : ℕ} {r u : List ℕ} → WhiteSpace (59 ∷ r) (b ∷ u) → (b ≢ 91) × (is_upper b ≡ false)
 semicolon-ends no_white_space = ((λ e. omega arith), refl)
@@ -208,17 +204,6 @@ module _ (t : List ℕ) where
         properties = before.properties ++ one.property ∷ [];
         spelled = properties-more before.spelled one.spelled;
         text = text-more from at end before.properties before.rises before.text one;
-      }
-
-  pub written-join : (from mid end : ℕ) → AreWritten t from mid → AreWritten t mid end → AreWritten t from end
-  written-join from mid end before after =
-      record {
-        rises = omega (arith, before.rises, after.rises);
-        within = after.within;
-        properties = before.properties ++ after.properties;
-        spelled = properties-join before.spelled after.spelled;
-        text = sym (span-join t from mid end before.rises after.rises) ∙ ap (λ s. s ++ slice_range t mid end) before.text
-            ∙ ap (λ s. flat_map property_text before.properties ++ s) after.text ∙ sym (flat_map-append property_text before.properties after.properties);
       }
 
   -- those of a node, before the next one

@@ -3,15 +3,18 @@
 ghost use Rattle.std.specs.Prelude.{◌≡◌, ◌<◌, ◌≤◌, ◌+◌, length, slice_index, IsTrue, IfSome, IfOk, IfErr, OnOk};
 ghost use Rattle.sgf_tree.specs.Spelling.{is_upper};
 ghost use Rattle.sgf_tree.specs.inner.Progress.{IsSpan};
-ghost use Rattle.sgf_tree.specs.inner.NodeText.{IsPropertyWritten, AreWritten};
-ghost use Rattle.sgf_tree.specs.inner.PropertiesRead.{IsNameRead, IsPropertyRead, IsShortProperty, AreShortProperties, ArePropertiesRead, IsFaultInProperty, IsFaultInNode};
+ghost use Rattle.sgf_tree.specs.inner.NodeText.{AreWritten};
+ghost use Rattle.sgf_tree.specs.inner.PropertiesRead.{IsNameRead, IsWholePropertyRead, ArePropertiesRead, IsFaultInProperty, IsFaultInNode};
 ghost use Rattle.sgf_tree.specs.inner.KeptEnds.{AreKeptEnds};
 
 use crate::fault::MAX_LENGTH;
 use crate::layout::LongValue;
 use crate::reader::fault::PartFault;
 use crate::reader::scan::{letters_end, short_name_end, skip_white_space};
-use crate::reader::value::{read_value, short_value_end};
+use crate::reader::value::{near_value_end, read_value};
+
+/// A property of fewer bytes is read at a glance, if so many bytes are left.
+const SHORT: usize = 20;
 
 /// How far a part of a text was read.
 #[derive(Clone, Copy)]
@@ -22,75 +25,9 @@ pub(crate) struct PartRead {
     pub left_out: usize,
 }
 
-/// Reads the properties of a node that are left, which begin at `at` or after white space there.
+/// Reads the properties of a node, which begin at `at` or after white space there.
 #[inline(always)]
 pub(crate) fn read_properties(
-    text: &[u8],
-    at: usize,
-    long: &mut Vec<LongValue>,
-) -> Result<PartRead, PartFault>
-    requires short { length text.now ≤ MAX_LENGTH }
-    requires within { at ≤ length text.now }
-    requires kept { AreKeptEnds text.now long.old.items }
-    ensures read { IfOk result (λ read. ArePropertiesRead text.now at read.end) }
-    ensures written { IfOk result (λ read. read.left_out ≡ 0 → AreWritten text.now at read.end) }
-    ensures fault { IfErr result (IsFaultInNode text.now at) }
-    ensures kept { OnOk result (AreKeptEnds text.now long.new.items) }
-{
-    let end = short_properties_end(text, at);
-    if ends_node(text, end) {
-        return Ok(PartRead { end, left_out: 0 });
-    }
-    read_further_properties(text, end, long)
-}
-
-/// The end of the properties at `at`, as far as they are short.
-#[inline(always)]
-fn short_properties_end(text: &[u8], at: usize) -> usize
-    requires { at ≤ length text.now }
-    ensures { AreShortProperties text.now at result }
-{
-    let mut end = at;
-    'properties: while let Some(next) = short_property_end(text, end) {
-        end = next;
-    }
-    end
-}
-
-/// The end of the property at `at`, if its name and its only value are short and a byte comes after them that goes on with
-/// neither values nor white space. Most properties are like that. If it is None, nothing is known.
-#[inline(always)]
-fn short_property_end(text: &[u8], at: usize) -> Option<usize>
-    requires { at ≤ length text.now }
-    ensures { IfSome result (IsShortProperty text.now at) }
-{
-    if at == text.len() || !text[at].is_ascii_uppercase() {
-        return None;
-    }
-    let bracket = short_name_end(text, at)?;
-    let close = short_value_end(text, bracket + 1)?;
-    let end = close + 1;
-    if end < text.len() && b' ' < text[end] && text[end] != b'[' {
-        Some(end)
-    } else {
-        None
-    }
-}
-
-/// Whether the byte at `at` ends the node, as a `;` or a parenthesis does. If it is false, nothing is known.
-#[inline(always)]
-fn ends_node(text: &[u8], at: usize) -> bool
-    ensures { IsTrue result → ArePropertiesRead text.now at at }
-{
-    if at < text.len() && b' ' < text[at] && text[at] < b'A' {
-        return true;
-    }
-    false
-}
-
-/// Reads the properties of a node that are left, byte by byte. They may be any properties, with white space between their parts.
-#[inline(never)]
-fn read_further_properties(
     text: &[u8],
     at: usize,
     long: &mut Vec<LongValue>,
@@ -113,7 +50,8 @@ fn read_further_properties(
     Ok(PartRead { end, left_out })
 }
 
-/// Reads the property whose identifier begins at `start`, value after value.
+/// Reads the property whose identifier begins at `start`.
+#[inline(always)]
 fn read_property(
     text: &[u8],
     start: usize,
@@ -123,9 +61,53 @@ fn read_property(
     requires within { start < length text.now }
     requires capital { IsTrue (is_upper (slice_index text.now start)) }
     requires kept { AreKeptEnds text.now long.old.items }
-    ensures read { IfOk result (λ read. IsPropertyRead text.now start read.end) }
-    ensures written { IfOk result (λ read. read.left_out ≡ 0 → IsPropertyWritten text.now start read.end) }
-    ensures few { IfOk result (λ read. start + read.left_out ≤ read.end) }
+    ensures read { IfOk result (IsWholePropertyRead text.now start) }
+    ensures fault { IfErr result (IsFaultInProperty text.now start) }
+    ensures kept { OnOk result (AreKeptEnds text.now long.new.items) }
+{
+    match read_short_property(text, start) {
+        Some(read) => Ok(read),
+        None => read_far_property(text, start, long),
+    }
+}
+
+/// Reads the property whose identifier begins at `start` at a glance, if it has a name of one or two letters
+/// and one short value. Nearly all properties are like that. If it is None, nothing is known.
+#[inline(always)]
+fn read_short_property(text: &[u8], start: usize) -> Option<PartRead>
+    requires within { start < length text.now }
+    requires capital { IsTrue (is_upper (slice_index text.now start)) }
+    ensures { IfSome result (IsWholePropertyRead text.now start) }
+{
+    if text.len() - start < SHORT {
+        return None;
+    }
+    let bracket = short_name_end(text, start)?;
+    let close = near_value_end(text, bracket + 1)?;
+    let end = close + 1;
+    let next = skip_white_space(text, end);
+    if next < text.len() && text[next] != b'[' {
+        Some(PartRead {
+            end: next,
+            left_out: next - end,
+        })
+    } else {
+        None
+    }
+}
+
+/// Reads the property whose identifier begins at `start`, value after value.
+#[inline(never)]
+fn read_far_property(
+    text: &[u8],
+    start: usize,
+    long: &mut Vec<LongValue>,
+) -> Result<PartRead, PartFault>
+    requires short { length text.now ≤ MAX_LENGTH }
+    requires within { start < length text.now }
+    requires capital { IsTrue (is_upper (slice_index text.now start)) }
+    requires kept { AreKeptEnds text.now long.old.items }
+    ensures read { IfOk result (IsWholePropertyRead text.now start) }
     ensures fault { IfErr result (IsFaultInProperty text.now start) }
     ensures kept { OnOk result (AreKeptEnds text.now long.new.items) }
 {

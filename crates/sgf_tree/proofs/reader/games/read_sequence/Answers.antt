@@ -1,8 +1,7 @@
-use Rattle.std.proofs.Common.{◌≢◌, ◌<◌, length, get_or, arith}
+use Rattle.std.proofs.Common.{◌≢◌, ◌<◌, length, get_or, refl, arith}
 use Rattle.std.proofs.Math.Dec.{eqb}
 use Rattle.std.proofs.lemmas.Bool.{eqb-true}
 use Rattle.std.proofs.lemmas.Result.{err_from_is_err_and}
-use Rattle.sgf_tree.proofs.NodeEnds.{stands-first}
 use Rattle.sgf_tree.proofs.SequencesRead.{place-faulty, place-node, sequence-first, sequence-next, sequence-done, sequence-node, node-room}
 use Rattle.sgf_tree.proofs.reader.games.read_sequence.Goals as goal
 use Rattle.sgf_tree.proofs.reader.games.read_sequence.Goals.{then-place-text-via-then-place-text, then-place-text-via-else-place-text+then-text-place-ne59}
@@ -25,7 +24,7 @@ returns-in_err-read-clause-fault c =
     let lt : place < length t = omega (arith, c.skip_white_space-place.ensures.within) in
     rw (p.1, p.2)
     (λ k after held opening.
-    c.in_err-read.ensures.fault _ (stands-first t _ (place-node t c.args.at place k c.skip_white_space-place.ensures after lt c.if-text-place-ne59.false)))
+    c.in_err-read.ensures.fault _ refl (place-node t c.args.at place k c.skip_white_space-place.ensures after lt c.if-text-place-ne59.false))
 
 pub nodes-init : goal.nodes-init
 nodes-init c =
@@ -48,7 +47,7 @@ returns-in_err-read-2-clause-fault c =
     rw (p.1, p.2)
     (λ k after held opening.
     let node = sequence-node c.args.text.now c.nodes.read.end (eqb c.nodes.read.left_out 0) k _ (c.nodes.invariant.so_far k after held opening) c.nodes-test.true c.if-text-read-eq59.true in
-    c.in_err-read-2.ensures.fault node.0 node.1)
+    c.in_err-read-2.ensures.fault node.0 node.1.0 node.1.1)
 
 pub nodes-preserved : goal.nodes-preserved
 nodes-preserved c =

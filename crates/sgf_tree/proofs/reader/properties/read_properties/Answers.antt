@@ -1,21 +1,44 @@
-use Rattle.std.proofs.lemmas.Result.{IfOk-weaker, IfErr-weaker}
-use Rattle.sgf_tree.proofs.NodeEnds.{properties-join}
-use Rattle.sgf_tree.proofs.WrittenParts.{written-join}
+use Rattle.std.proofs.Common.{◌≡◌, ◌∙◌, sym, arith}
+use Rattle.std.proofs.lemmas.Result.{err_from_is_err_and}
+use Rattle.sgf_tree.proofs.NodeEnds.{node-name, properties-begin, properties-more, properties-done}
+use Rattle.sgf_tree.proofs.WrittenParts.{written-none, written-more}
 use Rattle.sgf_tree.proofs.reader.properties.read_properties.Goals as goal
 
-pub returns-then-ends_node-clause-read : goal.returns-then-ends_node-clause-read
-returns-then-ends_node-clause-read c =
-    let end = c.short_properties_end-end.result in
-    properties-join c.args.text.now c.args.at end end c.short_properties_end-end.ensures.passed (c.ends_node.ensures c.if-ends_node.true)
+pub properties-init : goal.properties-init
+properties-init c = record {
+  so_far = properties-begin c.args.text.now c.args.at c.skip_white_space-end.result c.skip_white_space-end.ensures;
+  written = λ is.
+      let same : c.skip_white_space-end.result ≡ c.args.at = omega (arith, is, c.skip_white_space-end.ensures.rises) in
+      rw same (written-none c.args.text.now c.args.at c.requires.within);
+  few = omega arith;
+  kept = c.requires.kept;
+}
 
-pub returns-clause-read : goal.returns-clause-read
-returns-clause-read c =
-    IfOk-weaker c.read_further_properties.result _ _ (λ read. properties-join c.args.text.now c.args.at _ read.end c.short_properties_end-end.ensures.passed) c.read_further_properties.ensures.read
+pub returns-in_err-property-clause-fault : goal.returns-in_err-property-clause-fault
+returns-in_err-property-clause-fault c =
+    let p = err_from_is_err_and c.from_residual.result c.from_residual.ensures.1 in
+    let capital = sym c.is_ascii_uppercase.ensures.value ∙ c.if-is_ascii_uppercase.true in
+    rw (p.1, p.2)
+    (λ n none h. c.in_err-property.ensures.fault _ (node-name c.args.text.now c.properties.end _ (c.properties.invariant.so_far.reached n none h).1 c.properties-test.true capital))
 
-pub returns-clause-written : goal.returns-clause-written
-returns-clause-written c =
-    IfOk-weaker c.read_further_properties.result _ _ (λ read left is. written-join c.args.text.now c.args.at _ read.end c.short_properties_end-end.ensures.written (left is)) c.read_further_properties.ensures.written
+pub properties-preserved : goal.properties-preserved
+properties-preserved c =
+    let capital = sym c.is_ascii_uppercase.ensures.value ∙ c.if-is_ascii_uppercase.true in
+    record {
+      so_far = properties-more c.args.text.now c.args.at c.properties.end c.in_ok-property.property.end c.properties.invariant.so_far c.properties-test.true capital c.in_ok-property.ensures.read.property;
+      written = λ is.
+          written-more c.args.text.now c.args.at c.properties.end c.in_ok-property.property.end (c.properties.invariant.written (omega (arith, is))) (c.in_ok-property.ensures.read.written (omega (arith, is)));
+      few = omega (arith, c.properties.invariant.few, c.in_ok-property.ensures.read.few);
+      kept = c.in_ok-property.ensures.kept;
+    }
 
-pub returns-clause-fault : goal.returns-clause-fault
-returns-clause-fault c =
-    IfErr-weaker c.read_further_properties.result _ _ (λ fault left n stands. left _ (c.short_properties_end-end.ensures.passed.reached n stands).1) c.read_further_properties.ensures.fault
+pub returns-else-is_ascii_uppercase-clause-read : goal.returns-else-is_ascii_uppercase-clause-read
+returns-else-is_ascii_uppercase-clause-read c =
+    properties-done c.args.text.now c.args.at c.properties.end c.properties.invariant.so_far (λ lt. sym c.is_ascii_uppercase.ensures.value ∙ c.if-is_ascii_uppercase.false)
+
+pub returns-after-properties-clause-read : goal.returns-after-properties-clause-read
+returns-after-properties-clause-read c =
+    properties-done c.args.text.now c.args.at c.properties.end c.properties.invariant.so_far (λ lt. absurd (omega (arith, c.properties-test.false)))
+
+pub overflow_add-left_out : goal.overflow_add-left_out
+overflow_add-left_out c = omega (arith, c.properties.invariant.few, c.in_ok-property.ensures.read.few, c.in_ok-property.ensures.read.property.within, c.requires.short)
