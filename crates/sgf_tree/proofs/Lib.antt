@@ -52,4 +52,5 @@ pub mod Iterating
 pub mod Taking
 pub mod WrittenParts
 pub mod LoneNodes
+pub mod ShortProperties
 pub mod Runs

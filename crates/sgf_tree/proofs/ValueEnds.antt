@@ -7,7 +7,7 @@ use Rattle.memchr.specs.Find.{IsFirstByte, is_byte}
 use Rattle.std.proofs.lemmas.List.{drop-drop, take_all}
 use Rattle.sgf_tree.specs.inner.Machine.{Started, MachineState, start, in_value, after_escape, next_state, run, accepted}
 use Rattle.sgf_tree.specs.Refusal.{IsFaultyAt}
-use Rattle.sgf_tree.specs.inner.Progress.{ComesTo, ArePlain, HasNoBracket, IsNextBracket, is_plain, IsUnended}
+use Rattle.sgf_tree.specs.inner.Progress.{ComesTo, ArePlain, HasNoBracket, IsNextBracket, is_plain}
 use Rattle.sgf_tree.proofs.Faults.{ended-fault, refused-fault}
 use Rattle.sgf_tree.proofs.Run.{run-take-step}
 use Rattle.sgf_tree.proofs.Spans.{run-plain, run-escape}
@@ -104,13 +104,18 @@ module _ (t : List ℕ) (at : ℕ) where
       rw (← span-join t at a (a + 2) le (omega arith))
       (run-escape t a n name before (slice_range t at a) lt e (units n name before h))
 
+  -- the fault of a value that doesn't end
+  abbrev EndsFaulty : Type 0
+  EndsFaulty =
+      (n : Started) (name : List ℕ) (before : List (List ℕ)) → ComesTo t at (in_value n name before []) → IsFaultyAt t (length t)
+
   -- the text ends in the value
-  pub units-end : AreUnits (length t) → IsUnended t at
+  pub units-end : AreUnits (length t) → EndsFaulty
   units-end units n name before h =
       ends-faulty t (in_value n name before (slice_range t at (length t))) (units n name before h) (value-unaccepted n name before (slice_range t at (length t)))
 
   -- or after a `\`
-  pub escape-end : (a : ℕ) → a + 1 ≡ length t → get_or t a 0 ≡ 92 → AreUnits a → IsUnended t at
+  pub escape-end : (a : ℕ) → a + 1 ≡ length t → get_or t a 0 ≡ 92 → AreUnits a → EndsFaulty
   escape-end a e f units n name before h =
       let so_far : List ℕ = slice_range t at a in
       let last : ComesTo t (a + 1) (after_escape n name before so_far) = run-take-step t a (in_value n name before so_far) (after_escape n name before so_far) (units n name before h) (omega arith) (rw f (step-escape a n name before so_far)) in

@@ -1,7 +1,7 @@
 -- Which `]` ends a raw value: the first one with an even number of `\` directly before it.
 use Rattle.std.proofs.Common.{◌≡◌, ◌≢◌, ℕ, zero, suc, ◌+◌, ◌-◌, ◌*◌, ◌/◌, ◌%◌, ◌<◌, ◌≤◌, ◌⊎◌, inl, inr, List, length, get_or, true, sym, ap, subst, ◌∙◌, arith}
 use Rattle.std.proofs.lemmas.Bool.{cases_eq}
-use Rattle.sgf_tree.specs.inner.Progress.{is_plain, ArePlain, HasNoBracket, IsBareBracket, AreBackslashesBefore, AreEscapes, SpellsValue, SpellsNoValue, IsUnended}
+use Rattle.sgf_tree.specs.inner.Progress.{is_plain, ArePlain, HasNoBracket, IsNextBracket, AreBackslashesBefore, AreEscapes, SpellsValue, IsValueEnd, IsUnended}
 use Rattle.sgf_tree.proofs.ValueEnds.{AreUnits, other-plain, units-none, units-plain, units-escape, units-end, escape-end}
 use Rattle.sgf_tree.proofs.ValueSpelled.{spelled-none, spelled-plain, spelled-escape, none-ended, none-cut}
 
@@ -117,24 +117,24 @@ module _ (t : List ℕ) (at : ℕ) where
         subst (AreValueUnits t at) f (escape-units last (omega arith) (run.escapes last (omega arith) (omega arith)) (run-pairs ((end - first) / 2) (omega arith)))
 
   -- the same where none stands there
-  pub bare-units : (end : ℕ) → IsBareBracket t at end → AreValueUnits t at end
-  bare-units end is =
-      let next = is.next in
+  pub bare-units : (end : ℕ) → IsNextBracket t at end → (at < end → get_or t (end - 1) 0 ≢ 92) → AreValueUnits t at end
+  bare-units end next bare =
       let inside : end < length t = next.within in
       even-units at end end (omega (arith, inside)) next.before
-      (record { low = next.rises; rises = omega arith; escapes = λ i low lt. absurd (omega arith); begins = is.bare }) no-units (omega arith)
+      (record { low = next.rises; rises = omega arith; escapes = λ i low lt. absurd (omega arith); begins = bare }) no-units (omega arith)
+
+  -- a `]` after whole units ends the value
+  pub units-ended : (end : ℕ) → AreValueUnits t at end → end < length t → get_or t end 0 ≡ 93 → IsValueEnd t at end
+  units-ended end units within bracket =
+      record { rises = units.rises; within = within; bracket = bracket; spelled = units.spelled; value = units.read }
 
   -- with no further `]` the value is unended
-  pub record IsEndless : Type 0 where
-    pub read : IsUnended t at
-    pub spelled : SpellsNoValue t at
-
-  pub endless : (start : ℕ) → start ≤ length t → HasNoBracket t start (length t) → AreValueUnits t at start → IsEndless
+  pub endless : (start : ℕ) → start ≤ length t → HasNoBracket t start (length t) → AreValueUnits t at start → IsUnended t at
   endless start le none units =
       elim (units-to (length t - start) start (length t) (omega arith) (omega arith) none units) [
-        | inl all ↦ record { read = units-end t at all.read; spelled = none-ended t at all.spelled }
+        | inl all ↦ record { spelled = none-ended t at all.spelled; fault = units-end t at all.read }
         | inr cut ↦ record {
-          read = escape-end t at cut.last cut.next cut.escape cut.before.read;
           spelled = none-cut t at cut.last cut.next cut.escape cut.before.spelled;
+          fault = escape-end t at cut.last cut.next cut.escape cut.before.read;
         }
       ]

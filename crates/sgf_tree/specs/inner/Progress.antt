@@ -50,11 +50,6 @@ pub record IsNextBracket (text : List ℕ) (at end : ℕ) : Type 0 where
   pub bracket : slice_index text end ≡ close_bracket
   pub before : HasNoBracket text at end
 
--- the same, and no `\` is just before it
-pub record IsBareBracket (text : List ℕ) (at end : ℕ) : Type 0 where
-  pub next : IsNextBracket text at end
-  pub bare : at < end → slice_index text (end - 1) ≢ backslash
-
 -- the bytes from `first` to `end` are the run of `\` just before `end`; bytes before `at` aren't counted
 pub record AreBackslashesBefore (text : List ℕ) (at first end : ℕ) : Type 0 where
   pub low : at ≤ first
@@ -69,17 +64,18 @@ pub record AreEscapes (text : List ℕ) (at end : ℕ) : Type 0 where
   pub bytes : end ≡ at + 2 * count
   pub each : (index : ℕ) → index < count → slice_index text (at + 2 * index) ≡ backslash
 
+-- the bytes from `at` to `end` are units of a value
+abbrev pub SpellsValue : List ℕ → ℕ → ℕ → Type 0
+SpellsValue text at end = IsValue (slice_range text at end) (drop at text) (drop end text)
+
 -- the raw value that begins at `at` ends at `end`, where its `]` is
 pub record IsValueEnd (text : List ℕ) (at end : ℕ) : Type 0 where
   pub rises : at ≤ end
   pub within : end < length text
   pub bracket : slice_index text end ≡ close_bracket
+  pub spelled : SpellsValue text at end
   pub value : (node : Started) (name : List ℕ) (before : List (List ℕ)) → ComesTo text at (in_value node name before [])
       → ComesTo text end (in_value node name before (slice_range text at end))
-
--- the bytes from `at` to `end` are units of a value
-abbrev pub SpellsValue : List ℕ → ℕ → ℕ → Type 0
-SpellsValue text at end = IsValue (slice_range text at end) (drop at text) (drop end text)
 
 -- two plain bytes and a `]`
 pub record IsTwoPlain (text : List ℕ) (at : ℕ) : Type 0 where
@@ -123,6 +119,6 @@ abbrev pub SpellsNoValue : List ℕ → ℕ → Type 0
 SpellsNoValue text at = (value rest : List ℕ) → ¬ IsValue value (drop at text) (close_bracket ∷ rest)
 
 -- a raw value that begins at `at` doesn't end in the text
-abbrev pub IsUnended : List ℕ → ℕ → Type 0
-IsUnended text at =
-    (node : Started) (name : List ℕ) (before : List (List ℕ)) → ComesTo text at (in_value node name before []) → IsFaultyAt text (length text)
+pub record IsUnended (text : List ℕ) (at : ℕ) : Type 0 where
+  pub spelled : SpellsNoValue text at
+  pub fault : (node : Started) (name : List ℕ) (before : List (List ℕ)) → ComesTo text at (in_value node name before []) → IsFaultyAt text (length text)

@@ -5,7 +5,9 @@ use Rattle.sgf_tree.specs.Tree.{Property}
 use Rattle.sgf_tree.specs.Spelling.{is_white_space}
 use Rattle.sgf_tree.specs.inner.Machine.{Started, MachineState, in_node, in_name, in_value, after_value, after_node, ended, next_state, accepted}
 use Rattle.sgf_tree.specs.inner.Progress.{ComesTo, IsTrueFault, IsBracket}
+use Rattle.sgf_tree.specs.inner.NodeText.{IsPropertyWritten}
 use Rattle.sgf_tree.specs.declared.reader.fault.PartFault.{PartFault}
+use Rattle.sgf_tree.specs.declared.reader.properties.PartRead.{PartRead}
 
 -- the byte at `end`, if there is one, is neither white space nor `[`
 abbrev pub StopsValues : List ℕ → ℕ → Type 0
@@ -33,6 +35,12 @@ pub record IsPropertyRead (text : List ℕ) (start end : ℕ) : Type 0 where
   pub stops : StopsValues text end
   pub reached : (node : Started) → ComesTo text (start + 1) (in_name node (slice_index text start ∷ []))
       → (property : Property) × ComesTo text end (after_value node property)
+
+-- the same, as the code tells it: how far it was read, and whether the sgf form writes it as it stands
+pub record IsWholePropertyRead (text : List ℕ) (start : ℕ) (read : PartRead) : Type 0 where
+  pub property : IsPropertyRead text start read.end
+  pub written : read.left_out ≡ 0 → IsPropertyWritten text start read.end
+  pub few : start + read.left_out ≤ read.end
 
 -- a node was read up to `end`; only what may come after a node may come next
 pub record StandsAfterNode (text : List ℕ) (end : ℕ) (whole : Started) : Type 0 where

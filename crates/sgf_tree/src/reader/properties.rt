@@ -1,29 +1,20 @@
 //! Reading the properties of a node.
 
-ghost use Rattle.std.specs.Prelude.{◌≡◌, ◌<◌, ◌≤◌, ◌+◌, length, slice_index, IsTrue, IfOk, IfErr, OnOk};
+ghost use Rattle.std.specs.Prelude.{◌≡◌, ◌<◌, ◌≤◌, ◌+◌, length, slice_index, IsTrue, IfSome, IfOk, IfErr, OnOk};
 ghost use Rattle.sgf_tree.specs.Spelling.{is_upper};
 ghost use Rattle.sgf_tree.specs.inner.Progress.{IsSpan};
-ghost use Rattle.sgf_tree.specs.inner.NodeText.{IsPropertyWritten, AreWritten};
-ghost use Rattle.sgf_tree.specs.inner.PropertiesRead.{IsNameRead, IsPropertyRead, ArePropertiesRead, IsFaultInProperty, IsFaultInNode};
+ghost use Rattle.sgf_tree.specs.inner.NodeText.{AreWritten};
+ghost use Rattle.sgf_tree.specs.inner.PropertiesRead.{IsNameRead, IsWholePropertyRead, ArePropertiesRead, IsFaultInProperty, IsFaultInNode};
 ghost use Rattle.sgf_tree.specs.inner.KeptEnds.{AreKeptEnds};
 
 use crate::fault::MAX_LENGTH;
 use crate::layout::LongValue;
 use crate::reader::fault::PartFault;
 use crate::reader::scan::{letters_end, short_name_end, skip_white_space};
-use crate::reader::value::read_value;
+use crate::reader::value::{near_value_end, read_value};
 
-/// Whether the byte at `at` ends the node before any property, as a `;` or a parenthesis does. This is tested
-/// before anything is called. If it is false, nothing is known.
-#[inline(always)]
-pub(crate) fn ends_at_once(text: &[u8], at: usize) -> bool
-    ensures { IsTrue result → ArePropertiesRead text.now at at }
-{
-    if at < text.len() && b' ' < text[at] && text[at] < b'A' {
-        return true;
-    }
-    false
-}
+/// A property of fewer bytes is read at a glance, if so many bytes are left.
+const SHORT: usize = 20;
 
 /// How far a part of a text was read.
 #[derive(Clone, Copy)]
@@ -35,7 +26,7 @@ pub(crate) struct PartRead {
 }
 
 /// Reads the properties of a node, which begin at `at` or after white space there.
-#[inline(never)]
+#[inline(always)]
 pub(crate) fn read_properties(
     text: &[u8],
     at: usize,
@@ -59,7 +50,8 @@ pub(crate) fn read_properties(
     Ok(PartRead { end, left_out })
 }
 
-/// Reads the property whose identifier begins at `start`, value after value.
+/// Reads the property whose identifier begins at `start`.
+#[inline(always)]
 fn read_property(
     text: &[u8],
     start: usize,
@@ -69,9 +61,53 @@ fn read_property(
     requires within { start < length text.now }
     requires capital { IsTrue (is_upper (slice_index text.now start)) }
     requires kept { AreKeptEnds text.now long.old.items }
-    ensures read { IfOk result (λ read. IsPropertyRead text.now start read.end) }
-    ensures written { IfOk result (λ read. read.left_out ≡ 0 → IsPropertyWritten text.now start read.end) }
-    ensures few { IfOk result (λ read. start + read.left_out ≤ read.end) }
+    ensures read { IfOk result (IsWholePropertyRead text.now start) }
+    ensures fault { IfErr result (IsFaultInProperty text.now start) }
+    ensures kept { OnOk result (AreKeptEnds text.now long.new.items) }
+{
+    match read_short_property(text, start) {
+        Some(read) => Ok(read),
+        None => read_far_property(text, start, long),
+    }
+}
+
+/// Reads the property whose identifier begins at `start` at a glance, if it has a name of one or two letters
+/// and one short value. Nearly all properties are like that. If it is None, nothing is known.
+#[inline(always)]
+fn read_short_property(text: &[u8], start: usize) -> Option<PartRead>
+    requires within { start < length text.now }
+    requires capital { IsTrue (is_upper (slice_index text.now start)) }
+    ensures { IfSome result (IsWholePropertyRead text.now start) }
+{
+    if text.len() - start < SHORT {
+        return None;
+    }
+    let bracket = short_name_end(text, start)?;
+    let close = near_value_end(text, bracket + 1)?;
+    let end = close + 1;
+    let next = skip_white_space(text, end);
+    if next < text.len() && text[next] != b'[' {
+        Some(PartRead {
+            end: next,
+            left_out: next - end,
+        })
+    } else {
+        None
+    }
+}
+
+/// Reads the property whose identifier begins at `start`, value after value.
+#[inline(never)]
+fn read_far_property(
+    text: &[u8],
+    start: usize,
+    long: &mut Vec<LongValue>,
+) -> Result<PartRead, PartFault>
+    requires short { length text.now ≤ MAX_LENGTH }
+    requires within { start < length text.now }
+    requires capital { IsTrue (is_upper (slice_index text.now start)) }
+    requires kept { AreKeptEnds text.now long.old.items }
+    ensures read { IfOk result (IsWholePropertyRead text.now start) }
     ensures fault { IfErr result (IsFaultInProperty text.now start) }
     ensures kept { OnOk result (AreKeptEnds text.now long.new.items) }
 {

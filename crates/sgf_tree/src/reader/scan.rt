@@ -1,6 +1,6 @@
 //! Where spans of a text end.
 
-ghost use Rattle.std.specs.Prelude.{◌≡◌, ◌≤◌, ◌<◌, length, drop, slice_index, slice_range, IsTrue, IfSome};
+ghost use Rattle.std.specs.Prelude.{◌≡◌, ◌≤◌, ◌<◌, ◌+◌, length, drop, slice_index, slice_range, IsTrue, IfSome};
 ghost use Rattle.sgf_tree.specs.Spelling.{is_white_space, is_upper};
 ghost use Rattle.sgf_tree.specs.inner.NodeText.{is_letter};
 ghost use Rattle.sgf_tree.specs.inner.Progress.{IsSpan, IsBracket, IsNodeEnd, IsPropertyEnd, IsShortFront, IsLoneNode, IsLoneFront};
@@ -76,6 +76,7 @@ pub(crate) fn short_name_end(text: &[u8], at: usize) -> Option<usize>
     ensures letters { IfSome result (IsSpan is_letter text.now at) }
     ensures capitals { IfSome result (IsSpan is_upper text.now at) }
     ensures bracket { IfSome result (IsBracket text.now) }
+    ensures near { IfSome result (λ end. end ≤ at + 2) }
 {
     if text.len() - at > 2 {
         if text[at + 1] == b'[' {

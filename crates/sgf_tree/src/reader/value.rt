@@ -1,8 +1,8 @@
 //! Where raw values end: at the first `]` that no `\` escapes. Nothing else in the crate says what ends a value.
 //! The end of a long value is searched for once, when the value is read. Its length is then kept for later steps over it.
 
-ghost use Rattle.std.specs.Prelude.{◌≡◌, ◌≤◌, ◌+◌, length, IsTrue, IfSome, IfOk, IfErr, OnOk, MatchOption};
-ghost use Rattle.sgf_tree.specs.inner.Progress.{IsValueEnd, IsUnended, SpellsValue, SpellsNoValue, HasNoBracket, IsNextBracket, IsBareBracket, AreBackslashesBefore, AreEscapes, IsTwoPlain};
+ghost use Rattle.std.specs.Prelude.{◌≡◌, ◌<◌, ◌≤◌, ◌+◌, length, IsTrue, IfSome, IfOk, IfErr, OnOk, MatchOption};
+ghost use Rattle.sgf_tree.specs.inner.Progress.{IsValueEnd, IsUnended, SpellsNoValue, HasNoBracket, IsNextBracket, AreBackslashesBefore, AreEscapes, IsTwoPlain};
 ghost use Rattle.sgf_tree.specs.inner.PropertiesRead.{IsFaultInValue};
 ghost use Rattle.sgf_tree.specs.inner.KeptEnds.{IsRawValueAt, AreKeptEnds};
 
@@ -30,7 +30,6 @@ pub(crate) fn read_value(
     requires within { at ≤ length text.now }
     requires kept { AreKeptEnds text.now long.old.items }
     ensures read { IfOk result (IsValueEnd text.now at) }
-    ensures spelled { IfOk result (SpellsValue text.now at) }
     ensures fault { IfErr result (IsFaultInValue text.now at) }
     ensures kept { OnOk result (AreKeptEnds text.now long.new.items) }
 {
@@ -47,7 +46,6 @@ fn read_far_value(text: &[u8], at: usize, long: &mut Vec<LongValue>) -> Result<u
     requires within { at ≤ length text.now }
     requires kept { AreKeptEnds text.now long.old.items }
     ensures read { IfOk result (IsValueEnd text.now at) }
-    ensures spelled { IfOk result (SpellsValue text.now at) }
     ensures fault { IfErr result (IsFaultInValue text.now at) }
     ensures kept { OnOk result (AreKeptEnds text.now long.new.items) }
 {
@@ -122,43 +120,40 @@ fn kept_end(text: &[u8], at: usize, long: &[LongValue]) -> Option<usize>
 #[inline(always)]
 fn short_value_end(text: &[u8], at: usize) -> Option<usize>
     requires { at ≤ length text.now }
-    ensures read { IfSome result (IsValueEnd text.now at) }
-    ensures spelled { IfSome result (SpellsValue text.now at) }
-{
-    if is_two_plain(text, at) {
-        return Some(at + 2);
-    }
-    let near = near_value_end(text, at)?;
-    Some(near)
-}
-
-/// Whether the raw value at `at` is two bytes that stand for themselves, as in a point.
-pub(crate) fn is_two_plain(text: &[u8], at: usize) -> bool
-    requires { at ≤ length text.now }
-    ensures { IsTrue result → IsTwoPlain text.now at }
-{
-    text.len() - at > 2
-        && text[at + 2] == b']'
-        && text[at] != b']'
-        && text[at] != b'\\'
-        && text[at + 1] != b']'
-        && text[at + 1] != b'\\'
-}
-
-/// The offset of the `]` that ends the raw value at `at`, if it is the first `]`
-/// among the `NEAR` bytes there. If it is None, nothing is known.
-fn near_value_end(text: &[u8], at: usize) -> Option<usize>
-    requires { at ≤ length text.now }
-    ensures { IfSome result (IsBareBracket text.now at) }
+    ensures { IfSome result (IsValueEnd text.now at) }
 {
     if text.len() - at < NEAR {
         return None;
+    }
+    near_value_end(text, at)
+}
+
+/// The same, where at least `NEAR` bytes are left.
+#[inline(always)]
+pub(crate) fn near_value_end(text: &[u8], at: usize) -> Option<usize>
+    requires { at + NEAR ≤ length text.now }
+    ensures { IfSome result (IsValueEnd text.now at) }
+{
+    if is_two_plain(text, at) {
+        return Some(at + 2);
     }
     let bracket = near_bracket(text, at)?;
     if bracket != at && text[bracket - 1] == b'\\' {
         return None;
     }
     Some(bracket)
+}
+
+/// Whether the raw value at `at` is two bytes that stand for themselves, as in a point.
+pub(crate) fn is_two_plain(text: &[u8], at: usize) -> bool
+    requires { at + 2 < length text.now }
+    ensures { IsTrue result → IsTwoPlain text.now at }
+{
+    text[at + 2] == b']'
+        && text[at] != b']'
+        && text[at] != b'\\'
+        && text[at + 1] != b']'
+        && text[at + 1] != b'\\'
 }
 
 /// The first `]` among the `NEAR` bytes at `at`, all compared at once.
@@ -183,8 +178,7 @@ fn near_bracket(text: &[u8], at: usize) -> Option<usize>
 #[inline(never)]
 fn far_value_end(text: &[u8], at: usize) -> Option<usize>
     requires { at ≤ length text.now }
-    ensures read { MatchOption result (IsUnended text.now at) (λ end. IsValueEnd text.now at end) }
-    ensures spelled { MatchOption result (SpellsNoValue text.now at) (λ end. SpellsValue text.now at end) }
+    ensures { MatchOption result (IsUnended text.now at) (λ end. IsValueEnd text.now at end) }
 {
     let mut start = at;
     'brackets: while let Some(bracket) = far_bracket(text, start) {

@@ -1,9 +1,7 @@
-use Rattle.std.proofs.Common.{◌≡◌, ◌<◌, ◌≤◌, ◌++◌, ◌∷◌, [], length, get_or, slice_range, Some, refl, sym, ap, subst, ◌∙◌, arith}
-use Rattle.std.proofs.lemmas.List.{get_or_default}
-use Rattle.sgf_tree.specs.Tree.{Node, node_count}
+use Rattle.std.proofs.Common.{◌≡◌, ◌<◌, ◌++◌, slice_range, Some, refl, ap, ◌∙◌, arith}
+use Rattle.sgf_tree.specs.Tree.{Node}
 use Rattle.sgf_tree.specs.FileOrder.{node_at}
 use Rattle.sgf_tree.specs.Written.{node_text}
-use Rattle.sgf_tree.specs.inner.NodeText.{ArePushed}
 use Rattle.sgf_tree.proofs.Held.{count-held, entry-held, inside-held, beside-held}
 use Rattle.sgf_tree.proofs.Runs.{run-none, run-more, run-done}
 use Rattle.sgf_tree.proofs.collection.Collection.push_run.Goals as goal

@@ -1,4 +1,3 @@
-use Rattle.std.proofs.Common.{arith}
 use Rattle.sgf_tree.proofs.NameEnds.{name-read, bracket-here}
 use Rattle.sgf_tree.proofs.reader.properties.read_name.Goals as goal
 

@@ -25,10 +25,10 @@ pub properties-preserved : goal.properties-preserved
 properties-preserved c =
     let capital = sym c.is_ascii_uppercase.ensures.value ∙ c.if-is_ascii_uppercase.true in
     record {
-      so_far = properties-more c.args.text.now c.args.at c.properties.end c.in_ok-property.property.end c.properties.invariant.so_far c.properties-test.true capital c.in_ok-property.ensures.read;
+      so_far = properties-more c.args.text.now c.args.at c.properties.end c.in_ok-property.property.end c.properties.invariant.so_far c.properties-test.true capital c.in_ok-property.ensures.read.property;
       written = λ is.
-          written-more c.args.text.now c.args.at c.properties.end c.in_ok-property.property.end (c.properties.invariant.written (omega (arith, is))) (c.in_ok-property.ensures.written (omega (arith, is)));
-      few = omega (arith, c.properties.invariant.few, c.in_ok-property.ensures.few);
+          written-more c.args.text.now c.args.at c.properties.end c.in_ok-property.property.end (c.properties.invariant.written (omega (arith, is))) (c.in_ok-property.ensures.read.written (omega (arith, is)));
+      few = omega (arith, c.properties.invariant.few, c.in_ok-property.ensures.read.few);
       kept = c.in_ok-property.ensures.kept;
     }
 
@@ -41,4 +41,4 @@ returns-after-properties-clause-read c =
     properties-done c.args.text.now c.args.at c.properties.end c.properties.invariant.so_far (λ lt. absurd (omega (arith, c.properties-test.false)))
 
 pub overflow_add-left_out : goal.overflow_add-left_out
-overflow_add-left_out c = omega (arith, c.properties.invariant.few, c.in_ok-property.ensures.few, c.in_ok-property.ensures.read.within, c.requires.short)
+overflow_add-left_out c = omega (arith, c.properties.invariant.few, c.in_ok-property.ensures.read.few, c.in_ok-property.ensures.read.property.within, c.requires.short)

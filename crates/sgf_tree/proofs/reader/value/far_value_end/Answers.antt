@@ -1,5 +1,5 @@
 use Rattle.std.proofs.Common.{◌+◌, ◌<◌, length, arith}
-use Rattle.sgf_tree.proofs.ValueUnits.{no-units, even-units, odd-units, escapes-units, endless}
+use Rattle.sgf_tree.proofs.ValueUnits.{no-units, even-units, odd-units, escapes-units, units-ended, endless}
 use Rattle.sgf_tree.proofs.reader.value.far_value_end.Goals as goal
 
 pub brackets-init : goal.brackets-init
@@ -10,12 +10,9 @@ returns-then-escapes-eq0 c =
     let t = c.args.text.now in
     let next = c.in-Some.ensures in
     let inside : c.in-Some.bracket < length t = next.within in
-    let units =
-    even-units t c.args.at c.brackets.start c.first_escape.result c.in-Some.bracket (omega (arith, inside)) next.before c.first_escape.ensures c.brackets.invariant.units c.if-escapes-eq0.true in
-    record {
-      read = record { rises = units.rises; within = inside; bracket = next.bracket; value = units.read };
-      spelled = units.spelled;
-    }
+    units-ended t c.args.at c.in-Some.bracket
+    (even-units t c.args.at c.brackets.start c.first_escape.result c.in-Some.bracket (omega (arith, inside)) next.before c.first_escape.ensures c.brackets.invariant.units c.if-escapes-eq0.true)
+    inside next.bracket
 
 pub brackets-preserved : goal.brackets-preserved
 brackets-preserved c =
@@ -30,5 +27,4 @@ brackets-preserved c =
 
 pub returns : goal.returns
 returns c =
-    let none = endless c.args.text.now c.args.at c.brackets.start c.brackets.invariant.within c.in_default.ensures c.brackets.invariant.units in
-    record { read = none.read; spelled = none.spelled }
+    endless c.args.text.now c.args.at c.brackets.start c.brackets.invariant.within c.in_default.ensures c.brackets.invariant.units

@@ -4,7 +4,7 @@ use Rattle.sgf_tree.specs.inner.KeptEnds.{AreKeptEnds}
 use Rattle.sgf_tree.specs.inner.NodeText.{AreValuesWritten}
 use Rattle.sgf_tree.specs.inner.Progress.{IsSpan, IsBracket}
 use Rattle.sgf_tree.proofs.ValuesRead.{ValuesSoFar}
-use Rattle.sgf_tree.proofs.reader.properties.read_property.Given as goal
+use Rattle.sgf_tree.proofs.reader.properties.read_far_property.Given as goal
 
 abbrev pub invariant-values : goal.invariant-values
 invariant-values l = record {

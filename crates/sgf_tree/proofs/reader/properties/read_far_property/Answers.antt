@@ -5,8 +5,8 @@ use Rattle.sgf_tree.specs.inner.NodeText.{AreValuesWritten}
 use Rattle.sgf_tree.specs.inner.Progress.{IsSpan}
 use Rattle.sgf_tree.proofs.ValuesRead.{ValuesBefore, values-begin, values-step, values-more, values-done}
 use Rattle.sgf_tree.proofs.WrittenParts.{values-none, values-one, property-one, span-done}
-use Rattle.sgf_tree.proofs.reader.properties.read_property.Goals as goal
-use Rattle.sgf_tree.proofs.reader.properties.read_property.Goals.{After-skip_white_space-at, then-at-text-via-then-at-text, then-at-text-via-else-at-text+then-text-at-ne91}
+use Rattle.sgf_tree.proofs.reader.properties.read_far_property.Goals as goal
+use Rattle.sgf_tree.proofs.reader.properties.read_far_property.Goals.{After-skip_white_space-at, then-at-text-via-then-at-text, then-at-text-via-else-at-text+then-text-at-ne91}
 
 pub values-init : goal.values-init
 values-init c =
@@ -33,16 +33,13 @@ written c is =
     let same : c.skip_white_space-at.result ≡ c.in_ok-end.field-0 + 1 = omega (arith, is, c.skip_white_space-at.ensures.rises) in
     let stands = c.values.invariant.stands in
     let value = c.in_ok-end.ensures.read in
-    (before.0, rw same (values-one c.args.text.now c.in_ok-name.name.end c.values.at c.in_ok-end.field-0 before.1 stands.within stands.bracket value.rises value.within value.bracket c.in_ok-end.ensures.spelled))
+    (before.0, rw same (values-one c.args.text.now c.in_ok-name.name.end c.values.at c.in_ok-end.field-0 before.1 stands.within stands.bracket value.rises value.within value.bracket c.in_ok-end.ensures.read.spelled))
 
 few : (c : After-skip_white_space-at) → let at = c.skip_white_space-at.result in c.args.start + (c.values.left_out + (at - (c.in_ok-end.field-0 + 1))) ≤ at
 few c = omega (arith, c.values.invariant.few, c.in_ok-end.ensures.read.rises, c.skip_white_space-at.ensures.rises)
 
 pub overflow_add-left_out : goal.overflow_add-left_out
 overflow_add-left_out c = omega (arith, few (goal.at.overflow_add-left_out c).After-skip_white_space-at, c.skip_white_space-at.ensures.within, c.requires.short)
-
-pub returns-then-at-text-clause-few : goal.returns-then-at-text-clause-few
-returns-then-at-text-clause-few c = few (goal.at.returns-then-at-text-clause-few c).After-skip_white_space-at
 
 pub returns-in_err-end-clause-fault : goal.returns-in_err-end-clause-fault
 returns-in_err-end-clause-fault c =
@@ -58,30 +55,24 @@ returns-then-at-text-clause-read c =
     let at = c.skip_white_space-at.result in
     let t = c.args.text.now in
     let name = c.in_ok-name.ensures.read in
+    let step = (goal.at.returns-then-at-text-clause-read c).After-skip_white_space-at in
     let other : at < length t → get_or t at 0 ≢ 91 = elim c.then-at-text.branch [
       | then-at-text-via-then-at-text w ↦ λ lt. absurd (omega (arith, w.if-at-text.true))
       | then-at-text-via-else-at-text+then-text-at-ne91 w ↦ λ _. w.if-text-at-ne91.true
     ] in
-    let values = values-done t c.in_ok-name.name.end at (read (goal.at.returns-then-at-text-clause-read c).After-skip_white_space-at) other in
+    let values = values-done t c.in_ok-name.name.end at (read step) other in
     record {
-      rises = omega (arith, values.rises, name.rises);
-      within = values.within;
-      stops = values.stops;
-      reached = λ n h. let after = name.reached n h in values.reached n after.0 after.1;
+      property = record {
+        rises = omega (arith, values.rises, name.rises);
+        within = values.within;
+        stops = values.stops;
+        reached = λ n h. let after = name.reached n h in values.reached n after.0 after.1;
+      };
+      written = λ is.
+          let both = written step is in
+          property-one t c.args.start c.in_ok-name.name.end at at both.0 both.1 (λ e. omega (arith, name.rises)) (λ e. omega (arith, values.rises)) (span-done c.skip_white_space-at.ensures) other;
+      few = few step;
     }
-
-pub returns-then-at-text-clause-written : goal.returns-then-at-text-clause-written
-returns-then-at-text-clause-written c is =
-    let at = c.skip_white_space-at.result in
-    let t = c.args.text.now in
-    let other : at < length t → get_or t at 0 ≢ 91 = elim c.then-at-text.branch [
-      | then-at-text-via-then-at-text w ↦ λ lt. absurd (omega (arith, w.if-at-text.true))
-      | then-at-text-via-else-at-text+then-text-at-ne91 w ↦ λ _. w.if-text-at-ne91.true
-    ] in
-    let name = c.in_ok-name.ensures.read in
-    let values = read (goal.at.returns-then-at-text-clause-written c).After-skip_white_space-at in
-    let both = written (goal.at.returns-then-at-text-clause-written c).After-skip_white_space-at is in
-    property-one t c.args.start c.in_ok-name.name.end at at both.0 both.1 (λ e. omega (arith, name.rises)) (λ e. omega (arith, values.rises)) (span-done c.skip_white_space-at.ensures) other
 
 pub values-preserved : goal.values-preserved
 values-preserved c =
