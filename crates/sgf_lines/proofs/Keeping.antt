@@ -62,7 +62,7 @@ module _ (old nodes : List Node) (count : ℕ) (some : 0 < count) (within : coun
   keeps sgf_form run h = rw h (record_back old count ∙ ap (λ ns. open_record ns) same)
   keeps gtp_form run h = (
     judged_same run.judge.judgement h.0,
-    ap (script_back count) (h.1 ∙ ap (λ ns. script_ended (script_of (game_kind (root_properties old)) ns)) whole) ∙ script_cut (game_kind (root_properties old)) old count
+    ap (script_back count) (h.1 ∙ ap (λ ns. script_ended (script_of (game_kind (root_properties old)) ns)) whole) ∙ script_cut (game_kind (root_properties old)) old count within
         ∙ ap (script_of (game_kind (root_properties old))) same ∙ ap (λ k. script_of k (take count nodes)) kinds,
   )
 

@@ -165,10 +165,10 @@ script_put not_go nodes = refl
 script_put bad_size nodes = refl
 script_put (board side) nodes = along_text side (walk side nodes)
 
-pub script_cut : (kind : GameKind) (nodes : List Node) (n : ℕ) → script_back n (script_ended (script_of kind nodes)) ≡ script_of kind (take n nodes)
-script_cut not_go nodes n = no_script_back n
-script_cut bad_size nodes n = no_script_back n
-script_cut (board side) nodes n = along_back side n (walk side nodes).taken ∙ ap (script_along side) (sym (taken_cut side nodes n))
+pub script_cut : (kind : GameKind) (nodes : List Node) (n : ℕ) → n ≤ length nodes → script_back n (script_ended (script_of kind nodes)) ≡ script_of kind (take n nodes)
+script_cut not_go nodes n le = no_script_back n
+script_cut bad_size nodes n le = no_script_back n
+script_cut (board side) nodes n le = along_back side n (walk side nodes).taken ∙ ap (script_along side) (sym (taken_cut side nodes n le))
 
 pub script_more : (kind : GameKind) (nodes : List Node) (n : Node) → said_after (script_of kind nodes) (judging kind nodes) n ≡ script_of kind (nodes ++ n ∷ [])
 script_more not_go nodes n = ap (λ j. said_after no_script j n) (unjudged_stays NotGo nodes)

@@ -1,5 +1,5 @@
 -- The pieces are as they were, and the nodes are pieces after them.
-use Rattle.std.proofs.Common.{◌≡◌, ◌++◌, List, [], length, map, drop, sym, ap, ◌∙◌}
+use Rattle.std.proofs.Common.{◌≡◌, ◌++◌, [], map, drop, sym, ap, ◌∙◌}
 use Rattle.std.specs.List.{concat}
 use Rattle.sgf_lines.specs.Record.{node_text}
 use Rattle.sgf_lines.specs.inner.Following.{nodes_before}
