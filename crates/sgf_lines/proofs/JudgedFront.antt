@@ -22,7 +22,7 @@ abbrev more_judged : Walk → List Node → ℕ
 more_judged w [] = 0
 more_judged w (n ∷ ns) = one_if w.illegal (more_judged (next w n) ns)
 
-one_judged : (w : Walk) (n : Node) → w.illegal ≡ None → judged_by (next w n) ≡ judged_by w ++ n ∷ []
+pub one_judged : (w : Walk) (n : Node) → w.illegal ≡ None → judged_by (next w n) ≡ judged_by w ++ n ∷ []
 one_judged w n none = rw none (by (step w.state n))
   where
     by : (r : Result State Reason) → judged_by (stepped w n r) ≡ (map (λ (p : TakenNode). p.node) w.taken ++ []) ++ n ∷ []
@@ -62,7 +62,7 @@ judged_front bad_size nodes = (0, refl)
 judged_front (board side) nodes = (more_judged (before_root side) nodes, judged_fold (before_root side) nodes)
 
 -- and which of a front they are is seen in it
-judged_of_front : (said : GameKind) (nodes : List Node) (k : ℕ) → take k (judged_on said nodes) ≡ judged_on said (take k nodes)
+pub judged_of_front : (said : GameKind) (nodes : List Node) (k : ℕ) → take k (judged_on said nodes) ≡ judged_on said (take k nodes)
 judged_of_front not_go nodes zero = refl
 judged_of_front not_go nodes (suc k) = refl
 judged_of_front bad_size nodes zero = refl

@@ -1,130 +1,55 @@
 -- How many nodes are judged of a front of a line, and of the whole.
-use Rattle.std.proofs.Common.{◌≡◌, ℕ, ◌+◌, ◌-◌, ◌≤◌, List, [], ◌∷◌, length, take, drop, slice_get, Option, Some, None, Result, Ok, Err, OnOk, refl, sym, ap, ◌∙◌, arith}
-use Rattle.std.specs.Prelude.{fold}
+use Rattle.std.proofs.Common.{◌≡◌, ℕ, ◌+◌, ◌-◌, ◌≤◌, List, length, min, take, slice_get, Some, Result, Ok, Err, OnOk, sym, ap, ◌∙◌, arith}
 use Rattle.std.specs.Result.{IsErr}
-use Rattle.std.proofs.lemmas.List.{take_all, take-append-drop, length-take-le}
-use Rattle.std.proofs.lemmas.List.Sums.{fold-append}
+use Rattle.std.proofs.lemmas.List.{take_all, length-take}
 use Rattle.sgf_tree.specs.Tree.{Node}
-use Rattle.sgf_lines.specs.Walk.{IllegalNode, Walk, before_root, next_by, next, walk, judged_by}
-use Rattle.sgf_lines.specs.JudgedGames.{GameKind, not_go, bad_size, board, game_kind, root_properties}
+use Rattle.sgf_lines.specs.JudgedGames.{game_kind, root_properties}
 use Rattle.sgf_lines.specs.Verdict.{judged_on}
-use Rattle.sgf_lines.specs.inner.Judging.{Judgement, unjudged, judged, Judging, judging, after, next_plays}
+use Rattle.sgf_lines.specs.inner.Judging.{Judging, judging, after, next_plays}
 use Rattle.sgf_lines.specs.inner.Keeping.{judging_front, fresh_plays, PlaysUpTo}
-use Rattle.sgf_lines.proofs.Walking.{after_illegal}
 use Rattle.sgf_lines.proofs.Lists.{front_more}
-use Rattle.sgf_lines.proofs.Judgements.{one_judged, judging_more, plays_more}
+use Rattle.sgf_lines.proofs.JudgedFront.{judged_of_front}
+use Rattle.sgf_lines.proofs.Judgements.{judging_more, plays_more, one_at_most}
 
-abbrev judged_count : ℕ → List Node → ℕ
-judged_count side nodes = length (judged_by (walk side nodes))
+-- how many nodes of a line are judged
+abbrev judged_count : List Node → ℕ
+judged_count nodes = length (judged_on (game_kind (root_properties nodes)) nodes)
 
--- as many where there was an illegal node before
-none_judged : (w : Walk) (n : Node) (f : IllegalNode) → w.illegal ≡ Some f → next w n ≡ w
-none_judged w n f some = ap (λ o. next_by w o n) some
+front_count : (nodes : List Node) (k : ℕ) → length (judged_on (game_kind (root_properties nodes)) (take k nodes)) ≡ min k (judged_count nodes)
+front_count nodes k =
+    let kind = game_kind (root_properties nodes) in ap length (sym (judged_of_front kind nodes k)) ∙ length-take k (judged_on kind nodes)
 
-not_fewer_by : (w : Walk) (n : Node) (o : Option IllegalNode) → w.illegal ≡ o → length (judged_by w) ≤ length (judged_by (next w n))
-not_fewer_by w n None e = omega (arith, one_judged w n e)
-not_fewer_by w n (Some f) e = omega (arith, ap (λ v. length (judged_by v)) (none_judged w n f e))
-
-not_fewer : (w : Walk) (ns : List Node) → length (judged_by w) ≤ length (judged_by (fold next w ns))
-not_fewer w [] = omega arith
-not_fewer w (n ∷ ns) = omega (arith, not_fewer_by w n w.illegal refl, not_fewer (next w n) ns)
-
--- where the walk met no illegal node all nodes are judged
-all_judged_places : (w : Walk) (ns : List Node) → w.illegal ≡ None → (fold next w ns).illegal ≡ None → length (judged_by (fold next w ns)) ≡ length (judged_by w) + length ns
-all_judged_places w [] none end = omega arith
-all_judged_places w (n ∷ ns) none end = by (next w n).illegal refl (λ e. all_judged_places (next w n) ns e end)
-  where
-    by : (o : Option IllegalNode) → (next w n).illegal ≡ o → ((next w n).illegal ≡ None → length (judged_by (fold next (next w n) ns)) ≡ length (judged_by (next w n)) + length ns)
-        → length (judged_by (fold next w (n ∷ ns))) ≡ length (judged_by w) + length (n ∷ ns)
-    by None e later = omega (arith, one_judged w n none, later e)
-    by (Some f) e later = let bad : None ≡ Some f = sym end ∙ ap (λ (v : Walk). v.illegal) (after_illegal (next w n) f ns e) ∙ e in absurd cc
-
--- no more than there are
-pub within : (w : Walk) (ns : List Node) → length (judged_by (fold next w ns)) ≤ length (judged_by w) + length ns
-within w [] = omega arith
-within w (n ∷ ns) = omega (arith, one_more w.illegal refl, within (next w n) ns)
-  where
-    one_more : (o : Option IllegalNode) → w.illegal ≡ o → length (judged_by (next w n)) ≤ length (judged_by w) + 1
-    one_more None e = omega (arith, one_judged w n e)
-    one_more (Some f) e = omega (arith, ap (λ v. length (judged_by v)) (none_judged w n f e))
-
--- a front of nodes has no more judged ones
-pub fewer_before : (side : ℕ) (nodes : List Node) (k : ℕ) → judged_count side (take k nodes) ≤ judged_count side nodes
-fewer_before side nodes k =
-    let whole : walk side nodes ≡ fold next (walk side (take k nodes)) (drop k nodes) =
-    ap (fold next (before_root side)) (sym (take-append-drop k nodes)) ∙ fold-append next (before_root side) (take k nodes) (drop k nodes) in
-    omega (arith, ap (λ w. length (judged_by w)) whole, not_fewer (walk side (take k nodes)) (drop k nodes))
-
--- of those after the first k as many are judged as are judged in all, less k
-pub judged_after : (side : ℕ) (nodes : List Node) (k : ℕ) → k ≤ length nodes → judged_count side nodes - k ≡ judged_count side nodes - judged_count side (take k nodes)
-judged_after side nodes k le = by (walk side (take k nodes)).illegal refl
-  where
-    front : Walk
-    front = walk side (take k nodes)
-
-    whole : walk side nodes ≡ fold next front (drop k nodes)
-    whole = ap (fold next (before_root side)) (sym (take-append-drop k nodes)) ∙ fold-append next (before_root side) (take k nodes) (drop k nodes)
-
-    by : (o : Option IllegalNode) → front.illegal ≡ o → judged_count side nodes - k ≡ judged_count side nodes - judged_count side (take k nodes)
-    by None e =
-        let all : judged_count side (take k nodes) ≡ k = omega (arith, all_judged_places (before_root side) (take k nodes) refl e, length-take-le k nodes le) in
-        ap (λ j. judged_count side nodes - j) (sym all)
-    by (Some f) e =
-        let same : judged_count side nodes ≡ judged_count side (take k nodes) = ap (λ v. length (judged_by v)) (whole ∙ after_illegal front f (drop k nodes) e) in
-        omega (arith, same, within (before_root side) (take k nodes), length-take-le k nodes le)
-
--- the same of a game whose root says this
-pub fewer_in_front : (kind : GameKind) (nodes : List Node) (k : ℕ) → length (judged_on kind (take k nodes)) ≤ length (judged_on kind nodes)
-fewer_in_front not_go nodes k = omega arith
-fewer_in_front bad_size nodes k = omega arith
-fewer_in_front (board side) nodes k = fewer_before side nodes k
-
-pub fresh_after : (kind : GameKind) (nodes : List Node) (k : ℕ) → k ≤ length nodes → length (judged_on kind nodes) - k ≡ length (judged_on kind nodes) - length (judged_on kind (take k nodes))
-fresh_after not_go nodes k le = omega arith
-fresh_after bad_size nodes k le = omega arith
-fresh_after (board side) nodes k le = judged_after side nodes k le
-
-one_at_most : (j : Judgement) → next_plays j ≤ 1
-one_at_most (unjudged told) = omega arith
-one_at_most (judged states (Some told)) = omega arith
-one_at_most (judged states None) = omega arith
-
--- a judge stands after the first `i` nodes of a line, and plays went from `old` by those after the first `held`
+-- a judge stands after the first `i` nodes of a line, and plays went from `old` by those of them after the first `held`
 pub record JudgesTo (nodes : List Node) (held old i : ℕ) (judge : Judging) : Type 0 where
   pub judged : judge.judgement ≡ judging_front nodes i
-  pub plays : judge.plays + length (judged_on (game_kind (root_properties nodes)) (take held nodes)) ≡ old + length (judged_on (game_kind (root_properties nodes)) (take i nodes))
-  pub not_fewer : old ≤ judge.plays
+  pub plays : judge.plays ≡ old + (min i (judged_count nodes) - held)
   pub few : judge.plays + held ≤ old + i
 
 pub judges_begun : (nodes : List Node) (held old : ℕ) (judge : Judging) → judge.judgement ≡ judging_front nodes held → judge.plays ≡ old → JudgesTo nodes held old held judge
-judges_begun nodes held old judge is plays = record { judged = is; plays = omega (arith, plays); not_fewer = omega (arith, plays); few = omega (arith, plays) }
+judges_begun nodes held old judge is plays = record { judged = is; plays = omega (arith, plays); few = omega (arith, plays) }
 
 module _ (nodes : List Node) (held old i : ℕ) (judge : Judging) (h : JudgesTo nodes held old i judge) (le : held ≤ i) (n : Node) (at : slice_get nodes i ≡ Some n) where
-  pub judging_next : after judge.judgement n ≡ judging_front nodes (i + 1)
+  judging_next : after judge.judgement n ≡ judging_front nodes (i + 1)
   judging_next =
       ap (λ j. after j n) h.judged ∙ sym (judging_more (game_kind (root_properties nodes)) (take i nodes) n) ∙ ap (judging (game_kind (root_properties nodes))) (sym (front_more nodes i n at))
 
-  plays_next : length (judged_on (game_kind (root_properties nodes)) (take (i + 1) nodes)) ≡ length (judged_on (game_kind (root_properties nodes)) (take i nodes)) + next_plays judge.judgement
+  plays_next : min (i + 1) (judged_count nodes) ≡ min i (judged_count nodes) + next_plays judge.judgement
   plays_next =
-      ap (λ ns. length (judged_on (game_kind (root_properties nodes)) ns)) (front_more nodes i n at) ∙ plays_more (game_kind (root_properties nodes)) (take i nodes) n
-      ∙ ap (λ j. length (judged_on (game_kind (root_properties nodes)) (take i nodes)) + next_plays j) (sym h.judged)
+      let kind = game_kind (root_properties nodes) in
+      sym (front_count nodes (i + 1)) ∙ ap (λ ns. length (judged_on kind ns)) (front_more nodes i n at) ∙ plays_more kind (take i nodes) n
+      ∙ ap (λ k. k + next_plays (judging_front nodes i)) (front_count nodes i) ∙ ap (λ j. min i (judged_count nodes) + next_plays j) (sym h.judged)
 
   -- one node more
   pub judges_on : (new : Judging) → new.judgement ≡ after judge.judgement n → new.plays ≡ judge.plays + next_plays judge.judgement → JudgesTo nodes held old (i + 1) new
   judges_on new is plays = record {
     judged = is ∙ judging_next;
-    plays = omega (arith, plays, h.plays, plays_next);
-    not_fewer = omega (arith, plays, h.not_fewer);
+    plays = omega (arith, plays, h.plays, plays_next, le, one_at_most judge.judgement);
     few = omega (arith, plays, h.few, one_at_most judge.judgement);
   }
 
   -- or none, or its play alone, for want of memory
-  pub stopped : {A E : Type 0} (e : E) (new : ℕ) → held ≤ length nodes → judge.plays ≤ new → new ≤ judge.plays + next_plays judge.judgement → PlaysUpTo {A = A} old new (fresh_plays nodes held) (Err e)
-  stopped e new within more less =
-      let fresh = fresh_after (game_kind (root_properties nodes)) nodes held within in
-      let fewer = fewer_in_front (game_kind (root_properties nodes)) nodes (i + 1) in
-      let least = fewer_in_front (game_kind (root_properties nodes)) nodes held in
-      record { not_fewer = omega (arith, h.not_fewer); not_more = omega (arith, h.plays, plays_next, fresh, fewer, least); each = tt }
+  pub stopped : {A E : Type 0} (e : E) (new : ℕ) → judge.plays ≤ new → new ≤ judge.plays + next_plays judge.judgement → PlaysUpTo {A = A} old new (fresh_plays nodes held) (Err e)
+  stopped e new more less = record { not_fewer = omega (arith, h.plays, more); not_more = omega (arith, h.plays, less, plays_next, le, one_at_most judge.judgement); each = tt }
 
 -- as much was counted, whatever came of the rest
 pub on_any : {A E : Type 0} {P : Type 0} (r : Result A E) → P → OnOk r P
@@ -139,14 +64,12 @@ fresh_of_err A e (Ok x) bad h = absurd cc
 fresh_of_err A e (Err f) is h = record { not_fewer = h.not_fewer; not_more = h.not_more; each = tt }
 
 -- all nodes
-pub judged_all : (nodes : List Node) (held old i : ℕ) (judge : Judging) → JudgesTo nodes held old i judge → length nodes ≤ i → judge.judgement ≡ judging_front nodes (length nodes)
-judged_all nodes held old i judge h le =
-    h.judged ∙ ap (judging (game_kind (root_properties nodes))) (take_all i nodes le ∙ sym (take_all (length nodes) nodes (omega arith)))
+module _ (nodes : List Node) (held old i : ℕ) (judge : Judging) (h : JudgesTo nodes held old i judge) (past : length nodes ≤ i) where
+  pub judged_all : judge.judgement ≡ judging_front nodes (length nodes)
+  judged_all = h.judged ∙ ap (judging (game_kind (root_properties nodes))) (take_all i nodes past ∙ sym (take_all (length nodes) nodes (omega arith)))
 
-pub fresh_all : {A E : Type 0} (nodes : List Node) (held old i : ℕ) (judge : Judging) (r : Result A E) → JudgesTo nodes held old i judge → length nodes ≤ i → held ≤ length nodes → PlaysUpTo old judge.plays (fresh_plays nodes held) r
-fresh_all nodes held old i judge r h le within =
-    let all : length (judged_on (game_kind (root_properties nodes)) (take i nodes)) ≡ length (judged_on (game_kind (root_properties nodes)) nodes) =
-    ap (λ ns. length (judged_on (game_kind (root_properties nodes)) ns)) (take_all i nodes le) in
-    let fresh = fresh_after (game_kind (root_properties nodes)) nodes held within in
-    let least = fewer_in_front (game_kind (root_properties nodes)) nodes held in
-    record { not_fewer = h.not_fewer; not_more = omega (arith, h.plays, all, fresh, least); each = on_any r (omega (arith, h.plays, all, fresh, least)) }
+  pub fresh_all : {A E : Type 0} (r : Result A E) → PlaysUpTo old judge.plays (fresh_plays nodes held) r
+  fresh_all r =
+      let kind = game_kind (root_properties nodes) in
+      let all : judged_count nodes ≡ min i (judged_count nodes) = ap (λ ns. length (judged_on kind ns)) (sym (take_all i nodes past)) ∙ front_count nodes i in
+      record { not_fewer = omega (arith, h.plays); not_more = omega (arith, h.plays, all); each = on_any r (omega (arith, h.plays, all)) }

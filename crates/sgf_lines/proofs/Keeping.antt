@@ -20,7 +20,7 @@ use Rattle.sgf_lines.specs.inner.Judging.{Judgement, judging, back}
 use Rattle.sgf_lines.specs.inner.Recording.{open_record}
 use Rattle.sgf_lines.specs.inner.Scripting.{script_of, script_back, script_ended}
 use Rattle.sgf_lines.specs.inner.Following.{Continues, first_after, nodes_of, line_in, line_before, nodes_before, path_before}
-use Rattle.sgf_lines.specs.inner.Keeping.{judging_front, KeepsBy, HoldsBy, IsUnusedBy, Holds, PlaysUpTo, PlaysLine, IsShared, HasPlays, StillHeld, fresh_plays}
+use Rattle.sgf_lines.specs.inner.Keeping.{Kept, kept_in, judging_front, KeepsBy, HoldsBy, Holds, PlaysUpTo, PlaysLine, IsShared, HasPlays, StillHeld, fresh_plays}
 use Rattle.sgf_lines.proofs.Along.{same_root}
 use Rattle.sgf_lines.proofs.Joins.{as_many}
 use Rattle.sgf_lines.proofs.Judgements.{judging_back}
@@ -57,30 +57,14 @@ module _ (old nodes : List Node) (count : ℕ) (some : 0 < count) (within : coun
       ap (back count) (h ∙ ap (judging (game_kind (root_properties old))) whole) ∙ judging_back (game_kind (root_properties old)) old count within
       ∙ ap (judging (game_kind (root_properties old))) same ∙ ap (λ k. judging k (take count nodes)) kinds
 
-  pub keeps : (form : Form) (run : Run) → HoldsBy form old run → KeepsBy form nodes count run
-  keeps list_form run h = judged_same run.judge.judgement h
-  keeps sgf_form run h = rw h (record_back old count ∙ ap (λ ns. open_record ns) same)
-  keeps gtp_form run h = (
-    judged_same run.judge.judgement h.0,
-    ap (script_back count) (h.1 ∙ ap (λ ns. script_ended (script_of (game_kind (root_properties old)) ns)) whole) ∙ script_cut (game_kind (root_properties old)) old count
+  keeps : (form : Form) (kept : Kept) → HoldsBy form old kept → KeepsBy form nodes count kept
+  keeps list_form kept h = judged_same kept.judgement h
+  keeps sgf_form kept h = rw h (record_back old count ∙ ap (λ ns. open_record ns) same)
+  keeps gtp_form kept h = (
+    judged_same kept.judgement h.0,
+    ap (script_back count) (h.1 ∙ ap (λ ns. script_ended (script_of (game_kind (root_properties old)) ns)) whole) ∙ script_cut (game_kind (root_properties old)) old count within
         ∙ ap (script_of (game_kind (root_properties old))) same ∙ ap (λ k. script_of k (take count nodes)) kinds,
   )
-
--- what holds of a run hangs on its values, and not on how many nodes it says to hold
-pub keeps_as : (form : Form) (nodes : List Node) (count : ℕ) (run : Run) (cursor : CursorState) (held : ℕ) → KeepsBy form nodes count run → KeepsBy form nodes count (record run { cursor = cursor; held = held })
-keeps_as list_form nodes count run cursor held h = h
-keeps_as sgf_form nodes count run cursor held h = h
-keeps_as gtp_form nodes count run cursor held h = h
-
-pub unused_as : (form : Form) (run : Run) (cursor : CursorState) (held : ℕ) → IsUnusedBy form run → IsUnusedBy form (record run { cursor = cursor; held = held })
-unused_as list_form run cursor held h = h
-unused_as sgf_form run cursor held h = h
-unused_as gtp_form run cursor held h = h
-
-pub holds_as : (form : Form) (nodes : List Node) (run : Run) (held : ℕ) → HoldsBy form nodes run → HoldsBy form nodes (record run { held = held })
-holds_as list_form nodes run held h = h
-holds_as sgf_form nodes run held h = h
-holds_as gtp_form nodes run held h = h
 
 -- the cursor went on by a line
 pub named : (at : CursorState) → map Some (nodes_before at) ≡ map (node_at at.games) (path_before at)
@@ -135,14 +119,13 @@ module _ (run : Run) (h : Holds run) (new : CursorState) (shared still : ℕ) (m
       let named_new : map Some (nodes_before new) ≡ map (node_at run.cursor.games) (path_before new) = named new ∙ ap (λ (p : CursorState). map (node_at p.games) (path_before new)) moved in
       same_front (node_at run.cursor.games) (path_before run.cursor) (path_before new) (nodes_before run.cursor) (nodes_before new) shared (named run.cursor) named_new continues
 
-  pub still_kept : 0 < still → KeepsBy run.form (nodes_before new) still (record run { cursor = new; held = 0 })
+  pub still_kept : 0 < still → KeepsBy run.form (nodes_before new) still (kept_in run)
   still_kept some =
       elim (cases_lt 0 run.held) [
         | inl lt ↦
             let is = still_shared run.held shared still lt held in
             let same : take still (nodes_before run.cursor) ≡ take still (nodes_before new) = rw is same_nodes in
-            keeps_as run.form (nodes_before new) still run new 0
-            (keeps (nodes_before run.cursor) (nodes_before new) still some (omega (arith, is, many_old, continues.kept_within)) same run.form run (h.line lt).1)
+            keeps (nodes_before run.cursor) (nodes_before new) still some (omega (arith, is, many_old, continues.kept_within)) same run.form (kept_in run) (h lt).1
         | inr ge ↦ absurd (omega (arith, still_none run.held shared still (omega arith) held))
       ]
 

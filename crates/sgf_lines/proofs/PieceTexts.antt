@@ -1,103 +1,44 @@
 -- A text in pieces is appended to, closed and cut back.
-use Rattle.std.proofs.Common.{◌≡◌, ℕ, zero, suc, ◌+◌, ◌-◌, ◌≤◌, List, [], ◌∷◌, ◌++◌, length, take, drop, slice_get, Some, refl, sym, ap, ◌∙◌, arith, append_assoc, append-nil}
+use Rattle.std.proofs.Common.{◌≡◌, ℕ, zero, suc, ◌+◌, ◌-◌, List, [], ◌∷◌, ◌++◌, length, take, drop, slice_get, refl, sym, ap, ◌∙◌, arith, append_assoc, append-nil}
 use Rattle.std.specs.Prelude.{unwrap_or}
 use Rattle.std.specs.List.{concat}
-use Rattle.std.proofs.lemmas.List.{take_all, drop_all, take-take, drop-take, take-append-le, drop-append-le, take-append-drop, length-take, length-drop, length-append}
+use Rattle.std.proofs.Math.Seq.{take-append_seam, drop-append_seam}
+use Rattle.std.proofs.lemmas.List.{take-append-drop, length-append}
+use Rattle.std.proofs.lemmas.List.Folds.{concat-append}
 use Rattle.sgf_tree.specs.Written.{ends_from}
 use Rattle.sgf_lines.specs.inner.Pieces.{PiecesState, pushed, closed, longer, cut, pieces_from, rest_from, AreEnds}
 
--- more is begun
-pub pieces_more : (start : ℕ) (ends text more : List ℕ) → AreEnds start ends text → pieces_from start ends (text ++ more) ≡ pieces_from start ends text
-pieces_more start [] text more h = refl
-pieces_more start (end ∷ ends) text more h =
-    let n = end - start in
-    let front : take n (text ++ more) ≡ take n text = take-append-le n text more h.1 in
-    let later : drop n (text ++ more) ≡ drop n text ++ more = drop-append-le n text more h.1 in
-    let rest = pieces_more end ends (drop n text) more h.2 in
-    cc
+-- ---- the ends of pieces
 
-pub rest_more : (start : ℕ) (ends text more : List ℕ) → AreEnds start ends text → rest_from start ends (text ++ more) ≡ rest_from start ends text ++ more
-rest_more start [] text more h = refl
-rest_more start (end ∷ ends) text more h =
-    let n = end - start in
-    let later : drop n (text ++ more) ≡ drop n text ++ more = drop-append-le n text more h.1 in
-    let rest = rest_more end ends (drop n text) more h.2 in
-    cc
+ends-append : (start : ℕ) (ps qs : List (List ℕ)) → ends_from start (ps ++ qs) ≡ ends_from start ps ++ ends_from (start + length (concat ps)) qs
+ends-append start [] qs = ap (λ k. ends_from k qs) (omega arith)
+ends-append start (p ∷ ps) qs =
+    let sum : start + length p + length (concat ps) ≡ start + length (p ++ concat ps) = omega (arith, length-append p (concat ps)) in
+    ap (λ es. (start + length p) ∷ es) (ends-append (start + length p) ps qs ∙ ap (λ k. ends_from (start + length p) ps ++ ends_from k qs) sum)
 
-pub ends_more : (start : ℕ) (ends text more : List ℕ) → AreEnds start ends text → AreEnds start ends (text ++ more)
-ends_more start [] text more h = tt
-ends_more start (end ∷ ends) text more h =
-    let n = end - start in
-    let later : drop n (text ++ more) ≡ drop n text ++ more = drop-append-le n text more h.1 in
-    (h.0, omega (arith, h.1, length-append text more), rw later (ends_more end ends (drop n text) more h.2))
+ends-take : (count start : ℕ) (ps : List (List ℕ)) → take count (ends_from start ps) ≡ ends_from start (take count ps)
+ends-take zero start ps = refl
+ends-take (suc count) start [] = refl
+ends-take (suc count) start (p ∷ ps) = ap (λ es. (start + length p) ∷ es) (ends-take count (start + length p) ps)
 
--- what is begun is closed
-module _ where
-  ends_at : (start end : ℕ) (text : List ℕ) → start ≤ end → end - start ≤ length text → end + length (drop (end - start) text) ≡ start + length text
-  ends_at start end text le within = omega (arith, length-drop (end - start) text)
+length-ends : (start : ℕ) (ps : List (List ℕ)) → length (ends_from start ps) ≡ length ps
+length-ends start [] = refl
+length-ends start (p ∷ ps) = ap suc (length-ends (start + length p) ps)
 
-  pub pieces_closed : (start last : ℕ) (ends text : List ℕ) → AreEnds start ends text → last ≡ start + length text
-      → pieces_from start (ends ++ last ∷ []) text ≡ pieces_from start ends text ++ rest_from start ends text ∷ []
-  pieces_closed start last [] text h is =
-      let all : take (last - start) text ≡ text = take_all (last - start) text (omega (arith, is)) in
-      cc
-  pieces_closed start last (end ∷ ends) text h is =
-      let rest = pieces_closed end last ends (drop (end - start) text) h.2 (is ∙ sym (ends_at start end text h.0 h.1)) in
-      cc
+last-end : (start : ℕ) (ps : List (List ℕ)) → unwrap_or (slice_get (start ∷ ends_from start ps) (length ps)) 0 ≡ start + length (concat ps)
+last-end start [] = omega arith
+last-end start (p ∷ ps) = last-end (start + length p) ps ∙ omega (arith, length-append p (concat ps))
 
-  pub rest_closed : (start last : ℕ) (ends text : List ℕ) → AreEnds start ends text → last ≡ start + length text → rest_from start (ends ++ last ∷ []) text ≡ []
-  rest_closed start last [] text h is = drop_all (last - start) text (omega (arith, is))
-  rest_closed start last (end ∷ ends) text h is = rest_closed end last ends (drop (end - start) text) h.2 (is ∙ sym (ends_at start end text h.0 h.1))
+last_is : (ps : List (List ℕ)) → unwrap_or (slice_get (ends_from 0 ps) (length (ends_from 0 ps) - 1)) 0 ≡ length (concat ps)
+last_is [] = refl
+last_is (p ∷ ps) =
+    let before : suc (length (ends_from (0 + length p) ps)) - 1 ≡ length ps = omega (arith, length-ends (0 + length p) ps) in
+    ap (λ k. unwrap_or (slice_get ((0 + length p) ∷ ends_from (0 + length p) ps) k) 0) before ∙ last-end (0 + length p) ps ∙ omega (arith, length-append p (concat ps))
 
-  pub ends_closed : (start last : ℕ) (ends text : List ℕ) → AreEnds start ends text → last ≡ start + length text → AreEnds start (ends ++ last ∷ []) text
-  ends_closed start last [] text h is = (omega (arith, is), omega (arith, is), tt)
-  ends_closed start last (end ∷ ends) text h is = (h.0, h.1, ends_closed end last ends (drop (end - start) text) h.2 (is ∙ sym (ends_at start end text h.0 h.1)))
+-- ---- pieces are seen by their ends
 
--- the last end, or the start where there is none
-abbrev pub last_end : ℕ → List ℕ → ℕ
-last_end start [] = start
-last_end start (end ∷ ends) = last_end end ends
-
-last_at : (end : ℕ) (ends : List ℕ) → slice_get (end ∷ ends) (length ends) ≡ Some (last_end end ends)
-last_at end [] = refl
-last_at end (next ∷ ends) = last_at next ends
-
-pub last_is : (start : ℕ) (ends : List ℕ) → unwrap_or (slice_get ends (length ends - 1)) start ≡ last_end start ends
-last_is start [] = refl
-last_is start (end ∷ ends) =
-    let before : suc (length ends) - 1 ≡ length ends = omega arith in
-    ap (λ k. unwrap_or (slice_get (end ∷ ends) k) start) before ∙ ap (λ o. unwrap_or o start) (last_at end ends)
-
--- the text is cut after the last of some pieces
-pub record IsCutTo (start : ℕ) (ends text : List ℕ) (count : ℕ) : Type 0 where
-  pub last_late : start ≤ last_end start (take count ends)
-  pub pieces : pieces_from start (take count ends) (take (last_end start (take count ends) - start) text) ≡ take count (pieces_from start ends text)
-  pub rest : rest_from start (take count ends) (take (last_end start (take count ends) - start) text) ≡ []
-  pub are_ends : AreEnds start (take count ends) (take (last_end start (take count ends) - start) text)
-
-pub cut_to : (start : ℕ) (ends text : List ℕ) (count : ℕ) → AreEnds start ends text → IsCutTo start ends text count
-cut_to start ends text zero h =
-    let none : start - start ≡ 0 = omega arith in
-    record { last_late = omega arith; pieces = refl; rest = rw none refl; are_ends = tt }
-cut_to start [] text (suc count) h =
-    let none : start - start ≡ 0 = omega arith in
-    record { last_late = omega arith; pieces = refl; rest = rw none refl; are_ends = tt }
-cut_to start (end ∷ ends) text (suc count) h =
-    let n = end - start in
-    let last = last_end end (take count ends) in
-    let rest = cut_to end ends (drop n text) count h.2 in
-    let le : end ≤ last = rest.last_late in
-    let front : take n (take (last - start) text) ≡ take n text = take-take n (last - start) text (omega (arith, h.0)) in
-    let sum : n + (last - end) ≡ last - start = omega (arith, h.0) in
-    let later : drop n (take (last - start) text) ≡ take (last - end) (drop n text) = ap (λ m. drop n (take m text)) (sym sum) ∙ drop-take n (last - end) text in
-    let long : n ≤ length (take (last - start) text) = omega (arith, length-take (last - start) text, h.0, h.1) in
-    record {
-      last_late = omega (arith, h.0);
-      pieces = ap (λ t. t ∷ pieces_from end (take count ends) (drop n (take (last - start) text))) front
-          ∙ ap (λ t. take n text ∷ pieces_from end (take count ends) t) later ∙ ap (λ ps. take n text ∷ ps) rest.pieces;
-      rest = ap (rest_from end (take count ends)) later ∙ rest.rest;
-      are_ends = (h.0, long, rw later rest.are_ends);
-    }
+abbrev pub seen : List ℕ → List ℕ → PiecesState
+seen ends text = record { pieces = pieces_from 0 ends text; begun = rest_from 0 ends text }
 
 -- the pieces and what is begun are the whole text
 pub whole : (start : ℕ) (ends text : List ℕ) → concat (pieces_from start ends text) ++ rest_from start ends text ≡ text
@@ -107,59 +48,69 @@ whole start (end ∷ ends) text =
     append_assoc (take n text) (concat (pieces_from end ends (drop n text))) (rest_from end ends (drop n text))
     ∙ ap (λ t. take n text ++ t) (whole end ends (drop n text)) ∙ take-append-drop n text
 
--- the same of the state that is seen
-abbrev pub seen : List ℕ → List ℕ → PiecesState
-seen ends text = record { pieces = pieces_from 0 ends text; begun = rest_from 0 ends text }
+pieces_again : (start : ℕ) (ps : List (List ℕ)) (begun : List ℕ) → pieces_from start (ends_from start ps) (concat ps ++ begun) ≡ ps
+pieces_again start [] begun = refl
+pieces_again start (p ∷ ps) begun =
+    let n : start + length p - start ≡ length p = omega arith in
+    rw (n, append_assoc p (concat ps) begun, take-append_seam p (concat ps ++ begun), drop-append_seam p (concat ps ++ begun)) (ap (λ qs. p ∷ qs) (pieces_again (start + length p) ps begun))
 
-pub seen_pushed : (ends text more : List ℕ) → AreEnds 0 ends text → seen ends (text ++ more) ≡ pushed (seen ends text) more
-seen_pushed ends text more h =
-    let pieces = pieces_more 0 ends text more h in
-    let rest = rest_more 0 ends text more h in
-    cc
+rest_again : (start : ℕ) (ps : List (List ℕ)) (begun : List ℕ) → rest_from start (ends_from start ps) (concat ps ++ begun) ≡ begun
+rest_again start [] begun = refl
+rest_again start (p ∷ ps) begun =
+    let n : start + length p - start ≡ length p = omega arith in
+    let later : drop (start + length p - start) ((p ++ concat ps) ++ begun) ≡ concat ps ++ begun = rw (n, append_assoc p (concat ps) begun) (drop-append_seam p (concat ps ++ begun)) in
+    ap (rest_from (start + length p) (ends_from (start + length p) ps)) later ∙ rest_again (start + length p) ps begun
 
-pub seen_closed : (last : ℕ) (ends text : List ℕ) → AreEnds 0 ends text → last ≡ length text → seen (ends ++ last ∷ []) text ≡ closed (seen ends text)
-seen_closed last ends text h is =
-    let pieces = pieces_closed 0 last ends text h (omega (arith, is)) in
-    let rest = rest_closed 0 last ends text h (omega (arith, is)) in
-    cc
+-- a text with its ends is seen so
+abbrev pub IsSeen : List ℕ → List ℕ → PiecesState → Type 0
+IsSeen ends text state = (seen ends text ≡ state) × AreEnds ends text
 
--- what is left of a text that is cut
-pub cut_at : (count end : ℕ) (ends text : List ℕ) → AreEnds 0 ends text → end ≡ last_end 0 (take count ends)
-    → (seen (take count ends) (take end text) ≡ cut count (seen ends text)) × AreEnds 0 (take count ends) (take end text)
-cut_at count end ends text h is =
-    let all : last_end 0 (take count ends) - 0 ≡ end = omega (arith, is) in
-    let c = cut_to 0 ends text count h in
-    let pieces : pieces_from 0 (take count ends) (take end text) ≡ take count (pieces_from 0 ends text) = rw all at c.pieces in
-    let rest : rest_from 0 (take count ends) (take end text) ≡ [] = rw all at c.rest in
-    let are_ends : AreEnds 0 (take count ends) (take end text) = rw all at c.are_ends in
-    (cc, are_ends)
+is_seen : (ends text : List ℕ) (ps : List (List ℕ)) (begun : List ℕ) → ends ≡ ends_from 0 ps → text ≡ concat ps ++ begun → IsSeen ends text (record { pieces = ps; begun = begun })
+is_seen ends text ps begun e t =
+    let pieces = pieces_again 0 ps begun in
+    let rest = rest_again 0 ps begun in
+    rw (e, t) (cc, ap (ends_from 0) (sym pieces))
 
-pub length_pieces : (start : ℕ) (ends text : List ℕ) → length (pieces_from start ends text) ≡ length ends
-length_pieces start [] text = refl
-length_pieces start (end ∷ ends) text = ap suc (length_pieces end ends (drop (end - start) text))
+module _ (ends text : List ℕ) (h : AreEnds ends text) where
+  abbrev ps : List (List ℕ)
+  ps = pieces_from 0 ends text
 
--- texts after the pieces, where nothing is begun
-pub seen_longer : (ends text : List ℕ) (texts : List (List ℕ)) → AreEnds 0 ends text → rest_from 0 ends text ≡ []
-    → (seen (ends ++ ends_from (length text) texts) (text ++ concat texts) ≡ longer (seen ends text) texts)
-    × AreEnds 0 (ends ++ ends_from (length text) texts) (text ++ concat texts)
-seen_longer ends text [] h none =
-    let pieces = append-nil (pieces_from 0 ends text) in
-    rw (append-nil, append-nil) (cc, h)
-seen_longer ends text (x ∷ xs) h none =
-    let last : ℕ = length text + length x in
-    let more : List ℕ = text ++ x in
-    let is : last ≡ length more = sym (length-append text x) in
-    let at : last ≡ 0 + length more = omega (arith, is) in
-    let within = ends_more 0 ends text x h in
-    let whole : PiecesState = closed (seen ends more) in
-    let once : seen (ends ++ last ∷ []) more ≡ closed (pushed (seen ends text) x) = seen_closed last ends more within is ∙ ap closed (seen_pushed ends text x h) in
-    let rest = seen_longer (ends ++ last ∷ []) more xs (ends_closed 0 last ends more within at) (rest_closed 0 last ends more within at) in
-    let ends_are : (ends ++ last ∷ []) ++ ends_from (length more) xs ≡ ends ++ last ∷ ends_from last xs =
-    append_assoc ends (last ∷ []) (ends_from (length more) xs) ∙ ap (λ k. ends ++ last ∷ ends_from k xs) (sym is) in
-    let text_is : more ++ concat xs ≡ text ++ (x ++ concat xs) = append_assoc text x (concat xs) in
-    let pieces : longer (seen (ends ++ last ∷ []) more) xs ≡ longer (seen ends text) (x ∷ xs) =
-    ap (λ s. longer s xs) once ∙ ap (λ b. longer (closed (pushed (record { pieces = pieces_from 0 ends text; begun = b }) x)) xs) none
-    ∙ ap (λ ps. let r : PiecesState = record { pieces = ps; begun = [] } in r) (append_assoc (pieces_from 0 ends text) (x ∷ []) xs) in (
-      rw (← ends_are, ← text_is) (rest.0 ∙ pieces),
-      rw (← ends_are, ← text_is) rest.1,
-    )
+  abbrev begun : List ℕ
+  begun = rest_from 0 ends text
+
+  parts : text ≡ concat (pieces_from 0 ends text) ++ rest_from 0 ends text
+  parts = sym (whole 0 ends text)
+
+  pub count_seen : length (pieces_from 0 ends text) ≡ length ends
+  count_seen = sym (ap length h ∙ length-ends 0 (pieces_from 0 ends text))
+
+  pub seen_pushed : (more : List ℕ) → IsSeen ends (text ++ more) (pushed (seen ends text) more)
+  seen_pushed more = is_seen ends (text ++ more) ps (begun ++ more) h (ap (λ t. t ++ more) parts ∙ append_assoc (concat ps) begun more)
+
+  pub seen_closed : (last : ℕ) → last ≡ length text → IsSeen (ends ++ last ∷ []) text (closed (seen ends text))
+  seen_closed last is =
+      let end : last ≡ 0 + length (concat ps) + length begun = omega (arith, is, ap length parts, length-append (concat ps) begun) in
+      is_seen (ends ++ last ∷ []) text (ps ++ begun ∷ []) []
+      (ap (λ es. es ++ last ∷ []) h ∙ ap (λ k. ends_from 0 ps ++ k ∷ []) end ∙ sym (ends-append 0 ps (begun ∷ [])))
+      (parts ∙ ap (λ t. concat ps ++ t) (sym (append-nil begun)) ∙ sym (concat-append ps (begun ∷ [])) ∙ sym (append-nil (concat (ps ++ begun ∷ []))))
+
+  -- texts after the pieces, where nothing is begun
+  pub seen_longer : (texts : List (List ℕ)) → rest_from 0 ends text ≡ [] → IsSeen (ends ++ ends_from (length text) texts) (text ++ concat texts) (longer (seen ends text) texts)
+  seen_longer texts none =
+      let all : text ≡ concat ps = parts ∙ ap (λ t. concat ps ++ t) none ∙ append-nil (concat ps) in
+      let start : length text ≡ 0 + length (concat ps) = omega (arith, ap length all) in
+      is_seen (ends ++ ends_from (length text) texts) (text ++ concat texts) (ps ++ texts) []
+      (ap (λ es. es ++ ends_from (length text) texts) h ∙ ap (λ k. ends_from 0 ps ++ ends_from k texts) start ∙ sym (ends-append 0 ps texts))
+      (ap (λ t. t ++ concat texts) all ∙ sym (concat-append ps texts) ∙ sym (append-nil (concat (ps ++ texts))))
+
+  -- only the first pieces are left
+  pub seen_cut : (count end : ℕ) → end ≡ unwrap_or (slice_get (take count ends) (length (take count ends) - 1)) 0 → IsSeen (take count ends) (take end text) (cut count (seen ends text))
+  seen_cut count end is =
+      let front = take count ps in
+      let later = concat (drop count ps) ++ begun in
+      let ends_are : take count ends ≡ ends_from 0 front = ap (take count) h ∙ ends-take count 0 ps in
+      let at : end ≡ length (concat front) = is ∙ ap (λ es. unwrap_or (slice_get es (length es - 1)) 0) ends_are ∙ last_is front in
+      let split : text ≡ concat front ++ later =
+      parts ∙ ap (λ qs. concat qs ++ begun) (sym (take-append-drop count ps)) ∙ ap (λ t. t ++ begun) (concat-append front (drop count ps)) ∙ append_assoc (concat front) (concat (drop count ps)) begun in
+      is_seen (take count ends) (take end text) front [] ends_are
+      (ap (λ k. take k text) at ∙ ap (take (length (concat front))) split ∙ take-append_seam (concat front) later ∙ sym (append-nil (concat front)))

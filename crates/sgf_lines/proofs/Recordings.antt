@@ -20,9 +20,9 @@ record_back nodes k =
     ap (λ n. cut n (whole_record nodes)) next ∙ ap (λ ps. let r : PiecesState = record { pieces = codes "(" ∷ ps; begun = [] } in r) (take-map node_text k nodes)
 
 -- its text
-pub joined : (nodes : List Node) → concat (map node_text nodes) ≡ flat_map node_text nodes
-joined [] = refl
-joined (n ∷ ns) = ap (λ t. node_text n ++ t) (joined ns)
+pub joined : {X : Type 0} (f : X → List ℕ) (xs : List X) → concat (map f xs) ≡ flat_map f xs
+joined f [] = refl
+joined f (x ∷ xs) = ap (λ t. f x ++ t) (joined f xs)
 
 pub record_text : (nodes : List Node) → concat (whole_record nodes).pieces ++ (whole_record nodes).begun ≡ sgf_record nodes
-record_text nodes = ap (λ t. (codes "(" ++ t) ++ codes ")\n") (joined nodes)
+record_text nodes = ap (λ t. (codes "(" ++ t) ++ codes ")\n") (joined node_text nodes)

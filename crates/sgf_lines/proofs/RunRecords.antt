@@ -1,5 +1,5 @@
 -- The record that a run made is that of the line before its cursor.
-use Rattle.std.proofs.Common.{◌≡◌, ◌-◌, ◌<◌, List, [], ◌++◌, length, Option, Some, None, refl, ap, ◌∙◌, arith, append-nil}
+use Rattle.std.proofs.Common.{◌≡◌, ◌-◌, ◌<◌, List, ◌++◌, length, Option, Some, None, refl, ap, ◌∙◌, arith}
 use Rattle.std.specs.Prelude.{option_map, codes}
 use Rattle.std.specs.List.{concat}
 use Rattle.std.proofs.lemmas.List.{take_all}
@@ -18,10 +18,10 @@ use Rattle.sgf_lines.specs.declared.run.Run.{Run}
 use Rattle.sgf_lines.specs.inner.Views.{IsShownAs}
 use Rattle.sgf_lines.specs.inner.Following.{nodes_of, line_before, nodes_before}
 use Rattle.sgf_lines.specs.inner.Judging.{Judgement, judging, verdict_in}
-use Rattle.sgf_lines.specs.inner.Pieces.{PiecesState, no_pieces}
+use Rattle.sgf_lines.specs.inner.Pieces.{PiecesState}
 use Rattle.sgf_lines.specs.inner.Recording.{whole_record}
-use Rattle.sgf_lines.specs.inner.Scripting.{ScriptState, empty_script, script_of, script_ended, script_text}
-use Rattle.sgf_lines.specs.inner.Keeping.{judging_front, script_front, record_in}
+use Rattle.sgf_lines.specs.inner.Scripting.{script_of, script_ended}
+use Rattle.sgf_lines.specs.inner.Keeping.{judging_front, script_front, record_by}
 use Rattle.sgf_lines.proofs.Judgements.{judging_verdict}
 use Rattle.sgf_lines.proofs.Keeping.{line_is}
 use Rattle.sgf_lines.proofs.Recorded.{line_shown}
@@ -47,38 +47,29 @@ module _ (at : CursorState) (line : LineRef) (some : 0 < at.index) (shows : IsLi
   nodes_are = ap nodes_of the_line.before
 
   -- in list form
-  pub made_row : (new : Run) (v : Verdict) (j : Judgement) → v ≡ verdict_in j → j ≡ judging_front (nodes_before at) (length (nodes_before at)) → new.game ≡ no_pieces → new.script ≡ empty_script
-      → new.head.items ≡ row_text line.place line.game (length line.path.now) v ++ codes "\n" → Some (record_in new) ≡ option_map (record_of list_form) (line_before at)
-  made_row new v j e h no_record no_script row =
+  pub made_row : (new : Run) (v : Verdict) (j : Judgement) → v ≡ verdict_in j → j ≡ judging_front (nodes_before at) (length (nodes_before at))
+      → new.head.items ≡ row_text line.place line.game (length line.path.now) v ++ codes "\n" → Some (record_by list_form new.head.items new.game new.script) ≡ option_map (record_of list_form) (line_before at)
+  made_row new v j e h row =
       let verdict : v ≡ verdict_of the_line.own.nodes = rw (← nodes_are) (verdict_is (nodes_before at) j v e h) in
-      let bytes = row_made at.games the_line.own line v new.head.items the_line.shown verdict row in
-      rw the_line.before (ap Some (
-      ap (λ (p : PiecesState). new.head.items ++ ((concat p.pieces ++ p.begun) ++ script_text new.script)) no_record
-      ∙ ap (λ (s : ScriptState). new.head.items ++ (([] ++ []) ++ script_text s)) no_script ∙ append-nil new.head.items ∙ bytes))
+      rw the_line.before (ap Some (row_made at.games the_line.own line v new.head.items the_line.shown verdict row))
 
   -- in gtp form
-  pub made_script : (new : Run) (v : Verdict) (j : Judgement) → v ≡ verdict_in j → j ≡ judging_front (nodes_before at) (length (nodes_before at)) → new.game ≡ no_pieces
+  pub made_script : (new : Run) (v : Verdict) (j : Judgement) → v ≡ verdict_in j → j ≡ judging_front (nodes_before at) (length (nodes_before at))
       → new.script ≡ script_ended (script_front (nodes_before at) (length (nodes_before at)))
-      → new.head.items ≡ comment_row (row_text line.place line.game (length line.path.now) v) → Some (record_in new) ≡ option_map (record_of gtp_form) (line_before at)
-  made_script new v j e h no_record said row =
+      → new.head.items ≡ comment_row (row_text line.place line.game (length line.path.now) v) → Some (record_by gtp_form new.head.items new.game new.script) ≡ option_map (record_of gtp_form) (line_before at)
+  made_script new v j e h said row =
       let nodes = nodes_before at in
       let all = take_all (length (nodes_before at)) (nodes_before at) (omega arith) in
       let verdict : v ≡ verdict_of the_line.own.nodes = rw (← nodes_are) (verdict_is (nodes_before at) j v e h) in
       let script : new.script ≡ script_ended (script_of (game_kind (root_properties the_line.own.nodes)) the_line.own.nodes) =
       said ∙ ap (λ ns. script_ended (script_of (game_kind (root_properties nodes)) ns)) all ∙ ap (λ ns. script_ended (script_of (game_kind (root_properties ns)) ns)) nodes_are in
-      let bytes = script_made at.games the_line.own line v new.script new.head.items the_line.shown verdict script row in
-      rw the_line.before (ap Some (ap (λ (p : PiecesState). new.head.items ++ ((concat p.pieces ++ p.begun) ++ script_text new.script)) no_record ∙ bytes))
+      rw the_line.before (ap Some (script_made at.games the_line.own line v new.script new.head.items the_line.shown verdict script row))
 
 -- in sgf form
-pub made_record : (at : CursorState) (new : Run) → (l : Line) → line_before at ≡ Some l → new.head.items ≡ [] → new.script ≡ empty_script → new.game ≡ whole_record (nodes_before at)
-    → Some (record_in new) ≡ option_map (record_of sgf_form) (line_before at)
-made_record at new l before no_head no_script h =
-    let nodes : nodes_before at ≡ l.nodes = ap nodes_of before in
-    let is : new.game ≡ whole_record l.nodes = h ∙ ap whole_record nodes in
-    rw before (ap Some (
-    ap (λ t. t ++ ((concat new.game.pieces ++ new.game.begun) ++ script_text new.script)) no_head
-    ∙ ap (λ (s : ScriptState). (concat new.game.pieces ++ new.game.begun) ++ script_text s) no_script
-    ∙ append-nil (concat new.game.pieces ++ new.game.begun) ∙ ap (λ (p : PiecesState). concat p.pieces ++ p.begun) is ∙ record_text l.nodes))
+pub made_record : (at : CursorState) (new : Run) → (l : Line) → line_before at ≡ Some l → new.game ≡ whole_record (nodes_before at) → Some (record_by sgf_form new.head.items new.game new.script) ≡ option_map (record_of sgf_form) (line_before at)
+made_record at new l before h =
+    let is : new.game ≡ whole_record l.nodes = h ∙ ap (λ o. whole_record (nodes_of o)) before in
+    rw before (ap Some (ap (λ (p : PiecesState). concat p.pieces ++ p.begun) is ∙ record_text l.nodes))
 
 -- where it has a node there is a line
 pub some_line : (at : CursorState) → 0 < length (nodes_before at) → (l : Line) × (line_before at ≡ Some l)

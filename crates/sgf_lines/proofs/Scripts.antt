@@ -1,9 +1,10 @@
 -- A script goes on by a node, and back to the first ones; and what is put of it.
-use Rattle.std.proofs.Common.{◌≡◌, ℕ, zero, suc, ◌+◌, ◌≤◌, Bool, true, false, ◌||◌, ◌&&◌, cond, List, [], ◌∷◌, ◌++◌, length, take, Option, Some, None, Result, Ok, Err, inl, inr, refl, sym, ap, subst, ◌∙◌, arith, add-one, append-nil}
+use Rattle.std.proofs.Common.{◌≡◌, ℕ, zero, suc, ◌+◌, ◌≤◌, ◌==◌, min, if◌then◌else◌, Bool, true, false, ◌||◌, not, cond, List, [], ◌∷◌, ◌++◌, length, take, map, Option, Some, None, Result, Ok, Err, inl, inr, refl, sym, ap, subst, ◌∙◌, arith, add-one, append-nil}
 use Rattle.std.specs.Prelude.{nat_lt, codes, fold, option_copied}
-use Rattle.std.specs.List.{flat_map, list_any, concat}
+use Rattle.std.specs.List.{flat_map, list_any, concat, position_or_len}
 use Rattle.std.proofs.lemmas.Bool.{cases_lt, lt-ltb, le-ltb}
-use Rattle.std.proofs.lemmas.List.Folds.{list_any-append}
+use Rattle.std.proofs.lemmas.List.{map-append, take-map, length-map}
+use Rattle.std.proofs.lemmas.List.Folds.{position_or_len_push}
 use Rattle.sgf_tree.specs.Tree.{Node}
 use Rattle.go_board.specs.declared.vertices.TheConstants.{MAX_VERTEX_SIDE}
 use Rattle.go_board.specs.declared.reason.Reason.{Reason}
@@ -18,52 +19,14 @@ use Rattle.sgf_lines.specs.NodeContents.{Move, Stones, moves, stones}
 use Rattle.sgf_lines.specs.Step.{step}
 use Rattle.sgf_lines.specs.Walk.{TakenNode, Walk, walk}
 use Rattle.sgf_lines.specs.Script.{comment_rows, play_command, setup_commands, move_commands, taken_script, text_rows, comment_text, leaves_unreaching, leaves_unreaching_by, board_commands, commands_of, commands_by}
-use Rattle.sgf_lines.specs.inner.Pieces.{cut}
+use Rattle.sgf_lines.specs.inner.Pieces.{pushed, closed, cut}
 use Rattle.sgf_lines.specs.inner.Judging.{Judgement, unjudged, judged, side_in, judging, begun_game, after, stepped, state_after, state_of, taken_by, board_in, IsEffectBy, IsStepOf, IsTakenFrom}
-use Rattle.sgf_lines.specs.inner.Scripting.{ScriptState, effect_script, step_script, IsPlayable, is_unreaching, no_script, script_on, said_on, said_by, said_after, script_back, script_ended, script_text, spoken, script_along, script_of, IsLettered}
+use Rattle.sgf_lines.specs.inner.Scripting.{ScriptState, effect_script, step_script, IsPlayable, is_unreaching, no_script, script_on, said_on, said_by, said_after, script_back, script_ended, script_text, script_along, script_of, IsLettered}
 use Rattle.sgf_lines.proofs.Commanding.{side-step}
+use Rattle.sgf_lines.proofs.Recordings.{joined}
 use Rattle.sgf_lines.proofs.Judgements.{unjudged_stays, taken_more, taken_cut, board_after}
 
--- the pieces of taken nodes
-abbrev any_unreaching : List TakenNode → Bool
-any_unreaching ts = list_any leaves_unreaching ts
-
-spoken_past : (ts more : List TakenNode) → any_unreaching ts ≡ true → spoken (ts ++ more) ≡ spoken ts
-spoken_past [] more e = absurd cc
-spoken_past (t ∷ ts) more e = by (leaves_unreaching t) e (λ rest. spoken_past ts more rest)
-  where
-    by : (b : Bool) → (b || any_unreaching ts) ≡ true → (any_unreaching ts ≡ true → spoken (ts ++ more) ≡ spoken ts)
-        → cond b [] (taken_script t ∷ spoken (ts ++ more)) ≡ cond b [] (taken_script t ∷ spoken ts)
-    by true e later = refl
-    by false e later = ap (λ ps. taken_script t ∷ ps) (later e)
-
-spoken_ends : (ts : List TakenNode) (t : TakenNode) → any_unreaching ts ≡ false → leaves_unreaching t ≡ true → spoken (ts ++ t ∷ []) ≡ spoken ts
-spoken_ends [] t e is = ap (λ b. cond b [] (taken_script t ∷ [])) is
-spoken_ends (s ∷ ts) t e is = by (leaves_unreaching s) e (λ rest. spoken_ends ts t rest is)
-  where
-    by : (b : Bool) → (b || any_unreaching ts) ≡ false → (any_unreaching ts ≡ false → spoken (ts ++ t ∷ []) ≡ spoken ts)
-        → cond b [] (taken_script s ∷ spoken (ts ++ t ∷ [])) ≡ cond b [] (taken_script s ∷ spoken ts)
-    by true e later = refl
-    by false e later = ap (λ ps. taken_script s ∷ ps) (later e)
-
-spoken_adds : (ts : List TakenNode) (t : TakenNode) → any_unreaching ts ≡ false → leaves_unreaching t ≡ false → spoken (ts ++ t ∷ []) ≡ spoken ts ++ taken_script t ∷ []
-spoken_adds [] t e is = ap (λ b. cond b [] (taken_script t ∷ [])) is
-spoken_adds (s ∷ ts) t e is = by (leaves_unreaching s) e (λ rest. spoken_adds ts t rest is)
-  where
-    by : (b : Bool) → (b || any_unreaching ts) ≡ false → (any_unreaching ts ≡ false → spoken (ts ++ t ∷ []) ≡ spoken ts ++ taken_script t ∷ [])
-        → cond b [] (taken_script s ∷ spoken (ts ++ t ∷ [])) ≡ cond b [] (taken_script s ∷ spoken ts) ++ taken_script t ∷ []
-    by true e later = absurd cc
-    by false e later = ap (λ ps. taken_script s ∷ ps) (later e)
-
-spoken_front : (n : ℕ) (ts : List TakenNode) → take n (spoken ts) ≡ spoken (take n ts)
-spoken_front zero ts = refl
-spoken_front (suc n) [] = refl
-spoken_front (suc n) (t ∷ ts) = by (leaves_unreaching t) (spoken_front n ts)
-  where
-    by : (b : Bool) → take n (spoken ts) ≡ spoken (take n ts) → take (suc n) (cond b [] (taken_script t ∷ spoken ts)) ≡ cond b [] (taken_script t ∷ spoken (take n ts))
-    by true later = refl
-    by false later = ap (λ ps. taken_script t ∷ ps) later
-
+-- the pieces before those that can't be said
 lt_suc : (a n : ℕ) → nat_lt (suc a) (suc n) ≡ nat_lt a n
 lt_suc a n =
     elim (cases_lt a n) [
@@ -71,74 +34,71 @@ lt_suc a n =
       | inr ge ↦ le-ltb (suc a) (suc n) (omega arith) ∙ sym (le-ltb a n ge)
     ]
 
-any_front : (n : ℕ) (ts : List TakenNode) → (any_unreaching ts && nat_lt (length (spoken ts)) n) ≡ any_unreaching (take n ts)
-any_front zero ts = by (any_unreaching ts)
+any_is : (ts : List TakenNode) → nat_lt (position_or_len leaves_unreaching ts) (length ts) ≡ list_any leaves_unreaching ts
+any_is [] = refl
+any_is (t ∷ ts) = by (leaves_unreaching t) (any_is ts)
   where
-    by : (b : Bool) → (b && nat_lt (length (spoken ts)) 0) ≡ false
-    by true = le-ltb (length (spoken ts)) 0 (omega arith)
-    by false = refl
-any_front (suc n) [] = refl
-any_front (suc n) (t ∷ ts) = by (leaves_unreaching t) (any_front n ts)
-  where
-    by : (b : Bool) → (any_unreaching ts && nat_lt (length (spoken ts)) n) ≡ any_unreaching (take n ts)
-        → ((b || any_unreaching ts) && nat_lt (length (cond b [] (taken_script t ∷ spoken ts))) (suc n)) ≡ (b || any_unreaching (take n ts))
-    by true later = lt-ltb 0 (suc n) (omega arith)
-    by false later = ap (λ c. any_unreaching ts && c) (lt_suc (length (spoken ts)) n) ∙ later
+    by : (b : Bool) → nat_lt (position_or_len leaves_unreaching ts) (length ts) ≡ list_any leaves_unreaching ts
+        → nat_lt (cond (not b) (1 + position_or_len leaves_unreaching ts) 0) (suc (length ts)) ≡ (b || list_any leaves_unreaching ts)
+    by true later = lt-ltb 0 (suc (length ts)) (omega arith)
+    by false later = let next : 1 + position_or_len leaves_unreaching ts ≡ suc (position_or_len leaves_unreaching ts) = omega arith in
+        ap (λ k. nat_lt k (suc (length ts))) next ∙ lt_suc (position_or_len leaves_unreaching ts) (length ts) ∙ later
 
-spoken_all : (ts : List TakenNode) → any_unreaching ts ≡ false → concat (spoken ts) ≡ flat_map taken_script ts
-spoken_all [] e = refl
-spoken_all (t ∷ ts) e = by (leaves_unreaching t) e (λ rest. spoken_all ts rest)
+position_front : (n : ℕ) (ts : List TakenNode) → position_or_len leaves_unreaching (take n ts) ≡ min n (position_or_len leaves_unreaching ts)
+position_front zero ts = omega arith
+position_front (suc n) [] = omega arith
+position_front (suc n) (t ∷ ts) = by (leaves_unreaching t) (position_front n ts)
   where
-    by : (b : Bool) → (b || any_unreaching ts) ≡ false → (any_unreaching ts ≡ false → concat (spoken ts) ≡ flat_map taken_script ts)
-        → concat (cond b [] (taken_script t ∷ spoken ts)) ≡ taken_script t ++ flat_map taken_script ts
-    by true e later = absurd cc
-    by false e later = ap (λ bs. taken_script t ++ bs) (later e)
+    by : (b : Bool) → position_or_len leaves_unreaching (take n ts) ≡ min n (position_or_len leaves_unreaching ts)
+        → cond (not b) (1 + position_or_len leaves_unreaching (take n ts)) 0 ≡ min (suc n) (cond (not b) (1 + position_or_len leaves_unreaching ts) 0)
+    by true later = omega arith
+    by false later = omega (arith, later)
 
 -- a script of these pieces after those of the board
-abbrev of_pieces : ℕ → List (List ℕ) → Bool → ScriptState
-of_pieces side pieces silent = record { text = record { pieces = board_commands side ∷ pieces; begun = [] }; silent = silent }
+abbrev of_pieces : ℕ → List (List ℕ) → ℕ → ScriptState
+of_pieces side pieces said = record { text = record { pieces = board_commands side ∷ pieces; begun = [] }; said = suc said }
 
 -- one taken node more
 along_more : (side : ℕ) (ts : List TakenNode) (t : TakenNode) → said_on (script_along side ts) (leaves_unreaching t) (taken_script t) ≡ script_along side (ts ++ t ∷ [])
 along_more side ts t = by (nat_lt MAX_VERTEX_SIDE side)
   where
-    any_more : any_unreaching (ts ++ t ∷ []) ≡ (any_unreaching ts || (leaves_unreaching t || false))
-    any_more = list_any-append leaves_unreaching ts (t ∷ [])
+    n : ℕ
+    n = position_or_len leaves_unreaching ts
 
-    by_both : (a l : Bool) → any_unreaching ts ≡ a → leaves_unreaching t ≡ l
-        → said_on (of_pieces side (spoken ts) a) l (taken_script t) ≡ of_pieces side (spoken (ts ++ t ∷ [])) (a || (l || false))
-    by_both true l e f = ap (λ ps. of_pieces side ps true) (sym (spoken_past ts (t ∷ []) e))
-    by_both false true e f = ap (λ ps. of_pieces side ps true) (sym (spoken_ends ts t e f))
-    by_both false false e f = ap (λ ps. of_pieces side ps false) (sym (spoken_adds ts t e f))
+    some : (suc (length (map taken_script ts)) == 0) ≡ false
+    some = grind arith
 
-    by : (b : Bool) → said_on (cond b no_script (of_pieces side (spoken ts) (any_unreaching ts))) (leaves_unreaching t) (taken_script t)
-        ≡ cond b no_script (of_pieces side (spoken (ts ++ t ∷ [])) (any_unreaching (ts ++ t ∷ [])))
+    said : (if suc n == suc (length (map taken_script ts)) then (if leaves_unreaching t then suc n else suc n + 1) else suc n) ≡ suc (position_or_len leaves_unreaching (ts ++ t ∷ []))
+    said = grind (arith, position_or_len_push leaves_unreaching ts t, length-map ts taken_script)
+
+    by : (b : Bool) → said_on (cond b no_script (of_pieces side (map taken_script ts) n)) (leaves_unreaching t) (taken_script t)
+        ≡ cond b no_script (of_pieces side (map taken_script (ts ++ t ∷ [])) (position_or_len leaves_unreaching (ts ++ t ∷ [])))
     by true = refl
-    by false = by_both (any_unreaching ts) (leaves_unreaching t) refl refl ∙ ap (of_pieces side (spoken (ts ++ t ∷ []))) (sym any_more)
+    by false = ap (λ b. cond b (of_pieces side (map taken_script ts) n) (record { text = closed (pushed (of_pieces side (map taken_script ts) n).text (taken_script t)); said = if suc n == suc (length (map taken_script ts)) then (if leaves_unreaching t then suc n else suc n + 1) else suc n })) some
+        ∙ ap (λ k. let s : ScriptState = record { text = closed (pushed (of_pieces side (map taken_script ts) n).text (taken_script t)); said = k } in s) said
+        ∙ ap (λ ps. of_pieces side ps (position_or_len leaves_unreaching (ts ++ t ∷ []))) (sym (map-append taken_script ts (t ∷ [])))
 
 -- back to the first ones
 no_script_back : (n : ℕ) → script_back n no_script ≡ no_script
 no_script_back n =
-    let next : n + 1 ≡ suc n = add-one n in
-    let some : nat_lt 0 (n + 1) ≡ true = lt-ltb 0 (n + 1) (omega arith) in
-    let none : take (n + 1) [] ≡ [] = ap (λ k. take k []) next in
-    ap (λ b. let s : ScriptState = record { text = cut (n + 1) no_script.text; silent = b } in s) some
-    ∙ ap (λ (ps : List (List ℕ)). let s : ScriptState = record { text = record { pieces = ps; begun = [] }; silent = true } in s) none
+    let none : min (n + 1) 0 ≡ 0 = omega arith in
+    ap (λ k. let s : ScriptState = record { text = cut (n + 1) no_script.text; said = k } in s) none ∙ rw add-one refl
 
 along_back : (side n : ℕ) (ts : List TakenNode) → script_back n (script_along side ts) ≡ script_along side (take n ts)
 along_back side n ts = by (nat_lt MAX_VERTEX_SIDE side)
   where
-    next : n + 1 ≡ suc n
-    next = add-one n
+    k : ℕ
+    k = position_or_len leaves_unreaching ts
 
-    there : script_back n (of_pieces side (spoken ts) (any_unreaching ts)) ≡ of_pieces side (spoken (take n ts)) (any_unreaching (take n ts))
+    there : script_back n (of_pieces side (map taken_script ts) k) ≡ of_pieces side (map taken_script (take n ts)) (position_or_len leaves_unreaching (take n ts))
     there =
-        ap (λ k. let s : ScriptState = record { text = cut k (of_pieces side (spoken ts) true).text; silent = any_unreaching ts && nat_lt (suc (length (spoken ts))) k } in s) next
-        ∙ ap (λ ps. of_pieces side ps (any_unreaching ts && nat_lt (suc (length (spoken ts))) (suc n))) (spoken_front n ts)
-        ∙ ap (λ b. of_pieces side (spoken (take n ts)) (any_unreaching ts && b)) (lt_suc (length (spoken ts)) n)
-        ∙ ap (of_pieces side (spoken (take n ts))) (any_front n ts)
+        let said : min (n + 1) (suc k) ≡ suc (position_or_len leaves_unreaching (take n ts)) = omega (arith, position_front n ts) in
+        let next : n + 1 ≡ suc n = add-one n in
+        ap (λ m. let s : ScriptState = record { text = cut (n + 1) (of_pieces side (map taken_script ts) k).text; said = m } in s) said
+        ∙ ap (λ m. let s : ScriptState = record { text = cut m (of_pieces side (map taken_script ts) k).text; said = suc (position_or_len leaves_unreaching (take n ts)) } in s) next
+        ∙ ap (λ ps. of_pieces side ps (position_or_len leaves_unreaching (take n ts))) (take-map taken_script n ts)
 
-    by : (b : Bool) → script_back n (cond b no_script (of_pieces side (spoken ts) (any_unreaching ts))) ≡ cond b no_script (of_pieces side (spoken (take n ts)) (any_unreaching (take n ts)))
+    by : (b : Bool) → script_back n (cond b no_script (of_pieces side (map taken_script ts) k)) ≡ cond b no_script (of_pieces side (map taken_script (take n ts)) (position_or_len leaves_unreaching (take n ts)))
     by true = no_script_back n
     by false = there
 
@@ -146,18 +106,20 @@ along_back side n ts = by (nat_lt MAX_VERTEX_SIDE side)
 along_text : (side : ℕ) (walked : Walk) → script_text (script_ended (script_along side walked.taken)) ≡ commands_of side walked ++ codes "\n"
 along_text side walked = by (nat_lt MAX_VERTEX_SIDE side)
   where
-    ts : List TakenNode
-    ts = walked.taken
+    texts : List (List ℕ)
+    texts = map taken_script walked.taken
 
-    by_any : (a : Bool) → any_unreaching walked.taken ≡ a
-        → script_text (script_ended (of_pieces side (spoken walked.taken) a)) ≡ cond a [] (board_commands side ++ flat_map taken_script walked.taken) ++ codes "\n"
-    by_any true e = refl
-    by_any false e = ap (λ bs. (board_commands side ++ bs) ++ codes "\n") (spoken_all walked.taken e)
+    any : nat_lt (suc (position_or_len leaves_unreaching walked.taken)) (suc (length (map taken_script walked.taken))) ≡ list_any leaves_unreaching walked.taken
+    any = ap (λ k. nat_lt (suc (position_or_len leaves_unreaching walked.taken)) (suc k)) (length-map walked.taken taken_script) ∙ lt_suc (position_or_len leaves_unreaching walked.taken) (length walked.taken) ∙ any_is walked.taken
 
-    by : (b : Bool) → script_text (script_ended (cond b no_script (of_pieces side (spoken walked.taken) (any_unreaching walked.taken))))
-        ≡ cond (b || any_unreaching walked.taken) [] (board_commands side ++ flat_map taken_script walked.taken) ++ codes "\n"
+    by_any : (a : Bool) → cond a (codes "\n") ((board_commands side ++ concat (map taken_script walked.taken)) ++ codes "\n") ≡ cond a [] (board_commands side ++ flat_map taken_script walked.taken) ++ codes "\n"
+    by_any true = refl
+    by_any false = ap (λ bs. (board_commands side ++ bs) ++ codes "\n") (joined taken_script walked.taken)
+
+    by : (b : Bool) → script_text (script_ended (cond b no_script (of_pieces side (map taken_script walked.taken) (position_or_len leaves_unreaching walked.taken))))
+        ≡ cond (b || list_any leaves_unreaching walked.taken) [] (board_commands side ++ flat_map taken_script walked.taken) ++ codes "\n"
     by true = refl
-    by false = by_any (any_unreaching walked.taken) refl
+    by false = ap (λ a. cond a (codes "\n") ((board_commands side ++ concat (map taken_script walked.taken)) ++ codes "\n")) any ∙ by_any (list_any leaves_unreaching walked.taken)
 
 -- the script of a game whose root says this
 pub script_put : (kind : GameKind) (nodes : List Node) → script_text (script_ended (script_of kind nodes)) ≡ commands_by kind nodes ++ codes "\n"
@@ -165,10 +127,10 @@ script_put not_go nodes = refl
 script_put bad_size nodes = refl
 script_put (board side) nodes = along_text side (walk side nodes)
 
-pub script_cut : (kind : GameKind) (nodes : List Node) (n : ℕ) → script_back n (script_ended (script_of kind nodes)) ≡ script_of kind (take n nodes)
-script_cut not_go nodes n = no_script_back n
-script_cut bad_size nodes n = no_script_back n
-script_cut (board side) nodes n = along_back side n (walk side nodes).taken ∙ ap (script_along side) (sym (taken_cut side nodes n))
+pub script_cut : (kind : GameKind) (nodes : List Node) (n : ℕ) → n ≤ length nodes → script_back n (script_ended (script_of kind nodes)) ≡ script_of kind (take n nodes)
+script_cut not_go nodes n le = no_script_back n
+script_cut bad_size nodes n le = no_script_back n
+script_cut (board side) nodes n le = along_back side n (walk side nodes).taken ∙ ap (script_along side) (sym (taken_cut side nodes n le))
 
 pub script_more : (kind : GameKind) (nodes : List Node) (n : Node) → said_after (script_of kind nodes) (judging kind nodes) n ≡ script_of kind (nodes ++ n ∷ [])
 script_more not_go nodes n = ap (λ j. said_after no_script j n) (unjudged_stays NotGo nodes)
@@ -210,22 +172,23 @@ lettered not_go nodes = rw (unjudged_stays NotGo nodes) tt
 lettered bad_size nodes = rw (unjudged_stays BadSize nodes) tt
 lettered (board side) nodes = by (judging (board side) nodes) (has_side side (begun_game (board side)) nodes refl)
   where
-    small : (b : Bool) → nat_lt MAX_VERTEX_SIDE side ≡ b → (cond b no_script (of_pieces side (spoken (walk side nodes).taken) (any_unreaching (walk side nodes).taken))).silent ≡ false → nat_lt MAX_VERTEX_SIDE side ≡ false
-    small true e silent = absurd cc
-    small false e silent = e
+    small : (b : Bool) → nat_lt MAX_VERTEX_SIDE side ≡ b
+        → (length (cond b no_script (of_pieces side (map taken_script (walk side nodes).taken) (position_or_len leaves_unreaching (walk side nodes).taken))).text.pieces == 0) ≡ false → nat_lt MAX_VERTEX_SIDE side ≡ false
+    small true e some = absurd cc
+    small false e some = e
 
     by : (j : Judgement) → HasSide side j → IsLettered (script_along side (walk side nodes).taken) (board_in j)
     by (unjudged told) h = tt
-    by (judged states ended) h = λ silent. ap (nat_lt MAX_VERTEX_SIDE) h ∙ small (nat_lt MAX_VERTEX_SIDE side) refl silent
+    by (judged states ended) h = λ some. ap (nat_lt MAX_VERTEX_SIDE) h ∙ small (nat_lt MAX_VERTEX_SIDE side) refl some
 
 -- the board after a node that was taken has the side of the board before it
-pub lettered_after : (script : ScriptState) (j : Judgement) (n : Node) (s : State) → state_after j n ≡ Some s → IsLettered script (board_in j) → script.silent ≡ false → nat_lt MAX_VERTEX_SIDE s.colouring.side ≡ false
-lettered_after script (unjudged told) n s e h silent = absurd cc
-lettered_after script (judged states (Some told)) n s e h silent = absurd cc
-lettered_after script (judged states None) n s e h silent = by (step states.present n) refl e
+pub lettered_after : (script : ScriptState) (j : Judgement) (n : Node) (s : State) → state_after j n ≡ Some s → IsLettered script (board_in j) → (length script.text.pieces == 0) ≡ false → nat_lt MAX_VERTEX_SIDE s.colouring.side ≡ false
+lettered_after script (unjudged told) n s e h some = absurd cc
+lettered_after script (judged states (Some told)) n s e h some = absurd cc
+lettered_after script (judged states None) n s e h some = by (step states.present n) refl e
   where
     by : (r : Result State Reason) → step states.present n ≡ r → state_of r ≡ Some s → nat_lt MAX_VERTEX_SIDE s.colouring.side ≡ false
-    by (Ok t) f e = let same : t ≡ s = cc in ap (λ (u : State). nat_lt MAX_VERTEX_SIDE u.colouring.side) (sym same) ∙ ap (nat_lt MAX_VERTEX_SIDE) (side-step states.present t n f) ∙ h silent
+    by (Ok t) f e = let same : t ≡ s = cc in ap (λ (u : State). nat_lt MAX_VERTEX_SIDE u.colouring.side) (sym same) ∙ ap (nat_lt MAX_VERTEX_SIDE) (side-step states.present t n f) ∙ h some
     by (Err reason) f e = absurd cc
 
 -- what a step says of its node
@@ -296,7 +259,7 @@ at_most a b e =
 
 -- a step that a judge told of can be said, and the script goes on by its node
 pub record IsSaid (script : ScriptState) (j : Judgement) (n : Node) (taken : TakenStep) (grid : Grid) : Type 0 where
-  pub letters : script.silent ≡ false → grid.side ≤ MAX_VERTEX_SIDE
+  pub letters : (length script.text.pieces == 0) ≡ false → grid.side ≤ MAX_VERTEX_SIDE
   pub playable : IsPlayable grid.side taken.effect
   pub says : said_on script (is_unreaching grid taken.effect) (step_script grid taken) ≡ said_after script j n
 
@@ -307,7 +270,7 @@ is_said script j n taken grid told there letters =
     let both : Some grid ≡ Some s.colouring = there ∙ board_after j n s told.1 in
     let same : grid ≡ s.colouring = cc in
     subst (λ (g : Grid). IsSaid script j n taken g) (sym same) (record {
-      letters = λ silent. at_most MAX_VERTEX_SIDE s.colouring.side (lettered_after script j n s told.1 letters silent);
+      letters = λ some. at_most MAX_VERTEX_SIDE s.colouring.side (lettered_after script j n s told.1 letters some);
       playable = playable_after j n taken s told.1 told.2;
       says = says_after j n taken s told.1 told.2 script;
     })

@@ -1,6 +1,6 @@
 //! A run: what a source gives is split into the records of its lines, which a sink takes.
 
-ghost use Rattle.std.specs.Prelude.{◌≡◌, ◌<◌, ◌≤◌, ◌+◌, ◌++◌, ℕ, List, Some, None, [], length, take, drop, slice_get, nat_lt, option_map, IfOk, OnOk, MatchBool};
+ghost use Rattle.std.specs.Prelude.{◌≡◌, ◌<◌, ◌≤◌, ◌+◌, ℕ, List, Some, None, [], length, take, drop, slice_get, nat_lt, option_map, IfOk, OnOk, MatchBool};
 ghost use Rattle.sgf_tree.specs.declared.fault.TheConstants.{MAX_LENGTH};
 ghost use Rattle.sgf_tree.specs.Spelling.{Spells};
 ghost use Rattle.sgf_tree.specs.Tree.{node_count};
@@ -10,7 +10,7 @@ ghost use Rattle.sgf_lines.specs.Lines.{lines};
 ghost use Rattle.sgf_lines.specs.Record.{record_of};
 ghost use Rattle.sgf_lines.specs.RunPlays.{IsRunWithPlays, plays_in};
 ghost use Rattle.sgf_lines.specs.inner.Following.{line_before, nodes_before};
-ghost use Rattle.sgf_lines.specs.inner.Keeping.{Holds, HoldsBy, IsFresh, IsUnusedBy, KeepsBy, PlaysLine, PlaysUpTo, StillHeld, fresh_plays, record_in};
+ghost use Rattle.sgf_lines.specs.inner.Keeping.{Holds, HoldsBy, IsFresh, KeepsBy, PlaysLine, PlaysUpTo, StillHeld, fresh_plays, kept_in, record_by, record_in};
 ghost use Rattle.sgf_lines.specs.inner.Running.{HasRecord, IsReading, IsStart, PutsAll, WritesLines};
 
 use crate::cursor::Cursor;
@@ -277,12 +277,10 @@ impl<'c, 'a> Run<'c, 'a> {
         requires some_node { 0 < length (nodes_before self.old.cursor) }
         requires some_line { 0 < self.old.cursor.index }
         requires within { held ≤ length (nodes_before self.old.cursor) }
-        requires keeps { 0 < held → KeepsBy self.old.form (nodes_before self.old.cursor) held self.old }
-        requires unused { IsUnusedBy self.old.form self.old }
+        requires keeps { 0 < held → KeepsBy self.old.form (nodes_before self.old.cursor) held (kept_in self.old) }
         requires countable { self.old.judge.plays + length (nodes_before self.old.cursor) < u64.MAX }
-        ensures made { OnOk result (Some (record_in self.new) ≡ option_map (record_of self.old.form) (line_before self.old.cursor)) }
-        ensures holds { OnOk result (HoldsBy self.old.form (nodes_before self.old.cursor) self.new) }
-        ensures unused { IsUnusedBy self.old.form self.new }
+        ensures made { OnOk result (Some (record_by self.old.form self.new.head.items self.new.game self.new.script) ≡ option_map (record_of self.old.form) (line_before self.old.cursor)) }
+        ensures holds { OnOk result (HoldsBy self.old.form (nodes_before self.old.cursor) (kept_in self.new)) }
         ensures plays { PlaysUpTo self.old.judge.plays self.new.judge.plays
             (plays_in self.old.form (fresh_plays (nodes_before self.old.cursor) held)) result }
         ensures cursor { self.new.cursor ≡ self.old.cursor }
@@ -304,21 +302,18 @@ impl<'c, 'a> Run<'c, 'a> {
         }
     }
 
-    /// Puts the record that was made last. The parts that its form doesn't use are empty.
+    /// Puts the record that was made last.
     fn put<T: Sink>(&self, sink: &mut T) -> Result<(), SinkFault>
         requires countable { (T.state sink.old).failures < u64.MAX }
         ensures { PutsAll (T.state sink.old) (T.state sink.new) (record_in self.now) result }
     {
-        put_all(&self.head, sink)?;
-        put_both(self.game.text(), self.script.text(), sink)
+        match self.form {
+            Form::List => put_all(&self.head, sink),
+            Form::Sgf => put_all(self.game.text(), sink),
+            Form::Gtp => {
+                put_all(&self.head, sink)?;
+                put_all(self.script.text(), sink)
+            }
+        }
     }
-}
-
-/// Puts all of both texts, one after the other.
-fn put_both<T: Sink>(first: &[u8], second: &[u8], sink: &mut T) -> Result<(), SinkFault>
-    requires countable { (T.state sink.old).failures < u64.MAX }
-    ensures { PutsAll (T.state sink.old) (T.state sink.new) (first.now ++ second.now) result }
-{
-    put_all(first, sink)?;
-    put_all(second, sink)
 }

@@ -1,5 +1,5 @@
 -- What a run holds of the line before its cursor, and how many nodes it plays for each line.
-use Rattle.std.specs.Prelude.{◌≡◌, ◌⊎◌, ℕ, ◌+◌, ◌-◌, ◌<◌, ◌≤◌, Bool, true, false, List, [], ◌++◌, length, take, Some, slice_get, Result, Ok, Err, OnOk, MatchBool, nat_lt}
+use Rattle.std.specs.Prelude.{◌≡◌, ◌⊎◌, ℕ, ◌+◌, ◌-◌, ◌<◌, ◌≤◌, Bool, true, false, List, ◌++◌, length, take, Some, slice_get, Result, Ok, Err, OnOk, MatchBool, nat_lt}
 use Rattle.std.specs.List.{concat}
 use Rattle.sgf_tree.specs.Tree.{Node}
 use Rattle.sgf_lines.specs.Lines.{Line, lines}
@@ -10,9 +10,9 @@ use Rattle.sgf_lines.specs.RunPlays.{plays_in}
 use Rattle.sgf_lines.specs.declared.options.Form.{Form}
 use Rattle.sgf_lines.specs.declared.options.Form.TheVariants.{List as list_form, Sgf as sgf_form, Gtp as gtp_form}
 use Rattle.sgf_lines.specs.declared.run.Run.{Run}
-use Rattle.sgf_lines.specs.inner.Pieces.{no_pieces, cut}
+use Rattle.sgf_lines.specs.inner.Pieces.{PiecesState, cut}
 use Rattle.sgf_lines.specs.inner.Recording.{open_record, whole_record}
-use Rattle.sgf_lines.specs.inner.Scripting.{ScriptState, empty_script, script_of, script_back, script_ended, script_text}
+use Rattle.sgf_lines.specs.inner.Scripting.{ScriptState, script_of, script_back, script_ended, script_text}
 use Rattle.sgf_lines.specs.inner.Judging.{Judgement, judging, back}
 use Rattle.sgf_lines.specs.inner.Following.{Continues, nodes_before, path_before}
 
@@ -23,38 +23,44 @@ judging_front nodes count = judging (game_kind (root_properties nodes)) (take co
 abbrev pub script_front : List Node → ℕ → ScriptState
 script_front nodes count = script_of (game_kind (root_properties nodes)) (take count nodes)
 
--- what a run keeps of the first `count` nodes of a line
-abbrev pub KeepsBy : Form → List Node → ℕ → Run → Type 0
-KeepsBy list_form nodes count run = back count run.judge.judgement ≡ judging_front nodes count
-KeepsBy sgf_form nodes count run = cut (count + 1) run.game ≡ open_record (take count nodes)
-KeepsBy gtp_form nodes count run = (back count run.judge.judgement ≡ judging_front nodes count) × (script_back count run.script ≡ script_front nodes count)
+-- what a run keeps from line to line: the judgement, the game in pieces and the script of a line, each only in the forms that need it
+pub record Kept : Type 0 where
+  pub judgement : Judgement
+  pub game : PiecesState
+  pub script : ScriptState
 
--- what a run holds of a line whose record it made
-abbrev pub HoldsBy : Form → List Node → Run → Type 0
-HoldsBy list_form nodes run = run.judge.judgement ≡ judging_front nodes (length nodes)
-HoldsBy sgf_form nodes run = run.game ≡ whole_record nodes
-HoldsBy gtp_form nodes run = (run.judge.judgement ≡ judging_front nodes (length nodes)) × (run.script ≡ script_ended (script_front nodes (length nodes)))
+abbrev pub kept_in : Run → Kept
+kept_in run = record { judgement = run.judge.judgement; game = run.game; script = run.script }
 
--- what a form doesn't use is empty
-abbrev pub IsUnusedBy : Form → Run → Type 0
-IsUnusedBy list_form run = (run.game ≡ no_pieces) × (run.script ≡ empty_script)
-IsUnusedBy sgf_form run = (run.script ≡ empty_script) × (run.head.items ≡ [])
-IsUnusedBy gtp_form run = run.game ≡ no_pieces
+-- of the first `count` nodes of a line
+abbrev pub KeepsBy : Form → List Node → ℕ → Kept → Type 0
+KeepsBy list_form nodes count kept = back count kept.judgement ≡ judging_front nodes count
+KeepsBy sgf_form nodes count kept = cut (count + 1) kept.game ≡ open_record (take count nodes)
+KeepsBy gtp_form nodes count kept = (back count kept.judgement ≡ judging_front nodes count) × (script_back count kept.script ≡ script_front nodes count)
+
+-- of a line whose record was made
+abbrev pub HoldsBy : Form → List Node → Kept → Type 0
+HoldsBy list_form nodes kept = kept.judgement ≡ judging_front nodes (length nodes)
+HoldsBy sgf_form nodes kept = kept.game ≡ whole_record nodes
+HoldsBy gtp_form nodes kept = (kept.judgement ≡ judging_front nodes (length nodes)) × (kept.script ≡ script_ended (script_front nodes (length nodes)))
 
 -- A run holds all nodes of the line before its cursor, or none.
-pub record Holds (run : Run) : Type 0 where
-  pub line : 0 < run.held → (run.held ≡ length (nodes_before run.cursor)) × HoldsBy run.form (nodes_before run.cursor) run
-  pub unused : IsUnusedBy run.form run
+abbrev pub Holds : Run → Type 0
+Holds run = 0 < run.held → (run.held ≡ length (nodes_before run.cursor)) × HoldsBy run.form (nodes_before run.cursor) (kept_in run)
 
 -- a run that has written no line
 pub record IsFresh (run : Run) : Type 0 where
   pub none : run.held ≡ 0
   pub plays : run.judge.plays ≡ 0
-  pub holds : Holds run
 
 -- the record that was made last
+abbrev pub record_by : Form → List ℕ → PiecesState → ScriptState → List ℕ
+record_by list_form head game script = head
+record_by sgf_form head game script = concat game.pieces ++ game.begun
+record_by gtp_form head game script = head ++ script_text script
+
 abbrev pub record_in : Run → List ℕ
-record_in run = run.head.items ++ ((concat run.game.pieces ++ run.game.begun) ++ script_text run.script)
+record_in run = record_by run.form run.head.items run.game run.script
 
 -- If nodes of the line before were held, all nodes that the line shares with it are still held; else none are.
 abbrev pub StillHeld : ℕ → ℕ → ℕ → Type 0

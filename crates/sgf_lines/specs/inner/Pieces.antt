@@ -1,5 +1,6 @@
 -- A text that is divided into pieces by the offsets where they end.
-use Rattle.std.specs.Prelude.{ℕ, ◌-◌, ◌≤◌, List, [], ◌∷◌, ◌++◌, length, take, drop}
+use Rattle.std.specs.Prelude.{◌≡◌, ℕ, ◌-◌, List, [], ◌∷◌, ◌++◌, take, drop}
+use Rattle.sgf_tree.specs.Written.{ends_from}
 
 -- pieces of text, one after the other, and an unfinished piece after them
 pub record PiecesState : Type 0 where
@@ -35,7 +36,6 @@ abbrev pub rest_from : ℕ → List ℕ → List ℕ → List ℕ
 rest_from start [] text = text
 rest_from start (end ∷ ends) text = rest_from end ends (drop (end - start) text)
 
--- each end is at or after the one before it, and within the text
-abbrev pub AreEnds : ℕ → List ℕ → List ℕ → Type 0
-AreEnds start [] text = Unit {0}
-AreEnds start (end ∷ ends) text = (start ≤ end) × (end - start ≤ length text) × AreEnds end ends (drop (end - start) text)
+-- the offsets are those at which these pieces end
+abbrev pub AreEnds : List ℕ → List ℕ → Type 0
+AreEnds ends text = ends ≡ ends_from 0 (pieces_from 0 ends text)

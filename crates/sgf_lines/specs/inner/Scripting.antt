@@ -1,6 +1,6 @@
 -- The commands of a line, in pieces: first those that begin a game on its board, then those of each node whose step was taken.
-use Rattle.std.specs.Prelude.{◌≡◌, ℕ, ◌+◌, Bool, true, false, ◌&&◌, ◌||◌, nat_lt, if◌then◌else◌, Option, Some, None, List, [], ◌∷◌, ◌++◌, length, codes, option_copied}
-use Rattle.std.specs.List.{concat, list_any}
+use Rattle.std.specs.Prelude.{◌≡◌, ℕ, suc, ◌+◌, ◌==◌, min, Bool, false, nat_lt, if◌then◌else◌, Option, Some, None, List, [], ◌∷◌, ◌++◌, length, map, codes, option_copied}
+use Rattle.std.specs.List.{concat, position_or_len}
 use Rattle.sgf_tree.specs.Tree.{Node}
 use Rattle.go_board.specs.declared.vertices.TheConstants.{MAX_VERTEX_SIDE}
 use Rattle.go_board.specs.Clearing.{has_unreaching}
@@ -37,56 +37,48 @@ is_unreaching grid Nothing = false
 is_unreaching grid stones_set = has_unreaching grid
 is_unreaching grid (one_play colour play) = false
 
--- the commands so far, and whether the line can't be written as commands
+-- the commands so far, and how many of the first pieces stand before a setup that leaves a stone without a liberty
 pub record ScriptState : Type 0 where
   pub text : PiecesState
-  pub silent : Bool
+  pub said : ℕ
 
--- the script before any line
-abbrev pub empty_script : ScriptState
-empty_script = record { text = no_pieces; silent = false }
-
--- the script of a line that isn't judged, or whose board has more columns than vertices have letters
+-- a script without commands: before any line; of a line that isn't judged; or of one whose board has more columns than vertices have letters
 abbrev pub no_script : ScriptState
-no_script = record { text = no_pieces; silent = true }
+no_script = record { text = no_pieces; said = 0 }
 
 -- the script before the commands of the root
 abbrev pub script_begun : ℕ → ScriptState
 script_begun side =
     if nat_lt MAX_VERTEX_SIDE side then no_script
-    else record { text = record { pieces = board_commands side ∷ []; begun = [] }; silent = false }
+    else record { text = record { pieces = board_commands side ∷ []; begun = [] }; said = 1 }
 
 -- the script before the commands of the root, for a line on this board; the line may be unjudged
 abbrev pub script_on : Option Grid → ScriptState
 script_on None = no_script
 script_on (Some grid) = script_begun grid.side
 
--- one more piece; from here on none if a setup left a stone without a liberty
+-- one more piece; a script without commands stays so
 abbrev pub said_on : ScriptState → Bool → List ℕ → ScriptState
 said_on old unreaching more =
-    if old.silent || unreaching then record { text = old.text; silent = true } else record { text = closed (pushed old.text more); silent = false }
+    if length old.text.pieces == 0 then old
+    else record { text = closed (pushed old.text more); said = if old.said == length old.text.pieces then (if unreaching then old.said else old.said + 1) else old.said }
 
 -- back to the first `count` taken nodes
 abbrev pub script_back : ℕ → ScriptState → ScriptState
-script_back count old = record { text = cut (count + 1) old.text; silent = old.silent && nat_lt (length old.text.pieces) (count + 1) }
+script_back count old = record { text = cut (count + 1) old.text; said = min (count + 1) old.said }
 
 -- with the empty row that ends a script
 abbrev pub script_ended : ScriptState → ScriptState
-script_ended old = record { text = pushed old.text (codes "\n"); silent = old.silent }
+script_ended old = record { text = pushed old.text (codes "\n"); said = old.said }
 
--- what is written of a script
+-- what is written of a script: the empty row alone unless all its pieces can be said
 abbrev pub script_text : ScriptState → List ℕ
-script_text script = if script.silent then codes "\n" else concat script.text.pieces ++ script.text.begun
-
--- the pieces of taken nodes, up to the first whose setup leaves a stone without a liberty
-abbrev pub spoken : List TakenNode → List (List ℕ)
-spoken [] = []
-spoken (taken ∷ others) = if leaves_unreaching taken then [] else taken_script taken ∷ spoken others
+script_text script = if nat_lt script.said (length script.text.pieces) then codes "\n" else concat script.text.pieces ++ script.text.begun
 
 abbrev pub script_along : ℕ → List TakenNode → ScriptState
 script_along side taken =
     if nat_lt MAX_VERTEX_SIDE side then no_script
-    else record { text = record { pieces = board_commands side ∷ spoken taken; begun = [] }; silent = list_any leaves_unreaching taken }
+    else record { text = record { pieces = board_commands side ∷ map taken_script taken; begun = [] }; said = suc (position_or_len leaves_unreaching taken) }
 
 -- the script of these nodes, in a game of this kind
 abbrev pub script_of : GameKind → List Node → ScriptState
@@ -104,7 +96,7 @@ said_by old (Some state) node =
 abbrev pub said_after : ScriptState → Judgement → Node → ScriptState
 said_after old judgement node = said_by old (state_after judgement node) node
 
--- unless a script is silent, the columns of its board have letters
+-- if a script has commands, the columns of its board have letters
 abbrev pub IsLettered : ScriptState → Option Grid → Type 0
 IsLettered script None = Unit {0}
-IsLettered script (Some grid) = script.silent ≡ false → nat_lt MAX_VERTEX_SIDE grid.side ≡ false
+IsLettered script (Some grid) = (length script.text.pieces == 0) ≡ false → nat_lt MAX_VERTEX_SIDE grid.side ≡ false

@@ -28,7 +28,7 @@ impl Model for Pieces {
 
     ghost view = { λ s. record { pieces = pieces_from 0 s.ends.items s.text.items; begun = rest_from 0 s.ends.items s.text.items } };
 
-    ghost invariant = { λ s. AreEnds 0 s.ends.items s.text.items };
+    ghost invariant = { λ s. AreEnds s.ends.items s.text.items };
 }
 
 impl Pieces {

@@ -1,10 +1,10 @@
 //! The script of a line in gtp form.
 
-ghost use Rattle.std.specs.Prelude.{◌≡◌, ◌+◌, ◌<◌, ◌≤◌, false, length, OnOk};
+ghost use Rattle.std.specs.Prelude.{◌≡◌, ◌==◌, ◌+◌, ◌<◌, ◌≤◌, false, length, OnOk};
 ghost use Rattle.sgf_lines.specs.inner.Following.{nodes_before};
 ghost use Rattle.sgf_lines.specs.inner.Judging.{back, after, next_plays, board_in};
 ghost use Rattle.sgf_lines.specs.inner.Keeping.{judging_front, script_front, fresh_plays, PlaysUpTo};
-ghost use Rattle.sgf_lines.specs.inner.Scripting.{IsLettered, IsPlayable, empty_script, is_unreaching, no_script, said_after, said_on, script_back, script_begun, script_ended, script_on, script_text, step_script};
+ghost use Rattle.sgf_lines.specs.inner.Scripting.{IsLettered, IsPlayable, is_unreaching, no_script, said_after, said_on, script_back, script_begun, script_ended, script_on, script_text, step_script};
 
 use crate::cursor::Cursor;
 use crate::form::commands::{push_board_commands, push_step};
@@ -20,15 +20,12 @@ use std::marker::Model;
 /// The commands of a line's nodes.
 #[derive(Drop)]
 pub(crate) struct Script {
-    /// The commands that begin a game on the board, and then a piece for each taken node.
+    /// The commands that begin a game on the board, and then a piece for each taken node. There are none if the line isn't
+    /// judged, or if its board has more columns than vertices have letters.
     pieces: Pieces,
 
-    /// Whether the line can't be written as commands, for one of three reasons:
-    ///
-    /// - The line isn't judged.
-    /// - Its board has more columns than vertices have letters.
-    /// - The setup of the node after the pieces leaves a stone without a liberty.
-    silent: bool,
+    /// How many of the first pieces stand before a setup that leaves a stone without a liberty: all, if no setup does.
+    said: usize,
 
     /// A buffer for the commands of a node.
     words: Vec<u8>,
@@ -39,27 +36,27 @@ impl Model for Script {
 
     ghost Value = { ScriptState };
 
-    ghost view = { λ s. record { text = s.pieces; silent = s.silent } };
+    ghost view = { λ s. record { text = s.pieces; said = s.said } };
 }
 
 impl Script {
     /// A script before any line.
     pub(crate) fn new(alloc: Global) -> Script
-        ensures { result ≡ empty_script }
+        ensures { result ≡ no_script }
     {
         Script {
             pieces: Pieces::new(alloc),
-            silent: false,
+            said: 0,
             words: Vec::new(alloc),
         }
     }
 
-    /// Becomes the script of a line that isn't judged.
+    /// Becomes a script without commands.
     fn silence(&mut self)
         ensures { self.new ≡ no_script }
     {
         self.pieces.cut_back(0);
-        self.silent = true;
+        self.said = 0;
     }
 
     /// Begins the commands of a game on a board of that size.
@@ -72,28 +69,29 @@ impl Script {
             push_board_commands(size, &mut self.words)?;
             self.pieces.push(&self.words)?;
             self.pieces.close()?;
-            self.silent = false;
+            self.said = 1;
         }
         Ok(())
     }
 
     /// Adds a node whose step was taken; `board` is the board after it.
     fn say(&mut self, step: TakenStep<'_>, board: &Board) -> Result<(), MemoryFault>
-        requires letters { self.old.silent ≡ false → board.now.side ≤ MAX_VERTEX_SIDE }
+        requires letters { (length self.old.text.pieces == 0) ≡ false → board.now.side ≤ MAX_VERTEX_SIDE }
         requires playable { IsPlayable board.now.side step.effect }
         ensures { OnOk result (self.new ≡ said_on self.old (is_unreaching board.now step.entry.effect) (step_script board.now step.entry)) }
     {
-        if self.silent {
-            return Ok(());
-        }
-        if leaves_unreaching(step.effect, board) {
-            self.silent = true;
+        let count = self.pieces.count();
+        if count == 0 {
             return Ok(());
         }
         self.words.clear();
         push_step(step, board, &mut self.words)?;
         self.pieces.push(&self.words)?;
-        self.pieces.close()
+        self.pieces.close()?;
+        if self.said == count && !leaves_unreaching(step.effect, board) {
+            self.said = self.pieces.count();
+        }
+        Ok(())
     }
 
     /// Adds a node with this place. The node is judged first.
@@ -126,8 +124,8 @@ impl Script {
         requires { count < usize.MAX }
         ensures { self.new ≡ script_back count self.old }
     {
-        self.silent = self.silent && self.pieces.count() < count + 1;
         self.pieces.cut_back(count + 1);
+        self.said = self.said.min(count + 1);
     }
 
     /// Appends the row that ends the script, which the next line cuts off.
@@ -141,7 +139,7 @@ impl Script {
     pub(crate) fn text(&self) -> &[u8]
         ensures { result.now ≡ script_text self.now }
     {
-        if self.silent {
+        if self.said < self.pieces.count() {
             b"\n"
         } else {
             self.pieces.text()

@@ -23,11 +23,11 @@ returns-clause-judged c =
 
 pub returns-clause-plays : goal.returns-clause-plays
 returns-clause-plays c =
-    fresh_all (nodes_before c.args.cursor.now) c.args.held c.args.judge.now.plays c.loop-index.index c.loop-index.judge _ c.loop-index.invariant (omega (arith, c.loop-index-test.false, c.len-end.ensures.nodes)) c.requires.within
+    fresh_all (nodes_before c.args.cursor.now) c.args.held c.args.judge.now.plays c.loop-index.index c.loop-index.judge c.loop-index.invariant (omega (arith, c.loop-index-test.false, c.len-end.ensures.nodes)) _
 
 pub returns-in_err-take-clause-plays : goal.returns-in_err-take-clause-plays
 returns-in_err-take-clause-plays c =
     let same = ap (λ (j : Judging). j.plays) c.in_err-take.ensures.unchanged in
     fresh_of_err (Unit {0}) c.in_err-take.field-0 c.from_residual-in_err-take.result c.from_residual-in_err-take.ensures.0
     (stopped (nodes_before c.args.cursor.now) c.args.held c.args.judge.now.plays c.loop-index.index c.loop-index.judge c.loop-index.invariant c.loop-index.auto.index c.node.result c.node.ensures
-    c.in_err-take.field-0 c.take.new.self.plays c.requires.within (omega (arith, same)) (omega (arith, same)))
+    c.in_err-take.field-0 c.take.new.self.plays (omega (arith, same)) (omega (arith, same)))

@@ -1,5 +1,5 @@
 -- The nodes that the line has more are pieces, and then its end is begun.
-use Rattle.std.proofs.Common.{◌≡◌, [], map, take, drop, sym, ap, ◌∙◌, arith}
+use Rattle.std.proofs.Common.{◌≡◌, map, take, drop, sym, ap, ◌∙◌, arith}
 use Rattle.std.specs.Prelude.{codes}
 use Rattle.std.proofs.lemmas.Result.{on_ok_weaker}
 use Rattle.sgf_lines.specs.Record.{node_text}

@@ -70,10 +70,10 @@ returns-clause-said c =
 pub returns-clause-plays : goal.returns-clause-plays
 returns-clause-plays c =
     let nodes = nodes_before c.args.cursor.now in
-    fresh_all nodes c.args.held c.args.judge.now.plays c.loop-index.index c.loop-index.judge c.end.result c.loop-index.invariant.judges (omega (arith, c.loop-index-test.false, c.len-end.ensures.nodes)) c.requires.within
+    fresh_all nodes c.args.held c.args.judge.now.plays c.loop-index.index c.loop-index.judge c.loop-index.invariant.judges (omega (arith, c.loop-index-test.false, c.len-end.ensures.nodes)) c.end.result
 
 pub returns-in_err-take-clause-plays : goal.returns-in_err-take-clause-plays
 returns-in_err-take-clause-plays c =
     fresh_of_err (Unit {0}) c.in_err-take.field-0 c.from_residual-in_err-take.result c.from_residual-in_err-take.ensures.0
     (stopped (nodes_before c.args.cursor.now) c.args.held c.args.judge.now.plays c.loop-index.index c.loop-index.judge c.loop-index.invariant.judges c.loop-index.auto.index c.node.result c.node.ensures
-    c.in_err-take.field-0 c.take.new.judge.plays c.requires.within c.in_err-take.ensures.not_fewer c.in_err-take.ensures.not_more)
+    c.in_err-take.field-0 c.take.new.judge.plays c.in_err-take.ensures.not_fewer c.in_err-take.ensures.not_more)

@@ -1,9 +1,7 @@
 -- The line was followed by what its form keeps, and then its row was laid out.
 use Rattle.std.proofs.Common.{arith}
 use Rattle.std.proofs.lemmas.Result.{on_ok_weaker}
-use Rattle.sgf_lines.specs.declared.options.Form.TheVariants.{List as list_form, Sgf as sgf_form, Gtp as gtp_form}
 use Rattle.sgf_lines.specs.declared.run.Run.{Run}
-use Rattle.sgf_lines.specs.inner.Keeping.{IsUnusedBy}
 use Rattle.sgf_lines.proofs.JudgedLines.{on_any, fresh_of_ok}
 use Rattle.sgf_lines.proofs.RunRecords.{made_row, made_record, made_script, some_line}
 use Rattle.sgf_lines.proofs.run.Run.make.Goals as goal
@@ -11,11 +9,10 @@ use Rattle.sgf_lines.proofs.run.Run.make.Goals as goal
 pub returns-in_ok-judge_line-in-List-clause-made : goal.returns-in_ok-judge_line-in-List-clause-made
 returns-in_ok-judge_line-in-List-clause-made c =
     let run = c.args.self.now in
-    let unused : IsUnusedBy list_form run = rw c.in-List.is at c.requires.unused in
     let new : Run = record run { judge = c.judge_line.new.judge; head = c.push_list_row.new.output } in
     on_ok_weaker c.push_list_row.result
     (λ pushed. rw c.in-List.is (made_row run.cursor c.line.result c.requires.some_line c.line.ensures new c.verdict.result c.judge_line.new.judge.judgement c.verdict.ensures
-    c.in_ok-judge_line-in-List.ensures.judged unused.0 unused.1 (rw c.clear.ensures.items at pushed)))
+    c.in_ok-judge_line-in-List.ensures.judged (rw c.clear.ensures.items at pushed)))
     c.push_list_row.ensures
 
 pub returns-in_ok-judge_line-in-List-clause-holds : goal.returns-in_ok-judge_line-in-List-clause-holds
@@ -27,10 +24,9 @@ returns-in_ok-judge_line-in-List-clause-plays c = rw c.in-List.is (fresh_of_ok _
 pub returns-in-Sgf-clause-made : goal.returns-in-Sgf-clause-made
 returns-in-Sgf-clause-made c =
     let run = c.args.self.now in
-    let unused : IsUnusedBy sgf_form run = rw c.in-Sgf.is at c.requires.unused in
     let l = some_line run.cursor c.requires.some_node in
     let new : Run = record run { game = c.follow.new.kept } in
-    on_ok_weaker c.follow.result (λ is. rw c.in-Sgf.is (made_record run.cursor new l.0 l.1 unused.1 unused.0 is)) c.follow.ensures
+    on_ok_weaker c.follow.result (λ is. rw c.in-Sgf.is (made_record run.cursor new l.0 l.1 is)) c.follow.ensures
 
 pub returns-in-Sgf-clause-holds : goal.returns-in-Sgf-clause-holds
 returns-in-Sgf-clause-holds c = rw c.in-Sgf.is c.follow.ensures
@@ -41,11 +37,10 @@ returns-in-Sgf-clause-plays c = rw c.in-Sgf.is (record { not_fewer = omega arith
 pub returns-in_ok-follow-in-Gtp-clause-made : goal.returns-in_ok-follow-in-Gtp-clause-made
 returns-in_ok-follow-in-Gtp-clause-made c =
     let run = c.args.self.now in
-    let unused : IsUnusedBy gtp_form run = rw c.in-Gtp.is at c.requires.unused in
     let new : Run = record run { judge = c.follow-in-Gtp.new.judge; script = c.follow-in-Gtp.new.script; head = c.push_list_row_comment.new.output } in
     on_ok_weaker c.push_list_row_comment.result
     (λ pushed. rw c.in-Gtp.is (made_script run.cursor c.line-in-Gtp.result c.requires.some_line c.line-in-Gtp.ensures new c.verdict-in-Gtp.result c.follow-in-Gtp.new.judge.judgement c.verdict-in-Gtp.ensures
-    c.in_ok-follow-in-Gtp.ensures.judged unused c.in_ok-follow-in-Gtp.ensures.said (rw c.clear-in-Gtp.ensures.items at pushed)))
+    c.in_ok-follow-in-Gtp.ensures.judged c.in_ok-follow-in-Gtp.ensures.said (rw c.clear-in-Gtp.ensures.items at pushed)))
     c.push_list_row_comment.ensures
 
 pub returns-in_ok-follow-in-Gtp-clause-holds : goal.returns-in_ok-follow-in-Gtp-clause-holds
