@@ -18,7 +18,6 @@ use Rattle.sgf_lines.specs.ListRow.{verdict_text}
 use Rattle.sgf_lines.specs.Record.{record_of}
 use Rattle.sgf_lines.specs.Appending.{raised_verdict, raised_record}
 use Rattle.sgf_lines.proofs.Lists.{Each, each_append, each_through}
-use Rattle.sgf_lines.proofs.Named.{map-through}
 
 -- ---- games after others
 
@@ -32,6 +31,15 @@ lines-joined number (game first more below after) d =
     ∙ ap (λ n. (own ++ lines_from (number + 1) after) ++ lines_from n d) sums
 
 -- ---- games further on
+
+-- what goes through images of the nodes is the image of what goes through them
+map-after : {A B : Type 0} (f : A → B) (own : List A) (ls : List (List A)) → map (map f) (map (λ rest. own ++ rest) ls) ≡ map (λ rest. map f own ++ rest) (map (map f) ls)
+map-after f own [] = refl
+map-after f own (l ∷ ls) = let one = map-append f own l in let rest = map-after f own ls in cc
+
+map-through : {A B : Type 0} (f : A → B) (own : List A) (ls : List (List A)) → map (map f) (through own ls) ≡ through (map f own) (map (map f) ls)
+map-through f own [] = refl
+map-through f own (l ∷ ls) = map-after f own (l ∷ ls)
 
 -- a line `by` bytes further on, after so many games
 abbrev raised_line : ℕ → ℕ → Line → Line

@@ -62,7 +62,7 @@ judged_front bad_size nodes = (0, refl)
 judged_front (board side) nodes = (more_judged (before_root side) nodes, judged_fold (before_root side) nodes)
 
 -- and which of a front they are is seen in it
-judged_of_front : (said : GameKind) (nodes : List Node) (k : ℕ) → take k (judged_on said nodes) ≡ judged_on said (take k nodes)
+pub judged_of_front : (said : GameKind) (nodes : List Node) (k : ℕ) → take k (judged_on said nodes) ≡ judged_on said (take k nodes)
 judged_of_front not_go nodes zero = refl
 judged_of_front not_go nodes (suc k) = refl
 judged_of_front bad_size nodes zero = refl

@@ -1,88 +1,21 @@
 -- How many nodes are judged of a front of a line, and of the whole.
-use Rattle.std.proofs.Common.{◌≡◌, ℕ, ◌+◌, ◌-◌, ◌≤◌, List, [], ◌∷◌, length, take, drop, slice_get, Option, Some, None, Result, Ok, Err, OnOk, refl, sym, ap, ◌∙◌, arith}
-use Rattle.std.specs.Prelude.{fold}
+use Rattle.std.proofs.Common.{◌≡◌, ℕ, ◌+◌, ◌-◌, ◌≤◌, List, length, take, slice_get, Some, None, Result, Ok, Err, OnOk, sym, ap, ◌∙◌, arith}
 use Rattle.std.specs.Result.{IsErr}
-use Rattle.std.proofs.lemmas.List.{take_all, take-append-drop, length-take-le}
-use Rattle.std.proofs.lemmas.List.Sums.{fold-append}
+use Rattle.std.proofs.lemmas.List.{take_all, length-take}
 use Rattle.sgf_tree.specs.Tree.{Node}
-use Rattle.sgf_lines.specs.Walk.{IllegalNode, Walk, before_root, next_by, next, walk, judged_by}
-use Rattle.sgf_lines.specs.JudgedGames.{GameKind, not_go, bad_size, board, game_kind, root_properties}
+use Rattle.sgf_lines.specs.JudgedGames.{GameKind, game_kind, root_properties}
 use Rattle.sgf_lines.specs.Verdict.{judged_on}
 use Rattle.sgf_lines.specs.inner.Judging.{Judgement, unjudged, judged, Judging, judging, after, next_plays}
 use Rattle.sgf_lines.specs.inner.Keeping.{judging_front, fresh_plays, PlaysUpTo}
-use Rattle.sgf_lines.proofs.Walking.{after_illegal}
+use Rattle.sgf_lines.proofs.JudgedFront.{judged_of_front}
 use Rattle.sgf_lines.proofs.Lists.{front_more}
-use Rattle.sgf_lines.proofs.Judgements.{one_judged, judging_more, plays_more}
+use Rattle.sgf_lines.proofs.Judgements.{judging_more, plays_more}
 
-abbrev judged_count : ℕ → List Node → ℕ
-judged_count side nodes = length (judged_by (walk side nodes))
-
--- as many where there was an illegal node before
-none_judged : (w : Walk) (n : Node) (f : IllegalNode) → w.illegal ≡ Some f → next w n ≡ w
-none_judged w n f some = ap (λ o. next_by w o n) some
-
-not_fewer_by : (w : Walk) (n : Node) (o : Option IllegalNode) → w.illegal ≡ o → length (judged_by w) ≤ length (judged_by (next w n))
-not_fewer_by w n None e = omega (arith, one_judged w n e)
-not_fewer_by w n (Some f) e = omega (arith, ap (λ v. length (judged_by v)) (none_judged w n f e))
-
-not_fewer : (w : Walk) (ns : List Node) → length (judged_by w) ≤ length (judged_by (fold next w ns))
-not_fewer w [] = omega arith
-not_fewer w (n ∷ ns) = omega (arith, not_fewer_by w n w.illegal refl, not_fewer (next w n) ns)
-
--- where the walk met no illegal node all nodes are judged
-all_judged_places : (w : Walk) (ns : List Node) → w.illegal ≡ None → (fold next w ns).illegal ≡ None → length (judged_by (fold next w ns)) ≡ length (judged_by w) + length ns
-all_judged_places w [] none end = omega arith
-all_judged_places w (n ∷ ns) none end = by (next w n).illegal refl (λ e. all_judged_places (next w n) ns e end)
-  where
-    by : (o : Option IllegalNode) → (next w n).illegal ≡ o → ((next w n).illegal ≡ None → length (judged_by (fold next (next w n) ns)) ≡ length (judged_by (next w n)) + length ns)
-        → length (judged_by (fold next w (n ∷ ns))) ≡ length (judged_by w) + length (n ∷ ns)
-    by None e later = omega (arith, one_judged w n none, later e)
-    by (Some f) e later = let bad : None ≡ Some f = sym end ∙ ap (λ (v : Walk). v.illegal) (after_illegal (next w n) f ns e) ∙ e in absurd cc
-
--- no more than there are
-pub within : (w : Walk) (ns : List Node) → length (judged_by (fold next w ns)) ≤ length (judged_by w) + length ns
-within w [] = omega arith
-within w (n ∷ ns) = omega (arith, one_more w.illegal refl, within (next w n) ns)
-  where
-    one_more : (o : Option IllegalNode) → w.illegal ≡ o → length (judged_by (next w n)) ≤ length (judged_by w) + 1
-    one_more None e = omega (arith, one_judged w n e)
-    one_more (Some f) e = omega (arith, ap (λ v. length (judged_by v)) (none_judged w n f e))
-
--- a front of nodes has no more judged ones
-pub fewer_before : (side : ℕ) (nodes : List Node) (k : ℕ) → judged_count side (take k nodes) ≤ judged_count side nodes
-fewer_before side nodes k =
-    let whole : walk side nodes ≡ fold next (walk side (take k nodes)) (drop k nodes) =
-    ap (fold next (before_root side)) (sym (take-append-drop k nodes)) ∙ fold-append next (before_root side) (take k nodes) (drop k nodes) in
-    omega (arith, ap (λ w. length (judged_by w)) whole, not_fewer (walk side (take k nodes)) (drop k nodes))
-
--- of those after the first k as many are judged as are judged in all, less k
-pub judged_after : (side : ℕ) (nodes : List Node) (k : ℕ) → k ≤ length nodes → judged_count side nodes - k ≡ judged_count side nodes - judged_count side (take k nodes)
-judged_after side nodes k le = by (walk side (take k nodes)).illegal refl
-  where
-    front : Walk
-    front = walk side (take k nodes)
-
-    whole : walk side nodes ≡ fold next front (drop k nodes)
-    whole = ap (fold next (before_root side)) (sym (take-append-drop k nodes)) ∙ fold-append next (before_root side) (take k nodes) (drop k nodes)
-
-    by : (o : Option IllegalNode) → front.illegal ≡ o → judged_count side nodes - k ≡ judged_count side nodes - judged_count side (take k nodes)
-    by None e =
-        let all : judged_count side (take k nodes) ≡ k = omega (arith, all_judged_places (before_root side) (take k nodes) refl e, length-take-le k nodes le) in
-        ap (λ j. judged_count side nodes - j) (sym all)
-    by (Some f) e =
-        let same : judged_count side nodes ≡ judged_count side (take k nodes) = ap (λ v. length (judged_by v)) (whole ∙ after_illegal front f (drop k nodes) e) in
-        omega (arith, same, within (before_root side) (take k nodes), length-take-le k nodes le)
-
--- the same of a game whose root says this
 pub fewer_in_front : (kind : GameKind) (nodes : List Node) (k : ℕ) → length (judged_on kind (take k nodes)) ≤ length (judged_on kind nodes)
-fewer_in_front not_go nodes k = omega arith
-fewer_in_front bad_size nodes k = omega arith
-fewer_in_front (board side) nodes k = fewer_before side nodes k
+fewer_in_front kind nodes k = omega (arith, ap length (judged_of_front kind nodes k), length-take k (judged_on kind nodes))
 
-pub fresh_after : (kind : GameKind) (nodes : List Node) (k : ℕ) → k ≤ length nodes → length (judged_on kind nodes) - k ≡ length (judged_on kind nodes) - length (judged_on kind (take k nodes))
-fresh_after not_go nodes k le = omega arith
-fresh_after bad_size nodes k le = omega arith
-fresh_after (board side) nodes k le = judged_after side nodes k le
+pub fresh_after : (kind : GameKind) (nodes : List Node) (k : ℕ) → length (judged_on kind nodes) - k ≡ length (judged_on kind nodes) - length (judged_on kind (take k nodes))
+fresh_after kind nodes k = omega (arith, ap length (judged_of_front kind nodes k), length-take k (judged_on kind nodes))
 
 one_at_most : (j : Judgement) → next_plays j ≤ 1
 one_at_most (unjudged told) = omega arith
@@ -121,7 +54,7 @@ module _ (nodes : List Node) (held old i : ℕ) (judge : Judging) (h : JudgesTo 
   -- or none, or its play alone, for want of memory
   pub stopped : {A E : Type 0} (e : E) (new : ℕ) → held ≤ length nodes → judge.plays ≤ new → new ≤ judge.plays + next_plays judge.judgement → PlaysUpTo {A = A} old new (fresh_plays nodes held) (Err e)
   stopped e new within more less =
-      let fresh = fresh_after (game_kind (root_properties nodes)) nodes held within in
+      let fresh = fresh_after (game_kind (root_properties nodes)) nodes held in
       let fewer = fewer_in_front (game_kind (root_properties nodes)) nodes (i + 1) in
       let least = fewer_in_front (game_kind (root_properties nodes)) nodes held in
       record { not_fewer = omega (arith, h.not_fewer); not_more = omega (arith, h.plays, plays_next, fresh, fewer, least); each = tt }
@@ -147,6 +80,6 @@ pub fresh_all : {A E : Type 0} (nodes : List Node) (held old i : ℕ) (judge : J
 fresh_all nodes held old i judge r h le within =
     let all : length (judged_on (game_kind (root_properties nodes)) (take i nodes)) ≡ length (judged_on (game_kind (root_properties nodes)) nodes) =
     ap (λ ns. length (judged_on (game_kind (root_properties nodes)) ns)) (take_all i nodes le) in
-    let fresh = fresh_after (game_kind (root_properties nodes)) nodes held within in
+    let fresh = fresh_after (game_kind (root_properties nodes)) nodes held in
     let least = fewer_in_front (game_kind (root_properties nodes)) nodes held in
     record { not_fewer = h.not_fewer; not_more = omega (arith, h.plays, all, fresh, least); each = on_any r (omega (arith, h.plays, all, fresh, least)) }
