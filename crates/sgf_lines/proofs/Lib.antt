@@ -19,7 +19,6 @@ pub mod Rising
 pub mod PlayCounts
 pub mod Distinct
 pub mod PagesJoin
-pub mod PagePlays
 pub mod Seeking
 pub mod Loops
 pub mod Standings

@@ -28,7 +28,6 @@ rises_take low (suc k) (n ∷ ns) h = (h.0, rises_take (n + 1) k ns h.1)
 pub record IsRising (path : List ℕ) : Type 0 where
   pub rises : RisesFrom 0 path
   pub below : Each (λ i. i < first_after path) path
-  pub short : length path ≤ first_after path
 
 rises_so : (low : ℕ) (ns : List ℕ) (high : ℕ) → Rises low ns high → RisesFrom low ns
 rises_so low [] high h = tt
@@ -48,14 +47,14 @@ module _ (c : Games) where
   continues_there k lt = continues (goes_on_there c k lt) refl
 
   pub rising : (k : ℕ) → k ≤ length (paths c) → IsRising (numbers_before c k)
-  rising zero le = record { rises = tt; below = tt; short = omega arith }
+  rising zero le = record { rises = tt; below = tt }
   rising (suc k) le =
       let q = element (paths c) k (omega arith) in
       let up = (leads c k q.0 q.1).up in
       let rises = way_rises up in
       let parts = rises_parts 0 q.0.numbers (last_number q.0.numbers + 1) rises in
       let after = after_way up in
-      rw q.1 (record { rises = rises_so 0 q.0.numbers (last_number q.0.numbers + 1) rises; below = rw after parts.0; short = omega (arith, parts.1, after) })
+      rw q.1 (record { rises = rises_so 0 q.0.numbers (last_number q.0.numbers + 1) rises; below = rw after parts.0 })
 
   -- later paths have later nodes
   pub after_rises : (k : ℕ) → k < length (paths c) → first_after (numbers_before c k) ≤ first_after (numbers_before c (suc k))
