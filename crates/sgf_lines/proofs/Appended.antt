@@ -1,7 +1,7 @@
 -- The lines of games after others are those of the others and then theirs, and what stands further on is judged alike.
 use Rattle.std.proofs.Common.{◌≡◌, ◌≢◌, ℕ, ◌+◌, List, [], ◌∷◌, ◌++◌, length, map, fold, Option, Some, None, option_map, Result, Ok, Err, codes, decimal, refl, sym, ap, ◌∙◌, arith, append_assoc}
 use Rattle.std.proofs.lemmas.Grind.{flat_map-append}
-use Rattle.std.specs.List.{flat_map}
+use Rattle.std.specs.List.{flat_map, AllZip}
 use Rattle.std.proofs.lemmas.List.{map-append, length-map}
 use Rattle.sgf_tree.specs.Tree.{Node, Games, no_games, game, game_count, joined}
 use Rattle.sgf_tree.specs.Appending.{raised_node, raised}
@@ -17,8 +17,13 @@ use Rattle.sgf_lines.specs.Verdict.{verdict_with, verdict_by, verdict_of}
 use Rattle.sgf_lines.specs.ListRow.{verdict_text}
 use Rattle.sgf_lines.specs.Record.{record_of}
 use Rattle.sgf_lines.specs.Appending.{raised_verdict, raised_record}
-use Rattle.sgf_lines.proofs.Lists.{Each, each_append, each_through}
-use Rattle.sgf_lines.proofs.Named.{map-through}
+use Rattle.sgf_tree.specs.FileOrder.{node_at}
+use Rattle.sgf_lines.specs.Paths.{Path, paths, IsPathOf}
+use Rattle.sgf_lines.proofs.Lists.{Each}
+use Rattle.sgf_lines.proofs.Joins.{as_many}
+use Rattle.sgf_lines.proofs.Ways.{some_node}
+use Rattle.sgf_lines.proofs.Following.{LeadsToLeaf, each_path}
+use Rattle.sgf_lines.proofs.Named.{each_named}
 
 -- ---- games after others
 
@@ -32,6 +37,15 @@ lines-joined number (game first more below after) d =
     ∙ ap (λ n. (own ++ lines_from (number + 1) after) ++ lines_from n d) sums
 
 -- ---- games further on
+
+-- what goes through images of the nodes is the image of what goes through them
+map-after : {A B : Type 0} (f : A → B) (own : List A) (ls : List (List A)) → map (map f) (map (λ rest. own ++ rest) ls) ≡ map (λ rest. map f own ++ rest) (map (map f) ls)
+map-after f own [] = refl
+map-after f own (l ∷ ls) = let one = map-append f own l in let rest = map-after f own ls in cc
+
+map-through : {A B : Type 0} (f : A → B) (own : List A) (ls : List (List A)) → map (map f) (through own ls) ≡ through (map f own) (map (map f) ls)
+map-through f own [] = refl
+map-through f own (l ∷ ls) = map-after f own (l ∷ ls)
 
 -- a line `by` bytes further on, after so many games
 abbrev raised_line : ℕ → ℕ → Line → Line
@@ -66,26 +80,17 @@ lines-raised by games number (game first more below after) =
 
 -- ---- Each line has a node.
 
-ways_filled : (g : Games) → Each (λ l. l ≢ []) (node_lines g)
-ways_filled no_games = tt
-ways_filled (game first more below after) =
-    each_append (λ l. l ≢ []) (through (first ∷ more) (node_lines below)) (node_lines after)
-    (each_through (λ l. l ≢ []) (λ l. l ≢ []) (first ∷ more) (node_lines below) (λ none e. cc) (λ l filled e. cc) (ways_filled below))
-    (ways_filled after)
-
 abbrev IsFilled : Line → Type 0
 IsFilled line = line.nodes ≢ []
 
-game_filled : (number : ℕ) (ways : List (List Node)) → Each (λ l. l ≢ []) ways → Each IsFilled (lines_of_game number ways)
-game_filled number [] h = tt
-game_filled number (w ∷ ws) h = (h.0, game_filled number ws h.1)
-
-lines_filled : (number : ℕ) (g : Games) → Each IsFilled (lines_from number g)
-lines_filled number no_games = tt
-lines_filled number (game first more below after) =
-    let ways = through (first ∷ more) (node_lines below) in
-    let own = each_through (λ l. l ≢ []) (λ l. l ≢ []) (first ∷ more) (node_lines below) (λ none e. cc) (λ l filled e. cc) (ways_filled below) in
-    each_append IsFilled (lines_of_game number ways) (lines_from (number + 1) after) (game_filled number ways own) (lines_filled (number + 1) after)
+filled_by : (c : Games) (ls : List Line) (ps : List Path) → AllZip (IsPathOf c) ls ps → Each (λ p. LeadsToLeaf c p.numbers) ps → Each IsFilled ls
+filled_by c [] [] z h = tt
+filled_by c [] (p ∷ ps) z h = absurd z
+filled_by c (l ∷ ls) [] z h = absurd z
+filled_by c (l ∷ ls) (p ∷ ps) z h = (
+  λ none. omega (arith, some_node h.0.up, as_many (node_at c) l.nodes p.numbers (sym z.0.nodes), ap length none),
+  filled_by c ls ps z.1 h.1,
+)
 
 -- ---- What a row says of a line further on.
 
@@ -161,4 +166,4 @@ rows_joined c d by =
     let games = game_count c in
     ap (λ ls. flat_map row ls) (lines-joined 1 c (raised by d) ∙ ap (λ ls. lines c ++ ls) (lines-raised by games 1 d))
     ∙ flat_map-append row (lines c) (map (raised_line by games) (lines d))
-    ∙ ap (λ t. flat_map row (lines c) ++ t) (rows-raised by games (lines d) (lines_filled 1 d))
+    ∙ ap (λ t. flat_map row (lines c) ++ t) (rows-raised by games (lines d) (filled_by d (lines d) (paths d) (each_named d) (each_path d)))

@@ -3,13 +3,18 @@ use Rattle.std.proofs.Common.{◌≡◌, ℕ, ◌+◌, ◌≤◌, true, false, L
 use Rattle.std.specs.Prelude.{filter, ◌==◌}
 use Rattle.std.specs.List.{flat_map}
 use Rattle.std.proofs.lemmas.Bool.{eqb-true, eq-eqb, cases_Bool}
-use Rattle.std.proofs.lemmas.List.{take-map, take-append-drop}
-use Rattle.sgf_lines.specs.Lines.{Line}
+use Rattle.std.proofs.lemmas.List.{take-map, take-append-drop, length-map}
+use Rattle.std.proofs.lemmas.Grind.{flat_map-append}
+use Rattle.sgf_tree.specs.Tree.{Games, node_count}
+use Rattle.sgf_tree.specs.FileOrder.{ordered_nodes, PlacesRise}
+use Rattle.sgf_tree.proofs.OrderedNodes.{length-ordered_nodes}
+use Rattle.sgf_lines.specs.Lines.{Line, lines}
 use Rattle.sgf_lines.specs.JudgedGames.{game_kind, root_properties}
 use Rattle.sgf_lines.specs.Plays.{differ, different, places_of, touched_places, judged_places, all_judged_places}
 use Rattle.sgf_lines.proofs.Lists.{Each, each_append, each_weaker}
 use Rattle.sgf_lines.proofs.Different.{has, has_left, has_right, each_has, each_filter, each_different}
 use Rattle.sgf_lines.proofs.JudgedFront.{judged_front}
+use Rattle.sgf_lines.proofs.Touched.{touched_all}
 
 -- no number stands twice
 abbrev Distinct : List ℕ → Type 0
@@ -113,14 +118,30 @@ judged_there line =
     let is : judged_places line ≡ take f.0 (places_of line.nodes) = ap places_of f.1 ∙ sym (take-map (λ n. n.place) f.0 line.nodes) in
     subst (Each (λ n. has (places_of line.nodes) n ≡ true)) (sym is) (front_there f.0 (places_of line.nodes))
 
-all_there : (ls : List Line) → Each (λ n. has (flat_map (λ line. places_of line.nodes) ls) n ≡ true) (flat_map judged_places ls)
+-- the places of the nodes of lines
+abbrev places_in : List Line → List ℕ
+places_in ls = flat_map (λ line. places_of line.nodes) ls
+
+all_there : (ls : List Line) → Each (λ n. has (places_in ls) n ≡ true) (flat_map judged_places ls)
 all_there [] = tt
 all_there (line ∷ ls) =
     let own = places_of line.nodes in
-    let others = flat_map (λ line. places_of line.nodes) ls in
+    let others = places_in ls in
     each_append (λ n. has (own ++ others) n ≡ true) (judged_places line) (flat_map judged_places ls)
     (each_weaker (λ n. has own n ≡ true) (λ n. has (own ++ others) n ≡ true) (has_left own others) (judged_places line) (judged_there line))
     (each_weaker (λ n. has others n ≡ true) (λ n. has (own ++ others) n ≡ true) (has_right own others) (flat_map judged_places ls) (all_there ls))
 
 pub judged_touched : (ls : List Line) → length (all_judged_places ls) ≤ length (touched_places ls)
-judged_touched ls = fewer_different (flat_map judged_places ls) (flat_map (λ line. places_of line.nodes) ls) (all_there ls)
+judged_touched ls = fewer_different (flat_map judged_places ls) (places_in ls) (all_there ls)
+
+-- and no more are judged than the collection has
+pub judged_few : (c : Games) → PlacesRise c → (before ls after : List Line) → lines c ≡ before ++ (ls ++ after) → length (all_judged_places ls) ≤ node_count c
+judged_few c rise before ls after is =
+    let all = places_in (lines c) in
+    let parts : all ≡ places_in before ++ (places_in ls ++ places_in after) =
+    ap places_in is ∙ flat_map-append (λ (line : Line). places_of line.nodes) before (ls ++ after)
+    ∙ ap (λ ns. places_in before ++ ns) (flat_map-append (λ (line : Line). places_of line.nodes) ls after) in
+    let there : Each (λ n. has all n ≡ true) (flat_map judged_places ls) =
+    each_weaker (λ n. has (places_in ls) n ≡ true) (λ n. has all n ≡ true)
+    (λ n h. rw parts (has_right (places_in before) (places_in ls ++ places_in after) n (has_left (places_in ls) (places_in after) n h))) (flat_map judged_places ls) (all_there ls) in
+    omega (arith, fewer_different (flat_map judged_places ls) all there, ap length (touched_all c rise), length-map (ordered_nodes c) (λ r. r.node.place), length-ordered_nodes c)

@@ -1,5 +1,5 @@
 -- Which places small collections touch, and which are judged, computed.
-use Rattle.std.proofs.Common.{◌≡◌, ℕ, List, [], ◌∷◌, Option, Some, None, refl}
+use Rattle.std.proofs.Common.{◌≡◌, ℕ, List, [], ◌∷◌, map, Option, Some, None, refl}
 use Rattle.std.specs.Prelude.{codes, option_map}
 use Rattle.sgf_tree.specs.Tree.{Node, Games, no_games, game}
 use Rattle.go_board.specs.Point.{points}
@@ -27,30 +27,9 @@ variations =
     no_games))
     no_games
 
-each_node_is_touched : touched_places (lines variations) ≡ 1 ∷ 8 ∷ 16 ∷ 22 ∷ []
-each_node_is_touched = refl
-
-each_node_is_judged_once : all_judged_places (lines variations) ≡ 1 ∷ 8 ∷ 16 ∷ 22 ∷ []
-unfolding reaching_within spread points reaches clear cleared_cell play score_of counts_for with_area point_value rect_value
-each_node_is_judged_once = refl
-
 -- how many nodes are played for the page after a place, or for all lines
 abbrev plays : Form → Option ℕ → Games → Option ℕ
 plays form after c = option_map (plays_of form) (page (record { form = form; after = after; limit = None }) c)
-
-each_node_is_played_once : plays list_form None variations ≡ Some 4
-unfolding reaching_within spread points reaches clear cleared_cell play score_of counts_for with_area point_value rect_value
-each_node_is_played_once = refl
-
-the_second_line_alone : plays gtp_form (Some 8) variations ≡ Some 3
-unfolding reaching_within spread points reaches clear cleared_cell play score_of counts_for with_area point_value rect_value
-the_second_line_alone = refl
-
-no_line : plays list_form (Some 22) variations ≡ Some 0
-no_line = refl
-
-no_play_in_sgf_form : plays sgf_form None variations ≡ Some 0
-no_play_in_sgf_form = refl
 
 -- (;SZ[1];B[aa](;W[])(;C[x]))
 abbrev suicide : Games
@@ -60,15 +39,6 @@ suicide =
     (game (node 20 (codes "C") (codes "x")) [] no_games
     no_games))
     no_games
-
--- nothing is judged after the first node that isn't allowed
-up_to_the_illegal_node : all_judged_places (lines suicide) ≡ 1 ∷ 7 ∷ []
-unfolding reaching_within spread points reaches clear cleared_cell play score_of counts_for with_area point_value rect_value
-up_to_the_illegal_node = refl
-
-no_play_after_the_illegal_node : plays list_form None suicide ≡ Some 2
-unfolding reaching_within spread points reaches clear cleared_cell play score_of counts_for with_area point_value rect_value
-no_play_after_the_illegal_node = refl
 
 -- (;SZ[3];B[](;W[])(;W[bb])(;AE[aa];W[]))
 abbrev passes : Games
@@ -80,17 +50,9 @@ passes =
     no_games)))
     no_games
 
-a_setup_is_played : plays list_form None passes ≡ Some 6
-unfolding reaching_within spread points reaches clear cleared_cell play score_of counts_for with_area point_value rect_value
-a_setup_is_played = refl
-
 -- (;SZ[1])(;SZ[2])
 abbrev two_games : Games
 two_games = game (node 1 (codes "SZ") (codes "1")) [] no_games (game (node 9 (codes "SZ") (codes "2")) [] no_games no_games)
-
-each_game_is_played : plays gtp_form None two_games ≡ Some 2
-unfolding reaching_within spread points reaches clear cleared_cell play score_of counts_for with_area point_value rect_value
-each_game_is_played = refl
 
 -- (;GM[2](;)(;))
 abbrev not_go : Games
@@ -101,8 +63,40 @@ not_go =
     no_games))
     no_games
 
-another_game_is_not_judged : all_judged_places (lines not_go) ≡ []
-another_game_is_not_judged = refl
+each_node_is_touched : touched_places (lines variations) ≡ 1 ∷ 8 ∷ 16 ∷ 22 ∷ []
+each_node_is_touched = refl
 
-another_game_is_not_played : plays list_form None not_go ≡ Some 0
-another_game_is_not_played = refl
+-- games, and the places of the nodes that are judged on their lines
+abbrev judged : List (Games × List ℕ)
+judged =
+    -- each node once
+    (variations, 1 ∷ 8 ∷ 16 ∷ 22 ∷ []) ∷
+    -- none after the first node that isn't allowed, and none of another game
+    (suicide, 1 ∷ 7 ∷ []) ∷
+    (not_go, []) ∷
+    []
+
+each_judged : map (λ e. all_judged_places (lines e.0)) judged ≡ map (λ e. e.1) judged
+unfolding reaching_within spread points reaches clear cleared_cell play score_of counts_for with_area point_value rect_value
+each_judged = refl
+
+-- forms, places and games, and how many nodes are played
+abbrev played : List (Form × Option ℕ × Games × ℕ)
+played =
+    -- each node once
+    (list_form, None, variations, 4) ∷
+    -- the second line alone, and no line
+    (gtp_form, Some 8, variations, 3) ∷
+    (list_form, Some 22, variations, 0) ∷
+    -- none in the sgf form, after an illegal node, and of another game
+    (sgf_form, None, variations, 0) ∷
+    (list_form, None, suicide, 2) ∷
+    (list_form, None, not_go, 0) ∷
+    -- a setup, and each of two games
+    (list_form, None, passes, 6) ∷
+    (gtp_form, None, two_games, 2) ∷
+    []
+
+each_played : map (λ e. plays e.0 e.1 e.2) played ≡ map (λ e. Some e.3) played
+unfolding reaching_within spread points reaches clear cleared_cell play score_of counts_for with_area point_value rect_value
+each_played = refl

@@ -1,201 +1,174 @@
--- Each path keeps a front of the one before it, and then has the nodes from after that one's leaf to its own, one after the other.
-use Rattle.std.proofs.Common.{◌≡◌, ◌≢◌, ℕ, zero, suc, ◌+◌, ◌-◌, ◌≤◌, List, [], ◌∷◌, ◌++◌, length, take, map, slice_get, Some, refl, sym, ap, ◌∙◌, arith, append_assoc, append-nil, length-append}
-use Rattle.std.proofs.lemmas.List.{map-append}
-use Rattle.std.proofs.Math.Seq.{take-append_seam}
+-- What the visits of all nodes say of the paths: each leads to a leaf, later ones to later leaves, each leaf has one, and each path
+-- keeps a front of the one before it, and then has the nodes after that one's leaf, down to its own.
+use Rattle.std.proofs.Common.{◌≡◌, ℕ, zero, suc, ◌+◌, ◌<◌, ◌≤◌, List, [], ◌∷◌, ◌++◌, length, map, take, slice_get, Option, Some, None, inl, inr, All, refl, sym, ap, ◌∙◌, arith, append_assoc, length-append, add-one, add-zero, option_map}
 use Rattle.std.specs.List.{range_with_len}
-use Rattle.sgf_tree.specs.Tree.{Node, Games, no_games, game, node_count}
-use Rattle.sgf_lines.specs.Lines.{through, last_number}
-use Rattle.sgf_lines.specs.Paths.{number_lines, paths_of_game, paths_from, paths}
-use Rattle.sgf_lines.specs.inner.Following.{first_after, Continues}
-use Rattle.sgf_lines.proofs.Climbing.{last_number-append}
-use Rattle.sgf_lines.proofs.PathsTo.{last_number-range, no_ways}
+use Rattle.std.proofs.Math.Seq.{take-append_seam}
+use Rattle.std.proofs.lemmas.Bool.{cases_eq}
+use Rattle.std.proofs.lemmas.Option.{slice_get-map}
+use Rattle.std.proofs.lemmas.List.Elements.{All-from_recursion}
+use Rattle.sgf_tree.specs.Tree.{Games, node_count}
+use Rattle.sgf_tree.specs.FileOrder.{parent_at, IsLeaf}
+use Rattle.sgf_tree.proofs.Rises.{Rises}
+use Rattle.sgf_lines.specs.Lines.{last_number}
+use Rattle.sgf_lines.specs.Paths.{Path, paths, leaf_of, EndsInLeaf}
+use Rattle.sgf_lines.specs.inner.PathTo.{IsPathTo}
+use Rattle.sgf_lines.specs.inner.Following.{first_after, Continues, numbers_of, numbers_before}
+use Rattle.sgf_lines.proofs.Lists.{Each, each_weaker, each_get, element}
+use Rattle.sgf_lines.proofs.Ways.{last-way, one_way, node_within, some_node, last_number-append, way_within}
+use Rattle.sgf_lines.proofs.Visits.{Way, way_path, Visits, none, inner, leaf, paths_visited}
 
--- paths that follow one another, after the path `old` and from the node `next` on, up to the path `last` and the node `end`
-pub data Follow : ℕ → List ℕ → List (List ℕ) → ℕ → List ℕ → Type 0 where
-  stay : {next : ℕ} {old : List ℕ} → Follow next old [] next old
-  go : {next end : ℕ} {old last : List ℕ} (kept more : ℕ) (new : List ℕ) (news : List (List ℕ)) → kept ≤ length old → new ≡ take kept old ++ range_with_len next (more + 1)
-      → Follow (next + (more + 1)) new news end last → Follow next old (new ∷ news) end last
+-- numbers down to a leaf
+pub record LeadsToLeaf (c : Games) (numbers : List ℕ) : Type 0 where
+  pub up : IsPathTo c (Some (last_number numbers)) numbers
+  pub is_leaf : IsLeaf c (last_number numbers)
 
-follow_append : {a b d : ℕ} {p q r : List ℕ} {ls ms : List (List ℕ)} → Follow a p ls b q → Follow b q ms d r → Follow a p (ls ++ ms) d r
-follow_append stay g = g
-follow_append {ms = ms} (go kept more new news le is f) g = go kept more new (news ++ ms) le is (follow_append f g)
+each_leads : {c : Games} {next end : ℕ} {old last : List ℕ} {ls : List (List ℕ)} → Visits c next old ls end last → Each (LeadsToLeaf c) ls
+each_leads none = tt
+each_leads (inner new w child v) = each_leads v
+each_leads {c = c} {next = next} (leaf new w is_leaf v) =
+    let up = way_path w in
+    let ends : last_number new ≡ next = last-way up in
+    (record { up = rw ends up; is_leaf = rw ends is_leaf }, each_leads v)
 
-pub range_append : (at n m : ℕ) → range_with_len at n ++ range_with_len (at + n) m ≡ range_with_len at (n + m)
-range_append at zero m = let same : at + 0 ≡ at = omega arith in let none : 0 + m ≡ m = omega arith in rw (same, none) refl
-range_append at (suc n) m =
-    let next : at + suc n ≡ at + 1 + n = omega arith in
-    let sum : suc n + m ≡ suc (n + m) = omega arith in
-    rw (next, sum) (ap (λ ns. at ∷ ns) (range_append (at + 1) n m))
-
-pub range_more : (first node : ℕ) → first ≤ node → range_with_len first (node - first) ++ node ∷ [] ≡ range_with_len first (node + 1 - first)
-range_more first node le =
-    let here : first + (node - first) ≡ node = omega arith in
-    let count : node - first + 1 ≡ node + 1 - first = omega arith in
-    ap (λ n. range_with_len first (node - first) ++ n ∷ []) (sym here) ∙ range_append first (node - first) 1 ∙ ap (range_with_len first) count
-
-pub own_range : (at more : ℕ) → range_with_len at (more + 1) ≡ at ∷ range_with_len (at + 1) more
-own_range at more = let one : more + 1 ≡ suc more = omega arith in rw one refl
-
-prefix_each : (above own : List ℕ) (ls : List (List ℕ)) → map (λ l. above ++ l) (map (λ l. own ++ l) ls) ≡ map (λ l. (above ++ own) ++ l) ls
-prefix_each above own [] = refl
-prefix_each above own (l ∷ ls) = let one : above ++ (own ++ l) ≡ (above ++ own) ++ l = sym (append_assoc above own l) in let rest = prefix_each above own ls in cc
-
-prefix_append : (above : List ℕ) (ls ms : List (List ℕ)) → map (λ l. above ++ l) (ls ++ ms) ≡ map (λ l. above ++ l) ls ++ map (λ l. above ++ l) ms
-prefix_append above ls ms = map-append (λ l. above ++ l) ls ms
-
-through_some : (own : List ℕ) (ls : List (List ℕ)) → ls ≢ [] → through own ls ≡ map (λ rest. own ++ rest) ls
-through_some own [] some = absurd (some refl)
-through_some own (l ∷ ls) some = refl
-
--- the ways of games, each after `above`
-abbrev below_path : List ℕ → ℕ → Games → List (List ℕ)
-below_path above at g = map (λ l. above ++ l) (number_lines at g)
-
--- paths that follow `old`, of which the last goes through `above`
-record Ends (next : ℕ) (old above : List ℕ) (ls : List (List ℕ)) (end : ℕ) : Type 0 where
-  rest : List ℕ
-  follow : Follow next old ls end (above ++ rest)
-
-abbrev EndsIn : ℕ → List ℕ → List ℕ → ℕ → Games → Type 0
-EndsIn next old above at no_games = Unit {0}
-EndsIn next old above at (game first more below after) = Ends next old above (below_path above at (game first more below after)) (at + node_count (game first more below after))
-
--- `above` is what is kept of the old path, and then the nodes from `next` on, up to before `at`
-record Begins (next kept fresh : ℕ) (old above : List ℕ) (at : ℕ) : Type 0 where
-  within : kept ≤ length old
-  above_is : above ≡ take kept old ++ range_with_len next fresh
-  at_is : at ≡ next + fresh
-
-longer : (next kept fresh more : ℕ) (old above : List ℕ) (at : ℕ) → Begins next kept fresh old above at
-    → Begins next kept (fresh + (more + 1)) old (above ++ (at ∷ range_with_len (at + 1) more)) (at + more + 1)
-longer next kept fresh more old above at h =
-    let own : range_with_len (next + fresh) (more + 1) ≡ at ∷ range_with_len (at + 1) more = rw (← h.at_is) (own_range at more) in
-    record {
-      within = h.within;
-      above_is =
-          ap (λ l. l ++ (at ∷ range_with_len (at + 1) more)) h.above_is ∙ append_assoc (take kept old) (range_with_len next fresh) (at ∷ range_with_len (at + 1) more)
-          ∙ ap (λ l. take kept old ++ (range_with_len next fresh ++ l)) (sym own) ∙ ap (λ l. take kept old ++ l) (range_append next fresh (more + 1));
-      at_is = omega (arith, h.at_is);
-    }
-
--- a game whose last own node is a leaf
-leaf_ends : (next kept fresh more : ℕ) (old above : List ℕ) (at : ℕ) → Begins next kept fresh old above at
-    → Ends next old above ((above ++ (at ∷ range_with_len (at + 1) more)) ∷ []) (at + more + 1)
-leaf_ends next kept fresh more old above at h =
-    let long = longer next kept fresh more old above at h in
-    let sum : fresh + (more + 1) ≡ fresh + more + 1 = omega arith in
-    let to : next + (fresh + more + 1) ≡ at + more + 1 = omega (arith, h.at_is) in
-    record {
-      rest = at ∷ range_with_len (at + 1) more;
-      follow = go kept (fresh + more) (above ++ (at ∷ range_with_len (at + 1) more)) [] h.within (rw (← sum) long.above_is) (rw to stay);
-    }
-
-own_ends : (next kept fresh more : ℕ) (old above : List ℕ) (at : ℕ) (below : Games) → Begins next kept fresh old above at
-    → EndsIn next old (above ++ (at ∷ range_with_len (at + 1) more)) (at + more + 1) below
-    → Ends next old above (map (λ l. above ++ l) (through (at ∷ range_with_len (at + 1) more) (number_lines (at + more + 1) below))) (at + more + 1 + node_count below)
-own_ends next kept fresh more old above at no_games h down = let none : at + more + 1 + 0 ≡ at + more + 1 = omega arith in rw none (leaf_ends next kept fresh more old above at h)
-own_ends next kept fresh more old above at (game first more' below after) h down =
-    let own = at ∷ range_with_len (at + 1) more in
-    let g = game first more' below after in
-    let ls = number_lines (at + more + 1) g in
-    let is : map (λ l. above ++ l) (through own ls) ≡ map (λ l. (above ++ own) ++ l) ls =
-    ap (λ ls. map (λ l. above ++ l) ls) (through_some own ls (λ none. some first more' below after (no_ways (at + more + 1) g none))) ∙ prefix_each above own ls in
-    record {
-      rest = own ++ down.rest;
-      follow = rw (is, ← append_assoc above own down.rest) down.follow;
-    }
+leaves_rise : {c : Games} {next end : ℕ} {old last : List ℕ} {ls : List (List ℕ)} → Visits c next old ls end last → Rises next (map last_number ls) end
+leaves_rise none = omega arith
+leaves_rise {next = next} {end = end} {ls = ls} (inner new w child v) = rises_from next (map last_number ls) end (leaves_rise v)
   where
-    some : (first : Node) (more : List Node) (below after : Games) → game first more below after ≡ no_games → ⊥
-    some first more below after e = cc
+    rises_from : (low : ℕ) (ns : List ℕ) (high : ℕ) → Rises (low + 1) ns high → Rises low ns high
+    rises_from low [] high h = omega arith
+    rises_from low (n ∷ ns) high h = (omega (arith, h.0), h.1)
+leaves_rise (leaf new w is_leaf v) = let ends = last-way (way_path w) in rw ends (omega arith, leaves_rise v)
 
--- what goes on through `above` begins anew after `above`
-again : (old above rest : List ℕ) (at : ℕ) → old ≡ above ++ rest → Begins at (length above) 0 old above at
-again old above rest at is = record {
-  within = omega (arith, ap length is, length-append above rest);
-  above_is = sym (ap (λ l. take (length above) l ++ []) is ∙ append-nil (take (length above) (above ++ rest)) ∙ take-append_seam above rest);
-  at_is = omega arith;
-}
+visited_leaf : {c : Games} {next end : ℕ} {old last : List ℕ} {ls : List (List ℕ)} → Visits c next old ls end last → (i : ℕ) → next ≤ i → i < end → IsLeaf c i
+    → (k : ℕ) × (slice_get (map last_number ls) k ≡ Some i)
+visited_leaf none i le lt is_leaf = absurd (omega arith)
+visited_leaf {next = next} (inner new w child v) i le lt is_leaf = elim (cases_eq i next) [
+  | inl same ↦ absurd (is_leaf (i + 1) (rw same child))
+  | inr other ↦ visited_leaf v i (omega arith) lt is_leaf
+]
+visited_leaf {next = next} (leaf new w here v) i le lt is_leaf = elim (cases_eq i next) [
+  | inl same ↦ (0, ap Some (last-way (way_path w) ∙ sym same))
+  | inr other ↦ let rest = visited_leaf v i (omega arith) lt is_leaf in (suc rest.0, rest.1)
+]
 
-follow_games : (g : Games) (next kept fresh : ℕ) (old above : List ℕ) (at : ℕ) → Begins next kept fresh old above at → EndsIn next old above at g
-follow_games no_games next kept fresh old above at h = tt
-follow_games (game first more below after) next kept fresh old above at h =
-    let last = at + length more in
-    let own = at ∷ range_with_len (at + 1) (length more) in
-    let here = through own (number_lines (last + 1) below) in
-    let to = last + 1 + node_count below in
-    let down = follow_games below next kept (fresh + (length more + 1)) old (above ++ own) (last + 1) (longer next kept fresh (length more) old above at h) in
-    let front = own_ends next kept fresh (length more) old above at below h down in
-    let back = follow_games after to (length above) 0 (above ++ front.rest) above to (again (above ++ front.rest) above front.rest to refl) in
-    let all = joined next to old above here after front back in
-    let sum : to + node_count after ≡ at + node_count (game first more below after) = omega arith in
-    rw sum at all
+-- the path of a line goes on from a front of the path before it
+pub record GoesOn (c : Games) (next : ℕ) (old new : List ℕ) : Type 0 where
+  pub parent : Option ℕ
+  pub parent_is : parent_at c next ≡ Some parent
+  pub above : List ℕ
+  pub up : IsPathTo c parent above
+  pub rest : List ℕ
+  pub old_is : old ≡ above ++ rest
+  pub more : ℕ
+  pub new_is : new ≡ above ++ range_with_len next (suc more)
+
+-- each of these paths goes on from the one before it; `next` is the first node after the path `old`
+abbrev pub Follow : Games → ℕ → List ℕ → List (List ℕ) → ℕ → Type 0
+Follow c next old [] end = next ≡ end
+Follow c next old (new ∷ news) end = GoesOn c next old new × Follow c (last_number new + 1) new news end
+
+follow_inner : {c : Games} {next : ℕ} {old new : List ℕ} (end : ℕ) (ls : List (List ℕ)) → Way c next old new → parent_at c (next + 1) ≡ Some (Some next) → parent_at c end ≡ None
+    → Follow c (next + 1) new ls end → Follow c next old ls end
+follow_inner {next = next} end [] w child past f = absurd (let here : next + 1 ≡ end = f in cc)
+follow_inner {c = c} {next = next} {new = new} end (q ∷ qs) w child past f =
+    let g = f.0 in
+    let parent : g.parent ≡ Some next = cc in
+    let above : g.above ≡ new = one_way (rw parent at g.up) (way_path w) in (
+      record {
+        parent = w.parent;
+        parent_is = w.parent_is;
+        above = w.above;
+        up = w.up;
+        rest = w.rest;
+        old_is = w.old_is;
+        more = suc g.more;
+        new_is =
+            g.new_is ∙ ap (λ l. l ++ range_with_len (next + 1) (suc g.more)) (above ∙ w.new_is) ∙ append_assoc w.above (next ∷ []) (range_with_len (next + 1) (suc g.more));
+      },
+      f.1,
+    )
+
+follow : {c : Games} {next end : ℕ} {old last : List ℕ} {ls : List (List ℕ)} → Visits c next old ls end last → parent_at c end ≡ None → Follow c next old ls end
+follow none past = refl
+follow {end = end} {ls = ls} (inner new w child v) past = follow_inner end ls w child past (follow v past)
+follow {c = c} {next = next} {end = end} {ls = l ∷ ls} (leaf new w is_leaf v) past =
+    let ends : last_number new ≡ next = last-way (way_path w) in (
+      record { parent = w.parent; parent_is = w.parent_is; above = w.above; up = w.up; rest = w.rest; old_is = w.old_is; more = 0; new_is = w.new_is },
+      rw ends (follow v past),
+    )
+
+pub paths_follow : (c : Games) → Follow c 0 [] (map (λ p. p.numbers) (paths c)) (node_count c)
+paths_follow c = follow (paths_visited c).1 (by (parent_at c (node_count c)) refl)
   where
-    joined : (next to : ℕ) (old above : List ℕ) (here : List (List ℕ)) (after : Games) (front : Ends next old above (map (λ l. above ++ l) here) to)
-        → EndsIn to (above ++ front.rest) above to after → Ends next old above (map (λ l. above ++ l) (here ++ number_lines to after)) (to + node_count after)
-    joined next to old above here no_games front back =
-        let none : to + 0 ≡ to = omega arith in
-        record { rest = front.rest; follow = rw (append-nil here, none) front.follow }
-    joined next to old above here (game first more below after) front back =
-        let lines = number_lines to (game first more below after) in
-        record { rest = back.rest; follow = rw (prefix_append above here lines) (follow_append front.follow back.follow) }
+    by : (o : Option (Option ℕ)) → parent_at c (node_count c) ≡ o → o ≡ None
+    by None e = refl
+    by (Some p) e = absurd (omega (arith, node_within c (node_count c) p e))
 
--- the same for the paths of a collection, which have their game's number as well
-numbers_of_game : (number : ℕ) (ways : List (List ℕ)) → map (λ p. p.numbers) (paths_of_game number ways) ≡ ways
-numbers_of_game number [] = refl
-numbers_of_game number (w ∷ ws) = ap (λ ls. w ∷ ls) (numbers_of_game number ws)
+-- the last number of a range after others
+pub last_number-range : (front : List ℕ) (start more : ℕ) → last_number (front ++ range_with_len start (suc more)) ≡ start + more
+last_number-range front start zero = last_number-append front start [] ∙ sym (add-zero start)
+last_number-range front start (suc more) = last_number-append front start (range_with_len (start + 1) (suc more)) ∙ last_number-range [] (start + 1) more ∙ omega arith
 
-numbers_of_paths : (number at : ℕ) (g : Games) → map (λ p. p.numbers) (paths_from number at g) ≡ number_lines at g
-numbers_of_paths number at no_games = refl
-numbers_of_paths number at (game first more below after) =
-    let last = at + length more in
-    let next = last + 1 + node_count below in
-    let ways = through (at ∷ range_with_len (at + 1) (length more)) (number_lines (last + 1) below) in
-    map-append (λ p. p.numbers) (paths_of_game number ways) (paths_from (number + 1) next after)
-    ∙ ap (λ ls. ls ++ map (λ p. p.numbers) (paths_from (number + 1) next after)) (numbers_of_game number ways)
-    ∙ ap (λ ls. ways ++ ls) (numbers_of_paths (number + 1) next after)
+pub ends_at : {c : Games} {next : ℕ} {old new : List ℕ} (g : GoesOn c next old new) → last_number new ≡ next + g.more
+ends_at {next = next} g = ap last_number g.new_is ∙ last_number-range g.above next g.more
 
--- the paths of a collection, from no path and the first node on, up to the last node
-pub record AllFollow (end : ℕ) (ls : List (List ℕ)) : Type 0 where
-  pub last : List ℕ
-  pub follow : Follow 0 [] ls end last
+-- the first node after a path is the one after its leaf
+pub after_way : {c : Games} {i : ℕ} {way : List ℕ} → IsPathTo c (Some i) way → first_after way ≡ i + 1
+after_way {way = []} h = absurd (omega (arith, some_node h))
+after_way {way = n ∷ ns} h = ap (λ k. k + 1) (last-way h)
 
-same_each : (ls : List (List ℕ)) → map (λ l. [] ++ l) ls ≡ ls
-same_each [] = refl
-same_each (l ∷ ls) = ap (λ ls. l ∷ ls) (same_each ls)
+pub continues : {c : Games} {next : ℕ} {old new : List ℕ} → GoesOn c next old new → first_after old ≡ next → (kept : ℕ) × Continues old kept new
+continues {old = old} g at =
+    let front : take (length g.above) old ≡ g.above = ap (take (length g.above)) g.old_is ∙ take-append_seam g.above g.rest in (
+      length g.above,
+      record { kept_within = omega (arith, ap length g.old_is, length-append g.above g.rest); more = g.more; new_is = rw (at, front, add-one) g.new_is },
+    )
 
-all_follow : (c : Games) → AllFollow (node_count c) (number_lines 0 c)
-all_follow no_games = record { last = []; follow = stay }
-all_follow (game first more below after) =
-    let g = game first more below after in
-    let f = follow_games g 0 0 0 [] [] 0 (record { within = omega arith; above_is = refl; at_is = refl }) in
-    let count : 0 + node_count g ≡ node_count g = omega arith in
-    record { last = [] ++ f.rest; follow = rw count at (rw (same_each (number_lines 0 g)) at f.follow) }
+leaves_of : (ps : List Path) → map last_number (map (λ p. p.numbers) ps) ≡ map leaf_of ps
+leaves_of [] = refl
+leaves_of (p ∷ ps) = ap (λ ns. leaf_of p ∷ ns) (leaves_of ps)
 
-pub paths_follow : (c : Games) → AllFollow (node_count c) (map (λ p. p.numbers) (paths c))
-paths_follow c = rw (numbers_of_paths 1 0 c) (all_follow c)
+-- the paths' leaves rise
+pub leaves_in_order : (c : Games) → Rises 0 (map leaf_of (paths c)) (node_count c)
+leaves_in_order c = rw (← leaves_of (paths c)) (leaves_rise (paths_visited c).1)
 
--- the node after a path is the one after its last
-pub after_new : (old : List ℕ) (kept next more : ℕ) → first_after (take kept old ++ range_with_len next (more + 1)) ≡ next + (more + 1)
-after_new old kept next more =
-    rw (own_range next more) (filled (take kept old) next (range_with_len (next + 1) more) ∙ ap (λ n. n + 1) (last_number-append (take kept old) next (range_with_len (next + 1) more) ∙ last_number-range next more) ∙ omega arith)
-  where
-    filled : (xs : List ℕ) (n : ℕ) (ns : List ℕ) → first_after (xs ++ n ∷ ns) ≡ last_number (xs ++ n ∷ ns) + 1
-    filled [] n ns = refl
-    filled (x ∷ xs) n ns = refl
+-- each leaf is that of a path
+pub covered : (c : Games) (i : ℕ) → i < node_count c → IsLeaf c i → (k : ℕ) × (slice_get (map leaf_of (paths c)) k ≡ Some i)
+covered c i lt is_leaf = let f = visited_leaf (paths_visited c).1 i (omega arith) lt is_leaf in (f.0, rw (leaves_of (paths c)) at f.1)
 
--- the first path, and each later one
-pub head_continues : {next end : ℕ} {old last : List ℕ} (ls : List (List ℕ)) (q : List ℕ) → Follow next old ls end last → first_after old ≡ next → slice_get ls 0 ≡ Some q
-    → (kept : ℕ) × Continues old kept q
-head_continues [] q f at e = absurd cc
-head_continues (l ∷ ls) q (go kept more new news le is f) at e =
-    let same : l ≡ q = cc in
-    (kept, record { kept_within = le; more = more; new_is = sym same ∙ rw at is })
+each_of : (c : Games) (ps : List Path) → Each (LeadsToLeaf c) (map (λ p. p.numbers) ps) → Each (λ p. LeadsToLeaf c p.numbers) ps
+each_of c [] h = tt
+each_of c (p ∷ ps) h = (h.0, each_of c ps h.1)
 
-pub next_continues : (ls : List (List ℕ)) (k : ℕ) {next end : ℕ} {old last : List ℕ} (p q : List ℕ) → Follow next old ls end last → slice_get ls k ≡ Some p → slice_get ls (suc k) ≡ Some q
-    → (kept : ℕ) × Continues p kept q
-next_continues [] k p q f e g = absurd cc
-next_continues (l ∷ ls) zero {next = next} {old = old} p q (go kept more new news le is f) e g =
-    let same : l ≡ p = cc in
-    let begins : first_after l ≡ next + (more + 1) = rw is (after_new old kept next more) in
-    rw same at (head_continues ls q f begins g)
-next_continues (l ∷ ls) (suc k) p q (go kept more new news le is f) e g = next_continues ls k p q f e g
+pub each_path : (c : Games) → Each (λ p. LeadsToLeaf c p.numbers) (paths c)
+each_path c = each_of c (paths c) (each_leads (paths_visited c).1)
+
+pub leads : (c : Games) (k : ℕ) (p : Path) → slice_get (paths c) k ≡ Some p → LeadsToLeaf c p.numbers
+leads c k p e = each_get (λ path. LeadsToLeaf c path.numbers) (paths c) k p (each_path c) e
+
+pub each_ends : (c : Games) → All (EndsInLeaf c) (paths c)
+each_ends c =
+    All-from_recursion (EndsInLeaf c) (paths c)
+    (each_weaker (λ p. LeadsToLeaf c p.numbers) (EndsInLeaf c) (λ p h. record { within = way_within h.up; is_leaf = h.is_leaf }) (paths c) (each_path c))
+
+-- the path at each index goes on from the one before it
+goes_on_in : {c : Games} (next end : ℕ) (old : List ℕ) (ls : List (List ℕ)) (k : ℕ) (p q : List ℕ) → Each (LeadsToLeaf c) ls → Follow c next old ls end → first_after old ≡ next
+    → slice_get (old ∷ ls) k ≡ Some p → slice_get ls k ≡ Some q → GoesOn c (first_after p) p q
+goes_on_in next end old [] k p q h f at e g = absurd cc
+goes_on_in {c = c} next end old (l ∷ ls) zero p q h f at e g =
+    let old_is : old ≡ p = cc in
+    let new_is : l ≡ q = cc in
+    let start : next ≡ first_after p = sym at ∙ ap first_after old_is in
+    rw (start, old_is, new_is) at f.0
+goes_on_in next end old (l ∷ ls) (suc k) p q h f at e g = goes_on_in (last_number l + 1) end l ls k p q h.1 f.1 (after_way h.0.up) e g
+
+numbers_at : (c : Games) (k : ℕ) → k ≤ length (paths c) → slice_get ([] ∷ map (λ p. p.numbers) (paths c)) k ≡ Some (numbers_before c k)
+numbers_at c zero le = refl
+numbers_at c (suc k) le =
+    let p = element (paths c) k (omega arith) in
+    slice_get-map (λ p. p.numbers) (paths c) k ∙ ap (λ o. option_map (λ (p : Path). p.numbers) o) p.1 ∙ ap (λ o. Some (numbers_of o)) (sym p.1)
+
+pub goes_on_there : (c : Games) (k : ℕ) → k < length (paths c) → GoesOn c (first_after (numbers_before c k)) (numbers_before c k) (numbers_before c (suc k))
+goes_on_there c k lt =
+    goes_on_in 0 (node_count c) [] (map (λ p. p.numbers) (paths c)) k (numbers_before c k) (numbers_before c (suc k)) (each_leads (paths_visited c).1) (paths_follow c) refl
+    (numbers_at c k (omega arith)) (numbers_at c (suc k) (omega arith))

@@ -5,10 +5,8 @@ pub mod ExamplesOfPlays
 pub mod ExamplesOfReplay
 pub mod Lists
 pub mod Standing
-pub mod Parents
-pub mod Climbing
-pub mod PathsTo
-pub mod Leaves
+pub mod Ways
+pub mod Visits
 pub mod GameNumbers
 pub mod Named
 pub mod CursorStates
@@ -21,7 +19,6 @@ pub mod Rising
 pub mod PlayCounts
 pub mod Distinct
 pub mod PagesJoin
-pub mod PagePlays
 pub mod Seeking
 pub mod Loops
 pub mod Standings

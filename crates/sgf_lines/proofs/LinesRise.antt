@@ -1,24 +1,20 @@
 -- The places of lines rise where those of the nodes do.
-use Rattle.std.proofs.Common.{◌≡◌, ◌≢◌, ℕ, suc, [], length, map, slice_get, Some, None, option_map, sym, ap, ◌∙◌, slice_index, add-one, arith}
+use Rattle.std.proofs.Common.{◌≡◌, ℕ, suc, length, map, slice_get, Some, option_map, sym, ap, ◌∙◌, slice_index, add-one, arith}
 use Rattle.std.specs.List.Sorted.{IsStrictlyIncreasing}
 use Rattle.std.proofs.lemmas.List.{length-map}
 use Rattle.std.proofs.lemmas.Option.{slice_get-map, get_or_from_slice_get}
 use Rattle.sgf_tree.specs.Tree.{Games}
 use Rattle.sgf_tree.specs.FileOrder.{PlacesRise}
 use Rattle.sgf_lines.specs.Lines.{Line, lines, place_of}
-use Rattle.sgf_lines.specs.Paths.{Path, paths, leaf_of}
-use Rattle.sgf_lines.proofs.Lists.{element, each_get}
-use Rattle.sgf_lines.proofs.PathsTo.{IsDescent, each_path}
-use Rattle.sgf_lines.proofs.Named.{line_at, place-line, length-paths}
+use Rattle.sgf_lines.specs.Paths.{paths, leaf_of}
+use Rattle.sgf_lines.proofs.Lists.{element}
+use Rattle.sgf_lines.proofs.Named.{line_at, length-paths}
 use Rattle.sgf_lines.proofs.CursorStates.{leaf_rises}
 
 module _ (c : Games) where
   place_at_line : (k : ℕ) (line : Line) → slice_get (lines c) k ≡ Some line → slice_index (map place_of (lines c)) k ≡ place_of line
   place_at_line k line e =
       get_or_from_slice_get (map place_of (lines c)) k (place_of line) 0 (slice_get-map place_of (lines c) k ∙ ap (λ o. option_map place_of o) e)
-
-  filled : (k : ℕ) (path : Path) → slice_get (paths c) k ≡ Some path → path.numbers ≢ []
-  filled k path e = let way : IsDescent c None path.numbers = each_get (λ path. IsDescent c None path.numbers) (paths c) k path (each_path c) e in way.filled
 
   pub lines_rise : PlacesRise c → IsStrictlyIncreasing (map place_of (lines c))
   lines_rise rise k lt =
@@ -27,6 +23,5 @@ module _ (c : Games) where
       let q = element (paths c) (suc k) (omega arith) in
       let l = line_at c k p.0 p.1 in
       let m = line_at c (suc k) q.0 q.1 in
-      let below = rise (leaf_of p.0) (leaf_of q.0) (place_of l.0) (place_of m.0) (leaf_rises c k p.0 q.0 p.1 q.1)
-      (place-line c k p.0 l.0 l.1 (filled k p.0 p.1)) (place-line c (suc k) q.0 m.0 m.1 (filled (suc k) q.0 q.1)) in
+      let below = rise (leaf_of p.0) (leaf_of q.0) (place_of l.0) (place_of m.0) (leaf_rises c k (suc k) p.0 q.0 (omega arith) p.1 q.1) l.1.place m.1.place in
       rw (add-one, place_at_line k l.0 l.1.found, place_at_line (suc k) m.0 m.1.found) below

@@ -61,3 +61,10 @@ element (x ∷ xs) (suc k) lt = element xs k (omega arith)
 pub range_below : (next n end : ℕ) → next + n ≤ end → Each (λ i. i < end) (range_with_len next n)
 range_below next zero end le = tt
 range_below next (suc n) end le = (omega arith, range_below (next + 1) n end (omega arith))
+
+pub range_append : (at n m : ℕ) → range_with_len at n ++ range_with_len (at + n) m ≡ range_with_len at (n + m)
+range_append at zero m = let same : at + 0 ≡ at = omega arith in let none : 0 + m ≡ m = omega arith in rw (same, none) refl
+range_append at (suc n) m =
+    let next : at + suc n ≡ at + 1 + n = omega arith in
+    let sum : suc n + m ≡ suc (n + m) = omega arith in
+    rw (next, sum) (ap (λ ns. at ∷ ns) (range_append (at + 1) n m))

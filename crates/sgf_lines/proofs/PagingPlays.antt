@@ -1,11 +1,10 @@
 -- The loop that writes the lines of a page counts the nodes that are judged on them.
-use Rattle.std.proofs.Common.{◌≡◌, ℕ, zero, suc, ◌+◌, ◌-◌, ◌<◌, ◌≤◌, Bool, true, false, List, ◌++◌, length, take, drop, slice_get, Some, Result, Ok, Err, inl, inr, refl, sym, ap, ◌∙◌, arith, add-one, length-append}
+use Rattle.std.proofs.Common.{◌≡◌, ℕ, zero, suc, ◌+◌, ◌-◌, ◌<◌, ◌≤◌, Bool, true, false, List, ◌++◌, length, take, drop, slice_get, Some, Result, Ok, Err, inl, inr, refl, sym, ap, ◌∙◌, arith, add-one, append_assoc, length-append}
 use Rattle.std.proofs.lemmas.Option.{slice_get_within}
 use Rattle.std.specs.Prelude.{filter}
 use Rattle.std.specs.List.{flat_map}
 use Rattle.std.proofs.Math.Seq.{take-add}
-use Rattle.std.proofs.lemmas.Bool.{cases_lt}
-use Rattle.std.proofs.lemmas.List.{take_all, length-take}
+use Rattle.std.proofs.lemmas.List.{take_all, length-take, take-append-drop}
 use Rattle.std.proofs.lemmas.Grind.{flat_map-append}
 use Rattle.sgf_tree.specs.Tree.{Games, node_count}
 use Rattle.sgf_tree.specs.FileOrder.{PlacesRise}
@@ -28,7 +27,8 @@ use Rattle.sgf_lines.specs.inner.Keeping.{IsShared, HasPlays, PlaysLine}
 use Rattle.sgf_lines.specs.inner.Running.{WritesLines}
 use Rattle.sgf_lines.proofs.Pages.{get_dropped, get_taken}
 use Rattle.sgf_lines.proofs.Different.{is_new, different-append}
-use Rattle.sgf_lines.proofs.PlayCounts.{first_plays, next_plays, plays_within}
+use Rattle.sgf_lines.proofs.PlayCounts.{first_plays, next_plays}
+use Rattle.sgf_lines.proofs.Distinct.{judged_few}
 use Rattle.sgf_lines.proofs.Paging.{page_from, IsSoFar}
 
 -- in a form that judges what is added is added, and in the other nothing is
@@ -41,6 +41,11 @@ fewer_in : (form : Form) (some all : ℕ) → some ≤ all → plays_in form som
 fewer_in list_form some all le = le
 fewer_in sgf_form some all le = omega arith
 fewer_in gtp_form some all le = le
+
+not_more_in : (form : Form) (all : ℕ) → plays_in form all ≤ all
+not_more_in list_form all = omega arith
+not_more_in sgf_form all = omega arith
+not_more_in gtp_form all = omega arith
 
 -- a line more plays no less
 plays_grow : (form : Form) (ls : List Line) (k : ℕ) → plays_of form (take k ls) ≤ plays_of form (take (k + 1) ls)
@@ -80,27 +85,23 @@ module _ (c : Games) (rise : PlacesRise c) (first limit : ℕ) where
       (next_plays c rise first page stands k shared line e h))
 
   -- no more than there are nodes
-  pub few : (form : Form) (k : ℕ) → k ≤ length (page_from c first limit) → plays_of form (take k (page_from c first limit)) ≤ node_count c
-  few list_form k le = plays_within c rise first (page_from c first limit) stands k le
-  few sgf_form k le = omega arith
-  few gtp_form k le = plays_within c rise first (page_from c first limit) stands k le
-
-  few_any : (form : Form) (k : ℕ) → plays_of form (take k (page_from c first limit)) ≤ node_count c
-  few_any form k =
+  pub few : (form : Form) (k : ℕ) → plays_of form (take k (page_from c first limit)) ≤ node_count c
+  few form k =
+      let rest = drop first (lines c) in
       let page = page_from c first limit in
-      elim (cases_lt (length page) k) [
-        | inl lt ↦ omega (arith, few form (length page) (omega arith), ap (plays_of form) (take_all k page (omega arith)), ap (plays_of form) (take_all (length page) page (omega arith)))
-        | inr ge ↦ few form k ge
-      ]
+      let parts : lines c ≡ take first (lines c) ++ (take k page ++ (drop k page ++ drop limit rest)) =
+      sym (take-append-drop first (lines c)) ∙ ap (λ ls. take first (lines c) ++ ls)
+      (sym (take-append-drop limit rest) ∙ ap (λ ls. ls ++ drop limit rest) (sym (take-append-drop k page)) ∙ append_assoc (take k page) (drop k page) (drop limit rest)) in
+      omega (arith, not_more_in form (length (all_judged_places (take k page))), judged_few c rise (take first (lines c)) (take k page) (drop k page ++ drop limit rest) parts)
 
   pub few_played : (form : Form) (old new : SinkState) (plays : ℕ) (result : Result ℕ RunFault) → WritesLines form (page_from c first limit) old new plays result → plays ≤ node_count c
-  few_played form old new plays (Ok k) h = omega (arith, h.2, few_any form (length (page_from c first limit)), ap (plays_of form) (take_all (length (page_from c first limit)) (page_from c first limit) (omega arith)))
+  few_played form old new plays (Ok k) h = omega (arith, h.2, few form (length (page_from c first limit)), ap (plays_of form) (take_all (length (page_from c first limit)) (page_from c first limit) (omega arith)))
   few_played form old new plays (Err Read) h = absurd h
   few_played form old new plays (Err TooLong) h = absurd h
   few_played form old new plays (Err (NotSgf at len)) h = absurd h
   few_played form old new plays (Err (NoSuchLine place)) h = absurd h
-  few_played form old new plays (Err (Write k)) h = omega (arith, h.1.at_most, few_any form (k + 1))
-  few_played form old new plays (Err (Memory k)) h = omega (arith, h.2.at_most, few_any form (k + 1))
+  few_played form old new plays (Err (Write k)) h = omega (arith, h.1.at_most, few form (k + 1))
+  few_played form old new plays (Err (Memory k)) h = omega (arith, h.2.at_most, few form (k + 1))
 
 -- what a line shares with the one before it, by where the cursor stands
 shares_by : (c : Games) (rise : PlacesRise c) (first limit k : ℕ) (wrote : Bool) (at : CursorState) (shared : ℕ) → at.games ≡ c → at.index ≡ first + k → (k ≡ 0 → wrote ≡ false) → (0 < k → wrote ≡ true)

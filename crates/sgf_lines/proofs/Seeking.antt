@@ -6,7 +6,7 @@ use Rattle.sgf_tree.specs.Tree.{Games, node_count}
 use Rattle.sgf_tree.specs.FileOrder.{OrderedNode, ordered_nodes, place_at, IsLeaf, IsAtOrBelow, itself, below, IsLastBelow, PlacesRise}
 use Rattle.sgf_lines.specs.inner.Seeking.{AllBefore, GoesOnFrom}
 use Rattle.sgf_tree.proofs.OrderedNodes.{length-nodes_from}
-use Rattle.sgf_lines.proofs.Parents.{node_within}
+use Rattle.sgf_lines.proofs.Ways.{node_within}
 
 pub last_within : (c : Games) (node last : ℕ) → node < node_count c → IsLastBelow c node last → last < node_count c
 last_within c node last lt h = under h.under

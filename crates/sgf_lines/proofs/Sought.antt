@@ -1,5 +1,5 @@
 -- The position after the line with a place, and that no line has it.
-use Rattle.std.proofs.Common.{◌≡◌, ◌≢◌, ℕ, ◌+◌, ◌-◌, ◌<◌, List, get_or, Some, None, sym, ap, ◌∙◌, arith}
+use Rattle.std.proofs.Common.{◌≡◌, ◌≢◌, ℕ, ◌+◌, ◌-◌, ◌<◌, List, get_or, Some, sym, ap, ◌∙◌, arith}
 use Rattle.std.proofs.lemmas.Option.{get_or_from_slice_get}
 use Rattle.sgf_tree.specs.Tree.{Games, node_count}
 use Rattle.sgf_tree.specs.FileOrder.{place_at, IsLeaf}
@@ -8,9 +8,9 @@ use Rattle.sgf_lines.specs.Paths.{paths, leaf_of}
 use Rattle.sgf_lines.specs.Cursor.{CursorState, IsAfterPlace, HasNoLineAt}
 use Rattle.sgf_lines.specs.inner.PathTo.{IsPathTo}
 use Rattle.sgf_lines.specs.inner.Standing.{lines_before, IsAfterLeaf}
-use Rattle.sgf_lines.proofs.Lists.{each_get, element}
-use Rattle.sgf_lines.proofs.PathsTo.{IsDescent, each_path}
-use Rattle.sgf_lines.proofs.Named.{line_at, place-line, length-paths}
+use Rattle.sgf_lines.proofs.Lists.{element}
+use Rattle.sgf_lines.proofs.Following.{leads}
+use Rattle.sgf_lines.proofs.Named.{line_at, length-paths}
 use Rattle.sgf_lines.proofs.CursorStates.{given_line}
 use Rattle.sgf_lines.proofs.Standings.{shows}
 use Rattle.sgf_lines.proofs.Shows.{before}
@@ -42,10 +42,9 @@ pub no_line : (c : Games) (place : ℕ) → ((leaf : ℕ) → IsLeaf c leaf → 
 no_line c place none = λ k d lt e.
     let p = element (paths c) k (omega (arith, length-paths c, lt)) in
     let l = line_at c k p.0 p.1 in
-    let descent : IsDescent c None p.0.numbers = each_get (λ path. IsDescent c None path.numbers) (paths c) k p.0 (each_path c) p.1 in
     let line : get_or (lines c) k d ≡ l.0 = get_or_from_slice_get (lines c) k l.0 d l.1.found in
     let placed : place_of l.0 ≡ place = rw line at e in
-    none (leaf_of p.0) descent.is_leaf (place-line c k p.0 l.0 l.1 descent.filled ∙ ap Some placed)
+    none (leaf_of p.0) (leads c k p.0 p.1).is_leaf (l.1.place ∙ ap Some placed)
 
 pub no_line_there : (c : Games) (next place : ℕ) (at : CursorState) → before c next ≡ at → ((leaf : ℕ) → IsLeaf c leaf → place_at c leaf ≢ Some place) → HasNoLineAt at.games place
 no_line_there c next place at is none = rw (← is) (no_line c place none)

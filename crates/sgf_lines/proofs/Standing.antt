@@ -1,10 +1,9 @@
 -- Ordered nodes that stand in a longer list of them: those of the games below and after a game stand in those of the game.
-use Rattle.std.proofs.Common.{◌≡◌, ℕ, suc, ◌+◌, List, [], ◌∷◌, ◌++◌, length, slice_get, Option, Some, None, true, refl, sym, ap, ◌∙◌, arith, append_assoc, length-append, append-nil}
+use Rattle.std.proofs.Common.{◌≡◌, ℕ, suc, ◌+◌, ◌<◌, List, [], ◌∷◌, ◌++◌, length, slice_get, Option, Some, None, option_map, true, refl, sym, ap, ◌∙◌, arith, add-zero, append_assoc, length-append, append-nil}
 use Rattle.sgf_tree.specs.Tree.{Node, Games, game, node_count}
-use Rattle.sgf_tree.specs.FileOrder.{OrderedNode, further_nodes, nodes_from, ordered_nodes}
-use Rattle.sgf_tree.proofs.Lists.{slice_get-right}
-use Rattle.sgf_tree.proofs.OrderedNodes.{length-further_nodes, length-nodes_from}
-use Rattle.sgf_lines.proofs.Lists.{get_left}
+use Rattle.sgf_tree.specs.FileOrder.{OrderedNode, further_nodes, nodes_from, ordered_nodes, parent_at}
+use Rattle.sgf_tree.proofs.Lists.{slice_get-left, slice_get-right}
+use Rattle.sgf_tree.proofs.OrderedNodes.{length-further_nodes, length-nodes_from, parent_in-further}
 
 -- xs stand in `all` from the index `at` on
 pub record StandsAt (all : List OrderedNode) (at : ℕ) (xs : List OrderedNode) : Type 0 where
@@ -13,7 +12,7 @@ pub record StandsAt (all : List OrderedNode) (at : ℕ) (xs : List OrderedNode) 
   pub is : all ≡ before ++ (xs ++ after)
   pub length_is : length before ≡ at
 
-pub stands_left : {all : List OrderedNode} {at : ℕ} (xs ys : List OrderedNode) → StandsAt all at (xs ++ ys) → StandsAt all at xs
+stands_left : {all : List OrderedNode} {at : ℕ} (xs ys : List OrderedNode) → StandsAt all at (xs ++ ys) → StandsAt all at xs
 stands_left xs ys h =
     record { before = h.before; after = ys ++ h.after; is = h.is ∙ ap (λ zs. h.before ++ zs) (append_assoc xs ys h.after); length_is = h.length_is }
 
@@ -26,10 +25,9 @@ stands_right {at = at} end xs ys h e =
       length_is = omega (arith, length-append h.before xs, h.length_is);
     }
 
-pub stands_get : {all : List OrderedNode} {at : ℕ} (xs : List OrderedNode) (k j : ℕ) (x : OrderedNode) → StandsAt all at xs → j ≡ at + k → slice_get xs k ≡ Some x → slice_get all j ≡ Some x
-stands_get {at = at} xs k j x h e got =
-    let right = slice_get-right h.before (xs ++ h.after) j k (omega (arith, h.length_is)) in
-    ap (λ zs. slice_get zs j) h.is ∙ right ∙ get_left xs h.after k x got
+pub stands_get : {all : List OrderedNode} {at : ℕ} (xs : List OrderedNode) (k : ℕ) → StandsAt all at xs → k < length xs → slice_get all (at + k) ≡ slice_get xs k
+stands_get {at = at} xs k h lt =
+    ap (λ zs. slice_get zs (at + k)) h.is ∙ slice_get-right h.before (xs ++ h.after) (at + k) k (omega (arith, h.length_is)) ∙ slice_get-left xs h.after k lt
 
 -- the ordered nodes of games, the first of which begins at the index `at`, stand in those of the collection
 abbrev pub Stands : Games → ℕ → Option ℕ → Games → Type 0
@@ -44,23 +42,30 @@ first_ordered parent first = record { node = first; parent = parent; opens = tru
 
 -- the parts of a game's ordered nodes
 module _ (c : Games) (at : ℕ) (parent : Option ℕ) (first : Node) (more : List Node) (below after : Games) (h : Stands c at parent (game first more below after)) where
-  front : StandsAt (ordered_nodes c) at (first_ordered parent first ∷ further_nodes at more ++ nodes_from (at + length more + 1) (Some (at + length more)) below)
-  front =
-      stands_left (first_ordered parent first ∷ further_nodes at more ++ nodes_from (at + length more + 1) (Some (at + length more)) below)
-      (nodes_from (at + length more + 1 + node_count below) parent after) h
+  abbrev own : List OrderedNode
+  own = first_ordered parent first ∷ further_nodes at more
+
+  abbrev under : List OrderedNode
+  under = nodes_from (at + length more + 1) (Some (at + length more)) below
+
+  front : StandsAt (ordered_nodes c) at (own ++ under)
+  front = stands_left (own ++ under) (nodes_from (at + length more + 1 + node_count below) parent after) h
 
   pub stands_own : StandsAt (ordered_nodes c) at (first_ordered parent first ∷ further_nodes at more)
-  stands_own = stands_left (first_ordered parent first ∷ further_nodes at more) (nodes_from (at + length more + 1) (Some (at + length more)) below) front
+  stands_own = stands_left own under front
 
   pub stands_below : Stands c (at + length more + 1) (Some (at + length more)) below
-  stands_below =
-      stands_right (at + length more + 1) (first_ordered parent first ∷ further_nodes at more) (nodes_from (at + length more + 1) (Some (at + length more)) below)
-      front (omega (arith, length-further_nodes at more))
+  stands_below = stands_right (at + length more + 1) own under front (omega (arith, length-further_nodes at more))
 
   pub stands_after : Stands c (at + length more + 1 + node_count below) parent after
   stands_after =
-      let up_to : List OrderedNode = first_ordered parent first ∷ further_nodes at more ++ nodes_from (at + length more + 1) (Some (at + length more)) below in
-      let count : length up_to ≡ suc (length more) + node_count below =
-      length-append (first_ordered parent first ∷ further_nodes at more) (nodes_from (at + length more + 1) (Some (at + length more)) below)
-      ∙ omega (arith, length-further_nodes at more, length-nodes_from (at + length more + 1) (Some (at + length more)) below) in
-      stands_right (at + length more + 1 + node_count below) up_to (nodes_from (at + length more + 1 + node_count below) parent after) h (omega arith)
+      let count : length (own ++ under) ≡ suc (length more) + node_count below =
+      length-append own under ∙ omega (arith, length-further_nodes at more, length-nodes_from (at + length more + 1) (Some (at + length more)) below) in
+      stands_right (at + length more + 1 + node_count below) (own ++ under) (nodes_from (at + length more + 1 + node_count below) parent after) h (omega arith)
+
+  pub first_parent : parent_at c at ≡ Some parent
+  first_parent = rw add-zero at (ap (option_map (λ (r : OrderedNode). r.parent)) (stands_get own 0 stands_own (omega arith)))
+
+  pub further_parent : (k : ℕ) → k < length more → parent_at c (at + suc k) ≡ Some (Some (at + k))
+  further_parent k lt =
+      ap (option_map (λ (r : OrderedNode). r.parent)) (stands_get own (suc k) stands_own (omega (arith, length-further_nodes at more))) ∙ parent_in-further at more k lt

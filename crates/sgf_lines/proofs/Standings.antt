@@ -1,29 +1,17 @@
 -- What a cursor that stands after a leaf shows, and how it goes on.
-use Rattle.std.proofs.Common.{◌≡◌, ℕ, zero, suc, ◌+◌, ◌-◌, ◌<◌, List, [], ◌∷◌, length, get_or, slice_get, Option, Some, None, option_map, sym, ap, ◌∙◌, subst, inl, inr, arith, length-append}
+use Rattle.std.proofs.Common.{◌≡◌, ℕ, zero, suc, ◌+◌, ◌-◌, ◌<◌, List, [], ◌∷◌, length, get_or, slice_get, Some, None, option_map, sym, ap, ◌∙◌, arith}
 use Rattle.std.proofs.lemmas.Option.{slice_get_past}
-use Rattle.std.proofs.lemmas.Bool.{cases_lt}
 use Rattle.sgf_tree.specs.Tree.{Games, node_count}
 use Rattle.sgf_tree.specs.FileOrder.{place_at, game_of, IsLeaf}
 use Rattle.sgf_lines.specs.Lines.{lines, place_of, last_number}
 use Rattle.sgf_lines.specs.Paths.{Path, paths, leaf_of}
-use Rattle.sgf_lines.specs.inner.PathTo.{IsPathTo, top, step, HasNoLeaf, IsNextLeaf}
+use Rattle.sgf_lines.specs.inner.PathTo.{IsPathTo, HasNoLeaf, IsNextLeaf}
 use Rattle.sgf_lines.specs.inner.Standing.{IsAfterLeaf, lines_before}
-use Rattle.sgf_lines.proofs.Lists.{Each, each_append, each_get, element}
-use Rattle.sgf_lines.proofs.Parents.{node_within}
-use Rattle.sgf_lines.proofs.Climbing.{last-way}
-use Rattle.sgf_lines.proofs.PathsTo.{IsDescent, each_path}
-use Rattle.sgf_lines.proofs.GameNumbers.{game_of_path}
-use Rattle.sgf_lines.proofs.Named.{line_at, place-line, length-paths}
+use Rattle.sgf_lines.proofs.Lists.{Each, each_get}
+use Rattle.sgf_lines.proofs.Ways.{last-way, some_node, within_way}
+use Rattle.sgf_lines.proofs.GameNumbers.{game_of_root}
+use Rattle.sgf_lines.proofs.Named.{line_at, length-paths}
 use Rattle.sgf_lines.proofs.CursorStates.{before_none, next_line, no_line_left, given_line}
-
--- each node on a way is one of the collection
-pub within_way : {c : Games} {at : Option ℕ} {way : List ℕ} → IsPathTo c at way → Each (λ n. n < node_count c) way
-within_way top = tt
-within_way {c = c} (step {number = i} {parent = p} {above = above} e up is) =
-    subst (Each (λ n. n < node_count c)) (sym is) (each_append (λ n. n < node_count c) above (i ∷ []) (within_way up) (node_within c i p e, tt))
-
-pub longer : {c : Games} {i : ℕ} {way : List ℕ} → IsPathTo c (Some i) way → 0 < length way
-longer {i = i} (step {above = above} e up is) = omega (arith, ap length is, length-append above (i ∷ []))
 
 each_head : (P : ℕ → Type 0) (ns : List ℕ) (d : ℕ) → 0 < length ns → Each P ns → P (get_or ns 0 d)
 each_head P [] d lt h = absurd (omega arith)
@@ -48,24 +36,19 @@ shown_at c i numbers lt leaf way =
     let f = given_line c i numbers lt leaf way in
     let k = lines_before c (suc i) - 1 in
     let found : slice_get (paths c) k ≡ Some f.0 = rw more f.1 in
-    let some_node = longer way in
+    let longer = some_node way in
     record {
-      some_node = some_node;
-      root_within = λ d. each_head (λ n. n < node_count c) numbers d some_node (within_way way);
+      some_node = longer;
+      root_within = λ d. each_head (λ n. n < node_count c) numbers d longer (within_way way);
       after = omega arith;
       last_within = omega (arith, lt);
       path_is = λ d.
-          let of_game : Each (λ n. game_of c n ≡ f.0.game_number) numbers =
-          subst (Each (λ n. game_of c n ≡ f.0.game_number)) f.2 (each_get (λ path. Each (λ n. game_of c n ≡ path.game_number) path.numbers) (paths c) k f.0 (game_of_path c) found) in
-          let root = each_head (λ n. game_of c n ≡ f.0.game_number) numbers d some_node of_game in
-          found ∙ ap Some (same_path f.0 (game_of c (get_or numbers 0 d)) numbers (sym root) f.2);
+          let root = each_get (λ path. (d : ℕ) → game_of c (get_or path.numbers 0 d) ≡ path.game_number) (paths c) k f.0 (game_of_root c) found d in
+          found ∙ ap Some (same_path f.0 (game_of c (get_or numbers 0 d)) numbers (sym (rw f.2 at root)) f.2);
       place_is = λ place e.
           let l = line_at c k f.0 found in
           let ends : leaf_of f.0 ≡ i = ap last_number f.2 ∙ last-way way in
-          let descent : IsDescent c None f.0.numbers = each_get (λ path. IsDescent c None path.numbers) (paths c) k f.0 (each_path c) found in
-          let at_leaf : place_at c i ≡ Some (place_of l.0) = subst (λ n. place_at c n ≡ Some (place_of l.0)) ends (place-line c k f.0 l.0 l.1 descent.filled) in
-          let here : place_at c i ≡ Some place = rw less at e in
-          ap (λ o. option_map place_of o) l.1.found ∙ sym at_leaf ∙ here;
+          ap (λ o. option_map place_of o) l.1.found ∙ sym (rw ends at l.1.place) ∙ rw less at e;
     }
 
 pub shows : (c : Games) (next : ℕ) (numbers : List ℕ) → IsAfterLeaf c next numbers → 0 < lines_before c next → IsShown c next numbers
@@ -77,11 +60,7 @@ shows c (suc i) numbers h lt =
 -- where no leaf is left, no line is
 pub none_left : (c : Games) (next : ℕ) → HasNoLeaf c next (node_count c) → slice_get (lines c) (lines_before c next) ≡ None
 none_left c next none =
-    let past : slice_get (paths c) (lines_before c next) ≡ None = no_line_left c next none in
-    elim (cases_lt (lines_before c next) (length (paths c))) [
-      | inl lt ↦ let x = element (paths c) (lines_before c next) lt in absurd cc
-      | inr ge ↦ slice_get_past (lines c) (lines_before c next) (omega (arith, length-paths c))
-    ]
+    slice_get_past (lines c) (lines_before c next) (omega (arith, no_line_left c next none, length-paths c))
 
 -- after the next leaf one line more has been given
 pub one_more : (c : Games) (next i : ℕ) → IsNextLeaf c next i → lines_before c (i + 1) ≡ lines_before c next + 1

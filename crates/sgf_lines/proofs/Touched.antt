@@ -1,18 +1,18 @@
 -- Each line touches what it shares with the line before it, and then new nodes, up to its leaf.
-use Rattle.std.proofs.Common.{◌≡◌, ℕ, zero, suc, ◌+◌, ◌<◌, ◌≤◌, true, List, [], ◌∷◌, ◌++◌, inl, inr, length, take, map, slice_get, Some, None, option_map, unwrap_or, refl, sym, ap, subst, ◌∙◌, arith, append_assoc, append-nil, length-append}
+use Rattle.std.proofs.Common.{◌≡◌, ℕ, zero, suc, ◌+◌, ◌<◌, ◌≤◌, true, List, [], ◌∷◌, ◌++◌, inl, inr, length, map, slice_get, Some, None, option_map, unwrap_or, refl, sym, ap, subst, ◌∙◌, arith, append_assoc, append-nil, length-append}
 use Rattle.std.specs.List.{flat_map, range_with_len, AllZip}
 use Rattle.std.proofs.lemmas.Bool.{cases_lt, cases_eq}
 use Rattle.std.proofs.lemmas.List.{map-append}
 use Rattle.sgf_tree.specs.Tree.{Node, Games, node_count}
 use Rattle.sgf_tree.specs.FileOrder.{OrderedNode, ordered_nodes, node_at, place_at, PlacesRise}
-use Rattle.sgf_lines.specs.Lines.{Line, lines}
+use Rattle.sgf_lines.specs.Lines.{Line, lines, last_number}
 use Rattle.sgf_lines.specs.Paths.{Path, paths, IsPathOf}
 use Rattle.sgf_lines.specs.Plays.{different, places_of, node_places, touched_places}
 use Rattle.sgf_tree.proofs.Lists.{slice_get-right}
 use Rattle.sgf_tree.proofs.OrderedNodes.{length-nodes_from}
-use Rattle.sgf_lines.proofs.Lists.{Each, each_append, each_weaker, element, range_below}
+use Rattle.sgf_lines.proofs.Lists.{Each, each_append, each_parts, each_weaker, element, range_below, range_append}
 use Rattle.sgf_lines.proofs.Named.{place_of_node, each_named}
-use Rattle.sgf_lines.proofs.Following.{Follow, stay, go, paths_follow, range_append}
+use Rattle.sgf_lines.proofs.Following.{Follow, paths_follow, ends_at}
 use Rattle.sgf_lines.proofs.Different.{has, RisesFrom, more_different, has_left, has_right, each_has}
 
 -- the place of a node, by its number
@@ -129,33 +129,29 @@ module _ (c : Games) where
         joined : (next n : ℕ) → range_with_len 0 next ++ range_with_len next n ≡ range_with_len 0 (next + n)
         joined next n = let from : 0 + next ≡ next = omega arith in ap (λ k. range_with_len 0 next ++ range_with_len k n) (sym from) ∙ range_append 0 next n
 
-    follow_end : {next end : ℕ} {old last : List ℕ} {ls : List (List ℕ)} → Follow next old ls end last → next ≤ end
-    follow_end stay = omega arith
-    follow_end (go kept more new news le is f) = omega (arith, follow_end f)
+    follow_end : (ls : List (List ℕ)) (next end : ℕ) (old : List ℕ) → Follow c next old ls end → next ≤ end
+    follow_end [] next end old f = omega (arith, f)
+    follow_end (new ∷ news) next end old (g, f) = omega (arith, ends_at g, follow_end news (last_number new + 1) end new f)
 
-    each_take : (next n : ℕ) (is : List ℕ) → Each (λ i. i < next) is → Each (λ i. i < next) (take n is)
-    each_take next zero is h = tt
-    each_take next (suc n) [] h = tt
-    each_take next (suc n) (i ∷ is) h = (h.0, each_take next n is h.1)
-
-    covers_all : {next end : ℕ} {old last : List ℕ} {ls : List (List ℕ)} (xs : List ℕ) → Follow next old ls end last → end ≤ node_count c → Each (λ i. i < next) old → Covers next xs
+    -- what the paths from `next` on touch
+    covers_all : (ls : List (List ℕ)) (next end : ℕ) (old xs : List ℕ) → Follow c next old ls end → end ≤ node_count c → Each (λ i. i < next) old → Covers next xs
         → Covers end (xs ++ flat_map (λ numbers. map (place_number c) numbers) ls)
-    covers_all xs stay within below h = rw (append-nil xs) h
-    covers_all {next = next} {end = end} {old = old} xs (go kept more new news le is f) within below h =
-        let to = next + (more + 1) in
-        let front = take kept old in
-        let range = range_with_len next (more + 1) in
-        let within_new : to ≤ node_count c = omega (arith, follow_end f) in
-        let front_below = each_take next kept old below in
-        let places : map (place_number c) new ≡ map (place_number c) front ++ map (place_number c) range = ap (map (place_number c)) is ∙ map-append (place_number c) front range in
-        let grown : Covers to (xs ++ map (place_number c) new) = rw places (grows next (more + 1) xs front (omega arith) within_new front_below h) in
+    covers_all [] next end old xs f within below h = rw (append-nil xs, ← f) h
+    covers_all (new ∷ news) next end old xs (g, f) within below h =
+        let to = next + suc g.more in
+        let range = range_with_len next (suc g.more) in
+        let front : Each (λ i. i < next) g.above = (each_parts (λ i. i < next) g.above g.rest (rw g.old_is at below)).0 in
+        let after : last_number new + 1 ≡ to = omega (arith, ends_at g) in
+        let places : map (place_number c) new ≡ map (place_number c) g.above ++ map (place_number c) range = ap (map (place_number c)) g.new_is ∙ map-append (place_number c) g.above range in
+        let grown : Covers to (xs ++ map (place_number c) new) =
+        rw places (grows next (suc g.more) xs g.above (omega arith) (omega (arith, follow_end news (last_number new + 1) end new f)) front h) in
         let new_below : Each (λ i. i < to) new =
-        rw is (each_append (λ i. i < to) front range (each_weaker (λ i. i < next) (λ i. i < to) (λ i lt. omega arith) front front_below) (range_below next (more + 1) to (omega arith))) in
-        rw (← append_assoc xs (map (place_number c) new) (flat_map (λ numbers. map (place_number c) numbers) news)) (covers_all (xs ++ map (place_number c) new) f within new_below grown)
+        rw g.new_is (each_append (λ i. i < to) g.above range (each_weaker (λ i. i < next) (λ i. i < to) (λ i lt. omega arith) g.above front) (range_below next (suc g.more) to (omega arith))) in
+        rw (← append_assoc xs (map (place_number c) new) (flat_map (λ numbers. map (place_number c) numbers) news))
+        (covers_all news to end new (xs ++ map (place_number c) new) (rw after at f) within new_below grown)
 
     pub touched_all : touched_places (lines c) ≡ node_places c
     touched_all =
-        let f = paths_follow c in
         let none : Covers 0 [] = record { once = refl; all = λ i lt. absurd (omega arith); only = tt } in
-        let h = covers_all [] f.follow (omega arith) tt none in
+        let h = covers_all (map (λ p. p.numbers) (paths c)) 0 (node_count c) [] [] (paths_follow c) (omega arith) tt none in
         ap different (places_of_lines (lines c) (paths c) (each_named c)) ∙ h.once ∙ all_places

@@ -1,38 +1,33 @@
 -- The lines of play again, by the numbers of their nodes in file order.
-use Rattle.std.specs.Prelude.{◌≡◌, ℕ, ◌+◌, ◌<◌, List, [], ◌∷◌, ◌++◌, length, map, Some}
-use Rattle.std.specs.List.{range_with_len}
-use Rattle.sgf_tree.specs.Tree.{Games, no_games, game, node_count}
+use Rattle.std.specs.Prelude.{◌≡◌, ℕ, ◌+◌, ◌<◌, List, [], ◌∷◌, length, map, Some}
+use Rattle.sgf_tree.specs.Tree.{Node, Games, no_games, game, node_count}
 use Rattle.sgf_tree.specs.FileOrder.{node_at, IsLeaf}
-use Rattle.sgf_lines.specs.Lines.{Line, through, last_number}
+use Rattle.sgf_lines.specs.Lines.{Line, lines, last_number}
 
--- the variations through games, by numbers; the first node has the number `first_number`
-abbrev pub number_lines : ℕ → Games → List (List ℕ)
-number_lines first_number no_games = []
-number_lines first_number (game first more below after) =
-    let last = first_number + length more in
-    through (first_number ∷ range_with_len (first_number + 1) (length more)) (number_lines (last + 1) below)
-    ++ number_lines (last + 1 + node_count below) after
+-- the nodes, each with its number as its place; the first has this number
+abbrev pub numbered_nodes : ℕ → List Node → List Node
+numbered_nodes number [] = []
+numbered_nodes number (node ∷ nodes) = record node { place = number } ∷ numbered_nodes (number + 1) nodes
+
+-- the games, each node with its number in file order as its place; the first node has this number
+abbrev pub numbered : ℕ → Games → Games
+numbered number no_games = no_games
+numbered number (game first more below after) =
+    let next = number + length more + 1 in
+    game (record first { place = number }) (numbered_nodes (number + 1) more) (numbered next below) (numbered (next + node_count below) after)
 
 -- a line by numbers: that of its game, from 1, and those of its nodes, from 0, the root first
 pub record Path : Type 0 where
   pub game_number : ℕ
   pub numbers : List ℕ
 
--- the paths of the game with this number, by the numbers of their nodes
-abbrev pub paths_of_game : ℕ → List (List ℕ) → List Path
-paths_of_game number variations = map (λ numbers. record { game_number = number; numbers = numbers }) variations
-
--- the paths of games; the first game has this number, and its first node the number `first_number`
-abbrev pub paths_from : ℕ → ℕ → Games → List Path
-paths_from number first_number no_games = []
-paths_from number first_number (game first more below after) =
-    let last = first_number + length more in
-    paths_of_game number (through (first_number ∷ range_with_len (first_number + 1) (length more)) (number_lines (last + 1) below))
-    ++ paths_from (number + 1) (last + 1 + node_count below) after
+-- the path of a line of numbered games
+abbrev pub path_of : Line → Path
+path_of line = record { game_number = line.game_number; numbers = map (λ n. n.place) line.nodes }
 
 -- the paths of a collection's lines, in the same order
 abbrev pub paths : Games → List Path
-paths games = paths_from 1 0 games
+paths games = map path_of (lines (numbered 0 games))
 
 -- the number of a path's last node, which is a leaf
 abbrev pub leaf_of : Path → ℕ

@@ -1,10 +1,10 @@
 -- There is room for each node, and it stands after those so far.
-use Rattle.std.proofs.Common.{◌≡◌, ◌-◌, ◌++◌, ◌∷◌, [], ap, ◌∙◌, length, length-append, append_assoc, arith, take}
+use Rattle.std.proofs.Common.{◌≡◌, ◌+◌, ◌-◌, ◌++◌, ◌∷◌, [], ap, ◌∙◌, length, length-append, append_assoc, arith, take}
 use Rattle.std.proofs.lemmas.List.{length-take-le}
 use Rattle.std.proofs.lemmas.Result.{err_from_is_err_and}
 use Rattle.std.proofs.lemmas.List.FromFn.{length-range_with_len}
 use Rattle.std.specs.List.{range_with_len}
-use Rattle.sgf_lines.proofs.Following.{range_more}
+use Rattle.sgf_lines.proofs.Lists.{range_append}
 use Rattle.sgf_lines.proofs.cursor.go_down.Goals as goal
 
 pub unwrap-requires : goal.unwrap-requires
@@ -18,12 +18,16 @@ unwrap-requires c =
 pub loop-node-preserved : goal.loop-node-preserved
 loop-node-preserved c =
     let front = take c.args.kept c.args.path.now.items in
+    let done = c.loop-node.node - c.args.first in
+    let from = c.loop-node.auto.node in
+    let here : c.args.first + done ≡ c.loop-node.node = omega arith in
+    let count : done + 1 ≡ c.loop-node.node + 1 - c.args.first = omega arith in
     let pushed : c.push.new.self.items ≡ c.loop-node.path.items ++ c.loop-node.node ∷ [] = rw c.unwrap.ensures at c.push.ensures.items in
     record {
       appended =
           pushed ∙ ap (λ ns. ns ++ c.loop-node.node ∷ []) c.loop-node.invariant.appended
-          ∙ append_assoc front (range_with_len c.args.first (c.loop-node.node - c.args.first)) (c.loop-node.node ∷ [])
-          ∙ ap (λ ns. front ++ ns) (range_more c.args.first c.loop-node.node c.loop-node.auto.node);
+          ∙ append_assoc front (range_with_len c.args.first done) (c.loop-node.node ∷ [])
+          ∙ ap (λ ns. front ++ ns) (rw (here, count) at (range_append c.args.first done 1));
       room = omega (arith, c.loop-node.invariant.room, c.push.ensures.capacity);
     }
 

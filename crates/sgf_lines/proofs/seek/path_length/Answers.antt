@@ -4,7 +4,7 @@ use Rattle.sgf_lines.proofs.Loops.{count_begins, counts, count_fits, counted_all
 use Rattle.sgf_lines.proofs.seek.path_length.Goals as goal
 
 pub loop-node-init : goal.loop-node-init
-loop-node-init c = count_begins c.args.collection.now c.args.leaf c.requires.within c.requires.is_leaf
+loop-node-init c = count_begins c.args.collection.now c.args.leaf
 
 pub overflow_add-length : goal.overflow_add-length
 overflow_add-length c =

@@ -19,7 +19,7 @@ pub next-requires-clause-countable : goal.next-requires-clause-countable
 next-requires-clause-countable g c =
     let run = c.args.self.now in
     let rise : PlacesRise run.cursor.games = rw c.collection.ensures at c.nodes-nodes.ensures.places_rise in
-    let fewer = few run.cursor.games rise run.cursor.index c.args.limit run.form c.page.lines c.page.invariant.written.within in
+    let fewer = few run.cursor.games rise run.cursor.index c.args.limit run.form c.page.lines in
     let nodes = nodes_within run.cursor.games rise MAX_LENGTH (rw c.collection.ensures at c.nodes-nodes.ensures.places_within) in
     omega (arith, fewer, nodes, c.page.invariant.plays, ap node_count c.page.invariant.written.same)
 

@@ -1,0 +1,215 @@
+-- The nodes of a collection are visited in file order. The path to each goes on from a front of the path to the node before it.
+use Rattle.std.proofs.Common.{◌≡◌, ◌≢◌, ℕ, zero, suc, ◌+◌, ◌-◌, ◌<◌, List, [], ◌∷◌, ◌++◌, length, map, Option, Some, None, inl, inr, refl, sym, ap, ◌∙◌, subst, arith, add-zero, append_assoc, append-nil}
+use Rattle.std.proofs.lemmas.List.{map-append}
+use Rattle.std.specs.List.{range_with_len}
+use Rattle.sgf_tree.specs.Tree.{Node, Games, no_games, game, node_count}
+use Rattle.sgf_tree.specs.FileOrder.{parent_at, IsLeaf}
+use Rattle.sgf_tree.proofs.OrderedNodes.{parent-within}
+use Rattle.sgf_lines.specs.Lines.{through, node_lines, lines_of_game, lines_from}
+use Rattle.sgf_lines.specs.Paths.{numbered_nodes, numbered, path_of, paths}
+use Rattle.sgf_lines.specs.inner.PathTo.{IsPathTo, top, step}
+use Rattle.sgf_lines.proofs.Standing.{Stands, stands_whole, stands_below, stands_after, first_parent, further_parent}
+use Rattle.sgf_lines.proofs.Ways.{node_within}
+
+-- the path `new` to the node `next` goes on from a front of the path `old`
+pub record Way (c : Games) (next : ℕ) (old new : List ℕ) : Type 0 where
+  pub parent : Option ℕ
+  pub parent_is : parent_at c next ≡ Some parent
+  pub above : List ℕ
+  pub up : IsPathTo c parent above
+  pub rest : List ℕ
+  pub old_is : old ≡ above ++ rest
+  pub new_is : new ≡ above ++ next ∷ []
+
+pub way_path : {c : Games} {next : ℕ} {old new : List ℕ} → Way c next old new → IsPathTo c (Some next) new
+way_path w = step w.parent_is w.up w.new_is
+
+-- The nodes from `next` on and before `end`, where `old` is the path to the node before them, and `last` that to the last of them.
+-- The paths are those to the leaves among them.
+pub data Visits (c : Games) : ℕ → List ℕ → List (List ℕ) → ℕ → List ℕ → Type 0 where
+  none : {next : ℕ} {old : List ℕ} → Visits c next old [] next old
+  inner : {next end : ℕ} {old last : List ℕ} {ls : List (List ℕ)} (new : List ℕ) → Way c next old new → parent_at c (next + 1) ≡ Some (Some next)
+      → Visits c (next + 1) new ls end last → Visits c next old ls end last
+  leaf : {next end : ℕ} {old last : List ℕ} {ls : List (List ℕ)} (new : List ℕ) → Way c next old new → IsLeaf c next
+      → Visits c (next + 1) new ls end last → Visits c next old (new ∷ ls) end last
+
+visits_append : {c : Games} {a b d : ℕ} {p q r : List ℕ} {ls ms : List (List ℕ)} → Visits c a p ls b q → Visits c b q ms d r → Visits c a p (ls ++ ms) d r
+visits_append none g = g
+visits_append (inner new w child f) g = inner new w child (visits_append f g)
+visits_append (leaf new w is_leaf f) g = leaf new w is_leaf (visits_append f g)
+
+-- The games stand in the collection from the index `at` on, after their parent. The node after them has its parent before them.
+record Among (c : Games) (at : ℕ) (parent : Option ℕ) (g : Games) : Type 0 where
+  stands : Stands c at parent g
+  parent_first : (i : ℕ) → parent ≡ Some i → i < at
+  next_above : (i : ℕ) → parent_at c (at + node_count g) ≡ Some (Some i) → i < at
+
+-- so has the node after the games below one
+after_above : (c : Games) (at : ℕ) (parent : Option ℕ) (first : Node) (more : List Node) (below after : Games) → Among c at parent (game first more below after)
+    → (i : ℕ) → parent_at c (at + length more + 1 + node_count below) ≡ Some (Some i) → i < at
+after_above c at parent first more below no_games h i e =
+    let same : at + length more + 1 + node_count below ≡ at + node_count (game first more below no_games) = omega arith in
+    h.next_above i (rw same at e)
+after_above c at parent first more below (game f m b a) h i e =
+    h.parent_first i (let one = first_parent c (at + length more + 1 + node_count below) parent f m b a (stands_after c at parent first more below (game f m b a) h.stands) in cc)
+
+module _ (c : Games) (at : ℕ) (parent : Option ℕ) (first : Node) (more : List Node) (below after : Games) (h : Among c at parent (game first more below after)) where
+  among_below : Among c (at + length more + 1) (Some (at + length more)) below
+  among_below = record {
+    stands = stands_below c at parent first more below after h.stands;
+    parent_first = λ i e. let same : at + length more ≡ i = cc in omega arith;
+    next_above = λ i e. omega (arith, after_above c at parent first more below after h i e);
+  }
+
+  among_after : Among c (at + length more + 1 + node_count below) parent after
+  among_after =
+      let sum : at + length more + 1 + node_count below + node_count after ≡ at + node_count (game first more below after) = omega arith in
+      record {
+        stands = stands_after c at parent first more below after h.stands;
+        parent_first = λ i e. omega (arith, h.parent_first i e);
+        next_above = λ i e. omega (arith, h.next_above i (rw sum at e));
+      }
+
+-- if a node isn't the parent of the next one, it is a leaf
+pub leaf_by_next : (c : Games) (i : ℕ) → parent_at c (i + 1) ≢ Some (Some i) → IsLeaf c i
+leaf_by_next c i other j e = elim (parent-within 0 None c j i e) [
+  | inl root ↦ absurd (cc)
+  | inr w ↦ let next : suc i - 0 ≡ i + 1 = omega arith in other (rw next at w.next)
+]
+
+-- down a game's own nodes, from the first at `at` to the one at `last`
+record Arrives (c : Games) (at last : ℕ) (old own : List ℕ) : Type 0 where
+  before : List ℕ
+  way : Way c last before own
+  on : {ls : List (List ℕ)} {end : ℕ} {final : List ℕ} → Visits c last before ls end final → Visits c at old ls end final
+
+down_own : (c : Games) (m at last : ℕ) (parent : Option ℕ) (above old rest : List ℕ) → at + m ≡ last → parent_at c at ≡ Some parent → IsPathTo c parent above → old ≡ above ++ rest
+    → ((k : ℕ) → k < m → parent_at c (at + suc k) ≡ Some (Some (at + k))) → Arrives c at last old (above ++ range_with_len at (suc m))
+down_own c zero at last parent above old rest sum e up is chain =
+    let same : at ≡ last = omega arith in
+    subst (λ n. Arrives c at n old (above ++ at ∷ [])) same
+    (record { before = old; way = record { parent = parent; parent_is = e; above = above; up = up; rest = rest; old_is = is; new_is = refl }; on = λ v. v })
+down_own c (suc m) at last parent above old rest sum e up is chain =
+    let new = above ++ at ∷ [] in
+    let one : at + 1 ≡ at + suc 0 = omega arith in
+    let none : at + 0 ≡ at = omega arith in
+    let child : parent_at c (at + 1) ≡ Some (Some at) = rw none at (chain 0 (omega arith)) in
+    let r = down_own c m (at + 1) last (Some at) new new [] (omega arith) child (step e up refl) (sym (append-nil new))
+    (λ k lt. let here : at + 1 + suc k ≡ at + suc (suc k) = omega arith in let there : at + 1 + k ≡ at + suc k = omega arith in rw (here, there) (chain (suc k) (omega arith))) in
+    record {
+      before = r.before;
+      way = rw (append_assoc above (at ∷ []) (range_with_len (at + 1) (suc m))) at r.way;
+      on = λ v. inner new (record { parent = parent; parent_is = e; above = above; up = up; rest = rest; old_is = is; new_is = refl }) child (r.on v);
+    }
+
+-- the paths through games, each after `above`
+abbrev rows : List ℕ → ℕ → Games → List (List ℕ)
+rows above at no_games = []
+rows above at (game first more no_games after) =
+    (above ++ range_with_len at (suc (length more))) ∷ rows above (at + length more + 1 + node_count no_games) after
+rows above at (game first more (game f m b a) after) =
+    rows (above ++ range_with_len at (suc (length more))) (at + length more + 1) (game f m b a) ++ rows above (at + length more + 1 + node_count (game f m b a)) after
+
+visits : (c g : Games) (at : ℕ) (parent : Option ℕ) (above old rest : List ℕ) → Among c at parent g → IsPathTo c parent above → old ≡ above ++ rest
+    → (more : List ℕ) × Visits c at old (rows above at g) (at + node_count g) (above ++ more)
+visits c no_games at parent above old rest h up is = (rest, rw add-zero (subst (λ l. Visits c at old [] at l) is none))
+visits c (game first more no_games after) at parent above old rest h up is =
+    let last = at + length more in
+    let next = last + 1 + node_count no_games in
+    let fresh = range_with_len at (suc (length more)) in
+    let here = down_own c (length more) at last parent above old rest refl (first_parent c at parent first more no_games after h.stands) up is
+    (further_parent c at parent first more no_games after h.stands) in
+    let back = visits c after next parent above (above ++ fresh) fresh (among_after c at parent first more no_games after h) up refl in
+    let one : next ≡ last + 1 = omega arith in
+    let is_leaf : IsLeaf c last = leaf_by_next c last (λ e. absurd (omega (arith, after_above c at parent first more no_games after h last (rw one e)))) in
+    let sum : next + node_count after ≡ at + node_count (game first more no_games after) = omega arith in
+    let on : Visits c (last + 1) (above ++ fresh) (rows above next after) (next + node_count after) (above ++ back.0) =
+    subst (λ n. Visits c n (above ++ fresh) (rows above next after) (next + node_count after) (above ++ back.0)) one back.1 in
+    (back.0, rw (← sum) (here.on {final = above ++ back.0} (leaf {last = above ++ back.0} (above ++ fresh) here.way is_leaf on)))
+visits c (game first more (game f m b a) after) at parent above old rest h up is =
+    let last = at + length more in
+    let next = last + 1 + node_count (game f m b a) in
+    let fresh = range_with_len at (suc (length more)) in
+    let own = above ++ fresh in
+    let here = down_own c (length more) at last parent above old rest refl (first_parent c at parent first more (game f m b a) after h.stands) up is
+    (further_parent c at parent first more (game f m b a) after h.stands) in
+    let child = first_parent c (last + 1) (Some last) f m b a (stands_below c at parent first more (game f m b a) after h.stands) in
+    let down = visits c (game f m b a) (last + 1) (Some last) own own [] (among_below c at parent first more (game f m b a) after h) (way_path here.way) (sym (append-nil own)) in
+    let back = visits c after next parent above (own ++ down.0) (fresh ++ down.0) (among_after c at parent first more (game f m b a) after h) up (append_assoc above fresh down.0) in
+    let sum : next + node_count after ≡ at + node_count (game first more (game f m b a) after) = omega arith in
+    (back.0, rw (← sum) (here.on {final = above ++ back.0} (inner {last = above ++ back.0} own here.way child (visits_append {r = above ++ back.0} down.1 back.1))))
+
+-- ---- These are the paths of the collection.
+
+abbrev pub numbers_of_nodes : List Node → List ℕ
+numbers_of_nodes ns = map (λ n. n.place) ns
+
+pub numbers_in_order : (at : ℕ) (ns : List Node) → numbers_of_nodes (numbered_nodes at ns) ≡ range_with_len at (length ns)
+numbers_in_order at [] = refl
+numbers_in_order at (n ∷ ns) = ap (λ l. at ∷ l) (numbers_in_order (at + 1) ns)
+
+through_some : (own : List Node) (ls : List (List Node)) → ls ≢ [] → through own ls ≡ map (λ rest. own ++ rest) ls
+through_some own [] some = absurd (some refl)
+through_some own (l ∷ ls) some = refl
+
+some_lines : (at : ℕ) (first : Node) (more : List Node) (below after : Games) → node_lines (numbered at (game first more below after)) ≢ []
+some_lines at first more below after e =
+    let next = at + length more + 1 in
+    by (record first { place = at } ∷ numbered_nodes (at + 1) more) (node_lines (numbered next below)) (node_lines (numbered (next + node_count below) after)) e
+  where
+    by : (own : List Node) (ls ms : List (List Node)) → through own ls ++ ms ≡ [] → ⊥
+    by own [] ms e = cc
+    by own (l ∷ ls) ms e = cc
+
+-- the numbers of lines, each after `above`
+abbrev numbers_after : List ℕ → List (List Node) → List (List ℕ)
+numbers_after above ls = map (λ l. above ++ numbers_of_nodes l) ls
+
+after_more : (above : List ℕ) (own : List Node) (ls : List (List Node)) → numbers_after above (map (λ rest. own ++ rest) ls) ≡ numbers_after (above ++ numbers_of_nodes own) ls
+after_more above own [] = refl
+after_more above own (l ∷ ls) =
+    let one : above ++ numbers_of_nodes (own ++ l) ≡ (above ++ numbers_of_nodes own) ++ numbers_of_nodes l =
+    ap (λ ns. above ++ ns) (map-append (λ n. n.place) own l) ∙ sym (append_assoc above (numbers_of_nodes own) (numbers_of_nodes l)) in
+    let rest = after_more above own ls in cc
+
+rows_are : (above : List ℕ) (at : ℕ) (g : Games) → numbers_after above (node_lines (numbered at g)) ≡ rows above at g
+rows_are above at no_games = refl
+rows_are above at (game first more no_games after) =
+    let own = ap (λ ns. above ++ at ∷ ns) (numbers_in_order (at + 1) more) in
+    let rest = rows_are above (at + length more + 1 + node_count no_games) after in cc
+rows_are above at (game first more (game f m b a) after) =
+    let next = at + length more + 1 in
+    let below = numbered next (game f m b a) in
+    let own : List Node = record first { place = at } ∷ numbered_nodes (at + 1) more in
+    let others = numbered (next + node_count (game f m b a)) after in
+    ap (λ ls. numbers_after above (ls ++ node_lines others)) (through_some own (node_lines below) (some_lines next f m b a))
+    ∙ map-append (λ l. above ++ numbers_of_nodes l) (map (λ rest. own ++ rest) (node_lines below)) (node_lines others)
+    ∙ ap (λ ls. ls ++ numbers_after above (node_lines others))
+    (after_more above own (node_lines below) ∙ ap (λ ns. numbers_after (above ++ at ∷ ns) (node_lines below)) (numbers_in_order (at + 1) more)
+    ∙ rows_are (above ++ range_with_len at (suc (length more))) next (game f m b a))
+    ∙ ap (λ ls. rows (above ++ range_with_len at (suc (length more))) next (game f m b a) ++ ls) (rows_are above (next + node_count (game f m b a)) after)
+
+game_numbers : (number : ℕ) (ls : List (List Node)) → map (λ p. p.numbers) (map path_of (lines_of_game number ls)) ≡ numbers_after [] ls
+game_numbers number [] = refl
+game_numbers number (l ∷ ls) = ap (λ ns. numbers_of_nodes l ∷ ns) (game_numbers number ls)
+
+all_numbers : (number : ℕ) (g : Games) → map (λ p. p.numbers) (map path_of (lines_from number g)) ≡ numbers_after [] (node_lines g)
+all_numbers number no_games = refl
+all_numbers number (game first more below after) =
+    let own = through (first ∷ more) (node_lines below) in
+    let here = game_numbers number own in
+    let rest = all_numbers (number + 1) after in
+    simp map-append cc
+
+-- all nodes of a collection are visited, and nothing follows them
+pub paths_visited : (c : Games) → (last : List ℕ) × Visits c 0 [] (map (λ p. p.numbers) (paths c)) (node_count c) last
+paths_visited c =
+    let all : Among c 0 None c = record {
+      stands = stands_whole c;
+      parent_first = λ i e. absurd cc;
+      next_above = λ i e. absurd (omega (arith, node_within c (0 + node_count c) (Some i) e));
+    } in
+    let v = visits c c 0 None [] [] [] all top refl in
+    let count : 0 + node_count c ≡ node_count c = omega arith in
+    let are : rows [] 0 c ≡ map (λ p. p.numbers) (paths c) = sym (all_numbers 1 (numbered 0 c) ∙ rows_are [] 0 c) in
+    ([] ++ v.0, subst (λ n. Visits c 0 [] (map (λ p. p.numbers) (paths c)) n ([] ++ v.0)) count (subst (λ ls. Visits c 0 [] ls (0 + node_count c) ([] ++ v.0)) are v.1))
