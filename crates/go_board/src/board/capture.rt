@@ -4,12 +4,10 @@ ghost use Rattle.std.specs.Prelude.{◌≡◌, ◌⊎◌, ◌||◌, ◌≤◌, �
 ghost use Rattle.std.specs.Option.{ForSome};
 ghost use Rattle.go_board.specs.declared.points.Point.{Point};
 ghost use Rattle.go_board.specs.declared.stones.Cell.TheVariants.{Empty};
-ghost use Rattle.go_board.specs.Colour.{stone_of};
 ghost use Rattle.go_board.specs.Point.{IsOn, AreAdjacent};
 ghost use Rattle.go_board.specs.Grid.{cell_at};
 ghost use Rattle.go_board.specs.Clearing.{play, has_unreaching};
-ghost use Rattle.go_board.specs.Reaching.{Reaches};
-ghost use Rattle.go_board.specs.inner.Groups.{IsWithoutLiberty, AreShutGroups, IsTakenOrReaches, AreTakenOrReachBeside, TakesOff};
+ghost use Rattle.go_board.specs.inner.Groups.{AreShutGroups, IsTakenOrReaches, AreTakenOrReachBeside, TakesOff};
 ghost use Rattle.go_board.specs.inner.Rows.{is_set, IsAmong};
 
 use crate::board::Board;
@@ -77,30 +75,13 @@ impl Board {
         self.has_all_cells();
         let mut words = no_rows();
         let group = &mut words[..usize::from(self.size.side())];
-        if self.group_has_liberty(colour, point, group) {
+        let own = self.rows_of(colour);
+        let others = self.rows_of(colour.opponent());
+        if has_liberty(own, others, point, group) {
             return false;
         }
         add_points(group, shut);
         true
-    }
-
-    /// Whether the group of a stone has a liberty. If not, `group` becomes the whole group.
-    fn group_has_liberty(&self, colour: Colour, from: Point, group: &mut [u64]) -> bool
-        requires on_board { IsOn self.now.side from }
-        requires stone { cell_at self.now from ≡ stone_of colour }
-        requires rows { length group.old ≡ self.now.side }
-        requires none { (p : Point) → is_set group.old p ≡ false }
-        ensures lives { IsTrue result → Reaches self.now Empty from }
-        ensures shut { IsFalse result → AreShutGroups self.now colour group.new }
-        ensures start { IsFalse result → IsTrue (is_set group.new from) }
-    {
-        self.has_all_cells();
-        has_liberty(
-            self.rows_of(colour),
-            self.rows_of(colour.opponent()),
-            from,
-            group,
-        )
     }
 
     /// Places a stone; `taken` is what it takes off. After that every stone reaches empty.
