@@ -57,10 +57,3 @@ returns-clause-shut c =
           _ shut;
     })
     c.add_points.ensures.rows c.add_points.ensures.both
-
-pub returns-clause-found : goal.returns-clause-found
-returns-clause-found c = λ _. (
-  c.in-Some.point,
-  c.in-Some.is,
-  c.add_points.ensures.both c.in-Some.point ∙ or_right _ _ (c.has_liberty.ensures.shut c.if-has_liberty.false).start,
-)
