@@ -21,7 +21,7 @@ use Rattle.go_board.proofs.ReachingLemmas.{Leads-on, Leads-next, path_by_step}
 use Rattle.go_board.proofs.NeighbourLemmas.{AreAdjacent-sym}
 use Rattle.go_board.proofs.RuleLemmas.{side-clear, length-clear, cell_at-clear, emptied, kept, others_kept}
 use Rattle.go_board.proofs.GroupLemmas.{coloured_or_not, stone_of≢Empty}
-use Rattle.go_board.proofs.SettledLemmas.{clear-AllReach, AllReach-settled}
+use Rattle.go_board.proofs.SettledLemmas.{reaches_or_not, clear-AllReach, AllReach-settled}
 
 opponent_differs : (k : Colour) → stone_of k ≢ stone_of (opponent k)
 opponent_differs Black = λ e. cc
@@ -144,14 +144,44 @@ module _ (g : Grid) (p : Point) (k : Colour) (on : IsOn g.side p) (all : length 
   not_opponent : cell_at placed p ≡ stone_of (opponent k) → ⊥
   not_opponent e = opponent_differs k (sym stone_there ∙ e)
 
+  -- the opponent's stones reach empty if those beside the stone do
+  opponent_reaches : ReachBeside placed (opponent k) p → AllReach placed (opponent k)
+  opponent_reaches around =
+      AllReach-after g placed.cells p (opponent k) (λ _. false) (IsWithoutLiberty-none placed (opponent k) (λ _. false) (λ _. refl)) (λ r at other. inr (others_kept_there r at other))
+      (λ q at next stone. inr (around q at next stone)) (λ e. absurd (not_opponent e)) (AllReach-settled g (opponent k) settled) (λ _. refl)
+
+  -- where a group of the opponent is taken off, one beside the stone is, and so the stone reaches empty
+  reaches_taken : (left : Grid) → AreShutGroups placed (opponent k) rows → AreTakenOrReachBeside placed (opponent k) p rows → IsWithout placed left (λ q. IsTrue (is_set rows q)) → left.side ≡ g.side → ¬ ((q : Point) → is_set rows q ≡ false) → Reaches left Empty p
+  reaches_taken left are beside is side some =
+      elim (reaches_or_not left Empty p (subst (λ n. IsOn n p) (sym side) on)) [
+        | inl way ↦ way
+        | inr shut ↦
+            let others = opponent_reaches
+            (λ q at next stone.
+            elim (beside q at next stone) [
+              | inl taken ↦ absurd (shut (q ∷ [], (subst (λ n. IsOn n p) (sym side) on, refl, next, (subst (λ n. IsOn n q) (sym side) at, is.emptied q at taken))))
+              | inr way ↦ way
+            ]) in
+            absurd (some
+            (λ q.
+            elim (cases_Bool (is_set rows q)) [
+              | inl taken ↦
+                  let at = are.on_grid q taken in
+                  let stone = are.shut.stones q at taken in
+                  let way = others q at stone in
+                  absurd (group_shut placed (opponent k) (is_set rows) are.shut way.0 q at taken (subst (λ c. Leads placed c Empty q way.0) stone way.1))
+              | inr out ↦ out
+            ]))
+      ]
+
   -- the opponent's groups beside the stone are taken off, if there are any
-  pub takes_off_beside : AreShutGroups (with_cell g p (stone_of k)) (opponent k) rows → AreTakenOrReachBeside (with_cell g p (stone_of k)) (opponent k) p rows → (q : Point) × IsOn g.side q × AreAdjacent p q × (is_set rows q ≡ true) → TakesOff g k p rows
+  pub takes_off_beside : AreShutGroups (with_cell g p (stone_of k)) (opponent k) rows → AreTakenOrReachBeside (with_cell g p (stone_of k)) (opponent k) p rows → ¬ ((q : Point) → is_set rows q ≡ false) → TakesOff g k p rows
   unfolding clear play
   takes_off_beside are beside some =
       let left = clear placed (opponent k) in
       let is = clear_without g placed.cells p (opponent k) (is_set rows) are.shut (λ r at other. inr (others_kept_there r at other)) beside (λ e. absurd (not_opponent e)) (AllReach-settled g (opponent k) settled) long in
       let stays : cell_at left p ≡ stone_of k = is.kept p on (λ taken. not_opponent (are.shut.stones p on taken)) ∙ stone_there in
-      let way : Reaches left Empty p = (some.0 ∷ [], (on, refl, some.2, (some.1, is.emptied some.0 some.1 some.3))) in
+      let way = reaches_taken left are beside is refl some in
       let reach : AllReach left k =
       AllReach-after g left.cells p k (λ _. false) (IsWithoutLiberty-none left k (λ _. false) (λ _. refl))
       (λ r at other.
@@ -171,9 +201,7 @@ module _ (g : Grid) (p : Point) (k : Colour) (on : IsOn g.side p) (all : length 
   pub takes_off_own : length rows ≤ g.side → ((q : Point) → is_set rows q ≡ true → IsOn g.side q) → IsWithoutLiberty (with_cell g p (stone_of k)) k (is_set rows) → ReachBeside (with_cell g p (stone_of k)) (opponent k) p → IsTakenOrReaches (with_cell g p (stone_of k)) k rows p → TakesOff g k p rows
   unfolding clear play
   takes_off_own few on_grid shut around there =
-      let others : AllReach placed (opponent k) =
-      AllReach-after g placed.cells p (opponent k) (λ _. false) (IsWithoutLiberty-none placed (opponent k) (λ _. false) (λ _. refl)) (λ r at other. inr (others_kept_there r at other))
-      (λ q at next stone. inr (around q at next stone)) (λ e. absurd (not_opponent e)) (AllReach-settled g (opponent k) settled) (λ _. refl) in
+      let others = opponent_reaches around in
       let is = clear_without g placed.cells p k (is_set rows) shut (λ r at other. inr (others_kept_there r at other))
       (λ q at next stone.
       elim (there stone_there) [

@@ -1,5 +1,5 @@
 -- What a stone takes off, as rows: playing it is putting it on its point and emptying these.
-use Rattle.std.proofs.Common.{◌≡◌, ◌≢◌, ◌⊎◌, ◌==◌, ◌&&◌, inl, inr, ◌*◌, ◌+◌, ◌<◌, ◌≤◌, ◌||◌, true, false, cond, Option, Some, ℕ, List, [], length, set, slice_index, bit_or, refl, sym, ap, subst, ◌∙◌, arith}
+use Rattle.std.proofs.Common.{◌≡◌, ◌≢◌, ◌⊎◌, ◌==◌, ◌&&◌, inl, inr, ◌*◌, ◌+◌, ◌<◌, ◌≤◌, ◌||◌, true, false, cond, Option, ℕ, List, [], length, set, slice_index, bit_or, refl, sym, ap, subst, ◌∙◌, arith}
 use Rattle.std.specs.Option.{ForSome}
 use Rattle.std.proofs.Math.Bool.{or-false}
 use Rattle.std.proofs.lemmas.Bool.{and_parts, cases_Bool, cases_eq, cases_lt, or_cases, or_left, or_right, false≢true}
@@ -10,7 +10,7 @@ use Rattle.go_board.specs.declared.stones.Cell.TheVariants.{Empty}
 use Rattle.go_board.specs.declared.stones.Colour.{Colour}
 use Rattle.go_board.specs.declared.points.Point.{Point}
 use Rattle.go_board.specs.Colour.{stone_of}
-use Rattle.go_board.specs.Point.{IsOn, AreAdjacent, index_of}
+use Rattle.go_board.specs.Point.{IsOn, index_of}
 use Rattle.go_board.specs.Grid.{Grid, cell_at, with_cell}
 use Rattle.go_board.specs.Clearing.{play, has_unreaching}
 use Rattle.go_board.specs.inner.Neighbour.{left_of, right_of, above, below}
@@ -18,7 +18,7 @@ use Rattle.go_board.specs.inner.Rows.{has_bit, is_set, IsAmong}
 use Rattle.go_board.specs.inner.Groups.{AreShutGroups, AreTakenOrReachBeside, IsTakenOrReaches, IsWithout, AllLive, TakesOff}
 use Rattle.go_board.proofs.PointLemmas.{one_point, same_or_not}
 use Rattle.go_board.proofs.GridLemmas.{cell_at-with_cell, cell_at-with_cell_elsewhere}
-use Rattle.go_board.proofs.NeighbourLemmas.{IsNeighbour, IsNeighbour-adjacent, AllNeighbour}
+use Rattle.go_board.proofs.NeighbourLemmas.{IsNeighbour, IsNeighbour-adjacent}
 use Rattle.go_board.proofs.MoveLemmas.{IsWithoutLiberty-none, takes_off_own}
 use Rattle.go_board.proofs.ChangesLemmas.{one_colouring}
 use Rattle.go_board.proofs.WordLemmas.{has_bit-or, has_bit-zero}
@@ -63,13 +63,6 @@ taken_by_four g k p rows left right up down = λ q on next.
       | inr (inr (inl is)) ↦ up q is
       | inr (inr (inr is)) ↦ down q is
     ]
-
--- a neighbour that is in some rows is in others that have these
-pub found_beside : (side : ℕ) (p : Point) (at to : Option Point) (a b : List ℕ) → at ≡ to → AllNeighbour side p to → IsAmong (is_set a) (is_set b) → (q : Point) × (at ≡ Some q) × (is_set a q ≡ true) → (q : Point) × IsOn side q × AreAdjacent p q × (is_set b q ≡ true)
-unfolding AllNeighbour
-found_beside side p at to a b is each among found =
-    let near = each found.0 (sym is ∙ found.1) in
-    (found.0, near.0, near.1, among found.0 found.2)
 
 -- the point of a stone emptied again
 pub taken_away : (g : Grid) (p : Point) (stone : Cell) → IsOn g.side p → length g.cells ≡ g.side * g.side → cell_at g p ≡ Empty → with_cell (with_cell g p stone) p Empty ≡ g

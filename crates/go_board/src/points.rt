@@ -1,6 +1,6 @@
 //! Points and rectangles of a board, and the four neighbours of a point.
 
-ghost use Rattle.std.specs.Prelude.{◌≡◌, ◌<◌, ◌*◌, ◌+◌, ℕ, IfSome};
+ghost use Rattle.std.specs.Prelude.{◌≡◌, ◌<◌, ◌*◌, ℕ, IfSome};
 ghost use Rattle.go_board.specs.Point.{IsOn, index_of};
 ghost use Rattle.go_board.specs.inner.Neighbour.{left_of, right_of, above, below};
 
@@ -39,25 +39,6 @@ impl Point {
         Point {
             col: (index % side) as u8,
             row: (index / side) as u8,
-        }
-    }
-
-    /// The next point in that list. After the last point of the board this is the first of the row below the board.
-    pub(crate) fn following(self, size: Size) -> Point
-        requires { (self.col < size) × (self.row < size) }
-        ensures value { index_of size result ≡ index_of size self + 1 }
-        ensures in_columns { result.col < size }
-    {
-        if self.col + 1 < size.side() {
-            Point {
-                col: self.col + 1,
-                row: self.row,
-            }
-        } else {
-            Point {
-                col: 0,
-                row: self.row + 1,
-            }
         }
     }
 

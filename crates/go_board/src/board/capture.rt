@@ -1,20 +1,18 @@
 //! What a stone takes off, as rows of bits: the groups beside it that it leaves without a liberty, or its own.
 
-ghost use Rattle.std.specs.Prelude.{◌≡◌, ◌⊎◌, ◌||◌, ◌≤◌, ℕ, false, length, IsFalse, IsTrue, Some};
+ghost use Rattle.std.specs.Prelude.{◌≡◌, ◌||◌, ◌≤◌, false, length};
 ghost use Rattle.std.specs.Option.{ForSome};
 ghost use Rattle.go_board.specs.declared.points.Point.{Point};
 ghost use Rattle.go_board.specs.declared.stones.Cell.TheVariants.{Empty};
-ghost use Rattle.go_board.specs.Colour.{stone_of};
-ghost use Rattle.go_board.specs.Point.{IsOn, AreAdjacent};
+ghost use Rattle.go_board.specs.Point.{IsOn};
 ghost use Rattle.go_board.specs.Grid.{cell_at};
 ghost use Rattle.go_board.specs.Clearing.{play, has_unreaching};
-ghost use Rattle.go_board.specs.Reaching.{Reaches};
-ghost use Rattle.go_board.specs.inner.Groups.{IsWithoutLiberty, AreShutGroups, IsTakenOrReaches, AreTakenOrReachBeside, TakesOff};
+ghost use Rattle.go_board.specs.inner.Groups.{AreShutGroups, IsTakenOrReaches, AreTakenOrReachBeside, TakesOff};
 ghost use Rattle.go_board.specs.inner.Rows.{is_set, IsAmong};
 
 use crate::board::Board;
 use crate::board::group::has_liberty;
-use crate::board::regions::no_rows;
+use crate::board::regions::{is_none, no_rows};
 use crate::points::Point;
 use crate::stones::{Cell, Colour};
 
@@ -33,74 +31,52 @@ impl Board {
     {
         self.has_all_cells();
         self.set(point, colour.stone());
-        if !self.find_shut_beside(colour.opponent(), point, taken) {
+        self.find_shut_beside(colour.opponent(), point, taken);
+        if is_none(taken) {
             self.find_shut(colour, Some(point), taken);
         }
         self.set(point, Cell::Empty);
         self.restore(true);
     }
 
-    /// Finds the groups of a colour beside a point that have no liberty. Returns whether there is one.
-    fn find_shut_beside(&self, colour: Colour, point: Point, shut: &mut [u64]) -> bool
+    /// Finds the groups of a colour beside a point that have no liberty.
+    fn find_shut_beside(&self, colour: Colour, point: Point, shut: &mut [u64])
         requires on_board { IsOn self.now.side point }
         requires shut { AreShutGroups self.now colour shut.old }
         ensures shut { AreShutGroups self.now colour shut.new }
         ensures beside { AreTakenOrReachBeside self.now colour point shut.new }
-        ensures found { IsTrue result → (q : Point) × IsOn self.now.side q × AreAdjacent point q × IsTrue (is_set shut.new q) }
-        ensures none { IsFalse result → shut.new ≡ shut.old }
     {
         let size = self.size();
-        let left = self.find_shut(colour, point.left(), shut);
-        let right = self.find_shut(colour, point.right(size), shut);
-        let above = self.find_shut(colour, point.above(), shut);
-        let below = self.find_shut(colour, point.below(size), shut);
-        left | right | above | below
+        self.find_shut(colour, point.left(), shut);
+        self.find_shut(colour, point.right(size), shut);
+        self.find_shut(colour, point.above(), shut);
+        self.find_shut(colour, point.below(size), shut);
     }
 
-    /// Adds the group of the stone on a point to `shut` if it has no liberty. Returns whether it
-    /// was added. Nothing is added if there is no point, or no stone of that colour on it.
-    fn find_shut(&self, colour: Colour, at: Option<Point>, shut: &mut [u64]) -> bool
+    /// Adds the group of the stone on a point to `shut` if it has no liberty. Nothing is added
+    /// if there is no point, or no stone of that colour on it.
+    fn find_shut(&self, colour: Colour, at: Option<Point>, shut: &mut [u64])
         requires at { ForSome at (IsOn self.now.side) }
         requires shut { AreShutGroups self.now colour shut.old }
         ensures shut { AreShutGroups self.now colour shut.new }
         ensures kept { IsAmong (is_set shut.old) (is_set shut.new) }
         ensures beside { ForSome at (IsTakenOrReaches self.now colour shut.new) }
-        ensures found { IsTrue result → (q : Point) × (at ≡ Some q) × IsTrue (is_set shut.new q) }
-        ensures none { IsFalse result → shut.new ≡ shut.old }
     {
         let Some(point) = at else {
-            return false;
+            return;
         };
         if self.at(point) != colour.stone() {
-            return false;
+            return;
         }
         self.has_all_cells();
         let mut words = no_rows();
         let group = &mut words[..usize::from(self.size.side())];
-        if self.group_has_liberty(colour, point, group) {
-            return false;
+        let own = self.rows_of(colour);
+        let others = self.rows_of(colour.opponent());
+        if has_liberty(own, others, point, group) {
+            return;
         }
         add_points(group, shut);
-        true
-    }
-
-    /// Whether the group of a stone has a liberty. If not, `group` becomes the whole group.
-    fn group_has_liberty(&self, colour: Colour, from: Point, group: &mut [u64]) -> bool
-        requires on_board { IsOn self.now.side from }
-        requires stone { cell_at self.now from ≡ stone_of colour }
-        requires rows { length group.old ≡ self.now.side }
-        requires none { (p : Point) → is_set group.old p ≡ false }
-        ensures lives { IsTrue result → Reaches self.now Empty from }
-        ensures shut { IsFalse result → AreShutGroups self.now colour group.new }
-        ensures start { IsFalse result → IsTrue (is_set group.new from) }
-    {
-        self.has_all_cells();
-        has_liberty(
-            self.rows_of(colour),
-            self.rows_of(colour.opponent()),
-            from,
-            group,
-        )
     }
 
     /// Places a stone; `taken` is what it takes off. After that every stone reaches empty.

@@ -1,17 +1,14 @@
-use Rattle.std.proofs.Common.{◌≡◌, inl, inr, ap, sym, ◌∙◌, true, subst, refl, arith}
+use Rattle.std.proofs.Common.{◌≡◌, inl, inr, ap, sym, ◌∙◌, subst, refl, arith}
 use Rattle.std.proofs.lemmas.Bool.{false≢true}
 use Rattle.go_board.specs.declared.stones.Cell.TheVariants.{Empty}
-use Rattle.go_board.specs.declared.points.Point.{Point}
 use Rattle.go_board.specs.Colour.{opponent, stone_of}
-use Rattle.go_board.specs.Point.{IsOn, AreAdjacent}
 use Rattle.go_board.specs.Grid.{Grid, with_cell}
 use Rattle.go_board.specs.Clearing.{has_unreaching}
-use Rattle.go_board.specs.inner.Rows.{is_set}
 use Rattle.go_board.specs.inner.Groups.{AreShutGroups, AreTakenOrReachBeside, IsTakenOrReaches, TakesOff}
 use Rattle.go_board.proofs.TakenLemmas.{AreShutGroups-none, taken_away}
 use Rattle.go_board.proofs.MoveLemmas.{takes_off_beside, takes_off_own}
 use Rattle.go_board.proofs.board.Board.find_taken.Goals as goal
-use Rattle.go_board.proofs.board.Board.find_taken.Goals.{then-not-find_shut_beside, else-not-find_shut_beside}
+use Rattle.go_board.proofs.board.Board.find_taken.Goals.{then-is_none, else-is_none}
 
 pub find_shut_beside-requires-clause-shut : goal.find_shut_beside-requires-clause-shut
 find_shut_beside-requires-clause-shut c =
@@ -40,22 +37,22 @@ returns-clause-taken c =
     let first = c.find_shut_beside in
     let beside : AreTakenOrReachBeside placed (opponent k) p first.new.shut =
     subst (λ o. AreTakenOrReachBeside placed o p first.new.shut) c.opponent.ensures (subst (λ h. AreTakenOrReachBeside h c.opponent.result p first.new.shut) here first.ensures.beside) in
-    elim c.if-not-find_shut_beside.branch [
-      | then-not-find_shut_beside w ↦
-          let none : first.new.shut ≡ c.args.taken.now = first.ensures.none w.if-not-find_shut_beside.true in
+    elim c.if-is_none.branch [
+      | then-is_none w ↦
+          let none = c.is_none.ensures.0 w.if-is_none.true in
           subst (λ rows. TakesOff g k p rows) (sym w.taken-is)
           (let own = subst (λ h. AreShutGroups h k w.find_shut.new.shut) here w.find_shut.ensures.shut in
           takes_off_own g p k c.requires.on_board c.has_all_cells.ensures.all c.requires.settled w.find_shut.new.shut (omega (arith, own.all)) own.on_grid own.shut
           (λ q at next stone.
           elim (beside q at next stone) [
-            | inl gone ↦ absurd (false≢true (sym (c.requires.none q) ∙ ap (λ rows. is_set rows q) (sym none) ∙ gone))
+            | inl gone ↦ absurd (false≢true (sym (none q) ∙ gone))
             | inr way ↦ way
           ])
           (subst (λ h. IsTakenOrReaches h k w.find_shut.new.shut p) here (w.find_shut.ensures.beside p refl)))
-      | else-not-find_shut_beside w ↦
+      | else-is_none w ↦
           subst (λ rows. TakesOff g k p rows) (sym w.taken-is)
           (takes_off_beside g p k c.requires.on_board c.has_all_cells.ensures.all c.requires.settled first.new.shut
           (subst (λ o. AreShutGroups placed o first.new.shut) c.opponent.ensures (subst (λ h. AreShutGroups h c.opponent.result first.new.shut) here first.ensures.shut))
           beside
-          (subst (λ h. (q : Point) × IsOn h.side q × AreAdjacent p q × (is_set first.new.shut q ≡ true)) here (first.ensures.found w.if-not-find_shut_beside.false)))
+          (λ none. false≢true (sym w.if-is_none.false ∙ c.is_none.ensures.1 none)))
     ]
