@@ -33,7 +33,7 @@
 //! | `past/colourings`, `past/changes` | past colourings as changes that lead back |
 //! | `past/print`, `past/table` | the print of a colouring, mixed from whole rows; prints looked up in a table |
 //! | `reason`, `fault` | why a turn, or a node, isn't allowed; the errors |
-//! | `referee` | the referee and undo; below it `plays`, `setup`, `turn`, `stay` and `reset` |
+//! | `referee` | the referee and undo; below it `plays`, `setup` and `turn` |
 //! | `laws` | what follows from the definitions |
 //!
 //! A point *reaches* a colour if a path of adjacent points of the point's own colour leads

@@ -2,9 +2,7 @@
 //! whether it was a turn (`Earlier`). `undo` restores them. If the call added a colouring to the past, `undo` takes that off.
 
 mod plays;
-mod reset;
 mod setup;
-mod stay;
 mod turn;
 
 use crate::board::Board;
@@ -57,10 +55,10 @@ impl<P: Past> Model for Referee<P> {
 }
 
 impl<P: Past> Referee<P> {
-    ghost use Rattle.std.specs.Prelude.{◌≡◌, ◌<◌, ◌≤◌, ◌∷◌, length, IfOk};
+    ghost use Rattle.std.specs.Prelude.{◌≡◌, ◌<◌, ◌≤◌, ◌∷◌, length, IfOk, OnOk, OnErr};
     ghost use Rattle.go_board.specs.declared.stones.Colour.TheVariants.{Black, White};
     ghost use Rattle.go_board.specs.Score.{score_of};
-    ghost use Rattle.go_board.specs.State.{HaveBegun, begun, is_over};
+    ghost use Rattle.go_board.specs.State.{HaveBegun, begun, followed_by, is_over};
 
     /// A referee at the beginning of a game: the board is empty, and Black
     /// must move. `MemoryFault` comes only if memory was refused.
@@ -76,6 +74,23 @@ impl<P: Past> Referee<P> {
         })
     }
 
+    /// Begins another game. The referee is then like a new one of that size, whatever its size was
+    /// before. `MemoryFault` comes only if memory was refused; then nothing is changed.
+    ///
+    /// If the past can begin anew in place, as a `PrintPast` can, this takes no memory, and less time than a new referee.
+    pub fn reset(&mut self, size: Size) -> Result<(), MemoryFault>
+        ensures ok { OnOk result (self.new ≡ begun size) }
+        ensures err { OnErr result (self.new ≡ self.old) }
+    {
+        self.past
+            .reset(*self.earlier.allocator(), &Board::empty(size))?;
+        self.player = Some(Colour::Black);
+        self.passes = 0;
+        self.turns = 0;
+        self.earlier.clear();
+        Ok(())
+    }
+
     /// The number of accepted calls (setups, turns and stays) that aren't
     /// taken back. The oldest state is the beginning of a game.
     pub fn depth(&self) -> usize
@@ -83,6 +98,17 @@ impl<P: Past> Referee<P> {
         ensures begun { HaveBegun self.now }
     {
         self.earlier.len()
+    }
+
+    /// Adds a state equal to the present one, so that each node of a line can have a state of its own. `undo` takes it back.
+    /// `MemoryFault` comes only if memory was refused; then nothing is changed.
+    pub fn stay(&mut self) -> Result<(), MemoryFault>
+        ensures ok { OnOk result (self.new ≡ followed_by self.old self.old.present) }
+        ensures err { OnErr result (self.new ≡ self.old) }
+    {
+        let present = self.present_kept(false, false);
+        self.earlier.push(present)?;
+        Ok(())
     }
 
     /// Takes back the newest accepted call: the whole state before it is there

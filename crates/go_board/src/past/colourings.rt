@@ -115,7 +115,6 @@ impl Colourings {
     {
         self.newest.has_all_cells();
         board.has_all_cells();
-        let older_in_stretch = next_older_in_stretch(self.older_in_stretch, begins)?;
         self.older.reserve(1)?;
         let kept = Older {
             start: self.changes.len(),
@@ -127,7 +126,7 @@ impl Colourings {
         keep_rows(&self.newest, rows, &mut self.changes)?;
         self.older.push(kept).unwrap();
         self.newest = board.copy();
-        self.older_in_stretch = older_in_stretch;
+        self.older_in_stretch = next_older_in_stretch(self.older_in_stretch, begins);
         Ok(())
     }
 
@@ -160,7 +159,6 @@ impl Colourings {
         ensures err { OnErr result (self.new ≡ self.old) }
     {
         self.newest.has_all_cells();
-        let older_in_stretch = next_older_in_stretch(self.older_in_stretch, false)?;
         self.older.reserve(1)?;
         let kept = Older {
             start: self.changes.len(),
@@ -172,7 +170,7 @@ impl Colourings {
         keep_rows(&self.newest, rows, &mut self.changes)?;
         self.newest.put(colour, point, taken);
         self.older.push(kept).unwrap();
-        self.older_in_stretch = older_in_stretch;
+        self.older_in_stretch += 1;
         Ok(())
     }
 
@@ -201,13 +199,11 @@ impl Colourings {
 
 /// How many older colourings the stretch has after one more colouring: one more than before, or 0
 /// if the new one begins a stretch.
-fn next_older_in_stretch(older_in_stretch: usize, begins: bool) -> Result<usize, MemoryFault>
-    ensures { IfOk result (λ next. next ≡ (if begins then 0 else older_in_stretch + 1)) }
+fn next_older_in_stretch(older_in_stretch: usize, begins: bool) -> usize
+    requires { older_in_stretch < usize.MAX }
+    ensures { result ≡ (if begins then 0 else older_in_stretch + 1) }
 {
-    if begins {
-        return Ok(0);
-    }
-    older_in_stretch.checked_add(1).ok_or(MemoryFault)
+    if begins { 0 } else { older_in_stretch + 1 }
 }
 
 /// The colouring from which to work out the one with this number. It is the next one whose step kept all points of the colouring

@@ -1,5 +1,5 @@
 -- The rows that aren't left are kept.
-use Rattle.std.proofs.Common.{ℕ, ◌<◌, ◌^◌, ◌&&◌, not}
+use Rattle.std.proofs.Common.{◌<◌, ◌^◌, ◌&&◌, not}
 use Rattle.go_board.specs.inner.Changes.{KeepRows}
 use Rattle.go_board.specs.inner.Rows.{has_bit, IsPart}
 use Rattle.go_board.proofs.past.changes.keep_rows.Given as goal

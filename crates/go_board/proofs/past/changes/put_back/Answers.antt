@@ -1,6 +1,6 @@
 use Rattle.std.proofs.Common.{◌≡◌, ◌<◌, ℕ, true, not, sym, ap, subst, ◌∙◌, arith}
 use Rattle.go_board.specs.declared.stones.Cell.{Cell}
-use Rattle.go_board.specs.declared.stones.Cell.TheVariants.{Black, White, Empty}
+use Rattle.go_board.specs.declared.stones.Cell.TheVariants.{Black, White}
 use Rattle.go_board.specs.Grid.{Grid}
 use Rattle.go_board.specs.inner.Regions.{with_columns}
 use Rattle.go_board.specs.inner.Rows.{has_bit}

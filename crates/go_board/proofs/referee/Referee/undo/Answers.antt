@@ -1,7 +1,7 @@
-use Rattle.std.proofs.Common.{◌≡◌, ◌-◌, ◌++◌, [], ◌∷◌, cond, reverse, sym, ap, ◌∙◌, rules}
+use Rattle.std.proofs.Common.{◌≡◌, ◌++◌, [], ◌∷◌, cond, sym, ap, ◌∙◌, rules}
 use Rattle.std.specs.Int.{from_bool}
 use Rattle.go_board.specs.declared.referee.Earlier.{Earlier}
-use Rattle.go_board.specs.inner.Earlier.{past_of_older, past_before, IsRefereeKept}
+use Rattle.go_board.specs.inner.Earlier.{past_of_older, past_before}
 use Rattle.go_board.proofs.EarlierLemmas.{IsRefereeKept-back}
 use Rattle.go_board.proofs.referee.Referee.undo.Goals as goal
 

@@ -1,12 +1,19 @@
-use Rattle.std.proofs.Common.{◌≡◌, ◌++◌, [], ◌∷◌, length, reverse, refl, ap, sym, subst, ◌∙◌, rules}
+use Rattle.std.proofs.Common.{◌≡◌, ◌++◌, [], ◌∷◌, length, reverse, refl, ap, sym, subst, ◌∙◌, arith, rules}
+use Rattle.std.proofs.lemmas.List.{length-reverse}
 use Rattle.go_board.specs.declared.past.changes.Older.{Older}
 use Rattle.go_board.specs.Grid.{Grid}
 use Rattle.go_board.specs.Past.{PastColourings, newest_grid, with_next}
 use Rattle.go_board.specs.inner.Changes.{after_changes, is_full, AreOn}
 use Rattle.go_board.specs.inner.Rows.{has_bit}
 use Rattle.go_board.proofs.ChangesLemmas.{leads_back, makes_one, kept_on}
-use Rattle.go_board.proofs.ColouringsLemmas.{past_held, past-push, held-push}
+use Rattle.go_board.proofs.ColouringsLemmas.{counted-le, past_held, past-push, held-push}
 use Rattle.go_board.proofs.past.colourings.Colourings.add.Goals as goal
+
+pub next_older_in_stretch-self-inside-requires : goal.next_older_in_stretch-self-inside-requires
+next_older_in_stretch-self-inside-requires c =
+    let was = c.self.inside in
+    let count : c.len-2.result ≡ length was.older.items = search rules in
+    omega (arith, count, c.reserve.ensures, counted-le was.older_in_stretch (reverse was.older.items) c.self.invariant.counted, length-reverse was.older.items)
 
 pub invariant_of-self-2 : goal.invariant_of-self-2
 invariant_of-self-2 c =
@@ -22,8 +29,8 @@ invariant_of-self-2 c =
     let start : c.len.result ≡ length was.changes.items = search rules in
     let older : c.push.new.self.items ≡ was.older.items ++ kept ∷ [] = search rules in
     rw older
-    (past-push was.newest c.copy-self-inside.result was.older_in_stretch c.in_ok-older_in_stretch.older_in_stretch was.older.items kept was.changes.items m.more c.keep_rows.new.changes.items c.args.begins
-    c.in_ok-older_in_stretch.ensures refl start m.added back c.self.invariant c.is_settled.ensures
+    (past-push was.newest c.copy-self-inside.result was.older_in_stretch c.next_older_in_stretch-self-inside.result was.older.items kept was.changes.items m.more c.keep_rows.new.changes.items c.args.begins
+    c.next_older_in_stretch-self-inside.ensures refl start m.added back c.self.invariant c.is_settled.ensures
     (λ is. makes_one was.newest board c.is_full-all.result rows was.changes.items c.keep_rows.new.changes.items c.has_all_cells.ensures.all c.rows_apart-rows.ensures.cover m (c.is_full-all.ensures ∙ ap is_full count ∙ is))
     (subst (λ n. AreOn n was.changes.items) (sym same_side) c.self.invariant.on_grid) (subst (λ n. AreOn n m.more) (sym same_side) (kept_on was.newest board c.is_full-all.result rows was.changes.items c.keep_rows.new.changes.items c.has_all_cells.ensures.all c.rows_apart-rows.ensures.cover m)))
 
@@ -39,7 +46,7 @@ returns-clause-ok c =
     let start : c.len.result ≡ length was.changes.items = search rules in
     let older : c.push.new.self.items ≡ was.older.items ++ kept ∷ [] = search rules in
     rw older
-    (held-push was.newest c.copy-self-inside.result was.older_in_stretch c.in_ok-older_in_stretch.older_in_stretch was.older.items kept was.changes.items m.more c.keep_rows.new.changes.items c.args.begins
-    c.in_ok-older_in_stretch.ensures refl start m.added back
+    (held-push was.newest c.copy-self-inside.result was.older_in_stretch c.next_older_in_stretch-self-inside.result was.older.items kept was.changes.items m.more c.keep_rows.new.changes.items c.args.begins
+    c.next_older_in_stretch-self-inside.ensures refl start m.added back
     ∙ ap (λ (b : Grid). with_next (past_held was.newest was.older_in_stretch (reverse was.older.items) was.changes.items) b c.args.begins) c.copy-self-inside.ensures
     ∙ ap (λ (past : PastColourings). with_next past board c.args.begins) c.self.view_is)

@@ -1,4 +1,5 @@
-use Rattle.std.proofs.Common.{◌≡◌, ◌*◌, ◌++◌, [], ◌∷◌, false, length, reverse, refl, ap, sym, subst, ◌∙◌, rules}
+use Rattle.std.proofs.Common.{◌≡◌, ◌+◌, ◌++◌, [], ◌∷◌, false, length, reverse, refl, ap, sym, subst, ◌∙◌, arith, rules}
+use Rattle.std.proofs.lemmas.List.{length-reverse}
 use Rattle.go_board.specs.declared.past.changes.Older.{Older}
 use Rattle.go_board.specs.Grid.{Grid}
 use Rattle.go_board.specs.Clearing.{play}
@@ -7,9 +8,15 @@ use Rattle.go_board.specs.inner.Changes.{after_changes, is_full, AreOn, CoverCha
 use Rattle.go_board.specs.inner.Groups.{TakesOff}
 use Rattle.go_board.specs.inner.Rows.{has_bit}
 use Rattle.go_board.proofs.ChangesLemmas.{leads_back, makes_one, kept_on, play_cells}
-use Rattle.go_board.proofs.ColouringsLemmas.{past_held, past-push, held-push}
+use Rattle.go_board.proofs.ColouringsLemmas.{counted-le, past_held, past-push, held-push}
 use Rattle.go_board.proofs.SettledLemmas.{side_play}
 use Rattle.go_board.proofs.past.colourings.Colourings.add_stone.Goals as goal
+
+pub overflow_add-self : goal.overflow_add-self
+overflow_add-self c =
+    let was = c.self.inside in
+    let count : c.len-2.result ≡ length was.older.items = search rules in
+    omega (arith, count, c.reserve.ensures, counted-le was.older_in_stretch (reverse was.older.items) c.self.invariant.counted, length-reverse was.older.items)
 
 pub invariant_of-self-2 : goal.invariant_of-self-2
 invariant_of-self-2 c =
@@ -31,8 +38,8 @@ invariant_of-self-2 c =
     let count : c.len-2.result ≡ length was.older.items = search rules in
     let older : c.push.new.self.items ≡ was.older.items ++ kept ∷ [] = search rules in
     rw older
-    (past-push was.newest made was.older_in_stretch c.in_ok-older_in_stretch.older_in_stretch was.older.items kept was.changes.items m.more c.keep_rows.new.changes.items false
-    c.in_ok-older_in_stretch.ensures refl start m.added back c.self.invariant c.is_settled.ensures
+    (past-push was.newest made was.older_in_stretch (was.older_in_stretch + 1) was.older.items kept was.changes.items m.more c.keep_rows.new.changes.items false
+    refl refl start m.added back c.self.invariant c.is_settled.ensures
     (λ is. makes_one was.newest next full rows was.changes.items c.keep_rows.new.changes.items all cover m (c.is_full-full.ensures ∙ ap is_full count ∙ is))
     (subst (λ n. AreOn n was.changes.items) (sym side) c.self.invariant.on_grid) (subst (λ n. AreOn n m.more) (sym side) (kept_on was.newest next full rows was.changes.items c.keep_rows.new.changes.items all cover m)))
 
@@ -54,7 +61,7 @@ returns-clause-ok c =
     let start : c.len.result ≡ length was.changes.items = search rules in
     let older : c.push.new.self.items ≡ was.older.items ++ kept ∷ [] = search rules in
     rw older
-    (held-push was.newest made was.older_in_stretch c.in_ok-older_in_stretch.older_in_stretch was.older.items kept was.changes.items m.more c.keep_rows.new.changes.items false
-    c.in_ok-older_in_stretch.ensures refl start m.added back
+    (held-push was.newest made was.older_in_stretch (was.older_in_stretch + 1) was.older.items kept was.changes.items m.more c.keep_rows.new.changes.items false
+    refl refl start m.added back
     ∙ ap (λ (b : Grid). with_next (past_held was.newest was.older_in_stretch (reverse was.older.items) was.changes.items) b false) c.put.ensures
     ∙ ap (λ (past : PastColourings). with_next past (play (newest_grid past) k p) false) c.self.view_is)
