@@ -10,7 +10,7 @@ ghost use Rattle.sgf_tree.specs.inner.KeptEnds.{AreKeptEnds};
 
 use crate::layout::LongValue;
 use crate::property::PropRef;
-use crate::reader::scan::{identifier_end, part, rest_from, skip_to_bracket, skip_white_space};
+use crate::reader::scan::{identifier_end, part, rest_from, skip_white_space};
 use crate::reader::value::value_end;
 use crate::written::written_properties_end;
 use std::marker::Model;
@@ -181,7 +181,7 @@ fn value_at(text: &[u8], at: usize, long: Option<&Vec<LongValue>>) -> Option<(us
     requires kept { IfSome long (λ kept. AreKeptEnds text.now kept.now.items) }
     ensures { MatchOption result (IsNoPropValue (drop at text.now)) (λ value. IsValueAt text.now at value.0 value.1) }
 {
-    let bracket = skip_to_bracket(text, at);
+    let bracket = skip_white_space(text, at);
     if bracket == text.len() || text[bracket] != b'[' {
         return None;
     }

@@ -13,8 +13,21 @@ use crate::reader::fault::PartFault;
 use crate::reader::scan::{letters_end, short_name_end, skip_white_space};
 use crate::reader::value::{near_value_end, read_value};
 
-/// A property of fewer bytes is read at a glance, if so many bytes are left.
-const SHORT: usize = 20;
+/// The least number of bytes that must be left for a look at a short property: a name, brackets,
+/// the bytes that are compared for a value, and the byte after them.
+const GLANCE: usize = 20;
+
+/// Whether the byte at `at` ends the node before any property, as a `;` or a parenthesis does. This is tested
+/// before anything is called. If it is false, nothing is known.
+#[inline(always)]
+pub(crate) fn ends_at_once(text: &[u8], at: usize) -> bool
+    ensures { IsTrue result → ArePropertiesRead text.now at at }
+{
+    if at < text.len() && b' ' < text[at] && text[at] < b'A' {
+        return true;
+    }
+    false
+}
 
 /// How far a part of a text was read.
 #[derive(Clone, Copy)]
@@ -26,7 +39,7 @@ pub(crate) struct PartRead {
 }
 
 /// Reads the properties of a node, which begin at `at` or after white space there.
-#[inline(always)]
+#[inline(never)]
 pub(crate) fn read_properties(
     text: &[u8],
     at: usize,
@@ -79,7 +92,7 @@ fn read_short_property(text: &[u8], start: usize) -> Option<PartRead>
     requires capital { IsTrue (is_upper (slice_index text.now start)) }
     ensures { IfSome result (IsWholePropertyRead text.now start) }
 {
-    if text.len() - start < SHORT {
+    if text.len() - start < GLANCE {
         return None;
     }
     let bracket = short_name_end(text, start)?;

@@ -24,8 +24,21 @@ pub(crate) fn part(text: &[u8], start: usize, end: usize) -> &[u8]
     &text[start..end]
 }
 
-/// The end of the white space at `at`.
+/// The end of the white space at `at`. Usually there is none.
+#[inline(always)]
 pub(crate) fn skip_white_space(text: &[u8], at: usize) -> usize
+    requires { at ≤ length text.now }
+    ensures { IsSpan is_white_space text.now at result }
+{
+    if at < text.len() && b' ' < text[at] {
+        return at;
+    }
+    white_space_end(text, at)
+}
+
+/// The same, found byte by byte.
+#[inline(never)]
+fn white_space_end(text: &[u8], at: usize) -> usize
     requires { at ≤ length text.now }
     ensures { IsSpan is_white_space text.now at result }
 {
@@ -40,19 +53,7 @@ pub(crate) fn skip_white_space(text: &[u8], at: usize) -> usize
 fn is_white_space(byte: u8) -> bool
     ensures { result ≡ is_white_space byte }
 {
-    byte <= b' ' && matches!(byte, b' ' | b'\t'..=b'\r')
-}
-
-/// The end of the white space at `at`, where a value may begin. Usually there is none, and a `[` is there.
-#[inline(always)]
-pub(crate) fn skip_to_bracket(text: &[u8], at: usize) -> usize
-    requires { at ≤ length text.now }
-    ensures { IsSpan is_white_space text.now at result }
-{
-    if at < text.len() && text[at] == b'[' {
-        return at;
-    }
-    skip_white_space(text, at)
+    matches!(byte, b' ' | b'\t'..=b'\r')
 }
 
 /// The end of the letters of an identifier that begins with the capital at `at`.

@@ -1,6 +1,6 @@
 use Rattle.std.proofs.Common.{◌≡◌, ℕ, ◌-◌, ◌<◌, ◌≤◌, true, length, get_or}
 use Rattle.sgf_tree.specs.Spelling.{is_white_space}
-use Rattle.sgf_tree.proofs.reader.scan.skip_white_space.Given as goal
+use Rattle.sgf_tree.proofs.reader.scan.white_space_end.Given as goal
 
 abbrev pub invariant-white_space : goal.invariant-white_space
 invariant-white_space l = record {
