@@ -1,11 +1,9 @@
 -- One line more of a run.
-use Rattle.std.proofs.Common.{◌≡◌, ℕ, zero, suc, ◌+◌, ◌-◌, ◌<◌, ◌≤◌, Bool, true, false, List, [], ◌∷◌, ◌++◌, length, take, map, slice_get, Option, Some, None, Result, Ok, Err, inl, inr, refl, sym, ap, subst, ◌∙◌, arith, add-one, length-append}
-use Rattle.std.specs.Prelude.{nat_lt, MatchBool}
+use Rattle.std.proofs.Common.{◌≡◌, ◌≢◌, ℕ, zero, suc, ◌+◌, ◌-◌, ◌<◌, ◌≤◌, Bool, List, [], ◌∷◌, ◌++◌, length, take, map, slice_get, Option, Some, Result, Ok, Err, inr, refl, sym, ap, subst, ◌∙◌, arith, add-one, length-append}
 use Rattle.std.specs.List.{range_with_len}
 use Rattle.std.specs.Result.{IsErr}
 use Rattle.std.proofs.Math.Seq.{take-append_seam}
 use Rattle.std.proofs.lemmas.List.{take-map, take_all, length-take-le}
-use Rattle.std.proofs.lemmas.Bool.{cases_lt, lt-ltb, le-ltb}
 use Rattle.std.proofs.lemmas.List.FromFn.{length-range_with_len}
 use Rattle.sgf_tree.specs.Tree.{Node}
 use Rattle.sgf_tree.specs.FileOrder.{node_at}
@@ -15,12 +13,14 @@ use Rattle.sgf_lines.specs.JudgedGames.{game_kind, root_properties}
 use Rattle.sgf_lines.specs.RunPlays.{plays_in}
 use Rattle.sgf_lines.specs.declared.options.Form.{Form}
 use Rattle.sgf_lines.specs.declared.options.Form.TheVariants.{List as list_form, Sgf as sgf_form, Gtp as gtp_form}
-use Rattle.sgf_lines.specs.declared.run.Run.{Run}
+use Rattle.sgf_lines.specs.declared.going_on.Before.{Before}
+use Rattle.sgf_lines.specs.declared.going_on.Before.TheVariants.{Unheld, Held, Refused}
 use Rattle.sgf_lines.specs.inner.Judging.{Judgement, judging, back}
 use Rattle.sgf_lines.specs.inner.Recording.{open_record}
 use Rattle.sgf_lines.specs.inner.Scripting.{script_of, script_back, script_ended}
 use Rattle.sgf_lines.specs.inner.Following.{Continues, first_after, nodes_of, line_in, line_before, nodes_before, path_before}
-use Rattle.sgf_lines.specs.inner.Keeping.{Kept, kept_in, judging_front, KeepsBy, HoldsBy, Holds, PlaysUpTo, PlaysLine, IsShared, HasPlays, StillHeld, fresh_plays}
+use Rattle.sgf_lines.specs.inner.Keeping.{Kept, judging_front, KeepsBy, HoldsBy, StandsBy, PlaysUpTo, PlaysLine, HasPlays, fresh_plays}
+use Rattle.sgf_lines.specs.inner.GoingOn.{index_by, GoesOnBy}
 use Rattle.sgf_lines.proofs.Along.{same_root}
 use Rattle.sgf_lines.proofs.Joins.{as_many}
 use Rattle.sgf_lines.proofs.Judgements.{judging_back}
@@ -35,7 +35,7 @@ some_inj (x ∷ xs) [] e = absurd cc
 some_inj (x ∷ xs) (y ∷ ys) e = let head : x ≡ y = cc in let rest = some_inj xs ys cc in cc
 
 -- paths that share a front name the same nodes there
-pub same_front : (f : ℕ → Option Node) (old new : List ℕ) (was nodes : List Node) (kept : ℕ) → map Some was ≡ map f old → map Some nodes ≡ map f new → Continues old kept new
+same_front : (f : ℕ → Option Node) (old new : List ℕ) (was nodes : List Node) (kept : ℕ) → map Some was ≡ map f old → map Some nodes ≡ map f new → Continues old kept new
     → take kept was ≡ take kept nodes
 same_front f old new was nodes kept e g h =
     let count = length-take-le kept old h.kept_within in
@@ -52,7 +52,7 @@ module _ (old nodes : List Node) (count : ℕ) (some : 0 < count) (within : coun
   whole : take (length old) old ≡ old
   whole = take_all (length old) old (omega arith)
 
-  pub judged_same : (judgement : Judgement) → judgement ≡ judging_front old (length old) → back count judgement ≡ judging_front nodes count
+  judged_same : (judgement : Judgement) → judgement ≡ judging_front old (length old) → back count judgement ≡ judging_front nodes count
   judged_same judgement h =
       ap (back count) (h ∙ ap (judging (game_kind (root_properties old))) whole) ∙ judging_back (game_kind (root_properties old)) old count within
       ∙ ap (judging (game_kind (root_properties old))) same ∙ ap (λ k. judging k (take count nodes)) kinds
@@ -67,10 +67,10 @@ module _ (old nodes : List Node) (count : ℕ) (some : 0 < count) (within : coun
   )
 
 -- the cursor went on by a line
-pub named : (at : CursorState) → map Some (nodes_before at) ≡ map (node_at at.games) (path_before at)
+named : (at : CursorState) → map Some (nodes_before at) ≡ map (node_at at.games) (path_before at)
 named at = named_in at.games at.index
 
-pub line_next : (at : CursorState) → line_before (advanced at) ≡ slice_get (lines at.games) at.index
+line_next : (at : CursorState) → line_before (advanced at) ≡ slice_get (lines at.games) at.index
 line_next at = let next : at.index + 1 ≡ suc at.index = add-one at.index in ap (line_in at.games) next
 
 pub line_is : (at : CursorState) → 0 < at.index → line_before at ≡ slice_get (lines at.games) (at.index - 1)
@@ -80,91 +80,88 @@ line_is at lt = by at.index refl lt
     by zero e lt = absurd (omega arith)
     by (suc k) e lt = let before : suc k - 1 ≡ k = omega arith in ap (λ n. slice_get (lines at.games) n) (sym before)
 
--- how many nodes are held still
-still_shared : (held shared still : ℕ) → 0 < held → StillHeld held shared still → still ≡ shared
-still_shared held shared still lt h = let is : MatchBool true (still ≡ shared) (still ≡ 0) = rw (lt-ltb 0 held lt) at h in is
+-- a line that shares so many nodes with the line before it
+module _ (old new : CursorState) (shared : ℕ) (moved : new ≡ advanced old) (continues : Continues (path_before old) shared (path_before new)) where
+  many_new : length (nodes_before new) ≡ shared + (continues.more + 1)
+  many_new =
+      let range = range_with_len (first_after (path_before old)) (continues.more + 1) in
+      as_many (node_at new.games) (nodes_before new) (path_before new) (named new) ∙ ap length continues.new_is ∙ length-append (take shared (path_before old)) range
+      ∙ omega (arith, length-take-le shared (path_before old) continues.kept_within, length-range_with_len (first_after (path_before old)) (continues.more + 1))
 
-still_none : (held shared still : ℕ) → held ≡ 0 → StillHeld held shared still → still ≡ 0
-still_none held shared still none h = let is : MatchBool false (still ≡ shared) (still ≡ 0) = rw (le-ltb 0 held (omega arith)) at h in is
+  some_node : 0 < length (nodes_before new)
+  some_node = omega (arith, many_new)
 
-module _ (run : Run) (h : Holds run) (new : CursorState) (shared still : ℕ) (moved : new ≡ advanced run.cursor) (continues : Continues (path_before run.cursor) shared (path_before new)) (held : StillHeld run.held shared still) where
-  many_old : length (nodes_before run.cursor) ≡ length (path_before run.cursor)
-  many_old = as_many (node_at run.cursor.games) (nodes_before run.cursor) (path_before run.cursor) (named run.cursor)
+  within : shared ≤ length (nodes_before new)
+  within = omega (arith, many_new)
 
-  many_new : length (nodes_before new) ≡ length (path_before new)
-  many_new = as_many (node_at new.games) (nodes_before new) (path_before new) (named new)
+  kept_still : (form : Form) (kept : Kept) → HoldsBy form (nodes_before old) kept → 0 < shared → KeepsBy form (nodes_before new) shared kept
+  kept_still form kept h some =
+      let named_new : map Some (nodes_before new) ≡ map (node_at old.games) (path_before new) = named new ∙ ap (λ (p : CursorState). map (node_at p.games) (path_before new)) moved in
+      let many_old = as_many (node_at old.games) (nodes_before old) (path_before old) (named old) in
+      let same : take shared (nodes_before old) ≡ take shared (nodes_before new) =
+      same_front (node_at old.games) (path_before old) (path_before new) (nodes_before old) (nodes_before new) shared (named old) named_new continues in
+      keeps (nodes_before old) (nodes_before new) shared some (omega (arith, many_old, continues.kept_within)) same form kept h
 
-  longer : length (path_before new) ≡ shared + (continues.more + 1)
-  longer =
-      let range = range_with_len (first_after (path_before run.cursor)) (continues.more + 1) in
-      ap length continues.new_is ∙ length-append (take shared (path_before run.cursor)) range
-      ∙ omega (arith, length-take-le shared (path_before run.cursor) continues.kept_within, length-range_with_len (first_after (path_before run.cursor)) (continues.more + 1))
-
-  -- the next line has a node, and what is held is within it
+-- the next line, before the cursor that went on
+pub record IsNext (form : Form) (before : Before) (old new : CursorState) (held : ℕ) (kept : Kept) : Type 0 where
   pub some_node : 0 < length (nodes_before new)
-  some_node = omega (arith, many_new, longer)
+  pub within : held ≤ length (nodes_before new)
+  pub keeps : 0 < held → KeepsBy form (nodes_before new) held kept
+  pub games : new.games ≡ old.games
+  pub index : new.index - 1 ≡ index_by before old.index
 
-  still_least : still ≤ shared
-  still_least =
-      elim (cases_lt 0 run.held) [
-        | inl lt ↦ omega (arith, still_shared run.held shared still lt held)
-        | inr ge ↦ omega (arith, still_none run.held shared still (omega arith) held)
-      ]
+pub goes_on : (form : Form) (before : Before) (old new : CursorState) (held : ℕ) (kept : Kept) → StandsBy form before old kept → GoesOnBy before old new held → IsNext form before old new held kept
+goes_on form Unheld old new held kept stands go = record {
+  some_node = some_node old new go.2.0 go.0 go.2.1;
+  within = omega (arith, go.1);
+  keeps = λ some. absurd (omega (arith, go.1));
+  games = ap (λ (p : CursorState). p.games) go.0;
+  index = omega (arith, ap (λ (p : CursorState). p.index) go.0);
+}
+goes_on form Held old new held kept stands go = record {
+  some_node = some_node old new held go.0 go.1;
+  within = within old new held go.0 go.1;
+  keeps = kept_still old new held go.0 go.1 form kept stands.1;
+  games = ap (λ (p : CursorState). p.games) go.0;
+  index = omega (arith, ap (λ (p : CursorState). p.index) go.0);
+}
+goes_on form Refused old new held kept stands go = record {
+  some_node = rw go.0 stands;
+  within = omega (arith, go.1);
+  keeps = λ some. absurd (omega (arith, go.1));
+  games = ap (λ (p : CursorState). p.games) go.0;
+  index = ap (λ (p : CursorState). p.index - 1) go.0;
+}
 
-  pub still_within : still ≤ length (nodes_before new)
-  still_within = omega (arith, still_least, many_new, longer)
+pub some_before : (at : CursorState) → 0 < length (nodes_before at) → 0 < at.index
+some_before at some = by at.index refl
+  where
+    by : (n : ℕ) → at.index ≡ n → 0 < at.index
+    by zero e = absurd (omega (arith, some, ap (λ n. length (nodes_of (line_in at.games n))) e))
+    by (suc n) e = omega arith
 
-  same_nodes : take shared (nodes_before run.cursor) ≡ take shared (nodes_before new)
-  same_nodes =
-      let named_new : map Some (nodes_before new) ≡ map (node_at run.cursor.games) (path_before new) = named new ∙ ap (λ (p : CursorState). map (node_at p.games) (path_before new)) moved in
-      same_front (node_at run.cursor.games) (path_before run.cursor) (path_before new) (nodes_before run.cursor) (nodes_before new) shared (named run.cursor) named_new continues
-
-  pub still_kept : 0 < still → KeepsBy run.form (nodes_before new) still (kept_in run)
-  still_kept some =
-      elim (cases_lt 0 run.held) [
-        | inl lt ↦
-            let is = still_shared run.held shared still lt held in
-            let same : take still (nodes_before run.cursor) ≡ take still (nodes_before new) = rw is same_nodes in
-            keeps (nodes_before run.cursor) (nodes_before new) still some (omega (arith, is, many_old, continues.kept_within)) same run.form (kept_in run) (h lt).1
-        | inr ge ↦ absurd (omega (arith, still_none run.held shared still (omega arith) held))
-      ]
-
-  -- how many nodes of the line are played already
-  pub still_shares : IsShared (nat_lt 0 run.held) run.cursor still
-  still_shares =
-      elim (cases_lt 0 run.held) [
-        | inl lt ↦
-            let is = still_shared run.held shared still lt held in
-            let there : Continues (path_before run.cursor) shared (path_before (advanced run.cursor)) =
-            subst (λ (p : CursorState). Continues (path_before run.cursor) shared (path_before p)) moved continues in
-            let go : Continues (path_before run.cursor) still (path_before (advanced run.cursor)) = rw is there in
-            subst (λ b. IsShared b run.cursor still) (sym (lt-ltb 0 run.held lt)) go
-        | inr ge ↦ subst (λ b. IsShared b run.cursor still) (sym (le-ltb 0 run.held (omega arith))) (still_none run.held shared still (omega arith) held)
-      ]
-
-  -- the next line
-  pub record NextLine : Type 0 where
-    pub line : Line
-    pub found : slice_get (lines run.cursor.games) run.cursor.index ≡ Some line
-    pub nodes : nodes_before new ≡ line.nodes
-    pub before : line_before new ≡ Some line
-
-  pub the_line : NextLine
-  the_line = by (line_before new) refl
+-- unless memory was refused before, the cursor went on by one line
+module _ (before : Before) (going : before ≢ Refused) (old new : CursorState) (held : ℕ) (go : GoesOnBy before old new held) where
+  pub moved : new ≡ advanced old
+  moved = by before refl go
     where
-      by : (o : Option Line) → line_before new ≡ o → NextLine
-      by None e = absurd (omega (arith, some_node, ap (λ o. length (nodes_of o)) e))
-      by (Some l) e = record { line = l; found = sym (ap line_before moved ∙ line_next run.cursor) ∙ e; nodes = ap nodes_of e; before = e }
+      by : (b : Before) → before ≡ b → GoesOnBy b old new held → new ≡ advanced old
+      by Unheld e go = go.0
+      by Held e go = go.0
+      by Refused e go = absurd (going e)
 
-  pub plays_are : HasPlays run.form (nat_lt 0 run.held) run.cursor (plays_in run.form (fresh_plays (nodes_before new) still))
-  plays_are = record { line = the_line.line; found = the_line.found; shared = still; shares = still_shares; count_is = ap (λ ns. plays_in run.form (fresh_plays ns still)) the_line.nodes }
+  pub next_line : (line : Line) → line_before new ≡ Some line → slice_get (lines old.games) old.index ≡ Some line
+  next_line line e = sym (ap line_before moved ∙ line_next old) ∙ e
+
+  pub plays_are : (form : Form) (line : Line) → line_before new ≡ Some line → HasPlays form before old (plays_in form (fresh_plays (nodes_before new) held))
+  plays_are form line e = record { line = line; found = next_line line e; held = held; goes_on = subst (λ at. GoesOnBy before old at held) moved go; count_is = ap (λ o. plays_in form (fresh_plays (nodes_of o) held)) e }
 
 -- what was counted for it
-pub plays_line : {A : Type 0} (E : Type 0) (form : Form) (b : Bool) (at : CursorState) (old new : ℕ) (nodes : List Node) (shared : ℕ) (u : A) → HasPlays form b at (plays_in form (fresh_plays nodes shared))
+pub plays_line : {A : Type 0} (E : Type 0) (form : Form) (b : Before) (at : CursorState) (old new : ℕ) (nodes : List Node) (shared : ℕ) (u : A) → HasPlays form b at (plays_in form (fresh_plays nodes shared))
     → PlaysUpTo {E = E} old new (plays_in form (fresh_plays nodes shared)) (Ok u) → (n : ℕ) × HasPlays form b at n × (new ≡ old + n)
 plays_line E form b at old new nodes shared u h counts = (plays_in form (fresh_plays nodes shared), h, counts.each)
 
-pub plays_refused : {E F : Type 0} (A : Type 0) (form : Form) (b : Bool) (at : CursorState) (old new : ℕ) (nodes : List Node) (shared : ℕ) (e : E) (r : Result Bool F) → IsErr r → HasPlays form b at (plays_in form (fresh_plays nodes shared))
+pub plays_refused : {E F : Type 0} (A : Type 0) (form : Form) (b : Before) (at : CursorState) (old new : ℕ) (nodes : List Node) (shared : ℕ) (e : E) (r : Result Bool F) → IsErr r → HasPlays form b at (plays_in form (fresh_plays nodes shared))
     → PlaysUpTo {A = A} old new (plays_in form (fresh_plays nodes shared)) (Err e) → PlaysLine form b at old new r
 plays_refused A form b at old new nodes shared e (Ok x) bad h counts = absurd cc
 plays_refused A form b at old new nodes shared e (Err f) is h counts = inr (plays_in form (fresh_plays nodes shared), h, counts.not_fewer, counts.not_more)

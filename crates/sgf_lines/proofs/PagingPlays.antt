@@ -14,7 +14,7 @@ use Rattle.sgf_lines.specs.Record.{output}
 use Rattle.sgf_lines.proofs.Running.{all_taken}
 use Rattle.sgf_lines.specs.Lines.{Line, lines}
 use Rattle.sgf_lines.specs.Ends.{SinkState, TakesNothing}
-use Rattle.sgf_lines.specs.Cursor.{CursorState}
+use Rattle.sgf_lines.specs.Cursor.{CursorState, advanced}
 use Rattle.sgf_lines.specs.Verdict.{judged_nodes}
 use Rattle.sgf_lines.specs.Plays.{different, all_judged_places, judged_places}
 use Rattle.sgf_lines.specs.RunPlays.{plays_in, plays_of, ArePlaysFor}
@@ -23,7 +23,10 @@ use Rattle.sgf_lines.specs.declared.options.Form.TheVariants.{List as list_form,
 use Rattle.sgf_lines.specs.declared.fault.RunFault.{RunFault}
 use Rattle.sgf_lines.specs.declared.fault.RunFault.TheVariants.{Read, TooLong, NotSgf, NoSuchLine, Write, Memory}
 use Rattle.sgf_lines.specs.inner.Following.{Continues, numbers_before}
-use Rattle.sgf_lines.specs.inner.Keeping.{IsShared, HasPlays, PlaysLine}
+use Rattle.sgf_lines.specs.inner.GoingOn.{GoesOnBy}
+use Rattle.sgf_lines.specs.inner.Keeping.{HasPlays, PlaysLine}
+use Rattle.sgf_lines.specs.declared.going_on.Before.{Before}
+use Rattle.sgf_lines.specs.declared.going_on.Before.TheVariants.{Unheld, Held}
 use Rattle.sgf_lines.specs.inner.Running.{WritesLines}
 use Rattle.sgf_lines.proofs.Pages.{get_dropped, get_taken}
 use Rattle.sgf_lines.proofs.Different.{is_new, different-append}
@@ -104,33 +107,34 @@ module _ (c : Games) (rise : PlacesRise c) (first limit : ℕ) where
   few_played form old new plays (Err (Memory k)) h = omega (arith, h.2.at_most, few form (k + 1))
 
 -- what a line shares with the one before it, by where the cursor stands
-shares_by : (c : Games) (rise : PlacesRise c) (first limit k : ℕ) (wrote : Bool) (at : CursorState) (shared : ℕ) → at.games ≡ c → at.index ≡ first + k → (k ≡ 0 → wrote ≡ false) → (0 < k → wrote ≡ true)
-    → IsShared wrote at shared → Shares c rise first limit k shared
-shares_by c rise first limit zero wrote at shared same index first_line later h = rw (first_line refl) at h
-shares_by c rise first limit (suc k) wrote at shared same index first_line later h =
-    let go : Continues (numbers_before at.games at.index) shared (numbers_before at.games (at.index + 1)) = rw (later (omega arith)) at h in
+shares_by : (c : Games) (rise : PlacesRise c) (first limit k : ℕ) (before : Before) (at : CursorState) (held : ℕ) → at.games ≡ c → at.index ≡ first + k → (k ≡ 0 → before ≡ Unheld) → (0 < k → before ≡ Held)
+    → GoesOnBy before at (advanced at) held → Shares c rise first limit k held
+shares_by c rise first limit zero before at held same index first_line later h = let go : GoesOnBy Unheld at (advanced at) held = rw (first_line refl) at h in go.1
+shares_by c rise first limit (suc k) before at held same index first_line later h =
+    let there : GoesOnBy Held at (advanced at) held = rw (later (omega arith)) at h in
+    let go : Continues (numbers_before at.games at.index) held (numbers_before at.games (at.index + 1)) = there.1 in
     rw (same, index, add-one) at go
 
-module _ (form : Form) (c : Games) (rise : PlacesRise c) (first limit k : ℕ) (wrote : Bool) (at : CursorState) (old sink : SinkState) (written : IsSoFar form c first limit old k at sink)
-    (first_line : k ≡ 0 → wrote ≡ false) (later : 0 < k → wrote ≡ true) (lt : k < limit) (now : ℕ) (h : now ≡ plays_of form (take k (page_from c first limit))) where
-  next_adds : (n : ℕ) → HasPlays form wrote at n → plays_of form (take (k + 1) (page_from c first limit)) ≡ plays_of form (take k (page_from c first limit)) + n
+module _ (form : Form) (c : Games) (rise : PlacesRise c) (first limit k : ℕ) (before : Before) (at : CursorState) (old sink : SinkState) (written : IsSoFar form c first limit old k at sink)
+    (first_line : k ≡ 0 → before ≡ Unheld) (later : 0 < k → before ≡ Held) (lt : k < limit) (now : ℕ) (h : now ≡ plays_of form (take k (page_from c first limit))) where
+  next_adds : (n : ℕ) → HasPlays form before at n → plays_of form (take (k + 1) (page_from c first limit)) ≡ plays_of form (take k (page_from c first limit)) + n
   next_adds n p =
       let there : slice_get (lines c) (first + k) ≡ Some p.line = rw (written.same, written.index) at p.found in
       let here : slice_get (page_from c first limit) k ≡ Some p.line = get_taken (drop first (lines c)) limit k lt ∙ get_dropped (lines c) first k ∙ there in
       rw (← p.count_is) at
-      (adds c rise first limit form k p.shared p.line here (shares_by c rise first limit k wrote at p.shared written.same written.index first_line later p.shares))
+      (adds c rise first limit form k p.held p.line here (shares_by c rise first limit k before at p.held written.same written.index first_line later p.goes_on))
 
   -- the next line was played whole
-  pub one_played : (new : ℕ) → PlaysLine {E = MemoryFault} form wrote at now new (Ok true) → new ≡ plays_of form (take (k + 1) (page_from c first limit))
+  pub one_played : (new : ℕ) → PlaysLine {E = MemoryFault} form before at now new (Ok true) → new ≡ plays_of form (take (k + 1) (page_from c first limit))
   one_played new p = omega (arith, p.2, h, next_adds p.0 p.1)
 
   -- but its record wasn't taken whole
-  pub played_then_cut : (new : ℕ) → PlaysLine {E = MemoryFault} form wrote at now new (Ok true) → ArePlaysFor form (page_from c first limit) k new
+  pub played_then_cut : (new : ℕ) → PlaysLine {E = MemoryFault} form before at now new (Ok true) → ArePlaysFor form (page_from c first limit) k new
   played_then_cut new p =
       let all = one_played new p in record { at_least = omega (arith, all, plays_grow form (page_from c first limit) k); at_most = omega (arith, all) }
 
   -- no memory for all of it
-  pub played_in_part : (e : MemoryFault) (new : ℕ) → PlaysLine form wrote at now new (Err e) → ArePlaysFor form (page_from c first limit) k new
+  pub played_in_part : (e : MemoryFault) (new : ℕ) → PlaysLine form before at now new (Err e) → ArePlaysFor form (page_from c first limit) k new
   played_in_part e new (inl none) = record { at_least = omega (arith, none, h); at_most = omega (arith, none, h, plays_grow form (page_from c first limit) k) }
   played_in_part e new (inr p) = record { at_least = omega (arith, p.2, h); at_most = omega (arith, p.3, h, next_adds p.0 p.1) }
 

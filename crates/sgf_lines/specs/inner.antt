@@ -12,6 +12,7 @@ pub mod Pieces
 pub mod Recording
 pub mod Scripting
 pub mod Keeping
+pub mod GoingOn
 pub mod Followers
 pub mod Cutting
 pub mod HeldBack

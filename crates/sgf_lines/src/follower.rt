@@ -1,15 +1,14 @@
 //! Going over the lines of play of a collection, and judging each.
 
-ghost use Rattle.std.specs.Prelude.{◌≡◌, ◌<◌, ◌≤◌, ◌-◌, true, false, None, length, slice_get, IfNone, IfOk, IfSome, OnErr, OnOk};
-ghost use Rattle.sgf_lines.specs.Lines.{lines};
+ghost use Rattle.std.specs.Prelude.{◌≡◌, ◌<◌, ◌≤◌, ◌-◌, true, false, length, IfOk, OnOk};
 ghost use Rattle.sgf_lines.specs.Verdict.{verdict_of};
 ghost use Rattle.sgf_lines.specs.inner.Following.{nodes_before};
-ghost use Rattle.sgf_lines.specs.inner.Followers.{index_by, GoesOnBy};
 ghost use Rattle.sgf_lines.specs.inner.Judging.{back};
 ghost use Rattle.sgf_lines.specs.inner.Keeping.{judging_front};
 
 use crate::cursor::Cursor;
 use crate::form::judged::judge_line;
+use crate::going_on::{Before, go_on};
 use crate::judging::judge::Judge;
 use crate::line::LineRef;
 use crate::verdict::Verdict;
@@ -29,20 +28,11 @@ pub struct Follower<'c, 'a> {
     before: Before,
 }
 
-/// What is known of the line before the cursor.
-#[derive(Clone, Copy)]
-enum Before {
-    /// It isn't judged, or there is none.
-    Unjudged,
-    /// It is judged to its end.
-    Judged,
-    /// Memory was refused when it was judged, so it is still the next line.
-    Refused,
-}
-
 impl<'c, 'a> Model for Follower<'c, 'a> {
     ghost use Rattle.sgf_lines.specs.Follower.{FollowerState};
-    ghost use Rattle.sgf_lines.specs.inner.Followers.{follower_state_code, state_by, StandsBy};
+    ghost use Rattle.sgf_lines.specs.inner.Followers.{follower_state_code, state_by, judging_alone};
+    ghost use Rattle.sgf_lines.specs.declared.options.Form.TheVariants.{List as list_form};
+    ghost use Rattle.sgf_lines.specs.inner.Keeping.{StandsBy};
 
     ghost Value = { FollowerState };
 
@@ -50,7 +40,7 @@ impl<'c, 'a> Model for Follower<'c, 'a> {
 
     ghost view = { λ f. state_by f.before f.cursor };
 
-    ghost invariant = { λ f. StandsBy f.before f.cursor f.judge.judgement };
+    ghost invariant = { λ f. StandsBy list_form f.before f.cursor (judging_alone f.judge.judgement) };
 }
 
 impl<'c, 'a> Follower<'c, 'a> {
@@ -64,7 +54,7 @@ impl<'c, 'a> Follower<'c, 'a> {
         Follower {
             cursor,
             judge: Judge::new(alloc),
-            before: Before::Unjudged,
+            before: Before::Unheld,
         }
     }
 
@@ -79,7 +69,7 @@ impl<'c, 'a> Follower<'c, 'a> {
         };
         self.before = Before::Refused;
         let verdict = judge_before(&self.cursor, held, &mut self.judge)?;
-        self.before = Before::Judged;
+        self.before = Before::Held;
         Ok(Some(verdict))
     }
 
@@ -89,26 +79,6 @@ impl<'c, 'a> Follower<'c, 'a> {
         ensures { IsLine self.now.games (self.now.index - 1) result }
     {
         self.cursor.line()
-    }
-}
-
-/// Goes on to the next line and returns how many of its nodes are judged already; None if no line is left.
-/// After a refusal of memory the cursor is unchanged.
-fn go_on(cursor: &mut Cursor<'_, '_>, before: Before) -> Result<Option<usize>, MemoryFault>
-    ensures found { IfOk result (λ held. IfSome held (GoesOnBy before cursor.old cursor.new)) }
-    ensures none_left { IfOk result (λ held. IfNone held (slice_get (lines cursor.old.games) (index_by before cursor.old.index) ≡ None)) }
-    ensures none_moved { IfOk result (λ held. IfNone held (cursor.new ≡ cursor.old)) }
-    ensures unchanged { OnErr result (cursor.new ≡ cursor.old) }
-{
-    if let Before::Refused = before {
-        return Ok(Some(0));
-    }
-    let Some(shared) = cursor.advance()? else {
-        return Ok(None);
-    };
-    match before {
-        Before::Judged => Ok(Some(shared)),
-        _ => Ok(Some(0)),
     }
 }
 

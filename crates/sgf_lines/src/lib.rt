@@ -34,6 +34,7 @@
 //! | `verdict`, `judging` | the verdict of a line; judging lines: |
 //! | `judging/one_line`, `judging/judge` | one line, by its leaf or its place; a judge that goes along the nodes of a line, and back |
 //! | `judging/root`, `judging/contents`, `judging/step` | the board of a root's game; what a node holds; playing a node |
+//! | `going_on` | going on to the next line, and how much of it is held already |
 //! | `follower` | going over the lines that follow a cursor, and judging each |
 //! | `node_values` | what the values of a node say |
 //! | `form` | the forms in which a line is written, and what lines share of a text |
@@ -52,6 +53,7 @@ mod ends;
 mod fault;
 mod follower;
 mod form;
+mod going_on;
 mod judging;
 pub mod laws;
 mod line;

@@ -1,6 +1,6 @@
 //! A run: what a source gives is split into the records of its lines, which a sink takes.
 
-ghost use Rattle.std.specs.Prelude.{◌≡◌, ◌<◌, ◌≤◌, ◌+◌, ℕ, List, Some, None, [], length, take, drop, slice_get, nat_lt, option_map, IfOk, OnOk, MatchBool};
+ghost use Rattle.std.specs.Prelude.{◌≡◌, ◌<◌, ◌≤◌, ◌+◌, ℕ, List, Some, None, [], length, take, drop, slice_get, option_map, IfOk, OnOk, MatchBool};
 ghost use Rattle.sgf_tree.specs.declared.fault.TheConstants.{MAX_LENGTH};
 ghost use Rattle.sgf_tree.specs.Spelling.{Spells};
 ghost use Rattle.sgf_tree.specs.Tree.{node_count};
@@ -9,8 +9,9 @@ ghost use Rattle.sgf_lines.specs.Answer.{IsRun, read_failures, write_failures};
 ghost use Rattle.sgf_lines.specs.Lines.{lines};
 ghost use Rattle.sgf_lines.specs.Record.{record_of};
 ghost use Rattle.sgf_lines.specs.RunPlays.{IsRunWithPlays, plays_in};
+ghost use Rattle.sgf_lines.specs.declared.going_on.Before.TheVariants.{Held};
 ghost use Rattle.sgf_lines.specs.inner.Following.{line_before, nodes_before};
-ghost use Rattle.sgf_lines.specs.inner.Keeping.{Holds, HoldsBy, IsFresh, KeepsBy, PlaysLine, PlaysUpTo, StillHeld, fresh_plays, kept_in, record_by, record_in};
+ghost use Rattle.sgf_lines.specs.inner.Keeping.{Holds, HoldsBy, IsFresh, KeepsBy, PlaysLine, PlaysUpTo, fresh_plays, kept_in, record_by, record_in};
 ghost use Rattle.sgf_lines.specs.inner.Running.{HasRecord, IsReading, IsStart, PutsAll, WritesLines};
 
 use crate::cursor::Cursor;
@@ -22,6 +23,7 @@ use crate::form::pieces::Pieces;
 use crate::form::row::{push_list_row, push_list_row_comment};
 use crate::form::script::Script;
 use crate::form::{record, script};
+use crate::going_on::{Before, go_on};
 use crate::judging::judge::Judge;
 use crate::laws::rise;
 use crate::options::{Form, Options};
@@ -160,9 +162,8 @@ pub(crate) struct Run<'c, 'a> {
 
     form: Form,
 
-    /// How many nodes of the line before the cursor are held: all of them, or
-    /// none before the first line and after a refusal of memory.
-    held: usize,
+    /// What is known of the line before the cursor. Nothing of it is held before the first line and after a refusal of memory.
+    before: Before,
 
     /// The judgement on that line, in the forms that judge.
     judge: Judge,
@@ -187,7 +188,7 @@ impl<'c, 'a> Run<'c, 'a> {
         Run {
             cursor,
             form,
-            held: 0,
+            before: Before::Unheld,
             judge: Judge::new(alloc),
             game: Pieces::new(alloc),
             script: Script::new(alloc),
@@ -251,25 +252,17 @@ impl<'c, 'a> Run<'c, 'a> {
             (slice_get (lines self.old.cursor.games) self.old.cursor.index ≡ None)) }
         ensures holds { Holds self.new }
         ensures form { self.new.form ≡ self.old.form }
-        ensures held { IfOk result (λ found. MatchBool found (0 < self.new.held) (self.new.held ≡ self.old.held)) }
-        ensures plays { PlaysLine self.old.form (nat_lt 0 self.old.held) self.old.cursor self.old.judge.plays self.new.judge.plays result }
+        ensures before { IfOk result (λ found. MatchBool found (self.new.before ≡ Held) (self.new.before ≡ self.old.before)) }
+        ensures plays { PlaysLine self.old.form self.old.before self.old.cursor self.old.judge.plays self.new.judge.plays result }
     {
-        let Some(shared) = self.cursor.advance()? else {
+        let Some(held) = go_on(&mut self.cursor, self.before)? else {
             return Ok(false);
         };
-        let held = self.still_held(shared);
-        let nodes = self.cursor.len();
-        self.held = 0;
+        let _nodes = self.cursor.len();
+        self.before = Before::Unheld;
         self.make(held)?;
-        self.held = nodes;
+        self.before = Before::Held;
         Ok(true)
-    }
-
-    /// How many nodes are held of a line that shares this many with the line before it; 0 if none of that line are held.
-    fn still_held(&self, shared: usize) -> usize
-        ensures { StillHeld self.now.held shared result }
-    {
-        if self.held > 0 { shared } else { 0 }
     }
 
     /// Makes the record of the line before the cursor. The run has kept its first `held` nodes already.
@@ -285,7 +278,7 @@ impl<'c, 'a> Run<'c, 'a> {
             (plays_in self.old.form (fresh_plays (nodes_before self.old.cursor) held)) result }
         ensures cursor { self.new.cursor ≡ self.old.cursor }
         ensures form { self.new.form ≡ self.old.form }
-        ensures held { self.new.held ≡ self.old.held }
+        ensures before { self.new.before ≡ self.old.before }
     {
         match self.form {
             Form::List => {

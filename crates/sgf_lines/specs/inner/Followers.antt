@@ -1,42 +1,29 @@
--- A follower's state, from its cursor and from what is known of the line before the cursor; and how it goes on to the next line.
-use Rattle.std.specs.Prelude.{◌≡◌, ℕ, ◌-◌, ◌<◌, Bool, true, false, length, refl}
+-- A follower's state, from its cursor and from what is known of the line before the cursor.
+use Rattle.std.specs.Prelude.{ℕ, Bool, true, false, refl}
 use Rattle.std.specs.Coded.{Coded, code_by, coded×, coded_ℕ, coded_bool}
 use Rattle.sgf_tree.specs.Tree.{Games}
 use Rattle.sgf_tree.specs.inner.TreeCode.{games_code}
-use Rattle.sgf_lines.specs.Cursor.{CursorState, advanced}
+use Rattle.sgf_lines.specs.Cursor.{CursorState}
 use Rattle.sgf_lines.specs.Follower.{FollowerState}
-use Rattle.sgf_lines.specs.declared.follower.Before.{Before}
-use Rattle.sgf_lines.specs.declared.follower.Before.TheVariants.{Unjudged, Judged, Refused}
-use Rattle.sgf_lines.specs.inner.Following.{Continues, path_before, nodes_before}
+use Rattle.sgf_lines.specs.declared.going_on.Before.{Before}
+use Rattle.sgf_lines.specs.declared.going_on.Before.TheVariants.{Unheld, Held, Refused}
+use Rattle.sgf_lines.specs.inner.GoingOn.{index_by}
 use Rattle.sgf_lines.specs.inner.Judging.{Judgement}
-use Rattle.sgf_lines.specs.inner.Keeping.{judging_front}
-
--- the index of the next line; after a refusal, the line before the cursor is next again
-abbrev pub index_by : Before → ℕ → ℕ
-index_by Unjudged index = index
-index_by Judged index = index
-index_by Refused index = index - 1
+use Rattle.sgf_lines.specs.inner.Keeping.{Kept}
+use Rattle.sgf_lines.specs.inner.Pieces.{no_pieces}
+use Rattle.sgf_lines.specs.inner.Scripting.{no_script}
 
 abbrev pub shows_by : Before → Bool
-shows_by Unjudged = false
-shows_by Judged = true
+shows_by Unheld = false
+shows_by Held = true
 shows_by Refused = false
 
 abbrev pub state_by : Before → CursorState → FollowerState
 state_by before cursor = record { games = cursor.games; index = index_by before cursor.index; shows = shows_by before }
 
--- what holds of the line before the cursor, and of the judgement
-abbrev pub StandsBy : Before → CursorState → Judgement → Type 0
-StandsBy Unjudged cursor judgement = Unit {0}
-StandsBy Judged cursor judgement =
-    (0 < length (nodes_before cursor)) × (judgement ≡ judging_front (nodes_before cursor) (length (nodes_before cursor)))
-StandsBy Refused cursor judgement = 0 < length (nodes_before cursor)
-
--- the cursor went on to the follower's next line; the first `held` of its nodes are judged already
-abbrev pub GoesOnBy : Before → CursorState → CursorState → ℕ → Type 0
-GoesOnBy Unjudged old new held = (new ≡ advanced old) × (held ≡ 0) × ((shared : ℕ) × Continues (path_before old) shared (path_before new))
-GoesOnBy Judged old new held = (new ≡ advanced old) × Continues (path_before old) held (path_before new)
-GoesOnBy Refused old new held = (new ≡ old) × (held ≡ 0)
+-- a follower keeps the judgement alone, as the list form does
+abbrev pub judging_alone : Judgement → Kept
+judging_alone judgement = record { judgement = judgement; game = no_pieces; script = no_script }
 
 -- a follower's state is stored as its parts
 abbrev pub follower_state_code : Coded FollowerState

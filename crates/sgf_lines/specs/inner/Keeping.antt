@@ -1,5 +1,5 @@
 -- What a run holds of the line before its cursor, and how many nodes it plays for each line.
-use Rattle.std.specs.Prelude.{◌≡◌, ◌⊎◌, ℕ, ◌+◌, ◌-◌, ◌<◌, ◌≤◌, Bool, true, false, List, ◌++◌, length, take, Some, slice_get, Result, Ok, Err, OnOk, MatchBool, nat_lt}
+use Rattle.std.specs.Prelude.{◌≡◌, ◌≢◌, ◌⊎◌, ℕ, ◌+◌, ◌-◌, ◌<◌, ◌≤◌, Bool, true, false, List, ◌++◌, length, take, Some, slice_get, Result, Ok, Err, OnOk}
 use Rattle.std.specs.List.{concat}
 use Rattle.sgf_tree.specs.Tree.{Node}
 use Rattle.sgf_lines.specs.Lines.{Line, lines}
@@ -9,12 +9,15 @@ use Rattle.sgf_lines.specs.Verdict.{judged_on}
 use Rattle.sgf_lines.specs.RunPlays.{plays_in}
 use Rattle.sgf_lines.specs.declared.options.Form.{Form}
 use Rattle.sgf_lines.specs.declared.options.Form.TheVariants.{List as list_form, Sgf as sgf_form, Gtp as gtp_form}
+use Rattle.sgf_lines.specs.declared.going_on.Before.{Before}
+use Rattle.sgf_lines.specs.declared.going_on.Before.TheVariants.{Unheld, Held, Refused}
 use Rattle.sgf_lines.specs.declared.run.Run.{Run}
 use Rattle.sgf_lines.specs.inner.Pieces.{PiecesState, cut}
 use Rattle.sgf_lines.specs.inner.Recording.{open_record, whole_record}
 use Rattle.sgf_lines.specs.inner.Scripting.{ScriptState, script_of, script_back, script_ended, script_text}
 use Rattle.sgf_lines.specs.inner.Judging.{Judgement, judging, back}
-use Rattle.sgf_lines.specs.inner.Following.{Continues, nodes_before, path_before}
+use Rattle.sgf_lines.specs.inner.Following.{nodes_before}
+use Rattle.sgf_lines.specs.inner.GoingOn.{GoesOnBy}
 
 -- the judgement on a line after its first nodes, and its script after them
 abbrev pub judging_front : List Node → ℕ → Judgement
@@ -44,13 +47,19 @@ HoldsBy list_form nodes kept = kept.judgement ≡ judging_front nodes (length no
 HoldsBy sgf_form nodes kept = kept.game ≡ whole_record nodes
 HoldsBy gtp_form nodes kept = (kept.judgement ≡ judging_front nodes (length nodes)) × (kept.script ≡ script_ended (script_front nodes (length nodes)))
 
--- A run holds all nodes of the line before its cursor, or none.
+-- what holds of the line before a cursor
+abbrev pub StandsBy : Form → Before → CursorState → Kept → Type 0
+StandsBy form Unheld cursor kept = Unit {0}
+StandsBy form Held cursor kept = (0 < length (nodes_before cursor)) × HoldsBy form (nodes_before cursor) kept
+StandsBy form Refused cursor kept = 0 < length (nodes_before cursor)
+
+-- A run never goes back to a line for which memory was refused.
 abbrev pub Holds : Run → Type 0
-Holds run = 0 < run.held → (run.held ≡ length (nodes_before run.cursor)) × HoldsBy run.form (nodes_before run.cursor) (kept_in run)
+Holds run = StandsBy run.form run.before run.cursor (kept_in run) × (run.before ≢ Refused)
 
 -- a run that has written no line
 pub record IsFresh (run : Run) : Type 0 where
-  pub none : run.held ≡ 0
+  pub none : run.before ≡ Unheld
   pub plays : run.judge.plays ≡ 0
 
 -- the record that was made last
@@ -62,10 +71,6 @@ record_by gtp_form head game script = head ++ script_text script
 abbrev pub record_in : Run → List ℕ
 record_in run = record_by run.form run.head.items run.game run.script
 
--- If nodes of the line before were held, all nodes that the line shares with it are still held; else none are.
-abbrev pub StillHeld : ℕ → ℕ → ℕ → Type 0
-StillHeld held shared still = MatchBool (nat_lt 0 held) (still ≡ shared) (still ≡ 0)
-
 -- how many nodes are played for a line whose first `shared` nodes are played already
 abbrev pub fresh_plays : List Node → ℕ → ℕ
 fresh_plays nodes shared = length (judged_on (game_kind (root_properties nodes)) nodes) - shared
@@ -76,23 +81,17 @@ pub record PlaysUpTo {A E : Type 0} (old new count : ℕ) (result : Result A E) 
   pub not_more : new ≤ old + count
   pub each : OnOk result (new ≡ old + count)
 
--- How many nodes of a cursor's next line are played already: those shared
--- with the line before it, if the run holds that line; else 0.
-abbrev pub IsShared : Bool → CursorState → ℕ → Type 0
-IsShared true cursor shared = Continues (path_before cursor) shared (path_before (advanced cursor))
-IsShared false cursor shared = shared ≡ 0
-
 -- a cursor's next line, and how many of its nodes are played for it
-pub record HasPlays (form : Form) (holds : Bool) (cursor : CursorState) (count : ℕ) : Type 0 where
+pub record HasPlays (form : Form) (before : Before) (cursor : CursorState) (count : ℕ) : Type 0 where
   pub line : Line
   pub found : slice_get (lines cursor.games) cursor.index ≡ Some line
-  pub shared : ℕ
-  pub shares : IsShared holds cursor shared
-  pub count_is : count ≡ plays_in form (fresh_plays line.nodes shared)
+  pub held : ℕ
+  pub goes_on : GoesOnBy before cursor (advanced cursor) held
+  pub count_is : count ≡ plays_in form (fresh_plays line.nodes held)
 
 -- The plays went from `old` to `new` when a cursor's next line was to be written. They rose by those for that line, if there is
 -- one. If memory was refused, they rose by none or some of those.
-abbrev pub PlaysLine : {E : Type 0} → Form → Bool → CursorState → ℕ → ℕ → Result Bool E → Type 0
-PlaysLine form holds cursor old new (Ok true) = (count : ℕ) × HasPlays form holds cursor count × (new ≡ old + count)
-PlaysLine form holds cursor old new (Ok false) = new ≡ old
-PlaysLine form holds cursor old new (Err fault) = (new ≡ old) ⊎ ((count : ℕ) × HasPlays form holds cursor count × (old ≤ new) × (new ≤ old + count))
+abbrev pub PlaysLine : {E : Type 0} → Form → Before → CursorState → ℕ → ℕ → Result Bool E → Type 0
+PlaysLine form before cursor old new (Ok true) = (count : ℕ) × HasPlays form before cursor count × (new ≡ old + count)
+PlaysLine form before cursor old new (Ok false) = new ≡ old
+PlaysLine form before cursor old new (Err fault) = (new ≡ old) ⊎ ((count : ℕ) × HasPlays form before cursor count × (old ≤ new) × (new ≤ old + count))

@@ -1,10 +1,10 @@
 -- One record more was written, or the sink failed within it.
-use Rattle.std.proofs.Common.{◌≡◌, ◌<◌, true, nat_lt, ap, ◌∙◌, arith, Ok, Err}
-use Rattle.std.proofs.lemmas.Bool.{lt-ltb}
+use Rattle.std.proofs.Common.{◌≡◌, true, ap, ◌∙◌, arith, Ok, Err}
 use Rattle.sgf_tree.specs.Tree.{node_count}
 use Rattle.sgf_tree.specs.FileOrder.{PlacesRise}
 use Rattle.sgf_tree.specs.declared.fault.TheConstants.{MAX_LENGTH}
 use Rattle.sgf_tree.specs.declared.fault.MemoryFault.{MemoryFault}
+use Rattle.sgf_lines.specs.declared.going_on.Before.TheVariants.{Held}
 use Rattle.sgf_lines.specs.inner.Running.{HasRecord}
 use Rattle.sgf_lines.specs.inner.Keeping.{record_in, PlaysLine}
 use Rattle.sgf_lines.proofs.Paging.{one_written, cut_short, none_left, limit_met}
@@ -31,19 +31,19 @@ page-preserved g c =
     let rise : PlacesRise games = rw c.collection.ensures at c.nodes-nodes.ensures.places_rise in
     let made : HasRecord c.page.self.form c.page.self.cursor c.next.new.self.cursor (record_in c.next.new.self) = rw c.in-Ok-true.field-0-test at c.in-Ok-true.ensures.made in
     let got : HasRecord run.form c.page.self.cursor c.next.new.self.cursor (record_in c.next.new.self) = rw c.page.invariant.form at made in
-    let held : 0 < c.next.new.self.held = rw c.in-Ok-true.field-0-test at c.in-Ok-true.ensures.held in
-    let judged : PlaysLine {E = MemoryFault} c.page.self.form (nat_lt 0 c.page.self.held) c.page.self.cursor c.page.self.judge.plays c.next.new.self.judge.plays (Ok true) =
+    let held : c.next.new.self.before ≡ Held = rw c.in-Ok-true.field-0-test at c.in-Ok-true.ensures.before in
+    let judged : PlaysLine {E = MemoryFault} c.page.self.form c.page.self.before c.page.self.cursor c.page.self.judge.plays c.next.new.self.judge.plays (Ok true) =
     rw c.in-Ok-true.field-0-test at c.in-Ok-true.ensures.plays in
-    let counted : PlaysLine {E = MemoryFault} run.form (nat_lt 0 c.page.self.held) c.page.self.cursor c.page.self.judge.plays c.next.new.self.judge.plays (Ok true) = rw c.page.invariant.form at judged in
+    let counted : PlaysLine {E = MemoryFault} run.form c.page.self.before c.page.self.cursor c.page.self.judge.plays c.next.new.self.judge.plays (Ok true) = rw c.page.invariant.form at judged in
     record {
       written = one_written run.form games first c.args.limit (g.T.Sink.state c.args.sink.now) c.page.lines c.page.self.cursor
           (g.T.Sink.state c.page.sink) c.page.invariant.written c.next.new.self.cursor (g.T.Sink.state c.put.new.sink) (record_in c.next.new.self) (omega (arith, c.page-test.true))
           got c.in-Ok.ensures.0 c.in-Ok.ensures.1;
       form = c.in-Ok-true.ensures.form ∙ c.page.invariant.form;
       first = λ none. absurd (omega (arith, none));
-      later = λ some. lt-ltb 0 c.next.new.self.held held;
+      later = λ some. held;
       holds = c.in-Ok-true.ensures.holds;
-      plays = one_played run.form games rise first c.args.limit c.page.lines (nat_lt 0 c.page.self.held) c.page.self.cursor (g.T.Sink.state c.args.sink.now)
+      plays = one_played run.form games rise first c.args.limit c.page.lines c.page.self.before c.page.self.cursor (g.T.Sink.state c.args.sink.now)
           (g.T.Sink.state c.page.sink) c.page.invariant.written c.page.invariant.first c.page.invariant.later (omega (arith, c.page-test.true)) c.page.self.judge.plays c.page.invariant.plays c.next.new.self.judge.plays counted;
     }
 
@@ -54,13 +54,13 @@ returns-in-Err-put-clause-answer g c =
     let made : HasRecord c.page.self.form c.page.self.cursor c.next.new.self.cursor (record_in c.next.new.self) = rw c.in-Ok-true.field-0-test at c.in-Ok-true.ensures.made in
     let got : HasRecord run.form c.page.self.cursor c.next.new.self.cursor (record_in c.next.new.self) = rw c.page.invariant.form at made in
     let cut = c.in-Err-put.ensures in
-    let judged : PlaysLine {E = MemoryFault} c.page.self.form (nat_lt 0 c.page.self.held) c.page.self.cursor c.page.self.judge.plays c.next.new.self.judge.plays (Ok true) =
+    let judged : PlaysLine {E = MemoryFault} c.page.self.form c.page.self.before c.page.self.cursor c.page.self.judge.plays c.next.new.self.judge.plays (Ok true) =
     rw c.in-Ok-true.field-0-test at c.in-Ok-true.ensures.plays in
-    let counted : PlaysLine {E = MemoryFault} run.form (nat_lt 0 c.page.self.held) c.page.self.cursor c.page.self.judge.plays c.next.new.self.judge.plays (Ok true) = rw c.page.invariant.form at judged in (
+    let counted : PlaysLine {E = MemoryFault} run.form c.page.self.before c.page.self.cursor c.page.self.judge.plays c.next.new.self.judge.plays (Ok true) = rw c.page.invariant.form at judged in (
       cut_short run.form run.cursor.games run.cursor.index c.args.limit (g.T.Sink.state c.args.sink.now) c.page.lines c.page.self.cursor
           (g.T.Sink.state c.page.sink) c.page.invariant.written c.next.new.self.cursor (g.T.Sink.state c.put.new.sink) (record_in c.next.new.self) cut.0 (omega (arith, c.page-test.true))
           got cut.1 cut.2,
-      played_then_cut run.form run.cursor.games rise run.cursor.index c.args.limit c.page.lines (nat_lt 0 c.page.self.held) c.page.self.cursor (g.T.Sink.state c.args.sink.now)
+      played_then_cut run.form run.cursor.games rise run.cursor.index c.args.limit c.page.lines c.page.self.before c.page.self.cursor (g.T.Sink.state c.args.sink.now)
           (g.T.Sink.state c.page.sink) c.page.invariant.written c.page.invariant.first c.page.invariant.later (omega (arith, c.page-test.true)) c.page.self.judge.plays c.page.invariant.plays c.next.new.self.judge.plays counted,
     )
 
@@ -68,11 +68,11 @@ pub returns-in-Err-clause-answer : goal.returns-in-Err-clause-answer
 returns-in-Err-clause-answer g c =
     let run = c.args.self.now in
     let rise : PlacesRise run.cursor.games = rw c.collection.ensures at c.nodes-nodes.ensures.places_rise in
-    let judged : PlaysLine c.page.self.form (nat_lt 0 c.page.self.held) c.page.self.cursor c.page.self.judge.plays c.next.new.self.judge.plays (Err c.in-Err.field-0) = c.in-Err.ensures.plays in
-    let counted : PlaysLine run.form (nat_lt 0 c.page.self.held) c.page.self.cursor c.page.self.judge.plays c.next.new.self.judge.plays (Err c.in-Err.field-0) = rw c.page.invariant.form at judged in (
+    let judged : PlaysLine c.page.self.form c.page.self.before c.page.self.cursor c.page.self.judge.plays c.next.new.self.judge.plays (Err c.in-Err.field-0) = c.in-Err.ensures.plays in
+    let counted : PlaysLine run.form c.page.self.before c.page.self.cursor c.page.self.judge.plays c.next.new.self.judge.plays (Err c.in-Err.field-0) = rw c.page.invariant.form at judged in (
       c.page.invariant.written.within,
       c.page.invariant.written.takes,
-      played_in_part run.form run.cursor.games rise run.cursor.index c.args.limit c.page.lines (nat_lt 0 c.page.self.held) c.page.self.cursor (g.T.Sink.state c.args.sink.now)
+      played_in_part run.form run.cursor.games rise run.cursor.index c.args.limit c.page.lines c.page.self.before c.page.self.cursor (g.T.Sink.state c.args.sink.now)
           (g.T.Sink.state c.page.sink) c.page.invariant.written c.page.invariant.first c.page.invariant.later (omega (arith, c.page-test.true)) c.page.self.judge.plays c.page.invariant.plays c.in-Err.field-0
           c.next.new.self.judge.plays counted,
     )

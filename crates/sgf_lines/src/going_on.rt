@@ -1,0 +1,42 @@
+//! Going on to the next line, and how much of it is held already.
+
+ghost use Rattle.std.specs.Prelude.{◌≡◌, None, slice_get, IfNone, IfOk, IfSome, OnErr};
+ghost use Rattle.sgf_lines.specs.Lines.{lines};
+ghost use Rattle.sgf_lines.specs.inner.GoingOn.{index_by, GoesOnBy};
+
+use crate::cursor::Cursor;
+use sgf_tree::MemoryFault;
+
+/// What is known of the line before a cursor.
+#[derive(Clone, Copy)]
+pub(crate) enum Before {
+    /// Nothing of it is held, or there is none.
+    Unheld,
+    /// What is kept from line to line is held of all its nodes.
+    Held,
+    /// Memory was refused for it, so it is still the next line.
+    Refused,
+}
+
+/// Goes on to the next line and returns how many of its nodes are held already; None if no line is left.
+/// After a refusal of memory the cursor is unchanged.
+pub(crate) fn go_on(
+    cursor: &mut Cursor<'_, '_>,
+    before: Before,
+) -> Result<Option<usize>, MemoryFault>
+    ensures found { IfOk result (λ held. IfSome held (GoesOnBy before cursor.old cursor.new)) }
+    ensures none_left { IfOk result (λ held. IfNone held (slice_get (lines cursor.old.games) (index_by before cursor.old.index) ≡ None)) }
+    ensures none_moved { IfOk result (λ held. IfNone held (cursor.new ≡ cursor.old)) }
+    ensures unchanged { OnErr result (cursor.new ≡ cursor.old) }
+{
+    if let Before::Refused = before {
+        return Ok(Some(0));
+    }
+    let Some(shared) = cursor.advance()? else {
+        return Ok(None);
+    };
+    match before {
+        Before::Held => Ok(Some(shared)),
+        _ => Ok(Some(0)),
+    }
+}
