@@ -1,47 +1,16 @@
 -- A page with a limit, and what follows its last line, join to the page without the limit.
-use Rattle.std.proofs.Common.{◌≡◌, ℕ, suc, ◌+◌, ◌<◌, List, [], ◌∷◌, ◌++◌, drop, map, Option, Some, None, option_map, slice_index, refl, sym, ap, subst, ◌∙◌, arith, append_assoc, append-nil, Bool, true, false}
+use Rattle.std.proofs.Common.{◌≡◌, ℕ, ◌+◌, List, [], ◌∷◌, ◌++◌, length, slice_get, drop, Option, Some, None, option_map, refl, sym, ap, ◌∙◌, arith, append_assoc, append-nil, Bool, true, false}
 use Rattle.std.specs.Prelude.{◌==◌}
-use Rattle.std.specs.List.Sorted.{IsStrictlyIncreasing}
-use Rattle.std.proofs.lemmas.Bool.{eq-eqb, ne_eqb}
+use Rattle.std.proofs.Math.Seq.{drop-append-add}
 use Rattle.std.proofs.lemmas.List.{take-append-drop}
 use Rattle.sgf_tree.specs.Tree.{Games}
 use Rattle.sgf_tree.specs.FileOrder.{PlacesRise}
 use Rattle.sgf_lines.specs.Lines.{Line, lines, place_of}
 use Rattle.sgf_lines.specs.Page.{lines_after, lines_asked, limited, page}
 use Rattle.sgf_lines.specs.declared.options.Options.{Options}
-use Rattle.sgf_lines.proofs.Lists.{Each, each_weaker}
+use Rattle.sgf_tree.proofs.Lists.{slice_get-right}
+use Rattle.sgf_lines.proofs.Pages.{after_index}
 use Rattle.sgf_lines.proofs.LinesRise.{lines_rise}
-
--- each number is below all that follow it
-abbrev Rising : List ℕ → Type 0
-Rising [] = Unit {0}
-Rising (n ∷ ns) = Each (λ m. n < m) ns × Rising ns
-
-shorter : (n : ℕ) (ns : List ℕ) → IsStrictlyIncreasing (n ∷ ns) → IsStrictlyIncreasing ns
-shorter n ns h = λ k lt.
-    let one : k + 1 ≡ suc k = omega arith in
-    let two : k + 1 + 1 ≡ suc (k + 1) = omega arith in
-    let here = h (k + 1) (omega arith) in
-    subst (λ a. slice_index (n ∷ ns) a < slice_index ns (k + 1)) one (subst (λ b. slice_index (n ∷ ns) (k + 1) < slice_index (n ∷ ns) b) two here)
-
-rising : (ns : List ℕ) → IsStrictlyIncreasing ns → Rising ns
-rising [] h = tt
-rising (n ∷ []) h = (tt, tt)
-rising (n ∷ m ∷ ms) h =
-    let rest = rising (m ∷ ms) (shorter n (m ∷ ms) h) in
-    let first : n < m = h 0 (omega arith) in
-    ((first, each_weaker (λ k. m < k) (λ k. n < k) (λ k lt. omega arith) ms rest.0), rest)
-
--- what follows a line of a list whose places rise
-follows : (before : List Line) (l : Line) (after : List Line) → Rising (map place_of (before ++ l ∷ after)) → lines_after (before ++ l ∷ after) (place_of l) ≡ Some after
-follows [] l after h = rw (eq-eqb (place_of l) (place_of l) refl) refl
-follows (x ∷ xs) l after h =
-    let less = among xs l after (place_of x) h.0 in
-    rw (ne_eqb (place_of x) (place_of l) (λ e. omega arith)) (follows xs l after h.1)
-  where
-    among : (xs : List Line) (l : Line) (after : List Line) (n : ℕ) → Each (λ m. n < m) (map place_of (xs ++ l ∷ after)) → n < place_of l
-    among [] l after n h = h.0
-    among (x ∷ xs) l after n h = among xs l after n h.1
 
 -- the lines after a place end the list
 ends_list : (ls : List Line) (place : ℕ) (tail : List Line) → lines_after ls place ≡ Some tail → (before : List Line) × (ls ≡ before ++ tail)
@@ -86,9 +55,11 @@ goes_on c o front last rise e =
     let tail : m.0 ≡ front ++ last ∷ f.0 = f.1 ∙ append_assoc front (last ∷ []) f.0 in
     let t = tail_of (lines c) o.after m.0 m.1 in
     let all : lines c ≡ (t.0 ++ front) ++ last ∷ f.0 = t.1 ∙ ap (λ xs. t.0 ++ xs) tail ∙ sym (append_assoc t.0 front (last ∷ f.0)) in
-    let increasing : Rising (map place_of ((t.0 ++ front) ++ last ∷ f.0)) = subst (λ ls. Rising (map place_of ls)) all (rising (map place_of (lines c)) (lines_rise c rise)) in
+    let k = length (t.0 ++ front) in
+    let here : slice_get (lines c) k ≡ Some last = ap (λ ls. slice_get ls k) all ∙ slice_get-right (t.0 ++ front) (last ∷ f.0) k 0 (omega arith) in
+    let left : drop (k + 1) (lines c) ≡ f.0 = ap (drop (k + 1)) all ∙ drop-append-add (t.0 ++ front) (last ∷ f.0) 1 in
     record {
       rest = f.0;
-      after = subst (λ ls. lines_after ls (place_of last) ≡ Some f.0) (sym all) (follows (t.0 ++ front) last f.0 increasing);
+      after = after_index (lines c) k (place_of last) (lines_rise c rise) (ap (λ o. option_map place_of o) here) ∙ ap Some left;
       whole = m.1 ∙ ap Some tail;
     }

@@ -63,11 +63,6 @@ module _ (c : Games) (rise : PlacesRise c) where
       let f = judged_front (game_kind (root_properties line.nodes)) line.nodes in
       (f.0, ap places_of f.1 ∙ sym (take-map (λ n. n.place) f.0 line.nodes) ∙ ap (take f.0) (places_named c line.nodes numbers named))
 
-  judged_short : (line : Line) (numbers : List ℕ) → map Some line.nodes ≡ map (node_at c) numbers → length (judged_nodes line) ≤ length numbers
-  judged_short line numbers named =
-      let f = judged_front (game_kind (root_properties line.nodes)) line.nodes in
-      omega (arith, ap length f.1, length-take f.0 line.nodes, as_many (node_at c) line.nodes numbers named)
-
   -- what a line shares with another is judged alike
   same_places : (last line : Line) (old new : List ℕ) (shared : ℕ) → map Some last.nodes ≡ map (node_at c) old → map Some line.nodes ≡ map (node_at c) new → Continues old shared new
       → take shared (judged_places line) ≡ take shared (judged_places last)

@@ -101,13 +101,6 @@ decimal_within n = solid_within (decimal n) (decimal_solid n)
 pub within_both : (xs ys : List ℕ) → Each IsWithin xs → Each IsWithin ys → Each IsWithin (xs ++ ys)
 within_both xs ys h k = each_append IsWithin xs ys h k
 
--- a decimal after other bytes, and a space after that
-number_within : (before : List ℕ) (n : ℕ) → Each IsWithin before → Each IsWithin (before ++ decimal n)
-number_within before n h = within_both before (decimal n) h (decimal_within n)
-
-space_within : (before : List ℕ) → Each IsWithin before → Each IsWithin (before ++ codes " ")
-space_within before h = within_both before (codes " ") h (refl, tt)
-
 word_within : (r : Reason) → Each IsWithin (word_of r)
 word_within Mixed = search
 word_within TwoMoves = search
@@ -123,26 +116,10 @@ over_within true = search
 over_within false = search
 
 verdict_within : (v : Verdict) → Each IsWithin (verdict_text v)
-verdict_within (Score black white over) =
-    let one = codes "score " ++ decimal black in
-    let both = one ++ codes " " ++ decimal white in
-    let first : Each IsWithin one = number_within (codes "score ") black search in
-    let second : Each IsWithin both = number_within (one ++ codes " ") white (space_within one first) in
-    within_both both (cond over (codes " over") (codes " open")) second (over_within over)
-verdict_within (Illegal turn place reason) =
-    let one = codes "illegal " ++ decimal turn in
-    let both = one ++ codes " " ++ decimal place in
-    let first : Each IsWithin one = number_within (codes "illegal ") turn search in
-    let second : Each IsWithin both = number_within (one ++ codes " ") place (space_within one first) in
-    within_both (both ++ codes " ") (word_of reason) (space_within both second) (word_within reason)
+verdict_within (Score black white over) = search (within_both, decimal_within, over_within) depth 12
+verdict_within (Illegal turn place reason) = search (within_both, decimal_within, word_within) depth 20
 verdict_within NotGo = search
 verdict_within BadSize = search
 
 pub row_within : (line : Line) → Each IsWithin (list_row line)
-row_within line =
-    let one = decimal (place_of line) in
-    let two = one ++ codes " " ++ decimal line.game_number in
-    let three = two ++ codes " " ++ decimal (length line.nodes) in
-    let second : Each IsWithin two = number_within (one ++ codes " ") line.game_number (space_within one (decimal_within (place_of line))) in
-    let third : Each IsWithin three = number_within (two ++ codes " ") (length line.nodes) (space_within two second) in
-    within_both (three ++ codes " ") (verdict_text (verdict line)) (space_within three third) (verdict_within (verdict line))
+row_within line = search (within_both, decimal_within, verdict_within) depth 12
