@@ -1,12 +1,11 @@
 -- A line adds to the judged nodes of the lines before it those that it doesn't share with the last of them.
 use Rattle.std.proofs.Common.{◌≡◌, ℕ, zero, suc, ◌+◌, ◌-◌, ◌<◌, ◌≤◌, true, List, [], ◌∷◌, ◌++◌, length, take, drop, map, slice_get, Some, refl, sym, ap, subst, ◌∙◌, arith, length-append}
 use Rattle.std.specs.List.{flat_map, range_with_len}
-use Rattle.std.proofs.lemmas.List.{map-append, take-map, take-append-drop, length-take, length-take-le, length-map, length-drop}
+use Rattle.std.proofs.lemmas.List.{map-append, take-map, take-append-drop, length-take-le, length-map, length-drop}
 use Rattle.std.proofs.Math.Seq.{take-append_seam}
 use Rattle.std.proofs.lemmas.Option.{slice_get_within}
 use Rattle.sgf_tree.specs.Tree.{Node, Games, node_count}
 use Rattle.sgf_tree.specs.FileOrder.{PlacesRise, node_at}
-use Rattle.std.proofs.lemmas.List.FromFn.{length-range_with_len}
 use Rattle.sgf_lines.specs.Lines.{Line, lines}
 use Rattle.sgf_lines.specs.Paths.{paths}
 use Rattle.sgf_lines.specs.JudgedGames.{game_kind, root_properties}
@@ -19,7 +18,7 @@ use Rattle.sgf_lines.proofs.Joins.{more_texts, as_many}
 use Rattle.sgf_lines.proofs.Different.{has, RisesFrom, more_different, has_right, each_has}
 use Rattle.sgf_lines.proofs.Touched.{place_number, places_named, places_rise, rises_range}
 use Rattle.sgf_lines.proofs.JudgedFront.{judged_front, judged_alike}
-use Rattle.sgf_lines.proofs.Rising.{each_take, rises_take, IsRising, rising, continues_there, after_is, after_rises, end_within, numbers_within, places_from}
+use Rattle.sgf_lines.proofs.Rising.{each_take, rises_take, IsRising, rising, after_is, after_rises, end_within, numbers_within, places_from}
 
 -- what is left of a front of two lists joined, after the first
 front_after : (xs ys : List ℕ) (m : ℕ) → drop (length xs) (take m (xs ++ ys)) ≡ take (m - length xs) ys

@@ -1,5 +1,5 @@
 -- The rows of a script: what a text of whole rows does to the board, whatever follows it.
-use Rattle.std.proofs.Common.{◌≡◌, ℕ, zero, suc, ◌≤◌, ◌/◌, ◌%◌, List, [], ◌∷◌, ◌++◌, length, fold, Bool, true, false, codes, refl, ap, ◌∙◌, arith, append_assoc, decimal, cond, ◌==◌}
+use Rattle.std.proofs.Common.{◌≡◌, ℕ, zero, suc, ◌≤◌, ◌/◌, ◌%◌, List, [], ◌∷◌, ◌++◌, fold, Bool, true, false, codes, refl, ap, ◌∙◌, arith, append_assoc, decimal, cond, ◌==◌}
 use Rattle.std.specs.List.{flat_map, slice_split, onto_first}
 use Rattle.std.specs.Fmt.{digits, digits_onto, digit_glyph}
 use Rattle.std.proofs.lemmas.List.Splits.{slice_split_at}
@@ -9,8 +9,7 @@ use Rattle.go_board.specs.declared.reason.Reason.{Reason}
 use Rattle.go_board.specs.declared.reason.Reason.TheVariants.{Mixed, TwoMoves, BadSetup, BadPoint, Over, Turn, Occupied, Repeat}
 use Rattle.sgf_lines.specs.declared.verdict.Verdict.{Verdict}
 use Rattle.sgf_lines.specs.declared.verdict.Verdict.TheVariants.{Score, Illegal, NotGo, BadSize}
-use Rattle.sgf_lines.specs.Lines.{Line, place_of}
-use Rattle.sgf_lines.specs.Verdict.{verdict}
+use Rattle.sgf_lines.specs.Lines.{Line}
 use Rattle.sgf_lines.specs.ListRow.{verdict_text, list_row}
 use Rattle.sgf_lines.specs.Script.{comment_row, text_rows}
 use Rattle.sgf_lines.specs.Replay.{Engine, after_row, after_text}
