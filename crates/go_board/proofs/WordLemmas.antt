@@ -6,32 +6,26 @@ use Rattle.std.proofs.lemmas.Nat.{le_or_l, and_mask, mod_below, pow_pos}
 use Rattle.std.proofs.lemmas.Nat.Bits.{bit_at_and, bit_at_or, bit_at_not, bit_at-lt, bit_at-suc, bit_at-zero, bit_at_above, bit_at_ones, bit_at_cat_high, bit_at_cat_low, same_from_bits}
 use Rattle.go_board.specs.inner.Rows.{has_bit, IsPart}
 
+-- what holds of each two bits
+by_bits : (P : ℕ → ℕ → Type 0) → P zero zero → P zero (suc zero) → P (suc zero) zero → P (suc zero) (suc zero) → (x y : ℕ) → x < 2 → y < 2 → P x y
+by_bits P none second first both zero zero hx hy = none
+by_bits P none second first both zero (suc zero) hx hy = second
+by_bits P none second first both zero (suc (suc y)) hx hy = absurd (omega arith)
+by_bits P none second first both (suc zero) zero hx hy = first
+by_bits P none second first both (suc zero) (suc zero) hx hy = both
+by_bits P none second first both (suc zero) (suc (suc y)) hx hy = absurd (omega arith)
+by_bits P none second first both (suc (suc x)) y hx hy = absurd (omega arith)
+
 test_max : (x y : ℕ) → x < 2 → y < 2 → (max x y == 1) ≡ ((x == 1) || (y == 1))
-test_max zero zero hx hy = refl
-test_max zero (suc zero) hx hy = refl
-test_max zero (suc (suc y)) hx hy = absurd (omega arith)
-test_max (suc zero) zero hx hy = refl
-test_max (suc zero) (suc zero) hx hy = refl
-test_max (suc zero) (suc (suc y)) hx hy = absurd (omega arith)
-test_max (suc (suc x)) y hx hy = absurd (omega arith)
+test_max = by_bits (λ x y. (max x y == 1) ≡ ((x == 1) || (y == 1))) refl refl refl refl
 
 test_min : (x y : ℕ) → x < 2 → y < 2 → (min x y == 1) ≡ ((x == 1) && (y == 1))
-test_min zero zero hx hy = refl
-test_min zero (suc zero) hx hy = refl
-test_min zero (suc (suc y)) hx hy = absurd (omega arith)
-test_min (suc zero) zero hx hy = refl
-test_min (suc zero) (suc zero) hx hy = refl
-test_min (suc zero) (suc (suc y)) hx hy = absurd (omega arith)
-test_min (suc (suc x)) y hx hy = absurd (omega arith)
+test_min = by_bits (λ x y. (min x y == 1) ≡ ((x == 1) && (y == 1))) refl refl refl refl
 
 max_part : (x y : ℕ) → x < 2 → y < 2 → ((x == 1) ≡ true → (y == 1) ≡ true) → max x y ≡ y
-max_part zero zero hx hy part = refl
-max_part zero (suc zero) hx hy part = refl
-max_part zero (suc (suc y)) hx hy part = absurd (omega arith)
-max_part (suc zero) zero hx hy part = absurd (false≢true (part refl))
-max_part (suc zero) (suc zero) hx hy part = refl
-max_part (suc zero) (suc (suc y)) hx hy part = absurd (omega arith)
-max_part (suc (suc x)) y hx hy part = absurd (omega arith)
+max_part =
+    by_bits (λ x y. ((x == 1) ≡ true → (y == 1) ≡ true) → max x y ≡ y)
+    (λ part. refl) (λ part. refl) (λ part. absurd (false≢true (part refl))) (λ part. refl)
 
 pub has_bit-or : (a b c : ℕ) → has_bit (bit_or a b) c ≡ (has_bit a c || has_bit b c)
 has_bit-or a b c = ap (λ n. n == 1) (bit_at_or a b c) ∙ test_max (bit_at a c) (bit_at b c) (bit_at-lt a c) (bit_at-lt b c)
@@ -41,13 +35,7 @@ has_bit-and a b c = ap (λ n. n == 1) (bit_at_and a b c) ∙ test_min (bit_at a 
 
 -- a bit of the one word and not of the other
 test_without : (a b : ℕ) → a < 2 → b < 2 → (min a (1 - b) == 1) ≡ ((a == 1) && not (b == 1))
-test_without zero zero ha hb = refl
-test_without zero (suc zero) ha hb = refl
-test_without zero (suc (suc b)) ha hb = absurd (omega arith)
-test_without (suc zero) zero ha hb = refl
-test_without (suc zero) (suc zero) ha hb = refl
-test_without (suc zero) (suc (suc b)) ha hb = absurd (omega arith)
-test_without (suc (suc a)) b ha hb = absurd (omega arith)
+test_without = by_bits (λ a b. (min a (1 - b) == 1) ≡ ((a == 1) && not (b == 1))) refl refl refl refl
 
 pub has_bit-without : (word other c : ℕ) → other < 2 ^ 64 → c < 64 → has_bit (bit_and word (bit_not w64 other)) c ≡ (has_bit word c && not (has_bit other c))
 has_bit-without word other c low column =
