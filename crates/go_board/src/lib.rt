@@ -30,7 +30,7 @@
 //! | `board/glance` | a glance at the rows around a stone, which usually shows that the stone takes nothing off |
 //! | `board/areas` | colouring areas and emptying sets of points |
 //! | `past` | the colourings that a game has been through; `past/list_past` and `past/print_past` keep them |
-//! | `past/colourings`, `past/changes` | past colourings as changes that lead back |
+//! | `past/colourings`, `past/changes` | past colourings as rows that lead back |
 //! | `past/print`, `past/table` | the print of a colouring, mixed from whole rows; prints looked up in a table |
 //! | `reason`, `fault` | why a turn, or a node, isn't allowed; the errors |
 //! | `referee` | the referee and undo; below it `plays`, `setup` and `turn` |

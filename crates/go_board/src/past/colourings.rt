@@ -1,4 +1,4 @@
-//! Past colourings. The newest is kept whole. An older one is kept as the changes that lead back to it.
+//! Past colourings. The newest is kept whole. An older one is kept as the rows that lead back to it.
 
 ghost use Rattle.std.specs.Prelude.{◌≡◌, ◌+◌, ◌-◌, ◌*◌, ◌<◌, ◌≤◌, ◌↔◌, ◌∷◌, false, IsTrue, IfOk, OnOk, OnErr, if◌then◌else◌, length, map, take, drop};
 ghost use Rattle.go_board.specs.declared.stones.Cell.TheVariants.{Empty};

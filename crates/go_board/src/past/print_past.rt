@@ -22,11 +22,11 @@ use crate::stones::Colour;
 use std::alloc::Global;
 use std::marker::Model;
 
-/// A past that keeps the newest colouring whole. Of each older one it keeps the changes that lead back to
+/// A past that keeps the newest colouring whole. Of each older one it keeps the rows that lead back to
 /// it. A colouring is looked up only in the present stretch, and by its print: a 64-bit number made from
 /// what stands on all its points. If two prints are equal, all points are compared.
 ///
-/// A colouring that only adds one stone to the one before it takes some 64 bytes.
+/// A colouring that only adds one stone to the one before it takes 56 bytes, and 12 more once prints were looked up.
 #[derive(Drop)]
 pub struct PrintPast {
     colourings: Colourings,
