@@ -76,16 +76,16 @@ module _ (c : Games) (next : ℕ) (path : List ℕ) (stands : IsAfterLeaf c next
             ]
 
     pub kept_within : r ≤ length path
-    kept_within = let g = next_way.2 in let same : g.parent ≡ parent = cc in omega (arith, same_cut g.above g.rest (rw same at g.up) g.old_is, ap length g.old_is, length-append g.above g.rest)
+    kept_within = let g = next_way.2 in let found = g.front.parent_is in let same : g.front.parent ≡ parent = cc in omega (arith, same_cut g.front.above g.front.rest (rw same at g.front.up) g.front.old_is, ap length g.front.old_is, length-append g.front.above g.front.rest)
 
     -- the path that is made leads to the leaf
     pub way_made : IsPathTo c (Some leaf) (take r path ++ range_with_len next (leaf + 1 - next))
     way_made =
         let n = next_way in
         let g = n.2 in
-        let same : g.parent ≡ parent = cc in
-        let kept : r ≡ length g.above = same_cut g.above g.rest (rw same at g.up) g.old_is in
-        let front : take r path ≡ g.above = ap (λ k. take k path) kept ∙ ap (take (length g.above)) g.old_is ∙ take-append_seam g.above g.rest in
+        let found = g.front.parent_is in let same : g.front.parent ≡ parent = cc in
+        let kept : r ≡ length g.front.above = same_cut g.front.above g.front.rest (rw same at g.front.up) g.front.old_is in
+        let front : take r path ≡ g.front.above = ap (λ k. take k path) kept ∙ ap (take (length g.front.above)) g.front.old_is ∙ take-append_seam g.front.above g.front.rest in
         let count : leaf + 1 - next ≡ suc g.more = omega (arith, ends_at g, last-way n.1) in
         rw (front, count, ← g.new_is) n.1
 

@@ -15,7 +15,7 @@ use Rattle.sgf_lines.specs.inner.PathTo.{IsPathTo}
 use Rattle.sgf_lines.specs.inner.Following.{first_after, Continues, numbers_of, numbers_before}
 use Rattle.sgf_lines.proofs.Lists.{Each, each_weaker, each_get, element}
 use Rattle.sgf_lines.proofs.Ways.{last-way, one_way, node_within, some_node, last_number-append, way_within}
-use Rattle.sgf_lines.proofs.Visits.{Way, way_path, Visits, none, inner, leaf, paths_visited}
+use Rattle.sgf_lines.proofs.Visits.{Front, Way, way_path, Visits, none, inner, leaf, paths_visited}
 
 -- numbers down to a leaf
 pub record LeadsToLeaf (c : Games) (numbers : List ℕ) : Type 0 where
@@ -53,14 +53,9 @@ visited_leaf {next = next} (leaf new w here v) i le lt is_leaf = elim (cases_eq 
 
 -- the path of a line goes on from a front of the path before it
 pub record GoesOn (c : Games) (next : ℕ) (old new : List ℕ) : Type 0 where
-  pub parent : Option ℕ
-  pub parent_is : parent_at c next ≡ Some parent
-  pub above : List ℕ
-  pub up : IsPathTo c parent above
-  pub rest : List ℕ
-  pub old_is : old ≡ above ++ rest
+  pub front : Front c next old
   pub more : ℕ
-  pub new_is : new ≡ above ++ range_with_len next (suc more)
+  pub new_is : new ≡ front.above ++ range_with_len next (suc more)
 
 -- each of these paths goes on from the one before it; `next` is the first node after the path `old`
 abbrev pub Follow : Games → ℕ → List ℕ → List (List ℕ) → ℕ → Type 0
@@ -72,28 +67,20 @@ follow_inner : {c : Games} {next : ℕ} {old new : List ℕ} (end : ℕ) (ls : L
 follow_inner {next = next} end [] w child past f = absurd (let here : next + 1 ≡ end = f in cc)
 follow_inner {c = c} {next = next} {new = new} end (q ∷ qs) w child past f =
     let g = f.0 in
-    let parent : g.parent ≡ Some next = cc in
-    let above : g.above ≡ new = one_way (rw parent at g.up) (way_path w) in (
-      record {
-        parent = w.parent;
-        parent_is = w.parent_is;
-        above = w.above;
-        up = w.up;
-        rest = w.rest;
-        old_is = w.old_is;
-        more = suc g.more;
-        new_is =
-            g.new_is ∙ ap (λ l. l ++ range_with_len (next + 1) (suc g.more)) (above ∙ w.new_is) ∙ append_assoc w.above (next ∷ []) (range_with_len (next + 1) (suc g.more));
-      },
-      f.1,
-    )
+    let own = w.front.above in
+    let parent_is = g.front.parent_is in
+    let parent : g.front.parent ≡ Some next = cc in
+    let above : g.front.above ≡ new = one_way (rw parent at g.front.up) (way_path w) in
+    let new_is : q ≡ own ++ range_with_len next (suc (suc g.more)) =
+    g.new_is ∙ ap (λ l. l ++ range_with_len (next + 1) (suc g.more)) (above ∙ w.new_is) ∙ append_assoc own (next ∷ []) (range_with_len (next + 1) (suc g.more)) in
+    (record { front = w.front; more = suc g.more; new_is = new_is }, f.1)
 
 follow : {c : Games} {next end : ℕ} {old last : List ℕ} {ls : List (List ℕ)} → Visits c next old ls end last → parent_at c end ≡ None → Follow c next old ls end
 follow none past = refl
 follow {end = end} {ls = ls} (inner new w child v) past = follow_inner end ls w child past (follow v past)
 follow {c = c} {next = next} {end = end} {ls = l ∷ ls} (leaf new w is_leaf v) past =
     let ends : last_number new ≡ next = last-way (way_path w) in (
-      record { parent = w.parent; parent_is = w.parent_is; above = w.above; up = w.up; rest = w.rest; old_is = w.old_is; more = 0; new_is = w.new_is },
+      record { front = w.front; more = 0; new_is = w.new_is },
       rw ends (follow v past),
     )
 
@@ -110,7 +97,7 @@ last_number-range front start zero = last_number-append front start [] ∙ sym (
 last_number-range front start (suc more) = last_number-append front start (range_with_len (start + 1) (suc more)) ∙ last_number-range [] (start + 1) more ∙ omega arith
 
 pub ends_at : {c : Games} {next : ℕ} {old new : List ℕ} (g : GoesOn c next old new) → last_number new ≡ next + g.more
-ends_at {next = next} g = ap last_number g.new_is ∙ last_number-range g.above next g.more
+ends_at {next = next} g = ap last_number g.new_is ∙ last_number-range g.front.above next g.more
 
 -- the first node after a path is the one after its leaf
 pub after_way : {c : Games} {i : ℕ} {way : List ℕ} → IsPathTo c (Some i) way → first_after way ≡ i + 1
@@ -119,9 +106,9 @@ after_way {way = n ∷ ns} h = ap (λ k. k + 1) (last-way h)
 
 pub continues : {c : Games} {next : ℕ} {old new : List ℕ} → GoesOn c next old new → first_after old ≡ next → (kept : ℕ) × Continues old kept new
 continues {old = old} g at =
-    let front : take (length g.above) old ≡ g.above = ap (take (length g.above)) g.old_is ∙ take-append_seam g.above g.rest in (
-      length g.above,
-      record { kept_within = omega (arith, ap length g.old_is, length-append g.above g.rest); more = g.more; new_is = rw (at, front, add-one) g.new_is },
+    let front : take (length g.front.above) old ≡ g.front.above = ap (take (length g.front.above)) g.front.old_is ∙ take-append_seam g.front.above g.front.rest in (
+      length g.front.above,
+      record { kept_within = omega (arith, ap length g.front.old_is, length-append g.front.above g.front.rest); more = g.more; new_is = rw (at, front, add-one) g.new_is },
     )
 
 leaves_of : (ps : List Path) → map last_number (map (λ p. p.numbers) ps) ≡ map leaf_of ps

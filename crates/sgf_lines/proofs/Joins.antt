@@ -1,7 +1,7 @@
 -- Texts that are appended one after the other.
 use Rattle.std.proofs.Common.{◌≡◌, ℕ, zero, suc, ◌+◌, ◌<◌, ◌≤◌, List, [], ◌∷◌, ◌++◌, length, take, map, slice_get, Option, Some, refl, sym, ap, ◌∙◌, arith, append_assoc, add-one, append-nil, get_or, Result, Ok, Err}
 use Rattle.std.specs.Prelude.{OnOk}
-use Rattle.std.proofs.lemmas.List.{take_all}
+use Rattle.std.proofs.lemmas.List.{take_all, length-map}
 use Rattle.std.specs.List.{flat_map}
 
 -- one more element
@@ -17,21 +17,22 @@ joins f old front xs i x now new e now_is new_is =
     new_is ∙ ap (λ bs. bs ++ f x) now_is ∙ append_assoc old (front ++ texts) (f x) ∙ ap (λ bs. old ++ bs) (append_assoc front texts (f x))
     ∙ rw add-one (ap (λ bs. old ++ (front ++ bs)) (more_texts f xs i x e))
 
--- the node that a number of a path names
-pub node_named : {X : Type 0} (f : ℕ → Option X) (nodes : List X) (path : List ℕ) (i d : ℕ) (x : X) → map Some nodes ≡ map f path → i < length path
-    → f (get_or path i d) ≡ Some x → slice_get nodes i ≡ Some x
-node_named f [] [] i d x e lt is = absurd (omega arith)
-node_named f [] (p ∷ ps) i d x e lt is = absurd cc
-node_named f (m ∷ ms) [] i d x e lt is = absurd (omega arith)
-node_named f (m ∷ ms) (p ∷ ps) zero d x e lt is = let here : f p ≡ Some m = cc in cc
-node_named f (m ∷ ms) (p ∷ ps) (suc i) d x e lt is = node_named f ms ps i d x (cc) (omega arith) is
-
 -- as many nodes as numbers
 pub as_many : {X : Type 0} (f : ℕ → Option X) (nodes : List X) (path : List ℕ) → map Some nodes ≡ map f path → length nodes ≡ length path
-as_many f [] [] e = refl
-as_many f [] (p ∷ ps) e = absurd cc
-as_many f (m ∷ ms) [] e = absurd cc
-as_many f (m ∷ ms) (p ∷ ps) e = ap suc (as_many f ms ps (cc))
+as_many f nodes path e = sym (length-map nodes Some) ∙ ap length e ∙ length-map path f
+
+-- the node that a path names at an index
+pub named_at : {X : Type 0} (f : ℕ → Option X) (nodes : List X) (path : List ℕ) (i d : ℕ) → map Some nodes ≡ map f path → i < length path
+    → (x : X) × (slice_get nodes i ≡ Some x) × (f (get_or path i d) ≡ Some x)
+named_at f [] [] i d e lt = absurd (omega arith)
+named_at f [] (p ∷ ps) i d e lt = absurd cc
+named_at f (m ∷ ms) [] i d e lt = absurd (omega arith)
+named_at f (m ∷ ms) (p ∷ ps) zero d e lt = let here : f p ≡ Some m = cc in (m, refl, here)
+named_at f (m ∷ ms) (p ∷ ps) (suc i) d e lt = named_at f ms ps i d (cc) (omega arith)
+
+pub node_named : {X : Type 0} (f : ℕ → Option X) (nodes : List X) (path : List ℕ) (i d : ℕ) (x : X) → map Some nodes ≡ map f path → i < length path
+    → f (get_or path i d) ≡ Some x → slice_get nodes i ≡ Some x
+node_named f nodes path i d x e lt is = let n = named_at f nodes path i d e lt in n.1 ∙ sym n.2 ∙ is
 
 -- the last bytes, after all elements
 pub ends : {X E : Type 0} (f : X → List ℕ) (r : Result (Unit {0}) E) (old front tail : List ℕ) (xs : List X) (n : ℕ) (now new : List ℕ) → length xs ≤ n

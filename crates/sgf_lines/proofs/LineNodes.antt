@@ -14,8 +14,7 @@ use Rattle.sgf_lines.specs.inner.Following.{nodes_of, line_in, nodes_before, num
 use Rattle.sgf_lines.specs.inner.Standing.{IsAfterLeaf, lines_before}
 use Rattle.sgf_lines.proofs.Lists.{element}
 use Rattle.sgf_lines.proofs.Named.{line_at, length-paths, place_of_node}
-use Rattle.sgf_lines.proofs.Joins.{as_many, node_named}
-use Rattle.sgf_lines.proofs.Along.{named_at}
+use Rattle.sgf_lines.proofs.Joins.{as_many, named_at, node_named}
 use Rattle.sgf_lines.proofs.Shows.{before}
 use Rattle.sgf_lines.proofs.Descending.{path_is}
 

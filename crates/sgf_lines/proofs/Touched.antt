@@ -140,13 +140,13 @@ module _ (c : Games) where
     covers_all (new ∷ news) next end old xs (g, f) within below h =
         let to = next + suc g.more in
         let range = range_with_len next (suc g.more) in
-        let front : Each (λ i. i < next) g.above = (each_parts (λ i. i < next) g.above g.rest (rw g.old_is at below)).0 in
+        let front : Each (λ i. i < next) g.front.above = (each_parts (λ i. i < next) g.front.above g.front.rest (rw g.front.old_is at below)).0 in
         let after : last_number new + 1 ≡ to = omega (arith, ends_at g) in
-        let places : map (place_number c) new ≡ map (place_number c) g.above ++ map (place_number c) range = ap (map (place_number c)) g.new_is ∙ map-append (place_number c) g.above range in
+        let places : map (place_number c) new ≡ map (place_number c) g.front.above ++ map (place_number c) range = ap (map (place_number c)) g.new_is ∙ map-append (place_number c) g.front.above range in
         let grown : Covers to (xs ++ map (place_number c) new) =
-        rw places (grows next (suc g.more) xs g.above (omega arith) (omega (arith, follow_end news (last_number new + 1) end new f)) front h) in
+        rw places (grows next (suc g.more) xs g.front.above (omega arith) (omega (arith, follow_end news (last_number new + 1) end new f)) front h) in
         let new_below : Each (λ i. i < to) new =
-        rw g.new_is (each_append (λ i. i < to) g.above range (each_weaker (λ i. i < next) (λ i. i < to) (λ i lt. omega arith) g.above front) (range_below next (suc g.more) to (omega arith))) in
+        rw g.new_is (each_append (λ i. i < to) g.front.above range (each_weaker (λ i. i < next) (λ i. i < to) (λ i lt. omega arith) g.front.above front) (range_below next (suc g.more) to (omega arith))) in
         rw (← append_assoc xs (map (place_number c) new) (flat_map (λ numbers. map (place_number c) numbers) news))
         (covers_all news to end new (xs ++ map (place_number c) new) (rw after at f) within new_below grown)
 

@@ -11,18 +11,22 @@ use Rattle.sgf_lines.specs.inner.PathTo.{IsPathTo, top, step}
 use Rattle.sgf_lines.proofs.Standing.{Stands, stands_whole, stands_below, stands_after, first_parent, further_parent}
 use Rattle.sgf_lines.proofs.Ways.{node_within}
 
--- the path `new` to the node `next` goes on from a front of the path `old`
-pub record Way (c : Games) (next : ℕ) (old new : List ℕ) : Type 0 where
+-- the way to the parent of the node `next` is a front of the path `old`
+pub record Front (c : Games) (next : ℕ) (old : List ℕ) : Type 0 where
   pub parent : Option ℕ
   pub parent_is : parent_at c next ≡ Some parent
   pub above : List ℕ
   pub up : IsPathTo c parent above
   pub rest : List ℕ
   pub old_is : old ≡ above ++ rest
-  pub new_is : new ≡ above ++ next ∷ []
+
+-- the path `new` to the node goes on from there
+pub record Way (c : Games) (next : ℕ) (old new : List ℕ) : Type 0 where
+  pub front : Front c next old
+  pub new_is : new ≡ front.above ++ next ∷ []
 
 pub way_path : {c : Games} {next : ℕ} {old new : List ℕ} → Way c next old new → IsPathTo c (Some next) new
-way_path w = step w.parent_is w.up w.new_is
+way_path w = step w.front.parent_is w.front.up w.new_is
 
 -- The nodes from `next` on and before `end`, where `old` is the path to the node before them, and `last` that to the last of them.
 -- The paths are those to the leaves among them.
@@ -83,24 +87,20 @@ record Arrives (c : Games) (at last : ℕ) (old own : List ℕ) : Type 0 where
   way : Way c last before own
   on : {ls : List (List ℕ)} {end : ℕ} {final : List ℕ} → Visits c last before ls end final → Visits c at old ls end final
 
-down_own : (c : Games) (m at last : ℕ) (parent : Option ℕ) (above old rest : List ℕ) → at + m ≡ last → parent_at c at ≡ Some parent → IsPathTo c parent above → old ≡ above ++ rest
-    → ((k : ℕ) → k < m → parent_at c (at + suc k) ≡ Some (Some (at + k))) → Arrives c at last old (above ++ range_with_len at (suc m))
-down_own c zero at last parent above old rest sum e up is chain =
+down_own : (c : Games) (m at last : ℕ) (old : List ℕ) (front : Front c at old) → at + m ≡ last → ((k : ℕ) → k < m → parent_at c (at + suc k) ≡ Some (Some (at + k)))
+    → Arrives c at last old (front.above ++ range_with_len at (suc m))
+down_own c zero at last old front sum chain =
     let same : at ≡ last = omega arith in
-    subst (λ n. Arrives c at n old (above ++ at ∷ [])) same
-    (record { before = old; way = record { parent = parent; parent_is = e; above = above; up = up; rest = rest; old_is = is; new_is = refl }; on = λ v. v })
-down_own c (suc m) at last parent above old rest sum e up is chain =
-    let new = above ++ at ∷ [] in
+    subst (λ n. Arrives c at n old (front.above ++ at ∷ [])) same (record { before = old; way = record { front = front; new_is = refl }; on = λ v. v })
+down_own c (suc m) at last old front sum chain =
+    let new = front.above ++ at ∷ [] in
+    let way : Way c at old new = record { front = front; new_is = refl } in
     let one : at + 1 ≡ at + suc 0 = omega arith in
     let none : at + 0 ≡ at = omega arith in
     let child : parent_at c (at + 1) ≡ Some (Some at) = rw none at (chain 0 (omega arith)) in
-    let r = down_own c m (at + 1) last (Some at) new new [] (omega arith) child (step e up refl) (sym (append-nil new))
+    let r = down_own c m (at + 1) last new (record { parent = Some at; parent_is = child; above = new; up = way_path way; rest = []; old_is = sym (append-nil new) }) (omega arith)
     (λ k lt. let here : at + 1 + suc k ≡ at + suc (suc k) = omega arith in let there : at + 1 + k ≡ at + suc k = omega arith in rw (here, there) (chain (suc k) (omega arith))) in
-    record {
-      before = r.before;
-      way = rw (append_assoc above (at ∷ []) (range_with_len (at + 1) (suc m))) at r.way;
-      on = λ v. inner new (record { parent = parent; parent_is = e; above = above; up = up; rest = rest; old_is = is; new_is = refl }) child (r.on v);
-    }
+    record { before = r.before; way = rw (append_assoc front.above (at ∷ []) (range_with_len (at + 1) (suc m))) at r.way; on = λ v. inner new way child (r.on v) }
 
 -- the paths through games, each after `above`
 abbrev rows : List ℕ → ℕ → Games → List (List ℕ)
@@ -117,8 +117,8 @@ visits c (game first more no_games after) at parent above old rest h up is =
     let last = at + length more in
     let next = last + 1 + node_count no_games in
     let fresh = range_with_len at (suc (length more)) in
-    let here = down_own c (length more) at last parent above old rest refl (first_parent c at parent first more no_games after h.stands) up is
-    (further_parent c at parent first more no_games after h.stands) in
+    let front : Front c at old = record { parent = parent; parent_is = first_parent c at parent first more no_games after h.stands; above = above; up = up; rest = rest; old_is = is } in
+    let here = down_own c (length more) at last old front refl (further_parent c at parent first more no_games after h.stands) in
     let back = visits c after next parent above (above ++ fresh) fresh (among_after c at parent first more no_games after h) up refl in
     let one : next ≡ last + 1 = omega arith in
     let is_leaf : IsLeaf c last = leaf_by_next c last (λ e. absurd (omega (arith, after_above c at parent first more no_games after h last (rw one e)))) in
@@ -131,8 +131,8 @@ visits c (game first more (game f m b a) after) at parent above old rest h up is
     let next = last + 1 + node_count (game f m b a) in
     let fresh = range_with_len at (suc (length more)) in
     let own = above ++ fresh in
-    let here = down_own c (length more) at last parent above old rest refl (first_parent c at parent first more (game f m b a) after h.stands) up is
-    (further_parent c at parent first more (game f m b a) after h.stands) in
+    let front : Front c at old = record { parent = parent; parent_is = first_parent c at parent first more (game f m b a) after h.stands; above = above; up = up; rest = rest; old_is = is } in
+    let here = down_own c (length more) at last old front refl (further_parent c at parent first more (game f m b a) after h.stands) in
     let child = first_parent c (last + 1) (Some last) f m b a (stands_below c at parent first more (game f m b a) after h.stands) in
     let down = visits c (game f m b a) (last + 1) (Some last) own own [] (among_below c at parent first more (game f m b a) after h) (way_path here.way) (sym (append-nil own)) in
     let back = visits c after next parent above (own ++ down.0) (fresh ++ down.0) (among_after c at parent first more (game f m b a) after h) up (append_assoc above fresh down.0) in
