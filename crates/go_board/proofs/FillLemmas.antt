@@ -1,5 +1,5 @@
 -- Filling a set of points: the rows that wait, and those that don't.
-use Rattle.std.proofs.Common.{◌≡◌, ◌≢◌, ◌⊎◌, inl, inr, ℕ, ◌^◌, ◌<◌, ◌||◌, Bool, true, false, not, nat_eq, List, length, slice_index, bit_and, w64, refl, sym, ap, ◌∙◌, subst, arith}
+use Rattle.std.proofs.Common.{◌≡◌, ◌≢◌, ◌⊎◌, inl, inr, ℕ, ◌+◌, ◌^◌, ◌<◌, ◌||◌, Bool, true, false, not, nat_eq, List, length, slice_index, bit_and, w64, refl, sym, ap, ◌∙◌, subst, arith}
 use Rattle.std.specs.Int.{bit_not}
 use Rattle.std.proofs.lemmas.Bool.{and_from, or_left, or_right, cases_eq, cases_Bool, false≢true, true≢false}
 use Rattle.std.proofs.lemmas.Bool.Decides.{Decides-eqb}
@@ -7,7 +7,7 @@ use Rattle.go_board.specs.Point.{DifferByOne}
 use Rattle.go_board.specs.inner.Rows.{has_bit, is_set, IsPart, IsTaken, IsAmong, IsClosed, IsRowClosed, Grows}
 use Rattle.go_board.proofs.WordLemmas.{in_the_other, has_bit-and, has_bit-without, has_bit-zero, column_below}
 use Rattle.go_board.specs.inner.Fill.{IsFilledBut}
-use Rattle.go_board.proofs.GrowLemmas.{row_below, Grows-none}
+use Rattle.go_board.proofs.GrowLemmas.{row_below, Grows-twice}
 
 -- a word that isn't told from 0
 zero_of : (n : ℕ) → not (nat_eq n 0) ≡ false → n ≡ 0
@@ -111,11 +111,28 @@ module _ (room first rows next : List ℕ) (waiting left row : ℕ) (was : IsFil
       not_left r none =
           elim (cases_Bool (has_bit left r)) [ inl is ↦ absurd (false≢true (sym none ∙ kept r is)) | inr out ↦ out ]
 
--- at first all rows wait
-pub filled_none : (room rows : List ℕ) (waiting : ℕ) → length rows ≡ length room → IsAmong (is_set rows) (is_set room) → ((r : ℕ) → r < length rows → has_bit waiting r ≡ not (has_bit 0 r)) → ((r : ℕ) → has_bit waiting r ≡ true → r < length rows) → IsFilledBut room rows rows waiting
-filled_none room rows waiting long within all_wait rows_in = record {
-  all = long;
-  grows = Grows-none room rows within;
-  rows_in = λ r is. omega (arith, rows_in r is, long);
-  closed = λ r below none. absurd (false≢true (sym none ∙ all_wait r (omega (arith, below, long)) ∙ ap not (has_bit-zero r)));
+-- the first rows are filled, but for some that wait
+pub record AreFilledTo (room first rows : List ℕ) (waiting count : ℕ) : Type 0 where
+  pub all : length rows ≡ length room
+  pub grows : Grows (is_set room) (is_set first) (is_set rows)
+  pub rows_in : (row : ℕ) → has_bit waiting row ≡ true → row < length room
+  pub closed : (row : ℕ) → row < count → has_bit waiting row ≡ false → IsRowClosed (is_set room) (is_set rows) row
+
+-- one row more
+pub filled_to_more : (room first rows next : List ℕ) (waiting after row : ℕ) → row < length rows → AreFilledTo room first rows waiting row → length next ≡ length rows → Grows (is_set room) (is_set rows) (is_set next) → IsRowClosed (is_set room) (is_set next) row → ((k : ℕ) → k ≢ row → slice_index next k ≡ slice_index rows k) → IsPart (has_bit waiting) (has_bit after) → ((r : ℕ) → has_bit after r ≡ true → (has_bit waiting r ≡ true) ⊎ (r + 1 ≡ row)) → ((r : ℕ) → r + 1 ≡ row → has_bit after r ≡ false → IsTaken room next r (slice_index next row)) → AreFilledTo room first next after (row + 1)
+filled_to_more room first rows next waiting after row within was long grows closed others kept from taken = record {
+  all = long ∙ was.all;
+  grows = Grows-twice room first rows next was.grows grows;
+  rows_in = λ r is. elim (from r is) [ inl old ↦ was.rows_in r old | inr before ↦ omega (arith, before, within, was.all) ];
+  closed = λ r below none.
+      elim (cases_eq r row) [
+        | inl e ↦ subst (IsRowClosed (is_set room) (is_set next)) (sym e) closed
+        | inr other ↦
+            closed_still room rows next row r grows.kept others other (was.closed r (omega (arith, below, other)) (not_waiting r none))
+            (λ differ. elim differ [ inl before ↦ taken r before none | inr after_it ↦ absurd (omega (arith, after_it, below)) ])
+      ];
 }
+  where
+    not_waiting : (r : ℕ) → has_bit after r ≡ false → has_bit waiting r ≡ false
+    not_waiting r none =
+        elim (cases_Bool (has_bit waiting r)) [ inl is ↦ absurd (false≢true (sym none ∙ kept r is)) | inr out ↦ out ]

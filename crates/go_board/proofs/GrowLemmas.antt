@@ -17,6 +17,13 @@ row_below rows p is =
       | inr above ↦ absurd (false≢true (sym (ap (λ w. has_bit w p.col) (get_or-eq_default rows 0 {n = p.row} above) ∙ has_bit-zero p.col) ∙ is))
     ]
 
+pub Grows-twice : (room a b c : List ℕ) → Grows (is_set room) (is_set a) (is_set b) → Grows (is_set room) (is_set b) (is_set c) → Grows (is_set room) (is_set a) (is_set c)
+Grows-twice room a b c first second = record {
+  within = second.within;
+  kept = λ p is. second.kept p (first.kept p is);
+  least = λ set closed part. second.least set closed (first.least set closed part);
+}
+
 pub Grows-none : (room rows : List ℕ) → IsAmong (is_set rows) (is_set room) → Grows (is_set room) (is_set rows) (is_set rows)
 Grows-none room rows within = record {
   within = within;

@@ -5,11 +5,11 @@ ghost use Rattle.go_board.specs.Point.{DifferByOne};
 ghost use Rattle.go_board.specs.inner.Fill.{IsFilledBut};
 ghost use Rattle.go_board.specs.inner.Rows.{has_bit, is_set, row_above, IsPart, HasBeside, IsWidened, IsTaken, IsAmong, IsClosed, IsRowClosed, Grows, lacking};
 
-use crate::board::regions::{other_columns, with_column};
+use crate::board::regions::with_column;
 use crate::board::stone_rows::without_column;
 
 /// Adds to a set all points that a path within the room connects to it. A row takes the points beside it. When a row
-/// grew, the rows beside it that can take a point from it wait for their turn. At first all rows wait.
+/// grew, the rows beside it that can take a point from it wait for their turn.
 pub(crate) fn fill(rows: &mut [u64], room: &[u64])
     requires same { length rows.old ≡ length room.now }
     requires few { length rows.old < 64 }
@@ -17,7 +17,7 @@ pub(crate) fn fill(rows: &mut [u64], room: &[u64])
     ensures grows { Grows (is_set room.now) (is_set rows.old) (is_set rows.new) }
     ensures closed { IsClosed (is_set room.now) (is_set rows.new) }
 {
-    let mut waiting = other_columns(0, rows.len());
+    let mut waiting = grow_down(rows, room);
     'rows: while waiting != 0 {
         let (_, left) = grow_lowest(rows, room, waiting);
         waiting = left;
@@ -47,6 +47,24 @@ pub(crate) fn grow_lowest(rows: &mut [u64], room: &[u64], waiting: u64) -> (usiz
         return (row, left);
     }
     (row, with_rows_lacking(left, rows, room, row))
+}
+
+/// Lets each row take the points beside it, from the first row to the last.
+/// Returns the rows that can take a point from the row below them.
+fn grow_down(rows: &mut [u64], room: &[u64]) -> u64
+    requires same { length rows.old ≡ length room.now }
+    requires few { length rows.old < 64 }
+    requires within { IsAmong (is_set rows.old) (is_set room.now) }
+    ensures { IsFilledBut room.now rows.old rows.new result }
+{
+    let mut waiting = 0;
+    'rows: for row in 0..rows.len() {
+        grow_row(rows, room, row);
+        if row > 0 {
+            waiting = with_column(waiting, row - 1, lacks(rows, room, row - 1, rows[row]));
+        }
+    }
+    waiting
 }
 
 /// The rows that wait, and the rows beside `row` that can take a point from it.

@@ -1,8 +1,8 @@
-use Rattle.go_board.proofs.FillLemmas.{IsClosed-all, filled_none}
+use Rattle.go_board.proofs.FillLemmas.{IsClosed-all}
 use Rattle.go_board.proofs.board.fill.fill.Goals as goal
 
 pub rows-init : goal.rows-init
-rows-init c = filled_none c.args.room.now c.args.rows.now c.other_columns-waiting.result c.requires.same c.requires.within c.other_columns-waiting.ensures.within c.other_columns-waiting.ensures.off
+rows-init c = c.grow_down-waiting.ensures
 
 pub rows-preserved : goal.rows-preserved
 rows-preserved c = c.grow_lowest-left.ensures.filled c.args.rows.now c.rows.invariant
