@@ -11,7 +11,8 @@ ghost use Rattle.sgf_tree.specs.FileOrder.{node_at, nodes_at, place_at, parent_a
 use crate::fault::MemoryFault;
 use crate::layout::{Link, LongValue, NodeEntry};
 use crate::node::NodeRef;
-use crate::reader::scan::{part, rest_from};
+use crate::reader::scan::rest_from;
+use crate::written::push_part;
 use std::marker::Model;
 
 /// The collection that a text spells (SGF FF[4], EBNF).
@@ -170,7 +171,7 @@ impl<'a> Collection<'a> {
             end = self.place(last);
             ends.push(start + (end - first))?;
         }
-        out.extend_from_slice(part(text, first, end))?;
+        push_part(text, first, end, out)?;
         self.node(last).push_to(out)?;
         ends.push(out.len())?;
         Ok(count)

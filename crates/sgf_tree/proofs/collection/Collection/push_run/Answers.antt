@@ -53,5 +53,5 @@ returns-clause-pushed c =
     rw c.in_ok-push-2.ensures.items
     (run-done c.self.inside.text.now c.args.self.now c.args.numbers.now c.place-first.result c.len-start.result c.args.ends.now.items c.beside.count c.beside.last c.beside.end c.beside.ends.items c.node.result
     c.args.out.now.items new c.len.result c.beside.invariant c.node.ensures (omega (arith, c.len-start.ensures, c.args.out.now.ok.0))
-    (c.in_ok-push_to.ensures.appended ∙ ap (λ s. s ++ node_text c.node.result) (c.in_ok-extend_from_slice.ensures.items ∙ ap (λ s. c.args.out.now.items ++ s) c.part.ensures))
+    (c.in_ok-push_to.ensures.appended ∙ ap (λ s. s ++ node_text c.node.result) c.in_ok-push_part.ensures.appended)
     (omega (arith, c.len.ensures, c.push_to.new.out.ok.0)))
