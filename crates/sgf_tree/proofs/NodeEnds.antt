@@ -121,13 +121,17 @@ module _ (t : List ℕ) where
         reached = λ n none h. let before = so_far.reached n none h in (before.0, node-done end (with_properties n before.0) before.1 so_far.not_white_space upper);
       }
 
-  -- a byte that is neither white space nor a capital ends a node at once
-  pub properties-none : (at : ℕ) → at < length t → 32 < get_or t at 0 → get_or t at 0 < 65 → ArePropertiesRead t at at
-  properties-none at lt above below =
-      let nothing : IsSpan is_white_space t at at = record {
+  -- nothing is skipped before a byte above the space
+  pub nothing-skipped : (at : ℕ) → at < length t → 32 < get_or t at 0 → IsSpan is_white_space t at at
+  nothing-skipped at lt above =
+      record {
         rises = omega arith;
         within = omega arith;
         passing = λ i low high. absurd (omega arith);
         stops = λ lt'. between-not_white_space (get_or t at 0) above;
-      } in
-      properties-done at at (properties-begin at at nothing) (λ lt'. between-not_upper (get_or t at 0) below)
+      }
+
+  -- a byte that is neither white space nor a capital ends a node at once
+  pub properties-none : (at : ℕ) → at < length t → 32 < get_or t at 0 → get_or t at 0 < 65 → ArePropertiesRead t at at
+  properties-none at lt above below =
+      properties-done at at (properties-begin at at (nothing-skipped at lt above)) (λ lt'. between-not_upper (get_or t at 0) below)

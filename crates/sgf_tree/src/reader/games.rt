@@ -13,7 +13,7 @@ ghost use Rattle.sgf_tree.specs.inner.GamesRead.{StandsBetween, IsNodeRead, Read
 use crate::fault::MAX_LENGTH;
 use crate::layout::{Link, LongValue, NodeEntry};
 use crate::reader::fault::PartFault;
-use crate::reader::properties::{PartRead, ends_at_once, read_properties};
+use crate::reader::properties::{PartRead, ends_at_once, is_lone_property, read_properties};
 use crate::reader::scan::skip_white_space;
 
 /// Reads all games; the first `(` may be at `at`. Returns the number of games.
@@ -122,13 +122,19 @@ fn read_node(
     ensures fault { IfErr result (IsFaultInNode text.now (place + 1)) }
     ensures kept { OnOk result (AreKeptEnds text.now long.new.items) }
 {
-    let read = if ends_at_once(text, place + 1) {
+    let at = place + 1;
+    let read = if ends_at_once(text, at) {
         PartRead {
-            end: place + 1,
+            end: at,
+            left_out: 0,
+        }
+    } else if is_lone_property(text, at) {
+        PartRead {
+            end: at + 5,
             left_out: 0,
         }
     } else {
-        read_properties(text, place + 1, long)?
+        read_properties(text, at, long)?
     };
     nodes.push(NodeEntry {
         place: place as u32,

@@ -11,7 +11,7 @@ use crate::fault::MAX_LENGTH;
 use crate::layout::LongValue;
 use crate::reader::fault::PartFault;
 use crate::reader::scan::{letters_end, short_name_end, skip_white_space};
-use crate::reader::value::{near_value_end, read_value};
+use crate::reader::value::{is_two_plain, near_value_end, read_value};
 
 /// The least number of bytes that must be left for a look at a short property: a name, brackets,
 /// the bytes that are compared for a value, and the byte after them.
@@ -24,6 +24,27 @@ pub(crate) fn ends_at_once(text: &[u8], at: usize) -> bool
     ensures { IsTrue result → ArePropertiesRead text.now at at }
 {
     if at < text.len() && b' ' < text[at] && text[at] < b'A' {
+        return true;
+    }
+    false
+}
+
+/// Whether a node's properties, which begin at `at`, are a single one with a name of one letter and a value of two bytes, as in
+/// `B[pd]`, and the node ends at once after it. Most nodes are like that, so this too is tested before anything is called.
+/// If it is false, nothing is known.
+#[inline(always)]
+pub(crate) fn is_lone_property(text: &[u8], at: usize) -> bool
+    requires { at ≤ length text.now }
+    ensures read { IsTrue result → ArePropertiesRead text.now at (at + 5) }
+    ensures written { IsTrue result → AreWritten text.now at (at + 5) }
+{
+    if text.len() - at > 5
+        && text[at].is_ascii_uppercase()
+        && text[at + 1] == b'['
+        && is_two_plain(text, at + 2)
+        && b' ' < text[at + 5]
+        && text[at + 5] < b'A'
+    {
         return true;
     }
     false
