@@ -13,8 +13,9 @@ first that both programs write the same bytes. Then their runs take turns, and t
 --table writes the numbers as tab-separated columns. The last line is the worst ratio.
 
 --instructions counts instructions with valgrind instead, once for each program. PEER may then name several programs, with colons between
-them. It prints a row for each input: for each form our millions of instructions, and their ratio to each other program. Standard error says
-what is measured next.
+them. It prints a row for each input: for each form our millions of instructions, and the ratio to every other program.
+
+Standard error says what is measured next.
 """
 import argparse
 import glob
@@ -101,7 +102,7 @@ def shown(number, digits):
 
 
 def inputs(arguments, folder):
-    """The paths of the inputs. Those that aren't given are made in the folder."""
+    """The paths of the inputs: those in INPUTS, or else new ones made in the folder."""
     names = arguments.only.split(",") if arguments.only else None
     if "INPUTS" in os.environ:
         paths = sorted(glob.glob(os.path.join(os.environ["INPUTS"], "*.sgf")))

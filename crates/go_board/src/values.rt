@@ -44,7 +44,7 @@ fn coordinate_of(letter: u8, size: Size) -> Option<u8>
 /// The rectangle of the board that a raw value names (SGF FF[4]). The value is a single point, which is both corners; or the
 /// upper left corner, a `:` and the lower right corner. None for any other value.
 ///
-/// Equal corners are accepted; corners in another order aren't. Both are this project's choice.
+/// The corners may be equal, and the upper left one must come first. Both are this project's choice.
 #[tactic(auto, unfolding(crate::specs::Values::point_value, crate::specs::Values::rect_value))]
 pub fn rect(raw: &[u8], size: Size) -> Option<Rect>
     ensures value { result ≡ rect_value raw.now size }

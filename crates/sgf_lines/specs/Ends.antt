@@ -3,7 +3,7 @@ use Rattle.std.specs.Prelude.{◌≡◌, ℕ, ◌+◌, ◌<◌, ◌≤◌, List,
 use Rattle.std.specs.Io.KnownBytes.{Keeps, Appends, Consumes, IsAtEnd}
 
 -- A source: how often it has failed, the bytes that it has given so far, and those still to come. A
--- list is None if the source doesn't report it. Contracts say nothing of that list then.
+-- list is None if the source doesn't report it; contracts then say nothing about it.
 pub record SourceState : Type 0 where
   pub failures : ℕ
   pub given : Option (List ℕ)

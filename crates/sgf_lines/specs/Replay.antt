@@ -43,7 +43,7 @@ colour_named word =
     if bytes_eq name (codes "B") || bytes_eq name (codes "BLACK") then Some Black
     else (if bytes_eq name (codes "W") || bytes_eq name (codes "WHITE") then Some White else None)
 
--- the vertex that a word names: the letter of its column and its number; `pass` names none
+-- the vertex that a word names, by its column's letter and its row's number; `pass` names none
 abbrev pub vertex_named : List ℕ → Option Vertex
 vertex_named [] = None
 vertex_named (letter ∷ digits) = option_map (λ number. record { letter = capital letter; row = number }) (magnitude_of digits)

@@ -12,13 +12,14 @@ use sgf_tree::MemoryFault;
 pub(crate) enum Before {
     /// Nothing of it is held, or there is none.
     Unheld,
-    /// What is kept from line to line is held of all its nodes.
+    /// For all its nodes, what is kept from line to line is held.
     Held,
-    /// Memory was refused for it, so it is still the next line.
+    /// Memory was refused while it was made or judged, so it comes again as the next line.
     Refused,
 }
 
 /// Goes on to the next line and returns how many of its nodes are held already; None if no line is left.
+/// After `Before::Refused` the cursor stays where it is, and 0 is returned.
 /// After a refusal of memory the cursor is unchanged.
 pub(crate) fn go_on(
     cursor: &mut Cursor<'_, '_>,

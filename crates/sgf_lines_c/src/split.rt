@@ -71,8 +71,8 @@ fn put(records: &[u8], lines: u64, room: &mut [u8]) -> (Status, Answer)
     (Status::Done, told)
 }
 
-/// What a failed run reports. Its source is a text in memory, which never
-/// fails. Its sink is a vector, which fails only if memory is refused.
+/// What a failed run reports. The run reads a text in memory, which never
+/// fails, and writes to a vector, which fails only if memory is refused.
 fn refusal(fault: RunFault) -> (Status, Answer)
     ensures { (options : Options) → (text room : List ℕ)
         → IsRefusal options text fault → Says options text room room result.1 result.0 }

@@ -120,7 +120,7 @@ impl<'a> Collection<'a> {
         pushed
     }
 
-    /// The same as `push_nodes`, but after a refusal of memory some of the nodes may be appended.
+    /// The same as `push_nodes`, but a refusal of memory may leave some of the nodes appended.
     fn push_runs(
         &self,
         numbers: &[usize],

@@ -8,8 +8,8 @@ ghost use Rattle.go_board.specs.inner.Rows.{has_bit, is_set, row_above, IsPart, 
 use crate::board::regions::with_column;
 use crate::board::stone_rows::without_column;
 
-/// Adds to a set all points that a path within the room connects to it. A row takes the points beside it. When a row
-/// grew, the rows beside it that can take a point from it wait for their turn.
+/// Adds to a set all points that a path within the room connects to it. Each row adds the points of the room that are
+/// beside points of the set. If a row has grown, the rows above and below it that can add a point now wait for their turn.
 pub(crate) fn fill(rows: &mut [u64], room: &[u64])
     requires same { length rows.old ≡ length room.now }
     requires few { length rows.old < 64 }
@@ -89,7 +89,7 @@ pub(crate) fn with_rows_lacking(waiting: u64, rows: &[u64], room: &[u64], row: u
     }
 }
 
-/// Whether a word has a column that the room has in this row, and that the row lacks.
+/// Whether some column of `word` is in the room's row, but not yet in the set's row.
 fn lacks(rows: &[u64], room: &[u64], row: usize, word: u64) -> bool
     requires same { length room.now ≡ length rows.now }
     requires row { row < length rows.now }

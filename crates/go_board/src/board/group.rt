@@ -12,7 +12,8 @@ use crate::board::regions::with_column;
 use crate::points::Point;
 
 /// Whether the group of a stone has a liberty: a point beside it without a stone. `own` has the stones of its colour, `others`
-/// those of the other colour. If there is no liberty, `group` becomes the whole group. It grows row by row, until there is one.
+/// those of the other colour. `group` is empty at first. It grows row by row, until a point of it has a
+/// liberty. If none has one, it ends as the whole group.
 pub(crate) fn has_liberty(own: &[u64], others: &[u64], from: Point, group: &mut [u64]) -> bool
     requires own_rows { length own.now ≡ length group.old }
     requires other_rows { length others.now ≡ length group.old }
@@ -39,7 +40,7 @@ pub(crate) fn has_liberty(own: &[u64], others: &[u64], from: Point, group: &mut 
     false
 }
 
-/// The columns of a row whose points have a liberty: a point beside them that is in neither of two sets.
+/// The columns in which a row's point has a liberty: a point beside it that is in neither `own` nor `others`.
 pub(crate) fn columns_with_liberty(own: &[u64], others: &[u64], row: usize) -> u64
     requires same { length others.now ≡ length own.now }
     requires few { length own.now < 64 }

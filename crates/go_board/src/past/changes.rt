@@ -15,8 +15,8 @@ use crate::fault::MemoryFault;
 use crate::points::Point;
 use crate::stones::{Cell, Colour};
 
-/// One step in this many keeps all rows of the colouring before it. So an
-/// older colouring can be worked out from the next such step.
+/// One step in this many keeps all rows of the colouring before it. So an older colouring
+/// can be worked out from the next such step, or else from the newest colouring.
 pub(crate) const FULL: usize = 256;
 
 /// The stones of a row before a step: a bit for each column.
@@ -34,7 +34,7 @@ pub(crate) struct Older {
     pub start: usize,
     /// The number of older colourings in its stretch: 0 if it begins the stretch.
     pub older_in_stretch: usize,
-    /// Whether every stone of it is known to reach empty.
+    /// Whether every stone of it is known to have a liberty.
     pub settled: bool,
 }
 
@@ -89,7 +89,7 @@ pub(crate) fn keep_rows(
     Ok(())
 }
 
-/// The rows in which two boards differ, or all rows.
+/// The rows in which two boards differ; all rows if `all` is true.
 pub(crate) fn rows_apart(old: &Board, new: &Board, all: bool) -> u64
     requires { new.now.side ≡ old.now.side }
     ensures within { (row : ℕ) → IsTrue (has_bit result row) → row < old.now.side }
@@ -104,7 +104,7 @@ pub(crate) fn rows_apart(old: &Board, new: &Board, all: bool) -> u64
     rows
 }
 
-/// The rows that a stone changes, or all rows; `taken` is what the stone takes off.
+/// The rows that a stone changes; all rows if `all` is true. `taken` is what the stone takes off.
 pub(crate) fn rows_played(old: &Board, point: Point, taken: &[u64], all: bool) -> u64
     requires on_board { IsOn old.now.side point }
     requires few { length taken.now ≤ old.now.side }

@@ -206,7 +206,7 @@ fn next_older_in_stretch(older_in_stretch: usize, begins: bool) -> usize
     if begins { 0 } else { older_in_stretch + 1 }
 }
 
-/// The colouring from which to work out the one with this number. It is the next one whose step kept all points of the colouring
+/// The colouring from which to work out the one with this number. It is the next one whose step kept all rows of the colouring
 /// before it, or else the newest. Returns its number, and how many changes there were up to it.
 fn next_full(older: &[Older], changes: usize, number: usize) -> (usize, usize)
     requires { number ≤ length older.now }

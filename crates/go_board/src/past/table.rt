@@ -154,8 +154,10 @@ impl Table {
         self.prints[0] = print;
     }
 }
-/// The key of a print in a table with this many heads. The fingerprint isn't part of it, because that is linear in the cells:
-/// someone could choose moves whose fingerprints are all equal. If it were the key, each look-up would go over all their prints.
+
+/// The key of a print in a table with this many heads. The key leaves the fingerprint out. The fingerprint is
+/// linear in the cells, so someone could choose moves after which all fingerprints are equal. If it were the key, each look-up
+/// would then go over all prints.
 fn key_of(heads: usize, print: u64) -> usize
     requires { 0 < heads }
     ensures value { result ≡ key_of heads print }

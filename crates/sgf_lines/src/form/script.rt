@@ -24,7 +24,7 @@ pub(crate) struct Script {
     /// judged, or if its board has more columns than vertices have letters.
     pieces: Pieces,
 
-    /// How many of the first pieces stand before a setup that leaves a stone without a liberty: all, if no setup does.
+    /// The number of pieces before the first setup that leaves a stone without a liberty; all of them if there is none.
     said: usize,
 
     /// A buffer for the commands of a node.
@@ -94,7 +94,7 @@ impl Script {
         Ok(())
     }
 
-    /// Adds a node with this place. The node is judged first.
+    /// Judges a node with this place, and adds it if its step was taken.
     fn take(
         &mut self,
         node: &NodeRef<'_, '_>,
@@ -128,14 +128,14 @@ impl Script {
         self.said = self.said.min(count + 1);
     }
 
-    /// Appends the row that ends the script, which the next line cuts off.
+    /// Appends the empty row that ends the script. The script of the next line cuts this row off again.
     fn end(&mut self) -> Result<(), MemoryFault>
         ensures { OnOk result (self.new ≡ script_ended self.old) }
     {
         self.pieces.push(b"\n")
     }
 
-    /// The bytes of the script that are written.
+    /// The bytes that are written: the script, or an empty row alone if the line can't be written as commands.
     pub(crate) fn text(&self) -> &[u8]
         ensures { result.now ≡ script_text self.now }
     {

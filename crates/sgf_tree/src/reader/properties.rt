@@ -13,12 +13,12 @@ use crate::reader::fault::PartFault;
 use crate::reader::scan::{letters_end, short_name_end, skip_white_space};
 use crate::reader::value::{is_two_plain, near_value_end, read_value};
 
-/// The least number of bytes that must be left for a look at a short property: a name, brackets,
-/// the bytes that are compared for a value, and the byte after them.
+/// The least number of bytes that must be left for a look at a short property: a letter or two, a `[`,
+/// the 16 bytes in which the `]` is searched, and the byte after it.
 const GLANCE: usize = 20;
 
-/// Whether the byte at `at` ends the node before any property, as a `;` or a parenthesis does. This is tested
-/// before anything is called. If it is false, nothing is known.
+/// Whether the byte at `at` ends the node before any property, as a `;` or a parenthesis does. It is
+/// inlined, so such a node is read without a call. A false result says nothing.
 #[inline(always)]
 pub(crate) fn ends_at_once(text: &[u8], at: usize) -> bool
     ensures { IsTrue result → ArePropertiesRead text.now at at }
@@ -30,8 +30,8 @@ pub(crate) fn ends_at_once(text: &[u8], at: usize) -> bool
 }
 
 /// Whether a node's properties, which begin at `at`, are a single one with a name of one letter and a value of two bytes, as in
-/// `B[pd]`, and the node ends at once after it. Most nodes are like that, so this too is tested before anything is called.
-/// If it is false, nothing is known.
+/// `B[pd]`, and the node ends at once after it. Most nodes are like that. It is inlined, so they are read
+/// without a call of `read_properties`. A false result says nothing.
 #[inline(always)]
 pub(crate) fn is_lone_property(text: &[u8], at: usize) -> bool
     requires { at ≤ length text.now }
@@ -55,7 +55,7 @@ pub(crate) fn is_lone_property(text: &[u8], at: usize) -> bool
 pub(crate) struct PartRead {
     /// The offset of the byte after it and the white space there.
     pub end: usize,
-    /// How many bytes up to there the sgf form may leave out. If it is 0, the sgf form writes the part as it stands in the text.
+    /// 0 only if the sgf form writes the part as it stands in the text. Any other number says nothing.
     pub left_out: usize,
 }
 
@@ -105,8 +105,8 @@ fn read_property(
     }
 }
 
-/// Reads the property whose identifier begins at `start` at a glance, if it has a name of one or two letters
-/// and one short value. Nearly all properties are like that. If it is None, nothing is known.
+/// Reads at a glance the property whose identifier begins at `start`, if it has a name of one or two letters
+/// and one short value. Nearly all properties are like that. None says nothing.
 #[inline(always)]
 fn read_short_property(text: &[u8], start: usize) -> Option<PartRead>
     requires within { start < length text.now }
