@@ -21,7 +21,6 @@ pub mod LibertyLemmas
 pub mod CountLemmas
 pub mod NeighbourLemmas
 pub mod FloodLemmas
-pub mod ColourFloodLemmas
 pub mod SweepLemmas
 pub mod ListPastLemmas
 pub mod EarlierLemmas

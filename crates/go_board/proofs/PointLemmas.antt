@@ -1,8 +1,9 @@
 -- Points, their indices in a list that goes row by row, and tests on the points of a grid.
-use Rattle.std.proofs.Common.{◌≡◌, ◌≢◌, ◌↔◌, Some, slice_get, subst, ℕ, zero, suc, ◌*◌, ◌<◌, ◌⊎◌, Bool, true, List, map, length, get_or, refl, sym, ap, ◌∙◌, arith, Decides, inl, inr}
-use Rattle.std.specs.List.{list_any}
+use Rattle.std.proofs.Common.{◌≡◌, ◌≢◌, ◌↔◌, Some, slice_get, subst, ℕ, zero, suc, ◌+◌, ◌*◌, ◌<◌, ◌⊎◌, Bool, true, List, [], ◌∷◌, map, take, length, get_or, refl, sym, ap, ◌∙◌, arith, Decides, inl, inr}
+use Rattle.std.specs.List.{list_any, Contains}
 use Rattle.std.proofs.lemmas.Nat.{mul-add-lt, mod-mul-add, div-mul-add, rows}
-use Rattle.std.proofs.lemmas.List.{get_or-map, ext_get_or, length-map}
+use Rattle.std.proofs.lemmas.List.{get_or-map, ext_get_or, length-map, take_more}
+use Rattle.std.proofs.lemmas.List.Elements.{Contains-append_left, Contains-push, Contains-push_cases}
 use Rattle.std.proofs.lemmas.Option.{slice_get-get_or, get_or_from_slice_get, slice_get_within}
 use Rattle.std.proofs.lemmas.List.FromFn.{length-map-range_with_len, get_or-map-range_with_len}
 use Rattle.std.proofs.lemmas.List.Folds.{list_any_at}
@@ -71,6 +72,20 @@ slice_get-points side index point = (
       let within : index < length (points side) = rw length-points below in
       slice_get-get_or (points side) index origin within
       ∙ ap Some (get_or-points side index below ∙ ap (point_at side) w.1 ∙ point_at-index_of side point w.0),
+)
+
+-- the points before a place of a list, and the one at it
+pub Contains-take_more : (ps : List Point) (n : ℕ) (q : Point) → n < length ps → (Contains (take (n + 1) ps) q ↔ (Contains (take n ps) q ⊎ (q ≡ get_or ps n origin)))
+Contains-take_more ps n q within = (
+  λ among.
+      elim (Contains-push_cases (take n ps) (get_or ps n origin) q (subst (λ l. Contains l q) (take_more ps n origin within) among))
+      [ inl before ↦ inl before | inr is ↦ inr (sym is) ],
+  λ part.
+      subst (λ l. Contains l q) (sym (take_more ps n origin within))
+      (elim part [
+        | inl before ↦ Contains-append_left (take n ps) (get_or ps n origin ∷ []) q before
+        | inr is ↦ rw is (Contains-push (take n ps) (get_or ps n origin))
+      ]),
 )
 
 -- a function of the points, in a list, read at a point's index

@@ -1,13 +1,53 @@
 -- What a search keeps as points are found.
-use Rattle.std.proofs.Common.{◌≡◌, ℕ, zero, suc, ◌+◌, ◌*◌, ◌<◌, ◌≤◌, Bool, true, false, cond, List, [], ◌∷◌, ◌++◌, length, get_or, take, set, refl, sym, ap, ◌∙◌, subst, arith, IsTrue}
+use Rattle.std.proofs.Common.{◌≡◌, ◌⊎◌, inl, inr, ℕ, zero, suc, ◌+◌, ◌*◌, ◌<◌, ◌≤◌, Bool, true, false, cond, List, [], ◌∷◌, ◌++◌, length, get_or, take, set, refl, sym, ap, ◌∙◌, subst, arith, IsTrue}
 use Rattle.std.proofs.lemmas.List.{get_or-set_same, length-set, length_push, take_more_set, length-take-le}
-use Rattle.std.proofs.lemmas.List.Elements.{All-push, All-get_or, All-from_get_or}
+use Rattle.std.proofs.lemmas.List.Elements.{All-push, All-weaker, Contains-append_left, Contains-push}
 use Rattle.std.proofs.lemmas.List.Sums.{sum_by-set, count_by-le-length}
 use Rattle.go_board.specs.declared.points.Point.{Point}
 use Rattle.go_board.specs.Point.{IsOn, index_of}
 use Rattle.go_board.specs.Marking.{Marking, is_marked, marked_count}
-use Rattle.go_board.specs.inner.Search.{Searched, with_mark, with_found, IsSound}
-use Rattle.go_board.proofs.PointLemmas.{origin, index_below}
+use Rattle.go_board.specs.inner.Search.{Searched, with_mark, IsSound, Finds}
+use Rattle.go_board.proofs.PointLemmas.{index_below, index_of-injective}
+
+-- points of which each is found already
+pub Finds-known : (A : Point → Type 0) (s : Searched) → ((p : Point) → IsOn s.marking.side p → A p → IsTrue (is_marked s.marking p)) → Finds A s s
+Finds-known A s known = record {
+  side = refl;
+  all = refl;
+  kept = λ p is. is;
+  found = known;
+  only = λ p on is. inl is;
+  waiting = λ p is. is;
+  counted = refl;
+}
+
+-- points found after others
+pub Finds-then : (A B C : Point → Type 0) (s t u : Searched) → Finds A s t → Finds B t u → ((p : Point) → IsOn s.marking.side p → C p → A p ⊎ B p) → ((p : Point) → IsOn s.marking.side p → A p ⊎ B p → C p) → Finds C s u
+Finds-then A B C s t u first next parts both = record {
+  side = next.side ∙ first.side;
+  all = next.all ∙ first.all;
+  kept = λ p is. next.kept p (first.kept p is);
+  found = λ p on is. elim (parts p on is) [ inl a ↦ next.kept p (first.found p on a) | inr b ↦ next.found p (rw first.side on) b ];
+  only = λ p on is.
+      elim (next.only p (rw first.side on) is) [
+        | inl before ↦ elim (first.only p on before) [ inl old ↦ inl old | inr new ↦ inr (both p on (inl new.0), next.waiting p new.1) ]
+        | inr new ↦ inr (both p on (inr new.0), new.1)
+      ];
+  waiting = λ p is. next.waiting p (first.waiting p is);
+  counted = omega (arith, first.counted, next.counted);
+}
+
+-- the same points found, as another set
+pub Finds-same : (A B : Point → Type 0) (s t : Searched) → ((p : Point) → IsOn s.marking.side p → A p → B p) → ((p : Point) → IsOn s.marking.side p → B p → A p) → Finds A s t → Finds B s t
+Finds-same A B s t to from finds = record {
+  side = finds.side;
+  all = finds.all;
+  kept = finds.kept;
+  found = λ p on b. finds.found p on (from p on b);
+  only = λ p on is. elim (finds.only p on is) [ inl old ↦ inl old | inr new ↦ inr (to p on new.0, new.1) ];
+  waiting = finds.waiting;
+  counted = finds.counted;
+}
 
 -- a mark that is set stays so
 set_keeps : (xs : List Bool) (i j : ℕ) → get_or xs j false ≡ true → get_or (set xs i true) j false ≡ true
@@ -17,78 +57,90 @@ set_keeps (x ∷ xs) zero (suc j) h = h
 set_keeps (x ∷ xs) (suc i) zero h = h
 set_keeps (x ∷ xs) (suc i) (suc j) h = set_keeps xs i j h
 
-pub is_marked-with_mark_keeps : (m : Marking) (p q : Point) → IsTrue (is_marked m q) → IsTrue (is_marked (with_mark m p) q)
-is_marked-with_mark_keeps m p q h = set_keeps m.marks (index_of m.side p) (index_of m.side q) h
+-- a mark that was not there is the one that was set
+set_only : (xs : List Bool) (i j : ℕ) → get_or (set xs i true) j false ≡ true → (j ≡ i) ⊎ (get_or xs j false ≡ true)
+set_only [] i j h = inr h
+set_only (x ∷ xs) zero zero h = inl refl
+set_only (x ∷ xs) zero (suc j) h = inr h
+set_only (x ∷ xs) (suc i) zero h = inr h
+set_only (x ∷ xs) (suc i) (suc j) h = elim (set_only xs i j h) [ inl e ↦ inl (ap suc e) | inr before ↦ inr before ]
 
-pub is_marked-with_mark : (m : Marking) (p : Point) → length m.marks ≡ m.side * m.side → IsOn m.side p → IsTrue (is_marked (with_mark m p) p)
-is_marked-with_mark m p all on =
-    let below : index_of m.side p < length m.marks = rw all (index_below m.side p on) in
-    get_or-set_same m.marks (index_of m.side p) true false below
+-- a point that isn't marked is found
+module _ (s : Searched) (p : Point) (sound : IsSound s) (on : IsOn s.marking.side p) (not_yet : is_marked s.marking p ≡ false) where
+  abbrev next : Searched
+  next = record { marking = with_mark s.marking p; waiting = s.waiting ++ p ∷ [] }
 
--- one more is marked
-marked_count-with_mark : (m : Marking) (p : Point) → length m.marks ≡ m.side * m.side → IsOn m.side p → is_marked m p ≡ false → marked_count (with_mark m p) ≡ marked_count m + 1
-marked_count-with_mark m p all on not_yet =
-    let below : index_of m.side p < length m.marks = rw all (index_below m.side p on) in
-    let changed = sum_by-set (λ b. cond b 1 0) m.marks (index_of m.side p) true false below in
-    let here = ap (λ b. cond {A = ℕ} b 1 0) not_yet in
-    omega (arith, changed, here)
+  below : index_of s.marking.side p < length s.marking.marks
+  below = rw sound.all (index_below s.marking.side p on)
 
-pub IsSound-with_mark : (s : Searched) (p : Point) → IsSound s → IsOn s.marking.side p → is_marked s.marking p ≡ false → IsSound (record { marking = with_mark s.marking p; found = s.found ++ p ∷ []; taken = s.taken })
-IsSound-with_mark s p sound on not_yet = record {
-  all_marks = length-set s.marking.marks (index_of s.marking.side p) true ∙ sound.all_marks;
+  marked : IsTrue (is_marked next.marking p)
+  marked = get_or-set_same s.marking.marks (index_of s.marking.side p) true false below
+
+  counted : marked_count next.marking ≡ marked_count s.marking + 1
   counted =
-      marked_count-with_mark s.marking p sound.all_marks on not_yet
-      ∙ ap (λ n. n + 1) sound.counted ∙ sym (length_push s.found p);
-  in_turn = omega (arith, sound.in_turn, length_push s.found p);
-  on_grid = All-push (IsOn s.marking.side) s.found p sound.on_grid on;
-  marked =
-      All-push (λ q. IsTrue (is_marked (with_mark s.marking p) q)) s.found p
-      (All-from_get_or (λ q. IsTrue (is_marked (with_mark s.marking p) q)) s.found origin
-      (λ i h.
-      is_marked-with_mark_keeps s.marking p _
-      (All-get_or (λ q. IsTrue (is_marked s.marking q)) s.found i origin h sound.marked)))
-      (is_marked-with_mark s.marking p sound.all_marks on);
-}
+      let changed = sum_by-set (λ b. cond b 1 0) s.marking.marks (index_of s.marking.side p) true false below in
+      let here = ap (λ b. cond {A = ℕ} b 1 0) not_yet in
+      omega (arith, changed, here)
 
--- a point that isn't marked leaves room for one more
-pub room : (s : Searched) (p : Point) → IsSound s → IsOn s.marking.side p → is_marked s.marking p ≡ false → length s.found < s.marking.side * s.marking.side
-room s p sound on not_yet =
-    omega (
-      arith,
-      marked_count-with_mark s.marking p sound.all_marks on not_yet,
-      sound.counted,
-      sound.all_marks,
-      length-set s.marking.marks (index_of s.marking.side p) true,
-      count_by-le-length (λ b. b) (with_mark s.marking p).marks,
-    )
+  pub IsSound-next : IsSound next
+  IsSound-next = record {
+    all = length-set s.marking.marks (index_of s.marking.side p) true ∙ sound.all;
+    few = omega (arith, sound.few, counted, length_push s.waiting p);
+    waiting =
+        All-push (λ q. IsOn s.marking.side q × IsTrue (is_marked next.marking q)) s.waiting p
+        (All-weaker (λ q. IsOn s.marking.side q × IsTrue (is_marked s.marking q)) (λ q. IsOn s.marking.side q × IsTrue (is_marked next.marking q))
+        (λ q is. (is.0, set_keeps s.marking.marks _ _ is.1)) s.waiting sound.waiting)
+        (on, marked);
+  }
+
+  pub Finds-next : (wanted : Bool) → IsTrue wanted → Finds (λ q. IsTrue wanted × (q ≡ p)) s next
+  Finds-next wanted is = record {
+    side = refl;
+    all = length-set s.marking.marks (index_of s.marking.side p) true;
+    kept = λ q h. set_keeps s.marking.marks _ _ h;
+    found = λ q at h. rw h.1 marked;
+    only = λ q at h.
+        elim (set_only s.marking.marks _ _ h) [
+          | inl same ↦ let it : q ≡ p = index_of-injective s.marking.side q p at on same in
+              inr ((is, it), rw it (Contains-push s.waiting p))
+          | inr before ↦ inl before
+        ];
+    waiting = λ q h. Contains-append_left s.waiting (p ∷ []) q h;
+    counted = omega (arith, counted, length_push s.waiting p);
+  }
+
+  -- fewer wait than the grid has points
+  pub room : length s.waiting < s.marking.side * s.marking.side
+  room =
+      omega (
+        arith,
+        counted,
+        sound.few,
+        sound.all,
+        length-set s.marking.marks (index_of s.marking.side p) true,
+        count_by-le-length (λ b. b) next.marking.marks,
+      )
 
 -- the search that the front of an array holds
-abbrev pub searched_in : Marking → List Point → ℕ → ℕ → Searched
-searched_in m ps filled taken = record { marking = m; found = take filled ps; taken = taken }
+abbrev pub held : Marking → List Point → ℕ → Searched
+held m ps n = record { marking = m; waiting = take n ps }
 
--- finding a point that isn't marked, as writes to the arrays
-module _ (m : Marking) (ps : List Point) (filled taken : ℕ) (p : Point) (within : filled ≤ length ps) (sound : IsSound (searched_in m ps filled taken)) (on : IsOn m.side p) (not_yet : is_marked m p ≡ false) where
-  same_search : (a b : Marking) (f g : List Point) → a ≡ b → f ≡ g → ◌≡◌ {A = Searched} (record { marking = a; found = f; taken = taken }) (record { marking = b; found = g; taken = taken })
-  same_search a b f g e h =
-      ap (λ x. record { marking = x; found = f; taken = taken }) e ∙ ap (λ x. record { marking = b; found = x; taken = taken }) h
+-- a point is found that wasn't: what holds of the array
+pub record IsOffered (marks : Marking) (ps : List Point) (n : ℕ) (p : Point) (s : Searched) : Type 0 where
+  pub place : n < length ps
+  pub sound : IsSound (held marks (set ps n p) (n + 1))
+  pub finds : (wanted : Bool) → IsTrue wanted → Finds (λ q. IsTrue wanted × (q ≡ p)) s (held marks (set ps n p) (n + 1))
 
-  pub searched_in-set : (next : Marking) → next ≡ with_mark m p → filled < length ps → searched_in next (set ps filled p) (filled + 1) taken ≡ record { marking = with_mark m p; found = take filled ps ++ p ∷ []; taken = taken }
-  searched_in-set next e below =
-      same_search next (with_mark m p) (take (filled + 1) (set ps filled p)) (take filled ps ++ p ∷ []) e
-      (take_more_set ps filled p below)
-
-  pub IsSound-searched_in : (next : Marking) → next ≡ with_mark m p → filled < length ps → IsSound (searched_in next (set ps filled p) (filled + 1) taken)
-  IsSound-searched_in next e below =
-      subst IsSound (sym (searched_in-set next e below)) (IsSound-with_mark (searched_in m ps filled taken) p sound on not_yet)
-
--- an array for all points of the grid has a place for a point that isn't marked
-pub place_for : (m : Marking) (ps : List Point) (filled taken : ℕ) (s : Searched) (p : Point) → searched_in m ps filled taken ≡ s → filled ≤ length ps → m.side * m.side ≤ length ps → IsSound (searched_in m ps filled taken) → IsOn s.marking.side p → is_marked m p ≡ false → IsOn m.side p × (filled < length ps)
-place_for m ps filled taken s p is within fits sound on not_yet =
+pub offered : (m marks : Marking) (ps : List Point) (n : ℕ) (s : Searched) (p : Point) → held m ps n ≡ s → m.side * m.side ≤ length ps → n ≤ length ps → IsSound (held m ps n) → IsOn s.marking.side p → is_marked m p ≡ false → marks ≡ with_mark m p → IsOffered marks ps n p s
+offered m marks ps n s p is fits within sound on not_yet marked =
+    let old = held m ps n in
     let on_m : IsOn m.side p = subst (λ x. IsOn x.marking.side p) (sym is) on in
-    (on_m, omega (arith, room (searched_in m ps filled taken) p sound on_m not_yet, length-take-le filled ps within))
-
-pub with_found-new : (s : Searched) (p : Point) → is_marked s.marking p ≡ false → with_found s p ≡ record { marking = with_mark s.marking p; found = s.found ++ p ∷ []; taken = s.taken }
-with_found-new s p not_yet = rw not_yet
-
-pub with_found-old : (s : Searched) (p : Point) → is_marked s.marking p ≡ true → with_found s p ≡ s
-with_found-old s p before = rw before
+    let place : n < length ps = omega (arith, room old p sound on_m not_yet, length-take-le n ps within) in
+    let new : record { marking = with_mark m p; waiting = take n ps ++ p ∷ [] } ≡ held marks (set ps n p) (n + 1) =
+    ap (λ x. record { marking = x; waiting = take n ps ++ p ∷ [] }) (sym marked) ∙ ap (λ l. record { marking = marks; waiting = l }) (sym (take_more_set ps n p place)) in
+    subst (λ x. IsOffered marks ps n p x) is
+    (record {
+      place = place;
+      sound = subst IsSound new (IsSound-next old p sound on_m not_yet);
+      finds = λ wanted w. subst (λ x. Finds (λ q. IsTrue wanted × (q ≡ p)) old x) new (Finds-next old p sound on_m not_yet wanted w);
+    })

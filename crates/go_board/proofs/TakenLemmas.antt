@@ -1,6 +1,5 @@
 -- What a stone takes off, as rows: playing it is putting it on its point and emptying these.
-use Rattle.std.proofs.Common.{◌≡◌, ◌⊎◌, inl, inr, ◌*◌, ◌+◌, ◌<◌, ◌≤◌, ◌||◌, true, false, Option, ℕ, List, [], length, set, slice_index, bit_or, refl, sym, ap, subst, ◌∙◌, arith}
-use Rattle.std.specs.Option.{ForSome}
+use Rattle.std.proofs.Common.{◌≡◌, ◌⊎◌, inl, inr, ◌*◌, ◌+◌, ◌<◌, ◌≤◌, ◌||◌, true, false, ℕ, List, [], length, set, slice_index, bit_or, refl, sym, ap, subst, ◌∙◌, arith}
 use Rattle.std.proofs.Math.Bool.{or-false}
 use Rattle.std.proofs.lemmas.Bool.{cases_Bool, cases_eq, cases_lt, or_cases, or_left, or_right, false≢true}
 use Rattle.std.proofs.lemmas.List.{length-set, get_or-set_same, get_or-set_other, get_or_past}
@@ -12,12 +11,10 @@ use Rattle.go_board.specs.Colour.{stone_of}
 use Rattle.go_board.specs.Point.{IsOn, index_of}
 use Rattle.go_board.specs.Grid.{Grid, cell_at, with_cell}
 use Rattle.go_board.specs.Clearing.{play, has_unreaching}
-use Rattle.go_board.specs.inner.Neighbour.{left_of, right_of, above, below}
 use Rattle.go_board.specs.inner.Rows.{has_bit, is_set, IsAmong}
-use Rattle.go_board.specs.inner.Groups.{AreShutGroups, AreTakenOrReachBeside, IsTakenOrReaches, IsWithout, AllLive, TakesOff}
+use Rattle.go_board.specs.inner.Groups.{AreShutGroups, IsTakenOrReaches, IsWithout, AllLive, TakesOff}
 use Rattle.go_board.proofs.PointLemmas.{same_or_not}
 use Rattle.go_board.proofs.GridLemmas.{cell_at-with_cell, cell_at-with_cell_elsewhere}
-use Rattle.go_board.proofs.NeighbourLemmas.{IsNeighbour, IsNeighbour-adjacent}
 use Rattle.go_board.proofs.MoveLemmas.{IsWithoutLiberty-none, takes_off_own}
 use Rattle.go_board.proofs.ChangesLemmas.{one_colouring}
 use Rattle.go_board.proofs.WordLemmas.{has_bit-or, has_bit-zero}
@@ -49,19 +46,8 @@ AreShutGroups-both g k a b c one two long both = record {
     part p is = or_cases _ _ (sym (both p) ∙ is)
 
 -- a stone that is in some rows is in others that have these
-pub taken_still : (g : Grid) (k : Colour) (a b : List ℕ) (to : Option Point) → IsAmong (is_set a) (is_set b) → ForSome to (IsTakenOrReaches g k a) → ForSome to (IsTakenOrReaches g k b)
-taken_still g k a b to among each = λ q is stone. elim (each q is stone) [ inl taken ↦ inl (among q taken) | inr way ↦ inr way ]
-
--- what holds of the four neighbours holds of all stones beside a point
-pub taken_by_four : (g : Grid) (k : Colour) (p : Point) (rows : List ℕ) → ForSome (left_of p) (IsTakenOrReaches g k rows) → ForSome (right_of g.side p) (IsTakenOrReaches g k rows) → ForSome (above p) (IsTakenOrReaches g k rows) → ForSome (below g.side p) (IsTakenOrReaches g k rows) → AreTakenOrReachBeside g k p rows
-unfolding IsNeighbour
-taken_by_four g k p rows left right up down = λ q on next.
-    elim (IsNeighbour-adjacent g.side p q on next) [
-      | inl is ↦ left q is
-      | inr (inl is) ↦ right q is
-      | inr (inr (inl is)) ↦ up q is
-      | inr (inr (inr is)) ↦ down q is
-    ]
+pub taken_still : (g : Grid) (k : Colour) (a b : List ℕ) (p : Point) → IsAmong (is_set a) (is_set b) → IsTakenOrReaches g k a p → IsTakenOrReaches g k b p
+taken_still g k a b p among each = λ stone. elim (each stone) [ inl taken ↦ inl (among p taken) | inr way ↦ inr way ]
 
 -- the point of a stone emptied again
 pub taken_away : (g : Grid) (p : Point) (stone : Cell) → IsOn g.side p → length g.cells ≡ g.side * g.side → cell_at g p ≡ Empty → with_cell (with_cell g p stone) p Empty ≡ g

@@ -1,5 +1,4 @@
 -- Words of private contracts, views and invariants.
-pub mod Neighbour
 pub mod Rows
 pub mod Fill
 pub mod Linked

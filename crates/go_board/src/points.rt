@@ -1,10 +1,9 @@
 //! Points and rectangles of a board, and the four neighbours of a point.
 
-ghost use Rattle.std.specs.Prelude.{◌≡◌, ◌<◌, ◌*◌, ℕ, IfSome};
-ghost use Rattle.go_board.specs.Point.{IsOn, index_of};
-ghost use Rattle.go_board.specs.inner.Neighbour.{left_of, right_of, above, below};
+ghost use Rattle.std.specs.Prelude.{◌≡◌, ◌<◌, ◌*◌, ◌↔◌, Contains, IsTrue};
+ghost use Rattle.go_board.specs.Point.{IsOn, AreAdjacent, index_of};
 
-use crate::size::Size;
+use crate::size::{MAX_SIDE, Size};
 
 /// A point, by its column from the left and its row from the top, both
 /// from 0. It is on a board of side n if both are less than n.
@@ -42,66 +41,26 @@ impl Point {
         }
     }
 
-    /// The point to the left, if there is one.
-    pub(crate) fn left(self) -> Option<Point>
-        ensures value { result ≡ left_of self }
-        ensures on_board { (side : ℕ) → IsOn side self → IfSome result (IsOn side) }
+    /// Whether the point is on a board of that size.
+    pub(crate) fn is_on(self, size: Size) -> bool
+        ensures { IsTrue result ↔ IsOn size self }
     {
-        if self.col > 0 {
-            Some(Point {
-                col: self.col - 1,
-                row: self.row,
-            })
-        } else {
-            None
-        }
+        self.col < size.side() && self.row < size.side()
     }
 
-    /// The point to the right, if a board of that size has it.
-    pub(crate) fn right(self, size: Size) -> Option<Point>
-        requires { IsOn size self }
-        ensures value { result ≡ right_of size self }
-        ensures on_board { IfSome result (IsOn size) }
+    /// The four points beside the point. Those beyond the left and the upper edge are on no board.
+    pub(crate) fn neighbours(self) -> [Point; 4]
+        requires { IsOn MAX_SIDE self }
+        ensures { (other : Point) → IsOn MAX_SIDE other → (Contains result other ↔ AreAdjacent self other) }
     {
-        if self.col + 1 < size.side() {
-            Some(Point {
-                col: self.col + 1,
-                row: self.row,
-            })
-        } else {
-            None
-        }
-    }
-
-    /// The point above, if there is one.
-    pub(crate) fn above(self) -> Option<Point>
-        ensures value { result ≡ above self }
-        ensures on_board { (side : ℕ) → IsOn side self → IfSome result (IsOn side) }
-    {
-        if self.row > 0 {
-            Some(Point {
-                col: self.col,
-                row: self.row - 1,
-            })
-        } else {
-            None
-        }
-    }
-
-    /// The point below, if a board of that size has it.
-    pub(crate) fn below(self, size: Size) -> Option<Point>
-        requires { IsOn size self }
-        ensures value { result ≡ below size self }
-        ensures on_board { IfSome result (IsOn size) }
-    {
-        if self.row + 1 < size.side() {
-            Some(Point {
-                col: self.col,
-                row: self.row + 1,
-            })
-        } else {
-            None
-        }
+        let Point { col, row } = self;
+        let (before, above) = (col.wrapping_sub(1), row.wrapping_sub(1));
+        [
+            Point { col: before, row },
+            Point { col: col + 1, row },
+            Point { col, row: above },
+            Point { col, row: row + 1 },
+        ]
     }
 }
 

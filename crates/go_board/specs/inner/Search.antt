@@ -1,14 +1,13 @@
--- A search over the points of a grid: the points found so far, each marked, and how many of them were taken.
-use Rattle.std.specs.Prelude.{◌≡◌, ℕ, ◌*◌, ◌≤◌, true, List, [], ◌∷◌, ◌++◌, All, IsTrue, if◌then◌else◌, replicate, length, slice_set, false}
+-- A search over the points of a grid.
+use Rattle.std.specs.Prelude.{◌≡◌, ℕ, ◌+◌, ◌*◌, ◌≤◌, ◌⊎◌, true, List, [], All, Contains, IsTrue, replicate, length, slice_set, false}
 use Rattle.go_board.specs.declared.points.Point.{Point}
 use Rattle.go_board.specs.Point.{IsOn, index_of}
 use Rattle.go_board.specs.Marking.{Marking, is_marked, marked_count}
 
--- the marked points; the same points as a list, in the order in which they were found; how many were taken from its front
+-- the points found, each marked, and those of them that wait for a closer look
 pub record Searched : Type 0 where
   pub marking : Marking
-  pub found : List Point
-  pub taken : ℕ
+  pub waiting : List Point
 
 -- no point is marked
 abbrev pub no_marks : ℕ → Marking
@@ -20,19 +19,21 @@ with_mark marking point = record marking { marks = slice_set marking.marks (inde
 
 -- nothing was found yet
 abbrev pub nothing_found : ℕ → Searched
-nothing_found side = record { marking = no_marks side; found = []; taken = 0 }
+nothing_found side = record { marking = no_marks side; waiting = [] }
 
--- the search after a point was found, perhaps not for the first time
-abbrev pub with_found : Searched → Point → Searched
-with_found search point =
-    if is_marked search.marking point then search
-    else record { marking = with_mark search.marking point; found = search.found ++ point ∷ []; taken = search.taken }
-
--- What holds of every search: as many points are marked as were found, and
--- those are on the grid and marked. No more are taken than found.
+-- What holds of every search: the points that wait are on the grid and marked, and no more wait than are marked.
 pub record IsSound (search : Searched) : Type 0 where
-  pub all_marks : length search.marking.marks ≡ search.marking.side * search.marking.side
-  pub counted : marked_count search.marking ≡ length search.found
-  pub in_turn : search.taken ≤ length search.found
-  pub on_grid : All (IsOn search.marking.side) search.found
-  pub marked : All (λ point. IsTrue (is_marked search.marking point)) search.found
+  pub all : length search.marking.marks ≡ search.marking.side * search.marking.side
+  pub few : length search.waiting ≤ marked_count search.marking
+  pub waiting : All (λ point. IsOn search.marking.side point × IsTrue (is_marked search.marking point)) search.waiting
+
+-- `new` is `old` with the points of a set found, too. Those that weren't found before wait.
+pub record Finds (Some : Point → Type 0) (old new : Searched) : Type 0 where
+  pub side : new.marking.side ≡ old.marking.side
+  pub all : length new.marking.marks ≡ length old.marking.marks
+  pub kept : (point : Point) → IsTrue (is_marked old.marking point) → IsTrue (is_marked new.marking point)
+  pub found : (point : Point) → IsOn old.marking.side point → Some point → IsTrue (is_marked new.marking point)
+  pub only : (point : Point) → IsOn old.marking.side point → IsTrue (is_marked new.marking point)
+      → IsTrue (is_marked old.marking point) ⊎ (Some point × Contains new.waiting point)
+  pub waiting : (point : Point) → Contains old.waiting point → Contains new.waiting point
+  pub counted : marked_count new.marking + length old.waiting ≡ marked_count old.marking + length new.waiting

@@ -1,7 +1,6 @@
 //! What a stone takes off, as rows of bits: the groups beside it that it leaves without a liberty, or its own.
 
 ghost use Rattle.std.specs.Prelude.{◌≡◌, ◌||◌, ◌≤◌, false, length};
-ghost use Rattle.std.specs.Option.{ForSome};
 ghost use Rattle.go_board.specs.declared.points.Point.{Point};
 ghost use Rattle.go_board.specs.declared.stones.Cell.TheVariants.{Empty};
 ghost use Rattle.go_board.specs.Point.{IsOn};
@@ -33,7 +32,7 @@ impl Board {
         self.set(point, colour.stone());
         self.find_shut_beside(colour.opponent(), point, taken);
         if is_none(taken) {
-            self.find_shut(colour, Some(point), taken);
+            self.find_shut(colour, point, taken);
         }
         self.set(point, Cell::Empty);
         self.restore(true);
@@ -46,29 +45,25 @@ impl Board {
         ensures shut { AreShutGroups self.now colour shut.new }
         ensures beside { AreTakenOrReachBeside self.now colour point shut.new }
     {
-        let size = self.size();
-        self.find_shut(colour, point.left(), shut);
-        self.find_shut(colour, point.right(size), shut);
-        self.find_shut(colour, point.above(), shut);
-        self.find_shut(colour, point.below(size), shut);
+        self.has_all_cells();
+        let beside = point.neighbours();
+        for at in beside {
+            self.find_shut(colour, at, shut);
+        }
     }
 
     /// Adds the group of the stone on a point to `shut` if it has no liberty. Nothing is added
-    /// if there is no point, or no stone of that colour on it.
-    fn find_shut(&self, colour: Colour, at: Option<Point>, shut: &mut [u64])
-        requires at { ForSome at (IsOn self.now.side) }
-        requires shut { AreShutGroups self.now colour shut.old }
+    /// if the point isn't on the board, or has no stone of that colour.
+    fn find_shut(&self, colour: Colour, point: Point, shut: &mut [u64])
+        requires { AreShutGroups self.now colour shut.old }
         ensures shut { AreShutGroups self.now colour shut.new }
         ensures kept { IsAmong (is_set shut.old) (is_set shut.new) }
-        ensures beside { ForSome at (IsTakenOrReaches self.now colour shut.new) }
+        ensures beside { IsOn self.now.side point → IsTakenOrReaches self.now colour shut.new point }
     {
-        let Some(point) = at else {
-            return;
-        };
-        if self.at(point) != colour.stone() {
+        self.has_all_cells();
+        if !point.is_on(self.size) || self.at(point) != colour.stone() {
             return;
         }
-        self.has_all_cells();
         let mut words = no_rows();
         let group = &mut words[..usize::from(self.size.side())];
         let own = self.rows_of(colour);

@@ -1,12 +1,13 @@
 //! Which points reach a colour (Tromp-Taylor), by a flood from the points of that colour.
 
-ghost use Rattle.std.specs.Prelude.{◌≡◌, ℕ, ◌*◌, ◌+◌, ◌≤◌, ◌↔◌, IsTrue, length};
-ghost use Rattle.std.specs.Option.{ForSome};
+ghost use Rattle.std.specs.Prelude.{◌≡◌, ◌⊎◌, ◌*◌, ◌+◌, ◌≤◌, ◌↔◌, IsTrue, length};
 ghost use Rattle.go_board.specs.declared.points.Point.{Point};
 ghost use Rattle.go_board.specs.Point.{IsOn};
+ghost use Rattle.go_board.specs.Grid.{cell_at};
 ghost use Rattle.go_board.specs.Marking.{is_marked, marked_count};
 ghost use Rattle.go_board.specs.Reaching.{Reaches};
-ghost use Rattle.go_board.specs.inner.Flood.{reaches_through, with_neighbour, with_neighbours, with_colour};
+ghost use Rattle.go_board.specs.inner.Flood.{ReachesThrough};
+ghost use Rattle.go_board.specs.inner.Search.{Finds, nothing_found};
 
 use crate::board::Board;
 use crate::board::search::Search;
@@ -24,6 +25,7 @@ impl Board {
         ensures marks { (point : Point) → IsOn self.now.side point
             → (IsTrue (is_marked result point) ↔ Reaches self.now target point) }
         ensures all { length result.marks ≡ self.now.side * self.now.side }
+        ensures at_most { marked_count result ≤ self.now.side * self.now.side }
         ensures steps { steps.new ≡ steps.old + marked_count result }
     {
         let mut search = self.search_from(target);
@@ -36,56 +38,37 @@ impl Board {
 
     /// A search that has found the points of a colour.
     fn search_from(&self, target: Cell) -> Search
-        ensures { result ≡ with_colour self.now target }
+        ensures { Finds (λ p. cell_at self.now p ≡ target) (nothing_found self.now.side) result }
     {
         let mut search = Search::new(self.size());
         for index in 0..self.size().points() {
             let point = Point::of_index(index, self.size());
-            if self.at(point) == target {
-                search.offer(point);
-            }
+            search.offer(point, self.at(point) == target);
         }
         search
     }
 
     /// Adds the neighbours of a point that reach a colour through the point.
-    #[tactic(auto, unfolding(crate::specs::inner::Flood::with_neighbours))]
     fn offer_neighbours(&self, target: Cell, from: Point, search: &mut Search)
         requires on_board { IsOn self.now.side from }
         requires same_side { search.old.marking.side ≡ self.now.side }
-        ensures { search.new ≡ with_neighbours self.now target from search.old }
+        ensures { Finds (ReachesThrough self.now target from) search.old search.new }
     {
-        let size = self.size();
-        self.offer(target, from, from.left(), search);
-        self.offer(target, from, from.right(size), search);
-        self.offer(target, from, from.above(), search);
-        self.offer(target, from, from.below(size), search);
-    }
-
-    /// Adds a neighbour of a point, if there is one and it reaches a colour through the point.
-    #[tactic(auto, unfolding(crate::specs::inner::Flood::with_neighbour))]
-    fn offer(&self, target: Cell, from: Point, to: Option<Point>, search: &mut Search)
-        requires from_on_board { IsOn self.now.side from }
-        requires to_on_board { ForSome to (IsOn self.now.side) }
-        requires same_side { search.old.marking.side ≡ self.now.side }
-        ensures value { search.new ≡ with_neighbour self.now target from to search.old }
-        ensures same_side { search.new.marking.side ≡ self.now.side }
-    {
-        if let Some(to) = to {
-            if self.reaches_through(target, from, to) {
-                search.offer(to);
-            }
+        self.has_all_cells();
+        let beside = from.neighbours();
+        for to in beside {
+            search.offer(to, self.reaches_through(target, from, to));
         }
     }
 
-    /// Whether a neighbour of a point that reaches a colour reaches it through that
-    /// point. It does if the point has the colour, or if both have the same colour.
+    /// Whether a point beside a point that reaches a colour is on the board and reaches the
+    /// colour through that point. It does if that has the colour, or if both have the same colour.
     fn reaches_through(&self, target: Cell, from: Point, to: Point) -> bool
-        requires from_on_board { IsOn self.now.side from }
-        requires to_on_board { IsOn self.now.side to }
-        ensures { result ≡ reaches_through self.now target from to }
+        requires { IsOn self.now.side from }
+        ensures { IsTrue result ↔ (IsOn self.now.side to
+            × ((cell_at self.now from ≡ target) ⊎ (cell_at self.now to ≡ cell_at self.now from))) }
     {
         let own = self.at(from);
-        own == target || self.at(to) == own
+        to.is_on(self.size()) && (own == target || self.at(to) == own)
     }
 }

@@ -5,14 +5,13 @@ use crate::points::{FIRST, Point};
 use crate::size::{MAX_POINTS, Size};
 use std::marker::Model;
 
-/// The points that a search found, in the order in which it found them, and how many
-/// of them were taken for a closer look.
+/// The points that a search found, and those of them that wait for a closer look.
 #[derive(Drop)]
 pub(crate) struct Search {
     marks: Marks,
     points: [Point; MAX_POINTS],
-    filled: usize,
-    taken: usize,
+    /// How many points wait, at the front of `points`.
+    waiting: usize,
 }
 
 impl Model for Search {
@@ -22,19 +21,19 @@ impl Model for Search {
 
     ghost Value = { Searched };
 
-    ghost view = { λ s. record { marking = s.marks; found = take s.filled s.points; taken = s.taken } };
+    ghost view = { λ s. record { marking = s.marks; waiting = take s.waiting s.points } };
 
     ghost invariant = { λ s. (length s.points ≡ MAX_POINTS)
-        × (s.filled ≤ MAX_POINTS)
+        × (s.waiting ≤ MAX_POINTS)
         × (s.marks.side * s.marks.side ≤ MAX_POINTS)
-        × IsSound (record { marking = s.marks; found = take s.filled s.points; taken = s.taken }) };
+        × IsSound (record { marking = s.marks; waiting = take s.waiting s.points }) };
 }
 
 impl Search {
-    ghost use Rattle.std.specs.Prelude.{◌≡◌, ◌*◌, ◌<◌, ◌≤◌, ◌+◌, ◌↔◌, IsTrue, IfSome, IfNone, Some, All, slice_get, length};
+    ghost use Rattle.std.specs.Prelude.{◌≡◌, ◌++◌, ◌∷◌, [], IsTrue, IfSome, IfNone};
     ghost use Rattle.go_board.specs.Point.{IsOn};
-    ghost use Rattle.go_board.specs.Marking.{is_marked, marked_count};
-    ghost use Rattle.go_board.specs.inner.Search.{nothing_found, with_found};
+    ghost use Rattle.go_board.specs.Marking.{is_marked};
+    ghost use Rattle.go_board.specs.inner.Search.{Finds, nothing_found};
 
     /// A search that has found nothing yet.
     pub(crate) fn new(size: Size) -> Search
@@ -44,51 +43,45 @@ impl Search {
         Search {
             marks: Marks::none(size),
             points: [FIRST; MAX_POINTS],
-            filled: 0,
-            taken: 0,
+            waiting: 0,
         }
     }
 
-    /// Adds a point, unless it was found before.
-    pub(crate) fn offer(&mut self, point: Point)
-        requires { IsOn self.old.marking.side point }
-        ensures { self.new ≡ with_found self.old point }
+    /// Adds a point if it is wanted and wasn't found before.
+    pub(crate) fn offer(&mut self, point: Point, wanted: bool)
+        requires { IsTrue wanted → IsOn self.old.marking.side point }
+        ensures { Finds (λ p. IsTrue wanted × (p ≡ point)) self.old self.new }
     {
-        if !self.marks.has(point) {
+        if wanted && !self.marks.has(point) {
             self.marks.mark(point);
-            self.points[self.filled] = point;
-            self.filled += 1;
+            self.points[self.waiting] = point;
+            self.waiting += 1;
         }
     }
 
-    /// Takes the next point that wasn't taken yet; None if all were.
+    /// Takes a point that waits; None if none does.
     pub(crate) fn take_one(&mut self) -> Option<Point>
-        ensures next { IfSome result (λ p. slice_get self.old.found self.old.taken ≡ Some p) }
-        ensures on_grid { IfSome result (λ p. IsOn self.old.marking.side p) }
+        ensures taken { IfSome result (λ p. self.old.waiting ≡ self.new.waiting ++ p ∷ []) }
+        ensures on_grid { IfSome result (IsOn self.old.marking.side) }
         ensures marked { IfSome result (λ p. IsTrue (is_marked self.old.marking p)) }
-        ensures taken { IfSome result (λ _. self.new ≡ record self.old { taken = self.old.taken + 1 }) }
-        ensures within { IfSome result (λ _. self.old.taken < self.old.marking.side * self.old.marking.side) }
-        ensures all_taken { IfNone result (length self.old.found ≡ self.old.taken) }
-        ensures unchanged { IfNone result (self.new ≡ self.old) }
+        ensures none_waits { IfNone result (self.old.waiting ≡ []) }
+        ensures marking { self.new.marking ≡ self.old.marking }
     {
-        if self.taken == self.filled {
+        if self.waiting == 0 {
             return None;
         }
-        let point = self.points[self.taken];
-        self.taken += 1;
-        Some(point)
+        self.waiting -= 1;
+        Some(self.points[self.waiting])
     }
 
     /// The points found, as a set.
     pub(crate) fn into_marks(self) -> Marks
-        ensures marks { result ≡ self.marking }
-        ensures counted { marked_count result ≡ length self.found }
+        ensures { result ≡ self.marking }
     {
         let Search {
             marks,
             points: _,
-            filled: _,
-            taken: _,
+            waiting: _,
         } = self;
         marks
     }

@@ -1,10 +1,8 @@
-use Rattle.std.proofs.Common.{◌≡◌, true, inl, inr, length, ap, subst, ◌∙◌, rules}
+use Rattle.std.proofs.Common.{◌≡◌, inl, inr, length, subst, ◌∙◌, rules}
 use Rattle.std.proofs.lemmas.Bool.{or_right}
-use Rattle.go_board.specs.declared.stones.Cell.TheVariants.{Empty}
 use Rattle.go_board.specs.Colour.{stone_of}
+use Rattle.go_board.specs.Point.{IsOn}
 use Rattle.go_board.specs.Grid.{cell_at}
-use Rattle.go_board.specs.Reaching.{Reaches}
-use Rattle.go_board.specs.inner.Rows.{is_set}
 use Rattle.go_board.proofs.GridLemmas.{Decides-same_cell}
 use Rattle.go_board.proofs.LinkedLemmas.{none_in_front}
 use Rattle.go_board.proofs.StoneGroupLemmas.{rows_of_opponent, Reaches-liberty, IsWithoutLiberty-shut}
@@ -16,29 +14,27 @@ has_liberty-requires-clause-none c = λ p. none_in_front c.from.result 52 c.no_r
 
 pub has_liberty-requires-clause-stone : goal.has_liberty-requires-clause-stone
 has_liberty-requires-clause-stone c =
-    let stone : cell_at c.args.self.now c.in-Some.point ≡ stone_of c.args.colour = search rules in
-    c.rows_of-own.ensures.are.on c.in-Some.point (c.requires.at c.in-Some.point c.in-Some.is) ∙ (Decides-same_cell _ _).1 stone
+    let on = subst (λ g. IsOn g.side c.args.point) c.self.view_is (c.is_on.ensures.0 (search rules)) in
+    let stone : cell_at c.args.self.now c.args.point ≡ stone_of c.args.colour = search rules in
+    c.rows_of-own.ensures.are.on c.args.point on ∙ (Decides-same_cell _ _).1 stone
 
 -- the group lives
 pub returns-then-has_liberty-clause-beside : goal.returns-then-has_liberty-clause-beside
-returns-then-has_liberty-clause-beside c = λ q at stone.
+returns-then-has_liberty-clause-beside c = λ on stone.
     let g = c.args.self.now in
     let k = c.args.colour in
     let own = c.rows_of-own in
     let other = c.rows_of-others in
-    let p = c.in-Some.point in
-    let same : p ≡ q = cc in
+    let p = c.args.point in
     let found = c.has_liberty.ensures.lives c.if-has_liberty.true in
-    inr (subst (Reaches g Empty) same
+    inr
     (Reaches-liberty g k own.result.now other.result.now p own.ensures.rows own.ensures.are
     (rows_of_opponent g k c.opponent.result other.result.now c.opponent.ensures other.ensures.are)
-    (c.requires.at p c.in-Some.is) (ap (cell_at g) same ∙ stone) found.0 found.1))
+    on stone found.0 found.1)
 
 pub returns-clause-beside : goal.returns-clause-beside
-returns-clause-beside c = λ q at stone.
-    let p = c.in-Some.point in
-    let same : p ≡ q = cc in
-    inl (subst (λ x. is_set c.add_points.new.all x ≡ true) same (c.add_points.ensures.both p ∙ or_right _ _ (c.has_liberty.ensures.shut c.if-has_liberty.false).start))
+returns-clause-beside c = λ on stone.
+    inl (c.add_points.ensures.both c.args.point ∙ or_right _ _ (c.has_liberty.ensures.shut c.if-has_liberty.false).start)
 
 pub returns-clause-shut : goal.returns-clause-shut
 returns-clause-shut c =
@@ -48,11 +44,11 @@ returns-clause-shut c =
     let other = c.rows_of-others in
     let shut = c.has_liberty.ensures.shut c.if-has_liberty.false in
     let long : length c.has_liberty.new.group ≡ g.side = search rules in
-    AreShutGroups-both g k c.args.shut.now c.has_liberty.new.group c.add_points.new.all c.requires.shut
+    AreShutGroups-both g k c.args.shut.now c.has_liberty.new.group c.add_points.new.all c.requires
     (record {
       all = long;
       on_grid = λ p is. own.ensures.are.off p (shut.within p is);
-      shut = IsWithoutLiberty-shut g k own.result.now other.result.now c.in-Some.point own.ensures.rows own.ensures.are
+      shut = IsWithoutLiberty-shut g k own.result.now other.result.now c.args.point own.ensures.rows own.ensures.are
           (rows_of_opponent g k c.opponent.result other.result.now c.opponent.ensures other.ensures.are)
           _ shut;
     })

@@ -1,25 +1,28 @@
-use Rattle.std.proofs.Common.{ap, ◌∙◌, subst}
-use Rattle.std.specs.Option.{ForSome}
+use Rattle.std.proofs.Common.{inl, inr, sym, subst, arith}
+use Rattle.std.specs.List.{Contains}
+use Rattle.std.proofs.lemmas.List.{take_all}
+use Rattle.go_board.specs.Point.{IsOn}
 use Rattle.go_board.specs.inner.Groups.{IsTakenOrReaches}
-use Rattle.go_board.specs.inner.Neighbour.{right_of, below}
-use Rattle.go_board.proofs.TakenLemmas.{taken_still, taken_by_four}
+use Rattle.go_board.proofs.PointLemmas.{Contains-take_more}
+use Rattle.go_board.proofs.TakenLemmas.{taken_still}
 use Rattle.go_board.proofs.board.Board.find_shut_beside.Goals as goal
 
+pub loop-at-preserved : goal.loop-at-preserved
+loop-at-preserved c = record {
+  shut = c.find_shut.ensures.shut;
+  beside = λ q among on.
+      elim ((Contains-take_more c.neighbours-beside.result c.loop-at.at-index q (omega arith)).0 among) [
+        | inl before ↦ taken_still _ _ _ _ q c.find_shut.ensures.kept (c.loop-at.invariant.beside q before on)
+        | inr is ↦
+            subst (IsTakenOrReaches c.args.self.now c.args.colour c.find_shut.new.shut) (sym is)
+            (c.find_shut.ensures.beside (subst (IsOn c.args.self.now.side) is on))
+      ];
+}
+
 pub returns-clause-beside : goal.returns-clause-beside
-returns-clause-beside c =
-    let g = c.args.self.now in
-    let k = c.args.colour in
-    let p = c.args.point in
-    let one = c.find_shut in
-    let two = c.find_shut-2 in
-    let three = c.find_shut-3 in
-    let four = c.find_shut-4 in
-    let last = four.new.shut in
-    taken_by_four g k p last
-    (subst (λ to. ForSome to (IsTakenOrReaches g k last)) c.left.ensures.value
-    (taken_still g k one.new.shut last c.left.result (λ q is. four.ensures.kept q (three.ensures.kept q (two.ensures.kept q is))) one.ensures.beside))
-    (subst (λ to. ForSome to (IsTakenOrReaches g k last)) (c.right.ensures.value ∙ ap (λ s. right_of s p) c.size-size.ensures)
-    (taken_still g k two.new.shut last c.right.result (λ q is. four.ensures.kept q (three.ensures.kept q is)) two.ensures.beside))
-    (subst (λ to. ForSome to (IsTakenOrReaches g k last)) c.above.ensures.value
-    (taken_still g k three.new.shut last c.above.result (λ q is. four.ensures.kept q is) three.ensures.beside))
-    (subst (λ to. ForSome to (IsTakenOrReaches g k last)) (c.below.ensures.value ∙ ap (λ s. below s p) c.size-size.ensures) four.ensures.beside)
+returns-clause-beside c = λ q on next.
+    let few = c.has_all_cells.ensures.few in
+    c.loop-at.invariant.beside q
+    (subst (λ l. Contains l q) (sym (take_all c.loop-at.at-index c.neighbours-beside.result (omega arith)))
+    ((c.neighbours-beside.ensures q (omega (arith, few, on), omega (arith, few, on))).1 next))
+    on

@@ -1,4 +1,4 @@
-use Rattle.std.proofs.Common.{◌≡◌, inl, inr, ap, sym, ◌∙◌, subst, refl, arith}
+use Rattle.std.proofs.Common.{◌≡◌, inl, inr, ap, sym, ◌∙◌, subst, arith, rules}
 use Rattle.std.proofs.lemmas.Bool.{false≢true}
 use Rattle.go_board.specs.declared.stones.Cell.TheVariants.{Empty}
 use Rattle.go_board.specs.Colour.{opponent, stone_of}
@@ -48,7 +48,7 @@ returns-clause-taken c =
             | inl gone ↦ absurd (false≢true (sym (none q) ∙ gone))
             | inr way ↦ way
           ])
-          (subst (λ h. IsTakenOrReaches h k w.find_shut.new.shut p) here (w.find_shut.ensures.beside p refl)))
+          (subst (λ h. IsTakenOrReaches h k w.find_shut.new.shut p) here (w.find_shut.ensures.beside (search rules))))
       | else-is_none w ↦
           subst (λ rows. TakesOff g k p rows) (sym w.taken-is)
           (takes_off_beside g p k c.requires.on_board c.has_all_cells.ensures.all c.requires.settled first.new.shut
