@@ -1,18 +1,15 @@
 -- A flood: once no point waits, exactly what reaches the colour is marked.
-use Rattle.std.proofs.Common.{◌≡◌, ◌⊎◌, inl, inr, ◌*◌, false, List, [], ◌∷◌, ◌++◌, length, sym, ap, ◌∙◌, subst, arith, IsTrue}
+use Rattle.std.proofs.Common.{◌≡◌, ◌⊎◌, inl, inr, List, [], ◌∷◌, ◌++◌, length, sym, ap, ◌∙◌, subst, arith, IsTrue}
 use Rattle.std.specs.List.{Contains}
-use Rattle.std.proofs.lemmas.List.{length-replicate}
 use Rattle.std.proofs.lemmas.List.Elements.{Contains-push_cases}
-use Rattle.std.proofs.lemmas.Bool.{false≢true}
 use Rattle.go_board.specs.declared.stones.Cell.{Cell}
 use Rattle.go_board.specs.declared.points.Point.{Point}
-use Rattle.go_board.specs.Point.{IsOn, index_of}
-use Rattle.go_board.specs.Grid.{Grid, cell_at}
+use Rattle.go_board.specs.Point.{IsOn}
+use Rattle.go_board.specs.Grid.{Grid}
 use Rattle.go_board.specs.Marking.{is_marked}
 use Rattle.go_board.specs.Reaching.{Leads, Reaches}
-use Rattle.go_board.specs.inner.Search.{Searched, nothing_found, Finds}
+use Rattle.go_board.specs.inner.Search.{Searched, Finds}
 use Rattle.go_board.specs.inner.Flood.{ReachesThrough, IsUnderWay}
-use Rattle.go_board.proofs.GridLemmas.{get_or-replicate_default}
 use Rattle.go_board.proofs.ReachingLemmas.{Leads-on, step_kind, path_by_step}
 use Rattle.go_board.proofs.NeighbourLemmas.{AreAdjacent-sym}
 
@@ -20,23 +17,6 @@ use Rattle.go_board.proofs.NeighbourLemmas.{AreAdjacent-sym}
 reached_through : (g : Grid) (k : Cell) (p q : Point) → IsOn g.side p → IsOn g.side q → ReachesThrough g k p q → Reaches g k p → Reaches g k q
 reached_through g k p q on at through way =
     path_by_step g k q p at (AreAdjacent-sym p q through.0) on (elim through.1 [ inl there ↦ inr there | inr same ↦ inl (sym same) ]) way
-
--- the points of the colour are found, and wait
-pub IsUnderWay-begun : (g : Grid) (k : Cell) (s : Searched) → Finds (λ p. cell_at g p ≡ k) (nothing_found g.side) s → IsUnderWay g k s
-IsUnderWay-begun g k s begun = record {
-  side = begun.side;
-  all = begun.all ∙ length-replicate (g.side * g.side) false;
-  begun = begun.found;
-  reach = λ p on is. ([], (on, (new p on is).0));
-  closed = λ p q on at is through. inl (new p on is).1;
-}
-  where
-    new : (p : Point) → IsOn g.side p → IsTrue (is_marked s.marking p) → (cell_at g p ≡ k) × Contains s.waiting p
-    new p on is =
-        elim (begun.only p on is) [
-          | inl before ↦ absurd (false≢true (sym (get_or-replicate_default (g.side * g.side) (index_of g.side p) false) ∙ before))
-          | inr found ↦ found
-        ]
 
 -- a point that waited is looked at
 pub IsUnderWay-step : (g : Grid) (k : Cell) (s t u : Searched) (p : Point) → IsUnderWay g k s → IsOn g.side p → IsTrue (is_marked s.marking p) → s.waiting ≡ t.waiting ++ p ∷ [] → t.marking ≡ s.marking → Finds (ReachesThrough g k p) t u → IsUnderWay g k u

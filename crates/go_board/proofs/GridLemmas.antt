@@ -1,8 +1,8 @@
 -- Reading the grids and markings that functions of the points make, and grids after a point was set.
-use Rattle.std.proofs.Common.{◌≡◌, ◌≢◌, ℕ, ◌*◌, ◌<◌, Bool, false, length, get_or, refl, ap, ◌∙◌, Decides, replicate, zero, suc}
+use Rattle.std.proofs.Common.{◌≡◌, ◌≢◌, ℕ, ◌*◌, ◌<◌, Bool, false, length, get_or, refl, ap, ◌∙◌, Decides, rules, replicate, zero, suc}
 use Rattle.std.proofs.lemmas.List.{length-map, get_or-set_same, get_or-set_other}
 use Rattle.std.proofs.lemmas.Bool.Decides.{same_from_decides}
-use denote.Enum.Bare.{sameb}
+use denote.Enum.Bare.{sameb, same_true, true_same}
 use Rattle.go_board.specs.contracts.stones.Cell.{the_type}
 use Rattle.go_board.specs.declared.stones.Cell.{Cell}
 use Rattle.go_board.specs.declared.stones.Cell.TheVariants.{Black, White, Empty}
@@ -17,24 +17,11 @@ pub Decides-same_cell : (a b : Cell) → Decides (same_cell a b) (a ≡ b)
 Decides-same_cell Black Black = (λ _. refl, λ _. refl)
 Decides-same_cell White White = (λ _. refl, λ _. refl)
 Decides-same_cell Empty Empty = (λ _. refl, λ _. refl)
-Decides-same_cell Black White = (λ h. cc, λ h. cc)
-Decides-same_cell Black Empty = (λ h. cc, λ h. cc)
-Decides-same_cell White Black = (λ h. cc, λ h. cc)
-Decides-same_cell White Empty = (λ h. cc, λ h. cc)
-Decides-same_cell Empty Black = (λ h. cc, λ h. cc)
-Decides-same_cell Empty White = (λ h. cc, λ h. cc)
+Decides-same_cell _ _ = (λ h. cc, λ h. cc)
 
 -- what `==` says of two cells
 pub Decides-cell_eq : (a b : Cell) → Decides (sameb the_type a b) (a ≡ b)
-Decides-cell_eq Black Black = (λ _. refl, λ _. refl)
-Decides-cell_eq White White = (λ _. refl, λ _. refl)
-Decides-cell_eq Empty Empty = (λ _. refl, λ _. refl)
-Decides-cell_eq Black White = (λ h. cc, λ h. cc)
-Decides-cell_eq Black Empty = (λ h. cc, λ h. cc)
-Decides-cell_eq White Black = (λ h. cc, λ h. cc)
-Decides-cell_eq White Empty = (λ h. cc, λ h. cc)
-Decides-cell_eq Empty Black = (λ h. cc, λ h. cc)
-Decides-cell_eq Empty White = (λ h. cc, λ h. cc)
+Decides-cell_eq a b = (same_true the_type (search rules) a b, true_same the_type a b)
 
 -- `==` on two cells is the test of the definitions
 pub same_cell-eq : (a b : Cell) → sameb the_type a b ≡ same_cell a b

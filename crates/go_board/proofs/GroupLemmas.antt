@@ -1,5 +1,5 @@
 -- A group without a liberty can be taken off before its colour is cleared: the cleared grid is the same.
-use Rattle.std.proofs.Common.{◌≡◌, ◌≢◌, ◌⊎◌, inl, inr, ◌*◌, false, List, [], ◌∷◌, length, get_or, refl, sym, ap, subst, ◌∙◌}
+use Rattle.std.proofs.Common.{◌≡◌, ◌≢◌, ◌⊎◌, inl, inr, ℕ, ◌*◌, false, List, [], ◌∷◌, length, get_or, refl, sym, ap, subst, ◌∙◌}
 use Rattle.std.proofs.lemmas.Bool.{cases_Bool, true≢false}
 use Rattle.std.proofs.lemmas.Bool.Decides.{not_from_Decides}
 use Rattle.go_board.specs.declared.stones.Cell.{Cell}
@@ -12,7 +12,7 @@ use Rattle.go_board.specs.Point.{IsOn, point_at}
 use Rattle.go_board.specs.Grid.{Grid, cell_at, grid_of}
 use Rattle.go_board.specs.Reaching.{Leads, Reaches}
 use Rattle.go_board.proofs.PointLemmas.{is_map-points, index_of-point_at, IsOn-point_at}
-use Rattle.go_board.proofs.GridLemmas.{Decides-same_cell}
+use Rattle.go_board.proofs.GridLemmas.{Decides-same_cell, cell_at-grid_of, length-grid_of}
 
 -- a point has that colour or not
 pub coloured_or_not : (a b : Cell) → (a ≡ b) ⊎ (a ≢ b)
@@ -45,3 +45,8 @@ grid_of-cells g f all each =
     (λ i below.
     let on = IsOn-point_at g.side i below in
     ap (λ j. get_or g.cells j Empty) (sym (index_of-point_at g.side i below)) ∙ sym (each (point_at g.side i) on))))
+
+-- functions that agree on the points of a grid make the same one
+pub same_colours : (side : ℕ) (f h : Point → Cell) → ((p : Point) → IsOn side p → f p ≡ h p) → grid_of side f ≡ grid_of side h
+same_colours side f h each =
+    grid_of-cells (grid_of side h) f (length-grid_of side h) (λ p on. each p on ∙ sym (cell_at-grid_of side h p on))

@@ -44,13 +44,6 @@ IsOn-point_at side i h = let positive = above_zero side i h in (omega arith, gri
 pub index_of-point_at : (side i : ℕ) → i < side * side → index_of side (point_at side i) ≡ i
 index_of-point_at side i h = let positive = above_zero side i h in omega arith
 
--- a point whose column and index are on the grid is on it
-pub IsOn-index_below : (side : ℕ) (p : Point) → p.col < side → index_of side p < side * side → IsOn side p
-IsOn-index_below side p col below =
-    let in_row = (IsOn-point_at side (index_of side p) below).1 in
-    let same = div-mul-add p.row side p.col col in
-    (col, omega (arith, in_row, same))
-
 pub length-points : (side : ℕ) → length (points side) ≡ side * side
 unfolding points
 length-points side = length-map-range_with_len (point_at side) 0 (side * side)

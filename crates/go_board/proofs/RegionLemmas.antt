@@ -9,9 +9,11 @@ use Rattle.std.proofs.lemmas.Nat.{pow_below}
 use Rattle.std.proofs.lemmas.List.{get_or-set_same, get_or-set_other}
 use Rattle.std.proofs.lemmas.Nat.Bits.{bit_at-zero, same_from_bits, bit_at_set_same, bit_at_set_other, bit_at_mask_inside, bit_at_mask_above}
 use Rattle.go_board.specs.declared.stones.Cell.{Cell}
-use Rattle.go_board.specs.declared.stones.Cell.TheVariants.{Black, White, Empty}
+use Rattle.go_board.specs.declared.stones.Cell.TheVariants.{Black, Empty}
 use Rattle.go_board.specs.declared.points.Point.{Point}
-use Rattle.go_board.specs.Colour.{same_cell}
+use Rattle.go_board.specs.declared.stones.Colour.{Colour}
+use Rattle.go_board.specs.declared.stones.Colour.TheVariants.{Black as BlackPlayer, White as WhitePlayer}
+use Rattle.go_board.specs.Colour.{opponent, stone_of, same_cell}
 use Rattle.go_board.specs.Point.{IsOn, AreAdjacent}
 use Rattle.go_board.specs.Grid.{Grid, cell_at}
 use Rattle.go_board.specs.Reaching.{Leads, Reaches, reaches}
@@ -52,31 +54,20 @@ others-off word side col small is =
           absurd (false≢true (sym outside ∙ (and_parts _ _ (sym (has_bit-and _ _ col) ∙ is)).0))
     ]
 
--- one row more is written
-abbrev pub OthersBelow : ℕ → List ℕ → ℕ → List ℕ → Type 0
-OthersBelow side rows n others =
-    (r : ℕ) → r < n
-    → ((col : ℕ) → col < side → has_bit (slice_index others r) col ≡ not (has_bit (slice_index rows r) col))
-    × ((col : ℕ) → has_bit (slice_index others r) col ≡ true → col < side)
-
-pub others_more : (side : ℕ) (rows others : List ℕ) (row word : ℕ) → row < length others → OthersBelow side rows row others → ((col : ℕ) → col < side → has_bit word col ≡ not (has_bit (slice_index rows row) col)) → ((col : ℕ) → has_bit word col ≡ true → col < side) → OthersBelow side rows (row + 1) (set others row word)
-others_more side rows others row word within before is off =
-    λ r below.
+-- what holds of each row that is written, once one more is
+pub written_more : (P : ℕ → ℕ → Type 0) (rows : List ℕ) (row word : ℕ) → row < length rows → ((r : ℕ) → r < row → P r (slice_index rows r)) → P row word → (r : ℕ) → r < row + 1 → P r (slice_index (set rows row word) r)
+written_more P rows row word within before here r below =
     elim (cases_eq r row) [
-      | inl same ↦
-          let there : slice_index (set others row word) r ≡ word = ap (λ k. slice_index (set others row word) k) same ∙ get_or-set_same others row word 0 within in (
-            λ col on. ap (λ w. has_bit w col) there ∙ is col on ∙ ap (λ k. not (has_bit (slice_index rows k) col)) (sym same),
-            λ col set. off col (ap (λ w. has_bit w col) (sym there) ∙ set),
-          )
-      | inr apart ↦
-          let there : slice_index (set others row word) r ≡ slice_index others r = get_or-set_other others row r word 0 apart in
-          let old = before r (omega (arith, apart)) in (
-            λ col on. ap (λ w. has_bit w col) there ∙ old.0 col on,
-            λ col set. old.1 col (ap (λ w. has_bit w col) (sym there) ∙ set),
-          )
+      | inl same ↦ subst (λ k. P k (slice_index (set rows row word) k)) (sym same) (subst (P row) (sym (get_or-set_same rows row word 0 within)) here)
+      | inr other ↦ subst (P r) (sym (get_or-set_other rows row r word 0 other)) (before r (omega (arith, below, other)))
     ]
 
-pub AreRowsOf-others : (rows others : List ℕ) → length others ≡ length rows → OthersBelow (length rows) rows (length rows) others → AreRowsOf (length rows) (λ p. not (is_set rows p)) others
+-- the columns of a row that aren't in a set
+abbrev pub AreOthers : ℕ → ℕ → ℕ → Type 0
+AreOthers side word others =
+    ((col : ℕ) → col < side → has_bit others col ≡ not (has_bit word col)) × ((col : ℕ) → has_bit others col ≡ true → col < side)
+
+pub AreRowsOf-others : (rows others : List ℕ) → length others ≡ length rows → ((r : ℕ) → r < length rows → AreOthers (length rows) (slice_index rows r) (slice_index others r)) → AreRowsOf (length rows) (λ p. not (is_set rows p)) others
 AreRowsOf-others rows others long each = record {
   on = λ p on. (each p.row on.1).0 p.col on.0;
   off = λ p is.
@@ -84,37 +75,12 @@ AreRowsOf-others rows others long each = record {
       ((each p.row row).1 p.col is, row);
 }
 
--- one row more is written
-abbrev pub LeftBelow : List ℕ → List ℕ → ℕ → List ℕ → Type 0
-LeftBelow rows others n left =
-    (r : ℕ) → r < n
-    → ((col : ℕ) → col < 64 → has_bit (slice_index left r) col ≡ (has_bit (slice_index rows r) col && not (has_bit (slice_index others r) col)))
-    × ((col : ℕ) → has_bit (slice_index left r) col ≡ true → has_bit (slice_index rows r) col ≡ true)
-
-pub left_more : (rows others left : List ℕ) (row : ℕ) → row < length left → get_or others row 0 < 2 ^ 64 → LeftBelow rows others row left → LeftBelow rows others (row + 1) (set left row (bit_and (get_or rows row 0) (bit_not w64 (get_or others row 0))))
-left_more rows others left row within low before =
-    let word = bit_and (get_or rows row 0) (bit_not w64 (get_or others row 0)) in
-    λ r below.
-    elim (cases_eq r row) [
-      | inl same ↦
-          let there : slice_index (set left row word) r ≡ bit_and (get_or rows r 0) (bit_not w64 (get_or others r 0)) =
-          ap (λ k. slice_index (set left row word) k) same ∙ get_or-set_same left row word 0 within ∙ ap (λ k. bit_and (get_or rows k 0) (bit_not w64 (get_or others k 0))) (sym same) in
-          let small : get_or others r 0 < 2 ^ 64 = rw same low in (
-            λ col on. ap (λ w. has_bit w col) there ∙ has_bit-without (get_or rows r 0) (get_or others r 0) col small on,
-            λ col is. (and_parts _ _ (sym (has_bit-and (get_or rows r 0) (bit_not w64 (get_or others r 0)) col) ∙ ap (λ w. has_bit w col) (sym there) ∙ is)).0,
-          )
-      | inr apart ↦
-          let there : slice_index (set left row word) r ≡ slice_index left r = get_or-set_other left row r word 0 apart in
-          let old = before r (omega (arith, apart)) in (
-            λ col on. ap (λ w. has_bit w col) there ∙ old.0 col on,
-            λ col is. old.1 col (ap (λ w. has_bit w col) (sym there) ∙ is),
-          )
-    ]
-
-pub IsDifference-all : (rows others left : List ℕ) → length left ≡ length rows → LeftBelow rows others (length rows) left → IsDifference rows others left
-IsDifference-all rows others left long each = record {
-  on = λ p row col. (each p.row row).0 p.col col;
-  off = λ p is. (each p.row (rw (← long) (row_below left p is))).1 p.col is;
+pub IsDifference-all : (rows others left : List ℕ) → length left ≡ length rows → ((r : ℕ) → get_or others r 0 < 2 ^ 64) → ((r : ℕ) → r < length rows → slice_index left r ≡ bit_and (slice_index rows r) (bit_not w64 (slice_index others r))) → IsDifference rows others left
+IsDifference-all rows others left long low each = record {
+  on = λ p row col. ap (λ w. has_bit w p.col) (each p.row row) ∙ has_bit-without (get_or rows p.row 0) (get_or others p.row 0) p.col (low p.row) col;
+  off = λ p is.
+      let word = ap (λ w. has_bit w p.col) (each p.row (rw (← long) (row_below left p is))) in
+      (and_parts _ _ (sym (has_bit-and (get_or rows p.row 0) (bit_not w64 (get_or others p.row 0)) p.col) ∙ sym word ∙ is)).0;
 }
 
 -- a word with no bit set
@@ -135,15 +101,10 @@ pub AreRowsOf-same : (side : ℕ) (test other : Point → Bool) (rows : List ℕ
 AreRowsOf-same side test other rows same are = record { on = λ p on. are.on p on ∙ same p on; off = are.off }
 
 -- the cells that aren't the other player's
-pub not_white : (c : Cell) → not (same_cell c White) ≡ is_either c Empty Black
-not_white Black = refl
-not_white White = refl
-not_white Empty = refl
-
-pub not_black : (c : Cell) → not (same_cell c Black) ≡ is_either c Empty White
-not_black Black = refl
-not_black White = refl
-not_black Empty = refl
+not_other : (k : Colour) (c : Cell) → not (same_cell c (stone_of (opponent k))) ≡ is_either c Empty (stone_of k)
+not_other BlackPlayer Black = refl
+not_other WhitePlayer Black = refl
+not_other _ _ = refl
 
 pub same_bools : (a b : Bool) → (a ≡ true → b ≡ true) → (b ≡ true → a ≡ true) → a ≡ b
 same_bools true b there back = sym (there refl)
@@ -162,13 +123,13 @@ either_second : (c one other : Cell) → c ≡ other → is_either c one other �
 either_second c one other is = or_right _ _ ((Decides-same_cell c other).1 is)
 
 -- a colour's points, and the points that haven't the other colour
-module _ (g : Grid) (wanted other : Cell) (apart : (c : Cell) → not (same_cell c other) ≡ is_either c Empty wanted) (rows others room : List ℕ) (is_wanted : AreRowsOf g.side (λ p. same_cell (cell_at g p) wanted) rows) (is_other : AreRowsOf g.side (λ p. same_cell (cell_at g p) other) others) (all : length others ≡ g.side) (is_room : AreRowsOf (length others) (λ p. not (is_set others p)) room) where
-  pub seed_is : AreRowsOf g.side (λ p. is_either (cell_at g p) wanted wanted) rows
-  seed_is = AreRowsOf-same g.side _ _ rows (λ p on. sym (or_self (same_cell (cell_at g p) wanted))) is_wanted
+module _ (g : Grid) (k : Colour) (rows others room : List ℕ) (is_own : AreRowsOf g.side (λ p. same_cell (cell_at g p) (stone_of k)) rows) (is_other : AreRowsOf g.side (λ p. same_cell (cell_at g p) (stone_of (opponent k))) others) (all : length others ≡ g.side) (is_room : AreRowsOf (length others) (λ p. not (is_set others p)) room) where
+  pub seed_is : AreRowsOf g.side (λ p. is_either (cell_at g p) (stone_of k) (stone_of k)) rows
+  seed_is = AreRowsOf-same g.side _ _ rows (λ p on. sym (or_self (same_cell (cell_at g p) (stone_of k)))) is_own
 
-  pub room_is : AreRowsOf g.side (λ p. is_either (cell_at g p) Empty wanted) room
+  pub room_is : AreRowsOf g.side (λ p. is_either (cell_at g p) Empty (stone_of k)) room
   room_is =
-      AreRowsOf-same g.side _ _ room (λ p on. ap not (is_other.on p on) ∙ apart (cell_at g p))
+      AreRowsOf-same g.side _ _ room (λ p on. ap not (is_other.on p on) ∙ not_other k (cell_at g p))
       (subst (λ n. AreRowsOf n (λ p. not (is_set others p)) room) all is_room)
 
 module _ (g : Grid) (own wanted : Cell) (room seed result : List ℕ) (is_room : AreRowsOf g.side (λ p. is_either (cell_at g p) own wanted) room) (is_seed : AreRowsOf g.side (λ p. is_either (cell_at g p) wanted wanted) seed) (grows : Grows (is_set room) (is_set seed) (is_set result)) (closed : IsClosed (is_set room) (is_set result)) where

@@ -9,18 +9,6 @@ use Rattle.go_board.specs.Marking.{Marking, is_marked, marked_count}
 use Rattle.go_board.specs.inner.Search.{Searched, with_mark, IsSound, Finds}
 use Rattle.go_board.proofs.PointLemmas.{index_below, index_of-injective}
 
--- points of which each is found already
-pub Finds-known : (A : Point → Type 0) (s : Searched) → ((p : Point) → IsOn s.marking.side p → A p → IsTrue (is_marked s.marking p)) → Finds A s s
-Finds-known A s known = record {
-  side = refl;
-  all = refl;
-  kept = λ p is. is;
-  found = known;
-  only = λ p on is. inl is;
-  waiting = λ p is. is;
-  counted = refl;
-}
-
 -- points found after others
 pub Finds-then : (A B C : Point → Type 0) (s t u : Searched) → Finds A s t → Finds B t u → ((p : Point) → IsOn s.marking.side p → C p → A p ⊎ B p) → ((p : Point) → IsOn s.marking.side p → A p ⊎ B p → C p) → Finds C s u
 Finds-then A B C s t u first next parts both = record {

@@ -1,5 +1,5 @@
 -- What the rows of a stone's group tell of a grid: the stone reaches empty, or its group has no liberty.
-use Rattle.std.proofs.Common.{◌≡◌, inl, inr, ℕ, ◌&&◌, ◌||◌, Bool, true, false, not, List, [], length, refl, sym, ◌∙◌, subst}
+use Rattle.std.proofs.Common.{◌≡◌, inl, inr, ℕ, ◌&&◌, Bool, true, false, not, List, [], length, sym, ap, ◌∙◌, subst}
 use Rattle.std.proofs.lemmas.Bool.{and_parts, and_from, cases_Bool, false≢true}
 use Rattle.go_board.specs.declared.stones.Cell.TheVariants.{Empty}
 use Rattle.go_board.specs.declared.stones.Colour.{Colour}
@@ -16,14 +16,6 @@ use Rattle.go_board.proofs.GridLemmas.{Decides-same_cell}
 use Rattle.go_board.proofs.NeighbourLemmas.{AreAdjacent-sym}
 use Rattle.go_board.proofs.GroupLemmas.{neither_stone, stone_of≢Empty}
 use Rattle.go_board.proofs.ReachingLemmas.{Decides-reaches, path_by_step}
-
-not_true : (x y : Bool) → x ≡ true → (not x || y) ≡ true → y ≡ true
-not_true true y is h = h
-not_true false y is h = absurd (false≢true is)
-
-implies : (x y : Bool) → (x ≡ true → y ≡ true) → (not x || y) ≡ true
-implies true y h = h refl
-implies false y h = refl
 
 module _ (g : Grid) (k : Colour) (own others : List ℕ) (from : Point) (all : length own ≡ g.side) (is_own : AreRowsOf g.side (λ p. same_cell (cell_at g p) (stone_of k)) own) (is_other : AreRowsOf g.side (λ p. same_cell (cell_at g p) (stone_of (opponent k))) others) where
   own_stone : (p : Point) → is_set own p ≡ true → cell_at g p ≡ stone_of k
@@ -46,37 +38,38 @@ module _ (g : Grid) (k : Colour) (own others : List ℕ) (from : Point) (all : l
     whole = λ p q on at adjacent is stone_q. shut.closed q p (AreAdjacent-sym p q adjacent) (own_set q at stone_q) is;
   }
 
-  -- the own stones that reach empty only if the one on the point does
-  carries : Point → Bool
-  carries p = is_set own p && (not (reaches g Empty p) || reaches g Empty from)
+  -- the own stones that don't reach empty
+  shut_in : Point → Bool
+  shut_in p = is_set own p && not (reaches g Empty p)
 
-  carries-closed : IsClosed (is_set own) carries
-  unfolding carries
-  carries-closed p q adjacent there is =
+  shut_in-closed : IsClosed (is_set own) shut_in
+  unfolding shut_in
+  shut_in-closed p q adjacent there is =
       let both = and_parts _ _ is in
       let on_p = is_own.off p there in
       let on_q = is_own.off q both.0 in
+      let step = path_by_step g Empty q p on_q (AreAdjacent-sym p q adjacent) on_p (inl (own_stone p there ∙ sym (own_stone q both.0))) in
       and_from _ _ there
-      (implies _ _
-      (λ way.
-      not_true _ _
-      ((Decides-reaches g Empty q on_q).1
-      (path_by_step g Empty q p on_q (AreAdjacent-sym p q adjacent) on_p (inl (own_stone p there ∙ sym (own_stone q both.0)))
-      ((Decides-reaches g Empty p on_p).0 way)))
-      both.1))
+      (elim (cases_Bool (reaches g Empty p)) [
+        | inl way ↦ absurd (false≢true (sym (ap not ((Decides-reaches g Empty q on_q).1 (step ((Decides-reaches g Empty p on_p).0 way)))) ∙ both.1))
+        | inr shut ↦ ap not shut
+      ])
 
   pub Reaches-liberty : IsOn g.side from → cell_at g from ≡ stone_of k → (q : Point) → IsLiberty own others from q → Reaches g Empty from
-  unfolding carries
+  unfolding shut_in
   Reaches-liberty on_from cell q is =
-      let stone : is_set own from ≡ true = own_set from on_from cell in
       let p = is.liberty.0 in
       let free = is.liberty.1 in
       let on_p = subst (λ n. IsOn n p) all free.0 in
       let on_q = is_own.off q is.own_stone in
       let empty : cell_at g p ≡ Empty = neither_stone k (cell_at g p) (sym (is_own.on p on_p) ∙ free.1) (sym (is_other.on p on_p) ∙ free.2) in
-      let way : Reaches g Empty q = path_by_step g Empty q p on_q (AreAdjacent-sym p q is.liberty.2) on_p (inr empty) ([], (on_p, empty)) in
-      let both = and_parts _ _ (is.linked carries carries-closed (and_from _ _ stone (implies (reaches g Empty from) (reaches g Empty from) (λ t. t)))) in
-      (Decides-reaches g Empty from on_from).0 (not_true _ _ ((Decides-reaches g Empty q on_q).1 way) both.1)
+      let way = (Decides-reaches g Empty q on_q).1 (path_by_step g Empty q p on_q (AreAdjacent-sym p q is.liberty.2) on_p (inr empty) ([], (on_p, empty))) in
+      elim (cases_Bool (reaches g Empty from)) [
+        | inl reach ↦ (Decides-reaches g Empty from on_from).0 reach
+        | inr shut ↦
+            absurd (false≢true
+            (sym (ap not way) ∙ (and_parts _ _ (is.linked shut_in shut_in-closed (and_from _ _ (own_set from on_from cell) (ap not shut)))).1))
+      ]
 
 -- the rows of a colour, by another word
 pub rows_of_colour : (g : Grid) (k d : Colour) (rows : List ℕ) → d ≡ k → AreRowsOf g.side (λ p. same_cell (cell_at g p) (stone_of k)) rows → AreRowsOf g.side (λ p. same_cell (cell_at g p) (stone_of d)) rows

@@ -1,16 +1,14 @@
 -- The rows of the stones of a board: the grid that they make, and points of a row coloured anew.
-use Rattle.std.proofs.Common.{◌≡◌, ◌≢◌, inl, inr, ℕ, ◌*◌, ◌<◌, ◌≤◌, ◌^◌, ◌%◌, ◌==◌, ◌&&◌, ◌||◌, Bool, true, false, not, cond, List, length, get_or, set, take, replicate, bit_and, bit_or, w64, refl, sym, ap, ◌∙◌, arith, subst}
+use Rattle.std.proofs.Common.{◌≡◌, ◌≢◌, ◌↔◌, inl, inr, ℕ, ◌*◌, ◌<◌, ◌≤◌, ◌^◌, ◌%◌, ◌==◌, ◌&&◌, ◌||◌, Bool, true, false, not, cond, List, length, get_or, set, take, replicate, bit_and, bit_or, w64, refl, sym, ap, ◌∙◌, arith, subst}
 use Rattle.std.specs.Int.{bit_at, bit_not}
 use Rattle.std.proofs.Math.Bool.{or-true, and-true, and-false}
-use Rattle.std.proofs.Math.Seq.{take-set-lt}
-use Rattle.std.proofs.lemmas.Bool.{cases_Bool, cases_lt, false≢true}
+use Rattle.std.proofs.lemmas.Bool.{and_parts, cases_Bool, cases_lt, false≢true}
 use Rattle.std.proofs.lemmas.Bool.Decides.{Decides-eqb}
 use Rattle.std.proofs.lemmas.Nat.{mod_below, pow_pos}
 use Rattle.std.proofs.lemmas.Nat.Bits.{bit_at_above, same_from_bits}
-use Rattle.std.proofs.lemmas.List.{ext_get_or, get_or-take, get_or-set_same, get_or-set_other, length-set, length-take-le, take-replicate}
+use Rattle.std.proofs.lemmas.List.{ext_get_or, get_or-take, get_or-set_same, get_or-set_other, length-set, length-take-le, length-replicate}
 use Rattle.go_board.specs.declared.stones.Cell.{Cell}
 use Rattle.go_board.specs.declared.stones.Cell.TheVariants.{Black, White, Empty}
-use Rattle.go_board.specs.declared.board.stone_rows.StoneRows.{StoneRows}
 use Rattle.go_board.specs.declared.points.Point.{Point}
 use Rattle.go_board.specs.Colour.{same_cell}
 use Rattle.go_board.specs.Point.{IsOn, index_of}
@@ -18,31 +16,50 @@ use Rattle.go_board.specs.Grid.{Grid, cell_at, with_cell, empty_grid}
 use Rattle.go_board.specs.inner.Rows.{has_bit, is_set}
 use Rattle.go_board.specs.inner.Regions.{AreRowsOf, AreStones, grid_with, stone_in, with_columns}
 use Rattle.go_board.proofs.WordLemmas.{has_bit-zero, has_bit-and, has_bit-or, has_bit-without, bit_at-there, bit_at-gone}
+use Rattle.go_board.proofs.GrowLemmas.{row_below}
 use Rattle.go_board.proofs.RowLemmas.{is_set-none}
 use Rattle.go_board.proofs.RegionLemmas.{has_bit-set_there, has_bit-set_elsewhere, same_bools}
 use Rattle.go_board.proofs.PointLemmas.{one_point, same_or_not}
 use Rattle.go_board.proofs.GridLemmas.{get_or-replicate_default, cell_at-grid_of, length-grid_of, cell_at-with_cell, cell_at-with_cell_elsewhere}
-use Rattle.go_board.proofs.GroupLemmas.{grid_of-cells}
+use Rattle.go_board.proofs.GroupLemmas.{grid_of-cells, same_colours}
 
--- what stands on a point follows from its bits
-stone_is : (c : Cell) (black white : Bool) → black ≡ same_cell c Black → white ≡ same_cell c White → cond black Black (cond white White Empty) ≡ c
-stone_is Black b w is_b is_w = ap (λ x. cond x Black (cond w White Empty)) is_b
-stone_is White b w is_b is_w = ap (λ x. cond x Black (cond w White Empty)) is_b ∙ ap (λ x. cond x White Empty) is_w
-stone_is Empty b w is_b is_w = ap (λ x. cond x Black (cond w White Empty)) is_b ∙ ap (λ x. cond x White Empty) is_w
+-- what stands on a point by its bits, and its bits by what stands there
+stone_is : (c : Cell) → cond (same_cell c Black) Black (cond (same_cell c White) White Empty) ≡ c
+stone_is Black = refl
+stone_is White = refl
+stone_is Empty = refl
 
-bit_in : (side : ℕ) (words : List ℕ) (p : Point) → p.row < side → is_set words p ≡ is_set (take side words) p
-bit_in side words p below = ap (λ w. has_bit w p.col) (sym (get_or-take side words p.row 0 below))
+black_is : (b w : Bool) → b ≡ same_cell (cond b Black (cond w White Empty)) Black
+black_is true w = refl
+black_is false true = refl
+black_is false false = refl
 
--- the rows make the grid
-pub grid_is : (g : Grid) (rows : StoneRows) → AreStones g rows → grid_with g.side rows ≡ g
-grid_is g rows are =
-    grid_of-cells g (stone_in rows) are.all
-    (λ p on.
-    stone_is (cell_at g p) _ _ (bit_in g.side rows.black p on.1 ∙ are.black.on p on) (bit_in g.side rows.white p on.1 ∙ are.white.on p on))
+white_is : (b w : Bool) → (b ≡ true → w ≡ false) → w ≡ same_cell (cond b Black (cond w White Empty)) White
+white_is true w apart = apart refl
+white_is false true apart = refl
+white_is false false apart = refl
+
+bit_in : (side : ℕ) (words : List ℕ) (p : Point) → p.row < side → is_set (take side words) p ≡ is_set words p
+bit_in side words p below = ap (λ w. has_bit w p.col) (get_or-take side words p.row 0 below)
+
+-- the rows of a board, as many as it has, are those of the grid that they make
+module _ (side : ℕ) (black white : List ℕ) (are : AreStones side black white) where
+  front : (k : Cell) (words : List ℕ) → length words ≡ 52 → ((p : Point) → is_set words p ≡ true → IsOn side p) → ((p : Point) → is_set words p ≡ same_cell (stone_in black white p) k) → AreRowsOf side (λ p. same_cell (cell_at (grid_with side black white) p) k) (take side words)
+  front k words long on is = record {
+    on = λ p at. bit_in side words p at.1 ∙ is p ∙ ap (λ c. same_cell c k) (sym (cell_at-grid_of side (stone_in black white) p at));
+    off = λ p there. let below = row_below (take side words) p there in
+        on p (sym (bit_in side words p (omega (arith, below, are.few, length-take-le side words (rw long are.few)))) ∙ there);
+  }
+
+  pub black_front : AreRowsOf side (λ p. same_cell (cell_at (grid_with side black white) p) Black) (take side black)
+  black_front = front Black black are.black_rows are.black_on (λ p. black_is (is_set black p) (is_set white p))
+
+  pub white_front : AreRowsOf side (λ p. same_cell (cell_at (grid_with side black white) p) White) (take side white)
+  white_front = front White white are.white_rows are.white_on (λ p. white_is (is_set black p) (is_set white p) (are.apart p))
 
 -- as many cells as points
-pub all_cells : (side : ℕ) (rows : StoneRows) (g : Grid) → grid_with side rows ≡ g → length g.cells ≡ g.side * g.side
-all_cells side rows g is = sym (ap (λ (h : Grid). length h.cells) is) ∙ length-grid_of side (stone_in rows) ∙ ap (λ (h : Grid). h.side * h.side) is
+pub all_cells : (side : ℕ) (black white : List ℕ) (g : Grid) → grid_with side black white ≡ g → length g.cells ≡ g.side * g.side
+all_cells side black white g is = sym (ap (λ (h : Grid). length h.cells) is) ∙ length-grid_of side (stone_in black white) ∙ ap (λ (h : Grid). h.side * h.side) is
 
 -- rows of one grid are the same, and grids with the same rows
 pub bit_same : (x y c : ℕ) → has_bit x c ≡ has_bit y c → bit_at x c ≡ bit_at y c
@@ -64,26 +81,33 @@ rows_one side test a b long one two =
     (λ is. let on = one.off p is in two.on p on ∙ sym (one.on p on) ∙ is)
     (λ is. let on = two.off p is in one.on p on ∙ sym (two.on p on) ∙ is))))
 
-pub same_words : (one two : Grid) (a b : StoneRows) → one ≡ two → AreStones one a → AreStones two b → (take one.side a.black ≡ take one.side b.black) × (take one.side a.white ≡ take one.side b.white)
-same_words one two a b same first second =
-    let other = subst (λ g. AreStones g b) (sym same) second in
-    let few : one.side ≤ 52 = first.few in (
-      rows_one one.side _ _ _ (length-take-le one.side a.black (rw first.black_rows few) ∙ sym (length-take-le one.side b.black (rw other.black_rows few))) first.black other.black,
-      rows_one one.side _ _ _ (length-take-le one.side a.white (rw first.white_rows few) ∙ sym (length-take-le one.side b.white (rw other.white_rows few))) first.white other.white,
-    )
-
-pub same_grid : (one two : Grid) (a b : StoneRows) → one.side ≡ two.side → AreStones one a → AreStones two b → take one.side a.black ≡ take one.side b.black → take one.side a.white ≡ take one.side b.white → one ≡ two
-same_grid one two a b side first second black white =
-    sym (grid_is one a first)
-    ∙ sym (grid_of-cells (grid_with one.side a) (stone_in b) (length-grid_of one.side (stone_in a))
-    (λ p on. bits p on ∙ sym (cell_at-grid_of one.side (stone_in a) p on)))
-    ∙ ap (λ n. grid_with n b) side ∙ grid_is two b second
+same_words : (side : ℕ) (a b c d : List ℕ) → AreStones side a b → AreStones side c d → grid_with side a b ≡ grid_with side c d → (take side a ≡ take side c) × (take side b ≡ take side d)
+same_words side a b c d first second same = (
+  rows_one side _ _ _ (long a first.black_rows ∙ sym (long c second.black_rows)) (black_front side a b first) (subst (λ h. AreRowsOf side (λ p. same_cell (cell_at h p) Black) (take side c)) (sym same) (black_front side c d second)),
+  rows_one side _ _ _ (long b first.white_rows ∙ sym (long d second.white_rows)) (white_front side a b first) (subst (λ h. AreRowsOf side (λ p. same_cell (cell_at h p) White) (take side d)) (sym same) (white_front side c d second)),
+)
   where
-    bits : (p : Point) → IsOn one.side p → stone_in b p ≡ stone_in a p
-    bits p on =
-        let in_black : is_set b.black p ≡ is_set a.black p = bit_in one.side b.black p on.1 ∙ ap (λ l. is_set l p) (sym black) ∙ sym (bit_in one.side a.black p on.1) in
-        let in_white : is_set b.white p ≡ is_set a.white p = bit_in one.side b.white p on.1 ∙ ap (λ l. is_set l p) (sym white) ∙ sym (bit_in one.side a.white p on.1) in
-        ap (λ x. cond x Black (cond (is_set b.white p) White Empty)) in_black ∙ ap (λ x. cond (is_set a.black p) Black (cond x White Empty)) in_white
+    long : (words : List ℕ) → length words ≡ 52 → length (take side words) ≡ side
+    long words all = length-take-le side words (rw all first.few)
+
+same_grid : (side : ℕ) (a b c d : List ℕ) → take side a ≡ take side c → take side b ≡ take side d → grid_with side a b ≡ grid_with side c d
+same_grid side a b c d black white =
+    same_colours side (stone_in a b) (stone_in c d)
+    (λ p on.
+    ap (λ x. cond x Black (cond (is_set b p) White Empty)) (bits a c black p on)
+    ∙ ap (λ x. cond (is_set c p) Black (cond x White Empty)) (bits b d white p on))
+  where
+    bits : (one other : List ℕ) → take side one ≡ take side other → (p : Point) → IsOn side p → is_set one p ≡ is_set other p
+    bits one other same p on = sym (bit_in side one p on.1) ∙ ap (λ l. is_set l p) same ∙ bit_in side other p on.1
+
+-- boards of one size are seen as the same grid exactly if the rows in front are the same
+pub same_rows : (n side other : ℕ) (a b c d : List ℕ) (g h : Grid) → n ≡ side → side ≡ other → grid_with side a b ≡ g → grid_with other c d ≡ h → AreStones side a b → AreStones other c d → (((take n a ≡ take n c) × (take n b ≡ take n d)) ↔ (g ≡ h))
+same_rows n side other a b c d g h all sizes is_g is_h first second =
+    let grid : grid_with side c d ≡ h = ap (λ m. grid_with m c d) sizes ∙ is_h in
+    subst (λ m. ((take m a ≡ take m c) × (take m b ≡ take m d)) ↔ (g ≡ h)) (sym all) (
+      λ both. sym is_g ∙ same_grid side a b c d both.0 both.1 ∙ grid,
+      λ e. same_words side a b c d first (subst (λ m. AreStones m c d) (sym sizes) second) (is_g ∙ e ∙ sym grid),
+    )
 
 -- a grid with points of a row coloured
 pub side-coloured : (g : Grid) (row columns : ℕ) (c : Cell) → (with_columns g row columns c).side ≡ g.side
@@ -94,64 +118,69 @@ pub cell_at-coloured : (g : Grid) (row columns : ℕ) (c : Cell) (p : Point) →
 unfolding with_columns
 cell_at-coloured g row columns c p on = cell_at-grid_of g.side (λ q. cond ((q.row == row) && has_bit columns q.col) c (cell_at g q)) p on
 
--- the grid that rows make once they were coloured
-pub coloured_is : (side : ℕ) (rows after : StoneRows) (row columns : ℕ) (c : Cell) → AreStones (with_columns (grid_with side rows) row columns c) after → grid_with side after ≡ with_columns (grid_with side rows) row columns c
-coloured_is side rows after row columns c are =
-    ap (λ n. grid_with n after) (sym (side-coloured (grid_with side rows) row columns c)) ∙ grid_is _ after are
+-- the words of one kind of stone after points of a row were coloured
+is_set-coloured : (words : List ℕ) (row columns word : ℕ) (c k : Cell) → row < length words → ((col : ℕ) → has_bit word col ≡ cond (has_bit columns col) (same_cell c k) (has_bit (get_or words row 0) col)) → (q : Point) → is_set (set words row word) q ≡ cond ((q.row == row) && has_bit columns q.col) (same_cell c k) (is_set words q)
+is_set-coloured words row columns word c k within is q =
+    elim (cases_Bool (q.row == row)) [
+      | inl same ↦
+          let e = (Decides-eqb q.row row).0 same in
+          ap (λ r. has_bit (get_or (set words row word) r 0) q.col) e
+          ∙ ap (λ w. has_bit w q.col) (get_or-set_same words row word 0 within)
+          ∙ is q.col
+          ∙ ap (λ r. cond (has_bit columns q.col) (same_cell c k) (has_bit (get_or words r 0) q.col)) (sym e)
+          ∙ ap (λ b. cond (b && has_bit columns q.col) (same_cell c k) (is_set words q)) (sym same)
+      | inr apart ↦
+          ap (λ w. has_bit w q.col) (get_or-set_other words row q.row word 0 (λ e. false≢true (sym apart ∙ (Decides-eqb q.row row).1 e)))
+          ∙ ap (λ b. cond (b && has_bit columns q.col) (same_cell c k) (is_set words q)) (sym apart)
+    ]
 
-same_of : (b : Bool) (c d wanted : Cell) → cond b (same_cell c wanted) (same_cell d wanted) ≡ same_cell (cond b c d) wanted
-same_of true c d wanted = refl
-same_of false c d wanted = refl
+chosen : (t : Bool) (c : Cell) (b w : Bool) → cond (cond t (same_cell c Black) b) Black (cond (cond t (same_cell c White) w) White Empty) ≡ cond t c (cond b Black (cond w White Empty))
+chosen true c b w = stone_is c
+chosen false c b w = refl
 
-module _ (g : Grid) (row columns : ℕ) (c wanted : Cell) (words : List ℕ) (word : ℕ) (below : row < g.side) (long : g.side ≤ length words) (within : (col : ℕ) → has_bit columns col ≡ true → col < g.side) (is : (col : ℕ) → has_bit word col ≡ cond (has_bit columns col) (same_cell c wanted) (has_bit (get_or words row 0) col)) (are : AreRowsOf g.side (λ q. same_cell (cell_at g q) wanted) (take g.side words)) where
-  abbrev old : List ℕ
-  old = take g.side words
+not_both : (t : Bool) (c : Cell) (b w : Bool) → (b ≡ true → w ≡ false) → cond t (same_cell c Black) b ≡ true → cond t (same_cell c White) w ≡ false
+not_both true Black b w apart is = refl
+not_both true White b w apart is = absurd (false≢true is)
+not_both true Empty b w apart is = absurd (false≢true is)
+not_both false c b w apart is = apart is
 
-  in_row : (q : Point) → q.row ≡ row → is_set (set old row word) q ≡ cond (has_bit columns q.col) (same_cell c wanted) (is_set old q)
-  in_row q e =
-      ap (λ r. has_bit (get_or (set old row word) r 0) q.col) e
-      ∙ ap (λ w. has_bit w q.col) (get_or-set_same old row word 0 (omega (arith, length-take-le g.side words long, below)))
-      ∙ is q.col
-      ∙ ap (λ w. cond (has_bit columns q.col) (same_cell c wanted) (has_bit w q.col)) (sym (get_or-take g.side words row 0 below))
-      ∙ ap (λ r. cond (has_bit columns q.col) (same_cell c wanted) (has_bit (get_or old r 0) q.col)) (sym e)
+-- a board after points of a row were coloured
+module _ (side : ℕ) (black white : List ℕ) (row columns : ℕ) (c : Cell) (b w : ℕ) (are : AreStones side black white) (below : row < side) (within : (col : ℕ) → has_bit columns col ≡ true → col < side) (in_black : (col : ℕ) → has_bit b col ≡ cond (has_bit columns col) (same_cell c Black) (has_bit (get_or black row 0) col)) (in_white : (col : ℕ) → has_bit w col ≡ cond (has_bit columns col) (same_cell c White) (has_bit (get_or white row 0) col)) where
+  abbrev turned : Point → Bool
+  turned q = (q.row == row) && has_bit columns q.col
 
-  elsewhere : (q : Point) → (q.row == row) ≡ false → is_set (set old row word) q ≡ is_set old q
-  elsewhere q apart =
-      ap (λ w. has_bit w q.col) (get_or-set_other old row q.row word 0 (λ e. false≢true (sym apart ∙ (Decides-eqb q.row row).1 e)))
+  is_black : (q : Point) → is_set (set black row b) q ≡ cond (turned q) (same_cell c Black) (is_set black q)
+  is_black = is_set-coloured black row columns b c Black (omega (arith, are.few, are.black_rows)) in_black
 
-  coloured_on : (q : Point) → IsOn g.side q → is_set (set old row word) q ≡ same_cell (cell_at (with_columns g row columns c) q) wanted
-  coloured_on q on =
-      elim (cases_Bool (q.row == row)) [
-        | inl same ↦
-            in_row q ((Decides-eqb q.row row).0 same)
-            ∙ ap (λ b. cond (has_bit columns q.col) (same_cell c wanted) b) (are.on q on)
-            ∙ same_of (has_bit columns q.col) c (cell_at g q) wanted
-            ∙ ap (λ b. same_cell (cond (b && has_bit columns q.col) c (cell_at g q)) wanted) (sym same)
-            ∙ ap (λ x. same_cell x wanted) (sym (cell_at-coloured g row columns c q on))
-        | inr apart ↦
-            elsewhere q apart
-            ∙ are.on q on
-            ∙ ap (λ b. same_cell (cond (b && has_bit columns q.col) c (cell_at g q)) wanted) (sym apart)
-            ∙ ap (λ x. same_cell x wanted) (sym (cell_at-coloured g row columns c q on))
+  is_white : (q : Point) → is_set (set white row w) q ≡ cond (turned q) (same_cell c White) (is_set white q)
+  is_white = is_set-coloured white row columns w c White (omega (arith, are.few, are.white_rows)) in_white
+
+  still_on : (q : Point) (x old : Bool) → (old ≡ true → IsOn side q) → cond (turned q) x old ≡ true → IsOn side q
+  still_on q x old on is =
+      elim (cases_Bool (turned q)) [
+        | inl there ↦ let both = and_parts (q.row == row) (has_bit columns q.col) there in (within q.col both.1, omega (arith, below, (Decides-eqb q.row row).0 both.0))
+        | inr elsewhere ↦ on (sym (ap (λ t. cond t x old) elsewhere) ∙ is)
       ]
 
-  coloured_off : (q : Point) → is_set (set old row word) q ≡ true → IsOn g.side q
-  coloured_off q there =
-      elim (cases_Bool (q.row == row)) [
-        | inl same ↦
-            let e = (Decides-eqb q.row row).0 same in
-            let bit : cond (has_bit columns q.col) (same_cell c wanted) (is_set old q) ≡ true = sym (in_row q e) ∙ there in
-            elim (cases_Bool (has_bit columns q.col)) [
-              | inl one ↦ (within q.col one, omega (arith, e, below))
-              | inr none ↦ are.off q (ap (λ b. cond b (same_cell c wanted) (is_set old q)) (sym none) ∙ bit)
-            ]
-        | inr apart ↦ are.off q (sym (elsewhere q apart) ∙ there)
-      ]
+  pub AreStones-coloured : AreStones side (set black row b) (set white row w)
+  AreStones-coloured = record {
+    few = are.few;
+    black_rows = length-set black row b ∙ are.black_rows;
+    white_rows = length-set white row w ∙ are.white_rows;
+    black_on = λ q is. still_on q (same_cell c Black) (is_set black q) (are.black_on q) (sym (is_black q) ∙ is);
+    white_on = λ q is. still_on q (same_cell c White) (is_set white q) (are.white_on q) (sym (is_white q) ∙ is);
+    apart = λ q is. is_white q ∙ not_both (turned q) c (is_set black q) (is_set white q) (are.apart q) (sym (is_black q) ∙ is);
+  }
 
-  pub rows_coloured : AreRowsOf g.side (λ q. same_cell (cell_at (with_columns g row columns c) q) wanted) (take g.side (set words row word))
-  rows_coloured =
-      subst (λ l. AreRowsOf g.side (λ q. same_cell (cell_at (with_columns g row columns c) q) wanted) l) (sym (take-set-lt g.side words row word below))
-      (record { on = coloured_on; off = coloured_off })
+  pub grid-coloured : grid_with side (set black row b) (set white row w) ≡ with_columns (grid_with side black white) row columns c
+  unfolding with_columns
+  grid-coloured =
+      same_colours side _ _
+      (λ q on.
+      ap (λ x. cond x Black (cond (is_set (set white row w) q) White Empty)) (is_black q)
+      ∙ ap (λ x. cond (cond (turned q) (same_cell c Black) (is_set black q)) Black (cond x White Empty)) (is_white q)
+      ∙ chosen (turned q) c (is_set black q) (is_set white q)
+      ∙ ap (λ x. cond (turned q) c x) (sym (cell_at-grid_of side (stone_in black white) q on)))
 
 -- one point coloured is a grid with that point coloured
 pub one_coloured : (g : Grid) (p : Point) (row columns : ℕ) (c : Cell) → IsOn g.side p → length g.cells ≡ g.side * g.side → row ≡ p.row → has_bit columns p.col ≡ true → ((k : ℕ) → k ≢ p.col → has_bit columns k ≡ false) → with_columns g row columns c ≡ with_cell g p c
@@ -238,17 +267,23 @@ without_elsewhere word col fits low k other =
           has_bit-and word (bit_not w64 (bit_of col)) k ∙ ap (λ x. x && has_bit (bit_not w64 (bit_of col)) k) none ∙ sym none
     ]
 
--- the rows of a board on which nothing stands
-pub none_kept : (side : ℕ) (wanted : Cell) (rows : List ℕ) → same_cell Empty wanted ≡ false → side ≤ 52 → rows ≡ replicate 52 0
-    → AreRowsOf side (λ p. same_cell (cell_at (empty_grid side) p) wanted) (take side rows)
-none_kept side wanted rows other small is =
-    let zeros : take side rows ≡ replicate side 0 = ap (take side) is ∙ take-replicate side 52 0 small in
-    let none : (p : Point) → is_set (take side rows) p ≡ false =
-    λ p. ap (λ l. is_set l p) zeros ∙ is_set-none side p in
-    record {
-      on = λ p on. none p ∙ sym (ap (λ x. same_cell x wanted) (get_or-replicate_default (side * side) (index_of side p) Empty) ∙ other);
-      off = λ p there. absurd (false≢true (sym (none p) ∙ there));
-    }
+-- a board on which nothing stands
+pub AreStones-none : (side : ℕ) (black white : List ℕ) → side ≤ 52 → black ≡ replicate 52 0 → white ≡ replicate 52 0 → AreStones side black white × (grid_with side black white ≡ empty_grid side)
+AreStones-none side black white small no_black no_white = (
+  record {
+    few = small;
+    black_rows = ap (λ (l : List ℕ). length l) no_black ∙ length-replicate {A = ℕ} 52 0;
+    white_rows = ap (λ (l : List ℕ). length l) no_white ∙ length-replicate {A = ℕ} 52 0;
+    black_on = λ p there. absurd (false≢true (sym (none black no_black p) ∙ there));
+    white_on = λ p there. absurd (false≢true (sym (none white no_white p) ∙ there));
+    apart = λ p there. none white no_white p;
+  },
+  grid_of-cells (empty_grid side) (stone_in black white) (length-replicate (side * side) Empty)
+      (λ p on. rw (none black no_black p, none white no_white p) (sym (get_or-replicate_default (side * side) (index_of side p) Empty))),
+)
+  where
+    none : (words : List ℕ) → words ≡ replicate 52 0 → (p : Point) → is_set words p ≡ false
+    none words is p = ap (λ l. is_set l p) is ∙ is_set-none 52 p
 
 -- as many of a board's rows as it has, of one colour
 pub rows_front : (g h : Grid) (words : List ℕ) (n : ℕ) (wanted : Cell) → h ≡ g → n ≡ h.side → h.side ≤ length words → AreRowsOf h.side (λ p. same_cell (cell_at h p) wanted) (take h.side words)

@@ -1,9 +1,11 @@
--- Grids with points emptied, one after another.
-use Rattle.std.proofs.Common.{◌≡◌, ◌≢◌, ◌⊎◌, ℕ, ◌+◌, ◌*◌, ◌^◌, ◌<◌, ◌==◌, ◌&&◌, Bool, cond, w64, true, false, List, length, slice_index, refl, sym, ap, subst, ◌∙◌, arith, inl, inr, IsTrue}
+-- Grids coloured row by row, and cleared ones.
+use Rattle.std.proofs.Common.{◌≡◌, ◌≢◌, ℕ, ◌+◌, ◌*◌, ◌^◌, ◌<◌, ◌≤◌, ◌==◌, ◌&&◌, Bool, cond, w64, true, false, nat_lt, List, length, refl, sym, ap, subst, ◌∙◌, arith, inl, inr, IsTrue}
 use Rattle.std.specs.Int.{trailing_zeros}
+use Rattle.std.proofs.Math.Bool.{and-false}
 use Rattle.std.proofs.lemmas.Nat.Bits.{bit_at-trailing_zeros}
-use Rattle.std.proofs.lemmas.Bool.{cases_eq, cases_Bool, true≢false, false≢true}
-use Rattle.std.proofs.lemmas.Bool.Decides.{Decides-eqb}
+use Rattle.std.proofs.lemmas.Bool.{and_parts, and_from, cases_eq, true≢false, false≢true, false_from_ne_true}
+use Rattle.std.proofs.lemmas.Bool.Decides.{Decides-eqb, Decides-ltb, nat_tests}
+use Rattle.go_board.specs.declared.stones.Cell.{Cell}
 use Rattle.go_board.specs.declared.stones.Cell.TheVariants.{Empty}
 use Rattle.go_board.specs.declared.stones.Colour.{Colour}
 use Rattle.go_board.specs.declared.points.Point.{Point}
@@ -13,26 +15,11 @@ use Rattle.go_board.specs.Clearing.{cleared_cell, clear}
 use Rattle.go_board.specs.inner.Groups.{is_shut, IsWithout}
 use Rattle.go_board.specs.inner.Rows.{has_bit, is_set, IsPart}
 use Rattle.go_board.specs.inner.Regions.{AreRowsOf, with_columns}
-use Rattle.go_board.proofs.GroupLemmas.{grid_of-cells}
-use Rattle.go_board.proofs.StoneRowsLemmas.{side-coloured, cell_at-coloured, length-coloured}
+use Rattle.go_board.proofs.GridLemmas.{cell_at-grid_of, length-grid_of}
+use Rattle.go_board.proofs.GroupLemmas.{grid_of-cells, same_colours}
+use Rattle.go_board.proofs.RegionLemmas.{same_bools}
+use Rattle.go_board.proofs.GrowLemmas.{row_below}
 use Rattle.go_board.proofs.WordLemmas.{le_from_part, has_bit-zero}
-
--- other points are emptied after some
-pub without_both : (g h i : Grid) (First Second Both : Point → Type 0) → IsWithout g h First → IsWithout h i Second → ((p : Point) → First p → ¬ Second p) → ((p : Point) → First p → Both p) → ((p : Point) → Second p → Both p) → ((p : Point) → Both p → First p ⊎ Second p) → IsWithout g i Both
-without_both g h i First Second Both one two apart of_first of_second back = record {
-  same_side = two.same_side ∙ one.same_side;
-  all = two.all ∙ one.all;
-  emptied = λ p on both.
-      elim (back p both) [
-        | inl first ↦ two.kept p (there p on) (apart p first) ∙ one.emptied p on first
-        | inr second ↦ two.emptied p (there p on) second
-      ];
-  kept = λ p on neither.
-      two.kept p (there p on) (λ second. neither (of_second p second)) ∙ one.kept p on (λ first. neither (of_first p first));
-}
-  where
-    there : (p : Point) → IsOn g.side p → IsOn h.side p
-    there p on = subst (λ n. IsOn n p) (sym one.same_side) on
 
 -- a board without the stones of a colour that are shut in is cleared
 pub without_shut : (g h : Grid) (k : Colour) (shut : List ℕ) → length g.cells ≡ g.side * g.side → AreRowsOf g.side (is_shut g k) shut → IsWithout g h (λ p. IsTrue (is_set shut p)) → h ≡ clear g k
@@ -73,44 +60,60 @@ module _ (columns left next : ℕ) (some : left ≢ 0) (low : columns < 2 ^ 64) 
       let differs : next ≢ left = λ same. false≢true (sym there ∙ ap (λ w. has_bit w lowest) same ∙ set) in
       omega (arith, differs)
 
--- the points of a set in the first rows
-abbrev pub InRowsBefore : List ℕ → ℕ → Point → Type 0
-InRowsBefore rows row p = (p.row < row) × (is_set rows p ≡ true)
+-- the grid with the cell on the points of a set in the rows before one
+abbrev pub painted : Grid → (Point → Bool) → Cell → ℕ → Grid
+painted g test cell row = grid_of g.side (λ p. cond (nat_lt p.row row && test p) cell (cell_at g p))
 
--- one row more
-pub rows_more : (g h i : Grid) (rows : List ℕ) (row : ℕ) → IsWithout g h (InRowsBefore rows row) → IsWithout h i (λ p. (p.row ≡ row) × (has_bit (slice_index rows row) p.col ≡ true)) → IsWithout g i (InRowsBefore rows (row + 1))
-rows_more g h i rows row before is =
-    without_both g h i (InRowsBefore rows row) _ (InRowsBefore rows (row + 1)) before is
-    (λ p first second. omega (arith, first.0, second.0))
-    (λ p first. (omega (arith, first.0), first.1))
-    (λ p second. (omega (arith, second.0), ap (λ r. has_bit (slice_index rows r) p.col) second.0 ∙ second.1))
-    (λ p both.
-    elim (cases_eq p.row row) [
-      | inl same ↦ inr (same, ap (λ r. has_bit (slice_index rows r) p.col) (sym same) ∙ both.1)
-      | inr other ↦ inl (omega (arith, both.0, other), both.1)
-    ])
+-- what a row adds: in it the columns are those of the set, and the rows before it stay
+merged : (here column test before next : Bool) (cell old : Cell) → (here ≡ true → column ≡ test) → (here ≡ true → next ≡ true) → (here ≡ false → before ≡ next) → cond (here && column) cell (cond (before && test) cell old) ≡ cond (next && test) cell old
+merged true column true before next cell old same done apart = rw (same refl, done refl) refl
+merged true column false before next cell old same done apart = rw (same refl, done refl, and-false before) refl
+merged false column test before next cell old same done apart = rw (apart refl) refl
 
--- the points of a row in a set of columns are emptied
-pub row_emptied : (g : Grid) (row columns : ℕ) → length g.cells ≡ g.side * g.side → IsWithout g (with_columns g row columns Empty) (λ p. (p.row ≡ row) × (has_bit columns p.col ≡ true))
-row_emptied g row columns all = record {
-  same_side = side-coloured g row columns Empty;
-  all = length-coloured g row columns Empty ∙ sym all;
-  emptied = λ p on gone. cell_at-coloured g row columns Empty p on ∙ rw ((Decides-eqb p.row row).1 gone.0, gone.1) refl;
-  kept = λ p on left. cell_at-coloured g row columns Empty p on
-      ∙ (elim (cases_Bool (p.row == row)) [
-        | inr apart ↦ ap (λ b. cond (b && has_bit columns p.col) Empty (cell_at g p)) apart
-        | inl same ↦ elim (cases_Bool (has_bit columns p.col)) [
-          | inl there ↦ absurd (left ((Decides-eqb p.row row).0 same, there))
-          | inr none ↦ ap (λ b. cond (b && has_bit columns p.col) Empty (cell_at g p)) same ∙ ap (λ b. cond b Empty (cell_at g p)) none
-        ]
-      ]);
-}
+module _ (g : Grid) (test : Point → Bool) (cell : Cell) (row : ℕ) where
+  pub painted_none : length g.cells ≡ g.side * g.side → ((p : Point) → test p ≡ true → row ≤ p.row) → painted g test cell row ≡ g
+  painted_none all from =
+      grid_of-cells g _ all
+      (λ p on.
+      ap (λ b. cond b cell (cell_at g p))
+      (false_from_ne_true _ (λ is. let both = and_parts (nat_lt p.row row) (test p) is in omega (arith, (Decides-ltb p.row row).0 both.0, from p both.1))))
 
--- a row with no column
-pub row_kept : (g : Grid) (row columns : ℕ) → columns ≡ 0 → IsWithout g g (λ p. (p.row ≡ row) × (has_bit columns p.col ≡ true))
-row_kept g row columns zero = record {
-  same_side = refl;
-  all = refl;
-  emptied = λ p on gone. absurd (false≢true (sym (ap (λ w. has_bit w p.col) zero ∙ has_bit-zero p.col) ∙ gone.1));
-  kept = λ p on left. refl;
-}
+  turn : (columns : ℕ) (p : Point) → (p.row ≡ row → has_bit columns p.col ≡ test p) → cond ((p.row == row) && has_bit columns p.col) cell (cond (nat_lt p.row row && test p) cell (cell_at g p)) ≡ cond (nat_lt p.row (row + 1) && test p) cell (cell_at g p)
+  turn columns p is =
+      merged (p.row == row) (has_bit columns p.col) (test p) (nat_lt p.row row) (nat_lt p.row (row + 1)) cell (cell_at g p)
+      (λ here. is ((Decides-eqb p.row row).0 here))
+      (λ here. let at = (Decides-eqb p.row row).0 here in (Decides-ltb p.row (row + 1)).1 (omega (arith, at)))
+      (λ apart. grind (arith, nat_tests))
+
+  pub painted_more : (columns : ℕ) → ((p : Point) → p.row ≡ row → has_bit columns p.col ≡ test p) → with_columns (painted g test cell row) row columns cell ≡ painted g test cell (row + 1)
+  unfolding with_columns
+  painted_more columns is =
+      same_colours g.side _ _
+      (λ p on.
+      ap (λ x. cond ((p.row == row) && has_bit columns p.col) cell x) (cell_at-grid_of g.side _ p on) ∙ turn columns p (is p))
+
+  pub painted_same : (columns : ℕ) → columns ≡ 0 → ((p : Point) → p.row ≡ row → has_bit columns p.col ≡ test p) → painted g test cell row ≡ painted g test cell (row + 1)
+  painted_same columns zero is =
+      same_colours g.side _ _
+      (λ p on.
+      let none : has_bit columns p.col ≡ false = ap (λ w. has_bit w p.col) zero ∙ has_bit-zero p.col in
+      sym (ap (λ b. cond b cell (cond (nat_lt p.row row && test p) cell (cell_at g p))) (ap (λ b. (p.row == row) && b) none ∙ and-false (p.row == row)))
+      ∙ turn columns p (is p))
+
+  pub painted_all : ((p : Point) → test p ≡ true → p.row < row) → painted g test cell row ≡ grid_of g.side (λ p. cond (test p) cell (cell_at g p))
+  painted_all below =
+      same_colours g.side _ _
+      (λ p on.
+      ap (λ b. cond b cell (cell_at g p))
+      (same_bools _ _ (λ is. (and_parts (nat_lt p.row row) (test p) is).1) (λ is. and_from _ _ ((Decides-ltb p.row row).1 (below p is)) is)))
+
+-- the points of all rows emptied
+pub painted_empty : (g : Grid) (rows : List ℕ) (row : ℕ) → length g.cells ≡ g.side * g.side → length rows ≤ row → IsWithout g (painted g (is_set rows) Empty row) (λ p. is_set rows p ≡ true)
+painted_empty g rows row all past =
+    subst (λ h. IsWithout g h (λ p. is_set rows p ≡ true)) (sym (painted_all g (is_set rows) Empty row (λ p is. let below = row_below rows p is in omega (arith, below, past))))
+    (record {
+      same_side = refl;
+      all = length-grid_of g.side _ ∙ sym all;
+      emptied = λ p on gone. cell_at-grid_of g.side _ p on ∙ ap (λ b. cond b Empty (cell_at g p)) gone;
+      kept = λ p on left. cell_at-grid_of g.side _ p on ∙ ap (λ b. cond b Empty (cell_at g p)) (false_from_ne_true _ left);
+    })

@@ -1,8 +1,8 @@
 -- What a stone takes off, as rows: playing it is putting it on its point and emptying these.
-use Rattle.std.proofs.Common.{◌≡◌, ◌⊎◌, inl, inr, ◌*◌, ◌+◌, ◌<◌, ◌≤◌, ◌||◌, true, false, ℕ, List, [], length, set, slice_index, bit_or, refl, sym, ap, subst, ◌∙◌, arith}
+use Rattle.std.proofs.Common.{◌≡◌, ◌⊎◌, inl, inr, ◌*◌, ◌<◌, ◌≤◌, ◌||◌, true, false, ℕ, List, [], length, slice_index, bit_or, refl, sym, ap, subst, ◌∙◌, arith}
 use Rattle.std.proofs.Math.Bool.{or-false}
-use Rattle.std.proofs.lemmas.Bool.{cases_Bool, cases_eq, cases_lt, or_cases, or_left, or_right, false≢true}
-use Rattle.std.proofs.lemmas.List.{length-set, get_or-set_same, get_or-set_other, get_or_past}
+use Rattle.std.proofs.lemmas.Bool.{cases_Bool, cases_lt, or_cases, or_left, or_right, false≢true}
+use Rattle.std.proofs.lemmas.List.{length-set, get_or_past}
 use Rattle.go_board.specs.declared.stones.Cell.{Cell}
 use Rattle.go_board.specs.declared.stones.Cell.TheVariants.{Empty}
 use Rattle.go_board.specs.declared.stones.Colour.{Colour}
@@ -65,24 +65,6 @@ taken_away g p stone on all free =
 pub record AddedBelow (old rows : List ℕ) (row : ℕ) (new : List ℕ) : Type 0 where
   pub added : (r : ℕ) → r < row → slice_index new r ≡ bit_or (slice_index old r) (slice_index rows r)
   pub same : (r : ℕ) → row ≤ r → slice_index new r ≡ slice_index old r
-
-pub added_none : (old rows : List ℕ) → AddedBelow old rows 0 old
-added_none old rows = record { added = λ r below. absurd (omega (arith, below)); same = λ r above. refl }
-
-pub added_more : (old rows new : List ℕ) (row : ℕ) → row < length new → AddedBelow old rows row new → AddedBelow old rows (row + 1) (set new row (bit_or (slice_index new row) (slice_index rows row)))
-added_more old rows new row within so_far =
-    let word = bit_or (slice_index new row) (slice_index rows row) in
-    record {
-      added = λ r below.
-          elim (cases_eq r row) [
-            | inl e ↦
-                ap (λ n. slice_index (set new row word) n) e ∙ get_or-set_same new row word 0 within
-                ∙ ap (λ w. bit_or w (slice_index rows row)) (so_far.same row (omega arith))
-                ∙ ap (λ n. bit_or (slice_index old n) (slice_index rows n)) (sym e)
-            | inr other ↦ get_or-set_other new row r word 0 other ∙ so_far.added r (omega (arith, below, other))
-          ];
-      same = λ r above. get_or-set_other new row r word 0 (omega (arith, above)) ∙ so_far.same r (omega (arith, above));
-    }
 
 pub added_all : (old rows new : List ℕ) → AddedBelow old rows (length rows) new → (p : Point) → is_set new p ≡ (is_set old p || is_set rows p)
 added_all old rows new each p =

@@ -11,7 +11,7 @@ mod search;
 pub(crate) mod stone_rows;
 
 use crate::board::regions::{count_apart, no_rows, with_column};
-use crate::board::stone_rows::StoneRows;
+use crate::board::stone_rows::{cell_in, with_columns};
 use crate::points::Point;
 use crate::size::{MAX_POINTS, MAX_ROWS, Size};
 use crate::stones::{Cell, Colour};
@@ -21,8 +21,10 @@ use std::marker::Model;
 #[derive(Drop)]
 pub struct Board {
     size: Size,
-    /// The stones, as rows of words.
-    rows: StoneRows,
+    /// The points with a black stone: a word for each row, with a bit for each column.
+    black: [u64; MAX_ROWS],
+    /// The points with a white stone.
+    white: [u64; MAX_ROWS],
     /// Whether every stone is known to reach empty. This is known after a
     /// move. A colouring from outside can have a stone that doesn't.
     settled: bool,
@@ -36,10 +38,10 @@ impl Model for Board {
 
     ghost Value = { Grid };
 
-    ghost view = { λ b. grid_with b.size b.rows };
+    ghost view = { λ b. grid_with b.size b.black b.white };
 
-    ghost invariant = { λ b. AreStones (grid_with b.size b.rows) b.rows
-        × (IsTrue b.settled → has_unreaching (grid_with b.size b.rows) ≡ false) };
+    ghost invariant = { λ b. AreStones b.size b.black b.white
+        × (IsTrue b.settled → has_unreaching (grid_with b.size b.black b.white) ≡ false) };
 }
 
 impl Board {
@@ -64,7 +66,8 @@ impl Board {
         prove!(usize::from(size.side()) <= MAX_ROWS);
         Board {
             size,
-            rows: StoneRows::none(),
+            black: no_rows(),
+            white: no_rows(),
             settled: true,
         }
     }
@@ -90,7 +93,8 @@ impl Board {
         requires { IsOn self.now.side point }
         ensures { result ≡ cell_at self.now point }
     {
-        self.rows.at(point)
+        let row = usize::from(point.row);
+        cell_in(self.black[row], self.white[row], usize::from(point.col))
     }
 
     /// The columns of a row with a stone of a colour, a bit for each.
@@ -100,10 +104,7 @@ impl Board {
             ≡ same_cell (cell_at self.now (record { col = col; row = row })) (stone_of colour) }
         ensures off { (col : ℕ) → IsTrue (has_bit result col) → col < self.now.side }
     {
-        match colour {
-            Colour::Black => self.rows.black[usize::from(row)],
-            Colour::White => self.rows.white[usize::from(row)],
-        }
+        self.rows_of(colour)[usize::from(row)]
     }
 
     /// Changes what stands on one point, and on no other. The point must be on the board. Nothing is cleared.
@@ -122,7 +123,9 @@ impl Board {
         requires columns { (col : ℕ) → IsTrue (has_bit columns col) → col < self.old.side }
         ensures { self.new ≡ with_columns self.old row columns cell }
     {
-        self.rows.colour(usize::from(row), columns, cell);
+        let row = usize::from(row);
+        self.black[row] = with_columns(self.black[row], columns, cell, Cell::Black);
+        self.white[row] = with_columns(self.white[row], columns, cell, Cell::White);
         self.settled = false;
     }
 
@@ -130,7 +133,11 @@ impl Board {
     pub fn same(&self, other: &Board) -> bool
         ensures { IsTrue result ↔ (self.now ≡ other.now) }
     {
-        self.size == other.size && self.rows.same(&other.rows, self.size)
+        if self.size != other.size {
+            return false;
+        }
+        let side = usize::from(self.size.side());
+        self.black[..side] == other.black[..side] && self.white[..side] == other.white[..side]
     }
 
     /// Whether a row is the same as on another board of the same size.
@@ -141,8 +148,7 @@ impl Board {
             → cell_at self.now (record { col = col; row = row }) ≡ cell_at other.now (record { col = col; row = row }) }
     {
         let row = usize::from(row);
-        self.rows.black[row] == other.rows.black[row]
-            && self.rows.white[row] == other.rows.white[row]
+        self.black[row] == other.black[row] && self.white[row] == other.white[row]
     }
 
     /// A board with the same side and the same colouring.
@@ -151,7 +157,8 @@ impl Board {
     {
         Board {
             size: self.size,
-            rows: self.rows,
+            black: self.black,
+            white: self.white,
             settled: self.settled,
         }
     }
@@ -217,7 +224,8 @@ impl Board {
         let (mut black_words, mut white_words) = (no_rows(), no_rows());
         let black = &mut black_words[..side];
         let white = &mut white_words[..side];
-        self.areas(black, white);
+        self.area_of(Colour::Black, black);
+        self.area_of(Colour::White, white);
         (count_apart(black, white), count_apart(white, black))
     }
 

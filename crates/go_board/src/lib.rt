@@ -23,7 +23,7 @@
 //! | `vertices` | points as the Go Text Protocol writes them |
 //! | `marks`, `steps` | a set of points of a board; a count of work |
 //! | `board` | the board: reading, setting, moves, score |
-//! | `board/stone_rows` | the stones of a board as rows of bits |
+//! | `board/stone_rows` | the stones of a row as bits |
 //! | `board/flood`, `board/search` | the flood that counts its steps, and its worklist |
 //! | `board/regions`, `board/fill` | sets of points as rows of bits; filling them: the score, whether all stones reach empty |
 //! | `board/group`, `board/capture` | the group of a stone, by rows of bits; what a stone takes off, as rows |

@@ -43,13 +43,6 @@ impl Marks {
         }
     }
 
-    /// The size of the board.
-    pub(crate) fn size(&self) -> Size
-        ensures { result ≡ self.now.side }
-    {
-        self.size
-    }
-
     /// Marks a point.
     pub(crate) fn mark(&mut self, point: Point)
         requires { IsOn self.old.side point }

@@ -1,9 +1,8 @@
 -- Sets of a board's points by what stands on them, as rows of words.
-use Rattle.std.specs.Prelude.{◌≡◌, ◌==◌, ◌*◌, ◌<◌, ◌≤◌, ℕ, length, take, Bool, not, ◌&&◌, ◌||◌, IsTrue, if◌then◌else◌, List, count_by}
+use Rattle.std.specs.Prelude.{◌≡◌, ◌==◌, ◌<◌, ◌≤◌, ℕ, length, Bool, false, not, ◌&&◌, ◌||◌, IsTrue, if◌then◌else◌, List, count_by}
 use Rattle.go_board.specs.declared.stones.Cell.{Cell}
 use Rattle.go_board.specs.declared.stones.Cell.TheVariants.{Black, White, Empty}
 use Rattle.go_board.specs.declared.size.TheConstants.{MAX_ROWS}
-use Rattle.go_board.specs.declared.board.stone_rows.StoneRows.{StoneRows}
 use Rattle.go_board.specs.declared.points.Point.{Point}
 use Rattle.go_board.specs.Colour.{same_cell}
 use Rattle.go_board.specs.Point.{IsOn, points}
@@ -21,23 +20,22 @@ pub record AreRowsOf (side : ℕ) (test : Point → Bool) (rows : List ℕ) : Ty
   pub on : (point : Point) → IsOn side point → is_set rows point ≡ test point
   pub off : (point : Point) → IsTrue (is_set rows point) → IsOn side point
 
--- what stands on a point, by the rows of the stones
-abbrev pub stone_in : StoneRows → Point → Cell
-stone_in rows point =
-    if is_set rows.black point then Black else (if is_set rows.white point then White else Empty)
+-- what stands on a point, by the rows of the black stones and those of the white ones
+abbrev pub stone_in : List ℕ → List ℕ → Point → Cell
+stone_in black white point = if is_set black point then Black else (if is_set white point then White else Empty)
 
 -- the grid of that side with the stones of some rows
-abbrev pub grid_with : ℕ → StoneRows → Grid
-grid_with side rows = grid_of side (stone_in rows)
+abbrev pub grid_with : ℕ → List ℕ → List ℕ → Grid
+grid_with side black white = grid_of side (stone_in black white)
 
--- the rows are those of the grid's stones, and there are enough of them
-pub record AreStones (grid : Grid) (rows : StoneRows) : Type 0 where
-  pub all : length grid.cells ≡ grid.side * grid.side
-  pub few : grid.side ≤ MAX_ROWS
-  pub black_rows : length rows.black ≡ MAX_ROWS
-  pub white_rows : length rows.white ≡ MAX_ROWS
-  pub black : AreRowsOf grid.side (λ point. same_cell (cell_at grid point) Black) (take grid.side rows.black)
-  pub white : AreRowsOf grid.side (λ point. same_cell (cell_at grid point) White) (take grid.side rows.white)
+-- the rows have stones of a board of that side alone, and no point has two; there are as many rows as the largest board has
+pub record AreStones (side : ℕ) (black white : List ℕ) : Type 0 where
+  pub few : side ≤ MAX_ROWS
+  pub black_rows : length black ≡ MAX_ROWS
+  pub white_rows : length white ≡ MAX_ROWS
+  pub black_on : (point : Point) → IsTrue (is_set black point) → IsOn side point
+  pub white_on : (point : Point) → IsTrue (is_set white point) → IsOn side point
+  pub apart : (point : Point) → IsTrue (is_set black point) → is_set white point ≡ false
 
 -- the grid with the cell on the points of a row that are in a set of columns
 unfoldable pub with_columns : Grid → ℕ → ℕ → Cell → Grid

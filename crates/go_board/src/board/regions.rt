@@ -2,7 +2,7 @@
 
 ghost use Rattle.std.specs.Prelude.{◌≡◌, ◌≢◌, ◌↔◌, false, ℕ, ◌<◌, ◌≤◌, ◌||◌, IsTrue, not, length, replicate};
 ghost use Rattle.go_board.specs.declared.points.Point.{Point};
-ghost use Rattle.go_board.specs.declared.stones.Cell.TheVariants.{Black, White, Empty};
+ghost use Rattle.go_board.specs.declared.stones.Cell.TheVariants.{Empty};
 ghost use Rattle.go_board.specs.Point.{IsOn};
 ghost use Rattle.go_board.specs.Colour.{same_cell, stone_of};
 ghost use Rattle.go_board.specs.Grid.{cell_at};
@@ -17,25 +17,17 @@ use crate::size::MAX_ROWS;
 use crate::stones::Colour;
 
 impl Board {
-    /// Writes the black points, and the empty points that reach black, to `black`. Does the same for white.
-    pub(crate) fn areas(&self, black: &mut [u64], white: &mut [u64])
-        requires black { length black.old ≡ self.now.side }
-        requires white { length white.old ≡ self.now.side }
-        ensures black { AreRowsOf self.now.side (reaches_through_own self.now Empty Black) black.new }
-        ensures white { AreRowsOf self.now.side (reaches_through_own self.now Empty White) white.new }
-        ensures black_rows { length black.new ≡ self.now.side }
-        ensures white_rows { length white.new ≡ self.now.side }
+    /// Writes to `area` the points of a colour, and the empty points that reach it.
+    pub(crate) fn area_of(&self, colour: Colour, area: &mut [u64])
+        requires { length area.old ≡ self.now.side }
+        ensures are { AreRowsOf self.now.side (reaches_through_own self.now Empty (stone_of colour)) area.new }
+        ensures rows { length area.new ≡ self.now.side }
     {
-        let (mut black_words, mut white_words) = (no_rows(), no_rows());
-        let side = usize::from(self.size().side());
-        let black_room = &mut black_words[..side];
-        let white_room = &mut white_words[..side];
-        black.copy_from_slice(self.rows_of(Colour::Black));
-        white.copy_from_slice(self.rows_of(Colour::White));
-        other_points(white, black_room);
-        other_points(black, white_room);
-        fill(black, black_room);
-        fill(white, white_room);
+        let mut words = no_rows();
+        let room = &mut words[..usize::from(self.size().side())];
+        area.copy_from_slice(self.rows_of(colour));
+        other_points(self.rows_of(colour.opponent()), room);
+        fill(area, room);
     }
 
     /// The points with a stone of a colour.
@@ -45,8 +37,8 @@ impl Board {
     {
         let side = usize::from(self.size.side());
         match colour {
-            Colour::Black => &self.rows.black[..side],
-            Colour::White => &self.rows.white[..side],
+            Colour::Black => &self.black[..side],
+            Colour::White => &self.white[..side],
         }
     }
 

@@ -1,24 +1,38 @@
-use Rattle.std.proofs.Common.{◌+◌, ◌∙◌, nat_le, sym, subst, arith}
-use Rattle.go_board.proofs.AreaLemmas.{IsColouredTo, coloured_none, coloured_more, coloured_all}
+use Rattle.std.proofs.Common.{◌∙◌, nat_le, sym, ap, arith}
 use Rattle.std.proofs.lemmas.Bool.{and_parts, leb-true}
+use Rattle.go_board.specs.Grid.{Grid}
+use Rattle.go_board.specs.State.{is_in, with_area}
+use Rattle.go_board.specs.inner.Regions.{with_columns}
+use Rattle.go_board.proofs.AreaLemmas.{area_columns, area_rows}
+use Rattle.go_board.proofs.SweepLemmas.{painted_none, painted_more, painted_all}
 use Rattle.go_board.proofs.board.Board.colour_area.Goals as goal
 
 pub rows-init : goal.rows-init
-rows-init c = coloured_none c.args.op c.args.self.now c.has_all_cells.ensures.all
+rows-init c =
+    sym (painted_none c.args.self.now (is_in c.args.op.area) c.args.op.cell _ c.has_all_cells.ensures.all (λ p is. (area_rows c.args.op.area p is).0))
 
 pub colour_columns-requires-clause-row : goal.colour_columns-requires-clause-row
-colour_columns-requires-clause-row c = omega (arith, c.rows-test.true, c.requires.1, c.rows.invariant.same_side)
+colour_columns-requires-clause-row c = omega (arith, c.rows-test.true, c.requires.1, ap (λ (g : Grid). g.side) c.rows.invariant)
 
 pub colour_columns-requires-clause-columns : goal.colour_columns-requires-clause-columns
 colour_columns-requires-clause-columns c = λ k is.
     let area = c.args.op.area in
     let both = and_parts (nat_le area.first.col k) (nat_le k area.last.col) (sym (c.columns_between-columns.ensures k) ∙ is) in
-    omega (arith, leb-true k area.last.col both.1, c.requires.1, c.rows.invariant.same_side)
+    omega (arith, leb-true k area.last.col both.1, c.requires.1, ap (λ (g : Grid). g.side) c.rows.invariant)
 
 pub rows-preserved : goal.rows-preserved
 rows-preserved c =
-    subst (λ g. IsColouredTo c.args.op (c.rows.row + 1) c.args.self.now g) (sym c.colour_columns.ensures)
-    (coloured_more c.args.op c.rows.row c.columns_between-columns.result c.args.self.now c.rows.self c.columns_between-columns.ensures (omega arith) c.rows.invariant)
+    let op = c.args.op in
+    let columns = c.columns_between-columns.result in
+    c.colour_columns.ensures
+    ∙ ap (λ g. with_columns g c.rows.row columns op.cell) c.rows.invariant
+    ∙ painted_more c.args.self.now (is_in op.area) op.cell c.rows.row columns
+    (λ p at. area_columns op.area columns p c.columns_between-columns.ensures (omega (arith, at)) (omega (arith, at)))
 
 pub returns : goal.returns
-returns c = coloured_all c.args.op c.rows.row c.args.self.now c.rows.self c.rows.invariant (omega (arith, c.requires.3))
+unfolding with_area
+returns c =
+    let op = c.args.op in
+    c.rows.invariant
+    ∙ painted_all c.args.self.now (is_in op.area) op.cell c.rows.row
+    (λ p is. let rows = area_rows op.area p is in omega (arith, rows, c.rows-test.false))

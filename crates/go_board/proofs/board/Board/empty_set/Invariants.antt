@@ -1,6 +1,8 @@
-use Rattle.go_board.specs.inner.Groups.{IsWithout}
-use Rattle.go_board.proofs.SweepLemmas.{InRowsBefore}
+use Rattle.std.proofs.Common.{◌≡◌}
+use Rattle.go_board.specs.declared.stones.Cell.TheVariants.{Empty}
+use Rattle.go_board.specs.inner.Rows.{is_set}
+use Rattle.go_board.proofs.SweepLemmas.{painted}
 use Rattle.go_board.proofs.board.Board.empty_set.Given as goal
 
 abbrev pub invariant-rows : goal.invariant-rows
-invariant-rows l = IsWithout l.initial.self l.self (InRowsBefore l.rows l.row)
+invariant-rows l = l.self ≡ painted l.initial.self (is_set l.rows) Empty l.row

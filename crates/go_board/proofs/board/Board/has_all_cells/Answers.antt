@@ -5,7 +5,7 @@ use Rattle.go_board.proofs.board.Board.has_all_cells.Goals as goal
 
 pub returns : goal.returns
 returns c = record {
-  all = all_cells c.self.inside.size c.self.inside.rows c.args.self.now c.self.view_is;
+  all = all_cells c.self.inside.size c.self.inside.black c.self.inside.white c.args.self.now c.self.view_is;
   few = subst (λ (g : Grid). g.side ≤ 52) c.self.view_is c.self.invariant.0.few;
   few_points = subst (λ (g : Grid). g.side * g.side ≤ 2704) c.self.view_is (omega (arith, c.points.ensures.value, c.points.ensures.at_most));
 }

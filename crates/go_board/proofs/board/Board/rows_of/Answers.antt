@@ -2,21 +2,21 @@ use Rattle.std.proofs.Common.{◌≤◌, length, ◌∙◌, arith}
 use Rattle.go_board.specs.declared.stones.Cell.TheVariants.{Black as BlackCell, White as WhiteCell}
 use Rattle.go_board.specs.declared.stones.Colour.TheVariants.{Black, White}
 use Rattle.go_board.proofs.StoneGroupLemmas.{rows_of_colour}
-use Rattle.go_board.proofs.StoneRowsLemmas.{rows_front}
+use Rattle.go_board.proofs.StoneRowsLemmas.{rows_front, black_front, white_front}
 use Rattle.go_board.proofs.board.Board.rows_of.Goals as goal
 
 pub returns-in-Black : goal.returns-in-Black
 returns-in-Black c =
     let g = c.args.self.now in
     let are = c.self.invariant.0 in
-    let long : c.self.inside.size ≤ length c.self.inside.rows.black = omega (arith, are.few, are.black_rows) in
-    let front = rows_front g _ c.self.inside.rows.black c.from-side.result BlackCell c.self.view_is (c.from-side.ensures ∙ c.side.ensures.value) long are.black in
+    let long : c.self.inside.size ≤ length c.self.inside.black = omega (arith, are.few, are.black_rows) in
+    let front = rows_front g _ c.self.inside.black c.from-side.result BlackCell c.self.view_is (c.from-side.ensures ∙ c.side.ensures.value) long (black_front _ _ _ are) in
     record { are = rows_of_colour g Black c.args.colour _ c.in-Black.is front.0; rows = front.1 }
 
 pub returns-in-White : goal.returns-in-White
 returns-in-White c =
     let g = c.args.self.now in
     let are = c.self.invariant.0 in
-    let long : c.self.inside.size ≤ length c.self.inside.rows.white = omega (arith, are.few, are.white_rows) in
-    let front = rows_front g _ c.self.inside.rows.white c.from-side.result WhiteCell c.self.view_is (c.from-side.ensures ∙ c.side.ensures.value) long are.white in
+    let long : c.self.inside.size ≤ length c.self.inside.white = omega (arith, are.few, are.white_rows) in
+    let front = rows_front g _ c.self.inside.white c.from-side.result WhiteCell c.self.view_is (c.from-side.ensures ∙ c.side.ensures.value) long (white_front _ _ _ are) in
     record { are = rows_of_colour g White c.args.colour _ c.in-White.is front.0; rows = front.1 }

@@ -1,22 +1,33 @@
-use Rattle.std.proofs.Common.{◌≡◌, refl, sym, ap, ◌∙◌}
-use Rattle.std.proofs.lemmas.Bool.{false≢true}
+use Rattle.std.proofs.Common.{not, sym, ap, ◌∙◌}
+use Rattle.std.proofs.lemmas.Bool.{false≢true, not-false}
 use Rattle.std.proofs.lemmas.Bool.Decides.{Decides-eqb}
+use Rattle.std.proofs.lemmas.Slice.Eq.{slice_eq-Decides}
 use Rattle.go_board.specs.Grid.{Grid}
-use Rattle.go_board.specs.inner.Regions.{grid_with}
+use Rattle.go_board.proofs.StoneRowsLemmas.{same_rows}
 use Rattle.go_board.proofs.board.Board.same.Goals as goal
+
+pub returns-then-ne : goal.returns-then-ne
+returns-then-ne c = (
+  λ is. absurd (false≢true is),
+  λ e.
+      let sizes = ap (λ (g : Grid). g.side) (c.self.view_is ∙ e ∙ sym c.other.view_is) in
+      sym (c.ne.ensures ∙ ap not ((Decides-eqb c.self.inside.size c.other.inside.size).1 sizes)) ∙ c.if-ne.true,
+)
 
 pub returns-then-eq : goal.returns-then-eq
 returns-then-eq c =
     let i = c.self.inside in
     let o = c.other.inside in
-    let sizes : i.size ≡ o.size = (Decides-eqb i.size o.size).0 (sym c.eq.ensures ∙ c.if-eq.true) in
-    let is = c.same.ensures (grid_with i.size i.rows) (grid_with o.size o.rows) refl (sym sizes) c.self.invariant.0 c.other.invariant.0 in
-    (λ same. sym c.self.view_is ∙ is.0 same ∙ c.other.view_is, λ e. is.1 (c.self.view_is ∙ e ∙ sym c.other.view_is))
+    let sizes = (Decides-eqb i.size o.size).0 (not-false _ (sym c.ne.ensures ∙ c.if-ne.false)) in
+    let same = same_rows c.from-side.result i.size o.size i.black i.white o.black o.white _ _ (c.from-side.ensures ∙ c.side.ensures.value) sizes c.self.view_is c.other.view_is c.self.invariant.0 c.other.invariant.0 in
+    let blacks = (slice_eq-Decides Decides-eqb _ _ c.eq.result c.eq.ensures).0 c.if-eq.true in
+    let whites = slice_eq-Decides Decides-eqb _ _ c.eq-then-eq.result c.eq-then-eq.ensures in
+    (λ is. same.0 (blacks, whites.0 is), λ e. whites.1 (same.1 e).1)
 
 pub returns-else-eq : goal.returns-else-eq
 returns-else-eq c =
-    let sizes : c.args.self.now ≡ c.args.other.now → c.self.inside.size ≡ c.other.inside.size =
-    λ e. ap (λ (g : Grid). g.side) (c.self.view_is ∙ e ∙ sym c.other.view_is) in (
-      λ is. absurd (false≢true (sym c.if-eq.false ∙ is)),
-      λ e. c.eq.ensures ∙ (Decides-eqb _ _).1 (sizes e),
-    )
+    let i = c.self.inside in
+    let o = c.other.inside in
+    let sizes = (Decides-eqb i.size o.size).0 (not-false _ (sym c.ne.ensures ∙ c.if-ne.false)) in
+    let same = same_rows c.from-side.result i.size o.size i.black i.white o.black o.white _ _ (c.from-side.ensures ∙ c.side.ensures.value) sizes c.self.view_is c.other.view_is c.self.invariant.0 c.other.invariant.0 in
+    (λ is. absurd (false≢true (sym c.if-eq.false ∙ is)), λ e. (slice_eq-Decides Decides-eqb _ _ c.eq.result c.eq.ensures).1 (same.1 e).0)

@@ -6,16 +6,16 @@ use Rattle.go_board.proofs.board.Board.score.Goals as goal
 
 pub returns-clause-black : goal.returns-clause-black
 returns-clause-black c =
-    let black = c.areas.new.black in
-    let white = c.areas.new.white in
+    let black = c.area_of.new.area in
+    let white = c.area_of-2.new.area in
     c.count_apart.ensures
-    ∙ ap (λ n. count_apart n black white) c.areas.ensures.black_rows
-    ∙ score_by_rows c.args.self.now Black black white c.areas.ensures.black c.areas.ensures.white
+    ∙ ap (λ n. count_apart n black white) c.area_of.ensures.rows
+    ∙ score_by_rows c.args.self.now Black black white c.area_of.ensures.are c.area_of-2.ensures.are
 
 pub returns-clause-white : goal.returns-clause-white
 returns-clause-white c =
-    let black = c.areas.new.black in
-    let white = c.areas.new.white in
+    let black = c.area_of.new.area in
+    let white = c.area_of-2.new.area in
     c.count_apart-2.ensures
-    ∙ ap (λ n. count_apart n white black) c.areas.ensures.white_rows
-    ∙ score_by_rows c.args.self.now White white black c.areas.ensures.white c.areas.ensures.black
+    ∙ ap (λ n. count_apart n white black) c.area_of-2.ensures.rows
+    ∙ score_by_rows c.args.self.now White white black c.area_of-2.ensures.are c.area_of.ensures.are

@@ -1,16 +1,16 @@
-use Rattle.std.proofs.Common.{◌<◌, ◌^◌, ◌∙◌, get_or, arith, rules}
-use Rattle.go_board.proofs.RegionLemmas.{left_more, IsDifference-all}
+use Rattle.std.proofs.Common.{◌≡◌, ◌∙◌, slice_index, bit_and, w64, refl, arith, rules}
+use Rattle.std.specs.Int.{bit_not}
+use Rattle.go_board.proofs.RegionLemmas.{written_more, IsDifference-all}
 use Rattle.go_board.proofs.board.regions.difference.Goals as goal
 
 pub loop-row-preserved : goal.loop-row-preserved
 loop-row-preserved c =
     let l = c.loop-row in
-    let others = c.args.others.now in
-    let low : get_or others l.row 0 < 2 ^ 64 = search rules in
-    left_more c.args.rows.now others l.left l.row (omega (arith, c.loop-row-test.true, l.auto.left, c.requires.left)) low l.invariant
+    written_more (λ r w. w ≡ bit_and (slice_index c.args.rows.now r) (bit_not w64 (slice_index c.args.others.now r))) l.left l.row _
+    (omega (arith, c.loop-row-test.true, l.auto.left, c.requires.left)) l.invariant refl
 
 pub returns : goal.returns
 returns c =
     let l = c.loop-row in
-    IsDifference-all c.args.rows.now c.args.others.now l.left (l.auto.left ∙ c.requires.left)
+    IsDifference-all c.args.rows.now c.args.others.now l.left (l.auto.left ∙ c.requires.left) (search rules)
     (λ r below. l.invariant r (omega (arith, below, c.loop-row-test.false)))

@@ -1,11 +1,12 @@
-use Rattle.std.proofs.Common.{◌∙◌, length, arith}
-use Rattle.go_board.proofs.RegionLemmas.{others_more, AreRowsOf-others}
+use Rattle.std.proofs.Common.{◌∙◌, length, slice_index, arith}
+use Rattle.go_board.proofs.RegionLemmas.{AreOthers, written_more, AreRowsOf-others}
 use Rattle.go_board.proofs.board.regions.other_points.Goals as goal
 
 pub loop-row-preserved : goal.loop-row-preserved
 loop-row-preserved c =
     let l = c.loop-row in
-    others_more (length c.args.rows.now) c.args.rows.now l.others l.row c.other_columns.result (omega (arith, c.loop-row-test.true, l.auto.others, c.requires.same)) l.invariant c.other_columns.ensures.within c.other_columns.ensures.off
+    written_more (λ r w. AreOthers (length c.args.rows.now) (slice_index c.args.rows.now r) w) l.others l.row _
+    (omega (arith, c.loop-row-test.true, l.auto.others, c.requires.same)) l.invariant (c.other_columns.ensures.within, c.other_columns.ensures.off)
 
 pub returns : goal.returns
 returns c =

@@ -1,5 +1,6 @@
-use Rattle.go_board.proofs.RegionLemmas.{OthersBelow}
+use Rattle.std.proofs.Common.{ℕ, ◌<◌, slice_index}
+use Rattle.go_board.proofs.RegionLemmas.{AreOthers}
 use Rattle.go_board.proofs.board.regions.other_points.Given as goal
 
 abbrev pub invariant-loop-row : goal.invariant-loop-row
-invariant-loop-row l = OthersBelow l.side l.rows l.row l.others
+invariant-loop-row l = (r : ℕ) → r < l.row → AreOthers l.side (slice_index l.rows r) (slice_index l.others r)
