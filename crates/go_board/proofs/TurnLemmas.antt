@@ -63,8 +63,7 @@ Decides-must_move : (player : Option Colour) (k : Colour) → Decides (must_move
 Decides-must_move None k = (λ t. absurd (false≢true t), λ e. absurd (cc))
 Decides-must_move (Some Black) Black = (λ _. refl, λ _. refl)
 Decides-must_move (Some White) White = (λ _. refl, λ _. refl)
-Decides-must_move (Some Black) White = (λ h. absurd (false≢true h), λ h. absurd (cc))
-Decides-must_move (Some White) Black = (λ h. absurd (false≢true h), λ h. absurd (cc))
+Decides-must_move _ _ = (λ h. absurd (false≢true h), λ h. absurd (cc))
 
 Decides-occupied : (s : State) (k : Colour) (x : Play) → Decides (is_occupied s x) (Forbids s k x Occupied)
 Decides-occupied s k Pass = (λ t. absurd (false≢true t), λ h. absurd h)
@@ -80,10 +79,7 @@ never_before s k x Mixed h f = f
 never_before s k x TwoMoves h f = f
 never_before s k x BadSetup h f = f
 never_before s k x BadPoint h f = f
-never_before s k x Over h f = absurd (omega arith)
-never_before s k x Turn h f = absurd (omega arith)
-never_before s k x Occupied h f = absurd (omega arith)
-never_before s k x Repeat h f = absurd (omega arith)
+never_before s k x _ h f = absurd (omega arith)
 
 -- the reason of a rank
 abbrev reason_at : ℕ → Reason
@@ -92,13 +88,11 @@ reason_at n =
 
 at_its_rank : (q : Reason) → reason_at (rank_of q) ≡ q
 at_its_rank Mixed = refl
-at_its_rank TwoMoves = refl
-at_its_rank BadSetup = refl
-at_its_rank BadPoint = refl
-at_its_rank Over = refl
-at_its_rank Turn = refl
-at_its_rank Occupied = refl
-at_its_rank Repeat = refl
+at_its_rank _ = refl
+
+rank_below : (q : Reason) → rank_of q < 8
+rank_below Mixed = omega arith
+rank_below _ = omega arith
 
 module _ (s : State) (k : Colour) (x : Play) where
   none_up_to : (n : ℕ) → (¬ Forbids s k x (reason_at n)) → ((q : Reason) → rank_of q < n → ¬ Forbids s k x q) → (q : Reason) → rank_of q < n + 1 → ¬ Forbids s k x q
@@ -154,6 +148,19 @@ module _ (s : State) (k : Colour) (x : Play) where
         none_is_some : None ≡ Some r → ⊥
         none_is_some h = absurd (cc)
 
+    all_false : (c1 c2 c3 c4 : Bool) → cond c1 (Some Over) (cond c2 (Some Turn) (cond c3 (Some Occupied) (cond c4 (Some Repeat) None))) ≡ None → (c1 ≡ false) × (c2 ≡ false) × (c3 ≡ false) × (c4 ≡ false)
+    all_false false false false false e = (refl, refl, refl, refl)
+    all_false _ _ _ _ e = absurd (cc)
+
+    none_by_tests : cond b1 (Some Over) (cond b2 (Some Turn) (cond b3 (Some Occupied) (cond b4 (Some Repeat) None))) ≡ None ↔ ((q : Reason) → ¬ Forbids s k x q)
+    none_by_tests = (
+      λ e q.
+          let none = all_false b1 b2 b3 b4 e in
+          none_up_to 7 (not_from_Decides b4 repeat none.3) (none_before_repeat none.0 none.1 none.2) q (rank_below q),
+      λ none.
+          rw (false_from_Decides b1 over (none Over), false_from_Decides b2 turn (none Turn), false_from_Decides b3 occupied (none Occupied), false_from_Decides b4 repeat (none Repeat)) refl,
+    )
+
 -- the first reason that the tests name is the first that holds
 pub first_reason : (s : State) (k : Colour) (x : Play) (r : Reason) → (reason_of s k x ≡ Some r) ↔ IsFirstReason s k x r
 first_reason s k x r =
@@ -162,6 +169,11 @@ first_reason s k x r =
     let occupied = Decides-occupied s k x in
     let repeat = Decides-repeat s k x in
     (first_by_tests s k x _ _ _ _ over turn occupied repeat r, named_by_tests s k x _ _ _ _ over turn occupied repeat r)
+
+-- and they name none exactly if none holds
+pub no_reason : (s : State) (k : Colour) (x : Play) → (reason_of s k x ≡ None) ↔ ((r : Reason) → ¬ Forbids s k x r)
+no_reason s k x =
+    none_by_tests s k x _ _ _ _ (Decides-eqb s.passes 2) (Decides-must_move s.player (opponent k)) (Decides-occupied s k x) (Decides-repeat s k x)
 
 -- setups and turns leave the side
 pub side-set_up : (s : State) (ops : List SetupOp) (player : Option Colour) → (set_up s ops player).colouring.side ≡ s.colouring.side

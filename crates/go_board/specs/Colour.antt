@@ -20,9 +20,4 @@ abbrev pub same_cell : Cell → Cell → Bool
 same_cell Black Black = true
 same_cell White White = true
 same_cell Empty Empty = true
-same_cell Black White = false
-same_cell Black Empty = false
-same_cell White Black = false
-same_cell White Empty = false
-same_cell Empty Black = false
-same_cell Empty White = false
+same_cell _ _ = false

@@ -25,12 +25,7 @@ Forbids state colour turn Over = state.passes ≡ 2
 Forbids state colour turn Turn = state.player ≡ Some (opponent colour)
 Forbids state colour (Stone point) Occupied = cell_at state.colouring point ≢ Empty
 Forbids state colour (Stone point) Repeat = Contains state.seen (play state.colouring colour point)
-Forbids state colour Pass Occupied = ⊥
-Forbids state colour Pass Repeat = ⊥
-Forbids state colour turn Mixed = ⊥
-Forbids state colour turn TwoMoves = ⊥
-Forbids state colour turn BadSetup = ⊥
-Forbids state colour turn BadPoint = ⊥
+Forbids state colour _ _ = ⊥
 
 -- the rank of a reason in the order of checking
 abbrev pub rank_of : Reason → ℕ

@@ -1,6 +1,6 @@
 //! What the words of the contracts mean. Each function here does nothing: its contract is a law, and is proved.
 
-ghost use Rattle.std.specs.Prelude.{◌≡◌, ◌≢◌, ◌≤◌, ◌*◌, ◌↔◌, ◌∷◌, if◌then◌else◌, IsTrue, ℕ, List, Option, Some, false, length, map, slice_get};
+ghost use Rattle.std.specs.Prelude.{◌≡◌, ◌≢◌, ◌≤◌, ◌*◌, ◌↔◌, ◌∷◌, if◌then◌else◌, IsTrue, ℕ, List, Option, Some, None, false, length, map, slice_get};
 ghost use Rattle.go_board.specs.declared.stones.Cell.{Cell};
 ghost use Rattle.go_board.specs.declared.stones.Cell.TheVariants.{Empty};
 ghost use Rattle.go_board.specs.declared.stones.Colour.{Colour};
@@ -10,6 +10,7 @@ ghost use Rattle.go_board.specs.declared.reason.Reason.TheVariants.{Repeat};
 ghost use Rattle.go_board.specs.declared.referee.plays.Play.{Play};
 ghost use Rattle.go_board.specs.declared.referee.plays.Play.TheVariants.{Stone};
 ghost use Rattle.go_board.specs.declared.referee.plays.SetupOp.{SetupOp};
+ghost use Rattle.go_board.specs.declared.vertices.TheConstants.{MAX_VERTEX_SIDE};
 ghost use Rattle.go_board.specs.Colour.{stone_of};
 ghost use Rattle.go_board.specs.Point.{IsOn, index_of, points};
 ghost use Rattle.go_board.specs.Grid.{Grid, cell_at, with_cell};
@@ -89,14 +90,16 @@ pub fn moving()
 
 /// Different points have different vertices.
 pub fn naming()
-    ensures { (side : ℕ) (point other : Point) → side ≤ 25 → IsOn side point → IsOn side other
+    ensures { (side : ℕ) (point other : Point) → side ≤ MAX_VERTEX_SIDE → IsOn side point → IsOn side other
         → vertex_of point side ≡ vertex_of other side → point ≡ other }
 {}
 
-/// `reason_of` returns exactly the first reason, in the order of checking, that holds of a turn.
+/// `reason_of` returns exactly the first reason, in the order of checking, that holds of a turn, and none exactly if none holds.
 pub fn reasons()
-    ensures { (state : State) (colour : Colour) (turn : Play) (reason : Reason)
+    ensures first { (state : State) (colour : Colour) (turn : Play) (reason : Reason)
         → ((reason_of state colour turn ≡ Some reason) ↔ IsFirstReason state colour turn reason) }
+    ensures none { (state : State) (colour : Colour) (turn : Play)
+        → ((reason_of state colour turn ≡ None) ↔ ((reason : Reason) → ¬ Forbids state colour turn reason)) }
 {}
 
 /// A stone that stays on its point can repeat a colouring of the stretch only if that point was emptied in the stretch.

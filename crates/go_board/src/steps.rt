@@ -5,7 +5,7 @@ ghost use Rattle.std.specs.Prelude.{◌≡◌, ◌+◌, ◌<◌};
 use std::marker::Model;
 
 /// A count of steps. A step of a flood is one point taken off its worklist.
-#[derive(Drop)]
+#[derive(Clone, Copy, Debug, PartialEq, Eq)]
 pub struct Steps {
     count: u64,
 }
@@ -16,6 +16,8 @@ impl Model for Steps {
     ghost Value = { ℕ };
 
     ghost view = { λ s. s.count };
+
+    ghost inverse = { λ count. record { count = count } };
 }
 
 impl Steps {
