@@ -11,9 +11,6 @@ pub rows-init : goal.rows-init
 rows-init c =
     sym (painted_none c.args.self.now (is_in c.args.op.area) c.args.op.cell _ c.has_all_cells.ensures.all (λ p is. (area_rows c.args.op.area p is).0))
 
-pub colour_columns-requires-clause-row : goal.colour_columns-requires-clause-row
-colour_columns-requires-clause-row c = omega (arith, c.rows-test.true, c.requires.1, ap (λ (g : Grid). g.side) c.rows.invariant)
-
 pub colour_columns-requires-clause-columns : goal.colour_columns-requires-clause-columns
 colour_columns-requires-clause-columns c = λ k is.
     let area = c.args.op.area in

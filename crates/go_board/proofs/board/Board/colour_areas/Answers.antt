@@ -1,9 +1,6 @@
 use Rattle.go_board.proofs.AreaLemmas.{areas_more}
 use Rattle.go_board.proofs.board.Board.colour_areas.Goals as goal
 
-pub colour_area-requires : goal.colour_area-requires
-colour_area-requires c = rw c.loop-op.invariant.0 (c.requires c.loop-op.op-index _ c.loop-op-test.true)
-
 pub loop-op-preserved : goal.loop-op-preserved
 loop-op-preserved c =
     areas_more _ _ _ _ _ _ c.loop-op-test.true c.colour_area.ensures c.loop-op.invariant.0 c.loop-op.invariant.1

@@ -11,9 +11,6 @@ use Rattle.go_board.proofs.board.Board.empty_set.Goals.{then-columns-ne0, else-c
 pub rows-init : goal.rows-init
 rows-init c = sym (painted_none c.args.self.now (is_set c.args.rows.now) Empty 0 c.has_all_cells.ensures.all (λ p is. omega arith))
 
-pub colour_columns-requires-clause-row : goal.colour_columns-requires-clause-row
-colour_columns-requires-clause-row c = omega (arith, c.rows-test.true, c.requires.few, ap (λ (g : Grid). g.side) c.rows.invariant)
-
 pub colour_columns-requires-clause-columns : goal.colour_columns-requires-clause-columns
 colour_columns-requires-clause-columns c = λ k is.
     omega (arith, (c.requires.on_board (record { col = k; row = c.rows.row }) is).0, ap (λ (g : Grid). g.side) c.rows.invariant)

@@ -3,9 +3,6 @@ use Rattle.go_board.proofs.StoneGroupLemmas.{rows_of_opponent}
 use Rattle.go_board.proofs.LibertyLemmas.{Grows-first, IsClosed-full, shut_left}
 use Rattle.go_board.proofs.board.Board.shut_stones.Goals as goal
 
-pub fill-requires-clause-within : goal.fill-requires-clause-within
-fill-requires-clause-within c = λ p is. (c.stones_with_liberty.ensures.from p is).0
-
 pub returns-then-is_none-clause-shut : goal.returns-then-is_none-clause-shut
 returns-then-is_none-clause-shut c =
     let g = c.args.self.now in

@@ -1,9 +1,6 @@
 use Rattle.go_board.proofs.FillLemmas.{IsClosed-all}
 use Rattle.go_board.proofs.board.fill.fill.Goals as goal
 
-pub rows-init : goal.rows-init
-rows-init c = c.grow_down-waiting.ensures
-
 pub rows-preserved : goal.rows-preserved
 rows-preserved c = c.grow_lowest-left.ensures.filled c.args.rows.now c.rows.invariant
 

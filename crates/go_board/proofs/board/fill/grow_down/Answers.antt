@@ -15,13 +15,6 @@ rows-init c = record {
   closed = λ r below. absurd (omega (arith, below));
 }
 
-pub grow_row-requires : goal.grow_row-requires
-grow_row-requires c = record {
-  same = c.rows.invariant.all;
-  row = omega (arith, c.rows-test.true, c.rows.invariant.all, c.requires.same);
-  within = c.rows.invariant.grows.within;
-}
-
 pub rows-preserved : goal.rows-preserved
 rows-preserved c =
     let room = c.args.room.now in
@@ -48,13 +41,3 @@ rows-preserved c =
           (filled_to_more room first rows next c.rows.waiting c.rows.waiting row within was long grown.grows grown.closed grown.others
           (λ r is. is) (λ r is. inl is) (λ r before. absurd (omega (arith, before, w.if-row-gt0.false))))
     ]
-
-pub returns : goal.returns
-returns c =
-    let l = c.rows in
-    record {
-      all = l.invariant.all;
-      grows = l.invariant.grows;
-      rows_in = l.invariant.rows_in;
-      closed = λ r below none. l.invariant.closed r (omega (arith, below, c.rows-test.false, l.invariant.all)) none;
-    }

@@ -45,18 +45,9 @@ returns-then-rows-row-clause-less c =
     let same : lacking c.grow_row.new.rows ≡ lacking c.args.rows.now = ap lacking (c.grow_row.ensures.unchanged c.if-rows-row.true) in
     omega (arith, fewer, same)
 
-pub returns-then-rows-row-clause-wait : goal.returns-then-rows-row-clause-wait
-returns-then-rows-row-clause-wait c = λ r other is. c.without_column-left.ensures.elsewhere r other ∙ is
-
 pub returns-clause-filled : goal.returns-clause-filled
 returns-clause-filled c = λ first was.
     let long : length c.grow_row.new.rows ≡ length c.args.rows.now = search rules in
     let after = c.with_rows_lacking in
     filled_more c.args.room.now first c.args.rows.now c.grow_row.new.rows c.args.waiting c.without_column-left.result (trailing_zeros w64 c.args.waiting) was c.without_column-left.ensures.there c.without_column-left.ensures.elsewhere long c.grow_row.ensures.grows c.grow_row.ensures.closed
     after.result c.grow_row.ensures.others after.ensures.kept after.ensures.from after.ensures.taken
-
-pub returns-clause-less : goal.returns-clause-less
-returns-clause-less c = omega (arith, c.grow_row.ensures.fuller c.if-rows-row.false)
-
-pub returns-clause-wait : goal.returns-clause-wait
-returns-clause-wait c = λ r other is. c.with_rows_lacking.ensures.kept r (c.without_column-left.ensures.elsewhere r other ∙ is)
