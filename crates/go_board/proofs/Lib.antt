@@ -30,6 +30,7 @@ pub mod RepeatLemmas
 pub mod PrintLemmas
 pub mod PrintPastLemmas
 pub mod ChangesLemmas
+pub mod ColumnLemmas
 pub mod ColouringsLemmas
 pub mod TableLemmas
 pub mod StoneRowsLemmas
