@@ -1,9 +1,10 @@
 //! What a stone takes off, as rows of bits: the groups beside it that it leaves without a liberty, or its own.
 
-ghost use Rattle.std.specs.Prelude.{◌≡◌, ◌||◌, ◌≤◌, false, length};
+ghost use Rattle.std.specs.Prelude.{◌≡◌, ◌↔◌, ◌||◌, ◌≤◌, IsTrue, false, length};
 ghost use Rattle.go_board.specs.declared.points.Point.{Point};
 ghost use Rattle.go_board.specs.declared.stones.Cell.TheVariants.{Empty};
 ghost use Rattle.go_board.specs.Point.{IsOn};
+ghost use Rattle.go_board.specs.Colour.{stone_of};
 ghost use Rattle.go_board.specs.Grid.{cell_at};
 ghost use Rattle.go_board.specs.Clearing.{play, has_unreaching};
 ghost use Rattle.go_board.specs.inner.Groups.{AreShutGroups, IsTakenOrReaches, AreTakenOrReachBeside, TakesOff};
@@ -48,7 +49,10 @@ impl Board {
         self.has_all_cells();
         let beside = point.neighbours();
         for at in beside {
-            self.find_shut(colour, at, shut);
+            // a call costs more than this test, and most of these points have no such stone
+            if self.has_stone(colour, at) {
+                self.find_shut(colour, at, shut);
+            }
         }
     }
 
@@ -61,7 +65,7 @@ impl Board {
         ensures beside { IsOn self.now.side point → IsTakenOrReaches self.now colour shut.new point }
     {
         self.has_all_cells();
-        if !point.is_on(self.size) || self.at(point) != colour.stone() {
+        if !self.has_stone(colour, point) {
             return;
         }
         let mut words = no_rows();
@@ -72,6 +76,13 @@ impl Board {
             return;
         }
         add_points(group, shut);
+    }
+
+    /// Whether a point is on the board and has a stone of a colour.
+    fn has_stone(&self, colour: Colour, point: Point) -> bool
+        ensures { IsTrue result ↔ (IsOn self.now.side point × (cell_at self.now point ≡ stone_of colour)) }
+    {
+        point.is_on(self.size()) && self.at(point) == colour.stone()
     }
 
     /// Places a stone; `taken` is what it takes off. After that every stone reaches empty.

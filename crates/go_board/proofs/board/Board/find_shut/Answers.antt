@@ -1,8 +1,5 @@
-use Rattle.std.proofs.Common.{◌≡◌, inl, inr, length, subst, ◌∙◌, rules}
+use Rattle.std.proofs.Common.{◌≡◌, inl, inr, length, ◌∙◌, rules}
 use Rattle.std.proofs.lemmas.Bool.{or_right}
-use Rattle.go_board.specs.Colour.{stone_of}
-use Rattle.go_board.specs.Point.{IsOn}
-use Rattle.go_board.specs.Grid.{cell_at}
 use Rattle.go_board.proofs.GridLemmas.{Decides-same_cell}
 use Rattle.go_board.proofs.LinkedLemmas.{none_in_front}
 use Rattle.go_board.proofs.StoneGroupLemmas.{rows_of_opponent, Reaches-liberty, IsWithoutLiberty-shut}
@@ -14,9 +11,8 @@ has_liberty-requires-clause-none c = λ p. none_in_front c.from.result 52 c.no_r
 
 pub has_liberty-requires-clause-stone : goal.has_liberty-requires-clause-stone
 has_liberty-requires-clause-stone c =
-    let on = subst (λ g. IsOn g.side c.args.point) c.self.view_is (c.is_on.ensures.0 (search rules)) in
-    let stone : cell_at c.args.self.now c.args.point ≡ stone_of c.args.colour = search rules in
-    c.rows_of-own.ensures.are.on c.args.point on ∙ (Decides-same_cell _ _).1 stone
+    let has = c.has_stone.ensures.0 (search rules) in
+    c.rows_of-own.ensures.are.on c.args.point has.0 ∙ (Decides-same_cell _ _).1 has.1
 
 -- the group lives
 pub returns-then-has_liberty-clause-beside : goal.returns-then-has_liberty-clause-beside

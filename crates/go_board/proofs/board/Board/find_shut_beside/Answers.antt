@@ -1,23 +1,44 @@
-use Rattle.std.proofs.Common.{inl, inr, sym, subst, arith}
+use Rattle.std.proofs.Common.{◌≡◌, ◌∙◌, inl, inr, sym, subst, arith}
 use Rattle.std.specs.List.{Contains}
 use Rattle.std.proofs.lemmas.List.{take_all}
 use Rattle.go_board.specs.Point.{IsOn}
 use Rattle.go_board.specs.inner.Groups.{IsTakenOrReaches}
+use Rattle.std.proofs.lemmas.Bool.{false≢true}
+use Rattle.go_board.specs.declared.points.Point.{Point}
+use Rattle.go_board.specs.Colour.{stone_of}
+use Rattle.go_board.specs.Grid.{cell_at}
 use Rattle.go_board.proofs.PointLemmas.{Contains-take_more}
 use Rattle.go_board.proofs.TakenLemmas.{taken_still}
 use Rattle.go_board.proofs.board.Board.find_shut_beside.Goals as goal
+use Rattle.go_board.proofs.board.Board.find_shut_beside.Goals.{then-has_stone, else-has_stone}
 
 pub loop-at-preserved : goal.loop-at-preserved
-loop-at-preserved c = record {
-  shut = c.find_shut.ensures.shut;
-  beside = λ q among on.
-      elim ((Contains-take_more c.neighbours-beside.result c.loop-at.at-index q (omega arith)).0 among) [
-        | inl before ↦ taken_still _ _ _ _ q c.find_shut.ensures.kept (c.loop-at.invariant.beside q before on)
-        | inr is ↦
-            subst (IsTakenOrReaches c.args.self.now c.args.colour c.find_shut.new.shut) (sym is)
-            (c.find_shut.ensures.beside (subst (IsOn c.args.self.now.side) is on))
-      ];
-}
+loop-at-preserved c =
+    let g = c.args.self.now in
+    let k = c.args.colour in
+    let turn = λ (q : Point). Contains-take_more c.neighbours-beside.result c.loop-at.at-index q (omega arith) in
+    elim c.if-has_stone.branch [
+      | then-has_stone w ↦
+          rw w.shut-is
+          (record {
+            shut = w.find_shut.ensures.shut;
+            beside = λ q among on.
+                elim ((turn q).0 among) [
+                  | inl before ↦ taken_still g k _ _ q w.find_shut.ensures.kept (c.loop-at.invariant.beside q before on)
+                  | inr is ↦ subst (IsTakenOrReaches g k w.find_shut.new.shut) (sym is) (w.find_shut.ensures.beside (subst (IsOn g.side) is on))
+                ];
+          })
+      | else-has_stone w ↦
+          rw w.shut-is
+          (record {
+            shut = c.loop-at.invariant.shut;
+            beside = λ q among on stone.
+                elim ((turn q).0 among) [
+                  | inl before ↦ c.loop-at.invariant.beside q before on stone
+                  | inr is ↦ absurd (false≢true (sym w.if-has_stone.false ∙ c.has_stone.ensures.1 (subst (λ p. IsOn g.side p × (cell_at g p ≡ stone_of k)) is (on, stone))))
+                ];
+          })
+    ]
 
 pub returns-clause-beside : goal.returns-clause-beside
 returns-clause-beside c = λ q on next.
