@@ -1,6 +1,7 @@
 -- A property with one value, as the code tells it.
-use Rattle.std.proofs.Common.{◌≡◌, ◌≢◌, ℕ, ◌+◌, ◌-◌, ◌<◌, Bool, false, IsTrue, List, length, get_or, refl, arith}
-use Rattle.std.proofs.lemmas.Bool.{or_left}
+use Rattle.std.proofs.Common.{◌≡◌, ◌≢◌, ℕ, ◌+◌, ◌<◌, Bool, false, IsTrue, List, length, get_or, refl, arith}
+use Rattle.std.proofs.Math.Dec.{eqb}
+use Rattle.std.proofs.lemmas.Bool.{or_left, eqb-true, eq-eqb}
 use Rattle.sgf_tree.specs.Spelling.{is_white_space, is_upper, is_lower}
 use Rattle.sgf_tree.specs.inner.NodeText.{is_letter, AreWritten}
 use Rattle.sgf_tree.specs.inner.Progress.{IsSpan, IsBracket, IsValueEnd, IsTwoPlain}
@@ -15,7 +16,7 @@ use Rattle.sgf_tree.proofs.WrittenParts.{values-none, values-one, property-one, 
 module _ (t : List ℕ) (start bracket close next : ℕ) where
   pub short-property : start < length t → IsTrue (is_upper (get_or t start 0)) → IsSpan is_letter t start bracket → IsSpan is_upper t start bracket
       → IsBracket t bracket → IsValueEnd t (bracket + 1) close → IsSpan is_white_space t (close + 1) next → (next < length t → get_or t next 0 ≢ 91)
-      → IsWholePropertyRead t start (record { end = next; left_out = next - (close + 1) })
+      → IsWholePropertyRead t start (record { end = next; as_written = eqb next (close + 1) })
   short-property lt capital letters capitals stands value white other =
       let name = name-read t start bracket bracket lt capital letters (bracket-here t bracket stands) stands in
       let values = values-done t bracket next (values-step t bracket bracket close next (values-begin t bracket) value white) other in
@@ -28,9 +29,8 @@ module _ (t : List ℕ) (start bracket close next : ℕ) where
           reached = λ n h. let after = name.reached n h in values.reached n after.0 after.1;
         };
         written = λ is.
-            let same : next ≡ close + 1 = omega (arith, white.rises, is) in
+            let same : next ≡ close + 1 = eqb-true next (close + 1) is in
             property-one t start bracket next next capitals (rw same alone) (λ e. omega (arith, name.rises)) (λ e. omega (arith, values.rises)) (span-done white) other;
-        few = omega (arith, name.rises, value.rises, white.rises);
       }
 
 -- the lone property of a node, with a name of one letter and a value of two plain bytes
@@ -52,7 +52,7 @@ module _ (t : List ℕ) (at : ℕ) (capital : IsTrue (is_upper (get_or t at 0)))
       rw (two, four)
       (units-ended t (at + 2) (at + 2 + 2) (plain-units t (at + 2) (at + 2) (at + 2 + 2) (no-units t (at + 2)) pair.plain) pair.within pair.bracket)
 
-  lone-whole : IsWholePropertyRead t at (record { end = at + 5; left_out = at + 5 - (at + 4 + 1) })
+  lone-whole : IsWholePropertyRead t at (record { end = at + 5; as_written = eqb (at + 5) (at + 4 + 1) })
   lone-whole =
       let five : at + 4 + 1 ≡ at + 5 = omega arith in
       short-property t at (at + 1) (at + 4) (at + 5) (omega arith) capital (lone-name is_letter (or_left (is_upper (get_or t at 0)) (is_lower (get_or t at 0)) capital) refl)
@@ -65,4 +65,4 @@ module _ (t : List ℕ) (at : ℕ) (capital : IsTrue (is_upper (get_or t at 0)))
       properties-done t at (at + 5) (properties-more t at at (at + 5) begun (omega arith) capital lone-whole.property) (λ lt. between-not_upper (get_or t (at + 5) 0) below)
 
   pub lone-written : AreWritten t at (at + 5)
-  lone-written = written-more t at at (at + 5) (written-none t at (omega arith)) (lone-whole.written (omega arith))
+  lone-written = written-more t at at (at + 5) (written-none t at (omega arith)) (lone-whole.written (eq-eqb (at + 5) (at + 4 + 1) (omega arith)))

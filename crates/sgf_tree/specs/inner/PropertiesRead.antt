@@ -1,5 +1,5 @@
 -- How the properties of a node were read: words of the contracts in `reader::properties`.
-use Rattle.std.specs.Prelude.{◌≡◌, ◌≢◌, ℕ, ◌+◌, ◌<◌, ◌≤◌, false, List, [], ◌∷◌, length, slice_index, None}
+use Rattle.std.specs.Prelude.{◌≡◌, ◌≢◌, ℕ, ◌+◌, ◌<◌, ◌≤◌, false, IsTrue, List, [], ◌∷◌, length, slice_index, None}
 use Rattle.sgf_tree.specs.Bytes.{open_bracket}
 use Rattle.sgf_tree.specs.Tree.{Property}
 use Rattle.sgf_tree.specs.Spelling.{is_white_space}
@@ -39,8 +39,7 @@ pub record IsPropertyRead (text : List ℕ) (start end : ℕ) : Type 0 where
 -- the same, as the code tells it: how far it was read, and whether the sgf form writes it as it stands
 pub record IsWholePropertyRead (text : List ℕ) (start : ℕ) (read : PartRead) : Type 0 where
   pub property : IsPropertyRead text start read.end
-  pub written : read.left_out ≡ 0 → IsPropertyWritten text start read.end
-  pub few : start + read.left_out ≤ read.end
+  pub written : IsTrue read.as_written → IsPropertyWritten text start read.end
 
 -- a node was read up to `end`; only what may come after a node may come next
 pub record StandsAfterNode (text : List ℕ) (end : ℕ) (whole : Started) : Type 0 where

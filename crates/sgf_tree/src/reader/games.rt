@@ -1,6 +1,6 @@
 //! Reading nodes and games.
 
-ghost use Rattle.std.specs.Prelude.{◌≡◌, ◌<◌, ◌≤◌, ◌+◌, ℕ, [], length, IfOk, IfErr, OnOk};
+ghost use Rattle.std.specs.Prelude.{◌≡◌, ◌<◌, ◌≤◌, ◌+◌, ℕ, [], length, IsTrue, IfOk, IfErr, OnOk};
 ghost use Rattle.sgf_tree.specs.Tree.{no_games, game_count};
 ghost use Rattle.sgf_tree.specs.inner.Machine.{Stack};
 ghost use Rattle.sgf_tree.specs.inner.Progress.{IsTrueFault};
@@ -98,8 +98,10 @@ fn read_sequence(
     }
     let mut read = read_node(text, place, link, nodes, long)?;
     'nodes: while read.end < text.len() && text[read.end] == b';' {
-        let beside = read.left_out == 0;
-        read = read_node(text, read.end, Link::Next { beside }, nodes, long)?;
+        let link = Link::Next {
+            beside: read.as_written,
+        };
+        read = read_node(text, read.end, link, nodes, long)?;
     }
     Ok(read.end)
 }
@@ -118,7 +120,7 @@ fn read_node(
     requires room { length nodes.old.items ≤ place }
     requires kept { AreKeptEnds text.now long.old.items }
     ensures read { IfOk result (λ read. IsNodeRead text.now place read.end link nodes.old.items nodes.new.items) }
-    ensures written { IfOk result (λ read. read.left_out ≡ 0 → AreWritten text.now (place + 1) read.end) }
+    ensures written { IfOk result (λ read. IsTrue read.as_written → AreWritten text.now (place + 1) read.end) }
     ensures fault { IfErr result (IsFaultInNode text.now (place + 1)) }
     ensures kept { OnOk result (AreKeptEnds text.now long.new.items) }
 {
@@ -126,12 +128,12 @@ fn read_node(
     let read = if ends_at_once(text, at) {
         PartRead {
             end: at,
-            left_out: 0,
+            as_written: true,
         }
     } else if is_lone_property(text, at) {
         PartRead {
             end: at + 5,
-            left_out: 0,
+            as_written: true,
         }
     } else {
         read_properties(text, at, long)?

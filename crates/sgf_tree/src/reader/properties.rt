@@ -1,6 +1,6 @@
 //! Reading the properties of a node.
 
-ghost use Rattle.std.specs.Prelude.{◌≡◌, ◌<◌, ◌≤◌, ◌+◌, length, slice_index, IsTrue, IfSome, IfOk, IfErr, OnOk};
+ghost use Rattle.std.specs.Prelude.{◌≡◌, false, ◌<◌, ◌≤◌, ◌+◌, length, slice_index, IsTrue, IfSome, IfOk, IfErr, OnOk};
 ghost use Rattle.sgf_tree.specs.Spelling.{is_upper};
 ghost use Rattle.sgf_tree.specs.inner.Progress.{IsSpan};
 ghost use Rattle.sgf_tree.specs.inner.NodeText.{AreWritten};
@@ -55,8 +55,8 @@ pub(crate) fn is_lone_property(text: &[u8], at: usize) -> bool
 pub(crate) struct PartRead {
     /// The offset of the byte after it and the white space there.
     pub end: usize,
-    /// 0 only if the sgf form writes the part as it stands in the text. Any other number says nothing.
-    pub left_out: usize,
+    /// Whether the sgf form writes the part as it stands in the text. False says nothing.
+    pub as_written: bool,
 }
 
 /// Reads the properties of a node, which begin at `at` or after white space there.
@@ -70,18 +70,18 @@ pub(crate) fn read_properties(
     requires within { at ≤ length text.now }
     requires kept { AreKeptEnds text.now long.old.items }
     ensures read { IfOk result (λ read. ArePropertiesRead text.now at read.end) }
-    ensures written { IfOk result (λ read. read.left_out ≡ 0 → AreWritten text.now at read.end) }
+    ensures written { IfOk result (λ read. IsTrue read.as_written → AreWritten text.now at read.end) }
     ensures fault { IfErr result (IsFaultInNode text.now at) }
     ensures kept { OnOk result (AreKeptEnds text.now long.new.items) }
 {
     let mut end = skip_white_space(text, at);
-    let mut left_out = end - at;
+    let mut as_written = end == at;
     'properties: while end < text.len() && text[end].is_ascii_uppercase() {
         let property = read_property(text, end, long)?;
-        left_out += property.left_out;
+        as_written = as_written & property.as_written;
         end = property.end;
     }
-    Ok(PartRead { end, left_out })
+    Ok(PartRead { end, as_written })
 }
 
 /// Reads the property whose identifier begins at `start`.
@@ -123,7 +123,7 @@ fn read_short_property(text: &[u8], start: usize) -> Option<PartRead>
     if next < text.len() && text[next] != b'[' {
         Some(PartRead {
             end: next,
-            left_out: next - end,
+            as_written: next == end,
         })
     } else {
         None
@@ -147,13 +147,16 @@ fn read_far_property(
 {
     let name = read_name(text, start)?;
     let mut at = name.end;
-    let mut left_out = name.left_out;
+    let mut as_written = name.as_written;
     'values: loop {
         let end = read_value(text, at + 1, long)? + 1;
         at = skip_white_space(text, end);
-        left_out += at - end;
+        as_written = as_written & (at == end);
         if at == text.len() || text[at] != b'[' {
-            return Ok(PartRead { end: at, left_out });
+            return Ok(PartRead {
+                end: at,
+                as_written,
+            });
         }
     }
 }
@@ -164,12 +167,14 @@ fn read_name(text: &[u8], start: usize) -> Result<PartRead, PartFault>
     requires within { start < length text.now }
     requires capital { IsTrue (is_upper (slice_index text.now start)) }
     ensures read { IfOk result (λ read. IsNameRead text.now start read.end) }
-    ensures written { IfOk result (λ read. read.left_out ≡ 0 → IsSpan is_upper text.now start read.end) }
-    ensures few { IfOk result (λ read. start + read.left_out ≤ read.end) }
+    ensures written { IfOk result (λ read. IsTrue read.as_written → IsSpan is_upper text.now start read.end) }
     ensures fault { IfErr result (IsFaultInProperty text.now start) }
 {
     match short_name_end(text, start) {
-        Some(end) => Ok(PartRead { end, left_out: 0 }),
+        Some(end) => Ok(PartRead {
+            end,
+            as_written: true,
+        }),
         None => read_far_name(text, start),
     }
 }
@@ -180,12 +185,15 @@ fn read_far_name(text: &[u8], start: usize) -> Result<PartRead, PartFault>
     requires within { start < length text.now }
     requires capital { IsTrue (is_upper (slice_index text.now start)) }
     ensures read { IfOk result (λ read. IsNameRead text.now start read.end) }
-    ensures written { IfOk result (λ read. read.left_out ≡ 1) }
+    ensures written { IfOk result (λ read. read.as_written ≡ false) }
     ensures fault { IfErr result (IsFaultInProperty text.now start) }
 {
     let end = skip_white_space(text, letters_end(text, start));
     if end == text.len() || text[end] != b'[' {
         return Err(PartFault::NotSgf(end));
     }
-    Ok(PartRead { end, left_out: 1 })
+    Ok(PartRead {
+        end,
+        as_written: false,
+    })
 }

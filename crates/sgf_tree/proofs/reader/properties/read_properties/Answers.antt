@@ -1,4 +1,5 @@
 use Rattle.std.proofs.Common.{◌≡◌, ◌∙◌, sym, arith}
+use Rattle.std.proofs.lemmas.Bool.{and_parts, eqb-true}
 use Rattle.std.proofs.lemmas.Result.{err_from_is_err_and}
 use Rattle.sgf_tree.proofs.NodeEnds.{node-name, properties-begin, properties-more, properties-done}
 use Rattle.sgf_tree.proofs.WrittenParts.{written-none, written-more}
@@ -8,9 +9,8 @@ pub properties-init : goal.properties-init
 properties-init c = record {
   so_far = properties-begin c.args.text.now c.args.at c.skip_white_space-end.result c.skip_white_space-end.ensures;
   written = λ is.
-      let same : c.skip_white_space-end.result ≡ c.args.at = omega (arith, is, c.skip_white_space-end.ensures.rises) in
+      let same : c.skip_white_space-end.result ≡ c.args.at = eqb-true c.skip_white_space-end.result c.args.at is in
       rw same (written-none c.args.text.now c.args.at c.requires.within);
-  few = omega arith;
   kept = c.requires.kept;
 }
 
@@ -27,8 +27,8 @@ properties-preserved c =
     record {
       so_far = properties-more c.args.text.now c.args.at c.properties.end c.in_ok-property.property.end c.properties.invariant.so_far c.properties-test.true capital c.in_ok-property.ensures.read.property;
       written = λ is.
-          written-more c.args.text.now c.args.at c.properties.end c.in_ok-property.property.end (c.properties.invariant.written (omega (arith, is))) (c.in_ok-property.ensures.read.written (omega (arith, is)));
-      few = omega (arith, c.properties.invariant.few, c.in_ok-property.ensures.read.few);
+          let (before, last) = and_parts c.properties.as_written c.in_ok-property.property.as_written is in
+          written-more c.args.text.now c.args.at c.properties.end c.in_ok-property.property.end (c.properties.invariant.written before) (c.in_ok-property.ensures.read.written last);
       kept = c.in_ok-property.ensures.kept;
     }
 
@@ -39,6 +39,3 @@ returns-else-is_ascii_uppercase-clause-read c =
 pub returns-after-properties-clause-read : goal.returns-after-properties-clause-read
 returns-after-properties-clause-read c =
     properties-done c.args.text.now c.args.at c.properties.end c.properties.invariant.so_far (λ lt. absurd (omega (arith, c.properties-test.false)))
-
-pub overflow_add-left_out : goal.overflow_add-left_out
-overflow_add-left_out c = omega (arith, c.properties.invariant.few, c.in_ok-property.ensures.read.few, c.in_ok-property.ensures.read.property.within, c.requires.short)
