@@ -13,7 +13,7 @@ ghost use Rattle.sgf_tree.specs.inner.GamesRead.{StandsBetween, IsNodeRead, Read
 use crate::fault::MAX_LENGTH;
 use crate::layout::{Link, LongValue, NodeEntry};
 use crate::reader::fault::PartFault;
-use crate::reader::properties::{PartRead, ends_at_once, is_lone_property, read_properties};
+use crate::reader::properties::{PartRead, glance, read_properties};
 use crate::reader::scan::skip_white_space;
 
 /// Reads all games; the first `(` may be at `at`. Returns the number of games.
@@ -125,18 +125,9 @@ fn read_node(
     ensures kept { OnOk result (AreKeptEnds text.now long.new.items) }
 {
     let at = place + 1;
-    let read = if ends_at_once(text, at) {
-        PartRead {
-            end: at,
-            as_written: true,
-        }
-    } else if is_lone_property(text, at) {
-        PartRead {
-            end: at + 5,
-            as_written: true,
-        }
-    } else {
-        read_properties(text, at, long)?
+    let read = match glance(text, at) {
+        Some(read) => read,
+        None => read_properties(text, at, long)?,
     };
     nodes.push(NodeEntry {
         place: place as u32,

@@ -1,8 +1,8 @@
 //! Reading the properties of a node.
 
-ghost use Rattle.std.specs.Prelude.{◌≡◌, false, ◌<◌, ◌≤◌, ◌+◌, length, slice_index, IsTrue, IfSome, IfOk, IfErr, OnOk};
+ghost use Rattle.std.specs.Prelude.{◌≡◌, false, ◌<◌, ◌≤◌, ◌+◌, ◌%◌, length, slice_index, IsTrue, IfSome, IfOk, IfErr, OnOk};
 ghost use Rattle.sgf_tree.specs.Spelling.{is_upper};
-ghost use Rattle.sgf_tree.specs.inner.Progress.{IsSpan};
+ghost use Rattle.sgf_tree.specs.inner.Progress.{IsSpan, IsMove, EndsNode};
 ghost use Rattle.sgf_tree.specs.inner.NodeText.{AreWritten};
 ghost use Rattle.sgf_tree.specs.inner.PropertiesRead.{IsNameRead, IsWholePropertyRead, ArePropertiesRead, IsFaultInProperty, IsFaultInNode};
 ghost use Rattle.sgf_tree.specs.inner.KeptEnds.{AreKeptEnds};
@@ -11,7 +11,8 @@ use crate::fault::MAX_LENGTH;
 use crate::layout::LongValue;
 use crate::reader::fault::PartFault;
 use crate::reader::scan::{letters_end, short_name_end, skip_white_space};
-use crate::reader::value::{is_two_plain, near_value_end, read_value};
+use crate::reader::value::{NEAR, near_value_end, read_value};
+use std::simd::prelude::*;
 
 /// The least number of bytes that must be left for a look at a short property: a letter or two, a `[`,
 /// the 16 bytes in which the `]` is searched, and the byte after it.
@@ -29,25 +30,71 @@ pub(crate) fn ends_at_once(text: &[u8], at: usize) -> bool
     false
 }
 
-/// Whether a node's properties, which begin at `at`, are a single one with a name of one letter and a value of two bytes, as in
-/// `B[pd]`, and the node ends at once after it. Most nodes are like that. It is inlined, so they are read
-/// without a call of `read_properties`. A false result says nothing.
+/// Reads at a glance the properties of a node, which begin at `at`: none, or a move and perhaps short properties, as in
+/// `B[pd]BL[921.325]`. Nearly all nodes are like that. None says nothing.
 #[inline(always)]
-pub(crate) fn is_lone_property(text: &[u8], at: usize) -> bool
+pub(crate) fn glance(text: &[u8], at: usize) -> Option<PartRead>
     requires { at ≤ length text.now }
-    ensures read { IsTrue result → ArePropertiesRead text.now at (at + 5) }
-    ensures written { IsTrue result → AreWritten text.now at (at + 5) }
+    ensures read { IfSome result (λ read. ArePropertiesRead text.now at read.end) }
+    ensures written { IfSome result (λ read. IsTrue read.as_written → AreWritten text.now at read.end) }
 {
-    if text.len() - at > 5
-        && text[at].is_ascii_uppercase()
-        && text[at + 1] == b'['
-        && is_two_plain(text, at + 2)
-        && b' ' < text[at + 5]
-        && text[at + 5] < b'A'
-    {
-        return true;
+    if text.len() - at < NEAR {
+        return None;
     }
-    false
+    if ends_at_once(text, at) {
+        return Some(PartRead {
+            end: at,
+            as_written: true,
+        });
+    }
+    let in_place = bytes_in_place(text, at);
+    if in_place % 64 == 63 {
+        return Some(PartRead {
+            end: at + 5,
+            as_written: true,
+        });
+    }
+    if in_place % 32 == 31 {
+        after_move(text, at)
+    } else {
+        None
+    }
+}
+
+/// Which of the bytes at `at` are as in `B[pd];`, all compared at once: bit 0 tells of a capital, bits 1 to 4 of a value of two plain
+/// bytes in its brackets, and bit 5 of a byte that ends a node.
+#[inline(always)]
+fn bytes_in_place(text: &[u8], at: usize) -> u64
+    requires { at + NEAR ≤ length text.now }
+    ensures move_stands { result % 32 ≡ 31 → IsMove text.now at }
+    ensures node_ends { result % 64 ≡ 63 → EndsNode text.now (at + 5) }
+{
+    // A byte is in place if it is at most so much above the least one. This wraps, so only `\` and `]` aren't plain.
+    let least = u8x16::from_array([b'A', b'[', 94, 94, b']', 33, 0, 0, 0, 0, 0, 0, 0, 0, 0, 0]);
+    let above = u8x16::from_array([25, 0, 253, 253, 0, 31, 0, 0, 0, 0, 0, 0, 0, 0, 0, 0]);
+    (u8x16::from_slice(&text[at..]) - least)
+        .simd_le(above)
+        .to_bitmask()
+}
+
+/// Reads the properties of a node that begin with a move at `at`, if those after it are short. None says nothing.
+#[inline(always)]
+fn after_move(text: &[u8], at: usize) -> Option<PartRead>
+    requires { IsMove text.now at }
+    ensures read { IfSome result (λ read. ArePropertiesRead text.now at read.end) }
+    ensures written { IfSome result (λ read. IsTrue read.as_written → AreWritten text.now at read.end) }
+{
+    let mut end = skip_white_space(text, at + 5);
+    let mut as_written = end == at + 5;
+    if end < text.len() && text[end] == b'[' {
+        return None;
+    }
+    'properties: while end < text.len() && text[end].is_ascii_uppercase() {
+        let property = read_short_property(text, end)?;
+        as_written = as_written & property.as_written;
+        end = property.end;
+    }
+    Some(PartRead { end, as_written })
 }
 
 /// How far a part of a text was read.
