@@ -124,32 +124,14 @@ pub(crate) fn read_properties(
     let mut end = skip_white_space(text, at);
     let mut as_written = end == at;
     'properties: while end < text.len() && text[end].is_ascii_uppercase() {
-        let property = read_property(text, end, long)?;
+        let property = match read_short_property(text, end) {
+            Some(property) => property,
+            None => read_far_property(text, end, long)?,
+        };
         as_written = as_written & property.as_written;
         end = property.end;
     }
     Ok(PartRead { end, as_written })
-}
-
-/// Reads the property whose identifier begins at `start`.
-#[inline(always)]
-fn read_property(
-    text: &[u8],
-    start: usize,
-    long: &mut Vec<LongValue>,
-) -> Result<PartRead, PartFault>
-    requires short { length text.now ≤ MAX_LENGTH }
-    requires within { start < length text.now }
-    requires capital { IsTrue (is_upper (slice_index text.now start)) }
-    requires kept { AreKeptEnds text.now long.old.items }
-    ensures read { IfOk result (IsWholePropertyRead text.now start) }
-    ensures fault { IfErr result (IsFaultInProperty text.now start) }
-    ensures kept { OnOk result (AreKeptEnds text.now long.new.items) }
-{
-    match read_short_property(text, start) {
-        Some(read) => Ok(read),
-        None => read_far_property(text, start, long),
-    }
 }
 
 /// Reads at a glance the property whose identifier begins at `start`, if it has a name of one or two letters

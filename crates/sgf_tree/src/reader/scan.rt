@@ -77,6 +77,7 @@ pub(crate) fn short_name_end(text: &[u8], at: usize) -> Option<usize>
     ensures letters { IfSome result (IsSpan is_letter text.now at) }
     ensures capitals { IfSome result (IsSpan is_upper text.now at) }
     ensures bracket { IfSome result (IsBracket text.now) }
+    ensures rises { IfSome result (λ end. at < end) }
     ensures near { IfSome result (λ end. end ≤ at + 2) }
 {
     if text.len() - at > 2 {
@@ -97,32 +98,6 @@ pub(crate) fn letters_end(text: &[u8], at: usize) -> usize
 {
     let mut end = at;
     'letters: while end < text.len() && text[end].is_ascii_alphabetic() {
-        end += 1;
-    }
-    end
-}
-
-/// The end of the capitals at `at`.
-pub(crate) fn capitals_end(text: &[u8], at: usize) -> usize
-    requires { at ≤ length text.now }
-    ensures { IsSpan is_upper text.now at result }
-{
-    if at == text.len() || !text[at].is_ascii_uppercase() {
-        return at;
-    }
-    match short_name_end(text, at) {
-        Some(end) => end,
-        None => far_capitals_end(text, at),
-    }
-}
-
-/// The same, found byte by byte.
-fn far_capitals_end(text: &[u8], at: usize) -> usize
-    requires { at ≤ length text.now }
-    ensures { IsSpan is_upper text.now at result }
-{
-    let mut end = at;
-    'capitals: while end < text.len() && text[end].is_ascii_uppercase() {
         end += 1;
     }
     end

@@ -3,7 +3,9 @@ use Rattle.std.proofs.lemmas.Bool.{and_parts, eqb-true}
 use Rattle.std.proofs.lemmas.Result.{err_from_is_err_and}
 use Rattle.sgf_tree.proofs.NodeEnds.{node-name, properties-begin, properties-more, properties-done}
 use Rattle.sgf_tree.proofs.WrittenParts.{written-none, written-more}
+use Rattle.sgf_tree.specs.inner.PropertiesRead.{IsWholePropertyRead}
 use Rattle.sgf_tree.proofs.reader.properties.read_properties.Goals as goal
+use Rattle.sgf_tree.proofs.reader.properties.read_properties.Goals.{in-Some, in-None+in_ok-property-in-None}
 
 pub properties-init : goal.properties-init
 properties-init c = record {
@@ -14,22 +16,32 @@ properties-init c = record {
   kept = c.requires.kept;
 }
 
-pub returns-in_err-property-clause-fault : goal.returns-in_err-property-clause-fault
-returns-in_err-property-clause-fault c =
+pub returns-in_err-property-in-None-clause-fault : goal.returns-in_err-property-in-None-clause-fault
+returns-in_err-property-in-None-clause-fault c =
     let p = err_from_is_err_and c.from_residual.result c.from_residual.ensures.1 in
     let capital = sym c.is_ascii_uppercase.ensures.value ∙ c.if-is_ascii_uppercase.true in
     rw (p.1, p.2)
-    (λ n none h. c.in_err-property.ensures.fault _ (node-name c.args.text.now c.properties.end _ (c.properties.invariant.so_far.reached n none h).1 c.properties-test.true capital))
+    (λ n none h. c.in_err-property-in-None.ensures.fault _ (node-name c.args.text.now c.properties.end _ (c.properties.invariant.so_far.reached n none h).1 c.properties-test.true capital))
 
 pub properties-preserved : goal.properties-preserved
 properties-preserved c =
+    let t = c.args.text.now in
+    let end = c.properties.end in
+    let property = c.match-read_short_property.property in
     let capital = sym c.is_ascii_uppercase.ensures.value ∙ c.if-is_ascii_uppercase.true in
+    let read : IsWholePropertyRead t end property = elim c.match-read_short_property.branch [
+      | in-Some w ↦ rw w.property-is w.in-Some.ensures
+      | in-None+in_ok-property-in-None w ↦ rw w.property-is w.in_ok-property-in-None.ensures.read
+    ] in
     record {
-      so_far = properties-more c.args.text.now c.args.at c.properties.end c.in_ok-property.property.end c.properties.invariant.so_far c.properties-test.true capital c.in_ok-property.ensures.read.property;
+      so_far = properties-more t c.args.at end property.end c.properties.invariant.so_far c.properties-test.true capital read.property;
       written = λ is.
-          let (before, last) = and_parts c.properties.as_written c.in_ok-property.property.as_written is in
-          written-more c.args.text.now c.args.at c.properties.end c.in_ok-property.property.end (c.properties.invariant.written before) (c.in_ok-property.ensures.read.written last);
-      kept = c.in_ok-property.ensures.kept;
+          let (before, last) = and_parts c.properties.as_written property.as_written is in
+          written-more t c.args.at end property.end (c.properties.invariant.written before) (read.written last);
+      kept = elim c.match-read_short_property.branch [
+        | in-Some w ↦ rw w.long-is c.properties.invariant.kept
+        | in-None+in_ok-property-in-None w ↦ rw w.long-is w.in_ok-property-in-None.ensures.kept
+      ];
     }
 
 pub returns-else-is_ascii_uppercase-clause-read : goal.returns-else-is_ascii_uppercase-clause-read
