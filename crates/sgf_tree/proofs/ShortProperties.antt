@@ -5,13 +5,23 @@ use Rattle.std.proofs.lemmas.Bool.{or_left, eqb-true, eq-eqb}
 use Rattle.sgf_tree.specs.Spelling.{is_white_space, is_upper, is_lower}
 use Rattle.sgf_tree.specs.inner.NodeText.{is_letter, AreWritten}
 use Rattle.sgf_tree.specs.inner.Progress.{IsSpan, IsBracket, IsValueEnd, IsMove, EndsNode}
-use Rattle.sgf_tree.specs.inner.PropertiesRead.{IsWholePropertyRead, ArePropertiesRead}
+use Rattle.sgf_tree.specs.inner.PropertiesRead.{IsNameRead, AreValuesRead, IsPropertyRead, IsWholePropertyRead, ArePropertiesRead}
 use Rattle.sgf_tree.proofs.Classes.{upper-range, between-not_upper}
 use Rattle.sgf_tree.proofs.NameEnds.{name-read, bracket-here}
 use Rattle.sgf_tree.proofs.NodeEnds.{PropertiesSoFar, nothing-skipped, properties-begin, properties-more, properties-done}
 use Rattle.sgf_tree.proofs.ValueUnits.{no-units, plain-units, units-ended}
 use Rattle.sgf_tree.proofs.ValuesRead.{values-begin, values-step, values-done}
 use Rattle.sgf_tree.proofs.WrittenParts.{values-none, values-one, property-one, span-done, written-none, written-more}
+
+-- a name and its values
+pub property-read : {t : List ℕ} {start bracket end : ℕ} → IsNameRead t start bracket → AreValuesRead t bracket end → IsPropertyRead t start end
+property-read name values =
+    record {
+      rises = omega (arith, values.rises, name.rises);
+      within = values.within;
+      stops = values.stops;
+      reached = λ n h. let after = name.reached n h in values.reached n after.0 after.1;
+    }
 
 module _ (t : List ℕ) (start bracket close next : ℕ) where
   pub short-property : start < length t → IsTrue (is_upper (get_or t start 0)) → IsSpan is_letter t start bracket → IsSpan is_upper t start bracket
@@ -22,12 +32,7 @@ module _ (t : List ℕ) (start bracket close next : ℕ) where
       let values = values-done t bracket next (values-step t bracket bracket close next (values-begin t bracket) value white) other in
       let alone = values-one t bracket bracket close (values-none t bracket (omega (arith, stands.within))) stands.within stands.bracket value.rises value.within value.bracket value.spelled in
       record {
-        property = record {
-          rises = omega (arith, values.rises, name.rises);
-          within = values.within;
-          stops = values.stops;
-          reached = λ n h. let after = name.reached n h in values.reached n after.0 after.1;
-        };
+        property = property-read name values;
         written = λ is.
             let same : next ≡ close + 1 = eqb-true next (close + 1) is in
             property-one t start bracket next next capitals (rw same alone) (λ e. omega (arith, name.rises)) (λ e. omega (arith, values.rises)) (span-done white) other;

@@ -18,18 +18,6 @@ use std::simd::prelude::*;
 /// the 16 bytes in which the `]` is searched, and the byte after it.
 const GLANCE: usize = 20;
 
-/// Whether the byte at `at` ends the node before any property, as a `;` or a parenthesis does. It is
-/// inlined, so such a node is read without a call. A false result says nothing.
-#[inline(always)]
-pub(crate) fn ends_at_once(text: &[u8], at: usize) -> bool
-    ensures { IsTrue result → ArePropertiesRead text.now at at }
-{
-    if at < text.len() && b' ' < text[at] && text[at] < b'A' {
-        return true;
-    }
-    false
-}
-
 /// Reads at a glance the properties of a node, which begin at `at`: none, or a move and perhaps short properties, as in
 /// `B[pd]BL[921.325]`. Nearly all nodes are like that. None says nothing.
 #[inline(always)]
@@ -41,7 +29,7 @@ pub(crate) fn glance(text: &[u8], at: usize) -> Option<PartRead>
     if text.len() - at < NEAR {
         return None;
     }
-    if ends_at_once(text, at) {
+    if b' ' < text[at] && text[at] < b'A' {
         return Some(PartRead {
             end: at,
             as_written: true,

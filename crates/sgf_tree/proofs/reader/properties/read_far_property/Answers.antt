@@ -5,6 +5,7 @@ use Rattle.std.proofs.lemmas.Result.{err_from_is_err_and}
 use Rattle.sgf_tree.specs.Spelling.{is_upper}
 use Rattle.sgf_tree.specs.inner.NodeText.{AreValuesWritten}
 use Rattle.sgf_tree.specs.inner.Progress.{IsSpan}
+use Rattle.sgf_tree.proofs.ShortProperties.{property-read}
 use Rattle.sgf_tree.proofs.ValuesRead.{ValuesBefore, values-begin, values-step, values-more, values-done}
 use Rattle.sgf_tree.proofs.WrittenParts.{values-none, values-one, property-one, span-done}
 use Rattle.sgf_tree.proofs.reader.properties.read_far_property.Goals as goal
@@ -58,12 +59,7 @@ returns-then-at-text-clause-read c =
     ] in
     let values = values-done t c.in_ok-name.name.end at (read step) other in
     record {
-      property = record {
-        rises = omega (arith, values.rises, name.rises);
-        within = values.within;
-        stops = values.stops;
-        reached = λ n h. let after = name.reached n h in values.reached n after.0 after.1;
-      };
+      property = property-read name values;
       written = λ is.
           let both = written step is in
           property-one t c.args.start c.in_ok-name.name.end at at both.0 both.1 (λ e. omega (arith, name.rises)) (λ e. omega (arith, values.rises)) (span-done c.skip_white_space-at.ensures) other;
