@@ -4,13 +4,13 @@ ghost use Rattle.std.specs.Prelude.{◌≡◌, false, ◌<◌, ◌≤◌, ◌+�
 ghost use Rattle.sgf_tree.specs.Spelling.{is_upper};
 ghost use Rattle.sgf_tree.specs.inner.Progress.{IsSpan, IsMove, EndsNode};
 ghost use Rattle.sgf_tree.specs.inner.NodeText.{AreWritten};
-ghost use Rattle.sgf_tree.specs.inner.PropertiesRead.{IsNameRead, IsWholePropertyRead, ArePropertiesRead, IsFaultInProperty, IsFaultInNode};
+ghost use Rattle.sgf_tree.specs.inner.PropertiesRead.{AreValuesEnded, IsNameRead, IsWholePropertyRead, ArePropertiesRead, IsFaultInProperty, IsFaultInNode};
 ghost use Rattle.sgf_tree.specs.inner.KeptEnds.{AreKeptEnds};
 
 use crate::fault::MAX_LENGTH;
 use crate::layout::LongValue;
 use crate::reader::fault::PartFault;
-use crate::reader::scan::{letters_end, short_name_end, skip_white_space};
+use crate::reader::scan::{letters_end, short_name_end, skip_white_space, white_space_end};
 use crate::reader::value::{NEAR, near_value_end, read_value};
 use std::simd::prelude::*;
 
@@ -72,11 +72,10 @@ fn after_move(text: &[u8], at: usize) -> Option<PartRead>
     ensures read { IfSome result (λ read. ArePropertiesRead text.now at read.end) }
     ensures written { IfSome result (λ read. IsTrue read.as_written → AreWritten text.now at read.end) }
 {
-    let mut end = skip_white_space(text, at + 5);
-    let mut as_written = end == at + 5;
-    if end < text.len() && text[end] == b'[' {
-        return None;
-    }
+    let PartRead {
+        mut end,
+        mut as_written,
+    } = property_end(text, at + 5)?;
     'properties: while end < text.len() && text[end].is_ascii_uppercase() {
         let property = read_short_property(text, end)?;
         as_written = as_written & property.as_written;
@@ -135,8 +134,27 @@ fn read_short_property(text: &[u8], start: usize) -> Option<PartRead>
     }
     let bracket = short_name_end(text, start)?;
     let close = near_value_end(text, bracket + 1)?;
-    let end = close + 1;
-    let next = skip_white_space(text, end);
+    let read = property_end(text, close + 1)?;
+    Some(read)
+}
+
+/// The end of a property whose last value may be just before `end`, after any white space there. None if another value follows, or
+/// if the text ends.
+#[inline(always)]
+fn property_end(text: &[u8], end: usize) -> Option<PartRead>
+    requires { end ≤ length text.now }
+    ensures { IfSome result (AreValuesEnded text.now end) }
+{
+    if end < text.len() && b' ' < text[end] {
+        if text[end] == b'[' {
+            return None;
+        }
+        return Some(PartRead {
+            end,
+            as_written: true,
+        });
+    }
+    let next = white_space_end(text, end);
     if next < text.len() && text[next] != b'[' {
         Some(PartRead {
             end: next,

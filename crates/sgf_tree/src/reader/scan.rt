@@ -38,7 +38,7 @@ pub(crate) fn skip_white_space(text: &[u8], at: usize) -> usize
 
 /// The same, found byte by byte.
 #[inline(never)]
-fn white_space_end(text: &[u8], at: usize) -> usize
+pub(crate) fn white_space_end(text: &[u8], at: usize) -> usize
     requires { at ≤ length text.now }
     ensures { IsSpan is_white_space text.now at result }
 {

@@ -1,23 +1,16 @@
-use Rattle.std.proofs.Common.{◌≢◌, ◌<◌, ◌∙◌, length, get_or, sym, arith}
+use Rattle.std.proofs.Common.{◌∙◌, sym, arith}
 use Rattle.std.proofs.lemmas.Bool.{and_parts}
 use Rattle.sgf_tree.proofs.NodeEnds.{properties-more, properties-done}
 use Rattle.sgf_tree.proofs.ShortProperties.{after-move, move-written}
 use Rattle.sgf_tree.proofs.WrittenParts.{written-more}
 use Rattle.sgf_tree.proofs.reader.properties.after_move.Goals as goal
-use Rattle.sgf_tree.proofs.reader.properties.after_move.Goals.{else-end-text-via-then-end-text+else-text-end-eq91, else-end-text-via-else-end-text}
 
 pub properties-init : goal.properties-init
 properties-init c =
-    let t = c.args.text.now in
-    let next = c.skip_white_space-end.result in
-    let white = c.skip_white_space-end.ensures in
-    let other : next < length t → get_or t next 0 ≢ 91 = elim c.else-end-text.branch [
-      | else-end-text-via-then-end-text+else-text-end-eq91 w ↦ λ _. w.if-text-end-eq91.false
-      | else-end-text-via-else-end-text w ↦ λ lt. absurd (omega (arith, w.if-end-text.false))
-    ] in
+    let end = c.in_ok-end.field-0 in
     record {
-      so_far = after-move t c.args.at c.requires next white other;
-      written = move-written t c.args.at c.requires next white other;
+      so_far = after-move c.args.text.now c.args.at c.requires end c.in_ok-end.ensures;
+      written = move-written c.args.text.now c.args.at c.requires end c.in_ok-end.ensures;
     }
 
 pub properties-preserved : goal.properties-preserved
