@@ -102,28 +102,20 @@ pub record IsNodeEnd (text : List ℕ) (at : ℕ) : Type 0 where
   pub inside : next < length text
   pub below : slice_index text next < capital_a
 
--- the text begins like `;B[pd]`, without a gap: a `;`, a capital, and two plain bytes between brackets. At least one
--- more byte follows.
-pub record IsShortFront (text : List ℕ) : Type 0 where
-  pub within : 6 < length text
-  pub capital : IsTrue (is_upper (slice_index text 1))
-  pub bracket : slice_index text 2 ≡ open_bracket
-  pub value : IsTwoPlain text 3
-
 -- after any white space at `at` no `[` comes
 pub record IsPropertyEnd (text : List ℕ) (at : ℕ) : Type 0 where
   pub next : ℕ
   pub white_space : IsSpan is_white_space text at next
   pub other : next < length text → slice_index text next ≢ open_bracket
 
--- the same front, and then the property ends
+-- the text begins like `;B[pd]`, and then the property ends
 pub record IsLoneFront (text : List ℕ) : Type 0 where
-  pub front : IsShortFront text
+  pub front : IsMove text 1
   pub ends : IsPropertyEnd text 6
 
 -- the same front, and then the node ends
 pub record IsLoneNode (text : List ℕ) : Type 0 where
-  pub front : IsShortFront text
+  pub front : IsMove text 1
   pub ends : IsNodeEnd text 6
 
 -- no raw value begins at `at`

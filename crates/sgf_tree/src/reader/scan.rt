@@ -3,7 +3,7 @@
 ghost use Rattle.std.specs.Prelude.{◌≡◌, ◌≤◌, ◌<◌, ◌+◌, length, drop, slice_index, slice_range, IsTrue, IfSome};
 ghost use Rattle.sgf_tree.specs.Spelling.{is_white_space, is_upper};
 ghost use Rattle.sgf_tree.specs.inner.NodeText.{is_letter};
-ghost use Rattle.sgf_tree.specs.inner.Progress.{IsSpan, IsBracket, IsNodeEnd, IsPropertyEnd, IsShortFront, IsLoneNode, IsLoneFront};
+ghost use Rattle.sgf_tree.specs.inner.Progress.{IsSpan, IsBracket, IsNodeEnd, IsPropertyEnd, IsMove, IsLoneNode, IsLoneFront};
 
 use crate::reader::value::is_two_plain;
 
@@ -129,7 +129,7 @@ fn ends_values(text: &[u8], at: usize) -> bool
 
 /// Whether the text begins with a `;` and a property that is written like `B[pd]`, and goes on after these.
 fn is_short_front(text: &[u8]) -> bool
-    ensures { IsTrue result → IsShortFront text.now }
+    ensures { IsTrue result → IsMove text.now 1 }
 {
     text.len() > 6 && text[1].is_ascii_uppercase() && text[2] == b'[' && is_two_plain(text, 3)
 }
