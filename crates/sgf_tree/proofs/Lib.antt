@@ -13,6 +13,7 @@ pub mod ValueUnits
 pub mod NearBits
 pub mod NearLiterals
 pub mod NearBrackets
+pub mod MoveBytes
 pub mod KeptEnds
 pub mod ValuesRead
 pub mod NameEnds

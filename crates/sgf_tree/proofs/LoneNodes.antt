@@ -7,7 +7,7 @@ use Rattle.sgf_tree.specs.RawValue.{no_unit, plain}
 use Rattle.sgf_tree.specs.Spelling.{is_white_space, is_upper, no_white_space, no_letter, prop_value, no_value, IsProperty, property, no_property, properties}
 use Rattle.sgf_tree.specs.Written.{property_text}
 use Rattle.sgf_tree.specs.inner.NodeText.{properties_in, NoPropertyFollows, ArePropertiesIn}
-use Rattle.sgf_tree.specs.inner.Progress.{IsSpan, is_plain, IsNodeEnd, IsShortFront, IsLoneNode, IsLoneFront}
+use Rattle.sgf_tree.specs.inner.Progress.{IsSpan, is_plain, IsNodeEnd, IsMove, IsLoneNode, IsLoneFront}
 use Rattle.sgf_tree.proofs.Classes.{upper-range, white-not_bracket, white-not_upper}
 use Rattle.sgf_tree.proofs.NodeTexts.{white-same, properties-in}
 use Rattle.sgf_tree.proofs.Iterating.{byte-at, run-drop, white-to}
@@ -44,7 +44,7 @@ ends-node s k end b t w = by_white (is_white_space b) refl
         ((λ is. omega arith), false_from_ne_true (is_upper b) (λ u. let range = upper-range b u in omega arith))
 
 -- its bytes in a node
-module _ (s : List ℕ) (is : IsShortFront s) where
+module _ (s : List ℕ) (is : IsMove s 1) where
   abbrev letter : ℕ
   letter = get_or s 1 0
 
@@ -53,13 +53,13 @@ module _ (s : List ℕ) (is : IsShortFront s) where
 
   value-here : drop 3 s ≡ get_or s 3 0 ∷ get_or s 4 0 ∷ 93 ∷ rest
   value-here =
-      let within : 6 < length s = is.within in
+      let within : 5 < length s = is.value.within in
       byte-at s 3 (omega arith) ∙ ap (λ u. get_or s 3 0 ∷ u) (byte-at s 4 (omega arith))
       ∙ ap (λ u. get_or s 3 0 ∷ get_or s 4 0 ∷ u) (byte-at s 5 (omega arith) ∙ ap (λ b. b ∷ rest) is.value.bracket)
 
   here : drop 1 s ≡ letter ∷ 91 ∷ get_or s 3 0 ∷ get_or s 4 0 ∷ 93 ∷ rest
   here =
-      let within : 6 < length s = is.within in
+      let within : 5 < length s = is.value.within in
       byte-at s 1 (omega arith) ∙ ap (λ u. letter ∷ u) (byte-at s 2 (omega arith) ∙ ap (λ b. b ∷ drop 3 s) is.bracket ∙ ap (λ u. 91 ∷ u) value-here)
 
   first-plain : IsTrue (is_plain (get_or s 3 0))

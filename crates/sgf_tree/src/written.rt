@@ -10,7 +10,7 @@ use crate::fault::MemoryFault;
 use crate::iter::Properties;
 use crate::layout::LongValue;
 use crate::property::PropRef;
-use crate::reader::scan::{capitals_end, part, skip_white_space};
+use crate::reader::scan::{part, short_name_end, skip_white_space};
 use crate::reader::value::value_end;
 
 /// Appends the part of a text between two offsets. Often it is empty, and then nothing is called.
@@ -104,17 +104,19 @@ pub(crate) fn written_properties_end(text: &[u8], at: usize, long: &Vec<LongValu
     end
 }
 
-/// The end of the property at `at`. None if there is none, or if it doesn't have the sgf form.
+/// The end of the property at `at`. None if there is none, if it doesn't have the sgf form, or if its name is longer than
+/// two letters, as hardly any is.
 fn written_end(text: &[u8], at: usize, long: &Vec<LongValue>) -> Option<usize>
     requires within { at ≤ length text.now }
     requires kept { AreKeptEnds text.now long.now.items }
     ensures { IfSome result (IsPropertyWritten text.now at) }
 {
-    let name_end = capitals_end(text, at);
-    let Some(end) = written_values_end(text, name_end, long) else {
+    if at == text.len() || !text[at].is_ascii_uppercase() {
         return None;
-    };
-    if name_end == at || end == name_end {
+    }
+    let name_end = short_name_end(text, at)?;
+    let end = written_values_end(text, name_end, long)?;
+    if end == name_end {
         return None;
     }
     let next = skip_white_space(text, end);

@@ -1,6 +1,6 @@
 -- How far a text was read: words of the contracts inside `reader`.
 use Rattle.std.specs.Prelude.{◌≡◌, ◌≢◌, ℕ, ◌+◌, ◌-◌, ◌*◌, ◌<◌, ◌≤◌, Bool, false, not, ◌&&◌, ◌==◌, List, [], ◌∷◌, length, slice_index, slice_range, take, drop, Some, IsTrue}
-use Rattle.sgf_tree.specs.Bytes.{capital_a, open_bracket, backslash, close_bracket}
+use Rattle.sgf_tree.specs.Bytes.{space, capital_a, open_bracket, backslash, close_bracket}
 use Rattle.sgf_tree.specs.RawValue.{IsValue}
 use Rattle.sgf_tree.specs.Spelling.{is_white_space, is_upper}
 use Rattle.sgf_tree.specs.inner.Machine.{Started, MachineState, start, in_value, run}
@@ -83,6 +83,18 @@ pub record IsTwoPlain (text : List ℕ) (at : ℕ) : Type 0 where
   pub plain : ArePlain text at (at + 2)
   pub bracket : slice_index text (at + 2) ≡ close_bracket
 
+-- a move stands at `at`, as in `B[pd]`: a capital, and two plain bytes between brackets
+pub record IsMove (text : List ℕ) (at : ℕ) : Type 0 where
+  pub capital : IsTrue (is_upper (slice_index text at))
+  pub bracket : slice_index text (at + 1) ≡ open_bracket
+  pub value : IsTwoPlain text (at + 2)
+
+-- the byte at `at` ends a node: it is greater than all white space, and less than every letter and bracket
+pub record EndsNode (text : List ℕ) (at : ℕ) : Type 0 where
+  pub within : at < length text
+  pub above : space < slice_index text at
+  pub below : slice_index text at < capital_a
+
 -- after any white space at `at` comes a byte that is less than every letter and bracket
 pub record IsNodeEnd (text : List ℕ) (at : ℕ) : Type 0 where
   pub next : ℕ
@@ -90,28 +102,20 @@ pub record IsNodeEnd (text : List ℕ) (at : ℕ) : Type 0 where
   pub inside : next < length text
   pub below : slice_index text next < capital_a
 
--- the text begins like `;B[pd]`, without a gap: a `;`, a capital, and two plain bytes between brackets. At least one
--- more byte follows.
-pub record IsShortFront (text : List ℕ) : Type 0 where
-  pub within : 6 < length text
-  pub capital : IsTrue (is_upper (slice_index text 1))
-  pub bracket : slice_index text 2 ≡ open_bracket
-  pub value : IsTwoPlain text 3
-
 -- after any white space at `at` no `[` comes
 pub record IsPropertyEnd (text : List ℕ) (at : ℕ) : Type 0 where
   pub next : ℕ
   pub white_space : IsSpan is_white_space text at next
   pub other : next < length text → slice_index text next ≢ open_bracket
 
--- the same front, and then the property ends
+-- the text begins like `;B[pd]`, and then the property ends
 pub record IsLoneFront (text : List ℕ) : Type 0 where
-  pub front : IsShortFront text
+  pub front : IsMove text 1
   pub ends : IsPropertyEnd text 6
 
 -- the same front, and then the node ends
 pub record IsLoneNode (text : List ℕ) : Type 0 where
-  pub front : IsShortFront text
+  pub front : IsMove text 1
   pub ends : IsNodeEnd text 6
 
 -- no raw value begins at `at`

@@ -1,10 +1,10 @@
 -- How the properties of a node were read: words of the contracts in `reader::properties`.
-use Rattle.std.specs.Prelude.{◌≡◌, ◌≢◌, ℕ, ◌+◌, ◌<◌, ◌≤◌, false, List, [], ◌∷◌, length, slice_index, None}
+use Rattle.std.specs.Prelude.{◌≡◌, ◌≢◌, ℕ, ◌+◌, ◌<◌, ◌≤◌, false, IsTrue, List, [], ◌∷◌, length, slice_index, None}
 use Rattle.sgf_tree.specs.Bytes.{open_bracket}
 use Rattle.sgf_tree.specs.Tree.{Property}
 use Rattle.sgf_tree.specs.Spelling.{is_white_space}
 use Rattle.sgf_tree.specs.inner.Machine.{Started, MachineState, in_node, in_name, in_value, after_value, after_node, ended, next_state, accepted}
-use Rattle.sgf_tree.specs.inner.Progress.{ComesTo, IsTrueFault, IsBracket}
+use Rattle.sgf_tree.specs.inner.Progress.{ComesTo, IsTrueFault, IsSpan, IsBracket}
 use Rattle.sgf_tree.specs.inner.NodeText.{IsPropertyWritten}
 use Rattle.sgf_tree.specs.declared.reader.fault.PartFault.{PartFault}
 use Rattle.sgf_tree.specs.declared.reader.properties.PartRead.{PartRead}
@@ -20,6 +20,12 @@ pub record AreValuesRead (text : List ℕ) (bracket end : ℕ) : Type 0 where
   pub stops : StopsValues text end
   pub reached : (node : Started) (name : List ℕ) → ComesTo text (bracket + 1) (in_value node name [] [])
       → (property : Property) × ComesTo text end (after_value node property)
+
+-- after any white space at `end` comes a byte that doesn't begin a value
+pub record AreValuesEnded (text : List ℕ) (end : ℕ) (read : PartRead) : Type 0 where
+  pub white_space : IsSpan is_white_space text end read.end
+  pub other : slice_index text read.end ≢ open_bracket
+  pub written : IsTrue read.as_written → read.end ≡ end
 
 -- the identifier that begins at `start` was read up to a `[`
 pub record IsNameRead (text : List ℕ) (start bracket : ℕ) : Type 0 where
@@ -39,8 +45,7 @@ pub record IsPropertyRead (text : List ℕ) (start end : ℕ) : Type 0 where
 -- the same, as the code tells it: how far it was read, and whether the sgf form writes it as it stands
 pub record IsWholePropertyRead (text : List ℕ) (start : ℕ) (read : PartRead) : Type 0 where
   pub property : IsPropertyRead text start read.end
-  pub written : read.left_out ≡ 0 → IsPropertyWritten text start read.end
-  pub few : start + read.left_out ≤ read.end
+  pub written : IsTrue read.as_written → IsPropertyWritten text start read.end
 
 -- a node was read up to `end`; only what may come after a node may come next
 pub record StandsAfterNode (text : List ℕ) (end : ℕ) (whole : Started) : Type 0 where

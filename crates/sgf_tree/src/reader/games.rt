@@ -1,6 +1,6 @@
 //! Reading nodes and games.
 
-ghost use Rattle.std.specs.Prelude.{◌≡◌, ◌<◌, ◌≤◌, ◌+◌, ℕ, [], length, IfOk, IfErr, OnOk};
+ghost use Rattle.std.specs.Prelude.{◌≡◌, ◌<◌, ◌≤◌, ◌+◌, ℕ, [], length, IsTrue, IfOk, IfErr, OnOk};
 ghost use Rattle.sgf_tree.specs.Tree.{no_games, game_count};
 ghost use Rattle.sgf_tree.specs.inner.Machine.{Stack};
 ghost use Rattle.sgf_tree.specs.inner.Progress.{IsTrueFault};
@@ -13,7 +13,7 @@ ghost use Rattle.sgf_tree.specs.inner.GamesRead.{StandsBetween, IsNodeRead, Read
 use crate::fault::MAX_LENGTH;
 use crate::layout::{Link, LongValue, NodeEntry};
 use crate::reader::fault::PartFault;
-use crate::reader::properties::{PartRead, ends_at_once, is_lone_property, read_properties};
+use crate::reader::properties::{PartRead, glance, read_properties};
 use crate::reader::scan::skip_white_space;
 
 /// Reads all games; the first `(` may be at `at`. Returns the number of games.
@@ -98,8 +98,10 @@ fn read_sequence(
     }
     let mut read = read_node(text, place, link, nodes, long)?;
     'nodes: while read.end < text.len() && text[read.end] == b';' {
-        let beside = read.left_out == 0;
-        read = read_node(text, read.end, Link::Next { beside }, nodes, long)?;
+        let link = Link::Next {
+            beside: read.as_written,
+        };
+        read = read_node(text, read.end, link, nodes, long)?;
     }
     Ok(read.end)
 }
@@ -118,23 +120,14 @@ fn read_node(
     requires room { length nodes.old.items ≤ place }
     requires kept { AreKeptEnds text.now long.old.items }
     ensures read { IfOk result (λ read. IsNodeRead text.now place read.end link nodes.old.items nodes.new.items) }
-    ensures written { IfOk result (λ read. read.left_out ≡ 0 → AreWritten text.now (place + 1) read.end) }
+    ensures written { IfOk result (λ read. IsTrue read.as_written → AreWritten text.now (place + 1) read.end) }
     ensures fault { IfErr result (IsFaultInNode text.now (place + 1)) }
     ensures kept { OnOk result (AreKeptEnds text.now long.new.items) }
 {
     let at = place + 1;
-    let read = if ends_at_once(text, at) {
-        PartRead {
-            end: at,
-            left_out: 0,
-        }
-    } else if is_lone_property(text, at) {
-        PartRead {
-            end: at + 5,
-            left_out: 0,
-        }
-    } else {
-        read_properties(text, at, long)?
+    let read = match glance(text, at) {
+        Some(read) => read,
+        None => read_properties(text, at, long)?,
     };
     nodes.push(NodeEntry {
         place: place as u32,

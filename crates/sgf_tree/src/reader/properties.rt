@@ -1,53 +1,87 @@
 //! Reading the properties of a node.
 
-ghost use Rattle.std.specs.Prelude.{◌≡◌, ◌<◌, ◌≤◌, ◌+◌, length, slice_index, IsTrue, IfSome, IfOk, IfErr, OnOk};
+ghost use Rattle.std.specs.Prelude.{◌≡◌, false, ◌<◌, ◌≤◌, ◌+◌, ◌%◌, length, slice_index, IsTrue, IfSome, IfOk, IfErr, OnOk};
 ghost use Rattle.sgf_tree.specs.Spelling.{is_upper};
-ghost use Rattle.sgf_tree.specs.inner.Progress.{IsSpan};
+ghost use Rattle.sgf_tree.specs.inner.Progress.{IsSpan, IsMove, EndsNode};
 ghost use Rattle.sgf_tree.specs.inner.NodeText.{AreWritten};
-ghost use Rattle.sgf_tree.specs.inner.PropertiesRead.{IsNameRead, IsWholePropertyRead, ArePropertiesRead, IsFaultInProperty, IsFaultInNode};
+ghost use Rattle.sgf_tree.specs.inner.PropertiesRead.{AreValuesEnded, IsNameRead, IsWholePropertyRead, ArePropertiesRead, IsFaultInProperty, IsFaultInNode};
 ghost use Rattle.sgf_tree.specs.inner.KeptEnds.{AreKeptEnds};
 
 use crate::fault::MAX_LENGTH;
 use crate::layout::LongValue;
 use crate::reader::fault::PartFault;
-use crate::reader::scan::{letters_end, short_name_end, skip_white_space};
-use crate::reader::value::{is_two_plain, near_value_end, read_value};
+use crate::reader::scan::{letters_end, short_name_end, skip_white_space, white_space_end};
+use crate::reader::value::{NEAR, near_value_end, read_value};
+use std::simd::prelude::*;
 
 /// The least number of bytes that must be left for a look at a short property: a letter or two, a `[`,
 /// the 16 bytes in which the `]` is searched, and the byte after it.
 const GLANCE: usize = 20;
 
-/// Whether the byte at `at` ends the node before any property, as a `;` or a parenthesis does. It is
-/// inlined, so such a node is read without a call. A false result says nothing.
+/// Reads at a glance the properties of a node, which begin at `at`: none, or a move and perhaps short properties, as in
+/// `B[pd]BL[921.325]`. Nearly all nodes are like that. None says nothing.
 #[inline(always)]
-pub(crate) fn ends_at_once(text: &[u8], at: usize) -> bool
-    ensures { IsTrue result → ArePropertiesRead text.now at at }
+pub(crate) fn glance(text: &[u8], at: usize) -> Option<PartRead>
+    requires { at ≤ length text.now }
+    ensures read { IfSome result (λ read. ArePropertiesRead text.now at read.end) }
+    ensures written { IfSome result (λ read. IsTrue read.as_written → AreWritten text.now at read.end) }
 {
-    if at < text.len() && b' ' < text[at] && text[at] < b'A' {
-        return true;
+    if text.len() - at < NEAR {
+        return None;
     }
-    false
+    if b' ' < text[at] && text[at] < b'A' {
+        return Some(PartRead {
+            end: at,
+            as_written: true,
+        });
+    }
+    let in_place = bytes_in_place(text, at);
+    if in_place % 64 == 63 {
+        return Some(PartRead {
+            end: at + 5,
+            as_written: true,
+        });
+    }
+    if in_place % 32 == 31 {
+        after_move(text, at)
+    } else {
+        None
+    }
 }
 
-/// Whether a node's properties, which begin at `at`, are a single one with a name of one letter and a value of two bytes, as in
-/// `B[pd]`, and the node ends at once after it. Most nodes are like that. It is inlined, so they are read
-/// without a call of `read_properties`. A false result says nothing.
+/// Which of the bytes at `at` are as in `B[pd];`, all compared at once: bit 0 tells of a capital, bits 1 to 4 of a value of two plain
+/// bytes in its brackets, and bit 5 of a byte that ends a node.
 #[inline(always)]
-pub(crate) fn is_lone_property(text: &[u8], at: usize) -> bool
-    requires { at ≤ length text.now }
-    ensures read { IsTrue result → ArePropertiesRead text.now at (at + 5) }
-    ensures written { IsTrue result → AreWritten text.now at (at + 5) }
+fn bytes_in_place(text: &[u8], at: usize) -> u64
+    requires { at + NEAR ≤ length text.now }
+    ensures move_stands { result % 32 ≡ 31 → IsMove text.now at }
+    ensures node_ends { result % 64 ≡ 63 → EndsNode text.now (at + 5) }
 {
-    if text.len() - at > 5
-        && text[at].is_ascii_uppercase()
-        && text[at + 1] == b'['
-        && is_two_plain(text, at + 2)
-        && b' ' < text[at + 5]
-        && text[at + 5] < b'A'
-    {
-        return true;
+    // A byte is in place if it is at most so much above the least one. This wraps, so only `\` and `]` aren't plain.
+    let least = u8x16::from_array([b'A', b'[', 94, 94, b']', 33, 0, 0, 0, 0, 0, 0, 0, 0, 0, 0]);
+    let above = u8x16::from_array([25, 0, 253, 253, 0, 31, 0, 0, 0, 0, 0, 0, 0, 0, 0, 0]);
+    (u8x16::from_slice(&text[at..]) - least)
+        .simd_le(above)
+        .to_bitmask()
+}
+
+/// Reads the properties of a node that begin with a move at `at`, if those after it are short. None says nothing.
+#[inline(always)]
+fn after_move(text: &[u8], at: usize) -> Option<PartRead>
+    requires { IsMove text.now at }
+    ensures read { IfSome result (λ read. ArePropertiesRead text.now at read.end) }
+    ensures written { IfSome result (λ read. IsTrue read.as_written → AreWritten text.now at read.end) }
+{
+    let PartRead {
+        mut end,
+        mut as_written,
+    } = property_end(text, at + 5)?;
+    'properties: while end < text.len() && text[end].is_ascii_uppercase() {
+        let property = read_short_property(text, end)?;
+        as_written = as_written & property.as_written;
+        end = property.end;
     }
-    false
+    Some(PartRead { end, as_written })
 }
 
 /// How far a part of a text was read.
@@ -55,8 +89,8 @@ pub(crate) fn is_lone_property(text: &[u8], at: usize) -> bool
 pub(crate) struct PartRead {
     /// The offset of the byte after it and the white space there.
     pub end: usize,
-    /// 0 only if the sgf form writes the part as it stands in the text. Any other number says nothing.
-    pub left_out: usize,
+    /// Whether the sgf form writes the part as it stands in the text. False says nothing.
+    pub as_written: bool,
 }
 
 /// Reads the properties of a node, which begin at `at` or after white space there.
@@ -70,39 +104,21 @@ pub(crate) fn read_properties(
     requires within { at ≤ length text.now }
     requires kept { AreKeptEnds text.now long.old.items }
     ensures read { IfOk result (λ read. ArePropertiesRead text.now at read.end) }
-    ensures written { IfOk result (λ read. read.left_out ≡ 0 → AreWritten text.now at read.end) }
+    ensures written { IfOk result (λ read. IsTrue read.as_written → AreWritten text.now at read.end) }
     ensures fault { IfErr result (IsFaultInNode text.now at) }
     ensures kept { OnOk result (AreKeptEnds text.now long.new.items) }
 {
     let mut end = skip_white_space(text, at);
-    let mut left_out = end - at;
+    let mut as_written = end == at;
     'properties: while end < text.len() && text[end].is_ascii_uppercase() {
-        let property = read_property(text, end, long)?;
-        left_out += property.left_out;
+        let property = match read_short_property(text, end) {
+            Some(property) => property,
+            None => read_far_property(text, end, long)?,
+        };
+        as_written = as_written & property.as_written;
         end = property.end;
     }
-    Ok(PartRead { end, left_out })
-}
-
-/// Reads the property whose identifier begins at `start`.
-#[inline(always)]
-fn read_property(
-    text: &[u8],
-    start: usize,
-    long: &mut Vec<LongValue>,
-) -> Result<PartRead, PartFault>
-    requires short { length text.now ≤ MAX_LENGTH }
-    requires within { start < length text.now }
-    requires capital { IsTrue (is_upper (slice_index text.now start)) }
-    requires kept { AreKeptEnds text.now long.old.items }
-    ensures read { IfOk result (IsWholePropertyRead text.now start) }
-    ensures fault { IfErr result (IsFaultInProperty text.now start) }
-    ensures kept { OnOk result (AreKeptEnds text.now long.new.items) }
-{
-    match read_short_property(text, start) {
-        Some(read) => Ok(read),
-        None => read_far_property(text, start, long),
-    }
+    Ok(PartRead { end, as_written })
 }
 
 /// Reads at a glance the property whose identifier begins at `start`, if it has a name of one or two letters
@@ -118,12 +134,31 @@ fn read_short_property(text: &[u8], start: usize) -> Option<PartRead>
     }
     let bracket = short_name_end(text, start)?;
     let close = near_value_end(text, bracket + 1)?;
-    let end = close + 1;
-    let next = skip_white_space(text, end);
+    let read = property_end(text, close + 1)?;
+    Some(read)
+}
+
+/// The end of a property whose last value may be just before `end`, after any white space there. None if another value follows, or
+/// if the text ends.
+#[inline(always)]
+fn property_end(text: &[u8], end: usize) -> Option<PartRead>
+    requires { end ≤ length text.now }
+    ensures { IfSome result (AreValuesEnded text.now end) }
+{
+    if end < text.len() && b' ' < text[end] {
+        if text[end] == b'[' {
+            return None;
+        }
+        return Some(PartRead {
+            end,
+            as_written: true,
+        });
+    }
+    let next = white_space_end(text, end);
     if next < text.len() && text[next] != b'[' {
         Some(PartRead {
             end: next,
-            left_out: next - end,
+            as_written: next == end,
         })
     } else {
         None
@@ -147,13 +182,16 @@ fn read_far_property(
 {
     let name = read_name(text, start)?;
     let mut at = name.end;
-    let mut left_out = name.left_out;
+    let mut as_written = name.as_written;
     'values: loop {
         let end = read_value(text, at + 1, long)? + 1;
         at = skip_white_space(text, end);
-        left_out += at - end;
+        as_written = as_written & (at == end);
         if at == text.len() || text[at] != b'[' {
-            return Ok(PartRead { end: at, left_out });
+            return Ok(PartRead {
+                end: at,
+                as_written,
+            });
         }
     }
 }
@@ -164,12 +202,14 @@ fn read_name(text: &[u8], start: usize) -> Result<PartRead, PartFault>
     requires within { start < length text.now }
     requires capital { IsTrue (is_upper (slice_index text.now start)) }
     ensures read { IfOk result (λ read. IsNameRead text.now start read.end) }
-    ensures written { IfOk result (λ read. read.left_out ≡ 0 → IsSpan is_upper text.now start read.end) }
-    ensures few { IfOk result (λ read. start + read.left_out ≤ read.end) }
+    ensures written { IfOk result (λ read. IsTrue read.as_written → IsSpan is_upper text.now start read.end) }
     ensures fault { IfErr result (IsFaultInProperty text.now start) }
 {
     match short_name_end(text, start) {
-        Some(end) => Ok(PartRead { end, left_out: 0 }),
+        Some(end) => Ok(PartRead {
+            end,
+            as_written: true,
+        }),
         None => read_far_name(text, start),
     }
 }
@@ -180,12 +220,15 @@ fn read_far_name(text: &[u8], start: usize) -> Result<PartRead, PartFault>
     requires within { start < length text.now }
     requires capital { IsTrue (is_upper (slice_index text.now start)) }
     ensures read { IfOk result (λ read. IsNameRead text.now start read.end) }
-    ensures written { IfOk result (λ read. read.left_out ≡ 1) }
+    ensures written { IfOk result (λ read. read.as_written ≡ false) }
     ensures fault { IfErr result (IsFaultInProperty text.now start) }
 {
     let end = skip_white_space(text, letters_end(text, start));
     if end == text.len() || text[end] != b'[' {
         return Err(PartFault::NotSgf(end));
     }
-    Ok(PartRead { end, left_out: 1 })
+    Ok(PartRead {
+        end,
+        as_written: false,
+    })
 }

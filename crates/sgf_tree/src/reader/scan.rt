@@ -3,7 +3,7 @@
 ghost use Rattle.std.specs.Prelude.{◌≡◌, ◌≤◌, ◌<◌, ◌+◌, length, drop, slice_index, slice_range, IsTrue, IfSome};
 ghost use Rattle.sgf_tree.specs.Spelling.{is_white_space, is_upper};
 ghost use Rattle.sgf_tree.specs.inner.NodeText.{is_letter};
-ghost use Rattle.sgf_tree.specs.inner.Progress.{IsSpan, IsBracket, IsNodeEnd, IsPropertyEnd, IsShortFront, IsLoneNode, IsLoneFront};
+ghost use Rattle.sgf_tree.specs.inner.Progress.{IsSpan, IsBracket, IsNodeEnd, IsPropertyEnd, IsMove, IsLoneNode, IsLoneFront};
 
 use crate::reader::value::is_two_plain;
 
@@ -38,7 +38,7 @@ pub(crate) fn skip_white_space(text: &[u8], at: usize) -> usize
 
 /// The same, found byte by byte.
 #[inline(never)]
-fn white_space_end(text: &[u8], at: usize) -> usize
+pub(crate) fn white_space_end(text: &[u8], at: usize) -> usize
     requires { at ≤ length text.now }
     ensures { IsSpan is_white_space text.now at result }
 {
@@ -77,6 +77,7 @@ pub(crate) fn short_name_end(text: &[u8], at: usize) -> Option<usize>
     ensures letters { IfSome result (IsSpan is_letter text.now at) }
     ensures capitals { IfSome result (IsSpan is_upper text.now at) }
     ensures bracket { IfSome result (IsBracket text.now) }
+    ensures rises { IfSome result (λ end. at < end) }
     ensures near { IfSome result (λ end. end ≤ at + 2) }
 {
     if text.len() - at > 2 {
@@ -97,32 +98,6 @@ pub(crate) fn letters_end(text: &[u8], at: usize) -> usize
 {
     let mut end = at;
     'letters: while end < text.len() && text[end].is_ascii_alphabetic() {
-        end += 1;
-    }
-    end
-}
-
-/// The end of the capitals at `at`.
-pub(crate) fn capitals_end(text: &[u8], at: usize) -> usize
-    requires { at ≤ length text.now }
-    ensures { IsSpan is_upper text.now at result }
-{
-    if at == text.len() || !text[at].is_ascii_uppercase() {
-        return at;
-    }
-    match short_name_end(text, at) {
-        Some(end) => end,
-        None => far_capitals_end(text, at),
-    }
-}
-
-/// The same, found byte by byte.
-fn far_capitals_end(text: &[u8], at: usize) -> usize
-    requires { at ≤ length text.now }
-    ensures { IsSpan is_upper text.now at result }
-{
-    let mut end = at;
-    'capitals: while end < text.len() && text[end].is_ascii_uppercase() {
         end += 1;
     }
     end
@@ -154,7 +129,7 @@ fn ends_values(text: &[u8], at: usize) -> bool
 
 /// Whether the text begins with a `;` and a property that is written like `B[pd]`, and goes on after these.
 fn is_short_front(text: &[u8]) -> bool
-    ensures { IsTrue result → IsShortFront text.now }
+    ensures { IsTrue result → IsMove text.now 1 }
 {
     text.len() > 6 && text[1].is_ascii_uppercase() && text[2] == b'[' && is_two_plain(text, 3)
 }

@@ -14,7 +14,7 @@ use std::simd::prelude::*;
 
 /// The number of bytes that are compared before a search is begun, because a search costs more to begin. Sizes, names and clock
 /// times are short.
-const NEAR: usize = 16;
+pub(crate) const NEAR: usize = 16;
 
 /// The least length of a value whose length is kept. Nearly all comments are shorter, so few
 /// lengths are kept. A search over this many bytes costs more than looking up a length.

@@ -11,4 +11,5 @@ returns c =
       | else-next-text-via-then-next-text+else-text-next-eq91 w ↦ λ _. w.if-text-next-eq91.false
       | else-next-text-via-else-next-text w ↦ λ lt. absurd (omega (arith, w.if-next-text.false))
     ] in
-    property-one t c.args.at c.capitals_end-name_end.result c.in-Some.end next c.capitals_end-name_end.ensures c.in-Some.ensures c.if-name_end-at.false c.if-end-name_end.false c.skip_white_space-next.ensures other
+    let name = c.in_ok-name_end.ensures in
+    property-one t c.args.at c.in_ok-name_end.name_end c.in_ok-end.end next name.capitals c.in_ok-end.ensures (λ same. omega (arith, name.rises)) c.if-end-name_end.false c.skip_white_space-next.ensures other

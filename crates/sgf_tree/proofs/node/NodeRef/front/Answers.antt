@@ -7,7 +7,7 @@ pub new-left-requires : goal.new-left-requires
 new-left-requires c =
     let is = c.is_lone_front.ensures c.if-is_lone_front.true in
     record {
-      within = omega (arith, is.front.within);
+      within = omega (arith, is.front.value.within);
       held = (front-left c.self.inside.text.now is c.self.invariant.0.properties).1;
       kept = c.self.invariant.1;
     }

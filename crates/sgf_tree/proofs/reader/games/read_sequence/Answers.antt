@@ -1,6 +1,4 @@
 use Rattle.std.proofs.Common.{◌≢◌, ◌<◌, length, get_or, refl, arith}
-use Rattle.std.proofs.Math.Dec.{eqb}
-use Rattle.std.proofs.lemmas.Bool.{eqb-true}
 use Rattle.std.proofs.lemmas.Result.{err_from_is_err_and}
 use Rattle.sgf_tree.proofs.SequencesRead.{place-faulty, place-node, sequence-first, sequence-next, sequence-done, sequence-node, node-room}
 use Rattle.sgf_tree.proofs.reader.games.read_sequence.Goals as goal
@@ -37,7 +35,7 @@ nodes-init c =
       within = read.properties.within;
       room = node-room t place c.in_ok-read.read.end c.args.link _ _ (omega (arith, c.requires.room, c.skip_white_space-place.ensures.rises)) read;
       so_far = λ k after held opening.
-          sequence-first t c.args.at place c.in_ok-read.read.end (eqb c.in_ok-read.read.left_out 0) k c.args.link _ _ c.skip_white_space-place.ensures after held opening lt c.if-text-place-ne59.false read (λ is. c.in_ok-read.ensures.written (eqb-true c.in_ok-read.read.left_out 0 is));
+          sequence-first t c.args.at place c.in_ok-read.read.end c.in_ok-read.read.as_written k c.args.link _ _ c.skip_white_space-place.ensures after held opening lt c.if-text-place-ne59.false read c.in_ok-read.ensures.written;
       kept = c.in_ok-read.ensures.kept;
     }
 
@@ -46,7 +44,7 @@ returns-in_err-read-2-clause-fault c =
     let p = err_from_is_err_and c.from_residual-in_err-read-2.result c.from_residual-in_err-read-2.ensures.1 in
     rw (p.1, p.2)
     (λ k after held opening.
-    let node = sequence-node c.args.text.now c.nodes.read.end (eqb c.nodes.read.left_out 0) k _ (c.nodes.invariant.so_far k after held opening) c.nodes-test.true c.if-text-read-eq59.true in
+    let node = sequence-node c.args.text.now c.nodes.read.end c.nodes.read.as_written k _ (c.nodes.invariant.so_far k after held opening) c.nodes-test.true c.if-text-read-eq59.true in
     c.in_err-read-2.ensures.fault node.0 node.1.0 node.1.1)
 
 pub nodes-preserved : goal.nodes-preserved
@@ -58,15 +56,14 @@ nodes-preserved c =
       within = read.properties.within;
       room = node-room t c.nodes.read.end c.in_ok-read-2.read.end _ _ _ c.nodes.invariant.room read;
       so_far = λ k after held opening.
-          sequence-next t c.nodes.read.end c.in_ok-read-2.read.end (eqb c.nodes.read.left_out 0) (eqb c.in_ok-read-2.read.left_out 0) k _ _ (c.nodes.invariant.so_far k after held opening) c.nodes-test.true c.if-text-read-eq59.true read
-          (λ is. c.in_ok-read-2.ensures.written (eqb-true c.in_ok-read-2.read.left_out 0 is));
+          sequence-next t c.nodes.read.end c.in_ok-read-2.read.end c.nodes.read.as_written c.in_ok-read-2.read.as_written k _ _ (c.nodes.invariant.so_far k after held opening) c.nodes-test.true c.if-text-read-eq59.true read c.in_ok-read-2.ensures.written;
       kept = c.in_ok-read-2.ensures.kept;
     }
 
 pub returns-else-text-read-eq59-clause-read : goal.returns-else-text-read-eq59-clause-read
 returns-else-text-read-eq59-clause-read c k after held opening =
-    sequence-done c.args.text.now c.nodes.read.end (eqb c.nodes.read.left_out 0) k _ (c.nodes.invariant.so_far k after held opening) (λ _. c.if-text-read-eq59.false)
+    sequence-done c.args.text.now c.nodes.read.end c.nodes.read.as_written k _ (c.nodes.invariant.so_far k after held opening) (λ _. c.if-text-read-eq59.false)
 
 pub returns-after-nodes-clause-read : goal.returns-after-nodes-clause-read
 returns-after-nodes-clause-read c k after held opening =
-    sequence-done c.args.text.now c.nodes.read.end (eqb c.nodes.read.left_out 0) k _ (c.nodes.invariant.so_far k after held opening) (λ lt. absurd (omega (arith, c.nodes-test.false)))
+    sequence-done c.args.text.now c.nodes.read.end c.nodes.read.as_written k _ (c.nodes.invariant.so_far k after held opening) (λ lt. absurd (omega (arith, c.nodes-test.false)))

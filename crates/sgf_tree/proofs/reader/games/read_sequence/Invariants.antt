@@ -1,5 +1,4 @@
 use Rattle.std.proofs.Common.{◌-◌, ◌≤◌, length}
-use Rattle.std.proofs.Math.Dec.{eqb}
 use Rattle.sgf_tree.specs.inner.Machine.{Stack, opened}
 use Rattle.sgf_tree.specs.inner.Progress.{ComesTo}
 use Rattle.sgf_tree.specs.inner.GamesRead.{HoldStack, IsOpening}
@@ -13,7 +12,7 @@ invariant-nodes l = record {
   within : l.read.end ≤ length l.text;
   room : length l.nodes.items ≤ l.read.end;
   so_far : (k : Stack) → ComesTo l.text l.at (opened k) → HoldStack l.text k l.fn.nodes.items → IsOpening k l.fn.link
-      → SequenceSoFar l.text l.read.end (eqb l.read.left_out 0) k l.nodes.items;
+      → SequenceSoFar l.text l.read.end l.read.as_written k l.nodes.items;
   kept : AreKeptEnds l.text l.long.items;
 }
 

@@ -1,8 +1,11 @@
-use Rattle.std.proofs.Common.{◌≡◌, ◌≢◌, ◌<◌, ◌≤◌, ◌+◌, ◌-◌, length, get_or, arith}
+use Rattle.std.proofs.Common.{◌≡◌, ◌≢◌, ◌<◌, ◌+◌, ◌&&◌, IsTrue, length, get_or, arith}
+use Rattle.std.proofs.Math.Dec.{eqb}
+use Rattle.std.proofs.lemmas.Bool.{and_parts, eqb-true}
 use Rattle.std.proofs.lemmas.Result.{err_from_is_err_and}
 use Rattle.sgf_tree.specs.Spelling.{is_upper}
 use Rattle.sgf_tree.specs.inner.NodeText.{AreValuesWritten}
 use Rattle.sgf_tree.specs.inner.Progress.{IsSpan}
+use Rattle.sgf_tree.proofs.ShortProperties.{property-read}
 use Rattle.sgf_tree.proofs.ValuesRead.{ValuesBefore, values-begin, values-step, values-more, values-done}
 use Rattle.sgf_tree.proofs.WrittenParts.{values-none, values-one, property-one, span-done}
 use Rattle.sgf_tree.proofs.reader.properties.read_far_property.Goals as goal
@@ -13,7 +16,6 @@ values-init c =
     let name = c.in_ok-name.ensures.read in
     record {
       stands = name.stands;
-      few = c.in_ok-name.ensures.few;
       so_far = values-begin c.args.text.now c.in_ok-name.name.end;
       written = λ is. (c.in_ok-name.ensures.written is, values-none c.args.text.now c.in_ok-name.name.end (omega (arith, name.stands.within)));
       kept = c.requires.kept;
@@ -26,20 +28,15 @@ read c =
 
 -- and it stands as the sgf form writes it, where nothing stands after it
 written : (c : After-skip_white_space-at) → let at = c.skip_white_space-at.result in
-    c.values.left_out + (at - (c.in_ok-end.field-0 + 1)) ≡ 0
+    IsTrue (c.values.as_written && eqb at (c.in_ok-end.field-0 + 1))
     → IsSpan is_upper c.args.text.now c.args.start c.in_ok-name.name.end × AreValuesWritten c.args.text.now c.in_ok-name.name.end at
 written c is =
-    let before = c.values.invariant.written (omega (arith, is)) in
-    let same : c.skip_white_space-at.result ≡ c.in_ok-end.field-0 + 1 = omega (arith, is, c.skip_white_space-at.ensures.rises) in
+    let (earlier, last) = and_parts c.values.as_written (eqb c.skip_white_space-at.result (c.in_ok-end.field-0 + 1)) is in
+    let before = c.values.invariant.written earlier in
+    let same : c.skip_white_space-at.result ≡ c.in_ok-end.field-0 + 1 = eqb-true c.skip_white_space-at.result (c.in_ok-end.field-0 + 1) last in
     let stands = c.values.invariant.stands in
     let value = c.in_ok-end.ensures.read in
     (before.0, rw same (values-one c.args.text.now c.in_ok-name.name.end c.values.at c.in_ok-end.field-0 before.1 stands.within stands.bracket value.rises value.within value.bracket c.in_ok-end.ensures.read.spelled))
-
-few : (c : After-skip_white_space-at) → let at = c.skip_white_space-at.result in c.args.start + (c.values.left_out + (at - (c.in_ok-end.field-0 + 1))) ≤ at
-few c = omega (arith, c.values.invariant.few, c.in_ok-end.ensures.read.rises, c.skip_white_space-at.ensures.rises)
-
-pub overflow_add-left_out : goal.overflow_add-left_out
-overflow_add-left_out c = omega (arith, few (goal.at.overflow_add-left_out c).After-skip_white_space-at, c.skip_white_space-at.ensures.within, c.requires.short)
 
 pub returns-in_err-end-clause-fault : goal.returns-in_err-end-clause-fault
 returns-in_err-end-clause-fault c =
@@ -62,16 +59,10 @@ returns-then-at-text-clause-read c =
     ] in
     let values = values-done t c.in_ok-name.name.end at (read step) other in
     record {
-      property = record {
-        rises = omega (arith, values.rises, name.rises);
-        within = values.within;
-        stops = values.stops;
-        reached = λ n h. let after = name.reached n h in values.reached n after.0 after.1;
-      };
+      property = property-read name values;
       written = λ is.
           let both = written step is in
           property-one t c.args.start c.in_ok-name.name.end at at both.0 both.1 (λ e. omega (arith, name.rises)) (λ e. omega (arith, values.rises)) (span-done c.skip_white_space-at.ensures) other;
-      few = few step;
     }
 
 pub values-preserved : goal.values-preserved
@@ -81,7 +72,6 @@ values-preserved c =
     let lt : at < length t = omega (arith, c.skip_white_space-at.ensures.within) in
     record {
       stands = record { within = lt; bracket = c.if-text-at-ne91.false };
-      few = few (goal.at.values-preserved c).After-skip_white_space-at;
       so_far = values-more t c.in_ok-name.name.end at (read (goal.at.values-preserved c).After-skip_white_space-at) lt c.if-text-at-ne91.false;
       written = written (goal.at.values-preserved c).After-skip_white_space-at;
       kept = c.in_ok-end.ensures.kept;

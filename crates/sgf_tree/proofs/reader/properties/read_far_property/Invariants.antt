@@ -1,4 +1,4 @@
-use Rattle.std.proofs.Common.{◌≡◌, ◌+◌, ◌-◌, ◌≤◌, length}
+use Rattle.std.proofs.Common.{◌-◌, IsTrue, length}
 use Rattle.sgf_tree.specs.Spelling.{is_upper}
 use Rattle.sgf_tree.specs.inner.KeptEnds.{AreKeptEnds}
 use Rattle.sgf_tree.specs.inner.NodeText.{AreValuesWritten}
@@ -10,8 +10,7 @@ abbrev pub invariant-values : goal.invariant-values
 invariant-values l = record {
   stands : IsBracket l.text l.at;
   so_far : ValuesSoFar l.text l.initial.at l.at;
-  few : l.start + l.left_out ≤ l.at;
-  written : l.left_out ≡ 0 → IsSpan is_upper l.text l.start l.initial.at × AreValuesWritten l.text l.initial.at l.at;
+  written : IsTrue l.as_written → IsSpan is_upper l.text l.start l.initial.at × AreValuesWritten l.text l.initial.at l.at;
   kept : AreKeptEnds l.text l.long.items;
 }
 

@@ -1,35 +1,47 @@
 use Rattle.std.proofs.Common.{◌≡◌, ◌∙◌, sym, arith}
+use Rattle.std.proofs.lemmas.Bool.{and_parts, eqb-true}
 use Rattle.std.proofs.lemmas.Result.{err_from_is_err_and}
 use Rattle.sgf_tree.proofs.NodeEnds.{node-name, properties-begin, properties-more, properties-done}
 use Rattle.sgf_tree.proofs.WrittenParts.{written-none, written-more}
+use Rattle.sgf_tree.specs.inner.PropertiesRead.{IsWholePropertyRead}
 use Rattle.sgf_tree.proofs.reader.properties.read_properties.Goals as goal
+use Rattle.sgf_tree.proofs.reader.properties.read_properties.Goals.{in-Some, in-None+in_ok-property-in-None}
 
 pub properties-init : goal.properties-init
 properties-init c = record {
   so_far = properties-begin c.args.text.now c.args.at c.skip_white_space-end.result c.skip_white_space-end.ensures;
   written = λ is.
-      let same : c.skip_white_space-end.result ≡ c.args.at = omega (arith, is, c.skip_white_space-end.ensures.rises) in
+      let same : c.skip_white_space-end.result ≡ c.args.at = eqb-true c.skip_white_space-end.result c.args.at is in
       rw same (written-none c.args.text.now c.args.at c.requires.within);
-  few = omega arith;
   kept = c.requires.kept;
 }
 
-pub returns-in_err-property-clause-fault : goal.returns-in_err-property-clause-fault
-returns-in_err-property-clause-fault c =
+pub returns-in_err-property-in-None-clause-fault : goal.returns-in_err-property-in-None-clause-fault
+returns-in_err-property-in-None-clause-fault c =
     let p = err_from_is_err_and c.from_residual.result c.from_residual.ensures.1 in
     let capital = sym c.is_ascii_uppercase.ensures.value ∙ c.if-is_ascii_uppercase.true in
     rw (p.1, p.2)
-    (λ n none h. c.in_err-property.ensures.fault _ (node-name c.args.text.now c.properties.end _ (c.properties.invariant.so_far.reached n none h).1 c.properties-test.true capital))
+    (λ n none h. c.in_err-property-in-None.ensures.fault _ (node-name c.args.text.now c.properties.end _ (c.properties.invariant.so_far.reached n none h).1 c.properties-test.true capital))
 
 pub properties-preserved : goal.properties-preserved
 properties-preserved c =
+    let t = c.args.text.now in
+    let end = c.properties.end in
+    let property = c.match-read_short_property.property in
     let capital = sym c.is_ascii_uppercase.ensures.value ∙ c.if-is_ascii_uppercase.true in
+    let read : IsWholePropertyRead t end property = elim c.match-read_short_property.branch [
+      | in-Some w ↦ rw w.property-is w.in-Some.ensures
+      | in-None+in_ok-property-in-None w ↦ rw w.property-is w.in_ok-property-in-None.ensures.read
+    ] in
     record {
-      so_far = properties-more c.args.text.now c.args.at c.properties.end c.in_ok-property.property.end c.properties.invariant.so_far c.properties-test.true capital c.in_ok-property.ensures.read.property;
+      so_far = properties-more t c.args.at end property.end c.properties.invariant.so_far c.properties-test.true capital read.property;
       written = λ is.
-          written-more c.args.text.now c.args.at c.properties.end c.in_ok-property.property.end (c.properties.invariant.written (omega (arith, is))) (c.in_ok-property.ensures.read.written (omega (arith, is)));
-      few = omega (arith, c.properties.invariant.few, c.in_ok-property.ensures.read.few);
-      kept = c.in_ok-property.ensures.kept;
+          let (before, last) = and_parts c.properties.as_written property.as_written is in
+          written-more t c.args.at end property.end (c.properties.invariant.written before) (read.written last);
+      kept = elim c.match-read_short_property.branch [
+        | in-Some w ↦ rw w.long-is c.properties.invariant.kept
+        | in-None+in_ok-property-in-None w ↦ rw w.long-is w.in_ok-property-in-None.ensures.kept
+      ];
     }
 
 pub returns-else-is_ascii_uppercase-clause-read : goal.returns-else-is_ascii_uppercase-clause-read
@@ -39,6 +51,3 @@ returns-else-is_ascii_uppercase-clause-read c =
 pub returns-after-properties-clause-read : goal.returns-after-properties-clause-read
 returns-after-properties-clause-read c =
     properties-done c.args.text.now c.args.at c.properties.end c.properties.invariant.so_far (λ lt. absurd (omega (arith, c.properties-test.false)))
-
-pub overflow_add-left_out : goal.overflow_add-left_out
-overflow_add-left_out c = omega (arith, c.properties.invariant.few, c.in_ok-property.ensures.read.few, c.in_ok-property.ensures.read.property.within, c.requires.short)

@@ -1,4 +1,4 @@
-use Rattle.std.proofs.Common.{◌≡◌, ◌-◌, ◌≤◌, length}
+use Rattle.std.proofs.Common.{◌-◌, IsTrue, length}
 use Rattle.sgf_tree.specs.inner.KeptEnds.{AreKeptEnds}
 use Rattle.sgf_tree.specs.inner.NodeText.{AreWritten}
 use Rattle.sgf_tree.proofs.NodeEnds.{PropertiesSoFar}
@@ -7,8 +7,7 @@ use Rattle.sgf_tree.proofs.reader.properties.read_properties.Given as goal
 abbrev pub invariant-properties : goal.invariant-properties
 invariant-properties l = record {
   so_far : PropertiesSoFar l.text l.at l.end;
-  written : l.left_out ≡ 0 → AreWritten l.text l.at l.end;
-  few : l.left_out ≤ l.end;
+  written : IsTrue l.as_written → AreWritten l.text l.at l.end;
   kept : AreKeptEnds l.text l.long.items;
 }
 

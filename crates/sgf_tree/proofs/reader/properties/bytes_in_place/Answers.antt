@@ -1,0 +1,8 @@
+use Rattle.sgf_tree.proofs.MoveBytes.{move-stands, node-ends}
+use Rattle.sgf_tree.proofs.reader.properties.bytes_in_place.Goals as goal
+
+pub returns-clause-move_stands : goal.returns-clause-move_stands
+returns-clause-move_stands c = move-stands c.args.text.now c.args.at c.requires (λ i. (c.type_inv.text i).fits)
+
+pub returns-clause-node_ends : goal.returns-clause-node_ends
+returns-clause-node_ends c = node-ends c.args.text.now c.args.at c.requires (λ i. (c.type_inv.text i).fits)
