@@ -5,7 +5,7 @@ ghost use Rattle.std.specs.Prelude.{◌≡◌, ◌≤◌, ◌+◌, [], ◌++◌,
 ghost use Rattle.sgf_lines.specs.ListRow.{verdict_text, row_text};
 ghost use Rattle.sgf_lines.specs.Script.{comment_row};
 
-use crate::form::text::push_bytes;
+use crate::form::commands::push_bytes;
 use crate::line::LineRef;
 use crate::verdict::Verdict;
 use go_board::Reason;
