@@ -3,7 +3,6 @@
 ghost use Rattle.std.specs.Prelude.{◌≡◌, ◌≤◌, ◌++◌, [], length, map, drop, OnOk, OnErr};
 ghost use Rattle.std.specs.List.{concat};
 ghost use Rattle.sgf_lines.specs.Record.{node_text};
-ghost use Rattle.sgf_lines.specs.Script.{board_commands};
 ghost use Rattle.sgf_lines.specs.inner.Scripting.{IsPlayable, step_script};
 ghost use Rattle.sgf_lines.specs.inner.Following.{nodes_before};
 ghost use Rattle.sgf_lines.specs.inner.Pieces.{no_pieces, pushed, closed, longer, cut};
@@ -11,8 +10,7 @@ ghost use Rattle.sgf_lines.specs.inner.Pieces.{no_pieces, pushed, closed, longer
 use crate::cursor::Cursor;
 use crate::form::commands::push_step;
 use crate::judging::step::TakenStep;
-use go_board::{Board, MAX_VERTEX_SIDE, Size};
-use itoa::Buffer;
+use go_board::{Board, MAX_VERTEX_SIDE};
 use sgf_tree::MemoryFault;
 use std::alloc::Global;
 use std::marker::Model;
@@ -77,16 +75,6 @@ impl Pieces {
     {
         self.text.extend_from_slice(bytes)?;
         Ok(())
-    }
-
-    /// Appends to the unfinished piece the commands before those of the first node, which set the size of the board and clear it.
-    pub(crate) fn push_board_commands(&mut self, size: Size) -> Result<(), MemoryFault>
-        ensures { OnOk result (self.new ≡ pushed self.old (board_commands size)) }
-    {
-        let mut side = Buffer::new();
-        self.push(b"boardsize ")?;
-        self.push(side.format(u64::from(size.side())).as_bytes())?;
-        self.push(b"\nclear_board\n")
     }
 
     /// Appends to the unfinished piece what a taken step adds to the script of a line; `board` is the board after

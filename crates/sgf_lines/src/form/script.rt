@@ -12,6 +12,7 @@ use crate::form::pieces::Pieces;
 use crate::judging::judge::Judge;
 use crate::judging::step::{Effect, TakenStep};
 use go_board::{Board, MAX_VERTEX_SIDE, Size};
+use itoa::Buffer;
 use sgf_tree::{MemoryFault, NodeRef};
 use std::alloc::Global;
 use std::marker::Model;
@@ -60,7 +61,11 @@ impl Script {
     {
         self.silence();
         if size.side() <= MAX_VERTEX_SIDE {
-            self.pieces.push_board_commands(size)?;
+            let mut side = Buffer::new();
+            self.pieces.push(b"boardsize ")?;
+            self.pieces
+                .push(side.format(u64::from(size.side())).as_bytes())?;
+            self.pieces.push(b"\nclear_board\n")?;
             self.pieces.close()?;
             self.said = 1;
         }
