@@ -1,5 +1,5 @@
 -- What properties hold, gathered one after the other.
-use Rattle.std.proofs.Common.{◌≡◌, ◌<◌, ℕ, Bool, true, false, Option, Some, None, List, [], ◌∷◌, ◌++◌, map, length, All, refl, sym, ap, ◌∙◌, inl, inr, subst, arith, append-nil, length-append}
+use Rattle.std.proofs.Common.{◌≡◌, ◌<◌, ℕ, Bor, Bool, true, false, Option, Some, None, List, [], ◌∷◌, ◌++◌, map, length, All, refl, sym, ap, ◌∙◌, inl, inr, arith, append-nil, length-append}
 use Rattle.std.specs.Prelude.{option_map, option_and_then, option_copied, find, codes, bytes_eq}
 use Rattle.std.specs.Option.{option_or}
 use Rattle.std.specs.List.{flat_map}
@@ -15,6 +15,7 @@ use Rattle.go_board.specs.declared.points.Rect.{Rect}
 use Rattle.go_board.specs.declared.referee.plays.SetupOp.{SetupOp}
 use Rattle.go_board.specs.Point.{IsRectOn}
 use Rattle.go_board.specs.Values.{rect_value}
+use Rattle.sgf_lines.specs.declared.judging.contents.Moves.{Moves}
 use Rattle.sgf_lines.specs.declared.judging.contents.Moves.TheVariants.{Several}
 use Rattle.sgf_lines.specs.declared.judging.contents.Setup.{Setup}
 use Rattle.sgf_lines.specs.declared.judging.contents.Setup.TheVariants.{Nothing as NoSetup, Meant, Faulty}
@@ -23,7 +24,7 @@ use Rattle.sgf_lines.specs.declared.judging.contents.Kind.{Kind}
 use Rattle.sgf_lines.specs.declared.judging.contents.Kind.TheVariants.{Move as move_kind, Stones as stones_kind, Player as player_kind, Comment as comment_kind}
 use Rattle.sgf_lines.specs.NodeContents.{Move, Stones, moves_in, moves_by, stones_in, stones_of, players_in, is_named, first_value}
 use Rattle.sgf_lines.specs.NodeValues.{player_value, operation, operations, last_player}
-use Rattle.sgf_lines.specs.inner.Gathered.{kind_of, first_comment, AreMoves, IsSetup, setup_with_stones, setup_with_player, AddsAreas, IsGathered}
+use Rattle.sgf_lines.specs.inner.Gathered.{kind_of, AreMoves, IsSetup, setup_with_stones, setup_with_player, AddsAreas, IsGathered}
 
 -- one operation before others, and all of two lists, where each is there
 abbrev before_all : Option SetupOp → Option (List SetupOp) → Option (List SetupOp)
@@ -138,54 +139,44 @@ module _ (side : ℕ) (ops : List SetupOp) (stones : List Stones) (players more 
     | inr bad ↦ inr (last_player-append None players more ∙ ap (λ o. option_and_then (λ b. last_player b more) o) bad)
   ]
 
--- what a property of some kind holds
-abbrev pub moves_held : Option Kind → Property → List Move
-moves_held None p = []
-moves_held (Some (move_kind k)) p = moves_by k p
-moves_held (Some (stones_kind cell)) p = []
-moves_held (Some player_kind) p = []
-moves_held (Some comment_kind) p = []
+-- what a property holds
+record Held : Type 0 where
+  moves : List Move
+  stones : List Stones
+  players : List (List ℕ)
+  comment : Option (List ℕ)
 
-abbrev pub stones_held : Option Kind → Property → List Stones
-stones_held None p = []
-stones_held (Some (move_kind k)) p = []
-stones_held (Some (stones_kind cell)) p = stones_of cell p
-stones_held (Some player_kind) p = []
-stones_held (Some comment_kind) p = []
+abbrev nothing : Held
+nothing = record { moves = []; stones = []; players = []; comment = None }
 
-abbrev pub players_held : Option Kind → Property → List (List ℕ)
-players_held None p = []
-players_held (Some (move_kind k)) p = []
-players_held (Some (stones_kind cell)) p = []
-players_held (Some player_kind) p = values p
-players_held (Some comment_kind) p = []
+abbrev held : Property → Held
+held p = record { moves = moves_in p; stones = stones_in p; players = players_in p; comment = first_value (codes "C") (p ∷ []) }
 
-abbrev pub comment_held : Option Kind → Property → Option (List ℕ)
-comment_held None p = None
-comment_held (Some (move_kind k)) p = None
-comment_held (Some (stones_kind cell)) p = None
-comment_held (Some player_kind) p = None
-comment_held (Some comment_kind) p = Some p.first
+-- by its kind
+abbrev held_by : Option Kind → Property → Held
+held_by None p = nothing
+held_by (Some (move_kind k)) p = record nothing { moves = moves_by k p }
+held_by (Some (stones_kind cell)) p = record nothing { stones = stones_of cell p }
+held_by (Some player_kind) p = record nothing { players = values p }
+held_by (Some comment_kind) p = record nothing { comment = Some p.first }
 
-by_name : (name first : List ℕ) (more : List (List ℕ)) → let p : Property = record { name = name; first = first; more = more } in
-    (moves_in p ≡ moves_held (kind_of p) p) × (stones_in p ≡ stones_held (kind_of p) p) × (players_in p ≡ players_held (kind_of p) p)
-    × (first_value (codes "C") (p ∷ []) ≡ comment_held (kind_of p) p)
+by_name : (name first : List ℕ) (more : List (List ℕ)) → let p : Property = record { name = name; first = first; more = more } in held p ≡ held_by (kind_of p) p
 by_name name first more =
     elim (cases_Bool (bytes_eq name (codes "B"))) [
-      | inl e ↦ let is = (bytes_eq-Decides name (codes "B")).0 e in (rw is, rw is, rw is, rw is)
+      | inl e ↦ rw ((bytes_eq-Decides name (codes "B")).0 e) refl
       | inr b ↦ elim (cases_Bool (bytes_eq name (codes "W"))) [
-        | inl e ↦ let is = (bytes_eq-Decides name (codes "W")).0 e in (rw is, rw is, rw is, rw is)
+        | inl e ↦ rw ((bytes_eq-Decides name (codes "W")).0 e) refl
         | inr w ↦ elim (cases_Bool (bytes_eq name (codes "AB"))) [
-          | inl e ↦ let is = (bytes_eq-Decides name (codes "AB")).0 e in (rw is, rw is, rw is, rw is)
+          | inl e ↦ rw ((bytes_eq-Decides name (codes "AB")).0 e) refl
           | inr ab ↦ elim (cases_Bool (bytes_eq name (codes "AW"))) [
-            | inl e ↦ let is = (bytes_eq-Decides name (codes "AW")).0 e in (rw is, rw is, rw is, rw is)
+            | inl e ↦ rw ((bytes_eq-Decides name (codes "AW")).0 e) refl
             | inr aw ↦ elim (cases_Bool (bytes_eq name (codes "AE"))) [
-              | inl e ↦ let is = (bytes_eq-Decides name (codes "AE")).0 e in (rw is, rw is, rw is, rw is)
+              | inl e ↦ rw ((bytes_eq-Decides name (codes "AE")).0 e) refl
               | inr ae ↦ elim (cases_Bool (bytes_eq name (codes "PL"))) [
-                | inl e ↦ let is = (bytes_eq-Decides name (codes "PL")).0 e in (rw is, rw is, rw is, rw is)
+                | inl e ↦ rw ((bytes_eq-Decides name (codes "PL")).0 e) refl
                 | inr pl ↦ elim (cases_Bool (bytes_eq name (codes "C"))) [
-                  | inl e ↦ let is = (bytes_eq-Decides name (codes "C")).0 e in (rw is, rw is, rw is, rw is)
-                  | inr c ↦ (rw (b, w, ab, aw, ae, pl, c), rw (b, w, ab, aw, ae, pl, c), rw (b, w, ab, aw, ae, pl, c), rw (b, w, ab, aw, ae, pl, c))
+                  | inl e ↦ rw ((bytes_eq-Decides name (codes "C")).0 e) refl
+                  | inr c ↦ rw (b, w, ab, aw, ae, pl, c) refl
                 ]
               ]
             ]
@@ -201,51 +192,63 @@ map_or : (x y : Option Property) → option_map (λ (p : Property). p.first) (op
 map_or None y = refl
 map_or (Some p) y = refl
 
--- what properties hold, and one more of some kind
-module _ (side : ℕ) (ps : List Property) (p : Property) (k : Option Kind) (is : kind_of p ≡ k) (ops new_ops : List SetupOp) (old new : Contents) (h : IsGathered side ps ops old) where
-  first_value_more : first_value (codes "C") (ps ++ p ∷ []) ≡ option_or (first_value (codes "C") ps) (comment_held k p)
-  first_value_more =
-      ap (option_map (λ (p : Property). p.first)) (find-append (is_named (codes "C")) ps (p ∷ []))
-      ∙ map_or (find (is_named (codes "C")) ps) (find (is_named (codes "C")) (p ∷ []))
-      ∙ ap (option_or (first_value (codes "C") ps)) ((by_name p.name p.first p.more).3 ∙ ap (λ o. comment_held o p) is)
-
-  pub gathered_more : AreMoves new.moves (flat_map moves_in ps ++ moves_held k p)
-      → IsSetup side new.setup new_ops (flat_map stones_in ps ++ stones_held k p) (flat_map players_in ps ++ players_held k p)
-      → option_copied new.comment ≡ option_or (option_copied old.comment) (comment_held k p) → All (λ (op : SetupOp). IsRectOn side op.area) new_ops
-      → IsGathered side (ps ++ p ∷ []) new_ops new
-  gathered_more moves setup comment on_board =
-      let names = by_name p.name p.first p.more in
-      let m = one_more moves_in ps p (moves_held k p) (names.0 ∙ ap (λ o. moves_held o p) is) in
-      let s = one_more stones_in ps p (stones_held k p) (names.1 ∙ ap (λ o. stones_held o p) is) in
-      let q = one_more players_in ps p (players_held k p) (names.2 ∙ ap (λ o. players_held o p) is) in
-      record {
-        moves_are = subst (AreMoves new.moves) (sym m) moves;
-        setup_is = subst (λ ss. IsSetup side new.setup new_ops ss (flat_map players_in (ps ++ p ∷ []))) (sym s)
-            (subst (λ qs. IsSetup side new.setup new_ops (flat_map stones_in ps ++ stones_held k p) qs) (sym q) setup);
-        comment_is = comment ∙ ap (λ o. option_or o (comment_held k p)) h.comment_is ∙ sym first_value_more;
-        on_board = on_board;
-      }
-
-  -- the moves, the setup and the comment as they were
-  pub moves_stay : AreMoves old.moves (flat_map moves_in ps ++ [])
-  moves_stay = subst (AreMoves old.moves) (sym (append-nil (flat_map moves_in ps))) h.moves_are
-
-  pub stones_stay : (players : List (List ℕ)) (setup : Setup) → IsSetup side setup ops (flat_map stones_in ps) players → IsSetup side setup ops (flat_map stones_in ps ++ []) players
-  stones_stay players setup is = subst (λ ss. IsSetup side setup ops ss players) (sym (append-nil (flat_map stones_in ps))) is
-
-  pub players_stay : (stones : List Stones) (setup : Setup) (now : List SetupOp) → IsSetup side setup now stones (flat_map players_in ps) → IsSetup side setup now stones (flat_map players_in ps ++ [])
-  players_stay stones setup now is = subst (IsSetup side setup now stones) (sym (append-nil (flat_map players_in ps))) is
-
-  pub setup_stays : IsSetup side old.setup ops (flat_map stones_in ps ++ []) (flat_map players_in ps ++ [])
-  setup_stays = players_stay (flat_map stones_in ps ++ []) old.setup ops (stones_stay (flat_map players_in ps) old.setup h.setup_is)
-
-pub no_comment : (o : Option (List ℕ)) → o ≡ option_or o None
+no_comment : (o : Option (List ℕ)) → o ≡ option_or o None
 no_comment None = refl
 no_comment (Some c) = refl
 
-pub first_is : (o : Option (List ℕ)) (first : List ℕ) → first_comment o first ≡ option_or o (Some first)
+first_is : (o : Option (Bor (List ℕ))) (first : Bor (List ℕ)) → option_copied (option_or o (Some first)) ≡ option_or (option_copied o) (Some first.now)
 first_is None first = refl
 first_is (Some c) first = refl
+
+-- what properties hold, and one more
+module _ (side : ℕ) (ps : List Property) (ops : List SetupOp) (old : Contents) (h : IsGathered side ps ops old) (p : Property) where
+  gathered_more : (k : Option Kind) (new_ops : List SetupOp) (new : Contents) → kind_of p ≡ k → AreMoves new.moves (flat_map moves_in ps ++ (held_by k p).moves)
+      → IsSetup side new.setup new_ops (flat_map stones_in ps ++ (held_by k p).stones) (flat_map players_in ps ++ (held_by k p).players)
+      → option_copied new.comment ≡ option_or (option_copied old.comment) (held_by k p).comment → All (λ (op : SetupOp). IsRectOn side op.area) new_ops
+      → IsGathered side (ps ++ p ∷ []) new_ops new
+  gathered_more k new_ops new is moves setup comment on_board =
+      let all : held p ≡ held_by k p = by_name p.name p.first p.more ∙ ap (λ o. held_by o p) is in
+      let found = find-append (is_named (codes "C")) ps (p ∷ []) in
+      record {
+        moves_are = rw (one_more moves_in ps p (held_by k p).moves (ap (λ (l : Held). l.moves) all)) moves;
+        setup_is =
+            rw (one_more stones_in ps p (held_by k p).stones (ap (λ (l : Held). l.stones) all), one_more players_in ps p (held_by k p).players (ap (λ (l : Held). l.players) all)) setup;
+        comment_is = comment ∙ ap (λ o. option_or o (held_by k p).comment) h.comment_is ∙ ap (option_or (first_value (codes "C") ps)) (sym (ap (λ (l : Held). l.comment) all))
+            ∙ sym (ap (option_map (λ (q : Property). q.first)) found ∙ map_or (find (is_named (codes "C")) ps) (find (is_named (codes "C")) (p ∷ [])));
+        on_board = on_board;
+      }
+
+  -- the moves and the setup as they were
+  moves_stay : AreMoves old.moves (flat_map moves_in ps ++ [])
+  moves_stay = rw (append-nil (flat_map moves_in ps)) h.moves_are
+
+  setup_stays : IsSetup side old.setup ops (flat_map stones_in ps ++ []) (flat_map players_in ps ++ [])
+  setup_stays = rw (append-nil (flat_map stones_in ps), append-nil (flat_map players_in ps)) h.setup_is
+
+  pub gathered_moves : (k : Colour) (moves : Moves) → kind_of p ≡ Some (move_kind k) → AreMoves moves (flat_map moves_in ps ++ moves_by k p) → IsGathered side (ps ++ p ∷ []) ops (record old { moves = moves })
+  gathered_moves k moves is are = gathered_more (Some (move_kind k)) ops (record old { moves = moves }) is are setup_stays (no_comment (option_copied old.comment)) h.on_board
+
+  pub gathered_stones : (cell : Cell) (new_ops : List SetupOp) (good : Bool) → kind_of p ≡ Some (stones_kind cell) → AddsAreas side (stones_of cell p) ops new_ops good
+      → IsGathered side (ps ++ p ∷ []) new_ops (record old { setup = setup_with_stones old.setup good })
+  gathered_stones cell new_ops good is adds =
+      gathered_more (Some (stones_kind cell)) new_ops (record old { setup = setup_with_stones old.setup good }) is moves_stay
+      (rw (append-nil (flat_map players_in ps)) (more_stones side ops new_ops (flat_map stones_in ps) (stones_of cell p) (flat_map players_in ps) (omega arith) old.setup good h.setup_is adds))
+      (no_comment (option_copied old.comment)) (adds.on_board h.on_board)
+
+  pub gathered_players : (last : Option Colour) → kind_of p ≡ Some player_kind → ((before : Option Colour) → last_player before (values p) ≡ option_map Some last)
+      → IsGathered side (ps ++ p ∷ []) ops (record old { setup = setup_with_player old.setup last })
+  gathered_players last is told =
+      gathered_more (Some player_kind) ops (record old { setup = setup_with_player old.setup last }) is moves_stay
+      (rw (append-nil (flat_map stones_in ps)) (more_players side ops (flat_map stones_in ps) (flat_map players_in ps) (values p) (omega arith) old.setup last h.setup_is told))
+      (no_comment (option_copied old.comment)) h.on_board
+
+  pub gathered_comment : (first : Bor (List ℕ)) → kind_of p ≡ Some comment_kind → p.first ≡ first.now → IsGathered side (ps ++ p ∷ []) ops (record old { comment = option_or old.comment (Some first) })
+  gathered_comment first is value =
+      gathered_more (Some comment_kind) ops (record old { comment = option_or old.comment (Some first) }) is moves_stay setup_stays
+      (first_is old.comment first ∙ ap (λ v. option_or (option_copied old.comment) (Some v)) (sym value)) h.on_board
+
+  pub gathered_nothing : kind_of p ≡ None → IsGathered side (ps ++ p ∷ []) ops old
+  gathered_nothing is = gathered_more None ops old is moves_stay setup_stays (no_comment (option_copied old.comment)) h.on_board
 
 -- a move after others, or before others
 pub two_at_least : (ms : List Move) (m : Move) (rest : List Move) → (ms ≡ [] → (l : Move) × (more : List Move) × (rest ≡ l ∷ more)) → AreMoves Several (ms ++ m ∷ rest)

@@ -56,9 +56,6 @@ pub on_any : {A E : Type 0} {P : Type 0} (r : Result A E) → P → OnOk r P
 on_any (Ok x) p = p
 on_any (Err e) p = tt
 
-pub fresh_of_ok : {A B E F : Type 0} {old new count : ℕ} (x : A) (r : Result B F) → PlaysUpTo {E = E} old new count (Ok x) → PlaysUpTo old new count r
-fresh_of_ok x r h = record { not_fewer = h.not_fewer; not_more = h.not_more; each = on_any r h.each }
-
 pub fresh_of_err : {B E F : Type 0} (A : Type 0) {old new count : ℕ} (e : E) (r : Result B F) → IsErr r → PlaysUpTo {A = A} old new count (Err e) → PlaysUpTo old new count r
 fresh_of_err A e (Ok x) bad h = absurd cc
 fresh_of_err A e (Err f) is h = record { not_fewer = h.not_fewer; not_more = h.not_more; each = tt }

@@ -38,8 +38,6 @@ pub mod Scripts
 pub mod Along
 pub mod Cut
 pub mod Commanding
-pub mod Lined
-pub mod Scripted
 pub mod Judgement
 pub mod SaidAgain
 pub mod Again
@@ -58,7 +56,6 @@ pub mod Paging
 pub mod PagingPlays
 pub mod RunningPlays
 pub mod CountAnswers
-pub mod Recorded
 pub mod Keeping
 pub mod LineNodes
 pub mod RunRecords

@@ -146,14 +146,6 @@ impl<'c, 'a> Cursor<'c, 'a> {
             .push_nodes(numbers_from(&self.path, from), out, ends)
     }
 
-    /// The place of that node.
-    pub(crate) fn place(&self, index: usize) -> u64
-        requires { index < length (nodes_before self.now) }
-        ensures { (node : Node) → slice_get (nodes_before self.now) index ≡ Some node → result ≡ node.place }
-    {
-        self.collection.place(self.path[index]) as u64
-    }
-
     /// The line before the cursor.
     pub(crate) fn line(&self) -> LineRef<'_>
         requires { 0 < self.now.index }

@@ -6,7 +6,7 @@
 //! | `record` | the record of a line in sgf form |
 //! | `script`, `commands` | the script of a line in gtp form; the commands of a node |
 //! | `judged` | judging a line from the first node that isn't shared with the line before it |
-//! | `pieces`, `text` | a text in pieces; bytes and numbers that are appended |
+//! | `pieces` | a text in pieces |
 
 pub(crate) mod commands;
 pub(crate) mod judged;
@@ -14,4 +14,3 @@ pub(crate) mod pieces;
 pub(crate) mod record;
 pub(crate) mod row;
 pub(crate) mod script;
-pub(crate) mod text;

@@ -12,6 +12,7 @@ ghost use Rattle.sgf_lines.specs.RunPlays.{IsRunWithPlays, plays_in};
 ghost use Rattle.sgf_lines.specs.declared.going_on.Before.TheVariants.{Held};
 ghost use Rattle.sgf_lines.specs.inner.Following.{line_before, nodes_before};
 ghost use Rattle.sgf_lines.specs.inner.Keeping.{Holds, HoldsBy, IsFresh, KeepsBy, PlaysLine, PlaysUpTo, fresh_plays, kept_in, record_by, record_in};
+ghost use Rattle.sgf_lines.specs.inner.Views.{built_text};
 ghost use Rattle.sgf_lines.specs.inner.Running.{HasRecord, IsReading, IsStart, PutsAll, WritesLines};
 
 use crate::cursor::Cursor;
@@ -20,7 +21,7 @@ use crate::ends::source::Source;
 use crate::fault::RunFault;
 use crate::form::judged::judge_line;
 use crate::form::pieces::Pieces;
-use crate::form::row::{push_list_row, push_list_row_comment};
+use crate::form::row::Row;
 use crate::form::script::Script;
 use crate::form::{record, script};
 use crate::going_on::{Before, go_on};
@@ -174,8 +175,8 @@ pub(crate) struct Run<'c, 'a> {
     /// Its commands, in the gtp form.
     script: Script,
 
-    /// What comes first in its record, in the forms that judge.
-    head: Vec<u8>,
+    /// Its row, in the forms that judge.
+    row: Row,
 }
 
 impl<'c, 'a> Run<'c, 'a> {
@@ -192,7 +193,7 @@ impl<'c, 'a> Run<'c, 'a> {
             judge: Judge::new(alloc),
             game: Pieces::new(alloc),
             script: Script::new(alloc),
-            head: Vec::new(alloc),
+            row: Row::new(),
         }
     }
 
@@ -272,7 +273,7 @@ impl<'c, 'a> Run<'c, 'a> {
         requires within { held ≤ length (nodes_before self.old.cursor) }
         requires keeps { 0 < held → KeepsBy self.old.form (nodes_before self.old.cursor) held (kept_in self.old) }
         requires countable { self.old.judge.plays + length (nodes_before self.old.cursor) < u64.MAX }
-        ensures made { OnOk result (Some (record_by self.old.form self.new.head.items self.new.game self.new.script) ≡ option_map (record_of self.old.form) (line_before self.old.cursor)) }
+        ensures made { OnOk result (Some (record_by self.old.form (built_text self.new.row) self.new.game self.new.script) ≡ option_map (record_of self.old.form) (line_before self.old.cursor)) }
         ensures holds { OnOk result (HoldsBy self.old.form (nodes_before self.old.cursor) (kept_in self.new)) }
         ensures plays { PlaysUpTo self.old.judge.plays self.new.judge.plays
             (plays_in self.old.form (fresh_plays (nodes_before self.old.cursor) held)) result }
@@ -283,14 +284,15 @@ impl<'c, 'a> Run<'c, 'a> {
         match self.form {
             Form::List => {
                 judge_line(&self.cursor, held, &mut self.judge)?;
-                self.head.clear();
-                push_list_row(&self.cursor.line(), self.judge.verdict(), &mut self.head)
+                self.row.lay_out(&self.cursor.line(), self.judge.verdict());
+                Ok(())
             }
             Form::Sgf => record::follow(&self.cursor, held, &mut self.game),
             Form::Gtp => {
                 script::follow(&self.cursor, held, &mut self.judge, &mut self.script)?;
-                self.head.clear();
-                push_list_row_comment(&self.cursor.line(), self.judge.verdict(), &mut self.head)
+                self.row
+                    .lay_out_comment(&self.cursor.line(), self.judge.verdict());
+                Ok(())
             }
         }
     }
@@ -301,10 +303,10 @@ impl<'c, 'a> Run<'c, 'a> {
         ensures { PutsAll (T.state sink.old) (T.state sink.new) (record_in self.now) result }
     {
         match self.form {
-            Form::List => put_all(&self.head, sink),
+            Form::List => put_all(self.row.text(), sink),
             Form::Sgf => put_all(self.game.text(), sink),
             Form::Gtp => {
-                put_all(&self.head, sink)?;
+                put_all(self.row.text(), sink)?;
                 put_all(self.script.text(), sink)
             }
         }

@@ -147,9 +147,10 @@ impl<'a> Iterator for Values<'a> {
     }
 }
 
-/// The first property of a text, and the offset where its values end. Its identifier begins at `start`, after white space. This
-/// is a function of its own so that finding no property costs little.
-#[inline(never)]
+/// The first property of a text, and the offset where its values end. Its identifier begins at `start`, after white space.
+///
+/// This is inlined, because a call would pass the property in memory.
+#[inline(always)]
 fn property_at<'a>(text: &'a [u8], start: usize, long: &Vec<LongValue>) -> (PropRef<'a>, usize)
     requires held { ArePropertiesIn text.now }
     requires kept { AreKeptEnds text.now long.now.items }

@@ -43,6 +43,13 @@ impl<'c, 'a> Model for NodeRef<'c, 'a> {
 }
 
 impl<'c, 'a> NodeRef<'c, 'a> {
+    /// Its place: the offset in bytes, from 0, of its `;` in the text.
+    pub fn place(&self) -> usize
+        ensures { result ≡ self.now.place }
+    {
+        self.place as usize
+    }
+
     /// Its properties, in file order.
     pub fn iter(&self) -> Properties<'c, 'a>
         ensures { result ≡ self.now.properties }

@@ -31,11 +31,6 @@ kind_named name =
 abbrev pub kind_of : Property → Option Kind
 kind_of p = kind_named p.name
 
--- the comment that was found before; if none was, this one
-abbrev pub first_comment : Option (List ℕ) → List ℕ → Option (List ℕ)
-first_comment (Some met) first = Some met
-first_comment None first = Some first
-
 -- what is kept of the moves: none, the only one, or that there are several
 abbrev pub AreMoves : Moves → List Move → Type 0
 AreMoves Nothing moves = moves ≡ []

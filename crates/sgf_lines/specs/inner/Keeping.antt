@@ -18,6 +18,7 @@ use Rattle.sgf_lines.specs.inner.Scripting.{ScriptState, script_of, script_back,
 use Rattle.sgf_lines.specs.inner.Judging.{Judgement, judging, back}
 use Rattle.sgf_lines.specs.inner.Following.{nodes_before}
 use Rattle.sgf_lines.specs.inner.GoingOn.{GoesOnBy}
+use Rattle.sgf_lines.specs.inner.Views.{built_text}
 
 -- the judgement on a line after its first nodes, and its script after them
 abbrev pub judging_front : List Node → ℕ → Judgement
@@ -64,12 +65,12 @@ pub record IsFresh (run : Run) : Type 0 where
 
 -- the record that was made last
 abbrev pub record_by : Form → List ℕ → PiecesState → ScriptState → List ℕ
-record_by list_form head game script = head
-record_by sgf_form head game script = concat game.pieces ++ game.begun
-record_by gtp_form head game script = head ++ script_text script
+record_by list_form row game script = row
+record_by sgf_form row game script = concat game.pieces ++ game.begun
+record_by gtp_form row game script = row ++ script_text script
 
 abbrev pub record_in : Run → List ℕ
-record_in run = record_by run.form run.head.items run.game run.script
+record_in run = record_by run.form (built_text run.row) run.game run.script
 
 -- how many nodes are played for a line whose first `shared` nodes are played already
 abbrev pub fresh_plays : List Node → ℕ → ℕ

@@ -7,19 +7,17 @@ ghost use Rattle.sgf_lines.specs.Script.{text_rows, comment_row, comment_text, c
 ghost use Rattle.sgf_lines.specs.inner.Cutting.{commands_at, AreAppended, pass_command, stone_command};
 ghost use Rattle.sgf_lines.specs.inner.Scripting.{IsPlayable, step_script};
 
-use crate::form::text::{push_bytes, push_number};
 use crate::judging::step::{Effect, TakenStep};
 use go_board::{Board, Colour, MAX_VERTEX_SIDE, Play, Point, Size, Vertex, vertex};
 use memchr::memchr;
 use sgf_tree::{MemoryFault, push_text};
 
-/// Appends the commands before those of the first node, which set the size of the board and clear it.
-pub(crate) fn push_board_commands(size: Size, output: &mut Vec<u8>) -> Result<(), MemoryFault>
-    ensures { OnOk result (output.new.items ≡ output.old.items ++ board_commands size) }
+/// Appends bytes.
+pub(crate) fn push_bytes(bytes: &[u8], output: &mut Vec<u8>) -> Result<(), MemoryFault>
+    ensures { OnOk result (output.new.items ≡ output.old.items ++ bytes.now) }
 {
-    push_bytes(b"boardsize ", output)?;
-    push_number(u64::from(size.side()), output)?;
-    push_bytes(b"\nclear_board\n", output)
+    output.extend_from_slice(bytes)?;
+    Ok(())
 }
 
 /// Appends what a taken step adds to the script of a line; `board` is the board after it.

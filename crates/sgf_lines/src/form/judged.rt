@@ -26,7 +26,7 @@ pub(crate) fn judge_line(
     let end = cursor.len();
     begin_or_go_back(cursor, held, judge)?;
     for index in held..end {
-        judge.take(&cursor.node(index), cursor.place(index))?;
+        judge.take(&cursor.node(index))?;
     }
     Ok(())
 }

@@ -3,10 +3,14 @@
 ghost use Rattle.std.specs.Prelude.{◌≡◌, ◌≤◌, ◌++◌, [], length, map, drop, OnOk, OnErr};
 ghost use Rattle.std.specs.List.{concat};
 ghost use Rattle.sgf_lines.specs.Record.{node_text};
+ghost use Rattle.sgf_lines.specs.inner.Scripting.{IsPlayable, step_script};
 ghost use Rattle.sgf_lines.specs.inner.Following.{nodes_before};
 ghost use Rattle.sgf_lines.specs.inner.Pieces.{no_pieces, pushed, closed, longer, cut};
 
 use crate::cursor::Cursor;
+use crate::form::commands::push_step;
+use crate::judging::step::TakenStep;
+use go_board::{Board, MAX_VERTEX_SIDE};
 use sgf_tree::MemoryFault;
 use std::alloc::Global;
 use std::marker::Model;
@@ -71,6 +75,26 @@ impl Pieces {
     {
         self.text.extend_from_slice(bytes)?;
         Ok(())
+    }
+
+    /// Appends to the unfinished piece what a taken step adds to the script of a line; `board` is the board after
+    /// it. After a refusal of memory there are no pieces.
+    pub(crate) fn push_step(
+        &mut self,
+        step: TakenStep<'_>,
+        board: &Board,
+    ) -> Result<(), MemoryFault>
+        requires letters { board.now.side ≤ MAX_VERTEX_SIDE }
+        requires playable { IsPlayable board.now.side step.effect }
+        ensures { OnOk result (self.new ≡ pushed self.old (step_script board.now step.entry)) }
+    {
+        match push_step(step, board, &mut self.text) {
+            Ok(()) => Ok(()),
+            Err(fault) => {
+                self.ends.clear();
+                Err(fault)
+            }
+        }
     }
 
     /// Finishes the unfinished piece, and begins an empty one.

@@ -1,70 +1,20 @@
 //! The row of a line, alone or as a comment. It is built from its end to its
 //! front, because the digits of a number are found last to first.
 
-ghost use Rattle.std.specs.Prelude.{◌≡◌, ◌≤◌, ◌+◌, [], ◌++◌, length, OnOk, codes, decimal};
+ghost use Rattle.std.specs.Prelude.{◌≡◌, ◌≤◌, ◌+◌, [], ◌++◌, length, codes, decimal};
 ghost use Rattle.sgf_lines.specs.ListRow.{verdict_text, row_text};
 ghost use Rattle.sgf_lines.specs.Script.{comment_row};
 
-use crate::form::text::push_bytes;
 use crate::line::LineRef;
 use crate::verdict::Verdict;
-use go_board::Reason;
 use itoa::write_digits;
-use sgf_tree::MemoryFault;
 
 /// The number of bytes that there is room for: five numbers of up to 20 digits, and the words of a verdict.
 const ROOM: usize = 160;
 
-/// Appends the row of a line with this verdict, and a line feed.
-pub(crate) fn push_list_row(
-    line: &LineRef<'_>,
-    verdict: Verdict,
-    output: &mut Vec<u8>,
-) -> Result<(), MemoryFault>
-    ensures { OnOk result (output.new.items ≡ output.old.items
-        ++ (row_text line.now.place line.now.game (length line.now.path.now) verdict ++ codes "\n")) }
-{
-    push_row(line.place, line.game, line.path.len(), verdict, output)
-}
-
-/// Appends the row of a line with this verdict as a comment, with a line feed.
-pub(crate) fn push_list_row_comment(
-    line: &LineRef<'_>,
-    verdict: Verdict,
-    output: &mut Vec<u8>,
-) -> Result<(), MemoryFault>
-    ensures { OnOk result (output.new.items ≡ output.old.items
-        ++ comment_row (row_text line.now.place line.now.game (length line.now.path.now) verdict)) }
-{
-    push_bytes(b"# ", output)?;
-    push_list_row(line, verdict, output)
-}
-
-/// Appends the row of a line with this place, game number, number of nodes and verdict, and a line feed.
-fn push_row(
-    place: u64,
-    game: usize,
-    nodes: usize,
-    verdict: Verdict,
-    output: &mut Vec<u8>,
-) -> Result<(), MemoryFault>
-    ensures { OnOk result (output.new.items ≡ output.old.items ++ (row_text place game nodes verdict ++ codes "\n")) }
-{
-    let mut row = Row::new();
-    row.put(b"\n");
-    row.put_verdict(verdict);
-    row.put(b" ");
-    row.put_number(nodes as u64);
-    row.put(b" ");
-    row.put_number(game as u64);
-    row.put(b" ");
-    row.put_number(place);
-    push_bytes(row.text(), output)
-}
-
-/// The end of a row, which grows at its front.
+/// The row of a line, or the end of it, which grows at its front.
 #[derive(Drop)]
-struct Row {
+pub(crate) struct Row {
     bytes: [u8; ROOM],
     start: usize,
     ghost within: { start ≤ 160 },
@@ -74,7 +24,7 @@ impl Row {
     ghost use Rattle.sgf_lines.specs.inner.Views.{built_text};
 
     /// The empty text.
-    fn new() -> Row
+    pub(crate) fn new() -> Row
         ensures text { built_text result ≡ [] }
         ensures room { result.start ≡ 160 }
     {
@@ -82,6 +32,30 @@ impl Row {
             bytes: [0; ROOM],
             start: ROOM,
         }
+    }
+
+    /// Becomes the row of a line with this verdict, and a line feed.
+    pub(crate) fn lay_out(&mut self, line: &LineRef<'_>, verdict: Verdict)
+        ensures text { built_text self.new ≡ row_text line.now.place line.now.game (length line.now.path.now) verdict ++ codes "\n" }
+        ensures room { 2 ≤ self.new.start }
+    {
+        *self = Row::new();
+        self.put(b"\n");
+        self.put_verdict(verdict);
+        self.put(b" ");
+        self.put_number(line.path.len() as u64);
+        self.put(b" ");
+        self.put_number(line.game as u64);
+        self.put(b" ");
+        self.put_number(line.place);
+    }
+
+    /// Becomes the row of a line with this verdict as a comment, with a line feed.
+    pub(crate) fn lay_out_comment(&mut self, line: &LineRef<'_>, verdict: Verdict)
+        ensures { built_text self.new ≡ comment_row (row_text line.now.place line.now.game (length line.now.path.now) verdict) }
+    {
+        self.lay_out(line, verdict);
+        self.put(b"# ");
     }
 
     /// Puts bytes before the text.
@@ -111,48 +85,36 @@ impl Row {
         ensures room { self.old.start ≤ self.new.start + 70 }
     {
         match verdict {
-            Verdict::Score { black, white, over } => self.put_score(black, white, over),
+            Verdict::Score { black, white, over } => {
+                if over {
+                    self.put(b" over");
+                } else {
+                    self.put(b" open");
+                }
+                self.put_number(u64::from(white));
+                self.put(b" ");
+                self.put_number(u64::from(black));
+                self.put(b"score ");
+            }
             Verdict::Illegal {
                 turn,
                 place,
                 reason,
-            } => self.put_illegal(turn, place, reason),
+            } => {
+                self.put(reason.word().as_bytes());
+                self.put(b" ");
+                self.put_number(place);
+                self.put(b" ");
+                self.put_number(turn);
+                self.put(b"illegal ");
+            }
             Verdict::NotGo => self.put(b"unjudged game"),
             Verdict::BadSize => self.put(b"unjudged size"),
         }
     }
 
-    fn put_score(&mut self, black: u32, white: u32, over: bool)
-        requires { 70 ≤ self.old.start }
-        ensures text { built_text self.new ≡ verdict_text (Verdict.Score black white over) ++ built_text self.old }
-        ensures room { self.old.start ≤ self.new.start + 70 }
-    {
-        if over {
-            self.put(b" over");
-        } else {
-            self.put(b" open");
-        }
-        self.put_number(u64::from(white));
-        self.put(b" ");
-        self.put_number(u64::from(black));
-        self.put(b"score ");
-    }
-
-    fn put_illegal(&mut self, turn: u64, place: u64, reason: Reason)
-        requires { 70 ≤ self.old.start }
-        ensures text { built_text self.new ≡ verdict_text (Verdict.Illegal turn place reason) ++ built_text self.old }
-        ensures room { self.old.start ≤ self.new.start + 70 }
-    {
-        self.put(reason.word().as_bytes());
-        self.put(b" ");
-        self.put_number(place);
-        self.put(b" ");
-        self.put_number(turn);
-        self.put(b"illegal ");
-    }
-
     /// The text put so far.
-    fn text(&self) -> &[u8]
+    pub(crate) fn text(&self) -> &[u8]
         ensures { result.now ≡ built_text self.now }
     {
         &self.bytes[self.start..]

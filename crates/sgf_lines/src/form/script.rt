@@ -7,12 +7,12 @@ ghost use Rattle.sgf_lines.specs.inner.Keeping.{judging_front, script_front, fre
 ghost use Rattle.sgf_lines.specs.inner.Scripting.{IsLettered, IsPlayable, is_unreaching, no_script, said_after, said_on, script_back, script_begun, script_ended, script_on, script_text, step_script};
 
 use crate::cursor::Cursor;
-use crate::form::commands::{push_board_commands, push_step};
 use crate::form::judged::begin_or_go_back;
 use crate::form::pieces::Pieces;
 use crate::judging::judge::Judge;
 use crate::judging::step::{Effect, TakenStep};
 use go_board::{Board, MAX_VERTEX_SIDE, Size};
+use itoa::Buffer;
 use sgf_tree::{MemoryFault, NodeRef};
 use std::alloc::Global;
 use std::marker::Model;
@@ -26,9 +26,6 @@ pub(crate) struct Script {
 
     /// The number of pieces before the first setup that leaves a stone without a liberty; all of them if there is none.
     said: usize,
-
-    /// A buffer for the commands of a node.
-    words: Vec<u8>,
 }
 
 impl Model for Script {
@@ -47,7 +44,6 @@ impl Script {
         Script {
             pieces: Pieces::new(alloc),
             said: 0,
-            words: Vec::new(alloc),
         }
     }
 
@@ -65,9 +61,11 @@ impl Script {
     {
         self.silence();
         if size.side() <= MAX_VERTEX_SIDE {
-            self.words.clear();
-            push_board_commands(size, &mut self.words)?;
-            self.pieces.push(&self.words)?;
+            let mut side = Buffer::new();
+            self.pieces.push(b"boardsize ")?;
+            self.pieces
+                .push(side.format(u64::from(size.side())).as_bytes())?;
+            self.pieces.push(b"\nclear_board\n")?;
             self.pieces.close()?;
             self.said = 1;
         }
@@ -84,9 +82,7 @@ impl Script {
         if count == 0 {
             return Ok(());
         }
-        self.words.clear();
-        push_step(step, board, &mut self.words)?;
-        self.pieces.push(&self.words)?;
+        self.pieces.push_step(step, board)?;
         self.pieces.close()?;
         if self.said == count && !leaves_unreaching(step.effect, board) {
             self.said = self.pieces.count();
@@ -94,14 +90,8 @@ impl Script {
         Ok(())
     }
 
-    /// Judges a node with this place, and adds it if its step was taken.
-    fn take(
-        &mut self,
-        node: &NodeRef<'_, '_>,
-        place: u64,
-        judge: &mut Judge,
-    ) -> Result<(), MemoryFault>
-        requires place { place ≡ node.now.place }
+    /// Judges a node, and adds it if its step was taken.
+    fn take(&mut self, node: &NodeRef<'_, '_>, judge: &mut Judge) -> Result<(), MemoryFault>
         requires countable { judge.old.plays < u64.MAX }
         requires letters { IsLettered self.old (board_in judge.old.judgement) }
         ensures judged { OnOk result (judge.new.judgement ≡ after judge.old.judgement node.now) }
@@ -110,7 +100,7 @@ impl Script {
         ensures not_fewer { judge.old.plays ≤ judge.new.plays }
         ensures not_more { judge.new.plays ≤ judge.old.plays + next_plays judge.old.judgement }
     {
-        let Some(step) = judge.take(node, place)? else {
+        let Some(step) = judge.take(node)? else {
             return Ok(());
         };
         match judge.board() {
@@ -168,7 +158,7 @@ pub(crate) fn follow(
     begin_or_go_back(cursor, held, judge)?;
     keep(held, judge, script)?;
     for index in held..end {
-        script.take(&cursor.node(index), cursor.place(index), judge)?;
+        script.take(&cursor.node(index), judge)?;
     }
     script.end()
 }

@@ -1,12 +1,12 @@
 //! What a node holds for the referee and for a script: moves, stones and players (SGF FF[4], move and setup properties), and a
 //! comment. It is gathered in one pass over the node's properties.
 
-ghost use Rattle.std.specs.Prelude.{◌≡◌, ◌∷◌, ◌++◌, [], ℕ, List, Option, IfOk, OnOk, option_copied, option_map, Some};
+ghost use Rattle.std.specs.Prelude.{◌≡◌, ◌∷◌, ◌++◌, [], ℕ, List, Option, IfOk, OnOk, option_map, Some};
 ghost use Rattle.sgf_tree.specs.Tree.{Property, lone_property, values};
 ghost use Rattle.go_board.specs.declared.stones.Colour.{Colour};
 ghost use Rattle.sgf_lines.specs.NodeContents.{Move, moves_by, stones_of};
 ghost use Rattle.sgf_lines.specs.NodeValues.{last_player as last_player_rule};
-ghost use Rattle.sgf_lines.specs.inner.Gathered.{AreMoves, AddsAreas, IsGathered, first_comment, kind_of as kind_of_rule, setup_with_stones, setup_with_player};
+ghost use Rattle.sgf_lines.specs.inner.Gathered.{AreMoves, AddsAreas, IsGathered, kind_of as kind_of_rule, setup_with_stones, setup_with_player};
 
 use crate::node_values::player_value;
 use go_board::{Cell, Colour, SetupOp, Size, rect};
@@ -137,7 +137,7 @@ impl<'a> Contents<'a> {
                 self.setup = with_stones(self.setup, good);
             }
             Some(Kind::Player) => self.setup = with_player(self.setup, last_player(property)),
-            Some(Kind::Comment) => self.comment = first_comment(self.comment, property),
+            Some(Kind::Comment) => self.comment = self.comment.or(Some(property.value(0))),
             None => {}
         }
         Ok(())
@@ -157,16 +157,6 @@ fn with_moves<'a>(moves: Moves<'a>, colour: Colour, property: &PropRef<'a>) -> M
             Some(_) => Moves::Several,
         },
         Moves::One(..) | Moves::Several => Moves::Several,
-    }
-}
-
-/// The comment that was found before; if there was none, the comment of a property.
-fn first_comment<'a>(comment: Option<&'a [u8]>, property: &PropRef<'a>) -> Option<&'a [u8]>
-    ensures { option_copied result ≡ first_comment (option_copied comment.entry) property.now.first }
-{
-    match comment {
-        Some(met) => Some(met),
-        None => Some(property.value(0)),
     }
 }
 

@@ -89,14 +89,12 @@ impl Judge {
         Ok(())
     }
 
-    /// Takes one more node, with this place, and returns its step. None if the step isn't taken: the game isn't judged, the node
+    /// Takes one more node, and returns its step. None if the step isn't taken: the game isn't judged, the node
     /// isn't allowed, or the line ended before it. After a refusal of memory nothing is changed.
     pub(crate) fn take<'a>(
         &mut self,
         node: &NodeRef<'_, 'a>,
-        place: u64,
     ) -> Result<Option<TakenStep<'a>>, MemoryFault>
-        requires place { place ≡ node.now.place }
         requires countable { self.old.plays < u64.MAX }
         ensures judged { OnOk result (self.new.judgement ≡ after self.old.judgement node.now) }
         ensures plays { OnOk result (self.new.plays ≡ self.old.plays + next_plays self.old.judgement) }
@@ -117,6 +115,7 @@ impl Judge {
             Err(TurnFault::Illegal(reason)) => {
                 self.plays += 1;
                 let turn = referee.turns() + 1;
+                let place = node.place() as u64;
                 self.ended = Some(Verdict::Illegal {
                     turn,
                     place,

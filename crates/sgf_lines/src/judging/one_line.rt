@@ -81,7 +81,7 @@ fn take_path(
         → OnOk result (judge.new.judgement ≡ fold after judge.old.judgement nodes) }
 {
     for number in path {
-        judge.take(&collection.node(*number), collection.place(*number) as u64)?;
+        judge.take(&collection.node(*number))?;
     }
     Ok(())
 }

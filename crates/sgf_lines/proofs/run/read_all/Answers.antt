@@ -1,5 +1,4 @@
 -- What the last call gave was not kept.
-use Rattle.std.proofs.lemmas.Grind.{common_steps}
 use Rattle.std.proofs.Common.{◌++◌, take, refl, arith, length-append}
 use Rattle.std.proofs.KnownBytes.{Appends-trans, Consumes-trans}
 use Rattle.std.proofs.lemmas.List.{length-take-le}
@@ -43,9 +42,3 @@ pub returns-in_err-extend_from_slice-clause-failures : goal.returns-in_err-exten
 returns-in_err-extend_from_slice-clause-failures g c =
     let p = err_from_is_err_and c.from_residual.result c.from_residual.ensures.1 in
     rw (p.1, p.2) (omega (arith, c.in-Ok.ensures.1.failures, c.read.invariant.failures))
-
-pub returns-then-count-eq0-clause-answer : goal.returns-then-count-eq0-clause-answer
-returns-then-count-eq0-clause-answer g c = grind (arith, common_steps)
-
-pub returns-then-count-eq0-clause-failures : goal.returns-then-count-eq0-clause-failures
-returns-then-count-eq0-clause-failures g c = grind (arith, common_steps)

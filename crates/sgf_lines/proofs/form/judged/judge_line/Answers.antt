@@ -9,8 +9,8 @@ pub loop-index-init : goal.loop-index-init
 loop-index-init c =
     judges_begun (nodes_before c.args.cursor.now) c.args.held c.args.judge.now.plays c.begin_or_go_back.new.judge c.in_ok-begin_or_go_back.ensures.judged c.in_ok-begin_or_go_back.ensures.plays
 
-pub take-requires-clause-countable : goal.take-requires-clause-countable
-take-requires-clause-countable c = omega (arith, c.loop-index.invariant.few, c.requires.countable, c.loop-index-test.true, c.len-end.ensures.nodes, c.loop-index.auto.index)
+pub take-requires : goal.take-requires
+take-requires c = omega (arith, c.loop-index.invariant.few, c.requires.countable, c.loop-index-test.true, c.len-end.ensures.nodes, c.loop-index.auto.index)
 
 pub loop-index-preserved : goal.loop-index-preserved
 loop-index-preserved c =

@@ -29,9 +29,6 @@ loop-index-init c =
           ];
     }
 
-pub take-requires-clause-place : goal.take-requires-clause-place
-take-requires-clause-place c = c.place.ensures c.node.result c.node.ensures
-
 pub take-requires-clause-countable : goal.take-requires-clause-countable
 take-requires-clause-countable c = omega (arith, c.loop-index.invariant.judges.few, c.requires.countable, c.loop-index-test.true, c.len-end.ensures.nodes, c.loop-index.auto.index)
 

@@ -4,6 +4,7 @@ use Rattle.sgf_tree.specs.Tree.{node_count}
 use Rattle.sgf_lines.specs.Record.{record_of}
 use Rattle.sgf_lines.specs.inner.Following.{nodes_before}
 use Rattle.sgf_lines.specs.inner.GoingOn.{GoesOnBy}
+use Rattle.sgf_lines.specs.inner.Views.{built_text}
 use Rattle.sgf_lines.specs.inner.Keeping.{kept_in, record_by}
 use Rattle.sgf_lines.proofs.Keeping.{IsNext, goes_on, some_before, moved, next_line, plays_are, plays_line, plays_refused}
 use Rattle.sgf_lines.proofs.RunRecords.{some_line}
@@ -51,12 +52,12 @@ returns-clause-made c =
     let run = c.args.self.now in
     let l = some_line c.go_on.new.cursor (next_is at).some_node in
     let new = c.make.new.self in
-    let made : Some (record_by run.form new.head.items new.game new.script) ≡ Some (record_of run.form l.0) = rw l.1 at c.in_ok-make.ensures.made in
-    let bytes : record_by run.form new.head.items new.game new.script ≡ record_of run.form l.0 = cc in
+    let made : Some (record_by run.form (built_text new.row) new.game new.script) ≡ Some (record_of run.form l.0) = rw l.1 at c.in_ok-make.ensures.made in
+    let bytes : record_by run.form (built_text new.row) new.game new.script ≡ record_of run.form l.0 = cc in
     record {
       line = l.0;
       found = next_line run.before c.requires.holds.1 run.cursor c.go_on.new.cursor c.in-Some.held (goes at) l.0 l.1;
-      bytes_are = ap (λ form. record_by form new.head.items new.game new.script) c.in_ok-make.ensures.form ∙ bytes;
+      bytes_are = ap (λ form. record_by form (built_text new.row) new.game new.script) c.in_ok-make.ensures.form ∙ bytes;
       goes_on = c.in_ok-make.ensures.cursor ∙ moved run.before c.requires.holds.1 run.cursor c.go_on.new.cursor c.in-Some.held (goes at);
     }
 

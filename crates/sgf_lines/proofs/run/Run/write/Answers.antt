@@ -1,17 +1,7 @@
 -- The records were written, and the flush was answered.
-use Rattle.std.proofs.Common.{rules}
 use Rattle.std.proofs.KnownBytes.{Appends-kept}
 use Rattle.sgf_lines.proofs.PagingPlays.{not_flushed}
 use Rattle.sgf_lines.proofs.run.Run.write.Goals as goal
-
-pub returns-in-Err-clause-answer : goal.returns-in-Err-clause-answer
-returns-in-Err-clause-answer g c = c.in-Err.ensures.answer
-
-pub returns-in-Err-clause-failures : goal.returns-in-Err-clause-failures
-returns-in-Err-clause-failures g c = c.in-Err.ensures.failures
-
-pub returns-in-Ok-flush-clause-failures : goal.returns-in-Ok-flush-clause-failures
-returns-in-Ok-flush-clause-failures g c = search rules
 
 pub returns-in-Ok-flush-clause-answer : goal.returns-in-Ok-flush-clause-answer
 returns-in-Ok-flush-clause-answer g c =

@@ -12,9 +12,6 @@ use Rattle.sgf_lines.proofs.PagingPlays.{few, one_played, played_then_cut, playe
 use Rattle.sgf_lines.proofs.Touched.{nodes_within}
 use Rattle.sgf_lines.proofs.run.Run.write_lines.Goals as goal
 
-pub next-requires-clause-holds : goal.next-requires-clause-holds
-next-requires-clause-holds g c = c.page.invariant.holds
-
 pub next-requires-clause-countable : goal.next-requires-clause-countable
 next-requires-clause-countable g c =
     let run = c.args.self.now in

@@ -1,6 +1,0 @@
-use Rattle.std.proofs.Common.{arith}
-use Rattle.std.proofs.lemmas.Grind.{common_steps}
-use Rattle.sgf_lines.proofs.node_values.is_pass.Goals as goal
-
-pub returns-then-eq : goal.returns-then-eq
-returns-then-eq c = grind (arith, common_steps)
