@@ -6,8 +6,8 @@ use Rattle.std.proofs.lemmas.Bool.{eq-eqb, ne_eqb}
 use Rattle.std.proofs.lemmas.List.{take_all, length-map}
 use Rattle.std.proofs.lemmas.Option.{slice_get-map, get_or_from_slice_get}
 use Rattle.sgf_tree.specs.Tree.{Games}
-use Rattle.sgf_lines.specs.Lines.{Line, lines, place_of}
-use Rattle.sgf_lines.specs.Cursor.{CursorState, IsAfterPlace, HasNoLineAt}
+use Rattle.sgf_lines.specs.Lines.{Line, lines, place_of, HasNoLineAt}
+use Rattle.sgf_lines.specs.Cursor.{CursorState, IsAfterPlace}
 use Rattle.sgf_lines.specs.Page.{lines_after, lines_asked, limited}
 use Rattle.sgf_lines.proofs.Lists.{element}
 
@@ -21,12 +21,6 @@ found_at (l ∷ ls) zero place e none =
 found_at (l ∷ ls) (suc k) place e none =
     let other : place_of l ≢ place = λ same. none 0 (omega arith) (ap Some same) in
     rw (ne_eqb (place_of l) place other) (found_at ls k place e (λ j lt at. none (suc j) (omega arith) at))
-
-pub none_found : (ls : List Line) (place : ℕ) → ((j : ℕ) → j < length ls → option_map place_of (slice_get ls j) ≢ Some place) → lines_after ls place ≡ None
-none_found [] place none = refl
-none_found (l ∷ ls) place none =
-    let other : place_of l ≢ place = λ same. none 0 (omega arith) (ap Some same) in
-    rw (ne_eqb (place_of l) place other) (none_found ls place (λ j lt at. none (suc j) (omega arith) at))
 
 pub get_dropped : {X : Type 0} (xs : List X) (g k : ℕ) → slice_get (drop g xs) k ≡ slice_get xs (g + k)
 get_dropped xs zero k = let same : k ≡ 0 + k = omega arith in ap (λ n. slice_get xs n) same
@@ -80,15 +74,6 @@ after_index ls k place rise e = rw add-one (found_at ls k place e (λ j lt other
     let here : slice_index (map place_of ls) (j + suc d) ≡ place = ap (slice_index (map place_of ls)) sum ∙ place_index ls k place e in
     omega (arith, below, here, place_index ls j place other)))
 
--- no line has the place
-pub after_none : (ls : List Line) (place : ℕ) → All (λ line. place_of line ≢ place) ls → lines_after ls place ≡ None
-after_none ls place none = none_found ls place (λ j lt e.
-    let x = element ls j lt in
-    let same : place_of x.0 ≡ place = let at : option_map place_of (Some x.0) ≡ Some place = rw x.1 at e in cc in
-    let other = none j x.0 lt in
-    let read : get_or ls j x.0 ≡ x.0 = get_or_from_slice_get ls j x.0 x.0 x.1 in
-    other (ap place_of read ∙ same))
-
 -- a cursor after the line with a place stands before the page
 pub started : (c : Games) (after : Option ℕ) (place : ℕ) (at new : CursorState) → after ≡ Some place → at ≡ record { games = c; index = 0 } → IsStrictlyIncreasing (map place_of (lines c))
     → IsAfterPlace place at new → lines_asked (lines c) after ≡ Some (drop new.index (lines c))
@@ -102,7 +87,5 @@ started_same c place at new at_is s = ap (λ p. p.games) s.new_is ∙ ap (λ p. 
 
 -- there is no such line
 pub not_started : (c : Games) (after : Option ℕ) (place asked : ℕ) (at : CursorState) → after ≡ Some place → at ≡ record { games = c; index = 0 } → (asked ≡ place) × HasNoLineAt at.games place
-    → (after ≡ Some asked) × (lines_after (lines c) asked ≡ None)
-not_started c after place asked at is at_is h =
-    let none : All (λ line. place_of line ≢ place) (lines c) = rw at_is at h.1 in
-    (is ∙ ap Some (sym h.0), ap (lines_after (lines c)) h.0 ∙ after_none (lines c) place none)
+    → (after ≡ Some asked) × HasNoLineAt c asked
+not_started c after place asked at is at_is h = (is ∙ ap Some (sym h.0), rw h.0 (rw at_is at h.1))

@@ -3,9 +3,9 @@ use Rattle.std.proofs.Common.{◌≡◌, ◌≢◌, ℕ, ◌+◌, ◌-◌, ◌<�
 use Rattle.std.proofs.lemmas.Option.{get_or_from_slice_get}
 use Rattle.sgf_tree.specs.Tree.{Games, node_count}
 use Rattle.sgf_tree.specs.FileOrder.{place_at, IsLeaf}
-use Rattle.sgf_lines.specs.Lines.{lines, place_of}
+use Rattle.sgf_lines.specs.Lines.{lines, place_of, HasNoLineAt}
 use Rattle.sgf_lines.specs.Paths.{paths, leaf_of}
-use Rattle.sgf_lines.specs.Cursor.{CursorState, IsAfterPlace, HasNoLineAt}
+use Rattle.sgf_lines.specs.Cursor.{CursorState, IsAfterPlace}
 use Rattle.sgf_lines.specs.inner.PathTo.{IsPathTo}
 use Rattle.sgf_lines.specs.inner.Standing.{lines_before, IsAfterLeaf}
 use Rattle.sgf_lines.proofs.Lists.{element}

@@ -6,8 +6,8 @@ use Rattle.sgf_tree.specs.Tree.{Games}
 use Rattle.sgf_tree.specs.Spelling.{Spells}
 use Rattle.sgf_tree.specs.Refusal.{IsFaultyAt}
 pub use Rattle.sgf_tree.specs.declared.fault.TheConstants.{MAX_LENGTH}
-use Rattle.sgf_lines.specs.Lines.{Line, lines}
-use Rattle.sgf_lines.specs.Page.{page, lines_after}
+use Rattle.sgf_lines.specs.Lines.{Line, HasNoLineAt}
+use Rattle.sgf_lines.specs.Page.{page}
 use Rattle.sgf_lines.specs.Record.{record_of, output}
 use Rattle.sgf_lines.specs.Ends.{SourceState, SinkState, HasDelivered}
 use Rattle.sgf_lines.specs.declared.options.Form.{Form}
@@ -31,7 +31,7 @@ pub record HasNoLine (options : Options) (given : List ℕ) (place : ℕ) : Type
   pub games : Games
   pub spelled : Spells games given
   pub asked : options.after ≡ Some place
-  pub none : lines_after (lines games) place ≡ None
+  pub none : HasNoLineAt games place
 
 -- the source was read whole, and these lines are the page of what it gave
 pub record IsGood (options : Options) (given : List ℕ) (to_come : Option (List ℕ)) (asked : List Line) : Type 0 where

@@ -1,8 +1,8 @@
 -- Where a cursor stands among the lines of a collection, what its calls return, and how they leave it.
-use Rattle.std.specs.Prelude.{◌≡◌, ◌≢◌, ℕ, ◌+◌, All, Option, Some, None, option_map, slice_get, Result, Ok, Err}
+use Rattle.std.specs.Prelude.{◌≡◌, ℕ, ◌+◌, Option, Some, None, option_map, slice_get, Result, Ok, Err}
 use Rattle.sgf_tree.specs.Tree.{Games}
 use Rattle.sgf_tree.specs.declared.fault.MemoryFault.{MemoryFault}
-use Rattle.sgf_lines.specs.Lines.{lines, place_of}
+use Rattle.sgf_lines.specs.Lines.{lines, place_of, HasNoLineAt}
 use Rattle.sgf_lines.specs.Paths.{Path, paths}
 use Rattle.sgf_lines.specs.declared.line.LineRef.{LineRef}
 use Rattle.sgf_lines.specs.declared.seek.SeekFault.{SeekFault}
@@ -46,10 +46,6 @@ pub record IsAfterPlace (place : ℕ) (old new : CursorState) : Type 0 where
   pub index : ℕ
   pub line : option_map place_of (slice_get (lines old.games) index) ≡ Some place
   pub new_is : new ≡ record { games = old.games; index = index + 1 }
-
--- no line has this place
-abbrev pub HasNoLineAt : Games → ℕ → Type 0
-HasNoLineAt games place = All (λ line. place_of line ≢ place) (lines games)
 
 -- `NoSuchLine` names the place that was asked for, and comes only if no line has it
 abbrev pub IsSeekFault : Games → ℕ → SeekFault → Type 0

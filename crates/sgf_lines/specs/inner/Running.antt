@@ -5,8 +5,8 @@ use Rattle.sgf_tree.specs.Tree.{Games}
 use Rattle.sgf_tree.specs.declared.fault.TheConstants.{MAX_LENGTH}
 use Rattle.sgf_tree.specs.declared.fault.ReadFault.{ReadFault}
 use Rattle.sgf_tree.specs.declared.fault.ReadFault.TheVariants.{TooLong as TextTooLong, NotSgf as TextNotSgf, Memory as TextMemory}
-use Rattle.sgf_lines.specs.Lines.{Line, lines}
-use Rattle.sgf_lines.specs.Page.{lines_after, lines_asked}
+use Rattle.sgf_lines.specs.Lines.{Line, lines, HasNoLineAt}
+use Rattle.sgf_lines.specs.Page.{lines_asked}
 use Rattle.sgf_lines.specs.Record.{output, record_of}
 use Rattle.sgf_lines.specs.Ends.{SourceState, SinkState}
 use Rattle.sgf_lines.specs.Cursor.{CursorState, advanced}
@@ -39,7 +39,7 @@ unread TextMemory len = Memory 0
 -- where a cursor stands before the page, or why there is no page
 abbrev pub IsStart : Games → Option ℕ → Result CursorState RunFault → Type 0
 IsStart games after (Ok cursor) = lines_asked (lines games) after ≡ Some (drop cursor.index (lines games))
-IsStart games after (Err (NoSuchLine place)) = (after ≡ Some place) × (lines_after (lines games) place ≡ None)
+IsStart games after (Err (NoSuchLine place)) = (after ≡ Some place) × HasNoLineAt games place
 IsStart games after (Err (Memory count)) = count ≡ 0
 IsStart games after (Err _) = ⊥
 
