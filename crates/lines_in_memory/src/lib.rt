@@ -39,10 +39,10 @@ pub fn first_verdict(
     // Each line ends in a leaf, so `judge` may be called.
     named();
     let mut cursor = Cursor::new(alloc, collection);
-    match cursor.next()? {
-        Some(line) => Ok(Some(judge(alloc, collection, line.leaf())?)),
-        None => Ok(None),
+    if !cursor.next()? {
+        return Ok(None);
     }
+    Ok(Some(judge(alloc, collection, cursor.line().leaf())?))
 }
 
 /// The place of the first line of a collection that is judged to have an illegal node; None if there is no such line.
@@ -63,8 +63,8 @@ pub fn first_illegal(
 pub fn longest_line(alloc: Global, collection: &Collection<'_>) -> Result<usize, MemoryFault> {
     let mut cursor = Cursor::new(alloc, collection);
     let mut longest = 0;
-    'lines: while let Some(line) = cursor.next()? {
-        longest = line.path().len().max(longest);
+    'lines: while cursor.next()? {
+        longest = cursor.line().path().len().max(longest);
     }
     Ok(longest)
 }

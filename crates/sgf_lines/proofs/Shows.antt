@@ -1,5 +1,5 @@
 -- The cursor's answers, in terms of its position.
-use Rattle.std.proofs.Common.{◌≡◌, ℕ, ◌+◌, ◌-◌, ◌<◌, List, get_or, slice_get, Some, None, ap}
+use Rattle.std.proofs.Common.{◌≡◌, ℕ, ◌+◌, ◌-◌, ◌<◌, List, length, get_or, slice_get, Some, None, ap}
 use Rattle.sgf_tree.specs.Tree.{Games, node_count}
 use Rattle.sgf_tree.specs.FileOrder.{place_at, game_of}
 use Rattle.sgf_lines.specs.Lines.{lines}
@@ -8,7 +8,7 @@ use Rattle.sgf_lines.specs.inner.PathTo.{HasNoLeaf, IsNextLeaf}
 use Rattle.sgf_lines.specs.inner.Standing.{IsAfterLeaf, lines_before}
 use Rattle.sgf_lines.specs.declared.line.LineRef.{LineRef}
 use Rattle.sgf_lines.proofs.CursorStates.{before_none}
-use Rattle.sgf_lines.proofs.Standings.{IsShown, shows, none_left, one_more}
+use Rattle.sgf_lines.proofs.Standings.{IsShown, shows, none_left, line_left, one_more}
 
 -- the position of a cursor that goes on from the node `next`
 abbrev pub before : Games → ℕ → CursorState
@@ -32,6 +32,9 @@ module _ (c : Games) (next : ℕ) (at : CursorState) (is : before c next ≡ at)
 
   pub none_is_left : HasNoLeaf c next (node_count c) → slice_get (lines at.games) at.index ≡ None
   none_is_left none = rw (← is) (none_left c next none)
+
+  pub some_left : (i : ℕ) → IsNextLeaf c next i → at.index < length (lines at.games)
+  some_left i h = rw (← is) (line_left c next i h)
 
   pub advances : (i : ℕ) → IsNextLeaf c next i → before c (i + 1) ≡ advanced at
   advances i h = rw (← is) (ap (λ n. record { games = c; index = n }) (one_more c next i h))

@@ -1,6 +1,6 @@
 -- What a cursor that stands after a leaf shows, and how it goes on.
 use Rattle.std.proofs.Common.{◌≡◌, ℕ, zero, suc, ◌+◌, ◌-◌, ◌<◌, List, [], ◌∷◌, length, get_or, slice_get, Some, None, option_map, sym, ap, ◌∙◌, arith}
-use Rattle.std.proofs.lemmas.Option.{slice_get_past}
+use Rattle.std.proofs.lemmas.Option.{slice_get_past, slice_get_within}
 use Rattle.sgf_tree.specs.Tree.{Games, node_count}
 use Rattle.sgf_tree.specs.FileOrder.{place_at, game_of, IsLeaf}
 use Rattle.sgf_lines.specs.Lines.{lines, place_of, last_number}
@@ -61,6 +61,12 @@ shows c (suc i) numbers h lt =
 pub none_left : (c : Games) (next : ℕ) → HasNoLeaf c next (node_count c) → slice_get (lines c) (lines_before c next) ≡ None
 none_left c next none =
     slice_get_past (lines c) (lines_before c next) (omega (arith, no_line_left c next none, length-paths c))
+
+-- where a leaf is left, a line is
+pub line_left : (c : Games) (next i : ℕ) → IsNextLeaf c next i → lines_before c next < length (lines c)
+line_left c next i h =
+    let q = next_line c next i h.from_there h.within h.is_leaf h.first in
+    omega (arith, slice_get_within (paths c) (lines_before c next) q.0 q.1.found, length-paths c)
 
 -- after the next leaf one line more has been given
 pub one_more : (c : Games) (next i : ℕ) → IsNextLeaf c next i → lines_before c (i + 1) ≡ lines_before c next + 1

@@ -1,5 +1,5 @@
 -- Where a cursor stands among the lines of a collection, what its calls return, and how they leave it.
-use Rattle.std.specs.Prelude.{◌≡◌, ℕ, ◌+◌, Option, Some, None, option_map, slice_get, Result, Ok, Err}
+use Rattle.std.specs.Prelude.{◌≡◌, ℕ, ◌+◌, ◌<◌, ◌≤◌, Bool, true, false, length, Some, option_map, slice_get, Result, Ok, Err}
 use Rattle.sgf_tree.specs.Tree.{Games}
 use Rattle.sgf_tree.specs.declared.fault.MemoryFault.{MemoryFault}
 use Rattle.sgf_lines.specs.Lines.{lines, place_of, HasNoLineAt}
@@ -30,16 +30,11 @@ pub record IsLine (games : Games) (index : ℕ) (line : LineRef) : Type 0 where
   pub path : slice_get (paths games) index ≡ Some (shown line).path
   pub place : option_map place_of (slice_get (lines games) index) ≡ Some (shown line).place
 
--- the next line; None after the last one
-abbrev pub GivesLine : CursorState → Option LineRef → Type 0
-GivesLine cursor None = slice_get (lines cursor.games) cursor.index ≡ None
-GivesLine cursor (Some line) = IsLine cursor.games cursor.index line
-
--- a returned line takes the cursor one line on; at the end and after a refusal the cursor is unchanged
-abbrev pub LeavesCursor : CursorState → Result (Option LineRef) MemoryFault → CursorState → Type 0
-LeavesCursor old (Ok (Some line)) new = new ≡ advanced old
-LeavesCursor old (Ok None) new = new ≡ old
-LeavesCursor old (Err fault) new = new ≡ old
+-- one line later if a line is left; if none is, and after a refusal, the cursor is unchanged
+abbrev pub MovesOn : CursorState → CursorState → Result Bool MemoryFault → Type 0
+MovesOn old new (Ok true) = (old.index < length (lines old.games)) × (new ≡ advanced old)
+MovesOn old new (Ok false) = (length (lines old.games) ≤ old.index) × (new ≡ old)
+MovesOn old new (Err fault) = new ≡ old
 
 -- the new state is directly after the line with this place
 pub record IsAfterPlace (place : ℕ) (old new : CursorState) : Type 0 where

@@ -42,9 +42,7 @@ impl<'c, 'a> Model for Cursor<'c, 'a> {
 }
 
 impl<'c, 'a> Cursor<'c, 'a> {
-    ghost use Rattle.std.specs.Borrow.{sem};
-    ghost use Rattle.sgf_lines.specs.Cursor.{GivesLine, LeavesCursor, IsAfterPlace, IsSeekFault};
-    ghost use Rattle.sgf_lines.specs.Lending.{OnceReturned};
+    ghost use Rattle.sgf_lines.specs.Cursor.{MovesOn, IsAfterPlace, IsSeekFault};
 
     /// A cursor before the first line. This takes no memory.
     pub fn new(alloc: Global, collection: &'c Collection<'a>) -> Cursor<'c, 'a>
@@ -57,15 +55,23 @@ impl<'c, 'a> Cursor<'c, 'a> {
         }
     }
 
-    /// Moves on by one line, and returns that line. After the last line it returns None, however often it is called.
+    /// Moves on by one line. After the last line it returns false, however often it is called.
     /// `MemoryFault` comes only if memory was refused; then the cursor is unchanged.
-    pub fn next<'l>(&'l mut self) -> Result<Option<LineRef<'l>>, MemoryFault>
-        ensures* goes_on { sem 𝓛 (OnceReturned self.entry (LeavesCursor self.entry.now result)) }
-        ensures line { IfOk result (GivesLine self.old) }
+    pub fn next(&mut self) -> Result<bool, MemoryFault>
+        ensures { MovesOn self.old self.new result }
     {
-        match self.advance()? {
-            Some(_) => Ok(Some(self.line())),
-            None => Ok(None),
+        Ok(self.advance()?.is_some())
+    }
+
+    /// The line before the cursor: the one that `next` moved over or that `seek_after` found, whichever was last.
+    pub fn line(&self) -> LineRef<'_>
+        requires { 0 < self.now.index }
+        ensures { IsLine self.now.games (self.now.index - 1) result }
+    {
+        LineRef {
+            path: &self.path,
+            game: self.collection.game_of(self.path[0]),
+            place: self.collection.place(self.next - 1) as u64,
         }
     }
 
@@ -90,6 +96,7 @@ impl<'c, 'a> Cursor<'c, 'a> {
     /// None if no line is left. After a refusal of memory the cursor is unchanged.
     pub(crate) fn advance(&mut self) -> Result<Option<usize>, MemoryFault>
         ensures moved { IfOk result (λ shared. MatchOption shared (self.new ≡ self.old) (λ _. self.new ≡ advanced self.old)) }
+        ensures some_left { IfOk result (λ shared. IfSome shared (λ _. self.old.index < length (lines self.old.games))) }
         ensures none_left { IfOk result (λ shared. IfNone shared (slice_get (lines self.old.games) self.old.index ≡ None)) }
         ensures shared { IfOk result (λ shared. IfSome shared (λ n. Continues (path_before self.old) n (path_before self.new))) }
         ensures unchanged { OnErr result (self.new ≡ self.old) }
@@ -152,18 +159,6 @@ impl<'c, 'a> Cursor<'c, 'a> {
         ensures { (node : Node) → slice_get (nodes_before self.now) index ≡ Some node → result ≡ node.place }
     {
         self.collection.place(self.path[index]) as u64
-    }
-
-    /// The line before the cursor.
-    pub(crate) fn line(&self) -> LineRef<'_>
-        requires { 0 < self.now.index }
-        ensures { IsLine self.now.games (self.now.index - 1) result }
-    {
-        LineRef {
-            path: &self.path,
-            game: self.collection.game_of(self.path[0]),
-            place: self.collection.place(self.next - 1) as u64,
-        }
     }
 }
 

@@ -1,14 +1,14 @@
 //! The lines of play of a Smart Game Format (SGF FF[4]) collection, from the root of a game to a leaf.
 //!
-//! A [`Cursor`] returns the lines one by one, in file order, over a collection that was read once. [`judge`] returns the verdict
+//! A [`Cursor`] goes over the lines one by one, in file order, of a collection that was read once. [`judge`] returns the verdict
 //! of a line: its first illegal turn, or the area score at its end (Tromp-Taylor). A [`Follower`] judges the lines after a cursor
 //! one by one, and plays shared nodes once. [`split`] writes each line as a record, a text of its own.
 //!
 //! ```text
 //! let collection = read(alloc, text)?;
 //! let mut cursor = Cursor::new(alloc, &collection);
-//! 'lines: while let Some(line) = cursor.next()? {
-//!     // line.path(), line.leaf(), line.game(), line.place()
+//! 'lines: while cursor.next()? {
+//!     // cursor.line().path(), .leaf(), .game(), .place()
 //! }
 //!
 //! let mut follower = Follower::new(alloc, Cursor::new(alloc, &collection));

@@ -93,24 +93,25 @@ type Line<'a> = Option<(&'a [usize], u64)>;
 /// Goes on by one line. If memory was refused, goes on once more, which must give the same line.
 fn next(cursor: &mut Cursor<'_, '_>, line: Line<'_>, seen: &mut Seen) {
     seen.call();
-    if let Ok(given) = cursor.next() {
-        return seen.right(is_line(given, line), "a line");
-    }
-    seen.want();
     match cursor.next() {
-        Ok(given) => seen.right(is_line(given, line), "a line after a refused one"),
+        Ok(true) => return seen.right(is_line(&cursor.line(), line), "a line"),
+        Ok(false) => return seen.right(line.is_none(), "the end of the lines"),
+        Err(_) => seen.want(),
+    }
+    match cursor.next() {
+        Ok(true) => seen.right(is_line(&cursor.line(), line), "a line after a refused one"),
+        Ok(false) => seen.right(line.is_none(), "the end after a refused line"),
         Err(_) => seen.wrong("a line was refused twice"),
     }
 }
 
-/// Whether `given` is `line`, in the first game, or both are None.
-fn is_line(given: Option<LineRef<'_>>, line: Line<'_>) -> bool {
-    match (given, line) {
-        (Some(given), Some((path, place))) => {
+/// Whether `given` is `line`, in the first game.
+fn is_line(given: &LineRef<'_>, line: Line<'_>) -> bool {
+    match line {
+        Some((path, place)) => {
             given.path() == path && given.game() == 1 && given.place() == place
         }
-        (None, None) => true,
-        _ => false,
+        None => false,
     }
 }
 

@@ -1,6 +1,6 @@
 -- After the next leaf the position is one line further, and the path is back to the parent of the next node and down from there.
 use Rattle.std.proofs.Common.{arith}
-use Rattle.sgf_lines.proofs.Shows.{none_is_left, advances}
+use Rattle.sgf_lines.proofs.Shows.{none_is_left, some_left, advances}
 use Rattle.sgf_lines.proofs.Descending.{short, kept_within, stands_next, continues_made, shares}
 use Rattle.sgf_lines.proofs.cursor.Cursor.advance.Goals as goal
 
@@ -21,6 +21,9 @@ invariant_of-self-2 c =
 
 pub returns-clause-moved : goal.returns-clause-moved
 returns-clause-moved c = advances c.self.inside.collection.now c.self.inside.next c.args.self.now c.self.view_is c.in-Some.leaf c.in-Some.ensures.first
+
+pub returns-clause-some_left : goal.returns-clause-some_left
+returns-clause-some_left c = some_left c.self.inside.collection.now c.self.inside.next c.args.self.now c.self.view_is c.in-Some.leaf c.in-Some.ensures.first
 
 pub returns-clause-shared : goal.returns-clause-shared
 returns-clause-shared c =
