@@ -1,5 +1,5 @@
 -- The lines of a page among all lines: where a line with a place stands, and what is left after it.
-use Rattle.std.proofs.Common.{◌≡◌, ◌≢◌, ℕ, zero, suc, ◌+◌, ◌-◌, ◌<◌, ◌≤◌, List, [], ◌∷◌, length, take, drop, slice_get, map, Option, Some, None, option_map, All, refl, sym, ap, ◌∙◌, arith, add-one, slice_index, get_or}
+use Rattle.std.proofs.Common.{◌≡◌, ◌≢◌, ℕ, zero, suc, ◌+◌, ◌-◌, ◌<◌, ◌≤◌, List, [], ◌∷◌, length, take, drop, slice_get, map, Option, Some, None, option_map, refl, sym, ap, ◌∙◌, arith, add-one, slice_index}
 use Rattle.std.specs.Prelude.{unwrap_or}
 use Rattle.std.specs.List.Sorted.{IsStrictlyIncreasing}
 use Rattle.std.proofs.lemmas.Bool.{eq-eqb, ne_eqb}
@@ -9,7 +9,6 @@ use Rattle.sgf_tree.specs.Tree.{Games}
 use Rattle.sgf_lines.specs.Lines.{Line, lines, place_of, HasNoLineAt}
 use Rattle.sgf_lines.specs.Cursor.{CursorState, IsAfterPlace}
 use Rattle.sgf_lines.specs.Page.{lines_after, lines_asked, limited}
-use Rattle.sgf_lines.proofs.Lists.{element}
 
 -- the first line with a place is the one that it is looked for at, where no line before has it
 pub found_at : (ls : List Line) (k place : ℕ) → option_map place_of (slice_get ls k) ≡ Some place

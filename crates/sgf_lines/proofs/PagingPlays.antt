@@ -107,7 +107,7 @@ module _ (c : Games) (rise : PlacesRise c) (first limit : ℕ) where
   few_played form old new plays (Err (Memory k)) h = omega (arith, h.2.at_most, few form (k + 1))
 
 -- what a line shares with the one before it, by where the cursor stands
-shares_by : (c : Games) (rise : PlacesRise c) (first limit k : ℕ) (before : Before) (at : CursorState) (held : ℕ) → at.games ≡ c → at.index ≡ first + k → (k ≡ 0 → before ≡ Unheld) → (0 < k → before ≡ Held)
+pub shares_by : (c : Games) (rise : PlacesRise c) (first limit k : ℕ) (before : Before) (at : CursorState) (held : ℕ) → at.games ≡ c → at.index ≡ first + k → (k ≡ 0 → before ≡ Unheld) → (0 < k → before ≡ Held)
     → GoesOnBy before at (advanced at) held → Shares c rise first limit k held
 shares_by c rise first limit zero before at held same index first_line later h = let go : GoesOnBy Unheld at (advanced at) held = rw (first_line refl) at h in go.1
 shares_by c rise first limit (suc k) before at held same index first_line later h =

@@ -1,6 +1,6 @@
 //! The calls of `sgf_lines` on a collection, and counts.
 
-ghost use Rattle.std.specs.Prelude.{◌≡◌, true};
+ghost use Rattle.std.specs.Prelude.{◌<◌};
 
 use crate::page::Page;
 use crate::seen::Seen;
@@ -162,7 +162,7 @@ fn follow(follower: &mut Follower<'_, '_>, line: Followed, seen: &mut Seen) {
 
 /// The line that was followed must have this verdict and this place.
 fn is_followed(follower: &Follower<'_, '_>, verdict: Verdict, line: Followed, seen: &mut Seen)
-    requires { follower.now.shows ≡ true }
+    requires { 0 < follower.now.row }
 {
     let Some((black, white, place)) = line else {
         return seen.wrong("a line after the last one");

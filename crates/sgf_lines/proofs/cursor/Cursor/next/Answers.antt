@@ -12,4 +12,6 @@ moves old new (Some n) moved some none = (some, moved)
 moves old new None moved some none = (get_none (lines old.games) old.index none, moved)
 
 pub returns : goal.returns
-returns c = ?
+returns c =
+    let e = c.in_ok-advance.ensures in
+    rw c.is_some.ensures (moves c.args.self.now c.advance.new.self c.in_ok-advance.field-0 e.moved e.some_left e.none_left)
