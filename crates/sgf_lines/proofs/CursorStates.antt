@@ -11,7 +11,7 @@ use Rattle.sgf_lines.specs.inner.PathTo.{IsPathTo}
 use Rattle.sgf_lines.specs.inner.Standing.{lines_before}
 use Rattle.sgf_tree.proofs.Rises.{rises-pair}
 use Rattle.sgf_lines.proofs.Lists.{element}
-use Rattle.sgf_lines.proofs.Ways.{one_way, way_within}
+use Rattle.sgf_lines.proofs.Visits.{one_way, way_within}
 use Rattle.sgf_lines.proofs.Following.{leads, leaves_in_order, covered}
 
 -- the line that ends at a leaf, where no leaf stands between node n and it

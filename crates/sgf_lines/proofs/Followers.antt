@@ -22,8 +22,7 @@ use Rattle.sgf_lines.specs.inner.Followers.{state_by, judging_alone, IsRow, Foll
 use Rattle.sgf_lines.proofs.Keeping.{IsNext, goes_on, some_before, line_is}
 use Rattle.sgf_lines.proofs.LineCounts.{lines_within}
 use Rattle.sgf_lines.proofs.Pages.{get_dropped, get_taken}
-use Rattle.sgf_lines.proofs.Paging.{page_from}
-use Rattle.sgf_lines.proofs.PagingPlays.{few, adds, shares_by, Shares}
+use Rattle.sgf_lines.proofs.PlayCounts.{page_from, few, adds, shares_by, Shares}
 use Rattle.sgf_lines.proofs.RunRecords.{some_line}
 
 module _ (before : Before) (old new : CursorState) (held row : ℕ) (now : Judging) (h : Follows before old now row) (go : GoesOnBy before old new held) where

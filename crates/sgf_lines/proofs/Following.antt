@@ -14,8 +14,7 @@ use Rattle.sgf_lines.specs.Paths.{Path, paths, leaf_of, EndsInLeaf}
 use Rattle.sgf_lines.specs.inner.PathTo.{IsPathTo}
 use Rattle.sgf_lines.specs.inner.Following.{first_after, Continues, numbers_of, numbers_before}
 use Rattle.sgf_lines.proofs.Lists.{Each, each_weaker, each_get, element}
-use Rattle.sgf_lines.proofs.Ways.{last-way, one_way, node_within, some_node, last_number-append, way_within}
-use Rattle.sgf_lines.proofs.Visits.{Front, Way, way_path, Visits, none, inner, leaf, paths_visited}
+use Rattle.sgf_lines.proofs.Visits.{last-way, one_way, node_within, some_node, last_number-append, way_within, Front, Way, way_path, Visits, none, inner, leaf, paths_visited}
 
 -- numbers down to a leaf
 pub record LeadsToLeaf (c : Games) (numbers : List ℕ) : Type 0 where

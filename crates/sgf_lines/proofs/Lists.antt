@@ -1,18 +1,10 @@
 -- Lists: an element of two lists joined, and facts of each element by recursion.
-use Rattle.std.proofs.Common.{◌≡◌, ℕ, zero, suc, ◌+◌, ◌<◌, ◌≤◌, List, [], ◌∷◌, ◌++◌, length, map, take, slice_get, Some, ◌⊎◌, inl, inr, refl, ap, ◌∙◌, arith}
+use Rattle.std.proofs.Common.{◌≡◌, ℕ, zero, suc, ◌+◌, ◌<◌, ◌≤◌, List, [], ◌∷◌, ◌++◌, length, map, take, slice_get, Some, refl, ap, ◌∙◌, arith}
 use Rattle.std.specs.List.{AllByRecursion, range_with_len}
 use Rattle.std.proofs.lemmas.List.{take_more}
 use Rattle.std.proofs.lemmas.Option.{slice_get_within, get_or_from_slice_get}
 use Rattle.sgf_tree.proofs.Lists.{slice_get-left}
 use Rattle.sgf_lines.specs.Lines.{through}
-
--- an element of two lists joined stands in the first or in the second
-pub split_get : {A : Type 0} (xs ys : List A) (k : ℕ) (y : A) → slice_get (xs ++ ys) k ≡ Some y
-    → (slice_get xs k ≡ Some y) ⊎ ((j : ℕ) × (k ≡ length xs + j) × (slice_get ys j ≡ Some y))
-split_get [] ys k y e = inr (k, omega arith, e)
-split_get (x ∷ xs) ys zero y e = inl e
-split_get (x ∷ xs) ys (suc k) y e =
-    elim (split_get xs ys k y e) [ inl h ↦ inl h | inr h ↦ inr (h.0, omega arith, h.2) ]
 
 pub get_left : {A : Type 0} (xs ys : List A) (k : ℕ) (y : A) → slice_get xs k ≡ Some y → slice_get (xs ++ ys) k ≡ Some y
 get_left xs ys k y e = slice_get-left xs ys k (slice_get_within xs k y e) ∙ e

@@ -6,7 +6,7 @@ use Rattle.sgf_tree.specs.Tree.{Games, node_count}
 use Rattle.sgf_tree.specs.FileOrder.{parent_at, IsLeaf}
 use Rattle.sgf_lines.specs.inner.PathTo.{IsPathTo, top, step}
 use Rattle.sgf_tree.proofs.OrderedNodes.{parent_at-lt}
-use Rattle.sgf_lines.proofs.Ways.{above_of, one_way}
+use Rattle.sgf_lines.proofs.Visits.{above_of, one_way}
 use Rattle.sgf_lines.proofs.CursorStates.{next_line}
 
 -- one more than a node's number, and 0 above a root

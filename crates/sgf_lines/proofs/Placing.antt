@@ -20,8 +20,7 @@ use Rattle.go_board.specs.Vertex.{vertex_of}
 use Rattle.sgf_lines.specs.Script.{colour_letter, vertex_text, play_command, stone_commands, colouring_commands}
 use Rattle.sgf_lines.specs.Replay.{shows, refused, after_stone, after_command, after_row, after_text}
 use Rattle.sgf_lines.proofs.Lists.{Each}
-use Rattle.sgf_lines.proofs.ScriptRows.{IsWithin, Carries, takes_row, takes_nothing, takes_both, solid_within, within_both}
-use Rattle.sgf_lines.proofs.ScriptWords.{vertex_solid, point_names, play_reads}
+use Rattle.sgf_lines.proofs.ScriptRows.{IsWithin, Carries, takes_row, takes_nothing, takes_both, solid_within, within_both, vertex_solid, point_names, play_reads}
 
 -- what the board's laws say
 pub record BoardLaws : Type 0 where

@@ -1,18 +1,17 @@
 -- The nodes of a line rise in file order, and the next line has those after them.
-use Rattle.std.proofs.Common.{◌≡◌, ℕ, zero, suc, ◌+◌, ◌<◌, ◌≤◌, List, [], ◌∷◌, ◌++◌, length, take, map, slice_get, Some, inl, inr, refl, ap, ◌∙◌, arith}
+use Rattle.std.proofs.Common.{◌≡◌, ℕ, zero, suc, ◌+◌, ◌<◌, ◌≤◌, List, [], ◌∷◌, ◌++◌, length, take, map, inl, inr, refl, ap, ◌∙◌, arith}
 use Rattle.std.specs.List.{range_with_len}
 use Rattle.std.proofs.lemmas.Bool.{cases_lt}
 use Rattle.sgf_tree.specs.Tree.{Games, node_count}
 use Rattle.sgf_tree.specs.FileOrder.{PlacesRise}
 use Rattle.sgf_lines.specs.Lines.{last_number}
-use Rattle.sgf_lines.specs.Paths.{Path, paths}
+use Rattle.sgf_lines.specs.Paths.{paths}
 use Rattle.sgf_lines.specs.inner.Following.{first_after, Continues, numbers_before}
 use Rattle.sgf_tree.proofs.Rises.{Rises}
 use Rattle.sgf_lines.proofs.Lists.{Each, element}
-use Rattle.sgf_lines.proofs.Ways.{within_way, way_within, way_rises, rises_parts}
+use Rattle.sgf_lines.proofs.Visits.{way_within, way_rises, rises_parts}
 use Rattle.sgf_lines.proofs.Following.{leads, after_way, last_number-range, continues, goes_on_there}
-use Rattle.sgf_lines.proofs.Different.{RisesFrom}
-use Rattle.sgf_lines.proofs.Touched.{place_number, places_rise}
+use Rattle.sgf_lines.proofs.Touched.{RisesFrom, place_number, places_rise}
 
 pub each_take : {A : Type 0} (P : A → Type 0) (k : ℕ) (xs : List A) → Each P xs → Each P (take k xs)
 each_take P zero xs h = tt
@@ -60,9 +59,6 @@ module _ (c : Games) where
   pub after_rises : (k : ℕ) → k < length (paths c) → first_after (numbers_before c k) ≤ first_after (numbers_before c (suc k))
   after_rises k lt =
       let h = continues_there k lt in omega (arith, after_is (numbers_before c k) (numbers_before c (suc k)) h.0 h.1)
-
-  pub numbers_within : (k : ℕ) (p : Path) → slice_get (paths c) k ≡ Some p → Each (λ i. i < node_count c) p.numbers
-  numbers_within k p e = within_way (leads c k p e).up
 
   pub end_within : (k : ℕ) → k ≤ length (paths c) → first_after (numbers_before c k) ≤ node_count c
   end_within zero le = omega arith

@@ -8,9 +8,8 @@ use Rattle.sgf_lines.specs.Paths.{Path, paths, leaf_of}
 use Rattle.sgf_lines.specs.inner.PathTo.{IsPathTo, HasNoLeaf, IsNextLeaf}
 use Rattle.sgf_lines.specs.inner.Standing.{IsAfterLeaf, lines_before}
 use Rattle.sgf_lines.proofs.Lists.{Each, each_get}
-use Rattle.sgf_lines.proofs.Ways.{last-way, some_node, within_way}
-use Rattle.sgf_lines.proofs.GameNumbers.{game_of_root}
-use Rattle.sgf_lines.proofs.Named.{line_at, length-paths}
+use Rattle.sgf_lines.proofs.Visits.{last-way, some_node, within_way}
+use Rattle.sgf_lines.proofs.Named.{game_of_root, line_at, length-paths}
 use Rattle.sgf_lines.proofs.CursorStates.{before_none, next_line, no_line_left, given_line}
 
 each_head : (P : ℕ → Type 0) (ns : List ℕ) (d : ℕ) → 0 < length ns → Each P ns → P (get_or ns 0 d)

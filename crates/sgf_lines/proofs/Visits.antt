@@ -1,15 +1,137 @@
--- The nodes of a collection are visited in file order. The path to each goes on from a front of the path to the node before it.
-use Rattle.std.proofs.Common.{◌≡◌, ◌≢◌, ℕ, zero, suc, ◌+◌, ◌-◌, ◌<◌, List, [], ◌∷◌, ◌++◌, length, map, Option, Some, None, inl, inr, refl, sym, ap, ◌∙◌, subst, arith, add-zero, append_assoc, append-nil}
+-- The nodes of a collection are visited in file order, each by the way from the root of its game.
+use Rattle.std.proofs.Common.{◌≡◌, ℕ, ◌+◌, ◌<◌, ◌≤◌, List, [], ◌∷◌, ◌++◌, length, Option, Some, None, refl, sym, ap, ◌∙◌, subst, arith, length-append, suc, slice_get, option_map, true, add-zero, append_assoc, append-nil, ◌≢◌, zero, ◌-◌, map, inl, inr}
+use Rattle.sgf_tree.specs.Tree.{Games, node_count, Node, game, no_games}
+use Rattle.sgf_tree.specs.FileOrder.{parent_at, OrderedNode, further_nodes, nodes_from, ordered_nodes, IsLeaf}
+use Rattle.sgf_tree.proofs.OrderedNodes.{parent_at-lt, parent_at-within, length-ordered_nodes, length-further_nodes, length-nodes_from, parent_in-further, parent-within}
+use Rattle.sgf_tree.proofs.Rises.{Rises, rises-append}
+use Rattle.sgf_lines.specs.Lines.{last_number, through, node_lines, lines_of_game, lines_from}
+use Rattle.sgf_lines.specs.inner.PathTo.{IsPathTo, top, step}
+use Rattle.sgf_lines.proofs.Lists.{Each, each_append}
+use Rattle.sgf_tree.proofs.Lists.{slice_get-left, slice_get-right}
 use Rattle.std.proofs.lemmas.List.{map-append}
 use Rattle.std.specs.List.{range_with_len}
-use Rattle.sgf_tree.specs.Tree.{Node, Games, no_games, game, node_count}
-use Rattle.sgf_tree.specs.FileOrder.{parent_at, IsLeaf}
-use Rattle.sgf_tree.proofs.OrderedNodes.{parent-within}
-use Rattle.sgf_lines.specs.Lines.{through, node_lines, lines_of_game, lines_from}
 use Rattle.sgf_lines.specs.Paths.{numbered_nodes, numbered, path_of, paths}
-use Rattle.sgf_lines.specs.inner.PathTo.{IsPathTo, top, step}
-use Rattle.sgf_lines.proofs.Standing.{Stands, stands_whole, stands_below, stands_after, first_parent, further_parent}
-use Rattle.sgf_lines.proofs.Ways.{node_within}
+
+pub last_number-append : (ns : List ℕ) (m : ℕ) (ms : List ℕ) → last_number (ns ++ m ∷ ms) ≡ last_number (m ∷ ms)
+last_number-append [] m ms = refl
+last_number-append (n ∷ []) m ms = refl
+last_number-append (n ∷ k ∷ ks) m ms = last_number-append (k ∷ ks) m ms
+
+pub node_within : (c : Games) (j : ℕ) (p : Option ℕ) → parent_at c j ≡ Some p → j < node_count c
+node_within c j p e = omega (arith, parent_at-within c j p e, length-ordered_nodes c)
+
+-- above the root no node of the way is left
+pub none_above : {c : Games} {way : List ℕ} → IsPathTo c None way → way ≡ []
+none_above top = refl
+
+-- the way to a node is that to its parent, and the node
+pub above_of : {c : Games} {n : ℕ} {parent : Option ℕ} {way : List ℕ} → IsPathTo c (Some n) way → parent_at c n ≡ Some parent
+    → (above : List ℕ) × IsPathTo c parent above × (way ≡ above ++ n ∷ [])
+above_of {parent = q} (step {parent = p} {above = above} e up is) f = let same : p ≡ q = cc in (above, rw same at up, is)
+
+-- a node has but one way, and ends it
+pub one_way : {c : Games} {at : Option ℕ} {ns ms : List ℕ} → IsPathTo c at ns → IsPathTo c at ms → ns ≡ ms
+one_way top top = refl
+one_way {c = c} (step {number = i} {above = a} e u is) way =
+    let f = above_of way e in
+    is ∙ ap (λ l. l ++ i ∷ []) (one_way u f.1) ∙ sym f.2
+
+pub last-way : {c : Games} {i : ℕ} {way : List ℕ} → IsPathTo c (Some i) way → last_number way ≡ i
+last-way {i = i} (step {above = above} e u is) = ap last_number is ∙ last_number-append above i []
+
+pub some_node : {c : Games} {i : ℕ} {way : List ℕ} → IsPathTo c (Some i) way → 0 < length way
+some_node {i = i} (step {above = above} e up is) = omega (arith, ap length is, length-append above (i ∷ []))
+
+pub way_within : {c : Games} {i : ℕ} {way : List ℕ} → IsPathTo c (Some i) way → i < node_count c
+way_within {c = c} (step {number = i} {parent = p} e up is) = node_within c i p e
+
+-- each node on a way is one of the collection
+pub within_way : {c : Games} {at : Option ℕ} {way : List ℕ} → IsPathTo c at way → Each (λ n. n < node_count c) way
+within_way top = tt
+within_way {c = c} (step {number = i} {parent = p} {above = above} e up is) =
+    subst (Each (λ n. n < node_count c)) (sym is) (each_append (λ n. n < node_count c) above (i ∷ []) (within_way up) (node_within c i p e, tt))
+
+rises_high : (low : ℕ) (ns : List ℕ) (high end : ℕ) → high ≤ end → Rises low ns high → Rises low ns end
+rises_high low [] high end le h = omega (arith, h)
+rises_high low (n ∷ ns) high end le h = (h.0, rises_high (n + 1) ns high end le h.1)
+
+-- numbers that rise are below their end, and no more than the numbers there
+pub rises_parts : (low : ℕ) (ns : List ℕ) (high : ℕ) → Rises low ns high → Each (λ n. n < high) ns × (length ns + low ≤ high)
+rises_parts low [] high h = (tt, omega arith)
+rises_parts low (n ∷ ns) high h = let r = rises_parts (n + 1) ns high h.1 in ((omega (arith, r.1), r.0), omega (arith, r.1, h.0))
+
+-- the nodes of a way rise
+pub way_rises : {c : Games} {i : ℕ} {way : List ℕ} → IsPathTo c (Some i) way → Rises 0 way (i + 1)
+way_rises {c = c} {i = i} (step {parent = None} {above = above} e up is) =
+    subst (λ l. Rises 0 l (i + 1)) (sym (is ∙ ap (λ l. l ++ i ∷ []) (none_above up))) (omega arith, omega arith)
+way_rises {c = c} {i = i} (step {parent = Some n} {above = above} e up is) =
+    let front = rises_high 0 above (n + 1) i (omega (arith, parent_at-lt c i n e)) (way_rises up) in
+    subst (λ l. Rises 0 l (i + 1)) (sym is) (rises-append 0 i (i + 1) above (i ∷ []) front (omega arith, omega arith))
+
+-- xs stand in `all` from the index `at` on
+pub record StandsAt (all : List OrderedNode) (at : ℕ) (xs : List OrderedNode) : Type 0 where
+  pub before : List OrderedNode
+  pub after : List OrderedNode
+  pub is : all ≡ before ++ (xs ++ after)
+  pub length_is : length before ≡ at
+
+stands_left : {all : List OrderedNode} {at : ℕ} (xs ys : List OrderedNode) → StandsAt all at (xs ++ ys) → StandsAt all at xs
+stands_left xs ys h =
+    record { before = h.before; after = ys ++ h.after; is = h.is ∙ ap (λ zs. h.before ++ zs) (append_assoc xs ys h.after); length_is = h.length_is }
+
+pub stands_right : {all : List OrderedNode} {at : ℕ} (end : ℕ) (xs ys : List OrderedNode) → StandsAt all at (xs ++ ys) → end ≡ at + length xs → StandsAt all end ys
+stands_right {at = at} end xs ys h e =
+    record {
+      before = h.before ++ xs;
+      after = h.after;
+      is = h.is ∙ ap (λ zs. h.before ++ zs) (append_assoc xs ys h.after) ∙ sym (append_assoc h.before xs (ys ++ h.after));
+      length_is = omega (arith, length-append h.before xs, h.length_is);
+    }
+
+pub stands_get : {all : List OrderedNode} {at : ℕ} (xs : List OrderedNode) (k : ℕ) → StandsAt all at xs → k < length xs → slice_get all (at + k) ≡ slice_get xs k
+stands_get {at = at} xs k h lt =
+    ap (λ zs. slice_get zs (at + k)) h.is ∙ slice_get-right h.before (xs ++ h.after) (at + k) k (omega (arith, h.length_is)) ∙ slice_get-left xs h.after k lt
+
+-- the ordered nodes of games, the first of which begins at the index `at`, stand in those of the collection
+abbrev pub Stands : Games → ℕ → Option ℕ → Games → Type 0
+Stands c at parent g = StandsAt (ordered_nodes c) at (nodes_from at parent g)
+
+pub stands_whole : (c : Games) → Stands c 0 None c
+stands_whole c = record { before = []; after = []; is = sym (append-nil (ordered_nodes c)); length_is = refl }
+
+-- the first ordered node of a game
+abbrev pub first_ordered : Option ℕ → Node → OrderedNode
+first_ordered parent first = record { node = first; parent = parent; opens = true }
+
+-- the parts of a game's ordered nodes
+module _ (c : Games) (at : ℕ) (parent : Option ℕ) (first : Node) (more : List Node) (below after : Games) (h : Stands c at parent (game first more below after)) where
+  abbrev own : List OrderedNode
+  own = first_ordered parent first ∷ further_nodes at more
+
+  abbrev under : List OrderedNode
+  under = nodes_from (at + length more + 1) (Some (at + length more)) below
+
+  front : StandsAt (ordered_nodes c) at (own ++ under)
+  front = stands_left (own ++ under) (nodes_from (at + length more + 1 + node_count below) parent after) h
+
+  pub stands_own : StandsAt (ordered_nodes c) at (first_ordered parent first ∷ further_nodes at more)
+  stands_own = stands_left own under front
+
+  pub stands_below : Stands c (at + length more + 1) (Some (at + length more)) below
+  stands_below = stands_right (at + length more + 1) own under front (omega (arith, length-further_nodes at more))
+
+  pub stands_after : Stands c (at + length more + 1 + node_count below) parent after
+  stands_after =
+      let count : length (own ++ under) ≡ suc (length more) + node_count below =
+      length-append own under ∙ omega (arith, length-further_nodes at more, length-nodes_from (at + length more + 1) (Some (at + length more)) below) in
+      stands_right (at + length more + 1 + node_count below) (own ++ under) (nodes_from (at + length more + 1 + node_count below) parent after) h (omega arith)
+
+  pub first_parent : parent_at c at ≡ Some parent
+  first_parent = rw add-zero at (ap (option_map (λ (r : OrderedNode). r.parent)) (stands_get own 0 stands_own (omega arith)))
+
+  pub further_parent : (k : ℕ) → k < length more → parent_at c (at + suc k) ≡ Some (Some (at + k))
+  further_parent k lt =
+      ap (option_map (λ (r : OrderedNode). r.parent)) (stands_get own (suc k) stands_own (omega (arith, length-further_nodes at more))) ∙ parent_in-further at more k lt
 
 -- the way to the parent of the node `next` is a front of the path `old`
 pub record Front (c : Games) (next : ℕ) (old : List ℕ) : Type 0 where
@@ -149,8 +271,8 @@ numbers_in_order at [] = refl
 numbers_in_order at (n ∷ ns) = ap (λ l. at ∷ l) (numbers_in_order (at + 1) ns)
 
 through_some : (own : List Node) (ls : List (List Node)) → ls ≢ [] → through own ls ≡ map (λ rest. own ++ rest) ls
-through_some own [] some = absurd (some refl)
-through_some own (l ∷ ls) some = refl
+through_some ns [] some = absurd (some refl)
+through_some ns (l ∷ ls) some = refl
 
 some_lines : (at : ℕ) (first : Node) (more : List Node) (below after : Games) → node_lines (numbered at (game first more below after)) ≢ []
 some_lines at first more below after e =
