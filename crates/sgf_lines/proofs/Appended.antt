@@ -18,7 +18,7 @@ use Rattle.sgf_lines.specs.Paths.{Path, paths, IsPathOf}
 use Rattle.sgf_lines.specs.SplitAgain.{HaveSame, SaysSame, scored, illegal_at, another_game, another_size}
 use Rattle.sgf_lines.specs.declared.verdict.Verdict.TheVariants.{Illegal}
 use Rattle.sgf_lines.proofs.Again.{says_same}
-use Rattle.sgf_lines.proofs.Lists.{Each}
+use Rattle.sgf_lines.proofs.Lists.{Each, map-through}
 use Rattle.sgf_lines.proofs.Joins.{as_many}
 use Rattle.sgf_lines.proofs.Visits.{some_node}
 use Rattle.sgf_lines.proofs.Following.{LeadsToLeaf, each_path}
@@ -36,15 +36,6 @@ lines-joined number (game first more below after) d =
     ∙ ap (λ n. (own ++ lines_from (number + 1) after) ++ lines_from n d) sums
 
 -- ---- games further on
-
--- what goes through images of the nodes is the image of what goes through them
-map-after : {A B : Type 0} (f : A → B) (own : List A) (ls : List (List A)) → map (map f) (map (λ rest. own ++ rest) ls) ≡ map (λ rest. map f own ++ rest) (map (map f) ls)
-map-after f own [] = refl
-map-after f own (l ∷ ls) = let one = map-append f own l in let rest = map-after f own ls in cc
-
-map-through : {A B : Type 0} (f : A → B) (own : List A) (ls : List (List A)) → map (map f) (through own ls) ≡ through (map f own) (map (map f) ls)
-map-through f own [] = refl
-map-through f own (l ∷ ls) = map-after f own (l ∷ ls)
 
 -- a line `by` bytes further on, after so many games
 abbrev raised_line : ℕ → ℕ → Line → Line

@@ -184,15 +184,19 @@ taken_cut side nodes count le =
     ap (λ ns. take count (walk side ns).taken) (sym (take-append-drop count nodes)) ∙ ap (λ (w : Walk). take count w.taken) (fold-append next (before_root side) (take count nodes) (drop count nodes))
     ∙ taken_on count front (drop count nodes) counted.1 ∙ take_all count front.taken counted.0)
 
+-- a node was taken only if the line had not ended, by a step that is taken
+pub taken_only : (j : Judgement) (node : Node) (s : State) → state_after j node ≡ Some s → (states : States) × (j ≡ judged states None) × (step states.present node ≡ Ok s)
+taken_only (unjudged told) node s e = absurd cc
+taken_only (judged states (Some told)) node s e = absurd cc
+taken_only (judged states None) node s e = (states, refl, by (step states.present node) e)
+  where
+    by : (r : Result State Reason) → state_of r ≡ Some s → r ≡ Ok s
+    by (Ok t) e = let same : t ≡ s = cc in ap Ok same
+    by (Err reason) e = absurd cc
+
 -- the board of a node that was taken
 pub board_after : (j : Judgement) (node : Node) (s : State) → state_after j node ≡ Some s → board_in (after j node) ≡ Some s.colouring
-board_after (unjudged told) node s e = absurd cc
-board_after (judged states (Some told)) node s e = absurd cc
-board_after (judged states None) node s e = by (step states.present node) e
-  where
-    by : (r : Result State Reason) → state_of r ≡ Some s → board_in (stepped states node r) ≡ Some s.colouring
-    by (Ok t) e = let same : t ≡ s = cc in ap (λ (u : State). Some u.colouring) same
-    by (Err reason) e = absurd cc
+board_after j node s e = let t = taken_only j node s e in ap (λ k. board_in (after k node)) t.1 ∙ ap (λ r. board_in (stepped t.0 node r)) t.2
 
 -- ---- how many nodes are judged
 

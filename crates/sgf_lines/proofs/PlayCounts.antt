@@ -12,14 +12,14 @@ use Rattle.sgf_lines.specs.JudgedGames.{game_kind, root_properties}
 use Rattle.sgf_lines.specs.Verdict.{judged_nodes}
 use Rattle.sgf_lines.specs.Plays.{different, all_judged_places, judged_places, places_of}
 use Rattle.sgf_lines.specs.inner.Following.{nodes_of, first_after, Continues, numbers_before}
-use Rattle.sgf_lines.proofs.Lists.{Each, each_append, each_weaker, element}
+use Rattle.sgf_lines.proofs.Lists.{Each, each_append, each_weaker, element, each_take}
 use Rattle.sgf_lines.proofs.Named.{length-paths}
 use Rattle.sgf_lines.proofs.LineNodes.{named_in}
 use Rattle.sgf_lines.proofs.Keeping.{same_front}
 use Rattle.sgf_lines.proofs.Joins.{more_texts, as_many}
 use Rattle.sgf_lines.proofs.Touched.{has, RisesFrom, more_different, has_right, each_has, place_number, places_named, places_rise, rises_range, within_below, is_new, different-append, judged_few}
 use Rattle.sgf_lines.proofs.JudgedFront.{judged_front, judged_alike}
-use Rattle.sgf_lines.proofs.Rising.{each_take, rises_take, rising, after_is, after_rises, end_within, places_from}
+use Rattle.sgf_lines.proofs.Rising.{rises_take, rising, after_is, after_rises, end_within, places_from}
 use Rattle.std.specs.Prelude.{unwrap_or, filter}
 use Rattle.std.specs.Io.KnownBytes.{Appends}
 use Rattle.std.proofs.KnownBytes.{Appends-trans, Appends-kept}

@@ -13,11 +13,6 @@ use Rattle.sgf_lines.proofs.Visits.{way_within, way_rises, rises_parts}
 use Rattle.sgf_lines.proofs.Following.{leads, after_way, last_number-range, continues, goes_on_there}
 use Rattle.sgf_lines.proofs.Touched.{RisesFrom, place_number, places_rise}
 
-pub each_take : {A : Type 0} (P : A → Type 0) (k : ℕ) (xs : List A) → Each P xs → Each P (take k xs)
-each_take P zero xs h = tt
-each_take P (suc k) [] h = tt
-each_take P (suc k) (x ∷ xs) h = (h.0, each_take P k xs h.1)
-
 pub rises_take : (low k : ℕ) (ns : List ℕ) → RisesFrom low ns → RisesFrom low (take k ns)
 rises_take low zero ns h = tt
 rises_take low (suc k) [] h = tt

@@ -1,14 +1,16 @@
 -- Each line touches what it shares with the line before it, and then new nodes, up to its leaf. So there are no more different places than nodes.
-use Rattle.std.proofs.Common.{◌≡◌, ℕ, ◌+◌, ◌<◌, ◌≤◌, Bool, true, false, cond, List, [], ◌∷◌, ◌++◌, inl, inr, refl, sym, ap, ◌∙◌, arith, zero, suc, length, map, slice_get, Some, None, option_map, unwrap_or, subst, append_assoc, append-nil, length-append, take, drop}
+use Rattle.std.proofs.Common.{◌≡◌, ℕ, ◌+◌, ◌<◌, ◌≤◌, Bool, true, false, cond, List, [], ◌∷◌, ◌++◌, inl, inr, refl, sym, ap, ◌∙◌, arith, zero, suc, length, map, slice_get, Some, None, option_map, unwrap_or, subst, append_assoc, append-nil, length-append, take}
 use Rattle.std.specs.Prelude.{filter, ◌==◌, ◌||◌, if◌then◌else◌}
 use Rattle.std.specs.List.{list_any, flat_map, range_with_len, AllZip}
 use Rattle.std.proofs.Math.Bool.{or-true}
 use Rattle.std.proofs.lemmas.Bool.{ne_eqb, eqb-true, eq-eqb, cases_Bool, cases_lt, cases_eq}
 use Rattle.std.proofs.lemmas.List.Folds.{list_any-append}
+use Rattle.std.proofs.lemmas.List.Sums.{length-filter, count_by-le-length}
+use Rattle.std.proofs.lemmas.Map.Views.{any-filter_same}
 use Rattle.std.proofs.lemmas.List.Elements.{filter-append}
 use Rattle.sgf_lines.specs.Plays.{differ, different, places_of, node_places, touched_places, judged_places, all_judged_places}
-use Rattle.sgf_lines.proofs.Lists.{Each, each_weaker, each_append, each_parts, element, range_below, range_append}
-use Rattle.std.proofs.lemmas.List.{map-append, take-map, take-append-drop, length-map}
+use Rattle.sgf_lines.proofs.Lists.{Each, each_weaker, each_append, each_parts, element, range_below, range_append, each_take}
+use Rattle.std.proofs.lemmas.List.{map-append, take-map, length-map}
 use Rattle.sgf_tree.specs.Tree.{Node, Games, node_count}
 use Rattle.sgf_tree.specs.FileOrder.{OrderedNode, ordered_nodes, node_at, place_at, PlacesRise}
 use Rattle.sgf_lines.specs.Lines.{Line, lines, last_number}
@@ -315,12 +317,6 @@ distinct_different : (l : List ℕ) → Distinct (different l)
 distinct_different [] = tt
 distinct_different (n ∷ l) = (filter_holds (differ n) (different l), distinct_filter (differ n) (different l) (distinct_different l))
 
-filter_short : (p : ℕ → Bool) (l : List ℕ) → length (filter p l) ≤ length l
-filter_short p [] = omega arith
-filter_short p (n ∷ l) =
-    let rest = filter_short p l in
-    elim (cases_Bool (p n)) [ inl holds ↦ rw holds (omega arith) | inr fails ↦ rw fails (omega arith) ]
-
 -- without a number that stands there they are fewer
 fewer : (n : ℕ) (l : List ℕ) → has l n ≡ true → length (filter (differ n) l) + 1 ≤ length l
 fewer n [] e = absurd cc
@@ -329,7 +325,7 @@ fewer n (m ∷ l) e =
       | inl holds ↦
           let same : n ≡ m = sym (eqb-true m n holds) in
           let gone : differ n m ≡ false = rw same (differ_itself m) in
-          rw gone (omega (arith, filter_short (differ n) l))
+          rw gone (omega (arith, length-filter (differ n) l, count_by-le-length (differ n) l))
       | inr fails ↦
           let rest = fewer n l (rw fails at e) in
           elim (cases_Bool (differ n m)) [ inl stays ↦ rw stays (omega arith) | inr goes ↦ rw goes (omega arith) ]
@@ -340,17 +336,7 @@ fewer n (m ∷ l) e =
 
 -- another number stands there still
 left_in : (n m : ℕ) (l : List ℕ) → differ n m ≡ true → has l m ≡ true → has (filter (differ n) l) m ≡ true
-left_in n m [] d e = absurd cc
-left_in n m (k ∷ l) d e =
-    elim (cases_Bool (k == m)) [
-      | inl holds ↦
-          let same : k ≡ m = eqb-true k m holds in
-          let stays : differ n k ≡ true = rw same d in
-          rw (stays, holds) refl
-      | inr fails ↦
-          let rest = left_in n m l d (rw fails at e) in
-          elim (cases_Bool (differ n k)) [ inl stays ↦ rw (stays, fails) rest | inr goes ↦ rw goes rest ]
-    ]
+left_in n m l d e = any-filter_same (λ x. x == m) (differ n) true (λ k is. let same : k ≡ m = eqb-true k m is in rw same d) l ∙ e
 
 each_left : (n : ℕ) (ms l : List ℕ) → Each (λ m. differ n m ≡ true) ms → Each (λ m. has l m ≡ true) ms → Each (λ m. has (filter (differ n) l) m ≡ true) ms
 each_left n [] l d h = tt
@@ -381,17 +367,12 @@ fewer_different xs ys h =
 
 -- ---- The nodes that are judged on lines stand on them.
 
-front_there : (k : ℕ) (ns : List ℕ) → Each (λ n. has ns n ≡ true) (take k ns)
-front_there k ns =
-    let all : Each (λ n. has (take k ns ++ drop k ns) n ≡ true) (take k ns) =
-    each_weaker (λ n. has (take k ns) n ≡ true) (λ n. has (take k ns ++ drop k ns) n ≡ true) (has_left (take k ns) (drop k ns)) (take k ns) (each_has (take k ns)) in
-    subst (λ l. Each (λ n. has l n ≡ true) (take k ns)) (take-append-drop k ns) all
-
 judged_there : (line : Line) → Each (λ n. has (places_of line.nodes) n ≡ true) (judged_places line)
 judged_there line =
     let f = judged_front (game_kind (root_properties line.nodes)) line.nodes in
     let is : judged_places line ≡ take f.0 (places_of line.nodes) = ap places_of f.1 ∙ sym (take-map (λ n. n.place) f.0 line.nodes) in
-    subst (Each (λ n. has (places_of line.nodes) n ≡ true)) (sym is) (front_there f.0 (places_of line.nodes))
+    subst (Each (λ n. has (places_of line.nodes) n ≡ true)) (sym is)
+    (each_take (λ n. has (places_of line.nodes) n ≡ true) f.0 (places_of line.nodes) (each_has (places_of line.nodes)))
 
 -- the places of the nodes of lines
 abbrev places_in : List Line → List ℕ
