@@ -17,7 +17,7 @@ use Rattle.sgf_lines.proofs.Named.{length-paths}
 use Rattle.sgf_lines.proofs.LineNodes.{named_in}
 use Rattle.sgf_lines.proofs.Keeping.{same_front}
 use Rattle.sgf_lines.proofs.Joins.{more_texts, as_many}
-use Rattle.sgf_lines.proofs.Touched.{has, RisesFrom, more_different, has_right, each_has, place_number, places_named, places_rise, rises_range, within_below, is_new, different-append, judged_few}
+use Rattle.sgf_lines.proofs.Touched.{has, RisesFrom, more_different, has_right, each_has, place_number, places_named, rises_range, within_below, is_new, different-append, judged_few, IsPlaceBefore, before_later, places_below}
 use Rattle.sgf_lines.proofs.JudgedFront.{judged_front, judged_alike}
 use Rattle.sgf_lines.proofs.Rising.{rises_take, rising, after_is, after_rises, end_within, places_from}
 use Rattle.std.specs.Prelude.{unwrap_or, filter}
@@ -93,14 +93,8 @@ module _ (c : Games) (rise : PlacesRise c) where
     abbrev so_far : ℕ → List ℕ
     so_far k = flat_map judged_places (take k page)
 
-    abbrev IsPlaceBefore : ℕ → ℕ → Type 0
-    IsPlaceBefore end x = (i : ℕ) × (i < end) × (x ≡ place_number c i)
-
-    before_later : (a b : ℕ) → a ≤ b → (xs : List ℕ) → Each (IsPlaceBefore a) xs → Each (IsPlaceBefore b) xs
-    before_later a b le xs h = each_weaker (IsPlaceBefore a) (IsPlaceBefore b) (λ x w. (w.0, omega (arith, w.1), w.2)) xs h
-
     -- they all come before the node after the last of these lines
-    all_before : (k : ℕ) → k ≤ length page → Each (IsPlaceBefore (first_after (numbers_before c (first + k)))) (so_far k)
+    all_before : (k : ℕ) → k ≤ length page → Each (IsPlaceBefore c (first_after (numbers_before c (first + k)))) (so_far k)
     all_before zero le = tt
     all_before (suc k) le =
         let l = element page k (omega arith) in
@@ -109,11 +103,11 @@ module _ (c : Games) (rise : PlacesRise c) where
         let lt = on_path (first + k) l.0 here in
         let next : first + suc k ≡ suc (first + k) = omega arith in
         let end = first_after numbers in
-        let old : Each (IsPlaceBefore end) (so_far k) = before_later (first_after (numbers_before c (first + k))) end (after_rises c (first + k) (omega (arith, lt))) (so_far k) (all_before k (omega arith)) in
+        let old : Each (IsPlaceBefore c end) (so_far k) = before_later c (first_after (numbers_before c (first + k))) end (after_rises c (first + k) (omega (arith, lt))) (so_far k) (all_before k (omega arith)) in
         let places = places_are l.0 numbers (named (first + k) l.0 here) in
-        let own : Each (IsPlaceBefore end) (judged_places l.0) =
-        subst (Each (IsPlaceBefore end)) (sym places.1) (each_take (IsPlaceBefore end) places.0 (map (place_number c) numbers) (within_below c rise end numbers (rising c (suc (first + k)) lt).below)) in
-        rw (next, ← more_texts judged_places page k l.0 l.1) (each_append (IsPlaceBefore end) (so_far k) (judged_places l.0) old own)
+        let own : Each (IsPlaceBefore c end) (judged_places l.0) =
+        subst (Each (IsPlaceBefore c end)) (sym places.1) (each_take (IsPlaceBefore c end) places.0 (map (place_number c) numbers) (within_below c rise end numbers (rising c (suc (first + k)) lt).below)) in
+        rw (next, ← more_texts judged_places page k l.0 l.1) (each_append (IsPlaceBefore c end) (so_far k) (judged_places l.0) old own)
 
     -- the first line adds all its judged nodes
     pub first_plays : (line : Line) → slice_get page 0 ≡ Some line → length (all_judged_places (take 1 page)) ≡ length (judged_nodes line)
@@ -144,9 +138,8 @@ module _ (c : Games) (rise : PlacesRise c) where
         let at = first_after old in
         let end : first_after new ≡ at + (h.more + 1) = after_is old new shared h in
         let end_in : first_after new ≤ node_count c = end_within c (suc (first + suc k)) (on_path (first + suc k) line (stands (suc k) line e)) in
-        let before : Each (IsPlaceBefore at) xs = all_before (suc k) (omega (arith, slice_get_within page (suc k) line e)) in
-        let below : Each (λ x. x < place_number c at) xs =
-        each_weaker (IsPlaceBefore at) (λ x. x < place_number c at) (λ x w. omega (arith, w.2, places_rise c rise w.0 at w.1 (omega (arith, end, end_in)))) xs before in
+        let before : Each (IsPlaceBefore c at) xs = all_before (suc k) (omega (arith, slice_get_within page (suc k) line e)) in
+        let below = places_below c rise at xs (omega (arith, end, end_in)) before in
         let last_there : Each (λ n. has xs n ≡ true) (judged_places last.0) =
         subst (λ ys. Each (λ n. has ys n ≡ true) (judged_places last.0)) (sym is)
         (each_weaker (λ n. has (judged_places last.0) n ≡ true) (λ n. has (so_far k ++ judged_places last.0) n ≡ true) (has_right (so_far k) (judged_places last.0)) (judged_places last.0) (each_has (judged_places last.0))) in

@@ -15,9 +15,7 @@ use Rattle.sgf_lines.specs.inner.Standing.{lines_before, IsAfterLeaf}
 use Rattle.sgf_lines.proofs.Lists.{element}
 use Rattle.sgf_lines.proofs.Following.{leads}
 use Rattle.sgf_lines.proofs.Named.{line_at, length-paths}
-use Rattle.sgf_lines.proofs.CursorStates.{given_line}
-use Rattle.sgf_lines.proofs.Standings.{shows}
-use Rattle.sgf_lines.proofs.Shows.{before}
+use Rattle.sgf_lines.proofs.CursorStates.{given_line, shows, before}
 
 pub last_within : (c : Games) (node last : ℕ) → node < node_count c → IsLastBelow c node last → last < node_count c
 last_within c node last lt h = under h.under

@@ -193,12 +193,23 @@ module _ (c : Games) where
       rw next at (places_range (before ++ r ∷ []) rest (e ∙ sym (append_assoc before (r ∷ []) rest))) in
       cc
 
+  -- a place of a node before `end`
+  abbrev pub IsPlaceBefore : ℕ → ℕ → Type 0
+  IsPlaceBefore end x = (i : ℕ) × (i < end) × (x ≡ place_number c i)
+
+  pub before_later : (a b : ℕ) → a ≤ b → (xs : List ℕ) → Each (IsPlaceBefore a) xs → Each (IsPlaceBefore b) xs
+  before_later a b le xs h = each_weaker (IsPlaceBefore a) (IsPlaceBefore b) (λ x w. (w.0, omega (arith, w.1), w.2)) xs h
+
   pub all_places : map (place_number c) (range_with_len 0 (node_count c)) ≡ node_places c
   all_places = let count = length-nodes_from 0 None c in rw (← count) (places_range [] (ordered_nodes c) refl)
 
   module _ (rise : PlacesRise c) where
     pub places_rise : (i j : ℕ) → i < j → j < node_count c → place_number c i < place_number c j
     places_rise i j lt within = rise i j (place_number c i) (place_number c j) lt (place_is i (omega arith)) (place_is j within)
+
+    -- they are less than that of the next node
+    pub places_below : (next : ℕ) (xs : List ℕ) → next < node_count c → Each (IsPlaceBefore next) xs → Each (λ x. x < place_number c next) xs
+    places_below next xs lt h = each_weaker (IsPlaceBefore next) (λ x. x < place_number c next) (λ x w. omega (arith, w.2, places_rise w.0 next w.1 lt)) xs h
 
     -- no more nodes than places below the limit
     pub nodes_within : (limit : ℕ) → ((i p : ℕ) → place_at c i ≡ Some p → p < limit) → node_count c ≤ limit
@@ -223,9 +234,9 @@ module _ (c : Games) where
     pub record Covers (next : ℕ) (xs : List ℕ) : Type 0 where
       pub once : different xs ≡ map (place_number c) (range_with_len 0 next)
       pub all : (i : ℕ) → i < next → has xs (place_number c i) ≡ true
-      pub only : Each (λ x. (i : ℕ) × (i < next) × (x ≡ place_number c i)) xs
+      pub only : Each (IsPlaceBefore next) xs
 
-    pub within_below : (next : ℕ) (is : List ℕ) → Each (λ i. i < next) is → Each (λ x. (i : ℕ) × (i < next) × (x ≡ place_number c i)) (map (place_number c) is)
+    pub within_below : (next : ℕ) (is : List ℕ) → Each (λ i. i < next) is → Each (IsPlaceBefore next) (map (place_number c) is)
     within_below next [] h = tt
     within_below next (i ∷ is) h = ((i, h.0, refl), within_below next is h.1)
 
@@ -246,9 +257,7 @@ module _ (c : Games) where
         → Covers (next + n) (xs ++ (map (place_number c) old ++ map (place_number c) (range_with_len next n)))
     grows next n xs old some within below h =
         let fresh = map (place_number c) (range_with_len next n) in
-        let less : Each (λ x. x < place_number c next) xs =
-        each_weaker (λ x. (i : ℕ) × (i < next) × (x ≡ place_number c i)) (λ x. x < place_number c next)
-        (λ x w. omega (arith, w.2, places_rise w.0 next w.1 (omega arith))) xs h.only in
+        let less = places_below next xs (omega arith) h.only in
         record {
           once =
               more_different xs (map (place_number c) old) fresh (place_number c next) (there next xs h old below) less (rises_range next n (place_number c next) within (λ lt. omega arith))
@@ -257,8 +266,8 @@ module _ (c : Games) where
             | inl before ↦ has_left xs (map (place_number c) old ++ fresh) (place_number c i) (h.all i before)
             | inr from ↦ has_right xs (map (place_number c) old ++ fresh) (place_number c i) (has_right (map (place_number c) old) fresh (place_number c i) (has_range next n i from lt))
           ];
-          only = each_append (λ x. (i : ℕ) × (i < next + n) × (x ≡ place_number c i)) xs (map (place_number c) old ++ fresh) (each_weaker (λ x. (i : ℕ) × (i < next) × (x ≡ place_number c i)) (λ x. (i : ℕ) × (i < next + n) × (x ≡ place_number c i)) (λ x w. (w.0, omega (arith, w.1), w.2)) xs h.only)
-              (each_append (λ x. (i : ℕ) × (i < next + n) × (x ≡ place_number c i)) (map (place_number c) old) fresh
+          only = each_append (IsPlaceBefore (next + n)) xs (map (place_number c) old ++ fresh) (before_later next (next + n) (omega arith) xs h.only)
+              (each_append (IsPlaceBefore (next + n)) (map (place_number c) old) fresh
               (within_below (next + n) old (each_weaker (λ i. i < next) (λ i. i < next + n) (λ i lt. omega arith) old below))
               (within_below (next + n) (range_with_len next n) (range_below next n (next + n) (omega arith))));
         }

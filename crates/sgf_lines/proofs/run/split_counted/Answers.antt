@@ -10,7 +10,7 @@ use Rattle.sgf_lines.specs.Lines.{lines}
 use Rattle.sgf_lines.specs.Cursor.{CursorState}
 use Rattle.sgf_lines.specs.inner.Running.{WritesLines, unread}
 use Rattle.sgf_lines.proofs.PlayCounts.{for_options, few_played}
-use Rattle.sgf_lines.proofs.RunningPlays.{unread_run, no_start_run, lines_run}
+use Rattle.sgf_lines.proofs.Running.{unread_run, no_start_run, lines_run}
 use Rattle.sgf_lines.proofs.Touched.{nodes_within}
 use Rattle.sgf_lines.proofs.run.split_counted.Goals as goal
 
