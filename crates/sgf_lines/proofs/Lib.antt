@@ -7,8 +7,7 @@ pub mod Lists
 pub mod Visits
 pub mod Named
 pub mod Following
-pub mod JudgedFront
-pub mod Rising
+pub mod Walking
 pub mod Touched
 pub mod Pages
 pub mod Loops
@@ -20,7 +19,6 @@ pub mod Steps
 pub mod Gathered
 pub mod Judgements
 pub mod Judged
-pub mod Back
 pub mod PieceTexts
 pub mod Recordings
 pub mod Scripts
@@ -29,7 +27,6 @@ pub mod Cut
 pub mod Commanding
 pub mod Lined
 pub mod Scripted
-pub mod Walking
 pub mod Again
 pub mod Appended
 pub mod CutTexts

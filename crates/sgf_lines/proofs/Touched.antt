@@ -21,7 +21,7 @@ use Rattle.sgf_lines.proofs.Named.{place_of_node, each_named}
 use Rattle.sgf_lines.proofs.Following.{Follow, paths_follow, ends_at}
 use Rattle.std.proofs.lemmas.Grind.{flat_map-append}
 use Rattle.sgf_lines.specs.JudgedGames.{game_kind, root_properties}
-use Rattle.sgf_lines.proofs.JudgedFront.{judged_front}
+use Rattle.sgf_lines.proofs.Walking.{judged_front}
 
 -- whether a number stands in a list
 abbrev pub has : List ℕ → ℕ → Bool
