@@ -20,8 +20,7 @@ use Rattle.sgf_lines.specs.declared.verdict.Verdict.TheVariants.{Illegal}
 use Rattle.sgf_lines.proofs.Again.{says_same}
 use Rattle.sgf_lines.proofs.Lists.{Each, map-through}
 use Rattle.sgf_lines.proofs.Joins.{as_many}
-use Rattle.sgf_lines.proofs.Visits.{some_node}
-use Rattle.sgf_lines.proofs.Following.{LeadsToLeaf, each_path}
+use Rattle.sgf_lines.proofs.Visits.{some_node, LeadsToLeaf, each_path}
 use Rattle.sgf_lines.proofs.Named.{each_named}
 
 -- ---- games after others

@@ -11,8 +11,7 @@ use Rattle.sgf_lines.specs.inner.PathTo.{IsPathTo, HasNoLeaf, IsNextLeaf}
 use Rattle.sgf_lines.specs.inner.Standing.{lines_before, IsAfterLeaf}
 use Rattle.sgf_tree.proofs.Rises.{rises-pair}
 use Rattle.sgf_lines.proofs.Lists.{element, Each, each_get}
-use Rattle.sgf_lines.proofs.Visits.{one_way, way_within, last-way, some_node, within_way}
-use Rattle.sgf_lines.proofs.Following.{leads, leaves_in_order, covered}
+use Rattle.sgf_lines.proofs.Visits.{one_way, way_within, last-way, some_node, within_way, leads, leaves_in_order, covered}
 use Rattle.sgf_lines.specs.Lines.{lines, place_of, last_number}
 use Rattle.sgf_lines.proofs.Named.{game_of_root, line_at, length-paths}
 use Rattle.sgf_lines.specs.Cursor.{CursorState, advanced, IsLine}

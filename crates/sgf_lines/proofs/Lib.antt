@@ -4,13 +4,11 @@ pub mod ExamplesOfVerdicts
 pub mod ExamplesOfPlays
 pub mod ExamplesOfReplay
 pub mod Lists
-pub mod Visits
 pub mod Named
-pub mod Following
+pub mod Visits
 pub mod Walking
 pub mod Touched
 pub mod Pages
-pub mod Loops
 pub mod CursorStates
 pub mod Descending
 pub mod Seeking

@@ -10,8 +10,7 @@ use Rattle.sgf_tree.specs.FileOrder.{IsLeaf}
 use Rattle.sgf_lines.specs.Lines.{lines}
 use Rattle.sgf_lines.specs.Paths.{paths, leaf_of}
 use Rattle.sgf_lines.specs.inner.Standing.{lines_before}
-use Rattle.sgf_lines.proofs.Visits.{rises_parts}
-use Rattle.sgf_lines.proofs.Following.{leads, leaves_in_order}
+use Rattle.sgf_lines.proofs.Visits.{rises_parts, leads, leaves_in_order}
 use Rattle.sgf_lines.proofs.Named.{length-paths}
 use Rattle.sgf_lines.proofs.CursorStates.{before_is, next_line, no_line_left}
 use Rattle.std.specs.Io.KnownBytes.{Appends}

@@ -8,8 +8,7 @@ use Rattle.sgf_tree.specs.Tree.{Node, Games, no_games, game, node_count}
 use Rattle.sgf_tree.specs.FileOrder.{OrderedNode, further_nodes, ordered_nodes, node_at, place_at, game_of}
 use Rattle.sgf_lines.specs.Lines.{Line, through, node_lines, lines_of_game, lines_from, lines, last_number, place_of}
 use Rattle.sgf_lines.specs.Paths.{Path, numbered_nodes, numbered, path_of, paths, leaf_of, IsPathOf}
-use Rattle.sgf_lines.proofs.Visits.{StandsAt, Stands, stands_whole, stands_get, stands_right, stands_own, stands_below, stands_after, first_ordered, some_node}
-use Rattle.sgf_lines.proofs.Following.{leads}
+use Rattle.sgf_lines.proofs.Visits.{StandsAt, Stands, stands_whole, stands_get, stands_right, stands_own, stands_below, stands_after, first_ordered, some_node, leads}
 use Rattle.std.proofs.lemmas.Bool.{lt-ltb, le-ltb}
 use Rattle.sgf_lines.proofs.Lists.{Each, each_append, each_weaker, map-through}
 

@@ -9,8 +9,7 @@ use Rattle.sgf_lines.specs.Paths.{paths}
 use Rattle.sgf_lines.specs.inner.Following.{first_after, Continues, numbers_before, nodes_of}
 use Rattle.sgf_tree.proofs.Rises.{Rises}
 use Rattle.sgf_lines.proofs.Lists.{Each, element, each_append, each_weaker, each_take}
-use Rattle.sgf_lines.proofs.Visits.{way_within, way_rises, rises_parts}
-use Rattle.sgf_lines.proofs.Following.{leads, after_way, last_number-range, continues, goes_on_there}
+use Rattle.sgf_lines.proofs.Visits.{way_within, way_rises, rises_parts, leads, after_way, last_number-range, continues, goes_on_there}
 use Rattle.sgf_lines.proofs.Touched.{RisesFrom, place_number, places_rise, has, more_different, has_right, each_has, places_named, rises_range, within_below, is_new, different-append, judged_few, IsPlaceBefore, before_later, places_below}
 use Rattle.std.proofs.lemmas.List.{map-append, take-map, take-append-drop, length-take-le, length-map, length-drop, take_all, length-take}
 use Rattle.std.proofs.Math.Seq.{take-add}

@@ -18,7 +18,7 @@ use Rattle.sgf_lines.specs.Paths.{Path, paths, IsPathOf}
 use Rattle.sgf_tree.proofs.Lists.{slice_get-right}
 use Rattle.sgf_tree.proofs.OrderedNodes.{length-nodes_from, length-ordered_nodes}
 use Rattle.sgf_lines.proofs.Named.{place_of_node, each_named}
-use Rattle.sgf_lines.proofs.Following.{Follow, paths_follow, ends_at}
+use Rattle.sgf_lines.proofs.Visits.{Follow, paths_follow, ends_at}
 use Rattle.std.proofs.lemmas.Grind.{flat_map-append}
 use Rattle.sgf_lines.specs.JudgedGames.{game_kind, root_properties}
 use Rattle.sgf_lines.proofs.Walking.{judged_front}
