@@ -1,28 +1,26 @@
 -- The lines of games after others are those of the others and then theirs, and what stands further on is judged alike.
-use Rattle.std.proofs.Common.{◌≡◌, ◌≢◌, ℕ, ◌+◌, List, [], ◌∷◌, ◌++◌, length, map, fold, Option, Some, None, option_map, Result, Ok, Err, codes, decimal, refl, sym, ap, ◌∙◌, arith, append_assoc}
+use Rattle.std.proofs.Common.{◌≡◌, ◌≢◌, ℕ, ◌+◌, List, [], ◌∷◌, ◌++◌, length, map, slice_get, Some, option_map, codes, decimal, refl, sym, ap, ◌∙◌, arith, append_assoc}
 use Rattle.std.proofs.lemmas.Grind.{flat_map-append}
 use Rattle.std.specs.List.{flat_map, AllZip}
+use Rattle.std.proofs.lemmas.Option.{slice_get-map}
 use Rattle.std.proofs.lemmas.List.{map-append, length-map}
 use Rattle.sgf_tree.specs.Tree.{Node, Games, no_games, game, game_count, joined}
 use Rattle.sgf_tree.specs.Appending.{raised_node, raised}
-use Rattle.go_board.specs.declared.reason.Reason.{Reason}
-use Rattle.go_board.specs.State.{State}
 use Rattle.sgf_lines.specs.declared.options.Form.TheVariants.{List as list_form}
 use Rattle.sgf_lines.specs.declared.verdict.Verdict.{Verdict}
 use Rattle.sgf_lines.specs.Lines.{Line, through, node_lines, lines_of_game, lines_from, lines, last_number, place_of}
-use Rattle.sgf_lines.specs.JudgedGames.{GameKind, not_go, bad_size, board, game_kind, root_properties}
-use Rattle.sgf_lines.specs.Step.{step}
-use Rattle.sgf_lines.specs.Walk.{TakenNode, IllegalNode, Walk, before_root, stepped, next_by, next, walk}
-use Rattle.sgf_lines.specs.Verdict.{verdict_with, verdict_by, verdict_of}
+use Rattle.sgf_lines.specs.Verdict.{verdict_of}
 use Rattle.sgf_lines.specs.ListRow.{verdict_text}
 use Rattle.sgf_lines.specs.Record.{record_of}
 use Rattle.sgf_lines.specs.Appending.{raised_verdict, raised_record}
 use Rattle.sgf_tree.specs.FileOrder.{node_at}
 use Rattle.sgf_lines.specs.Paths.{Path, paths, IsPathOf}
-use Rattle.sgf_lines.proofs.Lists.{Each}
+use Rattle.sgf_lines.specs.SplitAgain.{HaveSame, SaysSame, scored, illegal_at, another_game, another_size}
+use Rattle.sgf_lines.specs.declared.verdict.Verdict.TheVariants.{Illegal}
+use Rattle.sgf_lines.proofs.Again.{says_same}
+use Rattle.sgf_lines.proofs.Lists.{Each, map-through}
 use Rattle.sgf_lines.proofs.Joins.{as_many}
-use Rattle.sgf_lines.proofs.Ways.{some_node}
-use Rattle.sgf_lines.proofs.Following.{LeadsToLeaf, each_path}
+use Rattle.sgf_lines.proofs.Visits.{some_node, LeadsToLeaf, each_path}
 use Rattle.sgf_lines.proofs.Named.{each_named}
 
 -- ---- games after others
@@ -37,15 +35,6 @@ lines-joined number (game first more below after) d =
     ∙ ap (λ n. (own ++ lines_from (number + 1) after) ++ lines_from n d) sums
 
 -- ---- games further on
-
--- what goes through images of the nodes is the image of what goes through them
-map-after : {A B : Type 0} (f : A → B) (own : List A) (ls : List (List A)) → map (map f) (map (λ rest. own ++ rest) ls) ≡ map (λ rest. map f own ++ rest) (map (map f) ls)
-map-after f own [] = refl
-map-after f own (l ∷ ls) = let one = map-append f own l in let rest = map-after f own ls in cc
-
-map-through : {A B : Type 0} (f : A → B) (own : List A) (ls : List (List A)) → map (map f) (through own ls) ≡ through (map f own) (map (map f) ls)
-map-through f own [] = refl
-map-through f own (l ∷ ls) = map-after f own (l ∷ ls)
 
 -- a line `by` bytes further on, after so many games
 abbrev raised_line : ℕ → ℕ → Line → Line
@@ -99,49 +88,23 @@ place-raised by [] h = absurd (h refl)
 place-raised by (n ∷ []) h = refl
 place-raised by (n ∷ m ∷ ms) h = place-raised by (m ∷ ms) (λ e. cc)
 
-root-raised : (by : ℕ) (nodes : List Node) → root_properties (map (raised_node by) nodes) ≡ root_properties nodes
-root-raised by [] = refl
-root-raised by (n ∷ ns) = refl
+-- nodes further on have the same properties, and so the same verdict
+all-raised : (by : ℕ) (nodes : List Node) → AllZip HaveSame nodes (map (raised_node by) nodes)
+all-raised by [] = tt
+all-raised by (n ∷ ns) = (refl, all-raised by ns)
 
-abbrev raised_taken : ℕ → TakenNode → TakenNode
-raised_taken by p = record { node = raised_node by p.node; after = p.after }
-
-abbrev raised_illegal : ℕ → IllegalNode → IllegalNode
-raised_illegal by met = record { node = raised_node by met.node; reason = met.reason }
-
-abbrev raised_walk : ℕ → Walk → Walk
-raised_walk by w = record { taken = map (raised_taken by) w.taken; state = w.state; illegal = option_map (raised_illegal by) w.illegal }
-
-stepped-raised : (by : ℕ) (w : Walk) (n : Node) (result : Result State Reason)
-    → stepped (raised_walk by w) (raised_node by n) result ≡ raised_walk by (stepped w n result)
-stepped-raised by w n (Ok s) =
-    ap (λ ps. record { taken = ps; state = s; illegal = None }) (sym (map-append (raised_taken by) w.taken (record { node = n; after = s } ∷ [])))
-stepped-raised by w n (Err reason) = refl
-
-next-raised : (by : ℕ) (w : Walk) (met : Option IllegalNode) (n : Node)
-    → next_by (raised_walk by w) (option_map (raised_illegal by) met) (raised_node by n) ≡ raised_walk by (next_by w met n)
-next-raised by w (Some met) n = refl
-next-raised by w None n = stepped-raised by w n (step w.state n)
-
-walk-raised : (by : ℕ) (w : Walk) (nodes : List Node) → fold next (raised_walk by w) (map (raised_node by) nodes) ≡ raised_walk by (fold next w nodes)
-walk-raised by w [] = refl
-walk-raised by w (n ∷ ns) =
-    ap (λ v. fold next v (map (raised_node by) ns)) (next-raised by w w.illegal n) ∙ walk-raised by (next w n) ns
-
-verdict_with-raised : (by : ℕ) (s : State) (met : Option IllegalNode) → verdict_with s (option_map (raised_illegal by) met) ≡ raised_verdict by (verdict_with s met)
-verdict_with-raised by s None = refl
-verdict_with-raised by s (Some met) = refl
-
-verdict_by-raised : (by : ℕ) (o : GameKind) (nodes : List Node) → verdict_by o (map (raised_node by) nodes) ≡ raised_verdict by (verdict_by o nodes)
-verdict_by-raised by not_go nodes = refl
-verdict_by-raised by bad_size nodes = refl
-verdict_by-raised by (board side) nodes =
-    ap (λ w. verdict_with w.state w.illegal) (walk-raised by (before_root side) nodes)
-    ∙ verdict_with-raised by (walk side nodes).state (walk side nodes).illegal
+said-raised : (by : ℕ) (nodes : List Node) (told later : Verdict) → SaysSame nodes (map (raised_node by) nodes) told later → later ≡ raised_verdict by told
+said-raised by nodes told later scored = refl
+said-raised by nodes told later (illegal_at {turn} {reason} {node} {other} index here there) =
+    let raised_there : slice_get (map (raised_node by) nodes) index ≡ Some (raised_node by node) = slice_get-map (raised_node by) nodes index ∙ ap (option_map (raised_node by)) here in
+    let same : other ≡ raised_node by node = cc in
+    ap (λ (n : Node). Illegal turn n.place reason) same
+said-raised by nodes told later another_game = refl
+said-raised by nodes told later another_size = refl
 
 verdict-raised : (by : ℕ) (nodes : List Node) → verdict_of (map (raised_node by) nodes) ≡ raised_verdict by (verdict_of nodes)
 verdict-raised by nodes =
-    ap (λ ps. verdict_by (game_kind ps) (map (raised_node by) nodes)) (root-raised by nodes) ∙ verdict_by-raised by (game_kind (root_properties nodes)) nodes
+    said-raised by nodes (verdict_of nodes) (verdict_of (map (raised_node by) nodes)) (says_same nodes (map (raised_node by) nodes) (all-raised by nodes))
 
 row-raised : (by games : ℕ) (line : Line) → IsFilled line → record_of list_form (raised_line by games line) ≡ raised_record by games line
 row-raised by games line filled =

@@ -14,11 +14,9 @@ use Rattle.sgf_lines.specs.inner.PathTo.{IsPathTo, step, IsNextLeaf}
 use Rattle.sgf_lines.specs.inner.Standing.{lines_before, IsAfterLeaf}
 use Rattle.sgf_lines.specs.inner.Following.{first_after, Continues, numbers_of, numbers_before, path_before, IsCutBack}
 use Rattle.sgf_lines.proofs.Lists.{get_left}
-use Rattle.sgf_lines.proofs.Ways.{none_above, last-way, way_rises, rises_parts}
-use Rattle.sgf_lines.proofs.CursorStates.{before_none, next_line, given_line}
-use Rattle.sgf_lines.proofs.Following.{GoesOn, goes_on_there, ends_at, after_way}
-use Rattle.sgf_lines.proofs.Shows.{before}
-use Rattle.sgf_lines.proofs.Sought.{stands_after}
+use Rattle.sgf_lines.proofs.Visits.{none_above, last-way, way_rises, rises_parts, GoesOn, goes_on_there, ends_at, after_way}
+use Rattle.sgf_lines.proofs.CursorStates.{before_none, next_line, given_line, before}
+use Rattle.sgf_lines.proofs.Seeking.{stands_after}
 
 module _ (c : Games) (next : ℕ) (path : List ℕ) (stands : IsAfterLeaf c next path) where
   -- What the path is: that of the line before, whose nodes rise. The node from which a cursor goes on is the first one after it.

@@ -1,7 +1,6 @@
 -- Texts that are appended one after the other.
-use Rattle.std.proofs.Common.{◌≡◌, ℕ, zero, suc, ◌+◌, ◌<◌, ◌≤◌, List, [], ◌∷◌, ◌++◌, length, take, map, slice_get, Option, Some, refl, sym, ap, ◌∙◌, arith, append_assoc, add-one, append-nil, get_or, Result, Ok, Err}
-use Rattle.std.specs.Prelude.{OnOk}
-use Rattle.std.proofs.lemmas.List.{take_all, length-map}
+use Rattle.std.proofs.Common.{◌≡◌, ℕ, zero, suc, ◌+◌, ◌<◌, List, [], ◌∷◌, ◌++◌, length, take, map, slice_get, Option, Some, refl, sym, ap, ◌∙◌, arith, append_assoc, add-one, append-nil, get_or}
+use Rattle.std.proofs.lemmas.List.{length-map}
 use Rattle.std.specs.List.{flat_map}
 
 -- one more element
@@ -33,12 +32,3 @@ named_at f (m ∷ ms) (p ∷ ps) (suc i) d e lt = named_at f ms ps i d (cc) (ome
 pub node_named : {X : Type 0} (f : ℕ → Option X) (nodes : List X) (path : List ℕ) (i d : ℕ) (x : X) → map Some nodes ≡ map f path → i < length path
     → f (get_or path i d) ≡ Some x → slice_get nodes i ≡ Some x
 node_named f nodes path i d x e lt is = let n = named_at f nodes path i d e lt in n.1 ∙ sym n.2 ∙ is
-
--- the last bytes, after all elements
-pub ends : {X E : Type 0} (f : X → List ℕ) (r : Result (Unit {0}) E) (old front tail : List ℕ) (xs : List X) (n : ℕ) (now new : List ℕ) → length xs ≤ n
-    → now ≡ old ++ (front ++ flat_map f (take n xs)) → OnOk r (new ≡ now ++ tail) → OnOk r (new ≡ old ++ (front ++ (flat_map f xs ++ tail)))
-ends f (Ok u) old front tail xs n now new le now_is new_is =
-    let texts = flat_map f xs in
-    let all : now ≡ old ++ (front ++ texts) = now_is ∙ ap (λ ys. old ++ (front ++ flat_map f ys)) (take_all n xs le) in
-    new_is ∙ ap (λ bs. bs ++ tail) all ∙ append_assoc old (front ++ texts) tail ∙ ap (λ bs. old ++ bs) (append_assoc front texts tail)
-ends f (Err e) old front tail xs n now new le now_is new_is = tt

@@ -11,7 +11,7 @@ use Rattle.sgf_lines.specs.Paths.{leaf_of}
 use Rattle.sgf_lines.specs.Verdict.{verdict_of, IsVerdictAt}
 use Rattle.sgf_lines.specs.inner.PathTo.{IsPathTo}
 use Rattle.sgf_lines.specs.inner.Standing.{lines_before}
-use Rattle.sgf_lines.proofs.Ways.{last-way, within_way}
+use Rattle.sgf_lines.proofs.Visits.{last-way, within_way}
 use Rattle.sgf_lines.proofs.CursorStates.{given_line}
 use Rattle.sgf_lines.proofs.Named.{line_at}
 

@@ -8,7 +8,7 @@ use Rattle.sgf_lines.specs.Verdict.{judged_on}
 use Rattle.sgf_lines.specs.inner.Judging.{Judging, judging, after, next_plays}
 use Rattle.sgf_lines.specs.inner.Keeping.{judging_front, fresh_plays, PlaysUpTo}
 use Rattle.sgf_lines.proofs.Lists.{front_more}
-use Rattle.sgf_lines.proofs.JudgedFront.{judged_of_front}
+use Rattle.sgf_lines.proofs.Walking.{judged_of_front}
 use Rattle.sgf_lines.proofs.Judgements.{judging_more, plays_more, one_at_most}
 
 -- how many nodes of a line are judged

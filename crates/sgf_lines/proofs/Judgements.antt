@@ -1,24 +1,39 @@
 -- A line's judgement goes on by a node, and back to its first nodes.
-use Rattle.std.proofs.Common.{◌≡◌, ℕ, suc, ◌+◌, ◌<◌, ◌≤◌, List, [], ◌∷◌, ◌++◌, length, take, drop, slice_get, Option, Some, None, Result, Ok, Err, refl, sym, ap, subst, ◌∙◌, arith, length-append, append-nil}
-use Rattle.std.specs.Prelude.{fold}
+use Rattle.std.proofs.Common.{◌≡◌, ℕ, ◌<◌, ◌≤◌, List, [], ◌∷◌, length, refl, ap, ◌∙◌, arith, suc, ◌+◌, ◌++◌, take, drop, slice_get, Option, Some, None, Result, Ok, Err, sym, subst, length-append, append-nil}
 use Rattle.std.proofs.lemmas.Bool.{le-leb, lt-leb}
+use Rattle.go_board.specs.State.{State, States, followed_by}
+use Rattle.sgf_lines.specs.inner.Back.{back_from, back_to}
+use Rattle.std.specs.Prelude.{fold}
 use Rattle.std.proofs.lemmas.List.{take_all, take-append-le, take-append-drop, length-take-le}
 use Rattle.std.proofs.lemmas.List.Sums.{fold-append}
 use Rattle.sgf_tree.specs.Tree.{Node}
 use Rattle.go_board.specs.declared.reason.Reason.{Reason}
-use Rattle.go_board.specs.State.{State, States, followed_by}
 use Rattle.sgf_lines.specs.declared.verdict.Verdict.{Verdict}
 use Rattle.sgf_lines.specs.declared.verdict.Verdict.TheVariants.{Illegal, NotGo, BadSize}
 use Rattle.sgf_lines.specs.JudgedGames.{GameKind, not_go, bad_size, board, root_properties}
 use Rattle.sgf_lines.specs.Step.{step}
 use Rattle.sgf_lines.specs.Walk.{TakenNode, IllegalNode, Walk, before_root, next_by, next, walk, judged_by}
-use Rattle.sgf_lines.specs.Walk as along
 use Rattle.sgf_lines.specs.Verdict.{verdict_at, verdict_by, judged_on}
-use Rattle.sgf_lines.specs.inner.Back.{back_to}
 use Rattle.sgf_lines.specs.inner.Judging.{Judgement, Judging, unjudged, judged, judgement_of, side_in, begun_game, stepped, after, judging, back, verdict_in, board_in, state_after, state_of, taken_by, next_plays}
-use Rattle.sgf_lines.proofs.Back.{back_none, back_undone}
-use Rattle.sgf_lines.proofs.Walking.{StandsAfter, scores_there, next_is}
-use Rattle.sgf_lines.proofs.JudgedFront.{one_judged}
+use Rattle.sgf_lines.proofs.Walking.{StandsAfter, scores_there, next_is, one_judged}
+use Rattle.sgf_lines.specs.Walk as along
+
+-- nothing to take back
+pub back_none : (states : States) (depth : ℕ) → length states.earlier ≤ depth → back_to states depth ≡ states
+back_none states depth le = by states.present states.earlier le
+  where
+    by : (s : State) (es : List State) → length es ≤ depth → back_from s es depth ≡ record { present = s; earlier = es }
+    by s [] le = refl
+    by s (e ∷ es) le = rw (le-leb (length (e ∷ es)) depth le) refl
+
+-- one to take back
+back_one : (s e : State) (es : List State) (depth : ℕ) → depth < length (e ∷ es) → back_from s (e ∷ es) depth ≡ back_from e es depth
+back_one s e es depth lt = rw (lt-leb (length (e ∷ es)) depth lt) refl
+
+pub back_undone : (old new : States) (depth : ℕ) (s : State) → depth < length old.earlier → old ≡ followed_by new s → back_to old depth ≡ back_to new depth
+back_undone old new depth s lt is =
+    let more : depth < length (new.present ∷ new.earlier) = omega (arith, ap (λ (o : States). length o.earlier) is) in
+    ap (λ o. back_to o depth) is ∙ back_one s new.present new.earlier depth more
 
 pub judging_more : (kind : GameKind) (nodes : List Node) (node : Node) → judging kind (nodes ++ node ∷ []) ≡ after (judging kind nodes) node
 judging_more kind nodes node = fold-append after (begun_game kind) nodes (node ∷ [])
@@ -184,15 +199,19 @@ taken_cut side nodes count le =
     ap (λ ns. take count (walk side ns).taken) (sym (take-append-drop count nodes)) ∙ ap (λ (w : Walk). take count w.taken) (fold-append next (before_root side) (take count nodes) (drop count nodes))
     ∙ taken_on count front (drop count nodes) counted.1 ∙ take_all count front.taken counted.0)
 
+-- a node was taken only if the line had not ended, by a step that is taken
+pub taken_only : (j : Judgement) (node : Node) (s : State) → state_after j node ≡ Some s → (states : States) × (j ≡ judged states None) × (step states.present node ≡ Ok s)
+taken_only (unjudged told) node s e = absurd cc
+taken_only (judged states (Some told)) node s e = absurd cc
+taken_only (judged states None) node s e = (states, refl, by (step states.present node) e)
+  where
+    by : (r : Result State Reason) → state_of r ≡ Some s → r ≡ Ok s
+    by (Ok t) e = let same : t ≡ s = cc in ap Ok same
+    by (Err reason) e = absurd cc
+
 -- the board of a node that was taken
 pub board_after : (j : Judgement) (node : Node) (s : State) → state_after j node ≡ Some s → board_in (after j node) ≡ Some s.colouring
-board_after (unjudged told) node s e = absurd cc
-board_after (judged states (Some told)) node s e = absurd cc
-board_after (judged states None) node s e = by (step states.present node) e
-  where
-    by : (r : Result State Reason) → state_of r ≡ Some s → board_in (stepped states node r) ≡ Some s.colouring
-    by (Ok t) e = let same : t ≡ s = cc in ap (λ (u : State). Some u.colouring) same
-    by (Err reason) e = absurd cc
+board_after j node s e = let t = taken_only j node s e in ap (λ k. board_in (after k node)) t.1 ∙ ap (λ r. board_in (stepped t.0 node r)) t.2
 
 -- ---- how many nodes are judged
 

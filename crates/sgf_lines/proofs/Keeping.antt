@@ -35,7 +35,7 @@ some_inj (x ∷ xs) [] e = absurd cc
 some_inj (x ∷ xs) (y ∷ ys) e = let head : x ≡ y = cc in let rest = some_inj xs ys cc in cc
 
 -- paths that share a front name the same nodes there
-same_front : (f : ℕ → Option Node) (old new : List ℕ) (was nodes : List Node) (kept : ℕ) → map Some was ≡ map f old → map Some nodes ≡ map f new → Continues old kept new
+pub same_front : (f : ℕ → Option Node) (old new : List ℕ) (was nodes : List Node) (kept : ℕ) → map Some was ≡ map f old → map Some nodes ≡ map f new → Continues old kept new
     → take kept was ≡ take kept nodes
 same_front f old new was nodes kept e g h =
     let count = length-take-le kept old h.kept_within in

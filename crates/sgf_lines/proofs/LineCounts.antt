@@ -1,8 +1,8 @@
--- How many lines a collection has, by its leaves.
-use Rattle.std.proofs.Common.{◌≡◌, ℕ, ◌+◌, ◌<◌, ◌≤◌, length, false, true, map, sym, ap, ◌∙◌, arith, inl, inr}
-use Rattle.std.specs.Prelude.{nat_lt}
+-- How many lines a collection has, by its leaves, and the answer of a count.
+use Rattle.std.proofs.Common.{◌≡◌, ℕ, ◌+◌, ◌<◌, ◌≤◌, length, false, true, map, sym, ap, ◌∙◌, arith, inl, inr, List, [], ◌++◌, take, drop, Result, Ok, Err, refl, append_assoc, append-nil, length-append}
+use Rattle.std.specs.Prelude.{nat_lt, codes}
 use Rattle.std.proofs.lemmas.Bool.{cases_lt, lt-ltb, ltb-true}
-use Rattle.std.proofs.lemmas.List.{length-map}
+use Rattle.std.proofs.lemmas.List.{length-map, take-append-drop}
 use Rattle.std.proofs.lemmas.List.Sums.{prefix_len-le-length, prefix_len_passes, prefix_len_stops}
 use Rattle.std.proofs.lemmas.Option.{get_or_from_slice_get, slice_get_within}
 use Rattle.sgf_tree.specs.Tree.{Games, node_count}
@@ -10,10 +10,24 @@ use Rattle.sgf_tree.specs.FileOrder.{IsLeaf}
 use Rattle.sgf_lines.specs.Lines.{lines}
 use Rattle.sgf_lines.specs.Paths.{paths, leaf_of}
 use Rattle.sgf_lines.specs.inner.Standing.{lines_before}
-use Rattle.sgf_lines.proofs.Ways.{rises_parts}
-use Rattle.sgf_lines.proofs.Following.{leads, leaves_in_order}
+use Rattle.sgf_lines.proofs.Visits.{rises_parts, leads, leaves_in_order}
 use Rattle.sgf_lines.proofs.Named.{length-paths}
 use Rattle.sgf_lines.proofs.CursorStates.{before_is, next_line, no_line_left}
+use Rattle.std.specs.Io.KnownBytes.{Appends}
+use Rattle.std.proofs.KnownBytes.{Appends-kept, Appends-trans}
+use Rattle.std.proofs.Math.Seq.{take-append-add}
+use Rattle.sgf_tree.specs.declared.fault.TheConstants.{MAX_LENGTH}
+use Rattle.sgf_tree.specs.Spelling.{Spells}
+use Rattle.sgf_tree.specs.Refusal.{IsFaultyWhereNotSgf}
+use Rattle.sgf_tree.specs.declared.fault.ReadFault.{ReadFault}
+use Rattle.sgf_tree.specs.declared.fault.ReadFault.TheVariants.{TooLong as TextTooLong, NotSgf as TextNotSgf, Memory as TextMemory}
+use Rattle.sgf_lines.specs.Ends.{SourceState, SinkState, Delivers, TakesNothing}
+use Rattle.sgf_lines.specs.Answer.{IsWhole, read_failures}
+use Rattle.sgf_lines.specs.Counts.{counts_of, AnswersCount, IsCount, IsWriting}
+use Rattle.sgf_lines.specs.inner.Running.{IsReading, PutsAll, unread}
+use Rattle.sgf_lines.specs.declared.counting.Counts.{Counts}
+use Rattle.sgf_lines.specs.declared.fault.RunFault.{RunFault}
+use Rattle.sgf_lines.specs.declared.fault.RunFault.TheVariants.{NotSgf, Write, Memory}
 
 -- no more lines than nodes
 pub lines_within : (c : Games) → length (lines c) ≤ node_count c
@@ -46,3 +60,69 @@ no_line_more c i other =
 -- all lines end before the end
 pub all_before : (c : Games) → lines_before c (node_count c) ≡ length (lines c)
 all_before c = no_line_left c (node_count c) (λ j le lt leaf. omega arith) ∙ length-paths c
+
+module _ {A : Type 0} (source new_source : SourceState) (text : List ℕ) (u : A) (h : IsReading {A = A} source new_source text (Ok u)) (reads : new_source.failures ≡ source.failures) where
+  whole : IsWhole text new_source.to_come
+  whole = let e : h.given ≡ text = sym h.answers.1 in rw e at h.answers.0
+
+  of_text : (result : Result Counts RunFault) → read_failures result ≡ 0 → AnswersCount text new_source.to_come result → IsCount source new_source result
+  of_text result none answers =
+      let e : h.given ≡ text = sym h.answers.1 in
+      record { given = text; gives = rw e at h.gives; consumes = rw e at h.consumes; answers = answers; source_failures = omega (arith, reads, none) }
+
+  pub count_of_games : (c : Games) (counts : Counts) → Spells c text → counts ≡ counts_of c → IsCount source new_source (Ok counts)
+  count_of_games c counts spelled is = of_text (Ok counts) refl (whole, (c, spelled, is))
+
+  unread_says : (fault : ReadFault) → (fault ≡ TextTooLong → MAX_LENGTH < length text) → IsFaultyWhereNotSgf text fault → IsCount source new_source (Err (unread fault (length text)))
+  unread_says TextTooLong long faulty = absurd (omega (arith, long refl, whole.within))
+  unread_says (TextNotSgf at) long faulty = of_text (Err (NotSgf at (length text))) refl (whole, faulty, refl)
+  unread_says TextMemory long faulty = of_text (Err (Memory 0)) refl (whole.within, refl)
+
+  pub count_of_unread : (fault : ReadFault) (met : RunFault) → met ≡ unread fault (length text) → (fault ≡ TextTooLong → MAX_LENGTH < length text) → IsFaultyWhereNotSgf text fault
+      → IsCount source new_source (Err met)
+  count_of_unread fault met is long faulty = rw is (unread_says fault long faulty)
+
+-- the sink failed within a piece of the row
+pub row_cut : {A : Type 0} (row : List ℕ) (old now new : SinkState) (done piece rest : List ℕ) (n : ℕ) → row ≡ done ++ (piece ++ rest) → Appends old.taken now.taken done → now.failures ≡ old.failures
+    → Appends now.taken new.taken (take n piece) → new.failures ≡ now.failures + 1 → IsWriting {A = A} row old new (Err (Write 0))
+row_cut row old now new done piece rest n is front same more failed =
+    let cut : done ++ (piece ++ rest) ≡ (done ++ take n piece) ++ (drop n piece ++ rest) =
+    ap (λ bs. done ++ (bs ++ rest)) (sym (take-append-drop n piece)) ∙ ap (λ bs. done ++ bs) (append_assoc (take n piece) (drop n piece) rest)
+    ∙ sym (append_assoc done (take n piece) (drop n piece ++ rest)) in
+    record {
+      answers = (refl, (done ++ take n piece, drop n piece ++ rest, is ∙ cut, Appends-trans old.taken now.taken new.taken done (take n piece) front more));
+      sink_failures = omega (arith, same, failed);
+    }
+
+-- the whole row was taken, and the flush was answered
+pub row_flushed : {A : Type 0} (row : List ℕ) (old now new : SinkState) (u : A) → Appends old.taken now.taken row → now.failures ≡ old.failures → Delivers now new → IsWriting {A = A} row old new (Ok u)
+row_flushed row old now new u h same f = record {
+  answers = (Appends-kept old.taken now.taken new.taken row h f.taken, f.delivered);
+  sink_failures = omega (arith, same, f.failures);
+}
+
+-- and where the flush failed
+pub row_not_flushed : {A : Type 0} (row : List ℕ) (old now new : SinkState) → Appends old.taken now.taken row → now.failures ≡ old.failures → TakesNothing now new → IsWriting {A = A} row old new (Err (Write 0))
+row_not_flushed row old now new h same f = record {
+  answers = (refl, (row, [], sym (append-nil row), Appends-kept old.taken now.taken new.taken row h f.taken));
+  sink_failures = omega (arith, same, f.failures);
+}
+
+-- two pieces are put as one
+pub both_put : {B F : Type 0} (old now new : SinkState) (first second : List ℕ) (result : Result B F) → Appends old.taken now.taken first → now.failures ≡ old.failures
+    → PutsAll now new second result → PutsAll old new (first ++ second) result
+both_put old now new first second (Ok v) h same k = (Appends-trans old.taken now.taken new.taken first second h k.0, k.1 ∙ same)
+both_put old now new first second (Err e) h same k = (
+  length first + k.0,
+  omega (arith, length-append first second, k.1),
+  rw take-append-add (Appends-trans old.taken now.taken new.taken first (take k.0 second) h k.2),
+  k.3 ∙ ap (λ n. n + 1) same,
+)
+
+-- the row in three pieces
+pub row_pieces : (a b c : List ℕ) → a ++ codes " " ++ b ++ codes " " ++ c ++ codes "\n" ≡ (a ++ codes " ") ++ ((b ++ codes " ") ++ (c ++ codes "\n"))
+row_pieces a b c = simp append_assoc
+
+-- and the last piece with nothing after it
+pub row_end : (a b c : List ℕ) → a ++ codes " " ++ b ++ codes " " ++ c ++ codes "\n" ≡ ((a ++ codes " ") ++ (b ++ codes " ")) ++ ((c ++ codes "\n") ++ [])
+row_end a b c = simp (append_assoc, append-nil)

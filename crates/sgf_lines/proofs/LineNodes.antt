@@ -15,7 +15,7 @@ use Rattle.sgf_lines.specs.inner.Standing.{IsAfterLeaf, lines_before}
 use Rattle.sgf_lines.proofs.Lists.{element}
 use Rattle.sgf_lines.proofs.Named.{line_at, length-paths, place_of_node}
 use Rattle.sgf_lines.proofs.Joins.{as_many, named_at, node_named}
-use Rattle.sgf_lines.proofs.Shows.{before}
+use Rattle.sgf_lines.proofs.CursorStates.{before}
 use Rattle.sgf_lines.proofs.Descending.{path_is}
 
 -- nodes that numbers name

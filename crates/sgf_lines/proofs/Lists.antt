@@ -1,18 +1,10 @@
 -- Lists: an element of two lists joined, and facts of each element by recursion.
-use Rattle.std.proofs.Common.{◌≡◌, ℕ, zero, suc, ◌+◌, ◌<◌, ◌≤◌, List, [], ◌∷◌, ◌++◌, length, map, take, slice_get, Some, ◌⊎◌, inl, inr, refl, ap, ◌∙◌, arith}
+use Rattle.std.proofs.Common.{◌≡◌, ℕ, zero, suc, ◌+◌, ◌<◌, ◌≤◌, List, [], ◌∷◌, ◌++◌, length, map, take, slice_get, Some, refl, ap, ◌∙◌, arith}
 use Rattle.std.specs.List.{AllByRecursion, range_with_len}
-use Rattle.std.proofs.lemmas.List.{take_more}
+use Rattle.std.proofs.lemmas.List.{take_more, map-append}
 use Rattle.std.proofs.lemmas.Option.{slice_get_within, get_or_from_slice_get}
 use Rattle.sgf_tree.proofs.Lists.{slice_get-left}
 use Rattle.sgf_lines.specs.Lines.{through}
-
--- an element of two lists joined stands in the first or in the second
-pub split_get : {A : Type 0} (xs ys : List A) (k : ℕ) (y : A) → slice_get (xs ++ ys) k ≡ Some y
-    → (slice_get xs k ≡ Some y) ⊎ ((j : ℕ) × (k ≡ length xs + j) × (slice_get ys j ≡ Some y))
-split_get [] ys k y e = inr (k, omega arith, e)
-split_get (x ∷ xs) ys zero y e = inl e
-split_get (x ∷ xs) ys (suc k) y e =
-    elim (split_get xs ys k y e) [ inl h ↦ inl h | inr h ↦ inr (h.0, omega arith, h.2) ]
 
 pub get_left : {A : Type 0} (xs ys : List A) (k : ℕ) (y : A) → slice_get xs k ≡ Some y → slice_get (xs ++ ys) k ≡ Some y
 get_left xs ys k y e = slice_get-left xs ys k (slice_get_within xs k y e) ∙ e
@@ -41,6 +33,11 @@ pub each_map : {A B : Type 0} (P : B → Type 0) (f : A → B) (xs : List A) →
 each_map P f [] h = tt
 each_map P f (x ∷ xs) h = (h.0, each_map P f xs h.1)
 
+pub each_take : {A : Type 0} (P : A → Type 0) (k : ℕ) (xs : List A) → Each P xs → Each P (take k xs)
+each_take P zero xs h = tt
+each_take P (suc k) [] h = tt
+each_take P (suc k) (x ∷ xs) h = (h.0, each_take P k xs h.1)
+
 pub each_get : {A : Type 0} (P : A → Type 0) (xs : List A) (k : ℕ) (x : A) → Each P xs → slice_get xs k ≡ Some x → P x
 each_get P [] k x h e = absurd cc
 each_get P (y ∷ ys) zero x h e = let same : y ≡ x = cc in rw same at h.0
@@ -51,6 +48,15 @@ pub each_through : {A : Type 0} (P Q : List A → Type 0) (own : List A) (ls : L
     → ((l : List A) → Q l → P (own ++ l)) → Each Q ls → Each P (through own ls)
 each_through P Q own [] alone before h = (alone refl, tt)
 each_through P Q own (l ∷ ls) alone before h = each_map P (λ rest. own ++ rest) (l ∷ ls) (each_weaker Q (λ rest. P (own ++ rest)) before (l ∷ ls) h)
+
+-- what goes through images is the image of what goes through them
+map-after : {A B : Type 0} (f : A → B) (own : List A) (ls : List (List A)) → map (map f) (map (λ rest. own ++ rest) ls) ≡ map (λ rest. map f own ++ rest) (map (map f) ls)
+map-after f own [] = refl
+map-after f own (l ∷ ls) = let one = map-append f own l in let rest = map-after f own ls in cc
+
+pub map-through : {A B : Type 0} (f : A → B) (own : List A) (ls : List (List A)) → map (map f) (through own ls) ≡ through (map f own) (map (map f) ls)
+map-through f own [] = refl
+map-through f own (l ∷ ls) = map-after f own (l ∷ ls)
 
 pub element : {A : Type 0} (xs : List A) (k : ℕ) → k < length xs → (x : A) × (slice_get xs k ≡ Some x)
 element [] k lt = absurd (omega arith)

@@ -1,16 +1,16 @@
--- The paths name the nodes of the lines: a line and the path at its position have one game, and the path's numbers are those of the line's nodes.
-use Rattle.std.proofs.Common.{◌≡◌, ℕ, suc, ◌+◌, ◌<◌, List, [], ◌∷◌, ◌++◌, length, map, slice_get, Option, Some, None, option_map, refl, sym, ap, arith, zero, false, add-zero}
+-- The paths of a collection name the nodes of its lines, and begin in their games.
+use Rattle.std.proofs.Common.{◌≡◌, ℕ, suc, ◌+◌, ◌<◌, List, [], ◌∷◌, ◌++◌, length, map, slice_get, Option, Some, None, option_map, refl, sym, ap, ◌∙◌, arith, zero, false, add-zero, ◌-◌, ◌≤◌, get_or}
 use Rattle.std.specs.List.{AllZip}
 use Rattle.std.proofs.lemmas.List.{map-append}
+use mathlib.Core.List.{map-map}
 use Rattle.std.proofs.lemmas.Slice.Zip.{AllZip-long}
 use Rattle.sgf_tree.specs.Tree.{Node, Games, no_games, game, node_count}
-use Rattle.sgf_tree.specs.FileOrder.{OrderedNode, further_nodes, ordered_nodes, node_at, place_at}
+use Rattle.sgf_tree.specs.FileOrder.{OrderedNode, further_nodes, ordered_nodes, node_at, place_at, game_of}
 use Rattle.sgf_lines.specs.Lines.{Line, through, node_lines, lines_of_game, lines_from, lines, last_number, place_of}
 use Rattle.sgf_lines.specs.Paths.{Path, numbered_nodes, numbered, path_of, paths, leaf_of, IsPathOf}
-use Rattle.sgf_lines.proofs.Standing.{StandsAt, Stands, stands_whole, stands_get, stands_right, stands_own, stands_below, stands_after, first_ordered}
-use Rattle.sgf_lines.proofs.Ways.{some_node}
-use Rattle.sgf_lines.proofs.Visits.{numbers_of_nodes}
-use Rattle.sgf_lines.proofs.Following.{leads}
+use Rattle.sgf_lines.proofs.Visits.{StandsAt, Stands, stands_whole, stands_get, stands_right, stands_own, stands_below, stands_after, first_ordered, some_node, leads}
+use Rattle.std.proofs.lemmas.Bool.{lt-ltb, le-ltb}
+use Rattle.sgf_lines.proofs.Lists.{Each, each_append, each_weaker, map-through}
 
 zip_append : {A B : Type 0} (R : A → B → Type 0) (xs us : List A) (ys vs : List B) → AllZip R xs ys → AllZip R us vs → AllZip R (xs ++ us) (ys ++ vs)
 zip_append R [] us [] vs h k = k
@@ -19,25 +19,16 @@ zip_append R (x ∷ xs) us [] vs h k = absurd h
 zip_append R (x ∷ xs) us (y ∷ ys) vs h k = (h.0, zip_append R xs us ys vs h.1 k)
 
 module _ (c : Games) where
+  -- the node that a place names, where places are numbers
+  abbrev numbers_node : Node → Option Node
+  numbers_node n = node_at c n.place
+
   -- the others are the nodes with their numbers as places
   abbrev AreNumbered : List Node → List Node → Type 0
-  AreNumbered nodes others = map (node_at c) (numbers_of_nodes others) ≡ map Some nodes
+  AreNumbered nodes others = map numbers_node others ≡ map Some nodes
 
-  numbered_more : (ns ms us vs : List Node) → AreNumbered ns ms → AreNumbered us vs → AreNumbered (ns ++ us) (ms ++ vs)
-  numbered_more ns ms us vs h k = simp map-append cc
-
-  numbered_after : (ns ms : List Node) (ls ks : List (List Node)) → AreNumbered ns ms → AllZip AreNumbered ls ks
-      → AllZip AreNumbered (map (λ rest. ns ++ rest) ls) (map (λ rest. ms ++ rest) ks)
-  numbered_after ns ms [] [] h z = tt
-  numbered_after ns ms [] (k ∷ ks) h z = absurd z
-  numbered_after ns ms (l ∷ ls) [] h z = absurd z
-  numbered_after ns ms (l ∷ ls) (k ∷ ks) h z = (numbered_more ns ms l k h z.0, numbered_after ns ms ls ks h z.1)
-
-  numbered_through : (ns ms : List Node) (ls ks : List (List Node)) → AreNumbered ns ms → AllZip AreNumbered ls ks → AllZip AreNumbered (through ns ls) (through ms ks)
-  numbered_through ns ms [] [] h z = (h, tt)
-  numbered_through ns ms [] (k ∷ ks) h z = absurd z
-  numbered_through ns ms (l ∷ ls) [] h z = absurd z
-  numbered_through ns ms (l ∷ ls) (k ∷ ks) h z = numbered_after ns ms (l ∷ ls) (k ∷ ks) h z
+  abbrev AllNumbered : List (List Node) → List (List Node) → Type 0
+  AllNumbered ls ks = map (map numbers_node) ks ≡ map (map Some) ls
 
   numbered_further : (at : ℕ) (ns : List Node) → StandsAt (ordered_nodes c) (at + 1) (further_nodes at ns) → AreNumbered ns (numbered_nodes (at + 1) ns)
   numbered_further at [] h = refl
@@ -56,27 +47,29 @@ module _ (c : Games) where
       cc
 
   numbered_game : (at : ℕ) (parent : Option ℕ) (first : Node) (more : List Node) (below after : Games) → Stands c at parent (game first more below after)
-      → AllZip AreNumbered (node_lines below) (node_lines (numbered (at + length more + 1) below))
-      → AllZip AreNumbered (through (first ∷ more) (node_lines below))
+      → AllNumbered (node_lines below) (node_lines (numbered (at + length more + 1) below))
+      → AllNumbered (through (first ∷ more) (node_lines below))
       (through (record first { place = at } ∷ numbered_nodes (at + 1) more) (node_lines (numbered (at + length more + 1) below)))
-  numbered_game at parent first more below after h =
-      numbered_through (first ∷ more) (record first { place = at } ∷ numbered_nodes (at + 1) more) (node_lines below) (node_lines (numbered (at + length more + 1) below))
-      (numbered_own at parent first more below after h)
+  numbered_game at parent first more below after h rest =
+      let others : List Node = record first { place = at } ∷ numbered_nodes (at + 1) more in
+      map-through numbers_node others (node_lines (numbered (at + length more + 1) below)) ∙ ap (through (map numbers_node others)) rest
+      ∙ ap (λ ns. through ns (map (map Some) (node_lines below))) (numbered_own at parent first more below after h) ∙ sym (map-through Some (first ∷ more) (node_lines below))
 
-  numbered_lines : (g : Games) (at : ℕ) (parent : Option ℕ) → Stands c at parent g → AllZip AreNumbered (node_lines g) (node_lines (numbered at g))
-  numbered_lines no_games at parent h = tt
+  numbered_lines : (g : Games) (at : ℕ) (parent : Option ℕ) → Stands c at parent g → AllNumbered (node_lines g) (node_lines (numbered at g))
+  numbered_lines no_games at parent h = refl
   numbered_lines (game first more below after) at parent h =
       let next = at + length more + 1 in
-      zip_append AreNumbered (through (first ∷ more) (node_lines below)) (node_lines after)
-      (through (record first { place = at } ∷ numbered_nodes (at + 1) more) (node_lines (numbered next below))) (node_lines (numbered (next + node_count below) after))
-      (numbered_game at parent first more below after h (numbered_lines below next (Some (at + length more)) (stands_below c at parent first more below after h)))
-      (numbered_lines after (next + node_count below) parent (stands_after c at parent first more below after h))
+      let here = numbered_game at parent first more below after h (numbered_lines below next (Some (at + length more)) (stands_below c at parent first more below after h)) in
+      let rest = numbered_lines after (next + node_count below) parent (stands_after c at parent first more below after h) in
+      simp map-append cc
 
-  named_game : (number : ℕ) (ls ks : List (List Node)) → AllZip AreNumbered ls ks → AllZip (IsPathOf c) (lines_of_game number ls) (map path_of (lines_of_game number ks))
-  named_game number [] [] z = tt
-  named_game number [] (k ∷ ks) z = absurd z
-  named_game number (l ∷ ls) [] z = absurd z
-  named_game number (l ∷ ls) (k ∷ ks) z = (record { game_number = refl; nodes = z.0 }, named_game number ls ks z.1)
+  named_game : (number : ℕ) (ls ks : List (List Node)) → AllNumbered ls ks → AllZip (IsPathOf c) (lines_of_game number ls) (map path_of (lines_of_game number ks))
+  named_game number [] [] e = tt
+  named_game number [] (k ∷ ks) e = absurd cc
+  named_game number (l ∷ ls) [] e = absurd cc
+  named_game number (l ∷ ls) (k ∷ ks) e =
+      let one : AreNumbered l k = cc in
+      (record { game_number = refl; nodes = map-map (node_at c) (λ n. n.place) k ∙ one }, named_game number ls ks cc)
 
   named_from : (number : ℕ) (g : Games) (at : ℕ) → Stands c at None g → AllZip (IsPathOf c) (lines_from number g) (map path_of (lines_from number (numbered at g)))
   named_from number no_games at h = tt
@@ -133,3 +126,50 @@ module _ (c : Games) where
       let f = line_in (lines c) (paths c) k path each_named e in
       let place = place_of_last f.0.nodes path.numbers (some_node (leads c k path e).up) (sym f.2.nodes) in
       (f.0, record { found = f.1; game_number = sym f.2.game_number; nodes = sym f.2.nodes; place = place })
+
+-- the game of node n is that of this number, if games from node `at` on begin with the game of the number `from`
+abbrev IsOfGame : ℕ → ℕ → Games → ℕ → ℕ → Type 0
+IsOfGame from at g number n = (at ≤ n) × (number + 1 ≡ from + game_of g (n - at))
+
+abbrev BeginsIn : ℕ → ℕ → Games → Path → Type 0
+BeginsIn from at g path = (d : ℕ) → IsOfGame from at g path.game_number (get_or path.numbers 0 d)
+
+begins_here : (number at : ℕ) (g : Games) (own : Node) (more : List Node) (ls : List (List Node)) → IsOfGame number at g number own.place
+    → Each (BeginsIn number at g) (map path_of (lines_of_game number (map (λ rest. (own ∷ more) ++ rest) ls)))
+begins_here number at g own more [] h = tt
+begins_here number at g own more (l ∷ ls) h = (λ d. h, begins_here number at g own more ls h)
+
+begins_game : (number at : ℕ) (g : Games) (own : Node) (more : List Node) (ls : List (List Node)) → IsOfGame number at g number own.place
+    → Each (BeginsIn number at g) (map path_of (lines_of_game number (through (own ∷ more) ls)))
+begins_game number at g own more [] h = (λ d. h, tt)
+begins_game number at g own more (l ∷ ls) h = begins_here number at g own more (l ∷ ls) h
+
+in_later : (from at : ℕ) (first : Node) (more : List Node) (below after : Games) (number n : ℕ)
+    → IsOfGame (from + 1) (at + length more + 1 + node_count below) after number n → IsOfGame from at (game first more below after) number n
+in_later from at first more below after number n h =
+    let size = 1 + length more + node_count below in
+    let past : size ≤ n - at = omega (arith, h.0) in
+    let rest : n - at - size ≡ n - (at + length more + 1 + node_count below) = omega (arith, h.0) in
+    (omega (arith, h.0), rw (le-ltb (n - at) size past, rest) (omega (arith, h.1)))
+
+begin_in : (from at : ℕ) (g : Games) → Each (BeginsIn from at g) (map path_of (lines_from from (numbered at g)))
+begin_in from at no_games = tt
+begin_in from at (game first more below after) =
+    let g = game first more below after in
+    let next = at + length more + 1 in
+    let own : Node = record first { place = at } in
+    let ks = node_lines (numbered next below) in
+    let others = lines_from (from + 1) (numbered (next + node_count below) after) in
+    let less : at - at ≡ 0 = omega arith in
+    let here : IsOfGame from at g from at = (omega arith, rw (less, lt-ltb 0 (1 + length more + node_count below) (omega arith)) refl) in
+    rw (map-append path_of (lines_of_game from (through (own ∷ numbered_nodes (at + 1) more) ks)) others)
+    (each_append (BeginsIn from at g) (map path_of (lines_of_game from (through (own ∷ numbered_nodes (at + 1) more) ks))) (map path_of others)
+    (begins_game from at g own (numbered_nodes (at + 1) more) ks here)
+    (each_weaker (BeginsIn (from + 1) (next + node_count below) after) (BeginsIn from at g)
+    (λ path h d. in_later from at first more below after path.game_number (get_or path.numbers 0 d) (h d)) (map path_of others) (begin_in (from + 1) (next + node_count below) after)))
+
+pub game_of_root : (c : Games) → Each (λ path. (d : ℕ) → game_of c (get_or path.numbers 0 d) ≡ path.game_number) (paths c)
+game_of_root c =
+    each_weaker (BeginsIn 1 0 c) (λ path. (d : ℕ) → game_of c (get_or path.numbers 0 d) ≡ path.game_number)
+    (λ path h d. let n = get_or path.numbers 0 d in let same : n - 0 ≡ n = omega arith in let counted : path.game_number + 1 ≡ 1 + game_of c n = rw same at (h d).1 in omega arith)
+    (paths c) (begin_in 1 0 c)

@@ -1,15 +1,38 @@
--- The lines of a page among all lines: where a line with a place stands, and what is left after it.
-use Rattle.std.proofs.Common.{◌≡◌, ◌≢◌, ℕ, zero, suc, ◌+◌, ◌-◌, ◌<◌, ◌≤◌, List, [], ◌∷◌, length, take, drop, slice_get, map, Option, Some, None, option_map, All, refl, sym, ap, ◌∙◌, arith, add-one, slice_index, get_or}
-use Rattle.std.specs.Prelude.{unwrap_or}
+-- The lines of a page among all lines. Their places rise, so the line with a place is found, and pages join.
+use Rattle.std.proofs.Common.{◌≡◌, ℕ, suc, length, map, slice_get, Some, option_map, sym, ap, ◌∙◌, slice_index, add-one, arith, ◌≢◌, zero, ◌+◌, ◌<◌, ◌≤◌, List, [], ◌∷◌, take, drop, Option, None, refl, ◌++◌, append_assoc, append-nil, Bool, true, false}
 use Rattle.std.specs.List.Sorted.{IsStrictlyIncreasing}
-use Rattle.std.proofs.lemmas.Bool.{eq-eqb, ne_eqb}
-use Rattle.std.proofs.lemmas.List.{take_all, length-map}
-use Rattle.std.proofs.lemmas.Option.{slice_get-map, get_or_from_slice_get}
+use Rattle.std.proofs.lemmas.List.{length-map, take_all, take-append-drop}
+use Rattle.std.proofs.lemmas.Option.{slice_get-map, slice_get_within, get_or_from_slice_get}
+use Rattle.std.proofs.lemmas.List.Kept.{AllPairs-from_increasing}
 use Rattle.sgf_tree.specs.Tree.{Games}
-use Rattle.sgf_lines.specs.Lines.{Line, lines, place_of}
-use Rattle.sgf_lines.specs.Cursor.{CursorState, IsAfterPlace, HasNoLineAt}
-use Rattle.sgf_lines.specs.Page.{lines_after, lines_asked, limited}
+use Rattle.sgf_tree.specs.FileOrder.{PlacesRise}
+use Rattle.sgf_lines.specs.Lines.{Line, lines, place_of, HasNoLineAt}
+use Rattle.sgf_lines.specs.Paths.{paths, leaf_of}
 use Rattle.sgf_lines.proofs.Lists.{element}
+use Rattle.sgf_lines.proofs.Named.{line_at, length-paths}
+use Rattle.sgf_lines.proofs.CursorStates.{leaf_rises}
+use Rattle.std.specs.Prelude.{unwrap_or, ◌==◌}
+use Rattle.std.proofs.lemmas.Bool.{eq-eqb, ne_eqb}
+use Rattle.sgf_lines.specs.Cursor.{CursorState, IsAfterPlace}
+use Rattle.sgf_lines.specs.Page.{lines_after, lines_asked, limited, page}
+use Rattle.std.proofs.Math.Seq.{drop-append-add}
+use Rattle.sgf_lines.specs.declared.options.Options.{Options}
+use Rattle.sgf_tree.proofs.Lists.{slice_get-right}
+
+module _ (c : Games) where
+  place_at_line : (k : ℕ) (line : Line) → slice_get (lines c) k ≡ Some line → slice_index (map place_of (lines c)) k ≡ place_of line
+  place_at_line k line e =
+      get_or_from_slice_get (map place_of (lines c)) k (place_of line) 0 (slice_get-map place_of (lines c) k ∙ ap (λ o. option_map place_of o) e)
+
+  pub lines_rise : PlacesRise c → IsStrictlyIncreasing (map place_of (lines c))
+  lines_rise rise k lt =
+      let count : length (paths c) ≡ length (map place_of (lines c)) = length-paths c ∙ sym (length-map (lines c) place_of) in
+      let p = element (paths c) k (omega arith) in
+      let q = element (paths c) (suc k) (omega arith) in
+      let l = line_at c k p.0 p.1 in
+      let m = line_at c (suc k) q.0 q.1 in
+      let below = rise (leaf_of p.0) (leaf_of q.0) (place_of l.0) (place_of m.0) (leaf_rises c k (suc k) p.0 q.0 (omega arith) p.1 q.1) l.1.place m.1.place in
+      rw (add-one, place_at_line k l.0 l.1.found, place_at_line (suc k) m.0 m.1.found) below
 
 -- the first line with a place is the one that it is looked for at, where no line before has it
 pub found_at : (ls : List Line) (k place : ℕ) → option_map place_of (slice_get ls k) ≡ Some place
@@ -21,12 +44,6 @@ found_at (l ∷ ls) zero place e none =
 found_at (l ∷ ls) (suc k) place e none =
     let other : place_of l ≢ place = λ same. none 0 (omega arith) (ap Some same) in
     rw (ne_eqb (place_of l) place other) (found_at ls k place e (λ j lt at. none (suc j) (omega arith) at))
-
-pub none_found : (ls : List Line) (place : ℕ) → ((j : ℕ) → j < length ls → option_map place_of (slice_get ls j) ≢ Some place) → lines_after ls place ≡ None
-none_found [] place none = refl
-none_found (l ∷ ls) place none =
-    let other : place_of l ≢ place = λ same. none 0 (omega arith) (ap Some same) in
-    rw (ne_eqb (place_of l) place other) (none_found ls place (λ j lt at. none (suc j) (omega arith) at))
 
 pub get_dropped : {X : Type 0} (xs : List X) (g k : ℕ) → slice_get (drop g xs) k ≡ slice_get xs (g + k)
 get_dropped xs zero k = let same : k ≡ 0 + k = omega arith in ap (λ n. slice_get xs n) same
@@ -51,43 +68,15 @@ pub limited_is : (limit : Option ℕ) (most : ℕ) (ls : List Line) → length l
 limited_is None most ls le = sym (take_all most ls le)
 limited_is (Some n) most ls le = refl
 
-rises_to : (ls : List Line) (j d : ℕ) → IsStrictlyIncreasing (map place_of ls) → j + suc d < length ls → slice_index (map place_of ls) j < slice_index (map place_of ls) (j + suc d)
-rises_to ls j zero rise lt =
-    let same : j + 1 ≡ j + suc zero = refl in
-    rise j (omega (arith, length-map ls place_of))
-rises_to ls j (suc d) rise lt =
-    let first = rises_to ls j d rise (omega arith) in
-    let next : slice_index (map place_of ls) (j + suc d) < slice_index (map place_of ls) (j + suc d + 1) = rise (j + suc d) (omega (arith, length-map ls place_of)) in
-    let same : j + suc (suc d) ≡ j + suc d + 1 = omega arith in
-    rw same (omega (arith, first, next))
-
-place_index : (ls : List Line) (k place : ℕ) → option_map place_of (slice_get ls k) ≡ Some place → slice_index (map place_of ls) k ≡ place
-place_index ls k place e = get_or_from_slice_get (map place_of ls) k place 0 (slice_get-map place_of ls k ∙ e)
-
-placed_within : (ls : List Line) (k place : ℕ) → option_map place_of (slice_get ls k) ≡ Some place → k < length ls
-placed_within [] k place e = absurd cc
-placed_within (l ∷ ls) zero place e = omega arith
-placed_within (l ∷ ls) (suc k) place e = omega (arith, placed_within ls k place e)
-
 -- where places rise, the lines after the one with a place are those after its index
 pub after_index : (ls : List Line) (k place : ℕ) → IsStrictlyIncreasing (map place_of ls) → option_map place_of (slice_get ls k) ≡ Some place
     → lines_after ls place ≡ Some (drop (k + 1) ls)
 after_index ls k place rise e = rw add-one (found_at ls k place e (λ j lt other.
-    let d = k - j - 1 in
-    let sum : j + suc d ≡ k = omega arith in
-    let within = placed_within ls k place e in
-    let below = rises_to ls j d rise (omega arith) in
-    let here : slice_index (map place_of ls) (j + suc d) ≡ place = ap (slice_index (map place_of ls)) sum ∙ place_index ls k place e in
-    omega (arith, below, here, place_index ls j place other)))
-
--- no line has the place
-pub after_none : (ls : List Line) (place : ℕ) → All (λ line. place_of line ≢ place) ls → lines_after ls place ≡ None
-after_none ls place none = none_found ls place (λ j lt e.
-    let x = element ls j lt in
-    let same : place_of x.0 ≡ place = let at : option_map place_of (Some x.0) ≡ Some place = rw x.1 at e in cc in
-    let other = none j x.0 lt in
-    let read : get_or ls j x.0 ≡ x.0 = get_or_from_slice_get ls j x.0 x.0 x.1 in
-    other (ap place_of read ∙ same))
+    let places = map place_of ls in
+    let here : slice_get places k ≡ Some place = slice_get-map place_of ls k ∙ e in
+    let before : slice_get places j ≡ Some place = slice_get-map place_of ls j ∙ other in
+    let below : slice_index places j < slice_index places k = AllPairs-from_increasing places rise j k 0 lt (slice_get_within places k place here) in
+    omega (arith, below, get_or_from_slice_get places k place 0 here, get_or_from_slice_get places j place 0 before)))
 
 -- a cursor after the line with a place stands before the page
 pub started : (c : Games) (after : Option ℕ) (place : ℕ) (at new : CursorState) → after ≡ Some place → at ≡ record { games = c; index = 0 } → IsStrictlyIncreasing (map place_of (lines c))
@@ -102,7 +91,57 @@ started_same c place at new at_is s = ap (λ p. p.games) s.new_is ∙ ap (λ p. 
 
 -- there is no such line
 pub not_started : (c : Games) (after : Option ℕ) (place asked : ℕ) (at : CursorState) → after ≡ Some place → at ≡ record { games = c; index = 0 } → (asked ≡ place) × HasNoLineAt at.games place
-    → (after ≡ Some asked) × (lines_after (lines c) asked ≡ None)
-not_started c after place asked at is at_is h =
-    let none : All (λ line. place_of line ≢ place) (lines c) = rw at_is at h.1 in
-    (is ∙ ap Some (sym h.0), ap (lines_after (lines c)) h.0 ∙ after_none (lines c) place none)
+    → (after ≡ Some asked) × HasNoLineAt c asked
+not_started c after place asked at is at_is h = (is ∙ ap Some (sym h.0), rw h.0 (rw at_is at h.1))
+
+-- the lines after a place end the list
+ends_list : (ls : List Line) (place : ℕ) (tail : List Line) → lines_after ls place ≡ Some tail → (before : List Line) × (ls ≡ before ++ tail)
+ends_list [] place tail e = absurd cc
+ends_list (l ∷ ls) place tail e = by (place_of l == place) refl (λ later. ends_list ls place tail later)
+  where
+    by : (b : Bool) → (place_of l == place) ≡ b → (lines_after ls place ≡ Some tail → (before : List Line) × (ls ≡ before ++ tail)) → (before : List Line) × (l ∷ ls ≡ before ++ tail)
+    by true is below = let here : Some ls ≡ Some tail = rw is at e in let same : ls ≡ tail = cc in (l ∷ [], ap (λ xs. l ∷ xs) same)
+    by false is below = let f = below (rw is at e) in (l ∷ f.0, ap (λ xs. l ∷ xs) f.1)
+
+pub tail_of : (ls : List Line) (after : Option ℕ) (tail : List Line) → lines_asked ls after ≡ Some tail → (before : List Line) × (ls ≡ before ++ tail)
+tail_of ls None tail e = ([], cc)
+tail_of ls (Some place) tail e = ends_list ls place tail e
+
+-- a limit leaves a front
+pub front_of : (limit : Option ℕ) (tail front : List Line) → limited limit tail ≡ front → (rest : List Line) × (tail ≡ front ++ rest)
+front_of None tail front e = ([], e ∙ sym (append-nil front))
+front_of (Some n) tail front e = (drop n tail, sym (take-append-drop n tail) ∙ ap (λ xs. xs ++ drop n tail) e)
+
+mapped : (limit : Option ℕ) (o : Option (List Line)) (ls : List Line) → option_map (limited limit) o ≡ Some ls → (tail : List Line) × (o ≡ Some tail) × (limited limit tail ≡ ls)
+mapped limit None ls e = absurd cc
+mapped limit (Some tail) ls e = (tail, refl, cc)
+
+-- the lines of a page stand side by side
+pub on_page : (c : Games) (o : Options) (asked : List Line) → page o c ≡ Some asked → (before after : List Line) × (lines c ≡ before ++ (asked ++ after))
+on_page c o asked e =
+    let m = mapped o.limit (lines_asked (lines c) o.after) asked e in
+    let f = front_of o.limit m.0 asked m.2 in
+    let t = tail_of (lines c) o.after m.0 m.1 in
+    (t.0, f.0, t.1 ∙ ap (λ xs. t.0 ++ xs) f.1)
+
+-- what comes after the last line of a page, and that it completes the page
+pub record GoesOn (o : Options) (c : Games) (front : List Line) (last : Line) : Type 0 where
+  pub rest : List Line
+  pub after : lines_after (lines c) (place_of last) ≡ Some rest
+  pub whole : lines_asked (lines c) o.after ≡ Some (front ++ last ∷ rest)
+
+pub goes_on : (c : Games) (o : Options) (front : List Line) (last : Line) → PlacesRise c → page o c ≡ Some (front ++ last ∷ []) → GoesOn o c front last
+goes_on c o front last rise e =
+    let m = mapped o.limit (lines_asked (lines c) o.after) (front ++ last ∷ []) e in
+    let f = front_of o.limit m.0 (front ++ last ∷ []) m.2 in
+    let tail : m.0 ≡ front ++ last ∷ f.0 = f.1 ∙ append_assoc front (last ∷ []) f.0 in
+    let t = tail_of (lines c) o.after m.0 m.1 in
+    let all : lines c ≡ (t.0 ++ front) ++ last ∷ f.0 = t.1 ∙ ap (λ xs. t.0 ++ xs) tail ∙ sym (append_assoc t.0 front (last ∷ f.0)) in
+    let k = length (t.0 ++ front) in
+    let here : slice_get (lines c) k ≡ Some last = ap (λ ls. slice_get ls k) all ∙ slice_get-right (t.0 ++ front) (last ∷ f.0) k 0 (omega arith) in
+    let left : drop (k + 1) (lines c) ≡ f.0 = ap (drop (k + 1)) all ∙ drop-append-add (t.0 ++ front) (last ∷ f.0) 1 in
+    record {
+      rest = f.0;
+      after = after_index (lines c) k (place_of last) (lines_rise c rise) (ap (λ o. option_map place_of o) here) ∙ ap Some left;
+      whole = m.1 ∙ ap Some tail;
+    }

@@ -39,8 +39,7 @@ use Rattle.sgf_lines.specs.NodeContents.{first_value}
 use Rattle.sgf_lines.specs.Replay.{Engine, no_board, sized, shows, refused, after_command, after_row, after_text, replayed}
 use Rattle.sgf_tree.proofs.Names.{not-found}
 use Rattle.sgf_lines.proofs.Lists.{Each}
-use Rattle.sgf_lines.proofs.ScriptRows.{IsWithin, Carries, takes_row, takes_nothing, takes_both, takes_comment, takes_text_rows, row_within, decimal_within, within_both}
-use Rattle.sgf_lines.proofs.ScriptWords.{size_reads}
+use Rattle.sgf_lines.proofs.ScriptRows.{IsWithin, Carries, takes_row, takes_nothing, takes_both, takes_comment, takes_text_rows, row_within, decimal_within, within_both, size_reads}
 use Rattle.sgf_lines.proofs.Placing.{BoardLaws, is_same, takes_play, takes_board}
 
 -- ---- What the parts of a test tell.
@@ -283,12 +282,9 @@ side_said : (raw : Option (List ℕ)) (side : ℕ) → side_of raw ≡ Some side
 side_said None side e = let same : 19 ≡ side = cc in omega arith
 side_said (Some raw) side e = side_given (number_of raw) side e
 
-side_on : (o : Option ℕ) (side : ℕ) → game_kind_on o ≡ board side → o ≡ Some side
-side_on None side e = absurd cc
-side_on (Some n) side e = let same : n ≡ side = cc in ap Some same
-
 side_least : (go : Bool) (o : Option ℕ) (side : ℕ) → cond go (game_kind_on o) not_go ≡ board side → o ≡ Some side
-side_least true o side e = side_on o side e
+side_least true None side e = absurd cc
+side_least true (Some n) side e = let same : n ≡ side = cc in ap Some same
 side_least false o side e = absurd cc
 
 has_point : (properties : List Property) (side : ℕ) → game_kind properties ≡ board side → 1 ≤ side

@@ -1,18 +1,29 @@
--- The answers of a run and of its parts.
-use Rattle.std.proofs.Common.{◌≡◌, ℕ, ◌+◌, ◌<◌, List, [], ◌++◌, length, take, drop, slice_get, Some, Result, Ok, Err, refl, sym, arith, add-one, append-nil}
+-- What a run writes, and its answer for each way to end.
+use Rattle.std.proofs.Common.{◌≡◌, ℕ, ◌+◌, ◌<◌, List, [], ◌++◌, length, take, drop, slice_get, Some, Result, Ok, Err, refl, sym, arith, add-one, append-nil, inl, inr, Option, ap}
 use Rattle.std.proofs.lemmas.Option.{slice_get_past, slice_get_within}
 use Rattle.std.specs.Io.KnownBytes.{Appends}
 use Rattle.std.proofs.KnownBytes.{Appends-trans}
 use Rattle.std.proofs.lemmas.List.{take_all, take-append-drop, length-drop}
-use Rattle.sgf_lines.specs.Lines.{Line}
+use Rattle.sgf_lines.specs.Lines.{Line, lines}
 use Rattle.sgf_lines.specs.Record.{record_of, output}
-use Rattle.sgf_lines.specs.Ends.{SinkState}
-use Rattle.sgf_lines.specs.Answer.{IsCutShort, read_failures}
-use Rattle.sgf_lines.specs.inner.Running.{WritesLines}
+use Rattle.sgf_lines.specs.Ends.{SinkState, SourceState, HasDelivered}
+use Rattle.sgf_lines.specs.Answer.{IsCutShort, read_failures, IsWhole, IsGood, Answers, write_failures}
+use Rattle.sgf_lines.specs.inner.Running.{WritesLines, IsReading, IsStart, unread}
 use Rattle.sgf_lines.specs.declared.options.Form.{Form}
 use Rattle.sgf_lines.specs.declared.fault.RunFault.{RunFault}
 use Rattle.sgf_lines.specs.declared.fault.RunFault.TheVariants.{Read, TooLong, NotSgf, NoSuchLine, Write, Memory}
 use Rattle.sgf_lines.proofs.Joins.{more_texts}
+use Rattle.std.specs.Prelude.{option_map, OnOk}
+use Rattle.sgf_tree.specs.Tree.{Games}
+use Rattle.sgf_tree.specs.Spelling.{Spells}
+use Rattle.sgf_tree.specs.Refusal.{IsFaultyWhereNotSgf}
+use Rattle.sgf_tree.specs.declared.fault.TheConstants.{MAX_LENGTH}
+use Rattle.sgf_tree.specs.declared.fault.ReadFault.{ReadFault}
+use Rattle.sgf_tree.specs.declared.fault.ReadFault.TheVariants.{TooLong as TextTooLong, NotSgf as TextNotSgf, Memory as TextMemory}
+use Rattle.sgf_lines.specs.Page.{limited}
+use Rattle.sgf_lines.specs.Cursor.{CursorState}
+use Rattle.sgf_lines.specs.RunPlays.{AnswersPlays, IsRunWithPlays}
+use Rattle.sgf_lines.specs.declared.options.Options.{Options}
 
 pub no_read : (form : Form) (ls : List Line) (sink new_sink : SinkState) (plays : ℕ) (result : Result ℕ RunFault) → WritesLines form ls sink new_sink plays result → read_failures result ≡ 0
 no_read form ls sink new_sink plays (Ok k) h = refl
@@ -50,3 +61,65 @@ all_taken form ls old new h =
       takes = rw (same, append-nil) h;
       is_part = rw (slice_get_past ls (length ls) (omega arith)) refl;
     }
+
+module _ (o : Options) (text : List ℕ) (to_come : Option (List ℕ)) (old new : SinkState) where
+  lines_say : (ls : List Line) (plays : ℕ) (result : Result ℕ RunFault) → IsGood o text to_come ls → WritesLines o.form ls old new plays result → OnOk result (HasDelivered new)
+      → Answers o text to_come old new result × AnswersPlays o text to_come plays result
+  lines_say ls plays (Ok k) good h delivered = ((ls, good, h.0, h.1, delivered), (ls, good, h.2))
+  lines_say ls plays (Err Read) good h delivered = absurd h
+  lines_say ls plays (Err TooLong) good h delivered = absurd h
+  lines_say ls plays (Err (NotSgf at len)) good h delivered = absurd h
+  lines_say ls plays (Err (NoSuchLine place)) good h delivered = absurd h
+  lines_say ls plays (Err (Write k)) good h delivered = ((ls, good, h.0), (ls, good, h.1))
+  lines_say ls plays (Err (Memory k)) good h delivered = (inl (ls, good, h.0, h.1), inl (ls, good, h.2))
+
+  start_says : (c : Games) (fault : RunFault) → Spells c text → IsWhole text to_come → IsStart c o.after (Err fault) → Answers o text to_come old old (Err fault) × AnswersPlays o text to_come 0 (Err fault)
+  start_says c Read spelled whole h = absurd h
+  start_says c TooLong spelled whole h = absurd h
+  start_says c (NotSgf at len) spelled whole h = absurd h
+  start_says c (NoSuchLine place) spelled whole h = ((whole, record { games = c; spelled = spelled; asked = h.0; none = h.1 }, refl), refl)
+  start_says c (Write k) spelled whole h = absurd h
+  start_says c (Memory k) spelled whole h = (inr (whole.within, h, refl), inr (h, refl))
+
+  unread_says : (fault : ReadFault) → (fault ≡ TextTooLong → MAX_LENGTH < length text) → IsFaultyWhereNotSgf text fault
+      → IsWhole text to_come → Answers o text to_come old old (Err (unread fault (length text))) × AnswersPlays o text to_come 0 (Err (unread fault (length text)))
+  unread_says TextTooLong long faulty whole = absurd (omega (arith, long refl, whole.within))
+  unread_says (TextNotSgf at) long faulty whole = ((whole, faulty, refl, refl), refl)
+  unread_says TextMemory long faulty whole = (inr (whole.within, refl, refl), inr (refl, refl))
+
+module _ {A : Type 0} (o : Options) (source new_source : SourceState) (text : List ℕ) (u : A) (h : IsReading {A = A} source new_source text (Ok u)) (sink : SinkState) (old : ℕ) where
+  whole : IsWhole text new_source.to_come
+  whole = let same : h.given ≡ text = sym h.answers.1 in rw same at h.answers.0
+
+  run_of : (new_sink : SinkState) (new : ℕ) (result : Result ℕ RunFault) (plays : ℕ) → Answers o text new_source.to_come sink new_sink result × AnswersPlays o text new_source.to_come plays result
+      → new ≡ old + plays → new_source.failures ≡ source.failures + read_failures result → new_sink.failures ≡ sink.failures + write_failures result → IsRunWithPlays o source new_source sink new_sink old new result
+  run_of new_sink new result plays answers rises reads writes =
+      let same : h.given ≡ text = sym h.answers.1 in
+      record {
+        run = record { given = text; gives = rw same at h.gives; consumes = rw same at h.consumes; answers = answers.0; source_failures = reads; sink_failures = writes };
+        plays = plays;
+        rises = rises;
+        answers = answers.1;
+      }
+
+  -- no collection is spelled
+  pub unread_run : (fault : ReadFault) (met : RunFault) → met ≡ unread fault (length text) → (fault ≡ TextTooLong → MAX_LENGTH < length text) → IsFaultyWhereNotSgf text fault
+      → new_source.failures ≡ source.failures + read_failures {A = ℕ} (Err met) → sink.failures ≡ sink.failures + write_failures {A = ℕ} (Err met) → IsRunWithPlays o source new_source sink sink old old (Err met)
+  unread_run fault met is long faulty reads writes =
+      let said = unread_says o text new_source.to_come sink sink fault long faulty whole in
+      run_of sink old (Err met) 0 (rw is said) (omega arith) reads writes
+
+  -- no cursor stands before the page
+  pub no_start_run : (c : Games) (fault : RunFault) → Spells c text → IsStart c o.after (Err fault)
+      → new_source.failures ≡ source.failures + read_failures {A = ℕ} (Err fault) → sink.failures ≡ sink.failures + write_failures {A = ℕ} (Err fault) → IsRunWithPlays o source new_source sink sink old old (Err fault)
+  no_start_run c fault spelled start reads writes = run_of sink old (Err fault) 0 (start_says o text new_source.to_come sink sink c fault spelled whole start) (omega arith) reads writes
+
+  -- the lines of the page were written
+  pub lines_run : (c : Games) (at : CursorState) (new_sink : SinkState) (plays new : ℕ) (result : Result ℕ RunFault) → Spells c text → IsStart c o.after (Ok at)
+      → WritesLines o.form (limited o.limit (drop at.index (lines c))) sink new_sink plays result → new ≡ old + plays
+      → OnOk result (HasDelivered new_sink) → new_source.failures ≡ source.failures → new_sink.failures ≡ sink.failures + write_failures result → IsRunWithPlays o source new_source sink new_sink old new result
+  lines_run c at new_sink plays new result spelled start w rises delivered reads writes =
+      let ls = limited o.limit (drop at.index (lines c)) in
+      let good : IsGood o text new_source.to_come ls = record { whole = whole; has_page = record { games = c; spelled = spelled; page_is = ap (option_map (limited o.limit)) start } } in
+      run_of new_sink new result plays (lines_say o text new_source.to_come sink new_sink ls plays result good w delivered) rises
+      (omega (arith, reads, no_read o.form ls sink new_sink plays result w)) writes

@@ -20,11 +20,11 @@ use Rattle.sgf_lines.specs.Step.{step}
 use Rattle.sgf_lines.specs.Walk.{TakenNode, Walk, walk}
 use Rattle.sgf_lines.specs.Script.{comment_rows, play_command, setup_commands, move_commands, taken_script, text_rows, comment_text, leaves_unreaching, leaves_unreaching_by, board_commands, commands_of, commands_by}
 use Rattle.sgf_lines.specs.inner.Pieces.{pushed, closed, cut}
-use Rattle.sgf_lines.specs.inner.Judging.{Judgement, unjudged, judged, side_in, judging, begun_game, after, stepped, state_after, state_of, taken_by, board_in, IsEffectBy, IsStepOf, IsTakenFrom}
+use Rattle.sgf_lines.specs.inner.Judging.{Judgement, unjudged, judged, side_in, judging, begun_game, after, stepped, state_after, taken_by, board_in, IsEffectBy, IsStepOf, IsTakenFrom}
 use Rattle.sgf_lines.specs.inner.Scripting.{ScriptState, effect_script, step_script, IsPlayable, is_unreaching, no_script, script_on, said_on, said_by, said_after, script_back, script_ended, script_text, script_along, script_of, IsLettered}
 use Rattle.sgf_lines.proofs.Commanding.{side-step}
 use Rattle.sgf_lines.proofs.Recordings.{joined}
-use Rattle.sgf_lines.proofs.Judgements.{unjudged_stays, taken_more, taken_cut, board_after}
+use Rattle.sgf_lines.proofs.Judgements.{unjudged_stays, taken_more, taken_cut, taken_only, board_after}
 
 -- the pieces before those that can't be said
 lt_suc : (a n : ℕ) → nat_lt (suc a) (suc n) ≡ nat_lt a n
@@ -183,13 +183,10 @@ lettered (board side) nodes = by (judging (board side) nodes) (has_side side (be
 
 -- the board after a node that was taken has the side of the board before it
 pub lettered_after : (script : ScriptState) (j : Judgement) (n : Node) (s : State) → state_after j n ≡ Some s → IsLettered script (board_in j) → (length script.text.pieces == 0) ≡ false → nat_lt MAX_VERTEX_SIDE s.colouring.side ≡ false
-lettered_after script (unjudged told) n s e h some = absurd cc
-lettered_after script (judged states (Some told)) n s e h some = absurd cc
-lettered_after script (judged states None) n s e h some = by (step states.present n) refl e
-  where
-    by : (r : Result State Reason) → step states.present n ≡ r → state_of r ≡ Some s → nat_lt MAX_VERTEX_SIDE s.colouring.side ≡ false
-    by (Ok t) f e = let same : t ≡ s = cc in ap (λ (u : State). nat_lt MAX_VERTEX_SIDE u.colouring.side) (sym same) ∙ ap (nat_lt MAX_VERTEX_SIDE) (side-step states.present t n f) ∙ h some
-    by (Err reason) f e = absurd cc
+lettered_after script j n s e h some =
+    let t = taken_only j n s e in
+    let letters : IsLettered script (board_in (judged t.0 None)) = subst (λ k. IsLettered script (board_in k)) t.1 h in
+    ap (nat_lt MAX_VERTEX_SIDE) (side-step t.0.present s n t.2) ∙ letters some
 
 -- what a step says of its node
 module _ (s : State) (n : Node) (taken : TakenStep) (h : IsStepOf s.colouring.side n taken) where
@@ -229,13 +226,7 @@ module _ (s : State) (n : Node) (taken : TakenStep) (h : IsStepOf s.colouring.si
 
 -- a step that a judge told of
 side_after : (j : Judgement) (n : Node) (s : State) → state_after j n ≡ Some s → side_in j ≡ s.colouring.side
-side_after (unjudged told) n s e = absurd cc
-side_after (judged states (Some told)) n s e = absurd cc
-side_after (judged states None) n s e = by (step states.present n) refl e
-  where
-    by : (r : Result State Reason) → step states.present n ≡ r → state_of r ≡ Some s → states.present.colouring.side ≡ s.colouring.side
-    by (Ok t) f e = let same : t ≡ s = cc in sym (side-step states.present t n f) ∙ ap (λ (u : State). u.colouring.side) same
-    by (Err reason) f e = absurd cc
+side_after j n s e = let t = taken_only j n s e in ap side_in t.1 ∙ sym (side-step t.0.present s n t.2)
 
 module _ (j : Judgement) (n : Node) (taken : TakenStep) (s : State) (e : state_after j n ≡ Some s) (of : IsStepOf (side_in j) n taken) where
   on_side : IsStepOf s.colouring.side n taken

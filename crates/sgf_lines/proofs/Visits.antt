@@ -1,15 +1,142 @@
--- The nodes of a collection are visited in file order. The path to each goes on from a front of the path to the node before it.
-use Rattle.std.proofs.Common.{◌≡◌, ◌≢◌, ℕ, zero, suc, ◌+◌, ◌-◌, ◌<◌, List, [], ◌∷◌, ◌++◌, length, map, Option, Some, None, inl, inr, refl, sym, ap, ◌∙◌, subst, arith, add-zero, append_assoc, append-nil}
+-- The nodes of a collection are visited in file order. Each path leads to a leaf, and keeps a front of the path before it.
+use Rattle.std.proofs.Common.{◌≡◌, ℕ, ◌+◌, ◌<◌, ◌≤◌, List, [], ◌∷◌, ◌++◌, length, Option, Some, None, refl, sym, ap, ◌∙◌, subst, arith, length-append, suc, slice_get, option_map, true, add-zero, append_assoc, append-nil, ◌≢◌, zero, ◌-◌, map, inl, inr, take, All, add-one}
+use Rattle.sgf_tree.specs.Tree.{Games, node_count, Node, game, no_games}
+use Rattle.sgf_tree.specs.FileOrder.{parent_at, OrderedNode, further_nodes, nodes_from, ordered_nodes, IsLeaf}
+use Rattle.sgf_tree.proofs.OrderedNodes.{parent_at-lt, parent_at-within, length-ordered_nodes, length-further_nodes, length-nodes_from, parent_in-further, parent-within}
+use Rattle.sgf_tree.proofs.Rises.{Rises, rises-append}
+use Rattle.sgf_lines.specs.Lines.{last_number, through, node_lines, lines_of_game, lines_from}
+use Rattle.sgf_lines.specs.inner.PathTo.{IsPathTo, top, step}
+use Rattle.sgf_lines.proofs.Lists.{Each, each_append, each_weaker, each_get, element}
+use Rattle.sgf_tree.proofs.Lists.{slice_get-left, slice_get-right}
 use Rattle.std.proofs.lemmas.List.{map-append}
 use Rattle.std.specs.List.{range_with_len}
-use Rattle.sgf_tree.specs.Tree.{Node, Games, no_games, game, node_count}
-use Rattle.sgf_tree.specs.FileOrder.{parent_at, IsLeaf}
-use Rattle.sgf_tree.proofs.OrderedNodes.{parent-within}
-use Rattle.sgf_lines.specs.Lines.{through, node_lines, lines_of_game, lines_from}
-use Rattle.sgf_lines.specs.Paths.{numbered_nodes, numbered, path_of, paths}
-use Rattle.sgf_lines.specs.inner.PathTo.{IsPathTo, top, step}
-use Rattle.sgf_lines.proofs.Standing.{Stands, stands_whole, stands_below, stands_after, first_parent, further_parent}
-use Rattle.sgf_lines.proofs.Ways.{node_within}
+use Rattle.sgf_lines.specs.Paths.{numbered_nodes, numbered, path_of, paths, Path, leaf_of, EndsInLeaf}
+use Rattle.std.proofs.Math.Seq.{take-append_seam}
+use Rattle.std.proofs.lemmas.Bool.{cases_eq}
+use Rattle.std.proofs.lemmas.Option.{slice_get-map}
+use Rattle.std.proofs.lemmas.List.Elements.{All-from_recursion}
+use Rattle.sgf_lines.specs.inner.Following.{first_after, Continues, numbers_of, numbers_before}
+
+pub last_number-append : (ns : List ℕ) (m : ℕ) (ms : List ℕ) → last_number (ns ++ m ∷ ms) ≡ last_number (m ∷ ms)
+last_number-append [] m ms = refl
+last_number-append (n ∷ []) m ms = refl
+last_number-append (n ∷ k ∷ ks) m ms = last_number-append (k ∷ ks) m ms
+
+pub node_within : (c : Games) (j : ℕ) (p : Option ℕ) → parent_at c j ≡ Some p → j < node_count c
+node_within c j p e = omega (arith, parent_at-within c j p e, length-ordered_nodes c)
+
+-- above the root no node of the way is left
+pub none_above : {c : Games} {way : List ℕ} → IsPathTo c None way → way ≡ []
+none_above top = refl
+
+-- the way to a node is that to its parent, and the node
+pub above_of : {c : Games} {n : ℕ} {parent : Option ℕ} {way : List ℕ} → IsPathTo c (Some n) way → parent_at c n ≡ Some parent
+    → (above : List ℕ) × IsPathTo c parent above × (way ≡ above ++ n ∷ [])
+above_of {parent = q} (step {parent = p} {above = above} e up is) f = let same : p ≡ q = cc in (above, rw same at up, is)
+
+-- a node has but one way, and ends it
+pub one_way : {c : Games} {at : Option ℕ} {ns ms : List ℕ} → IsPathTo c at ns → IsPathTo c at ms → ns ≡ ms
+one_way top top = refl
+one_way {c = c} (step {number = i} {above = a} e u is) way =
+    let f = above_of way e in
+    is ∙ ap (λ l. l ++ i ∷ []) (one_way u f.1) ∙ sym f.2
+
+pub last-way : {c : Games} {i : ℕ} {way : List ℕ} → IsPathTo c (Some i) way → last_number way ≡ i
+last-way {i = i} (step {above = above} e u is) = ap last_number is ∙ last_number-append above i []
+
+pub some_node : {c : Games} {i : ℕ} {way : List ℕ} → IsPathTo c (Some i) way → 0 < length way
+some_node {i = i} (step {above = above} e up is) = omega (arith, ap length is, length-append above (i ∷ []))
+
+pub way_within : {c : Games} {i : ℕ} {way : List ℕ} → IsPathTo c (Some i) way → i < node_count c
+way_within {c = c} (step {number = i} {parent = p} e up is) = node_within c i p e
+
+-- each node on a way is one of the collection
+pub within_way : {c : Games} {at : Option ℕ} {way : List ℕ} → IsPathTo c at way → Each (λ n. n < node_count c) way
+within_way top = tt
+within_way {c = c} (step {number = i} {parent = p} {above = above} e up is) =
+    subst (Each (λ n. n < node_count c)) (sym is) (each_append (λ n. n < node_count c) above (i ∷ []) (within_way up) (node_within c i p e, tt))
+
+rises_high : (low : ℕ) (ns : List ℕ) (high end : ℕ) → high ≤ end → Rises low ns high → Rises low ns end
+rises_high low [] high end le h = omega (arith, h)
+rises_high low (n ∷ ns) high end le h = (h.0, rises_high (n + 1) ns high end le h.1)
+
+-- numbers that rise are below their end, and no more than the numbers there
+pub rises_parts : (low : ℕ) (ns : List ℕ) (high : ℕ) → Rises low ns high → Each (λ n. n < high) ns × (length ns + low ≤ high)
+rises_parts low [] high h = (tt, omega arith)
+rises_parts low (n ∷ ns) high h = let r = rises_parts (n + 1) ns high h.1 in ((omega (arith, r.1), r.0), omega (arith, r.1, h.0))
+
+-- the nodes of a way rise
+pub way_rises : {c : Games} {i : ℕ} {way : List ℕ} → IsPathTo c (Some i) way → Rises 0 way (i + 1)
+way_rises {c = c} {i = i} (step {parent = None} {above = above} e up is) =
+    subst (λ l. Rises 0 l (i + 1)) (sym (is ∙ ap (λ l. l ++ i ∷ []) (none_above up))) (omega arith, omega arith)
+way_rises {c = c} {i = i} (step {parent = Some n} {above = above} e up is) =
+    let front = rises_high 0 above (n + 1) i (omega (arith, parent_at-lt c i n e)) (way_rises up) in
+    subst (λ l. Rises 0 l (i + 1)) (sym is) (rises-append 0 i (i + 1) above (i ∷ []) front (omega arith, omega arith))
+
+-- xs stand in `all` from the index `at` on
+pub record StandsAt (all : List OrderedNode) (at : ℕ) (xs : List OrderedNode) : Type 0 where
+  pub before : List OrderedNode
+  pub after : List OrderedNode
+  pub is : all ≡ before ++ (xs ++ after)
+  pub length_is : length before ≡ at
+
+stands_left : {all : List OrderedNode} {at : ℕ} (xs ys : List OrderedNode) → StandsAt all at (xs ++ ys) → StandsAt all at xs
+stands_left xs ys h =
+    record { before = h.before; after = ys ++ h.after; is = h.is ∙ ap (λ zs. h.before ++ zs) (append_assoc xs ys h.after); length_is = h.length_is }
+
+pub stands_right : {all : List OrderedNode} {at : ℕ} (end : ℕ) (xs ys : List OrderedNode) → StandsAt all at (xs ++ ys) → end ≡ at + length xs → StandsAt all end ys
+stands_right {at = at} end xs ys h e =
+    record {
+      before = h.before ++ xs;
+      after = h.after;
+      is = h.is ∙ ap (λ zs. h.before ++ zs) (append_assoc xs ys h.after) ∙ sym (append_assoc h.before xs (ys ++ h.after));
+      length_is = omega (arith, length-append h.before xs, h.length_is);
+    }
+
+pub stands_get : {all : List OrderedNode} {at : ℕ} (xs : List OrderedNode) (k : ℕ) → StandsAt all at xs → k < length xs → slice_get all (at + k) ≡ slice_get xs k
+stands_get {at = at} xs k h lt =
+    ap (λ zs. slice_get zs (at + k)) h.is ∙ slice_get-right h.before (xs ++ h.after) (at + k) k (omega (arith, h.length_is)) ∙ slice_get-left xs h.after k lt
+
+-- the ordered nodes of games, the first of which begins at the index `at`, stand in those of the collection
+abbrev pub Stands : Games → ℕ → Option ℕ → Games → Type 0
+Stands c at parent g = StandsAt (ordered_nodes c) at (nodes_from at parent g)
+
+pub stands_whole : (c : Games) → Stands c 0 None c
+stands_whole c = record { before = []; after = []; is = sym (append-nil (ordered_nodes c)); length_is = refl }
+
+-- the first ordered node of a game
+abbrev pub first_ordered : Option ℕ → Node → OrderedNode
+first_ordered parent first = record { node = first; parent = parent; opens = true }
+
+-- the parts of a game's ordered nodes
+module _ (c : Games) (at : ℕ) (parent : Option ℕ) (first : Node) (more : List Node) (below after : Games) (h : Stands c at parent (game first more below after)) where
+  abbrev own : List OrderedNode
+  own = first_ordered parent first ∷ further_nodes at more
+
+  abbrev under : List OrderedNode
+  under = nodes_from (at + length more + 1) (Some (at + length more)) below
+
+  front : StandsAt (ordered_nodes c) at (own ++ under)
+  front = stands_left (own ++ under) (nodes_from (at + length more + 1 + node_count below) parent after) h
+
+  pub stands_own : StandsAt (ordered_nodes c) at (first_ordered parent first ∷ further_nodes at more)
+  stands_own = stands_left own under front
+
+  pub stands_below : Stands c (at + length more + 1) (Some (at + length more)) below
+  stands_below = stands_right (at + length more + 1) own under front (omega (arith, length-further_nodes at more))
+
+  pub stands_after : Stands c (at + length more + 1 + node_count below) parent after
+  stands_after =
+      let count : length (own ++ under) ≡ suc (length more) + node_count below =
+      length-append own under ∙ omega (arith, length-further_nodes at more, length-nodes_from (at + length more + 1) (Some (at + length more)) below) in
+      stands_right (at + length more + 1 + node_count below) (own ++ under) (nodes_from (at + length more + 1 + node_count below) parent after) h (omega arith)
+
+  pub first_parent : parent_at c at ≡ Some parent
+  first_parent = rw add-zero at (ap (option_map (λ (r : OrderedNode). r.parent)) (stands_get own 0 stands_own (omega arith)))
+
+  pub further_parent : (k : ℕ) → k < length more → parent_at c (at + suc k) ≡ Some (Some (at + k))
+  further_parent k lt =
+      ap (option_map (λ (r : OrderedNode). r.parent)) (stands_get own (suc k) stands_own (omega (arith, length-further_nodes at more))) ∙ parent_in-further at more k lt
 
 -- the way to the parent of the node `next` is a front of the path `old`
 pub record Front (c : Games) (next : ℕ) (old : List ℕ) : Type 0 where
@@ -149,8 +276,8 @@ numbers_in_order at [] = refl
 numbers_in_order at (n ∷ ns) = ap (λ l. at ∷ l) (numbers_in_order (at + 1) ns)
 
 through_some : (own : List Node) (ls : List (List Node)) → ls ≢ [] → through own ls ≡ map (λ rest. own ++ rest) ls
-through_some own [] some = absurd (some refl)
-through_some own (l ∷ ls) some = refl
+through_some ns [] some = absurd (some refl)
+through_some ns (l ∷ ls) some = refl
 
 some_lines : (at : ℕ) (first : Node) (more : List Node) (below after : Games) → node_lines (numbered at (game first more below after)) ≢ []
 some_lines at first more below after e =
@@ -213,3 +340,146 @@ paths_visited c =
     let count : 0 + node_count c ≡ node_count c = omega arith in
     let are : rows [] 0 c ≡ map (λ p. p.numbers) (paths c) = sym (all_numbers 1 (numbered 0 c) ∙ rows_are [] 0 c) in
     ([] ++ v.0, subst (λ n. Visits c 0 [] (map (λ p. p.numbers) (paths c)) n ([] ++ v.0)) count (subst (λ ls. Visits c 0 [] ls (0 + node_count c) ([] ++ v.0)) are v.1))
+
+-- numbers down to a leaf
+pub record LeadsToLeaf (c : Games) (numbers : List ℕ) : Type 0 where
+  pub up : IsPathTo c (Some (last_number numbers)) numbers
+  pub is_leaf : IsLeaf c (last_number numbers)
+
+each_leads : {c : Games} {next end : ℕ} {old last : List ℕ} {ls : List (List ℕ)} → Visits c next old ls end last → Each (LeadsToLeaf c) ls
+each_leads none = tt
+each_leads (inner new w child v) = each_leads v
+each_leads {c = c} {next = next} (leaf new w is_leaf v) =
+    let up = way_path w in
+    let ends : last_number new ≡ next = last-way up in
+    (record { up = rw ends up; is_leaf = rw ends is_leaf }, each_leads v)
+
+leaves_rise : {c : Games} {next end : ℕ} {old last : List ℕ} {ls : List (List ℕ)} → Visits c next old ls end last → Rises next (map last_number ls) end
+leaves_rise none = omega arith
+leaves_rise {next = next} {end = end} {ls = ls} (inner new w child v) = rises_from next (map last_number ls) end (leaves_rise v)
+  where
+    rises_from : (low : ℕ) (ns : List ℕ) (high : ℕ) → Rises (low + 1) ns high → Rises low ns high
+    rises_from low [] high h = omega arith
+    rises_from low (n ∷ ns) high h = (omega (arith, h.0), h.1)
+leaves_rise (leaf new w is_leaf v) = let ends = last-way (way_path w) in rw ends (omega arith, leaves_rise v)
+
+visited_leaf : {c : Games} {next end : ℕ} {old last : List ℕ} {ls : List (List ℕ)} → Visits c next old ls end last → (i : ℕ) → next ≤ i → i < end → IsLeaf c i
+    → (k : ℕ) × (slice_get (map last_number ls) k ≡ Some i)
+visited_leaf none i le lt is_leaf = absurd (omega arith)
+visited_leaf {next = next} (inner new w child v) i le lt is_leaf = elim (cases_eq i next) [
+  | inl same ↦ absurd (is_leaf (i + 1) (rw same child))
+  | inr other ↦ visited_leaf v i (omega arith) lt is_leaf
+]
+visited_leaf {next = next} (leaf new w here v) i le lt is_leaf = elim (cases_eq i next) [
+  | inl same ↦ (0, ap Some (last-way (way_path w) ∙ sym same))
+  | inr other ↦ let rest = visited_leaf v i (omega arith) lt is_leaf in (suc rest.0, rest.1)
+]
+
+-- the path of a line goes on from a front of the path before it
+pub record GoesOn (c : Games) (next : ℕ) (old new : List ℕ) : Type 0 where
+  pub front : Front c next old
+  pub more : ℕ
+  pub new_is : new ≡ front.above ++ range_with_len next (suc more)
+
+-- each of these paths goes on from the one before it; `next` is the first node after the path `old`
+abbrev pub Follow : Games → ℕ → List ℕ → List (List ℕ) → ℕ → Type 0
+Follow c next old [] end = next ≡ end
+Follow c next old (new ∷ news) end = GoesOn c next old new × Follow c (last_number new + 1) new news end
+
+follow_inner : {c : Games} {next : ℕ} {old new : List ℕ} (end : ℕ) (ls : List (List ℕ)) → Way c next old new → parent_at c (next + 1) ≡ Some (Some next) → parent_at c end ≡ None
+    → Follow c (next + 1) new ls end → Follow c next old ls end
+follow_inner {next = next} end [] w child past f = absurd (let here : next + 1 ≡ end = f in cc)
+follow_inner {c = c} {next = next} {new = new} end (q ∷ qs) w child past f =
+    let g = f.0 in
+    let own = w.front.above in
+    let parent_is = g.front.parent_is in
+    let parent : g.front.parent ≡ Some next = cc in
+    let above : g.front.above ≡ new = one_way (rw parent at g.front.up) (way_path w) in
+    let new_is : q ≡ own ++ range_with_len next (suc (suc g.more)) =
+    g.new_is ∙ ap (λ l. l ++ range_with_len (next + 1) (suc g.more)) (above ∙ w.new_is) ∙ append_assoc own (next ∷ []) (range_with_len (next + 1) (suc g.more)) in
+    (record { front = w.front; more = suc g.more; new_is = new_is }, f.1)
+
+follow : {c : Games} {next end : ℕ} {old last : List ℕ} {ls : List (List ℕ)} → Visits c next old ls end last → parent_at c end ≡ None → Follow c next old ls end
+follow none past = refl
+follow {end = end} {ls = ls} (inner new w child v) past = follow_inner end ls w child past (follow v past)
+follow {c = c} {next = next} {end = end} {ls = l ∷ ls} (leaf new w is_leaf v) past =
+    let ends : last_number new ≡ next = last-way (way_path w) in (
+      record { front = w.front; more = 0; new_is = w.new_is },
+      rw ends (follow v past),
+    )
+
+pub paths_follow : (c : Games) → Follow c 0 [] (map (λ p. p.numbers) (paths c)) (node_count c)
+paths_follow c = follow (paths_visited c).1 (by (parent_at c (node_count c)) refl)
+  where
+    by : (o : Option (Option ℕ)) → parent_at c (node_count c) ≡ o → o ≡ None
+    by None e = refl
+    by (Some p) e = absurd (omega (arith, node_within c (node_count c) p e))
+
+-- the last number of a range after others
+pub last_number-range : (front : List ℕ) (start more : ℕ) → last_number (front ++ range_with_len start (suc more)) ≡ start + more
+last_number-range front start zero = last_number-append front start [] ∙ sym (add-zero start)
+last_number-range front start (suc more) = last_number-append front start (range_with_len (start + 1) (suc more)) ∙ last_number-range [] (start + 1) more ∙ omega arith
+
+pub ends_at : {c : Games} {next : ℕ} {old new : List ℕ} (g : GoesOn c next old new) → last_number new ≡ next + g.more
+ends_at {next = next} g = ap last_number g.new_is ∙ last_number-range g.front.above next g.more
+
+-- the first node after a path is the one after its leaf
+pub after_way : {c : Games} {i : ℕ} {way : List ℕ} → IsPathTo c (Some i) way → first_after way ≡ i + 1
+after_way {way = []} h = absurd (omega (arith, some_node h))
+after_way {way = n ∷ ns} h = ap (λ k. k + 1) (last-way h)
+
+pub continues : {c : Games} {next : ℕ} {old new : List ℕ} → GoesOn c next old new → first_after old ≡ next → (kept : ℕ) × Continues old kept new
+continues {old = old} g at =
+    let front : take (length g.front.above) old ≡ g.front.above = ap (take (length g.front.above)) g.front.old_is ∙ take-append_seam g.front.above g.front.rest in (
+      length g.front.above,
+      record { kept_within = omega (arith, ap length g.front.old_is, length-append g.front.above g.front.rest); more = g.more; new_is = rw (at, front, add-one) g.new_is },
+    )
+
+leaves_of : (ps : List Path) → map last_number (map (λ p. p.numbers) ps) ≡ map leaf_of ps
+leaves_of [] = refl
+leaves_of (p ∷ ps) = ap (λ ns. leaf_of p ∷ ns) (leaves_of ps)
+
+-- the paths' leaves rise
+pub leaves_in_order : (c : Games) → Rises 0 (map leaf_of (paths c)) (node_count c)
+leaves_in_order c = rw (← leaves_of (paths c)) (leaves_rise (paths_visited c).1)
+
+-- each leaf is that of a path
+pub covered : (c : Games) (i : ℕ) → i < node_count c → IsLeaf c i → (k : ℕ) × (slice_get (map leaf_of (paths c)) k ≡ Some i)
+covered c i lt is_leaf = let f = visited_leaf (paths_visited c).1 i (omega arith) lt is_leaf in (f.0, rw (leaves_of (paths c)) at f.1)
+
+each_of : (c : Games) (ps : List Path) → Each (LeadsToLeaf c) (map (λ p. p.numbers) ps) → Each (λ p. LeadsToLeaf c p.numbers) ps
+each_of c [] h = tt
+each_of c (p ∷ ps) h = (h.0, each_of c ps h.1)
+
+pub each_path : (c : Games) → Each (λ p. LeadsToLeaf c p.numbers) (paths c)
+each_path c = each_of c (paths c) (each_leads (paths_visited c).1)
+
+pub leads : (c : Games) (k : ℕ) (p : Path) → slice_get (paths c) k ≡ Some p → LeadsToLeaf c p.numbers
+leads c k p e = each_get (λ path. LeadsToLeaf c path.numbers) (paths c) k p (each_path c) e
+
+pub each_ends : (c : Games) → All (EndsInLeaf c) (paths c)
+each_ends c =
+    All-from_recursion (EndsInLeaf c) (paths c)
+    (each_weaker (λ p. LeadsToLeaf c p.numbers) (EndsInLeaf c) (λ p h. record { within = way_within h.up; is_leaf = h.is_leaf }) (paths c) (each_path c))
+
+-- the path at each index goes on from the one before it
+goes_on_in : {c : Games} (next end : ℕ) (old : List ℕ) (ls : List (List ℕ)) (k : ℕ) (p q : List ℕ) → Each (LeadsToLeaf c) ls → Follow c next old ls end → first_after old ≡ next
+    → slice_get (old ∷ ls) k ≡ Some p → slice_get ls k ≡ Some q → GoesOn c (first_after p) p q
+goes_on_in next end old [] k p q h f at e g = absurd cc
+goes_on_in {c = c} next end old (l ∷ ls) zero p q h f at e g =
+    let old_is : old ≡ p = cc in
+    let new_is : l ≡ q = cc in
+    let start : next ≡ first_after p = sym at ∙ ap first_after old_is in
+    rw (start, old_is, new_is) at f.0
+goes_on_in next end old (l ∷ ls) (suc k) p q h f at e g = goes_on_in (last_number l + 1) end l ls k p q h.1 f.1 (after_way h.0.up) e g
+
+numbers_at : (c : Games) (k : ℕ) → k ≤ length (paths c) → slice_get ([] ∷ map (λ p. p.numbers) (paths c)) k ≡ Some (numbers_before c k)
+numbers_at c zero le = refl
+numbers_at c (suc k) le =
+    let p = element (paths c) k (omega arith) in
+    slice_get-map (λ p. p.numbers) (paths c) k ∙ ap (λ o. option_map (λ (p : Path). p.numbers) o) p.1 ∙ ap (λ o. Some (numbers_of o)) (sym p.1)
+
+pub goes_on_there : (c : Games) (k : ℕ) → k < length (paths c) → GoesOn c (first_after (numbers_before c k)) (numbers_before c k) (numbers_before c (suc k))
+goes_on_there c k lt =
+    goes_on_in 0 (node_count c) [] (map (λ p. p.numbers) (paths c)) k (numbers_before c k) (numbers_before c (suc k)) (each_leads (paths_visited c).1) (paths_follow c) refl
+    (numbers_at c k (omega arith)) (numbers_at c (suc k) (omega arith))

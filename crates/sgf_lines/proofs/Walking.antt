@@ -1,17 +1,17 @@
--- A walk along a line, node after node.
-use Rattle.std.proofs.Common.{◌≡◌, ℕ, zero, suc, ◌+◌, ◌≤◌, List, [], ◌∷◌, ◌++◌, length, take, drop, slice_get, Option, Some, None, Result, Ok, Err, refl, sym, ap, ◌∙◌, subst}
-use Rattle.std.specs.Prelude.{fold, option_map}
+-- A walk along a line ends with the first node whose step is refused, or with the last node. The judged nodes are a front of the line.
+use Rattle.std.proofs.Common.{◌≡◌, ℕ, ◌+◌, List, [], ◌∷◌, ◌++◌, Some, None, Result, Ok, Err, refl, ap, ◌∙◌, ◌⊎◌, inl, inr, zero, suc, ◌≤◌, length, take, map, Option, sym, arith, append_assoc, append-nil}
+use Rattle.std.specs.Prelude.{fold}
 use Rattle.std.proofs.lemmas.List.Sums.{fold-append}
-use Rattle.std.proofs.lemmas.List.{take_all}
-use Rattle.sgf_tree.specs.Tree.{Node, Games}
-use Rattle.sgf_tree.specs.FileOrder.{OrderedNode, ordered_nodes, node_at, place_at}
+use Rattle.sgf_tree.specs.Tree.{Node}
 use Rattle.go_board.specs.declared.reason.Reason.{Reason}
-use Rattle.go_board.specs.State.{State}
+use Rattle.go_board.specs.State.{State, starting}
 use Rattle.sgf_lines.specs.declared.verdict.Verdict.TheVariants.{Illegal}
 use Rattle.sgf_lines.specs.Step.{step}
-use Rattle.sgf_lines.specs.Walk.{IllegalNode, Walk, before_root, stepped, next_by, next, walk}
-use Rattle.sgf_lines.specs.Verdict.{verdict_at, score_in}
-use Rattle.sgf_lines.proofs.Lists.{front_more}
+use Rattle.sgf_lines.specs.Walk.{IllegalNode, Walk, before_root, stepped, next_by, next, walk, IsAfter, no_node, one_node, HasIllegal, TakenNode, judged_by}
+use Rattle.sgf_lines.specs.Verdict.{verdict_at, score_in, judged_on}
+use Rattle.std.proofs.lemmas.List.{map-append}
+use Rattle.sgf_lines.specs.JudgedGames.{GameKind, not_go, bad_size, board, game_kind, root_properties}
+use Rattle.sgf_lines.proofs.Along.{same_root}
 
 -- the walk has met no illegal node, and leads to that state
 pub record StandsAfter (w : Walk) (s : State) : Type 0 where
@@ -20,10 +20,6 @@ pub record StandsAfter (w : Walk) (s : State) : Type 0 where
 
 pub scores_there : (w : Walk) (s : State) → StandsAfter w s → verdict_at w ≡ score_in s
 scores_there w s h = rw (h.no_illegal, h.state)
-
--- one node later
-pub walk-more : (side : ℕ) (nodes : List Node) (i : ℕ) (n : Node) → slice_get nodes i ≡ Some n → walk side (take (i + 1) nodes) ≡ next (walk side (take i nodes)) n
-walk-more side nodes i n e = ap (fold next (before_root side)) (front_more nodes i n e) ∙ fold-append next (before_root side) (take i nodes) (n ∷ [])
 
 module _ (w : Walk) (s : State) (h : StandsAfter w s) (n : Node) where
   pub next_is : (r : Result State Reason) → step s n ≡ r → next w n ≡ stepped w n r
@@ -42,36 +38,113 @@ pub after_illegal : (w : Walk) (f : IllegalNode) (ns : List Node) → w.illegal 
 after_illegal w f [] e = refl
 after_illegal w f (n ∷ ns) e = ap (λ v. fold next v ns) (ap (λ o. next_by w o n) e) ∙ after_illegal w f ns e
 
--- so the walk ends with the first illegal node
-pub walk-illegal : (side : ℕ) (nodes : List Node) (i : ℕ) (f : IllegalNode) → (walk side (take i nodes)).illegal ≡ Some f → walk side nodes ≡ walk side (take i nodes)
-walk-illegal side nodes i f e =
-    ap (fold next (before_root side)) (sym (parts nodes i)) ∙ fold-append next (before_root side) (take i nodes) (drop i nodes) ∙ after_illegal (walk side (take i nodes)) f (drop i nodes) e
+goes_along : {s u : State} {ns : List Node} → IsAfter s ns u → (w : Walk) → StandsAfter w s → StandsAfter (fold next w ns) u
+goes_along no_node w h = h
+goes_along (one_node {from = s} {between = t} {node = n} e rest) w h = goes_along rest (next w n) (goes_on w s h n t e)
+
+at_beginning : (side : ℕ) → StandsAfter (before_root side) (starting side)
+at_beginning side = record { no_illegal = refl; state = refl }
+
+pub scores : (side : ℕ) (nodes : List Node) (s : State) → IsAfter (starting side) nodes s → verdict_at (walk side nodes) ≡ score_in s
+scores side nodes s h = scores_there (walk side nodes) s (goes_along h (before_root side) (at_beginning side))
+
+pub refuses : (side : ℕ) (before after : List Node) (n : Node) (s : State) (reason : Reason) → IsAfter (starting side) before s → step s n ≡ Err reason
+    → verdict_at (walk side (before ++ n ∷ after)) ≡ Illegal (s.turns + 1) n.place reason
+refuses side before after n s reason h e =
+    let w = walk side before in
+    let g : StandsAfter w s = goes_along h (before_root side) (at_beginning side) in
+    let illegal : (next w n).illegal ≡ Some (record { node = n; reason = reason }) = ap (λ (v : Walk). v.illegal) (next_is w s g n (Err reason) e) in
+    let whole : walk side (before ++ n ∷ after) ≡ next w n = fold-append next (before_root side) before (n ∷ after) ∙ after_illegal (next w n) (record { node = n; reason = reason }) after illegal in
+    ap verdict_at whole ∙ ends_at w s g n reason e
+
+-- each list of nodes is of one kind or the other
+later : (s t : State) (n : Node) (ns : List Node) → step s n ≡ Ok t → ((u : State) × IsAfter t ns u) ⊎ HasIllegal t ns → ((u : State) × IsAfter s (n ∷ ns) u) ⊎ HasIllegal s (n ∷ ns)
+later s t n ns e h = elim h [
+  | inl whole ↦ inl (whole.0, one_node e whole.1)
+  | inr f ↦ inr (record {
+    before = n ∷ f.before;
+    illegal = f.illegal;
+    after = f.after;
+    are = ap (λ ms. n ∷ ms) f.are;
+    state = f.state;
+    leads = one_node e f.leads;
+    reason = f.reason;
+    refused = f.refused;
+  })
+]
+
+pub ends : (s : State) (nodes : List Node) → ((u : State) × IsAfter s nodes u) ⊎ HasIllegal s nodes
+ends s [] = inl (s, no_node)
+ends s (n ∷ ns) = by (step s n) refl (λ t. ends t ns)
   where
-    parts : (ns : List Node) (i : ℕ) → take i ns ++ drop i ns ≡ ns
-    parts [] zero = refl
-    parts [] (suc i) = refl
-    parts (n ∷ ns) zero = refl
-    parts (n ∷ ns) (suc i) = ap (λ ks. n ∷ ks) (parts ns i)
+    by : (r : Result State Reason) → step s n ≡ r → ((t : State) → ((u : State) × IsAfter t ns u) ⊎ HasIllegal t ns) → ((u : State) × IsAfter s (n ∷ ns) u) ⊎ HasIllegal s (n ∷ ns)
+    by (Ok t) e rest = later s t n ns e (rest t)
+    by (Err reason) e rest = inr (record { before = []; illegal = n; after = ns; are = refl; state = s; leads = no_node; reason = reason; refused = e })
 
-module _ (side : ℕ) (nodes : List Node) (i : ℕ) (s : State) (h : StandsAfter (walk side (take i nodes)) s) where
-  pub illegal_at : (n : Node) (r : Reason) → slice_get nodes i ≡ Some n → step s n ≡ Err r → verdict_at (walk side nodes) ≡ Illegal (s.turns + 1) n.place r
-  illegal_at n r e is =
-      let w = walk side (take i nodes) in
-      let more : walk side (take (i + 1) nodes) ≡ next w n = walk-more side nodes i n e in
-      let illegal : (walk side (take (i + 1) nodes)).illegal ≡ Some (record { node = n; reason = r }) =
-      ap (λ (v : Walk). v.illegal) (more ∙ next_is w s h n (Err r) is) in
-      ap verdict_at (walk-illegal side nodes (i + 1) (record { node = n; reason = r }) illegal ∙ more) ∙ ends_at w s h n r is
+-- one node, where there is no illegal one before it
+abbrev one_if : Option IllegalNode → ℕ → ℕ
+one_if (Some f) n = 0
+one_if None n = suc n
 
-  pub scored : length nodes ≤ i → verdict_at (walk side nodes) ≡ score_in s
-  scored le =
-      let all : take i nodes ≡ nodes = take_all i nodes le in
-      let g : StandsAfter (walk side nodes) s = subst (λ ns. StandsAfter (walk side ns) s) all h in
-      scores_there (walk side nodes) s g
+-- how many nodes are judged on the way from a walk on
+abbrev more_judged : Walk → List Node → ℕ
+more_judged w [] = 0
+more_judged w (n ∷ ns) = one_if w.illegal (more_judged (next w n) ns)
 
--- the place of a node is that which it has
-pub place_of_node : (c : Games) (i : ℕ) (n : Node) (place : ℕ) → node_at c i ≡ Some n → place_at c i ≡ Some place → place ≡ n.place
-place_of_node c i n place e f = of_ordered (slice_get (ordered_nodes c) i) e f
+pub one_judged : (w : Walk) (n : Node) → w.illegal ≡ None → judged_by (next w n) ≡ judged_by w ++ n ∷ []
+one_judged w n none = rw none (by (step w.state n))
   where
-    of_ordered : (o : Option OrderedNode) → option_map (λ r. r.node) o ≡ Some n → option_map (λ r. r.node.place) o ≡ Some place → place ≡ n.place
-    of_ordered None e f = absurd cc
-    of_ordered (Some r) e f = let same : r.node ≡ n = cc in let here : r.node.place ≡ place = cc in sym here ∙ ap (λ (m : Node). m.place) same
+    by : (r : Result State Reason) → judged_by (stepped w n r) ≡ (map (λ (p : TakenNode). p.node) w.taken ++ []) ++ n ∷ []
+    by (Ok s) = append-nil (map (λ (p : TakenNode). p.node) (w.taken ++ record { node = n; after = s } ∷ []))
+        ∙ map-append (λ (p : TakenNode). p.node) w.taken (record { node = n; after = s } ∷ [])
+        ∙ ap (λ ns. ns ++ n ∷ []) (sym (append-nil (map (λ (p : TakenNode). p.node) w.taken)))
+    by (Err reason) = ap (λ ns. ns ++ n ∷ []) (sym (append-nil (map (λ (p : TakenNode). p.node) w.taken)))
+
+judged_fold : (w : Walk) (ns : List Node) → judged_by (fold next w ns) ≡ judged_by w ++ take (more_judged w ns) ns
+judged_fold w [] = sym (append-nil (judged_by w))
+judged_fold w (n ∷ ns) = by w.illegal refl (judged_fold (next w n) ns)
+  where
+    by : (o : Option IllegalNode) → w.illegal ≡ o → judged_by (fold next (next w n) ns) ≡ judged_by (next w n) ++ take (more_judged (next w n) ns) ns
+        → judged_by (fold next w (n ∷ ns)) ≡ judged_by w ++ take (more_judged w (n ∷ ns)) (n ∷ ns)
+    by (Some f) e rest = ap judged_by (after_illegal w f (n ∷ ns) e) ∙ sym (append-nil (judged_by w))
+        ∙ ap (λ o. judged_by w ++ take (one_if o (more_judged (next w n) ns)) (n ∷ ns)) (sym e)
+    by None e rest =
+        rest ∙ ap (λ l. l ++ take (more_judged (next w n) ns) ns) (one_judged w n e)
+        ∙ append_assoc (judged_by w) (n ∷ []) (take (more_judged (next w n) ns) ns)
+        ∙ ap (λ o. judged_by w ++ take (one_if o (more_judged (next w n) ns)) (n ∷ ns)) (sym e)
+
+-- those on the way along a front
+judged_take : (w : Walk) (k : ℕ) (ns : List Node) → take (more_judged w (take k ns)) (take k ns) ≡ take k (take (more_judged w ns) ns)
+judged_take w zero ns = refl
+judged_take w (suc k) [] = refl
+judged_take w (suc k) (n ∷ ns) = by w.illegal (judged_take (next w n) k ns)
+  where
+    by : (o : Option IllegalNode) → take (more_judged (next w n) (take k ns)) (take k ns) ≡ take k (take (more_judged (next w n) ns) ns)
+        → take (one_if o (more_judged (next w n) (take k ns))) (n ∷ take k ns) ≡ take (suc k) (take (one_if o (more_judged (next w n) ns)) (n ∷ ns))
+    by (Some f) rest = refl
+    by None rest = ap (λ l. n ∷ l) rest
+
+-- the judged nodes are the first ones
+pub judged_front : (said : GameKind) (nodes : List Node) → (m : ℕ) × (judged_on said nodes ≡ take m nodes)
+judged_front not_go nodes = (0, refl)
+judged_front bad_size nodes = (0, refl)
+judged_front (board side) nodes = (more_judged (before_root side) nodes, judged_fold (before_root side) nodes)
+
+-- and which of a front they are is seen in it
+pub judged_of_front : (said : GameKind) (nodes : List Node) (k : ℕ) → take k (judged_on said nodes) ≡ judged_on said (take k nodes)
+judged_of_front not_go nodes zero = refl
+judged_of_front not_go nodes (suc k) = refl
+judged_of_front bad_size nodes zero = refl
+judged_of_front bad_size nodes (suc k) = refl
+judged_of_front (board side) nodes k =
+    ap (take k) (judged_fold (before_root side) nodes) ∙ sym (judged_take (before_root side) k nodes) ∙ sym (judged_fold (before_root side) (take k nodes))
+
+-- what lines share is judged alike
+pub judged_alike : (old nodes : List Node) (k : ℕ) → k ≤ length old → take k old ≡ take k nodes
+    → take k (judged_on (game_kind (root_properties nodes)) nodes) ≡ take k (judged_on (game_kind (root_properties old)) old)
+judged_alike old nodes zero le same = refl
+judged_alike old nodes (suc k) le same =
+    let root : root_properties nodes ≡ root_properties old = sym (same_root (suc k) old nodes (omega arith) le same) in
+    let said = game_kind (root_properties old) in
+    ap (λ ps. take (suc k) (judged_on (game_kind ps) nodes)) root ∙ judged_of_front said nodes (suc k) ∙ ap (judged_on said) (sym same)
+    ∙ sym (judged_of_front said old (suc k))

@@ -1,8 +1,8 @@
 -- Where a cursor stands among the lines of a collection, what its calls return, and how they leave it.
-use Rattle.std.specs.Prelude.{◌≡◌, ◌≢◌, ℕ, ◌+◌, All, Option, Some, None, option_map, slice_get, Result, Ok, Err}
+use Rattle.std.specs.Prelude.{◌≡◌, ℕ, ◌+◌, Option, Some, None, option_map, slice_get, Result, Ok, Err}
 use Rattle.sgf_tree.specs.Tree.{Games}
 use Rattle.sgf_tree.specs.declared.fault.MemoryFault.{MemoryFault}
-use Rattle.sgf_lines.specs.Lines.{lines, place_of}
+use Rattle.sgf_lines.specs.Lines.{lines, place_of, HasNoLineAt}
 use Rattle.sgf_lines.specs.Paths.{Path, paths}
 use Rattle.sgf_lines.specs.declared.line.LineRef.{LineRef}
 use Rattle.sgf_lines.specs.declared.seek.SeekFault.{SeekFault}
@@ -13,7 +13,7 @@ pub record CursorState : Type 0 where
   pub games : Games
   pub index : ℕ
 
--- one line later
+-- the same cursor, one line later
 abbrev pub advanced : CursorState → CursorState
 advanced cursor = record { games = cursor.games; index = cursor.index + 1 }
 
@@ -30,7 +30,7 @@ pub record IsLine (games : Games) (index : ℕ) (line : LineRef) : Type 0 where
   pub path : slice_get (paths games) index ≡ Some (shown line).path
   pub place : option_map place_of (slice_get (lines games) index) ≡ Some (shown line).place
 
--- the next line; None after the last one
+-- the call returns the next line; None after the last one
 abbrev pub GivesLine : CursorState → Option LineRef → Type 0
 GivesLine cursor None = slice_get (lines cursor.games) cursor.index ≡ None
 GivesLine cursor (Some line) = IsLine cursor.games cursor.index line
@@ -46,10 +46,6 @@ pub record IsAfterPlace (place : ℕ) (old new : CursorState) : Type 0 where
   pub index : ℕ
   pub line : option_map place_of (slice_get (lines old.games) index) ≡ Some place
   pub new_is : new ≡ record { games = old.games; index = index + 1 }
-
--- no line has this place
-abbrev pub HasNoLineAt : Games → ℕ → Type 0
-HasNoLineAt games place = All (λ line. place_of line ≢ place) (lines games)
 
 -- `NoSuchLine` names the place that was asked for, and comes only if no line has it
 abbrev pub IsSeekFault : Games → ℕ → SeekFault → Type 0

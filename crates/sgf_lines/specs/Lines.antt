@@ -1,9 +1,10 @@
 -- The lines of play of a collection (SGF FF[4]). A line goes from the root of a game to a leaf, a node that no node follows. If
 -- games stand below a node, the tree branches there. Each of them begins a variation, and lines go on through each in turn.
-use Rattle.std.specs.Prelude.{ℕ, ◌+◌, List, [], ◌∷◌, ◌++◌, map}
+use Rattle.std.specs.Prelude.{◌≢◌, ℕ, ◌+◌, List, [], ◌∷◌, ◌++◌, map, All}
 use Rattle.sgf_tree.specs.Tree.{Node, Games, no_games, game}
 
--- `own` followed by each of the lists; `own` alone if there are none. These are the lines through a branch, or to a leaf.
+-- `own` followed by each of the lists in turn; `own` alone if there are no lists. These are the lines through a branch, or to
+-- a leaf.
 abbrev pub through : {A : Type 0} → List A → List (List A) → List (List A)
 through own [] = own ∷ []
 through own (first ∷ others) = map (λ rest. own ++ rest) (first ∷ others)
@@ -41,3 +42,7 @@ last_number (n ∷ m ∷ ms) = last_number (m ∷ ms)
 -- the place of a line: the place of its last node
 abbrev pub place_of : Line → ℕ
 place_of line = last_number (map (λ n. n.place) line.nodes)
+
+-- no line of the collection has this place
+abbrev pub HasNoLineAt : Games → ℕ → Type 0
+HasNoLineAt games place = All (λ line. place_of line ≢ place) (lines games)

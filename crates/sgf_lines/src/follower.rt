@@ -1,10 +1,7 @@
 //! Going over the lines of play of a collection, and judging each.
 
-ghost use Rattle.std.specs.Prelude.{◌≡◌, ◌<◌, ◌≤◌, ◌-◌, true, false, length, IfOk, OnOk};
-ghost use Rattle.sgf_lines.specs.Verdict.{verdict_of};
-ghost use Rattle.sgf_lines.specs.inner.Following.{nodes_before};
-ghost use Rattle.sgf_lines.specs.inner.Judging.{back};
-ghost use Rattle.sgf_lines.specs.inner.Keeping.{judging_front};
+ghost use Rattle.std.specs.Prelude.{◌≡◌, ◌<◌, ◌-◌, length, IfOk};
+ghost use Rattle.sgf_lines.specs.Plays.{all_judged_places};
 
 use crate::cursor::Cursor;
 use crate::form::judged::judge_line;
@@ -18,7 +15,7 @@ use std::marker::Model;
 
 /// A follower goes over the lines after a cursor, in file order, and judges each. Nodes that a
 /// line shares with the line before it are not played again. Contracts see it as the collection, the
-/// index (from 0) of its next line, and whether it shows the line before that one.
+/// index (from 0) of its next line, and how many lines directly before that one were judged in a row.
 #[derive(Drop)]
 pub struct Follower<'c, 'a> {
     cursor: Cursor<'c, 'a>,
@@ -26,35 +23,37 @@ pub struct Follower<'c, 'a> {
     judge: Judge,
 
     before: Before,
+
+    /// The number of lines that were judged in a row.
+    row: u64,
 }
 
 impl<'c, 'a> Model for Follower<'c, 'a> {
     ghost use Rattle.sgf_lines.specs.Follower.{FollowerState};
-    ghost use Rattle.sgf_lines.specs.inner.Followers.{follower_state_code, state_by, judging_alone};
-    ghost use Rattle.sgf_lines.specs.declared.options.Form.TheVariants.{List as list_form};
-    ghost use Rattle.sgf_lines.specs.inner.Keeping.{StandsBy};
+    ghost use Rattle.sgf_lines.specs.inner.Followers.{follower_state_code, state_by, Follows};
 
     ghost Value = { FollowerState };
 
     ghost coded = { follower_state_code };
 
-    ghost view = { λ f. state_by f.before f.cursor };
+    ghost view = { λ f. state_by f.before f.cursor f.row };
 
-    ghost invariant = { λ f. StandsBy list_form f.before f.cursor (judging_alone f.judge.judgement) };
+    ghost invariant = { λ f. Follows f.before f.cursor f.judge f.row };
 }
 
 impl<'c, 'a> Follower<'c, 'a> {
     ghost use Rattle.sgf_lines.specs.Cursor.{IsLine};
-    ghost use Rattle.sgf_lines.specs.Follower.{GivesVerdict, LeavesFollower};
+    ghost use Rattle.sgf_lines.specs.Follower.{GivesVerdict, LeavesFollower, lines_judged};
 
     /// A follower of the lines after a cursor. This takes no memory.
     pub fn new(alloc: Global, cursor: Cursor<'c, 'a>) -> Follower<'c, 'a>
-        ensures { result ≡ record { games = cursor.entry.games; index = cursor.entry.index; shows = false } }
+        ensures { result ≡ record { games = cursor.entry.games; index = cursor.entry.index; row = 0 } }
     {
         Follower {
             cursor,
             judge: Judge::new(alloc),
             before: Before::Unheld,
+            row: 0,
         }
     }
 
@@ -67,36 +66,34 @@ impl<'c, 'a> Follower<'c, 'a> {
         let Some(held) = go_on(&mut self.cursor, self.before)? else {
             return Ok(None);
         };
+        // There are no more lines than nodes, and no more nodes than bytes.
+        let _nodes = self.cursor.collection().nodes();
+        let _len = self.cursor.len();
+        let row = self.row;
+        self.row = 0;
         self.before = Before::Refused;
-        let verdict = judge_before(&self.cursor, held, &mut self.judge)?;
+        let Ok(()) = judge_line(&self.cursor, held, &mut self.judge) else {
+            self.judge.count_anew();
+            return Err(MemoryFault);
+        };
         self.before = Before::Held;
-        Ok(Some(verdict))
+        self.row = row + 1;
+        Ok(Some(self.judge.verdict()))
     }
 
-    /// The line of the verdict that was returned last. `next` must have returned one, and memory mustn't have been refused since.
+    /// The line whose verdict `next` returned last. There must be such a verdict, and memory mustn't have been refused since then.
     pub fn line(&self) -> LineRef<'_>
-        requires { self.now.shows ≡ true }
+        requires { 0 < self.now.row }
         ensures { IsLine self.now.games (self.now.index - 1) result }
     {
         self.cursor.line()
     }
-}
 
-/// The verdict of the line before the cursor. The first `held` of its nodes are judged already.
-fn judge_before(
-    cursor: &Cursor<'_, '_>,
-    held: usize,
-    judge: &mut Judge,
-) -> Result<Verdict, MemoryFault>
-    requires some_node { 0 < length (nodes_before cursor.now) }
-    requires within { held ≤ length (nodes_before cursor.now) }
-    requires judged { 0 < held → back held judge.old.judgement ≡ judging_front (nodes_before cursor.now) held }
-    ensures judged { OnOk result (judge.new.judgement ≡ judging_front (nodes_before cursor.now) (length (nodes_before cursor.now))) }
-    ensures verdict { IfOk result (λ told. told ≡ verdict_of (nodes_before cursor.now)) }
-{
-    // The plays of one line fit into the count.
-    judge.count_anew();
-    let _nodes = cursor.len();
-    judge_line(cursor, held, judge)?;
-    Ok(judge.verdict())
+    /// The number of nodes that were played for the lines judged in a row: each node that is judged on at least one of them,
+    /// once. That is at most as many as these lines touch (`laws::touched`).
+    pub fn plays(&self) -> u64
+        ensures { result ≡ length (all_judged_places (lines_judged self.now)) }
+    {
+        self.judge.plays()
+    }
 }

@@ -1,32 +1,41 @@
 -- A follower's state, from its cursor and from what is known of the line before the cursor.
-use Rattle.std.specs.Prelude.{ℕ, Bool, true, false, refl}
-use Rattle.std.specs.Coded.{Coded, code_by, coded×, coded_ℕ, coded_bool}
+use Rattle.std.specs.Prelude.{◌≡◌, ◌<◌, ◌≤◌, ℕ, length, refl}
+use Rattle.std.specs.Coded.{Coded, code_by, coded×, coded_ℕ}
 use Rattle.sgf_tree.specs.Tree.{Games}
 use Rattle.sgf_tree.specs.inner.TreeCode.{games_code}
 use Rattle.sgf_lines.specs.Cursor.{CursorState}
-use Rattle.sgf_lines.specs.Follower.{FollowerState}
+use Rattle.sgf_lines.specs.Follower.{FollowerState, lines_judged}
+use Rattle.sgf_lines.specs.Plays.{all_judged_places}
+use Rattle.sgf_lines.specs.declared.options.Form.TheVariants.{List as list_form}
 use Rattle.sgf_lines.specs.declared.going_on.Before.{Before}
 use Rattle.sgf_lines.specs.declared.going_on.Before.TheVariants.{Unheld, Held, Refused}
 use Rattle.sgf_lines.specs.inner.GoingOn.{index_by}
-use Rattle.sgf_lines.specs.inner.Judging.{Judgement}
-use Rattle.sgf_lines.specs.inner.Keeping.{Kept}
+use Rattle.sgf_lines.specs.inner.Judging.{Judgement, Judging}
+use Rattle.sgf_lines.specs.inner.Keeping.{Kept, StandsBy}
 use Rattle.sgf_lines.specs.inner.Pieces.{no_pieces}
 use Rattle.sgf_lines.specs.inner.Scripting.{no_script}
 
-abbrev pub shows_by : Before → Bool
-shows_by Unheld = false
-shows_by Held = true
-shows_by Refused = false
-
-abbrev pub state_by : Before → CursorState → FollowerState
-state_by before cursor = record { games = cursor.games; index = index_by before cursor.index; shows = shows_by before }
+abbrev pub state_by : Before → CursorState → ℕ → FollowerState
+state_by before cursor row = record { games = cursor.games; index = index_by before cursor.index; row = row }
 
 -- a follower keeps the judgement alone, as the list form does
 abbrev pub judging_alone : Judgement → Kept
 judging_alone judgement = record { judgement = judgement; game = no_pieces; script = no_script }
 
+-- the row goes on if the line before the cursor is held
+abbrev pub IsRow : Before → ℕ → ℕ → Type 0
+IsRow Unheld index row = row ≡ 0
+IsRow Held index row = (0 < row) × (row ≤ index)
+IsRow Refused index row = row ≡ 0
+
+-- what a follower holds
+pub record Follows (before : Before) (cursor : CursorState) (judging : Judging) (row : ℕ) : Type 0 where
+  pub stands : StandsBy list_form before cursor (judging_alone judging.judgement)
+  pub is_row : IsRow before cursor.index row
+  pub plays_are : judging.plays ≡ length (all_judged_places (lines_judged (state_by before cursor row)))
+
 -- a follower's state is stored as its parts
 abbrev pub follower_state_code : Coded FollowerState
 follower_state_code =
-    code_by (Games × (ℕ × Bool)) (coded× games_code (coded× coded_ℕ coded_bool)) (λ follower. (follower.games, (follower.index, follower.shows)))
-    (λ p. record { games = p.0; index = p.1.0; shows = p.1.1 }) (λ _. refl)
+    code_by (Games × (ℕ × ℕ)) (coded× games_code (coded× coded_ℕ coded_ℕ)) (λ follower. (follower.games, (follower.index, follower.row)))
+    (λ p. record { games = p.0; index = p.1.0; row = p.1.1 }) (λ _. refl)

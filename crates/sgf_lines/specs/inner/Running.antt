@@ -1,12 +1,12 @@
 -- What the parts of a run do.
-use Rattle.std.specs.Prelude.{◌≡◌, ℕ, ◌<◌, ◌≤◌, ◌+◌, List, length, drop, take, Option, Some, None, Result, Ok, Err, slice_get}
+use Rattle.std.specs.Prelude.{◌≡◌, ℕ, ◌<◌, ◌≤◌, ◌+◌, List, length, drop, take, Option, Some, Result, Ok, Err, slice_get}
 use Rattle.std.specs.Io.KnownBytes.{Appends, Consumes}
 use Rattle.sgf_tree.specs.Tree.{Games}
 use Rattle.sgf_tree.specs.declared.fault.TheConstants.{MAX_LENGTH}
 use Rattle.sgf_tree.specs.declared.fault.ReadFault.{ReadFault}
 use Rattle.sgf_tree.specs.declared.fault.ReadFault.TheVariants.{TooLong as TextTooLong, NotSgf as TextNotSgf, Memory as TextMemory}
-use Rattle.sgf_lines.specs.Lines.{Line, lines}
-use Rattle.sgf_lines.specs.Page.{lines_after, lines_asked}
+use Rattle.sgf_lines.specs.Lines.{Line, lines, HasNoLineAt}
+use Rattle.sgf_lines.specs.Page.{lines_asked}
 use Rattle.sgf_lines.specs.Record.{output, record_of}
 use Rattle.sgf_lines.specs.Ends.{SourceState, SinkState}
 use Rattle.sgf_lines.specs.Cursor.{CursorState, advanced}
@@ -39,7 +39,7 @@ unread TextMemory len = Memory 0
 -- where a cursor stands before the page, or why there is no page
 abbrev pub IsStart : Games → Option ℕ → Result CursorState RunFault → Type 0
 IsStart games after (Ok cursor) = lines_asked (lines games) after ≡ Some (drop cursor.index (lines games))
-IsStart games after (Err (NoSuchLine place)) = (after ≡ Some place) × (lines_after (lines games) place ≡ None)
+IsStart games after (Err (NoSuchLine place)) = (after ≡ Some place) × HasNoLineAt games place
 IsStart games after (Err (Memory count)) = count ≡ 0
 IsStart games after (Err _) = ⊥
 
@@ -59,7 +59,7 @@ pub record HasRecord (form : Form) (old new : CursorState) (bytes : List ℕ) : 
   pub bytes_are : bytes ≡ record_of form line
   pub goes_on : new ≡ advanced old
 
--- a sink took all of these bytes, or took fewer and failed
+-- a sink took all of these bytes, or it took fewer of them and failed
 abbrev pub PutsAll : {A E : Type 0} → SinkState → SinkState → List ℕ → Result A E → Type 0
 PutsAll old new bytes (Ok _) = Appends old.taken new.taken bytes × (new.failures ≡ old.failures)
 PutsAll old new bytes (Err _) = (count : ℕ) × (count < length bytes) × Appends old.taken new.taken (take count bytes) × (new.failures ≡ old.failures + 1)

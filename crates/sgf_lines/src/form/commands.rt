@@ -20,7 +20,7 @@ pub(crate) fn push_bytes(bytes: &[u8], output: &mut Vec<u8>) -> Result<(), Memor
     Ok(())
 }
 
-/// Appends what a taken step adds to the script of a line; `board` is the board after it.
+/// Appends what a taken step adds to the script of a line; `board` is the board after the step.
 pub(crate) fn push_step(
     step: TakenStep<'_>,
     board: &Board,
@@ -126,7 +126,7 @@ fn push_point(
     }
 }
 
-/// Appends a play command. It is laid out first and appended at once, because most nodes add one.
+/// Appends a play command. Its bytes are laid out first and appended in one call, because most nodes add one.
 fn push_play(
     size: Size,
     colour: Colour,

@@ -4,7 +4,7 @@ use Rattle.sgf_tree.specs.Spelling.{Spells}
 use Rattle.sgf_tree.specs.Refusal.{IsFaultyWhereNotSgf}
 use Rattle.sgf_tree.specs.declared.fault.TheConstants.{MAX_LENGTH}
 use Rattle.sgf_lines.specs.inner.Running.{unread}
-use Rattle.sgf_lines.proofs.CountAnswers.{count_of_games, count_of_unread}
+use Rattle.sgf_lines.proofs.LineCounts.{count_of_games, count_of_unread}
 use Rattle.sgf_lines.proofs.counting.count.Goals as goal
 
 pub returns-in-Ok-read : goal.returns-in-Ok-read

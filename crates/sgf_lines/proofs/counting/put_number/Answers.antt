@@ -2,7 +2,7 @@
 use Rattle.std.proofs.Common.{◌≡◌, ◌∙◌}
 use Rattle.std.specs.Prelude.{decimal}
 use Rattle.std.specs.Io.KnownBytes.{Appends}
-use Rattle.sgf_lines.proofs.CountAnswers.{both_put}
+use Rattle.sgf_lines.proofs.LineCounts.{both_put}
 use Rattle.sgf_lines.proofs.counting.put_number.Goals as goal
 
 pub returns : goal.returns

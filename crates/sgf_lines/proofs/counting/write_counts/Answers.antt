@@ -4,7 +4,7 @@ use Rattle.std.specs.Prelude.{codes, decimal}
 use Rattle.std.specs.Io.KnownBytes.{Appends}
 use Rattle.std.proofs.KnownBytes.{Appends-nil, Appends-trans}
 use Rattle.sgf_lines.specs.Counts.{counts_row}
-use Rattle.sgf_lines.proofs.CountAnswers.{row_cut, row_flushed, row_not_flushed, row_pieces, row_end}
+use Rattle.sgf_lines.proofs.LineCounts.{row_cut, row_flushed, row_not_flushed, row_pieces, row_end}
 use Rattle.sgf_lines.proofs.counting.write_counts.Given.{Over}
 use Rattle.sgf_lines.proofs.counting.write_counts.Goals as goal
 use Rattle.sgf_lines.proofs.counting.write_counts.Goals.{After-flush}

@@ -1,5 +1,5 @@
 use Rattle.go_board.specs.State.{starting}
-use Rattle.sgf_lines.proofs.Judgement.{scores, refuses, ends}
+use Rattle.sgf_lines.proofs.Walking.{scores, refuses, ends}
 use Rattle.sgf_lines.proofs.laws.judged.Goals as goal
 
 pub returns : goal.returns

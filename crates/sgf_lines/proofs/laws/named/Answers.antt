@@ -1,6 +1,6 @@
 -- Each line has its path, and each path goes down to a leaf.
 use Rattle.sgf_lines.proofs.Named.{each_named}
-use Rattle.sgf_lines.proofs.Following.{each_ends}
+use Rattle.sgf_lines.proofs.Visits.{each_ends}
 use Rattle.sgf_lines.proofs.laws.named.Goals as goal
 
 pub returns-clause-nodes : goal.returns-clause-nodes

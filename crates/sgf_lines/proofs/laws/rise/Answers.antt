@@ -1,5 +1,5 @@
 -- The places of the nodes rise, and the lines end at ever later nodes.
-use Rattle.sgf_lines.proofs.LinesRise.{lines_rise}
+use Rattle.sgf_lines.proofs.Pages.{lines_rise}
 use Rattle.sgf_lines.proofs.laws.rise.Goals as goal
 
 pub returns : goal.returns

@@ -9,9 +9,8 @@ use Rattle.sgf_tree.specs.declared.fault.TheConstants.{MAX_LENGTH}
 use Rattle.sgf_lines.specs.Lines.{lines}
 use Rattle.sgf_lines.specs.Cursor.{CursorState}
 use Rattle.sgf_lines.specs.inner.Running.{WritesLines, unread}
-use Rattle.sgf_lines.proofs.Paging.{for_options}
-use Rattle.sgf_lines.proofs.PagingPlays.{few_played}
-use Rattle.sgf_lines.proofs.RunningPlays.{unread_run, no_start_run, lines_run}
+use Rattle.sgf_lines.proofs.PlayCounts.{for_options, few_played}
+use Rattle.sgf_lines.proofs.Running.{unread_run, no_start_run, lines_run}
 use Rattle.sgf_lines.proofs.Touched.{nodes_within}
 use Rattle.sgf_lines.proofs.run.split_counted.Goals as goal
 

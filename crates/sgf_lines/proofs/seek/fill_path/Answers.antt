@@ -1,5 +1,5 @@
 -- One step up the way writes one node more.
-use Rattle.sgf_lines.proofs.Loops.{fill_begins, fills, height_goes_down}
+use Rattle.sgf_lines.proofs.Seeking.{fill_begins, fills, height_goes_down}
 use Rattle.sgf_lines.proofs.seek.fill_path.Goals as goal
 
 pub loop-node-init : goal.loop-node-init

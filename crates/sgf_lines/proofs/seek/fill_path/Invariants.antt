@@ -1,5 +1,5 @@
 -- The nodes that the loop has left are written.
-use Rattle.sgf_lines.proofs.Loops.{IsFilled, height}
+use Rattle.sgf_lines.proofs.Seeking.{IsFilled, height}
 use Rattle.sgf_lines.proofs.seek.fill_path.Given as goal
 
 abbrev pub invariant-loop-node : goal.invariant-loop-node

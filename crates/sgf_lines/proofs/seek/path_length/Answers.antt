@@ -1,6 +1,6 @@
 -- One step up the way counts one node more.
 use Rattle.std.proofs.Common.{rules}
-use Rattle.sgf_lines.proofs.Loops.{count_begins, counts, count_fits, counted_all, height_goes_down}
+use Rattle.sgf_lines.proofs.Seeking.{count_begins, counts, count_fits, counted_all, height_goes_down}
 use Rattle.sgf_lines.proofs.seek.path_length.Goals as goal
 
 pub loop-node-init : goal.loop-node-init

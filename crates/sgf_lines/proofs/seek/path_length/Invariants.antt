@@ -1,5 +1,5 @@
 -- The nodes that the loop has left are counted.
-use Rattle.sgf_lines.proofs.Loops.{IsCounted, height}
+use Rattle.sgf_lines.proofs.Seeking.{IsCounted, height}
 use Rattle.sgf_lines.proofs.seek.path_length.Given as goal
 
 abbrev pub invariant-loop-node : goal.invariant-loop-node

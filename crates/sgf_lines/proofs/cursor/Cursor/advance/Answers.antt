@@ -1,6 +1,6 @@
 -- After the next leaf the position is one line further, and the path is back to the parent of the next node and down from there.
 use Rattle.std.proofs.Common.{arith}
-use Rattle.sgf_lines.proofs.Shows.{none_is_left, advances}
+use Rattle.sgf_lines.proofs.CursorStates.{none_is_left, advances}
 use Rattle.sgf_lines.proofs.Descending.{short, kept_within, stands_next, continues_made, shares}
 use Rattle.sgf_lines.proofs.cursor.Cursor.advance.Goals as goal
 

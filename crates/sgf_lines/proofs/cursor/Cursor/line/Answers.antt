@@ -1,6 +1,6 @@
 -- The vector is the path of the line that was given last.
 use Rattle.std.proofs.Common.{rules}
-use Rattle.sgf_lines.proofs.Shows.{shows_line, line_is}
+use Rattle.sgf_lines.proofs.CursorStates.{shows_line, line_is}
 use Rattle.sgf_lines.proofs.cursor.Cursor.line.Goals as goal
 
 pub index-requires : goal.index-requires

@@ -1,5 +1,5 @@
 -- No line ends before the first node.
-use Rattle.sgf_lines.proofs.Shows.{starts}
+use Rattle.sgf_lines.proofs.CursorStates.{starts}
 use Rattle.sgf_lines.proofs.cursor.Cursor.new.Goals as goal
 
 pub returns : goal.returns

@@ -1,6 +1,6 @@
 -- After the leaf with the place as many lines stand before the cursor as end up to that leaf.
 use Rattle.std.proofs.Common.{refl}
-use Rattle.sgf_lines.proofs.Sought.{sought, no_line_there}
+use Rattle.sgf_lines.proofs.Seeking.{sought, no_line_there}
 use Rattle.sgf_lines.proofs.cursor.Cursor.seek_after.Goals as goal
 
 pub returns-in_default-clause-why : goal.returns-in_default-clause-why

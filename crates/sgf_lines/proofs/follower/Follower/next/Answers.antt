@@ -1,33 +1,67 @@
 -- The next line stands before the cursor that went on, and is judged from where it leaves the line before it.
+use Rattle.std.proofs.Common.{◌≤◌, refl, ap, arith}
+use Rattle.sgf_tree.specs.Tree.{node_count}
+use Rattle.sgf_tree.specs.FileOrder.{PlacesRise}
+use Rattle.sgf_tree.specs.declared.fault.TheConstants.{MAX_LENGTH}
 use Rattle.sgf_lines.specs.declared.options.Form.TheVariants.{List as list_form}
+use Rattle.sgf_lines.specs.inner.Following.{nodes_before}
 use Rattle.sgf_lines.specs.inner.GoingOn.{GoesOnBy}
 use Rattle.sgf_lines.specs.inner.Followers.{judging_alone}
-use Rattle.sgf_lines.proofs.Keeping.{IsNext, goes_on}
-use Rattle.sgf_lines.proofs.Followers.{given}
+use Rattle.sgf_lines.proofs.Keeping.{IsNext}
+use Rattle.sgf_lines.proofs.Touched.{nodes_within}
+use Rattle.sgf_lines.proofs.Followers.{next_is as next_so, given, row_countable, few_played, follows_on}
+use Rattle.sgf_lines.proofs.RunRecords.{verdict_is}
 use Rattle.sgf_lines.proofs.follower.Follower.next.Goals as goal
-use Rattle.sgf_lines.proofs.follower.Follower.next.Goals.{In-Some}
+use Rattle.sgf_lines.proofs.follower.Follower.next.Goals.{After-nodes-nodes}
 
-next_is : (c : In-Some) → IsNext list_form c.self.inside.before c.self.inside.cursor c.go_on.new.cursor c.in-Some.held (judging_alone c.self.inside.judge.judgement)
-next_is c =
-    let go : GoesOnBy c.self.inside.before c.self.inside.cursor c.go_on.new.cursor c.in-Some.held = rw c.in-Some.is at c.in_ok-held.ensures.found in
-    goes_on list_form c.self.inside.before c.self.inside.cursor c.go_on.new.cursor c.in-Some.held (judging_alone c.self.inside.judge.judgement) c.self.invariant go
+module _ (c : After-nodes-nodes) where
+  goes : GoesOnBy c.self.inside.before c.self.inside.cursor c.go_on.new.cursor c.in-Some.held
+  goes = rw c.in-Some.is at c.in_ok-held.ensures.found
 
-pub judge_before-requires-clause-some_node : goal.judge_before-requires-clause-some_node
-judge_before-requires-clause-some_node c = (next_is (goal.at.judge_before-requires-clause-some_node c).In-Some).some_node
+  next_is : IsNext list_form c.self.inside.before c.self.inside.cursor c.go_on.new.cursor c.in-Some.held (judging_alone c.self.inside.judge.judgement)
+  next_is = next_so c.self.inside.before c.self.inside.cursor c.go_on.new.cursor c.in-Some.held c.self.inside.row c.self.inside.judge c.self.invariant goes
 
-pub judge_before-requires-clause-within : goal.judge_before-requires-clause-within
-judge_before-requires-clause-within c = (next_is (goal.at.judge_before-requires-clause-within c).In-Some).within
+  rise : PlacesRise c.self.inside.cursor.games
+  rise = rw (c.collection.ensures, next_is.games) at c.nodes-nodes.ensures.places_rise
 
-pub judge_before-requires-clause-judged : goal.judge_before-requires-clause-judged
-judge_before-requires-clause-judged c = (next_is (goal.at.judge_before-requires-clause-judged c).In-Some).keeps
+  nodes : node_count c.self.inside.cursor.games ≤ MAX_LENGTH
+  nodes = nodes_within c.self.inside.cursor.games rise MAX_LENGTH (rw (c.collection.ensures, next_is.games) at c.nodes-nodes.ensures.places_within)
 
-pub invariant_of-self-in_err-verdict : goal.invariant_of-self-in_err-verdict
-invariant_of-self-in_err-verdict c = (next_is (goal.at.invariant_of-self-in_err-verdict c).In-Some).some_node
+pub judge_line-requires-clause-some_node : goal.judge_line-requires-clause-some_node
+judge_line-requires-clause-some_node c = (next_is (goal.at.judge_line-requires-clause-some_node c).After-nodes-nodes).some_node
+
+pub judge_line-requires-clause-within : goal.judge_line-requires-clause-within
+judge_line-requires-clause-within c = (next_is (goal.at.judge_line-requires-clause-within c).After-nodes-nodes).within
+
+pub judge_line-requires-clause-judged : goal.judge_line-requires-clause-judged
+judge_line-requires-clause-judged c = (next_is (goal.at.judge_line-requires-clause-judged c).After-nodes-nodes).keeps
+
+pub judge_line-requires-clause-countable : goal.judge_line-requires-clause-countable
+judge_line-requires-clause-countable c =
+    let at = (goal.at.judge_line-requires-clause-countable c).After-nodes-nodes in
+    let few = few_played c.self.inside.before c.self.inside.cursor c.go_on.new.cursor c.in-Some.held c.self.inside.row c.self.inside.judge c.self.invariant (goes at) (rise at) in
+    omega (arith, few, nodes at, c.len-len.ensures.nodes, c.len-len.ensures.short, ap node_count (next_is at).games)
+
+pub invariant_of-self-in_default-judge_line : goal.invariant_of-self-in_default-judge_line
+invariant_of-self-in_default-judge_line c = record {
+  stands = (next_is (goal.at.invariant_of-self-in_default-judge_line c).After-nodes-nodes).some_node;
+  is_row = refl;
+  plays_are = c.count_anew.ensures.plays;
+}
+
+pub overflow_add-self : goal.overflow_add-self
+overflow_add-self c =
+    let at = (goal.at.overflow_add-self c).After-nodes-nodes in
+    omega (arith, nodes at, row_countable c.self.inside.before c.self.inside.cursor c.go_on.new.cursor c.in-Some.held c.self.inside.row c.self.inside.judge c.self.invariant (goes at))
 
 pub invariant_of-self-2 : goal.invariant_of-self-2
-invariant_of-self-2 c = ((next_is (goal.at.invariant_of-self-2 c).In-Some).some_node, c.in_ok-verdict.ensures.judged)
+invariant_of-self-2 c =
+    let at = (goal.at.invariant_of-self-2 c).After-nodes-nodes in
+    follows_on c.self.inside.before c.self.inside.cursor c.go_on.new.cursor c.in-Some.held c.self.inside.row c.self.inside.judge c.self.invariant (goes at) (rise at)
+    c.judge_line.new.judge _ c.in-Ok.ensures.judged c.in-Ok.ensures.plays
 
 pub returns-clause-verdict : goal.returns-clause-verdict
 returns-clause-verdict c =
-    let next = next_is (goal.at.returns-clause-verdict c).In-Some in
-    given c.self.inside.before c.self.inside.cursor c.go_on.new.cursor c.args.self.now c.self.view_is next.games next.index c.in_ok-verdict.verdict next.some_node c.in_ok-verdict.ensures.verdict
+    let told = verdict_is (nodes_before c.go_on.new.cursor) c.judge_line.new.judge.judgement c.verdict.result c.verdict.ensures c.in-Ok.ensures.judged in
+    given c.self.inside.before c.self.inside.cursor c.go_on.new.cursor c.in-Some.held c.self.inside.row c.self.inside.judge c.self.invariant
+    (goes (goal.at.returns-clause-verdict c).After-nodes-nodes) c.args.self.now c.self.view_is c.verdict.result told

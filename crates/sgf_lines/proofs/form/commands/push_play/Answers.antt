@@ -1,6 +1,6 @@
 use Rattle.std.proofs.Common.{◌<◌, sym, subst}
 use Rattle.go_board.specs.declared.vertices.Vertex.{Vertex}
-use Rattle.sgf_lines.proofs.PlayCommands.{row-below}
+use Rattle.sgf_lines.proofs.ScriptRows.{row-below}
 use Rattle.sgf_lines.proofs.form.commands.push_play.Goals as goal
 
 pub push_stone-requires : goal.push_stone-requires

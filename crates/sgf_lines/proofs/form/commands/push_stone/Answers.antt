@@ -1,7 +1,7 @@
 use Rattle.std.proofs.Common.{◌≡◌, ◌++◌, ◌<◌, ◌≤◌, sym, subst, arith}
 use Rattle.std.proofs.lemmas.Bool.Decides.{nat_tests}
 use Rattle.std.specs.Prelude.{OnOk}
-use Rattle.sgf_lines.proofs.PlayCommands.{command-one_digit, command-two_digits}
+use Rattle.sgf_lines.proofs.ScriptRows.{command-one_digit, command-two_digits}
 use Rattle.sgf_lines.proofs.form.commands.push_stone.Goals as goal
 
 pub returns-then-vertex-lt10 : goal.returns-then-vertex-lt10

@@ -1,7 +1,7 @@
 -- Each state more is taken back, until no more are there.
 use Rattle.std.proofs.Common.{List, ◌∙◌, ap, sym, arith}
 use Rattle.go_board.specs.State.{State}
-use Rattle.sgf_lines.proofs.Back.{back_none, back_undone}
+use Rattle.sgf_lines.proofs.Judgements.{back_none, back_undone}
 use Rattle.sgf_lines.proofs.judging.judge.undo_to.Goals as goal
 
 pub undo-preserved : goal.undo-preserved

@@ -1,6 +1,6 @@
 -- Where no leaf has the place, no line has it.
 use Rattle.std.proofs.Common.{refl}
-use Rattle.sgf_lines.proofs.Sought.{no_line}
+use Rattle.sgf_lines.proofs.Seeking.{no_line}
 use Rattle.sgf_lines.proofs.judging.one_line.judge_at.Goals as goal
 
 pub returns-in-None-clause-why : goal.returns-in-None-clause-why

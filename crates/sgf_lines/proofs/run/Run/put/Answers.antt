@@ -3,7 +3,7 @@ use Rattle.std.specs.Io.KnownBytes.{Appends}
 use Rattle.sgf_lines.specs.inner.Running.{PutsAll}
 use Rattle.sgf_lines.specs.inner.Views.{built_text}
 use Rattle.sgf_lines.specs.inner.Scripting.{script_text}
-use Rattle.sgf_lines.proofs.CountAnswers.{both_put}
+use Rattle.sgf_lines.proofs.LineCounts.{both_put}
 use Rattle.sgf_lines.proofs.run.Run.put.Goals as goal
 
 pub returns-in-List : goal.returns-in-List

@@ -1,6 +1,6 @@
 -- The records were written, and the flush was answered.
 use Rattle.std.proofs.KnownBytes.{Appends-kept}
-use Rattle.sgf_lines.proofs.PagingPlays.{not_flushed}
+use Rattle.sgf_lines.proofs.PlayCounts.{not_flushed}
 use Rattle.sgf_lines.proofs.run.Run.write.Goals as goal
 
 pub returns-in-Ok-flush-clause-answer : goal.returns-in-Ok-flush-clause-answer

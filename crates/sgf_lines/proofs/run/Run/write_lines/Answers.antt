@@ -7,8 +7,7 @@ use Rattle.sgf_tree.specs.declared.fault.MemoryFault.{MemoryFault}
 use Rattle.sgf_lines.specs.declared.going_on.Before.TheVariants.{Held}
 use Rattle.sgf_lines.specs.inner.Running.{HasRecord}
 use Rattle.sgf_lines.specs.inner.Keeping.{record_in, PlaysLine}
-use Rattle.sgf_lines.proofs.Paging.{one_written, cut_short, none_left, limit_met}
-use Rattle.sgf_lines.proofs.PagingPlays.{few, one_played, played_then_cut, played_in_part}
+use Rattle.sgf_lines.proofs.PlayCounts.{one_written, cut_short, none_left, limit_met, few, one_played, played_then_cut, played_in_part}
 use Rattle.sgf_lines.proofs.Touched.{nodes_within}
 use Rattle.sgf_lines.proofs.run.Run.write_lines.Goals as goal
 

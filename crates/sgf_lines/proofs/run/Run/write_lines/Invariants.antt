@@ -3,7 +3,7 @@ use Rattle.std.proofs.Common.{take, ◌≡◌, ◌-◌, ◌<◌}
 use Rattle.sgf_lines.specs.declared.going_on.Before.TheVariants.{Unheld, Held}
 use Rattle.sgf_lines.specs.inner.Keeping.{Holds}
 use Rattle.sgf_lines.specs.RunPlays.{plays_of}
-use Rattle.sgf_lines.proofs.Paging.{IsSoFar, page_from}
+use Rattle.sgf_lines.proofs.PlayCounts.{IsSoFar, page_from}
 use Rattle.sgf_lines.proofs.run.Run.write_lines.Given as goal
 
 abbrev pub invariant-page : goal.invariant-page
