@@ -1,8 +1,8 @@
 -- The print of a colouring: sums, the words of rows, and one stone more.
-use Rattle.std.proofs.Common.{◌≡◌, ◌≢◌, inl, inr, ℕ, zero, suc, ◌+◌, ◌-◌, ◌*◌, ◌/◌, ◌%◌, ◌^◌, ◌<◌, ◌≤◌, ◌||◌, Bool, true, false, cond, length, bit_or, refl, sym, ap, ◌∙◌, arith}
+use Rattle.std.proofs.Common.{◌≡◌, ◌≢◌, inl, inr, ℕ, zero, suc, ◌+◌, ◌-◌, ◌*◌, ◌/◌, ◌%◌, ◌^◌, ◌<◌, ◌≤◌, ◌||◌, Bool, true, false, cond, length, refl, sym, ap, ◌∙◌, arith}
 use Rattle.std.specs.Int.{bit_at}
 use Rattle.std.proofs.Math.Nat.{mod-add-mod, add-mul-mod_self_left, mod-add-div, mod-eq_of_lt}
-use Rattle.std.proofs.lemmas.Bool.{cases_Bool, cases_eq, cases_lt, false_from_ne_true, or_parts}
+use Rattle.std.proofs.lemmas.Bool.{cases_Bool, cases_eq, cases_lt, false_from_ne_true}
 use Rattle.std.proofs.lemmas.Nat.{mod_below, pow-add, pow_pos, mul-mod_first}
 use Rattle.std.proofs.lemmas.Nat.Bits.{bit_at_above, bit_at_cat_high, bit_at_cat_low, same_from_bits}
 use denote.Enum.Bare.{sameb}
@@ -17,9 +17,10 @@ use Rattle.go_board.specs.Point.{IsOn}
 use Rattle.go_board.specs.Grid.{Grid, cell_at, with_cell}
 use Rattle.go_board.specs.inner.Print.{sum_below, word_below, row_word, code_in, weight, mixed, row_print, print_in, print_of}
 use Rattle.go_board.specs.inner.Rows.{has_bit}
+use Rattle.go_board.proofs.PointLemmas.{index_below}
 use Rattle.go_board.proofs.GridLemmas.{cell_at-with_cell, cell_at-with_cell_elsewhere}
 use Rattle.go_board.proofs.StoneRowsLemmas.{bit_same}
-use Rattle.go_board.proofs.WordLemmas.{bit_at-gone, has_bit-or, has_bit-zero}
+use Rattle.go_board.proofs.WordLemmas.{bit_at-gone}
 
 pub sum-more : (n : ℕ) (f : ℕ → ℕ) → sum_below (n + 1) f ≡ sum_below n f + f n
 sum-more n f = let next : n + 1 ≡ suc n = omega arith in ap (λ m. sum_below m f) next
@@ -98,39 +99,6 @@ added side row black white k = code_in black white k * weight side (record { col
 
 none-added : (side row black white k : ℕ) → has_bit black k ≡ false → has_bit white k ≡ false → added side row black white k ≡ 0
 none-added side row black white k no_black no_white = rw (bit_at-gone black k no_black, bit_at-gone white k no_white) (omega arith)
-
--- The stones of a row, taken one by one.
-module _ (side row black white : ℕ) where
-  -- what the stones that are left add
-  abbrev pub left_over : ℕ → ℕ → ℕ
-  left_over left k = cond (has_bit left k) (added side row black white k) 0
-
-  pub all-left : sum_below side (left_over (bit_or black white)) ≡ sum_below side (added side row black white)
-  all-left =
-      sum-same side (left_over (bit_or black white)) (added side row black white)
-      (λ k low.
-      elim (cases_Bool (has_bit (bit_or black white) k)) [
-        | inl stone ↦ ap (λ b. cond b (added side row black white k) 0) stone
-        | inr empty ↦
-            let parts = or_parts _ _ (sym (has_bit-or black white k) ∙ empty) in
-            ap (λ b. cond b (added side row black white k) 0) empty ∙ sym (none-added side row black white k parts.0 parts.1)
-      ])
-
-  pub one-taken : (left next col : ℕ) → col < side → has_bit left col ≡ true → has_bit next col ≡ false → ((k : ℕ) → k ≢ col → has_bit next k ≡ has_bit left k) → sum_below side (left_over left) ≡ sum_below side (left_over next) + added side row black white col
-  one-taken left next col low there gone elsewhere =
-      let sums = sum-changed side col (left_over next) (left_over left) low (λ k h other. ap (λ b. cond b (added side row black white k) 0) (elsewhere k other)) in
-      let with_it : left_over left col ≡ added side row black white col = ap (λ b. cond b (added side row black white col) 0) there in
-      let without : left_over next col ≡ 0 = ap (λ b. cond b (added side row black white col) 0) gone in
-      omega (arith, sums, with_it, without)
-
-  pub none-left : (left : ℕ) → left ≡ 0 → sum_below side (left_over left) ≡ 0
-  none-left left none = zeros side
-    where
-      zeros : (n : ℕ) → sum_below n (left_over left) ≡ 0
-      zeros zero = refl
-      zeros (suc n) =
-          let gone : left_over left n ≡ 0 = ap (λ b. cond b (added side row black white n) 0) (ap (λ w. has_bit w n) none ∙ has_bit-zero n) in
-          omega (arith, zeros n, gone)
 
 -- a player's stones have her colour
 pub is_black : (k : Colour) → sameb the_type k BlackPlayer ≡ same_cell (stone_of k) Black
@@ -263,3 +231,17 @@ power-odd n is =
     ∙ ap (λ k. k * 31 % 16384) (sym (even_power (n / 2)))
     ∙ mul-mod_first (31 ^ (2 * (n / 2))) 31 16384
     ∙ ap (λ k. k % 16384) (sym next)
+
+-- The factor of a column, and that of the column before it. No column of the row is after the last point of the grid.
+module _ (side row col : ℕ) (in_row : row < side) (low : col < side) where
+  within : row * side + col < side * side
+  within = index_below side (record { col = col; row = row }) (low, in_row)
+
+  pub factor-of : 31 ^ (side * side - row * side - (col + 1)) % 16384 ≡ weight side (record { col = col; row = row })
+  factor-of = ap (λ n. 31 ^ n % 16384) (omega (arith, within))
+
+  pub next-factor : 31 * (31 ^ (side * side - row * side - (col + 1)) % 16384) % 16384 ≡ 31 ^ (side * side - row * side - col) % 16384
+  next-factor =
+      let after = side * side - row * side - (col + 1) in
+      let next : 31 ^ (side * side - row * side - col) ≡ 31 ^ after * 31 = ap (λ n. 31 ^ n) (omega (arith, within)) ∙ pow-add 31 after 1 in
+      ap (λ n. n % 16384) (omega arith) ∙ mul-mod_first (31 ^ after) 31 16384 ∙ ap (λ n. n % 16384) (sym next)

@@ -91,23 +91,18 @@ fn print_of_row(board: &Board, row: u8) -> u64
     row_print(board.size(), row, black, white)
 }
 
-/// What a row adds to a print.
+/// What a row adds to a print. The factor of each column is 31 times the factor of the column after it.
 fn row_print(size: Size, row: u8, black: u64, white: u64) -> u64
-    requires row { row < size }
-    requires black { (col : ℕ) → IsTrue (has_bit black col) → col < size }
-    requires white { (col : ℕ) → IsTrue (has_bit white col) → col < size }
+    requires { row < size }
     ensures { result ≡ row_print size row black white % 2 ^ 64 }
 {
+    let side = usize::from(size.side());
+    let after = size.points() - side * (usize::from(row) + 1);
+    let mut factor = power(after);
     let mut print = mixed(row, black, white);
-    let mut left = black | white;
-    'stones: while left != 0 {
-        let col = left.trailing_zeros() as usize;
-        left = without_column(left, col);
-        let point = Point {
-            col: col as u8,
-            row,
-        };
-        print = print.wrapping_add(code_in(black, white, col) * weight(size, point));
+    'columns: for col in (0..side).rev() {
+        print = print.wrapping_add(code_in(black, white, col) * factor);
+        factor = 31 * factor % FINGERPRINTS;
     }
     print
 }

@@ -1,15 +1,12 @@
--- What is added so far and what the stones that are left add is what the row adds.
-use Rattle.std.proofs.Common.{◌≡◌, ◌+◌, ◌*◌, ◌%◌, ◌^◌, ◌<◌, cond, bit_or}
+-- What is added so far and what the columns that are left add is what the row adds.
+use Rattle.std.proofs.Common.{◌≡◌, ◌+◌, ◌-◌, ◌*◌, ◌%◌, ◌^◌, ◌<◌, ◌≤◌}
 use Rattle.go_board.specs.inner.Print.{code_in, row_print, sum_below, weight}
-use Rattle.go_board.specs.inner.Rows.{has_bit, IsPart}
 use Rattle.go_board.proofs.past.print.row_print.Given as goal
 
-abbrev pub invariant-stones : goal.invariant-stones
-invariant-stones l = record {
-  low : l.left < 2 ^ 64;
-  part : IsPart (has_bit l.left) (has_bit (bit_or l.black l.white));
-  sum : (l.print + sum_below l.size (λ k. cond (has_bit l.left k) (code_in l.black l.white k * weight l.size (record { col = k; row = l.row })) 0)) % 2 ^ 64 ≡ row_print l.size l.row l.black l.white % 2 ^ 64;
+abbrev pub invariant-columns : goal.invariant-columns
+invariant-columns l = record {
+  high : l.col ≤ l.fn.size;
+  few : l.factor < 16384;
+  factor : l.factor ≡ 31 ^ (l.fn.size * l.fn.size - l.row * l.fn.size - l.col) % 16384;
+  sum : (l.print + sum_below l.col (λ k. code_in l.black l.white k * weight l.fn.size (record { col = k; row = l.row }))) % 2 ^ 64 ≡ row_print l.fn.size l.row l.black l.white % 2 ^ 64;
 }
-
-abbrev pub decreases-stones : goal.decreases-stones
-decreases-stones l = l.left
