@@ -20,6 +20,8 @@ import subprocess
 import goboard
 import sgfsplit
 
+MARK = b"\xef\xbb\xbf"  # the byte order mark, which may stand only before the first game
+
 
 def parts(text, most):
     """The beginning and end of each part, and its number of games. A part ends after a game, and the last one at the end of the text."""
@@ -40,6 +42,8 @@ def rows_of(name, most):
     """The rows of a file of any size."""
     text, games_before = sgfsplit.text_of(name), 0
     for begin, end, count in parts(text, most):
+        if begin > 0 and text[begin:begin + len(MARK)] == MARK:
+            raise sgfsplit.Refused(sgfsplit.fault_of(name, 1, b"byte 0: not SGF", begin))
         run = subprocess.run([sgfsplit.program(), "split"], input=text[begin:end], stdout=subprocess.PIPE, stderr=subprocess.PIPE)
         if run.returncode:
             raise sgfsplit.Refused(sgfsplit.fault_of(name, run.returncode, run.stderr, begin))
