@@ -43,7 +43,7 @@ def rows_of(name, most):
     text, games_before = sgfsplit.text_of(name), 0
     for begin, end, count in parts(text, most):
         if begin > 0 and text[begin:begin + len(MARK)] == MARK:
-            raise sgfsplit.Refused(sgfsplit.fault_of(name, 1, b"byte 0: not SGF", begin))
+            raise sgfsplit.Refused(sgfsplit.fault_of(name, 1, b"sgfsplit: byte 0: not SGF", begin))
         run = subprocess.run([sgfsplit.program(), "split"], input=text[begin:end], stdout=subprocess.PIPE, stderr=subprocess.PIPE)
         if run.returncode:
             raise sgfsplit.Refused(sgfsplit.fault_of(name, run.returncode, run.stderr, begin))
