@@ -54,7 +54,7 @@ struct sgf_lines_asked {
     uint64_t limit;
 };
 
-/* What a split reports. A number that has no meaning for the status is 0. */
+/* What sgf_lines_split reports. A number that has no meaning for the status is 0. */
 struct sgf_lines_answer {
     uint64_t lines; /* DONE, ROOM_TOO_SMALL: the number of records, one a line; OUT_OF_MEMORY: how many there was memory for */
     uint64_t bytes; /* DONE, ROOM_TOO_SMALL: how many bytes the records have */
@@ -66,7 +66,7 @@ struct sgf_lines_answer {
 uint32_t sgf_lines_split(const uint8_t *text, size_t text_length, const struct sgf_lines_asked *asked,
                          uint8_t *room, size_t room_length, struct sgf_lines_answer *answer);
 
-/* What a count reports. A number that has no meaning for the status is 0. */
+/* What sgf_lines_count reports. A number that has no meaning for the status is 0. */
 struct sgf_lines_counts {
     uint64_t games;
     uint64_t nodes; /* of these games, at every depth */
@@ -99,7 +99,7 @@ enum sgf_lines_reason {
     SGF_LINES_REPEAT = 8     /* the position was there before, since the last setup of stones */
 };
 
-/* What a judge reports. A number that has no meaning for the status or the verdict is 0. */
+/* What sgf_lines_judge reports. A number that has no meaning for the status or the verdict is 0. */
 struct sgf_lines_judged {
     uint32_t verdict; /* an enum sgf_lines_verdict */
     uint32_t reason;  /* ILLEGAL: an enum sgf_lines_reason */

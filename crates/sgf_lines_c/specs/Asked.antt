@@ -4,7 +4,7 @@ use Rattle.sgf_lines.specs.Form.{forms}
 use Rattle.sgf_lines.specs.declared.options.Options.{Options}
 use Rattle.sgf_lines_c.specs.declared.asked.Asked.{Asked}
 
--- the number, if the caller says that it counts; else None
+-- the number if `counts` is true; else None
 abbrev pub given : Bool → ℕ → Option ℕ
 given counts number = if counts then Some number else None
 

@@ -1,4 +1,4 @@
--- What a split reports, what that says of the text, and what the room (the caller's buffer for the records) then holds.
+-- What `sgf_lines_split` reports, what that says of the text, and what the room (the caller's buffer for the records) then holds.
 use Rattle.std.specs.Prelude.{◌≡◌, ℕ, ◌<◌, ◌≤◌, ◌⊎◌, List, ◌++◌, length, drop, Option, Some, None}
 use Rattle.sgf_tree.specs.Refusal.{IsFaultyAt}
 use Rattle.sgf_lines.specs.Lines.{Line}
@@ -61,7 +61,7 @@ abbrev pub Answers : Option Options → List ℕ → List ℕ → List ℕ → A
 Answers None text old_room new_room answer status = (status ≡ UnknownForm) × (answer ≡ told 0 0 0) × (new_room ≡ old_room)
 Answers (Some options) text old_room new_room answer status = Says options text old_room new_room answer status
 
--- The answer of a split whose status has this number.
+-- The answer of `sgf_lines_split`, if it returned this number.
 pub record IsSplit (asked : Asked) (text old_room new_room : List ℕ) (answer : Answer) (number : ℕ) : Type 0 where
   pub status : Status
   pub number_is : number ≡ number_of status

@@ -1,4 +1,4 @@
-//! What a split, a count and a judge report to the caller.
+//! What the three calls report to the caller.
 
 ghost use Rattle.std.specs.Prelude.{◌≡◌};
 ghost use Rattle.sgf_lines_c.specs.SplitAnswer.{told};
@@ -8,7 +8,7 @@ ghost use Rattle.sgf_lines_c.specs.JudgeAnswer.{reason_number as number_of, verd
 use go_board::Reason;
 use sgf_lines::Verdict;
 
-/// What a split reports. A number that has no meaning for the status is 0.
+/// What `sgf_lines_split` reports. A number that has no meaning for the status is 0.
 #[repr(C)]
 #[derive(Clone, Copy)]
 pub struct Answer {
@@ -53,7 +53,7 @@ impl Answer {
     }
 }
 
-/// What a count reports. A number that has no meaning for the status is 0.
+/// What `sgf_lines_count` reports. A number that has no meaning for the status is 0.
 #[repr(C)]
 #[derive(Clone, Copy)]
 pub struct CountAnswer {
@@ -81,7 +81,7 @@ impl CountAnswer {
     }
 }
 
-/// What a judge reports. A number that has no meaning for the status or the verdict is 0.
+/// What `sgf_lines_judge` reports. A number that has no meaning for the status or the verdict is 0.
 #[repr(C)]
 #[derive(Clone, Copy)]
 pub struct JudgeAnswer {

@@ -8,7 +8,7 @@
 //! |---|---|
 //! | `split`, `count`, `judge` | the three calls |
 //! | `asked` | what a caller asks for |
-//! | `answer` | what a split, a count and a judge report |
+//! | `answer` | what the three calls report |
 //! | `status` | how a call ended |
 #![tactic(auto)]
 

@@ -15,7 +15,7 @@ use std::alloc::Global;
 /// room, and returns the number of a `Status`.
 ///
 /// - `Done`: the records are at the front of the room, and the rest of it is
-///   unchanged. `lines` is the number of their lines, `bytes` their length.
+///   unchanged. `lines` is the number of records, `bytes` their length.
 /// - `RoomTooSmall`: the same two numbers. So `bytes` is the room that the records need.
 /// - `NotSgf`: `at` is the offset in bytes, from 0, of the first faulty byte.
 /// - `EndsEarly`: `at` is the length of the text.
@@ -54,7 +54,7 @@ fn split_into(alloc: Global, text: &[u8], options: &Options, room: &mut [u8]) ->
     }
 }
 
-/// Puts the records at the front of the room. If they don't fit, the room is unchanged. `lines` is the number of their lines.
+/// Puts the records at the front of the room. If they don't fit, the room is unchanged. `lines` is the number of records.
 fn put(records: &[u8], lines: u64, room: &mut [u8]) -> (Status, Answer)
     ensures { Puts records.now room.old room.new result.0 × (result.1 ≡ told lines (length records.now) 0) }
 {

@@ -1,4 +1,4 @@
--- What the steps of a split and of a count do.
+-- What a failed run or count says of its text, and what is put into the room.
 use Rattle.std.specs.Prelude.{◌≡◌, ℕ, ◌<◌, ◌≤◌, List, ◌++◌, length, drop}
 use Rattle.sgf_tree.specs.Refusal.{IsFaultyAt}
 use Rattle.sgf_lines.specs.Answer.{MAX_LENGTH, HasNoLine}
