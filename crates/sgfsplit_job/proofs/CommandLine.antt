@@ -62,7 +62,7 @@ Pending = Option (Text × List Text)
 abbrev pub held : List Row → Pending → Held
 held rows pending = record { rows = rows; pending = pending; skip = 0 }
 
--- the walk between two options
+-- clap's walk over the words, between two options
 abbrev pub between : List Row → Pending → Walk
 between rows pending =
     record { held = held rows pending; waiting = idle; position = 1; is_trailing = false; stopped = None }

@@ -17,8 +17,8 @@ use Rattle.sgfsplit_job.specs.declared.fault.Fault.TheVariants.{Run}
 use Rattle.sgfsplit_job.specs.declared.request.Job.{Job}
 use Rattle.sgfsplit_job.specs.declared.request.Job.TheVariants.{Split, Count}
 
--- If the counting returned counts, their row was put on the sink, and the fault is that of the writing, if
--- it failed. If the counting failed, its fault is the fault, and nothing was written.
+-- If the counting succeeded, the counts were written, and `fault` is that of the writing, if the writing
+-- failed. If the counting failed, `fault` is that of the counting, and nothing was written.
 abbrev pub WritesCounts : Result Counts RunFault → SinkState → SinkState → Option RunFault → Type 0
 WritesCounts (Ok counts) output new_output fault =
     (written : Result (Unit {0}) RunFault) × IsWriting (counts_row counts) output new_output written × (fault ≡ result_err written)

@@ -36,7 +36,7 @@ number_rule name = record (new_rule name) {
   parser = Some (Unsigned 0 18446744073709551615);
 }
 
--- FILE
+-- the argument FILE
 abbrev pub file_rule : Rule
 file_rule = record (new_rule (codes "file")) { value_names = 1 }
 
@@ -72,7 +72,7 @@ abbrev pub HasFault : List (List ℕ) → ErrorKind → Type 0
 HasFault words kind =
     (names : FormNames) × (names_of names ≡ form_names) × IsAmong kind (fault_of (program_app names) words)
 
--- If the fault is `Words`, clap finds a fault of its kind in the words. `Memory` says nothing of the words.
+-- If words are refused with `Words error`, clap finds a fault of the error's kind in them. `Memory` says nothing of the words.
 abbrev pub IsTrueOf : List (List ℕ) → JobFault → Type 0
 IsTrueOf words (Words error) = HasFault words (kind_of error)
 IsTrueOf words Memory = Unit {0}
