@@ -1,4 +1,4 @@
-//! Moves one after the other, on boards whose stones are all known to reach empty; and a move after points were set.
+//! Moves one after the other, on boards whose stones are all known to have liberties. Also a move after points were set.
 
 use go_board::{Board, Cell, Colour, Point, Size};
 use std::process::Abort;

@@ -72,7 +72,7 @@ fn illegal(reason: Reason) -> Result<(), TurnFault> {
     Err(TurnFault::Illegal(reason))
 }
 
-/// On one point: Black must move first, every stone repeats the empty board, and two passes end the game.
+/// On a board of one point: Black must move first, every stone repeats the empty board, and two passes end the game.
 fn on_one<P: Past>(rt: &impl Abort, alloc: Global) -> Result<(), Fail> {
     let mut game = Referee::<P>::new(alloc, size(rt, 1))?;
     let pass = Play::Pass;
@@ -130,7 +130,7 @@ fn player_alone<P: Past>(rt: &impl Abort, alloc: Global) -> Result<(), Fail> {
     Ok(())
 }
 
-/// A referee that begins another game, on a board of this side, after two turns is like a new one.
+/// Takes two turns, and begins another game, on a board of this side. The referee must then be like a new one.
 fn begins_again<P: Past>(
     rt: &impl Abort,
     game: &mut Referee<P>,
@@ -144,7 +144,7 @@ fn begins_again<P: Past>(
     Ok(())
 }
 
-/// A referee that begins another game, on a board of another side or of the same, is like a new one.
+/// A referee that begins another game is like a new one, whether the board has another side or the same.
 fn another_game<P: Past>(rt: &impl Abort, alloc: Global) -> Result<(), Fail> {
     let mut game = Referee::<P>::new(alloc, size(rt, 3))?;
     for side in [2, 5, 5] {
