@@ -141,7 +141,7 @@ fn follows(alloc: Global, two: &Collection<'_>, seen: &mut Seen) {
     follow(&mut follower, None, seen);
 }
 
-/// The scores of Black and White at the end of a line, and its place.
+/// The scores of Black and White at the end of a line, and the line's place.
 type Followed = Option<(u32, u32, u64)>;
 
 /// Follows a line, which must be `line`. If memory was refused, the second call must give that line.

@@ -24,7 +24,7 @@ fn on_one<P: Past>(alloc: Global, seen: &mut Seen) {
 /// What a player plays and the result; then the number of turns made, and whether the game is over.
 type Answered = (Colour, Play, Result<(), Reason>, u64, bool);
 
-/// On one point: Black must move first, every stone repeats the empty board, and two passes end the game.
+/// On a board of one point: Black must move first, every stone repeats the empty board, and two passes end the game.
 const PASSES: [Answered; 5] = [
     (Colour::Black, CORNER, Err(Reason::Repeat), 0, false),
     (Colour::White, Play::Pass, Err(Reason::Turn), 0, false),

@@ -17,7 +17,7 @@ const ILLEGAL_ROWS: [&[u8]; 2] = [
     b"20 1 3 illegal 1 7 repeat\n",
 ];
 
-/// Three lines that share a pass, the last one with a setup.
+/// Three lines that share a pass. The last line has a setup.
 const PASSES: &[u8] = b"(;SZ[3];B[](;W[])(;W[bb])(;AE[aa];W[]))";
 
 const PASSES_ROWS: [&[u8]; 3] = [
