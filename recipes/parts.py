@@ -23,7 +23,7 @@ import sgfsplit
 
 
 def parts(text, most):
-    """The beginning, the end and the number of games of each part. The last part ends at the end of the text, every other after a game."""
+    """The beginning, the end and the number of games of each part. The last part ends at the end of the text, every other part after a game."""
     begin = end = depth = count = 0
     for place, after in goboard.tokens(text, 0, goboard.PARENTHESES):
         byte = text[place:place + 1]

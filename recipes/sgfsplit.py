@@ -299,8 +299,8 @@ class Job:
                     yield whole
 
     def outputs(self, out, ending, is_apart=False):
-        """The name of each file, and the path of its output below the folder `out`: out/dir/name.ending. With `is_apart` no file may stand below
-        `out`, because the output could overwrite it."""
+        """The name of each file, and the path of its output below the folder `out`: out/dir/name.ending. With `is_apart` a file below `out` is
+        refused, because the output could overwrite it."""
         self.left_out = out
         taken = {}
         for name in self.files():
@@ -342,7 +342,7 @@ def kept(out, name, ending):
 
 
 def number_of(word, least, most, what):
-    """The number in a word, from `least` to `most`. The message about a wrong word calls it `what`."""
+    """The number in a word, from `least` to `most`. Raises Words for any other word, and that message begins with `what`."""
     if not re.fullmatch("[0-9]{1,18}", word) or not least <= int(word) <= most:
         raise Words(f"{what}, from {least} to {most}")
     return int(word)
