@@ -1,4 +1,4 @@
--- What a run says whose source is a text in memory and whose sink is an empty vector.
+-- What follows from a run whose source is a text in memory and whose sink is an empty vector.
 use Rattle.std.proofs.Common.{◌≡◌, ℕ, List, [], ◌++◌, Option, Some, None, Ok, sym, ap, ◌∙◌, append-nil}
 use Rattle.std.specs.Io.KnownBytes.{Appends, Consumes, IsAtEnd}
 use Rattle.sgf_lines.specs.Lines.{Line}

@@ -17,8 +17,8 @@ use std::alloc::Global;
 #[cfg(test)]
 mod tests;
 
-/// The records of the lines that the options select, of the collection that the text spells (SGF FF[4]).
-/// See `sgf_lines::split` for the faults.
+/// Splits the collection that the text spells (SGF FF[4]), and returns the records of the lines that
+/// the options select. See `sgf_lines::split` for the faults.
 pub fn records(alloc: Global, text: &[u8], options: &Options) -> Result<Vec<u8>, RunFault>
     ensures { IfOk result (λ records. (ls : List Line)
         × HasPage options.now text.now ls × (records.items ≡ output options.now.form ls)) }
@@ -45,7 +45,7 @@ pub fn first_verdict(
     }
 }
 
-/// The place of the first line of a collection that is judged to have an illegal node; None if there is no such line.
+/// The place of the first line in which the referee finds an illegal node; None if there is no such line.
 pub fn first_illegal(
     alloc: Global,
     collection: &Collection<'_>,

@@ -1,4 +1,4 @@
-//! Runs from a source that gives little at a time and then fails, or to a sink that takes little at a time and then fails.
+//! Runs whose source gives little at a time and then fails, or whose sink takes little at a time and then fails.
 
 ghost use Rattle.std.specs.Prelude.{◌≡◌, ◌≤◌, None, []};
 
@@ -44,7 +44,7 @@ struct Trickle<'a> {
     failures: u64,
 }
 
-/// Such a source of the game of two lines.
+/// A new `Trickle` of the game of two lines, which fails after `calls` calls.
 fn byte_by_byte(calls: usize) -> Trickle<'static>
     ensures { result.failures ≡ 0 }
 {
@@ -77,8 +77,8 @@ impl Source for Trickle<'_> {
     }
 }
 
-/// A run from a source that fails after so many calls. The run fails and
-/// writes nothing, unless the source gets to its end before.
+/// A run whose source fails after so many calls. The run must fail and
+/// write nothing, unless the source gets to its end first.
 fn source_fails(alloc: Global, calls: usize, seen: &mut Seen) {
     seen.call();
     let mut source = byte_by_byte(calls);
@@ -94,7 +94,7 @@ fn source_fails(alloc: Global, calls: usize, seen: &mut Seen) {
     }
 }
 
-/// A count from such a source.
+/// A count whose source fails after so many calls.
 fn count_fails(alloc: Global, calls: usize, seen: &mut Seen) {
     seen.call();
     let mut source = byte_by_byte(calls);
@@ -107,7 +107,7 @@ fn count_fails(alloc: Global, calls: usize, seen: &mut Seen) {
     }
 }
 
-/// A sink that takes at most `step` bytes at a call and `room` bytes in all, and then fails. Its flush may fail, too.
+/// A sink that takes at most `step` bytes at a call and `room` bytes in all, and then fails. Its flush fails unless `can_flush`.
 #[derive(Drop)]
 struct Narrow {
     bytes: [u8; 64],
@@ -119,7 +119,7 @@ struct Narrow {
     ghost within: { taken ≤ 64 },
 }
 
-/// Such a sink, which has taken nothing.
+/// A new `Narrow`, which has taken nothing.
 fn sink_of(step: usize, room: usize, can_flush: bool) -> Narrow
     ensures { result.failures ≡ 0 }
 {
@@ -167,7 +167,7 @@ impl Sink for Narrow {
     }
 }
 
-/// A run to a sink with this room whose flush fails. The sink has what fits, and the fault gives the number of its whole records.
+/// A run to a sink with this room and a failing flush. The sink must have what fits, and the fault the number of whole records.
 fn flush_fails(alloc: Global, step: usize, room: usize, seen: &mut Seen) {
     seen.call();
     let mut source = SliceSource::new(TWO);
@@ -183,7 +183,7 @@ fn flush_fails(alloc: Global, step: usize, room: usize, seen: &mut Seen) {
     }
 }
 
-/// A run to a sink with this room. It fails unless all fits.
+/// A run to a sink with this room. The run must fail, unless all fits.
 fn sink_fails(alloc: Global, step: usize, room: usize, seen: &mut Seen) {
     seen.call();
     let mut source = SliceSource::new(TWO);
@@ -199,7 +199,7 @@ fn sink_fails(alloc: Global, step: usize, room: usize, seen: &mut Seen) {
     }
 }
 
-/// A run to an array in which the second row doesn't fit. The array takes what it has room for.
+/// A run to an array that has no room for the whole second row. The array takes what fits.
 fn array_is_full(alloc: Global, seen: &mut Seen) {
     seen.call();
     let mut source = SliceSource::new(TWO);

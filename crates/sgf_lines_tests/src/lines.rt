@@ -1,4 +1,4 @@
-//! The calls of `sgf_lines` on a collection, and counts.
+//! Calls of `sgf_lines` that go over, seek, follow, judge and count lines.
 
 ghost use Rattle.std.specs.Prelude.{◌≡◌, true};
 
@@ -59,7 +59,7 @@ fn goes_over(alloc: Global, two: &Collection<'_>, seen: &mut Seen) {
     places(&mut cursor, seen);
     cursor = Cursor::new(alloc, two);
     next(&mut cursor, Some((&[0, 1], 8)), seen);
-    // A refused seek leaves the cursor where it was: before the second line.
+    // If memory is refused to the seek, the cursor stays before the second line.
     if cursor.seek_after(22).is_err() {
         seen.want();
     } else {
@@ -69,7 +69,7 @@ fn goes_over(alloc: Global, two: &Collection<'_>, seen: &mut Seen) {
     next(&mut cursor, Some((&[0, 2, 3], 22)), seen);
 }
 
-/// Goes over both lines, and on to the end twice.
+/// Goes over both lines. Two more calls must then find the end.
 fn both(cursor: &mut Cursor<'_, '_>, seen: &mut Seen) {
     next(cursor, Some((&[0, 1], 8)), seen);
     next(cursor, Some((&[0, 2, 3], 22)), seen);
@@ -90,7 +90,7 @@ fn places(cursor: &mut Cursor<'_, '_>, seen: &mut Seen) {
 /// The path and the place of a line, if there is one.
 type Line<'a> = Option<(&'a [usize], u64)>;
 
-/// Goes on by one line. If memory was refused, goes on once more, which must give the same line.
+/// Goes on by one line, which must be `line`. If memory was refused, the second call must give that line.
 fn next(cursor: &mut Cursor<'_, '_>, line: Line<'_>, seen: &mut Seen) {
     seen.call();
     if let Ok(given) = cursor.next() {
@@ -103,7 +103,7 @@ fn next(cursor: &mut Cursor<'_, '_>, line: Line<'_>, seen: &mut Seen) {
     }
 }
 
-/// Whether `given` is `line`, in the first game, or both are None.
+/// Whether `given` is `line` and belongs to the first game, or both are None.
 fn is_line(given: Option<LineRef<'_>>, line: Line<'_>) -> bool {
     match (given, line) {
         (Some(given), Some((path, place))) => {
@@ -133,7 +133,7 @@ fn seek(cursor: &mut Cursor<'_, '_>, place: u64, is_line: bool, seen: &mut Seen)
     }
 }
 
-/// Follows both lines of the game of two lines, and goes on to the end.
+/// Follows both lines of the game of two lines. The next call must find the end.
 fn follows(alloc: Global, two: &Collection<'_>, seen: &mut Seen) {
     let mut follower = Follower::new(alloc, Cursor::new(alloc, two));
     follow(&mut follower, Some((9, 0, 8)), seen);
@@ -141,10 +141,10 @@ fn follows(alloc: Global, two: &Collection<'_>, seen: &mut Seen) {
     follow(&mut follower, None, seen);
 }
 
-/// The scores of Black and White at the end of a line, and its place.
+/// The scores of Black and White at the end of a line, and the line's place.
 type Followed = Option<(u32, u32, u64)>;
 
-/// Follows a line. If memory was refused, follows once more, which must give the same line.
+/// Follows a line, which must be `line`. If memory was refused, the second call must give that line.
 fn follow(follower: &mut Follower<'_, '_>, line: Followed, seen: &mut Seen) {
     seen.call();
     match follower.next() {
@@ -175,7 +175,7 @@ fn is_followed(follower: &Follower<'_, '_>, verdict: Verdict, line: Followed, se
     seen.right(is_line, "a line followed");
 }
 
-/// Judges the line that ends in a leaf. If memory was refused, judges it once more.
+/// Judges the line that ends in this leaf. If memory was refused, judges it once more.
 fn judged(
     alloc: Global,
     collection: &Collection<'_>,
@@ -197,7 +197,7 @@ fn judged(
     }
 }
 
-/// Counts the game of two lines, once more if memory was refused. Writes the counts, which takes no memory.
+/// Counts the game of two lines, and counts again if memory was refused. Then writes the counts, which takes no memory.
 fn counts(alloc: Global, seen: &mut Seen) {
     let mut source = SliceSource::new(TWO);
     seen.call();

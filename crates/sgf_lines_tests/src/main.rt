@@ -2,16 +2,16 @@
 //!
 //! The program is run with its Nth request for memory refused, for N = 1, 2, .. (`tests/failing_calls.sh`). Each
 //! call then returns the result that it has with ample memory, or reports that memory was refused. In the second
-//! case the value that it was called on is unchanged, and a second try returns that result. A run then leaves whole
-//! records in its sink. Runs whose ends fail (`ends`) are made once. Texts, and what the runs read
-//! and write, lie in arrays, so only the calls ask for memory.
+//! case the value whose method was called is unchanged, and a second call returns that result. A run to which memory was
+//! refused leaves whole records in its sink. Runs whose source or sink fails (`ends`) aren't made again. Texts, and
+//! what the runs read and write, lie in arrays, so only the calls ask for memory.
 //!
 //! Status 0: every call returned its result at once. Status 4: memory was refused to some call, and all was as expected. Status
 //! 1: something was wrong, and standard error says what.
 //!
 //! - `seen` counts the calls, and keeps what was wrong.
 //! - `tree` has the calls of `sgf_tree`, `past` and `referee` those of `go_board`, `lines` and `runs` those of `sgf_lines`.
-//! - `page` is a sink over an array that counts its flushes.
+//! - `page` is a sink over an array, and counts its flushes.
 //! - `ends` has runs whose source gives little at a time and then fails, or whose sink takes little at a time and then fails.
 #![tactic(auto)]
 

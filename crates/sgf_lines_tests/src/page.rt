@@ -1,4 +1,4 @@
-//! A sink over an array that counts its flushes.
+//! A sink over an array. The sink counts its flushes.
 
 ghost use Rattle.std.specs.Prelude.{[]};
 ghost use Rattle.std.proofs.KnownBytes.{Appends-nil};

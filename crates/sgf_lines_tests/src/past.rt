@@ -1,4 +1,4 @@
-//! Calls of a past that ask for memory: `new`, `push`, `restart`. `tests/refused.sh` covers `play` and `set_up` by whole runs.
+//! Calls of a past that ask for memory: `new`, `push`, `restart`. The whole runs of `tests/refused.sh` cover `play` and `set_up`.
 
 ghost use Rattle.std.specs.Prelude.{◌≡◌, true, false, IfOk, OnOk};
 ghost use Rattle.go_board.specs.Past.{only, with_next, HaveSide};
@@ -8,7 +8,7 @@ use crate::seen::Seen;
 use go_board::{Board, Cell, MemoryFault, Past, Point, Size};
 use std::alloc::Global;
 
-/// Adds a colouring to a past's stretch, begins another stretch with a third colouring, and takes that back.
+/// Adds a second colouring to a past, begins another stretch with a third colouring, and takes back that stretch.
 pub fn calls<P: Past>(alloc: Global, seen: &mut Seen) {
     let Some(size) = Size::new(3) else {
         return seen.wrong("no board of side 3");
@@ -21,7 +21,7 @@ pub fn calls<P: Past>(alloc: Global, seen: &mut Seen) {
     }
 }
 
-/// Adds black to a past of the empty board alone, begins a stretch with white, and takes that back.
+/// Adds `black` to a past of the empty board alone, begins a stretch with `white`, and takes back that stretch.
 fn grows<P: Past>(past: &mut P, empty: &Board, black: &Board, white: &Board, seen: &mut Seen)
     requires past { P.held past.old ≡ only empty.now }
     requires black { black.now.side ≡ empty.now.side }
@@ -53,7 +53,7 @@ fn with_stone(board: &Board, point: Point, cell: Cell) -> Board
     copy
 }
 
-/// A past of that colouring. If memory was refused, it is made once more.
+/// A past of this one colouring. If memory was refused, the past is made once more.
 fn begin<P: Past>(alloc: Global, board: &Board, seen: &mut Seen) -> Result<P, MemoryFault>
     ensures { IfOk result (λ past. P.held past ≡ only board.now) }
 {
@@ -67,7 +67,7 @@ fn begin<P: Past>(alloc: Global, board: &Board, seen: &mut Seen) -> Result<P, Me
     again
 }
 
-/// Adds a colouring to a past of another one. If memory was refused, nothing may be added, and it is added once more.
+/// Adds a colouring to a past that has only another one. If memory was refused, the past must be unchanged, and is asked again.
 fn push<P: Past>(
     past: &mut P,
     only: &Board,
@@ -92,7 +92,7 @@ fn push<P: Past>(
     again
 }
 
-/// Begins a stretch. If memory was refused, the past must be unchanged, and the stretch is begun once more.
+/// Begins a stretch. If memory was refused, the past must be unchanged, and a second call begins the stretch.
 fn restart<P: Past>(
     past: &mut P,
     first: &Board,

@@ -24,7 +24,7 @@ fn on_one<P: Past>(alloc: Global, seen: &mut Seen) {
 /// What a player plays and the result; then the number of turns made, and whether the game is over.
 type Answered = (Colour, Play, Result<(), Reason>, u64, bool);
 
-/// On one point: Black must move first, every stone repeats the empty board, and two passes end the game.
+/// On a board of one point: Black must move first, every stone repeats the empty board, and two passes end the game.
 const PASSES: [Answered; 5] = [
     (Colour::Black, CORNER, Err(Reason::Repeat), 0, false),
     (Colour::White, Play::Pass, Err(Reason::Turn), 0, false),
@@ -54,7 +54,7 @@ fn on_three<P: Past>(alloc: Global, seen: &mut Seen) {
     }
 }
 
-/// Plays a game on three by three points, beside the given one.
+/// Plays a game on three by three points. At its end it must be like `start`, which stays at its beginning.
 fn on_three_beside<P: Past>(alloc: Global, start: &Referee<P>, seen: &mut Seen) {
     if let Some(mut game) = begin::<P>(alloc, 3, seen) {
         sets_up(&mut game, start, seen);
@@ -107,7 +107,7 @@ impl Shown {
     }
 }
 
-/// A referee. If memory was refused, it is made once more.
+/// A new referee. If memory was refused, the referee is made once more.
 fn begin<P: Past>(alloc: Global, side: u8, seen: &mut Seen) -> Option<Referee<P>> {
     let Some(size) = Size::new(side) else {
         seen.wrong("no board of the side");
@@ -124,7 +124,7 @@ fn begin<P: Past>(alloc: Global, side: u8, seen: &mut Seen) -> Option<Referee<P>
 }
 
 /// Takes a turn. If memory was refused, the game must be unchanged, and the turn is taken once more. If a reason forbids the
-/// turn, the game must be unchanged, too; that takes no memory.
+/// turn, the game must be unchanged too, and no memory may be asked for.
 fn turn<P: Past>(
     game: &mut Referee<P>,
     colour: Colour,
@@ -136,7 +136,7 @@ fn turn<P: Past>(
     turn_from(&before, game, colour, play, answer, seen);
 }
 
-/// Takes a turn in a game that showed `before`. If memory was refused, takes it once more.
+/// Takes a turn. If memory was refused, takes the turn once more. `before` is what the game shows before the turn.
 fn turn_from<P: Past>(
     before: &Shown,
     game: &mut Referee<P>,
@@ -172,13 +172,13 @@ fn turn_from<P: Past>(
 }
 
 /// Sets up white stones on the top row of three points. If memory was
-/// refused, the game must be unchanged, and they are set up once more.
+/// refused, the game must be unchanged, and the stones are set up once more.
 fn set_top_up<P: Past>(game: &mut Referee<P>, seen: &mut Seen) {
     let before = Shown::of(game);
     set_top_up_from(&before, game, seen);
 }
 
-/// Sets up those stones in a game that showed `before`.
+/// Sets up those stones. `before` is what the game shows before the setup.
 fn set_top_up_from<P: Past>(before: &Shown, game: &mut Referee<P>, seen: &mut Seen) {
     if game.board().size().side() < 3 {
         return seen.wrong("a board of fewer than three columns");
@@ -200,13 +200,13 @@ fn set_top_up_from<P: Past>(before: &Shown, game: &mut Referee<P>, seen: &mut Se
     seen.right(game.depth() == 1, "a game after a setup");
 }
 
-/// Adds the present state once more, and takes that back.
+/// Adds the present state once more, and undoes that.
 fn stay<P: Past>(game: &mut Referee<P>, seen: &mut Seen) {
     let before = Shown::of(game);
     stay_from(&before, game, seen);
 }
 
-/// The same in a game that showed `before`. If memory was refused, the game must be unchanged, and the call is made once more.
+/// Does the same. If memory was refused, the game must still show `before`, and the call is made once more.
 fn stay_from<P: Past>(before: &Shown, game: &mut Referee<P>, seen: &mut Seen) {
     seen.call();
     if game.stay().is_err() {
@@ -222,7 +222,7 @@ fn stay_from<P: Past>(before: &Shown, game: &mut Referee<P>, seen: &mut Seen) {
     );
 }
 
-/// Takes back the newest call.
+/// Takes back the newest turn, setup or stay.
 fn undo<P: Past>(game: &mut Referee<P>, seen: &mut Seen) {
     if game.depth() == 0 {
         return seen.wrong("nothing to take back");

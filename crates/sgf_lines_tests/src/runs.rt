@@ -1,4 +1,4 @@
-//! Runs while memory is refused.
+//! Runs to which memory may be refused.
 
 use crate::page::Page;
 use crate::seen::Seen;
@@ -17,7 +17,7 @@ const ILLEGAL_ROWS: [&[u8]; 2] = [
     b"20 1 3 illegal 1 7 repeat\n",
 ];
 
-/// Three lines that share a pass, the last one with a setup.
+/// Three lines that share a pass. The last line has a setup.
 const PASSES: &[u8] = b"(;SZ[3];B[](;W[])(;W[bb])(;AE[aa];W[]))";
 
 const PASSES_ROWS: [&[u8]; 3] = [
@@ -111,8 +111,8 @@ fn pages(alloc: Global, seen: &mut Seen) {
     }
 }
 
-/// Splits a text. If memory was refused, the sink must hold exactly the whole
-/// records of the first lines, and not be flushed. Then splits once more.
+/// Splits a text. If memory was refused, the sink must hold whole records of
+/// the first lines and nothing else, and not be flushed. Then splits once more.
 fn splits(alloc: Global, run: Run<'_>, seen: &mut Seen) {
     seen.call();
     let mut source = SliceSource::new(run.text);
@@ -127,8 +127,8 @@ fn splits(alloc: Global, run: Run<'_>, seen: &mut Seen) {
     is_whole(answer, &page, run, seen);
 }
 
-/// The same with a count of plays. If memory was refused, the count must be at least
-/// the plays for the lines written, and at most those for one more line.
+/// Does the same with a count of plays. If memory was refused, the count must be at least
+/// the number of plays for the written lines, and at most that for one more line.
 fn splits_with_plays(alloc: Global, run: Run<'_>, seen: &mut Seen) {
     seen.call();
     let mut source = SliceSource::new(run.text);
@@ -167,7 +167,7 @@ fn is_cut(lines: u64, page: &Page, run: Run<'_>, seen: &mut Seen) {
     seen.right(are_first, "records after refused memory");
 }
 
-/// The run must have written all records, flushed once, and counted their plays.
+/// The run must have written all records, flushed once, and counted the plays for all records.
 fn is_whole_with_plays(
     answer: Result<u64, RunFault>,
     page: &Page,

@@ -1,4 +1,4 @@
-//! What was seen at the calls.
+//! Counts calls, and keeps what was wrong.
 
 use std::fmt;
 
@@ -11,7 +11,7 @@ pub struct Seen {
 }
 
 impl Seen {
-    /// Nothing was seen yet.
+    /// Before the first call.
     pub fn new() -> Seen {
         Seen {
             calls: 0,
@@ -30,14 +30,14 @@ impl Seen {
         self.wants = self.wants.saturating_add(1);
     }
 
-    /// Keeps what was wrong, unless `holds`.
+    /// If `holds` is false, keeps `what` as wrong.
     pub fn right(&mut self, holds: bool, what: &'static str) {
         if !holds {
             self.wrong(what);
         }
     }
 
-    /// Keeps what was wrong, if nothing was wrong before.
+    /// Keeps `what` as wrong, if nothing was wrong before.
     pub fn wrong(&mut self, what: &'static str) {
         if self.wrong.is_none() {
             self.wrong = Some(what);
@@ -49,7 +49,7 @@ impl Seen {
         self.wrong
     }
 
-    /// The exit status if nothing was wrong.
+    /// The exit status if nothing was wrong: 4 if memory was refused to some call, else 0.
     pub fn status(&self) -> u8 {
         if self.wants == 0 { 0 } else { 4 }
     }

@@ -7,7 +7,7 @@ use std::alloc::Global;
 /// A game of two lines, which have the places 8 and 22.
 pub const TWO: &[u8] = b"(;SZ[3](;B[aa])(;B[bb];W[aa]))";
 
-/// Its nodes: the parent, the place, whether it is a leaf, and the last node below it.
+/// For each node of `TWO`: its parent, its place, whether it is a leaf, and the last node below it.
 const NODES: [(Option<usize>, usize, bool, usize); 4] = [
     (None, 1, false, 3),
     (Some(0), 8, true, 1),
@@ -66,7 +66,7 @@ fn faulty_byte(alloc: Global, text: &[u8], seen: &mut Seen) -> Option<usize> {
     }
 }
 
-/// Reads a text, once more if memory was refused.
+/// Reads a text, and reads it again if memory was refused.
 fn reading<'a>(
     alloc: Global,
     text: &'a [u8],
@@ -93,7 +93,7 @@ pub fn collection<'a>(
     collection
 }
 
-/// Whether it is the collection of the game of two lines.
+/// Whether the collection has exactly the nodes of `TWO`.
 fn is_two(collection: &Collection<'_>) -> bool {
     for (i, (parent, place, is_leaf, last_below)) in NODES.iter().enumerate() {
         if i >= collection.nodes()
@@ -109,7 +109,7 @@ fn is_two(collection: &Collection<'_>) -> bool {
     collection.games() == 1 && collection.nodes() == NODES.len()
 }
 
-/// Appends a name and a node to a vector.
+/// Reads a game of one node, and appends a name and the node to a vector.
 fn names(alloc: Global, seen: &mut Seen) {
     if let Ok(collection) = collection(alloc, b"(;GaMe[1])", seen) {
         let mut out = Vec::new(alloc);
@@ -154,7 +154,7 @@ fn append_node(node: &NodeRef<'_, '_>, before: &[u8], out: &mut Vec<u8>, seen: &
     }
 }
 
-/// Appends decoded texts, each to an empty vector and then once more.
+/// Appends each decoded text to an empty vector, and then once more.
 fn texts(alloc: Global, seen: &mut Seen) {
     for (raw, text) in TEXTS {
         let mut out = Vec::new(alloc);

@@ -1,4 +1,4 @@
--- Each turn leaves one line less.
+-- Each pass of the loop leaves one line less to go over.
 use Rattle.std.proofs.Common.{length, ◌-◌}
 use Rattle.sgf_lines.specs.Lines.{lines}
 use Rattle.lines_in_memory.proofs.first_illegal.Given as goal
