@@ -152,7 +152,8 @@ fn ends_values(text: &[u8], at: usize) -> bool
     end == text.len() || text[end] != b'['
 }
 
-/// Whether the text begins with a `;` and a property that is written like `B[pd]`, and goes on after these.
+/// Whether a property that is written like `B[pd]` follows the first byte of the text, and the text goes on after it.
+/// The first byte is the `;` of a node, and isn't looked at.
 fn is_short_front(text: &[u8]) -> bool
     ensures { IsTrue result → IsShortFront text.now }
 {
