@@ -3,7 +3,7 @@ use Rattle.std.specs.Prelude.{ℕ, ◌<◌, ◌≤◌, List, ◌++◌, length, t
 use Rattle.sgf_tree.specs.Tree.{Games}
 use Rattle.sgf_tree.specs.Spelling.{Spells}
 
--- with some bytes after it, it spells a collection
+-- the text `front` and some bytes after it spell a collection
 abbrev pub BeginsCollection : List ℕ → Type 0
 BeginsCollection front = (more : List ℕ) × (games : Games) × All (λ b. b < 256) more × Spells games (front ++ more)
 

@@ -35,7 +35,7 @@ pub data IsDecoded : List ℕ → List ℕ → Type 0 where
   -- another byte: that byte, spaced
   plain_byte : {byte : ℕ} {rest text : List ℕ} → byte ≢ backslash → is_break byte ≡ false → IsDecoded rest text → IsDecoded (byte ∷ rest) (spaced byte ∷ text)
 
--- what a byte becomes that no `\` escapes: an LF for a line break, else `spaced` of the byte
+-- what an unescaped byte becomes: an LF for a line break, else `spaced` of the byte
 abbrev pub unescaped : ℕ → ℕ
 unescaped b = if is_break b then line_feed else spaced b
 
@@ -43,7 +43,7 @@ unescaped b = if is_break b then line_feed else spaced b
 abbrev pub after_backslash : ℕ → List ℕ
 after_backslash b = if is_break b then [] else spaced b ∷ []
 
--- the text as a function, by the first rule that fits
+-- the decoded text as a function: at each step it takes the first rule that fits
 abbrev pub text_of : List ℕ → List ℕ
 text_of [] = []
 text_of (byte ∷ []) = if byte == backslash then [] else unescaped byte ∷ []
