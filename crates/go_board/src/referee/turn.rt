@@ -1,5 +1,5 @@
 //! A referee's turns. For positional superko the referee asks the past whether a stone
-//! would make a colouring that was there since the last setup of stones.
+//! would repeat a colouring made since the last setup of stones.
 
 use crate::fault::{MemoryFault, TurnFault};
 use crate::past::Past;
