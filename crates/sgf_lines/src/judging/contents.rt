@@ -51,8 +51,8 @@ pub(crate) enum Kind {
     Comment,
 }
 
-/// What a node holds, on a board of that size. Unless the setup is faulty,
-/// `operations` becomes what its values of AB, AW and AE set up, in order.
+/// What a node holds, on a board of that size. Unless the setup is faulty, `operations`
+/// becomes the operations that the node's values of AB, AW and AE name, in order.
 pub(crate) fn gathered<'a>(
     node: &NodeRef<'_, 'a>,
     size: Size,
@@ -80,7 +80,7 @@ impl<'a> Contents<'a> {
         }
     }
 
-    /// What a property holds if its name has one letter and it has one value.
+    /// What a property holds whose name is this one letter and whose only value is `raw`.
     fn of_lone(letter: u8, raw: &'a [u8]) -> Contents<'a>
         ensures { (side : ℕ) → IsGathered side (lone_property letter raw.now ∷ []) [] result }
     {
@@ -200,7 +200,7 @@ fn with_stones(setup: Setup, good: bool) -> Setup
     }
 }
 
-/// A setup with more players, of whom this is the last. None means that one of the values names no player.
+/// A setup with more players. `last` is the last of them; None means that one of the values names no player.
 fn with_player(setup: Setup, last: Option<Colour>) -> Setup
     ensures { result ≡ setup_with_player setup last }
 {

@@ -58,7 +58,7 @@ pub(crate) fn take_step<'a, P: Past>(
     }
 }
 
-/// Takes the step of a node with these contents; its stones make these operations.
+/// Takes the step of a node with these contents. `operations` has the operations of the node's stones.
 fn take_contents<P: Past>(
     referee: &mut Referee<P>,
     contents: &Contents<'_>,
