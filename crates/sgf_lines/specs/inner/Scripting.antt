@@ -37,7 +37,7 @@ is_unreaching grid Nothing = false
 is_unreaching grid stones_set = has_unreaching grid
 is_unreaching grid (one_play colour play) = false
 
--- the commands so far, and how many of the first pieces stand before a setup that leaves a stone without a liberty
+-- the commands so far, and how many pieces stand before the first setup that leaves a stone without a liberty
 pub record ScriptState : Type 0 where
   pub text : PiecesState
   pub said : ℕ
@@ -63,15 +63,15 @@ said_on old unreaching more =
     if length old.text.pieces == 0 then old
     else record { text = closed (pushed old.text more); said = if old.said == length old.text.pieces then (if unreaching then old.said else old.said + 1) else old.said }
 
--- back to the first `count` taken nodes
+-- the script cut back to the first `count` taken nodes
 abbrev pub script_back : ℕ → ScriptState → ScriptState
 script_back count old = record { text = cut (count + 1) old.text; said = min (count + 1) old.said }
 
--- with the empty row that ends a script
+-- the script with the empty row that ends it
 abbrev pub script_ended : ScriptState → ScriptState
 script_ended old = record { text = pushed old.text (codes "\n"); said = old.said }
 
--- what is written of a script: the empty row alone unless all its pieces can be said
+-- what is written of a script: its whole text; but an empty row alone if some setup leaves a stone without a liberty
 abbrev pub script_text : ScriptState → List ℕ
 script_text script = if nat_lt script.said (length script.text.pieces) then codes "\n" else concat script.text.pieces ++ script.text.begun
 
