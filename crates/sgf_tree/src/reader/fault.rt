@@ -1,8 +1,8 @@
 //! The faults of a text that isn't too long, and how the place of the first fault is found.
 //!
-//! The reader goes from each byte to the next, and never back. It stops at the first byte that may not come next. The bytes before
+//! The reader goes from each byte to the next, and never back. It stops at the first byte that can't come next. The bytes before
 //! this byte are the beginning of a valid text, so its offset is the place of the first fault. If the text ends where no valid
-//! text may end, the place is the text's length.
+//! text can end, the place is the text's length.
 //!
 //! So the place is known when the reader stops, without a further search. Some parts of the reader skip ahead, such as the
 //! search for the end of a value. If such a part finds nothing, the place is the text's length.

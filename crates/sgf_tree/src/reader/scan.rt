@@ -128,15 +128,15 @@ fn far_capitals_end(text: &[u8], at: usize) -> usize
     end
 }
 
-/// Whether the text begins with a node that is written like `;B[pd]`.
+/// Whether the node at the front of the text is written like `;B[pd]`. If it is false, nothing is known.
 pub(crate) fn is_lone_node(text: &[u8]) -> bool
     ensures { IsTrue result → IsLoneNode text.now }
 {
     is_short_front(text) && ends_node(text, 6)
 }
 
-/// Whether the text begins with a node whose first property is written like
-/// `B[pd]`, and has no other value. If it is false, nothing is known.
+/// Whether the first property of the node at the front of the text is written
+/// like `B[pd]`, and has no other value. If it is false, nothing is known.
 pub(crate) fn is_lone_front(text: &[u8]) -> bool
     ensures { IsTrue result → IsLoneFront text.now }
 {
