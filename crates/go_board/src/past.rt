@@ -36,8 +36,8 @@ pub trait Past: Drop {
     fn new(alloc: Global, board: &Board) -> Result<Self, MemoryFault>
         ensures { IfOk result (λ past. held past ≡ only board.now) };
 
-    /// Forgets all colourings, and then holds the board's alone, which begins a stretch. The board may have
-    /// another size than before. A past that can do this in place takes less time than a new one.
+    /// Forgets all colourings, and then holds that of `board` alone, which begins a stretch. The board may
+    /// have another size than before. A past that can do this in place takes less time than a new one.
     fn reset(&mut self, alloc: Global, board: &Board) -> Result<(), MemoryFault>
         ensures ok { OnOk result (held self.new ≡ only board.now) }
         ensures err { OnErr result (held self.new ≡ held self.old) }
