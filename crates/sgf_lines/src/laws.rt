@@ -90,7 +90,7 @@ pub fn touched()
 
 /// Take a page with a limit, and the page of all lines after its last line. If some
 /// text spells the collection, the two joined are the page without the limit.
-/// So the outputs of runs join to the whole output if each run writes a line or more and begins after the last place before.
+/// So if each run writes a line or more, and begins after the last place of the run before, the outputs join to the whole output.
 pub fn pages()
     ensures { (games : Games) (text : List ℕ) → Spells games text → (options : Options) (front : List Line) (last : Line)
         → page options games ≡ Some (front ++ last ∷ []) → (rest : List Line)
@@ -118,8 +118,8 @@ pub fn replay()
 }
 
 /// The verdict of a line on a board of a given side, from the state in which a game begins. If each node's step is
-/// taken, the verdict is the score of the state after all of them. Else it names the first node whose step is
-/// refused, in the state after the nodes before it. The verdict then has that node's place, its reason, and the
+/// taken, the verdict is the score of the state after all of them. Otherwise it names the first node whose step is
+/// refused in the state after the nodes before that node. The verdict then has that node's place, its reason, and the
 /// number of turns made before the node, plus 1. Every list of nodes is of exactly one of these two kinds.
 pub fn judged()
     ensures scored { (side : ℕ) (nodes : List Node) (state : State) → IsAfter (starting side) nodes state

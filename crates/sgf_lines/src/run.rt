@@ -168,13 +168,13 @@ pub(crate) struct Run<'c, 'a> {
     /// The judgement on that line, in the forms that judge.
     judge: Judge,
 
-    /// Its text as a game, in the sgf form.
+    /// That line as a game, in the sgf form.
     game: Pieces,
 
-    /// Its commands, in the gtp form.
+    /// The commands of that line, in the gtp form.
     script: Script,
 
-    /// What comes first in its record, in the forms that judge.
+    /// What comes first in the record of that line, in the forms that judge.
     head: Vec<u8>,
 }
 

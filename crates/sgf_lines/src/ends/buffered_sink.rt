@@ -18,8 +18,8 @@ const CAPACITY: usize = 65_536;
 /// the writer. If it gets more bytes at once than it can hold, it passes them straight to the writer. If
 /// the writer reports its bytes, the sink reports those that it has taken and delivered.
 ///
-/// An interrupted write counts as failed, and so does a write of 0 bytes. After a failure the writer
-/// isn't called again. If the sink is dropped, the bytes that it holds back are lost.
+/// An interrupted write counts as failed, and so does a write of 0 bytes. After a failure the writer isn't
+/// called again. Dropping the sink doesn't call the writer either: the bytes that are held back are lost.
 #[derive(Debug, Drop)]
 pub struct BufferedSink<W: Write + Drop> {
     writer: W,

@@ -128,7 +128,7 @@ fn push_point(
     }
 }
 
-/// Appends a play command. It is laid out first and appended at once, because most nodes add one.
+/// Appends a play command. Its bytes are laid out first and appended in one call, because most nodes add one.
 fn push_play(
     size: Size,
     colour: Colour,
