@@ -19,7 +19,7 @@ abbrev pub MakesNoPair : ℕ → List ℕ → Type 0
 MakesNoPair byte [] = Unit {0}
 MakesNoPair byte (next ∷ rest) = is_pair byte next ≡ false
 
--- The text of a raw value. Each rule says what the first bytes of the value become. The text of the rest follows it.
+-- The text of a raw value. Each rule says what the first bytes of the value become. The text of the other bytes comes after that.
 pub data IsDecoded : List ℕ → List ℕ → Type 0 where
   -- nothing, or a `\` as the last byte: nothing
   nothing : IsDecoded [] []

@@ -123,7 +123,7 @@ pub record IsMarkRead (text : List ℕ) (at : ℕ) : Type 0 where
       → next_state at state (slice_index text at) ≡ between_games (record { closed = no_games; unclosed = [] }) (slice_index text at)
   pub end : accepted state ≡ accepted (after_game (record { closed = no_games; unclosed = [] }))
 
--- If the machine has the games of a stack and `at` is just after a `(`, then the own nodes of that game were read up to `end`.
+-- If the machine has the games of a stack and `at` is just after a `(`, the own nodes of this new game were read up to `end`.
 abbrev pub ReadsSequence : List ℕ → ℕ → ℕ → Link → List NodeEntry → List NodeEntry → Type 0
 ReadsSequence text at end link old new =
     (stack : Stack) → ComesTo text at (opened stack) → HoldStack text stack old → IsOpening stack link → IsSequenceRead text end stack new

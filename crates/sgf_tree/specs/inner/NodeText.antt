@@ -178,7 +178,7 @@ pub record ArePropertiesWritten (whole_text : List ℕ) (from end : ℕ) : Type 
   pub left : ArePropertiesIn (drop end whole_text)
   pub front : IsWrittenFront (properties_in (drop from whole_text)) (properties_in (drop end whole_text)) (slice_range whole_text from end)
 
--- nodes were appended to a text as the sgf form writes them, and the offset where each of them ends to `ends`
+-- nodes were appended to a text as the sgf form writes them, and the offsets where they end were appended to `ends`
 pub record ArePushed (nodes : List Node) (old new ends new_ends : List ℕ) : Type 0 where
   pub text : new ≡ old ++ flat_map node_text nodes
   pub ends_are : new_ends ≡ ends ++ ends_from (length old) (map node_text nodes)
