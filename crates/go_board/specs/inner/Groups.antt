@@ -43,8 +43,8 @@ abbrev pub ReachBeside : Grid → Colour → Point → Type 0
 ReachBeside grid colour point =
     (neighbour : Point) → IsOn grid.side neighbour → AreAdjacent point neighbour → ReachesIfStone grid colour neighbour
 
--- If the point has a stone of the colour, the stone reaches empty. So do the opponent's stones beside the point. So nothing is
--- captured.
+-- If the point has a stone of the colour, the stone reaches empty. The opponent's stones beside the point reach empty, too. So
+-- nothing is captured.
 abbrev pub AllLive : Grid → Colour → Point → Type 0
 AllLive grid colour point = ReachesIfStone grid colour point × ReachBeside grid (opponent colour) point
 

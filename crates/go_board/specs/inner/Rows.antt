@@ -32,8 +32,8 @@ HasBeside room set =
 abbrev pub HasNext : (ℕ → Bool) → (ℕ → Bool) → Type 0
 HasNext room set = (col : ℕ) → IsTrue (set col) → IsTrue (room (suc col)) → IsTrue (set (suc col))
 
--- The word has the seed's columns, and only such further columns as each set has that has the seed and is closed within
--- the room. All its columns are in the room. If a column of the room is next after one of the word's, the word has it.
+-- The word has the seed's columns, and others of the room. Each set that has the seed and is closed within the room has
+-- these others, too. If a column of the room comes next after a column of the word, the word has it.
 pub record IsWidened (room seed word : ℕ) : Type 0 where
   pub within : IsPart (has_bit word) (has_bit room)
   pub kept : IsPart (has_bit seed) (has_bit word)
@@ -69,7 +69,7 @@ IsRowClosed room set row =
     (point other : Point) → point.row ≡ row → AreAdjacent point other
     → IsTrue (room point) → IsTrue (set other) → IsTrue (set point)
 
--- `new` has the points of `old`, and only such further points as each closed set with `old` has. All its points are in the room.
+-- `new` has the points of `old`, and other points of the room. Each closed set that has the points of `old` has these others, too.
 pub record Grows (room old new : Point → Bool) : Type 0 where
   pub within : IsAmong new room
   pub kept : IsAmong old new
