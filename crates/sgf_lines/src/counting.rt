@@ -58,7 +58,7 @@ fn counted(collection: &Collection<'_>) -> Counts
     }
 }
 
-/// The number of lines of a collection. Each ends at a leaf of its own.
+/// The number of lines of a collection. Each line ends at a leaf of its own.
 fn line_count(collection: &Collection<'_>) -> u64
     ensures { result ≡ length (lines collection.now) }
 {

@@ -57,7 +57,7 @@ abbrev pub script_on : Option Grid → ScriptState
 script_on None = no_script
 script_on (Some grid) = script_begun grid.side
 
--- one more piece; a script without commands stays so
+-- the script with one more piece; a script without commands stays without
 abbrev pub said_on : ScriptState → Bool → List ℕ → ScriptState
 said_on old unreaching more =
     if length old.text.pieces == 0 then old
@@ -86,7 +86,7 @@ script_of not_go nodes = no_script
 script_of bad_size nodes = no_script
 script_of (board side) nodes = script_along side (walk side nodes).taken
 
--- one more node, given the judgement before it
+-- the script after one more node, by the state after the node or by the judgement before it
 abbrev pub said_by : ScriptState → Option State → Node → ScriptState
 said_by old None node = old
 said_by old (Some state) node =

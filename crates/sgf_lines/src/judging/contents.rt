@@ -27,7 +27,7 @@ pub(crate) enum Moves<'a> {
 pub(crate) enum Setup {
     /// There are neither stones nor players.
     Nothing,
-    /// Each value names a rectangle of the board or a player. This is the last player, if there is one.
+    /// Each value names a rectangle of the board or a player. The field is the last player, if there is one.
     Meant(Option<Colour>),
     /// Some value of AB, AW or AE names no rectangle of the board, or some value of PL names no player.
     Faulty,
@@ -38,7 +38,7 @@ pub(crate) enum Setup {
 pub(crate) struct Contents<'a> {
     pub(crate) moves: Moves<'a>,
     pub(crate) setup: Setup,
-    /// The first value of its first C.
+    /// The first value of the node's first C.
     pub(crate) comment: Option<&'a [u8]>,
 }
 
@@ -80,7 +80,7 @@ impl<'a> Contents<'a> {
         }
     }
 
-    /// What a property holds whose name is this one letter and whose only value is `raw`.
+    /// What a property holds if its name is this one letter and its only value is `raw`.
     fn of_lone(letter: u8, raw: &'a [u8]) -> Contents<'a>
         ensures { (side : ℕ) → IsGathered side (lone_property letter raw.now ∷ []) [] result }
     {

@@ -29,7 +29,7 @@ pub(crate) enum Effect {
 #[derive(Clone, Copy)]
 pub(crate) struct TakenStep<'a> {
     pub(crate) effect: Effect,
-    /// The first value of its first C.
+    /// The first value of the node's first C.
     pub(crate) comment: Option<&'a [u8]>,
 }
 
