@@ -26,7 +26,7 @@ judging_front nodes count = judging (game_kind (root_properties nodes)) (take co
 abbrev pub script_front : List Node → ℕ → ScriptState
 script_front nodes count = script_of (game_kind (root_properties nodes)) (take count nodes)
 
--- what a run keeps from line to line: the judgement, the game in pieces and the script of a line, each only in the forms that need it
+-- what a run keeps from line to line: a line's judgement, its game in pieces and its script, each only in the forms that need it
 pub record Kept : Type 0 where
   pub judgement : Judgement
   pub game : PiecesState

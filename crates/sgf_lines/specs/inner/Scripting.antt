@@ -42,7 +42,8 @@ pub record ScriptState : Type 0 where
   pub text : PiecesState
   pub said : ℕ
 
--- a script without commands: before any line; of a line that isn't judged; or of one whose board has more columns than vertices have letters
+-- A script without commands. It stands before any line, for a line that isn't judged, or for a line whose board has more columns
+-- than vertices have letters.
 abbrev pub no_script : ScriptState
 no_script = record { text = no_pieces; said = 0 }
 
