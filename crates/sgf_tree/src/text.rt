@@ -60,7 +60,7 @@ fn literal_length(raw: &[u8]) -> usize
 }
 
 /// How many of the `TOGETHER` bytes at `at` come before the first `\` or control
-/// byte up to CR. All these bytes stand for themselves.
+/// byte up to CR. The bytes before it stand for themselves.
 fn near_literals(raw: &[u8], at: usize) -> usize
     requires { at + TOGETHER ≤ length raw.now }
     ensures at_most { result ≤ TOGETHER }

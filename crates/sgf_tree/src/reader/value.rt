@@ -173,8 +173,8 @@ fn near_bracket(text: &[u8], at: usize) -> Option<usize>
 
 /// The offset of the `]` that ends the raw value at `at`, by searches. None if the text ends before it.
 ///
-/// A `]` is escaped if an odd number of `\` is just before it. They are counted from `start` on, which is where the value begins
-/// or an escape ends: earlier bytes belong to other units.
+/// A `]` is escaped if an odd number of `\` is just before it. The `\` are counted from `start` on, which is where the value
+/// begins or an escape ends: earlier bytes belong to other units.
 #[inline(never)]
 fn far_value_end(text: &[u8], at: usize) -> Option<usize>
     requires { at ≤ length text.now }
