@@ -32,7 +32,7 @@
 //! | `line`, `cursor`, `seek` | what is shown of a line; going over the lines of a collection; seeking the line with a place |
 //! | `options`, `fault` | what a run is asked for; how it may fail |
 //! | `verdict`, `judging` | the verdict of a line; judging lines, in the modules below |
-//! | `judging/one_line`, `judging/judge` | one line, by its leaf or its place; a judge that goes along the nodes of a line, and back |
+//! | `judging/one_line`, `judging/judge` | one line, by its leaf or its place; a judge that goes along a line's nodes, and back |
 //! | `judging/root`, `judging/contents`, `judging/step` | the board of a root's game; what a node holds; playing a node |
 //! | `going_on` | going on to the next line, and how much of it is held already |
 //! | `follower` | going over the lines that follow a cursor, and judging each |
