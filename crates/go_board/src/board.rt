@@ -24,7 +24,7 @@ pub struct Board {
     /// The stones, as rows of words.
     rows: StoneRows,
     /// Whether every stone is known to reach empty. This is known after a
-    /// move. A colouring from outside can have a stone that doesn't.
+    /// move. A setup can leave a stone that doesn't reach empty.
     settled: bool,
 }
 
@@ -93,7 +93,7 @@ impl Board {
         self.rows.at(point)
     }
 
-    /// The columns of a row with a stone of a colour, a bit for each.
+    /// The columns of a row that have a stone of a colour, as a word with a bit for each column.
     pub(crate) fn columns_of(&self, row: u8, colour: Colour) -> u64
         requires { row < self.now.side }
         ensures within { (col : ℕ) → col < self.now.side → has_bit result col
@@ -116,7 +116,7 @@ impl Board {
         self.colour_columns(point.row, column, cell);
     }
 
-    /// Colours the points of a row in a set of columns. Nothing is cleared.
+    /// Colours the points of a row that are in a set of columns. Nothing is cleared.
     pub(crate) fn colour_columns(&mut self, row: u8, columns: u64, cell: Cell)
         requires row { row < self.old.side }
         requires columns { (col : ℕ) → IsTrue (has_bit columns col) → col < self.old.side }
@@ -156,7 +156,7 @@ impl Board {
         }
     }
 
-    /// Whether every stone is known to reach empty. If this is true, every stone does.
+    /// Whether every stone is known to reach empty. If this is false, nothing is known.
     pub(crate) fn is_settled(&self) -> bool
         ensures { IsTrue result → has_unreaching self.now ≡ false }
     {

@@ -58,7 +58,7 @@ same_itself Black = refl
 same_itself White = refl
 same_itself Empty = refl
 
--- one play line
+-- the row of one play
 play_within : (side : ℕ) (k : Colour) (p : Point) → side ≤ 25 → IsOn side p → Each IsWithin (codes "play " ++ colour_letter k ++ codes " " ++ vertex_text (vertex_of p side))
 play_within side BlackPlayer p small on = within_both (codes "play B ") (vertex_text (vertex_of p side)) (search) (solid_within (vertex_text (vertex_of p side)) (vertex_solid side p small on))
 play_within side WhitePlayer p small on = within_both (codes "play W ") (vertex_text (vertex_of p side)) (search) (solid_within (vertex_text (vertex_of p side)) (vertex_solid side p small on))
@@ -282,7 +282,7 @@ module _ (laws : BoardLaws) where
       left = λ p on le. get_or-replicate (g.side * g.side) (index_of g.side p) Empty Empty (index_within p on);
     }
 
-    -- ---- The lines of a colour's stones.
+    -- ---- The rows of a colour's stones.
 
     point_in : (m i j : ℕ) → j < m → slice_get (map (point_at g.side) (range_with_len i m)) j ≡ Some (point_at g.side (i + j))
     point_in zero i j lt = absurd (omega arith)
@@ -300,7 +300,7 @@ module _ (laws : BoardLaws) where
     unfolding line_of
     lines_of k ps = flat_map (λ p. play_command g.side k (Stone p)) (filter (λ p. same_cell (cell_at g p) (stone_of k)) ps)
 
-    -- what the lines of the points from one on do to a board on which the earlier stones are placed
+    -- what the rows of the points from one on do to a board on which the earlier stones are placed
     record IsTaken (k : Colour) (h : Grid) (text : List ℕ) : Type 0 where
       board : Grid
       placed : IsPlaced board (turn_of k (g.side * g.side))

@@ -14,7 +14,7 @@ use Rattle.sgf_lines.specs.inner.Scripting.{ScriptState, script_of, script_ended
 use Rattle.sgf_lines.proofs.Scripts.{script_put}
 use Rattle.sgf_lines.proofs.Lined.{row-is}
 
--- its row as a comment, its commands, and an empty line
+-- its row as a comment, its commands, and an empty row
 pub script_made : (c : Games) (l : Line) (line : LineRef) (v : Verdict) (said : ScriptState) (head : List ℕ) → IsShownAs c l line → v ≡ verdict_of l.nodes
     → said ≡ script_ended (script_of (game_kind (root_properties l.nodes)) l.nodes)
     → head ≡ comment_row (row_text line.place line.game (length line.path.now) v) → head ++ script_text said ≡ script l

@@ -20,7 +20,7 @@ pub record IsWhole (given : List ℕ) (to_come : Option (List ℕ)) : Type 0 whe
   pub at_end : IsAtEnd to_come
   pub within : length given ≤ MAX_LENGTH
 
--- what the source gave spells a collection, and these lines are the page of it
+-- what the source gave spells a collection, and the lines `asked` are the page of this collection
 pub record HasPage (options : Options) (given : List ℕ) (asked : List Line) : Type 0 where
   pub games : Games
   pub spelled : Spells games given
@@ -33,7 +33,7 @@ pub record HasNoLine (options : Options) (given : List ℕ) (place : ℕ) : Type
   pub asked : options.after ≡ Some place
   pub none : lines_after (lines games) place ≡ None
 
--- the source was read whole, and these lines are the page of what it gave
+-- the source was read whole, and the lines `asked` are the page of what it gave
 pub record IsGood (options : Options) (given : List ℕ) (to_come : Option (List ℕ)) (asked : List Line) : Type 0 where
   pub whole : IsWhole given to_come
   pub has_page : HasPage options given asked
@@ -43,15 +43,15 @@ abbrev pub IsPart : Form → Option Line → List ℕ → Type 0
 IsPart form None part = part ≡ []
 IsPart form (Some line) part = (rest : List ℕ) × (0 < length rest) × (record_of form line ≡ part ++ rest)
 
--- A sink took the records of the first `count` lines whole, and less than the whole of the next.
+-- A sink took the whole records of the first `count` lines, and less than the whole record of the next line.
 pub record IsCutShort (form : Form) (page : List Line) (count : ℕ) (sink new_sink : SinkState) : Type 0 where
   pub lines : count ≤ length page
   pub part : List ℕ
   pub takes : Appends sink.taken new_sink.taken (output form (take count page) ++ part)
   pub is_part : IsPart form (slice_get page count) part
 
--- What each result says of the bytes that the source gave, of those still to come, and of the sink before and after. A source
--- gives at most 65,536 bytes at once. So if it gives too much, at most that many bytes were read in vain.
+-- What each result says of the bytes that the source gave, of those still to come, and of the sink before and after. A run asks
+-- for at most 65,536 bytes at once. So if the source gives too much, at most that many bytes were read beyond the limit.
 abbrev pub Answers : Options → List ℕ → Option (List ℕ) → SinkState → SinkState → Result ℕ RunFault → Type 0
 Answers options given to_come sink new_sink (Ok count) =
     (page : List Line) × IsGood options given to_come page × Appends sink.taken new_sink.taken (output options.form page) × (count ≡ length page) × HasDelivered new_sink
@@ -81,7 +81,7 @@ abbrev pub write_failures : {A : Type 0} → Result A RunFault → ℕ
 write_failures result = writes_failed (result_err result)
 
 -- The result of a run, with the source and the sink before and after it. A source or a sink that failed fails for good, and each
--- failure is counted. So if such a count rises by one, nothing was asked of that end after its failure.
+-- failure is counted. So if its count rises by one, the run asked nothing more of it after that failure.
 pub record IsRun (options : Options) (source new_source : SourceState) (sink new_sink : SinkState) (result : Result ℕ RunFault) : Type 0 where
   pub given : List ℕ
   pub gives : Appends source.given new_source.given given

@@ -13,8 +13,8 @@ raised_verdict by (Illegal turn place reason) = Illegal turn (by + place) reason
 raised_verdict by NotGo = NotGo
 raised_verdict by BadSize = BadSize
 
--- The list record of a line that stands `by` bytes further on, after `games` more games. Its place and that of an illegal node
--- are raised by the bytes, and the number of its game by the games.
+-- The list record of a line that stands `by` bytes further on, after `games` more games. The line's place and the place of an
+-- illegal node are raised by `by`, and the number of the line's game by `games`.
 abbrev pub raised_record : ℕ → ℕ → Line → List ℕ
 raised_record by games line =
     row_text (by + place_of line) (games + line.game_number) (length line.nodes) (raised_verdict by (verdict line)) ++ codes "\n"

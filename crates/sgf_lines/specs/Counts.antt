@@ -37,7 +37,7 @@ pub record IsCount (source new_source : SourceState) (result : Result Counts Run
   pub answers : AnswersCount given new_source.to_come result
   pub source_failures : new_source.failures ≡ source.failures + read_failures result
 
--- what a sink took of a row: all of it, and delivered it; or a prefix of it
+-- what a sink took of a row: the whole row, which it also delivered; or, if the sink failed, a prefix of the row
 abbrev pub AnswersRow : {A : Type 0} → List ℕ → SinkState → SinkState → Result A RunFault → Type 0
 AnswersRow row sink new_sink (Ok _) = Appends sink.taken new_sink.taken row × HasDelivered new_sink
 AnswersRow row sink new_sink (Err (Write count)) =

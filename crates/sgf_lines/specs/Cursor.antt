@@ -13,7 +13,7 @@ pub record CursorState : Type 0 where
   pub games : Games
   pub index : ℕ
 
--- one line later
+-- the same cursor, one line later
 abbrev pub advanced : CursorState → CursorState
 advanced cursor = record { games = cursor.games; index = cursor.index + 1 }
 
@@ -30,7 +30,7 @@ pub record IsLine (games : Games) (index : ℕ) (line : LineRef) : Type 0 where
   pub path : slice_get (paths games) index ≡ Some (shown line).path
   pub place : option_map place_of (slice_get (lines games) index) ≡ Some (shown line).place
 
--- the next line; None after the last one
+-- the call returns the next line; None after the last one
 abbrev pub GivesLine : CursorState → Option LineRef → Type 0
 GivesLine cursor None = slice_get (lines cursor.games) cursor.index ≡ None
 GivesLine cursor (Some line) = IsLine cursor.games cursor.index line

@@ -17,7 +17,7 @@ pub record Gives (old new : SourceState) (bytes : List ℕ) : Type 0 where
   pub to_come : Consumes old.to_come new.to_come bytes
   pub none_at_end : bytes ≡ [] → IsAtEnd new.to_come
 
--- a source failed: it counted that, and gave nothing
+-- a source failed: it counted the failure, and gave nothing
 pub record GivesNothing (old new : SourceState) : Type 0 where
   pub failures : new.failures ≡ old.failures + 1
   pub given : Keeps old.given new.given
@@ -55,7 +55,7 @@ pub record Takes (old new : SinkState) (bytes : List ℕ) : Type 0 where
   pub taken : Appends old.taken new.taken bytes
   pub grows : DeliversOn old new
 
--- a sink failed: it counted that, and took nothing; if it had failed before, it delivered nothing either
+-- a sink failed: it counted the failure, and took nothing; if it had failed before, it delivered nothing more either
 pub record TakesNothing (old new : SinkState) : Type 0 where
   pub failures : new.failures ≡ old.failures + 1
   pub taken : Keeps old.taken new.taken

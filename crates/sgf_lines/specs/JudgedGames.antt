@@ -42,8 +42,8 @@ abbrev pub game_kind_on : Option ℕ → GameKind
 game_kind_on None = bad_size
 game_kind_on (Some side) = board side
 
--- A game that isn't Go is called that even if its size is faulty. GM and SZ of
--- other nodes have no effect. Both are this project's choices.
+-- The kind of a game, by the properties of its root. A game that isn't Go is `not_go` even if its size
+-- is faulty. GM and SZ of other nodes have no effect. Both are this project's choices.
 abbrev pub game_kind : List Property → GameKind
 game_kind properties =
     if is_go (first_value (codes "GM") properties) then game_kind_on (side_of (first_value (codes "SZ") properties)) else not_go

@@ -3,7 +3,8 @@
 use Rattle.std.specs.Prelude.{ℕ, ◌+◌, List, [], ◌∷◌, ◌++◌, map}
 use Rattle.sgf_tree.specs.Tree.{Node, Games, no_games, game}
 
--- `own` followed by each of the lists; `own` alone if there are none. These are the lines through a branch, or to a leaf.
+-- `own` followed by each of the lists in turn; `own` alone if there are no lists. These are the lines through a branch, or to
+-- a leaf.
 abbrev pub through : {A : Type 0} → List A → List (List A) → List (List A)
 through own [] = own ∷ []
 through own (first ∷ others) = map (λ rest. own ++ rest) (first ∷ others)

@@ -26,7 +26,7 @@ player_value raw =
 abbrev pub operation : Stones → ℕ → Option SetupOp
 operation value side = option_map (λ area. record { cell = value.cell; area = area }) (rect_value value.raw side)
 
--- the operations that such values name, in order; None if one of them names no rectangle of the board
+-- the operations that values of AB, AW and AE name, in order; None if one of the values names no rectangle of the board
 abbrev pub operations : List Stones → ℕ → Option (List SetupOp)
 operations [] side = Some []
 operations (value ∷ values) side =

@@ -16,7 +16,7 @@ numbered number (game first more below after) =
     let next = number + length more + 1 in
     game (record first { place = number }) (numbered_nodes (number + 1) more) (numbered next below) (numbered (next + node_count below) after)
 
--- a line by numbers: that of its game, from 1, and those of its nodes, from 0, the root first
+-- a line by numbers: the number of its game, from 1, and the numbers of its nodes, from 0, the root first
 pub record Path : Type 0 where
   pub game_number : ℕ
   pub numbers : List ℕ

@@ -64,7 +64,7 @@ play_command_of (Some colour) (Some vertex) = plays_stone colour vertex
 play_command_of (Some colour) None = does_nothing
 play_command_of None vertex = does_nothing
 
--- the command of words: `clear_board`, `boardsize` with a number, `play` with a colour and a vertex; any other does nothing
+-- the command of a row's words: `clear_board`, `boardsize` with a number, `play` with a colour and a vertex; other words do nothing
 abbrev pub command_of : List (List ℕ) → Command
 command_of [] = does_nothing
 command_of (name ∷ []) = if bytes_eq name (codes "clear_board") then clears else does_nothing
@@ -107,7 +107,7 @@ abbrev pub point_of : ℕ → Vertex → Option Point
 point_of side vertex =
     option_and_then (λ col. point_there side col vertex.row) (position (λ l. l == vertex.letter) column_letters)
 
--- a stone is played on an empty point of the board; any other is refused
+-- a stone is played on an empty point of the board; a stone anywhere else is refused
 abbrev pub after_stone : Grid → Colour → Option Point → Engine
 after_stone board colour None = refused
 after_stone board colour (Some point) =
@@ -125,14 +125,14 @@ after_command engine clears = after_clear engine
 after_command engine (plays_stone colour vertex) = after_play engine colour vertex
 after_command engine does_nothing = engine
 
--- after one more row
+-- the engine after one more row
 abbrev pub after_row : Engine → List ℕ → Engine
 after_row engine row = after_command engine (command_of (words row))
 
--- after the rows of a text, from the top
+-- the engine after the rows of a text, from the top
 abbrev pub after_text : Engine → List ℕ → Engine
 after_text engine text = fold after_row engine (slice_split (λ b. b == line_feed) text)
 
--- after a whole script, for an engine that begins without a board
+-- an engine that begins without a board, after a whole script
 abbrev pub replayed : List ℕ → Engine
 replayed script = after_text no_board script

@@ -20,7 +20,7 @@ plays_in gtp_form count = count
 abbrev pub plays_of : Form → List Line → ℕ
 plays_of form lines = plays_in form (length (all_judged_places lines))
 
--- at least as many as for the first `count` lines, and at most as many as for these and the next one
+-- `plays` is at least the number for the first `count` lines, and at most the number for these and the next line
 pub record ArePlaysFor (form : Form) (page : List Line) (count plays : ℕ) : Type 0 where
   pub at_least : plays_of form (take count page) ≤ plays
   pub at_most : plays ≤ plays_of form (take (count + 1) page)

@@ -82,7 +82,7 @@ move_commands_by side colour (Some play) = play_command side colour play
 abbrev pub move_commands : ℕ → List Move → List ℕ
 move_commands side moves = flat_map (λ move. move_commands_by side move.player (move_value move.raw side)) moves
 
--- what a node adds if its step leads to this state
+-- what a node adds to the script if its step leads to the state `after`
 abbrev pub node_script : State → Node → List ℕ
 node_script after node =
     let grid : Grid = after.colouring in

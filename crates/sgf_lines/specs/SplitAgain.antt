@@ -13,8 +13,8 @@ use Rattle.sgf_lines.specs.Verdict.{verdict}
 abbrev pub HaveSame : Node → Node → Type 0
 HaveSame node other = node.properties ≡ other.properties
 
--- The same verdict on `nodes` and on `others`. An illegal node has the same
--- index in both, and each verdict names the place of its own node.
+-- The verdicts on `nodes` and on `others` are the same, except that each names the
+-- illegal node by its own place. This node has the same index in both lists.
 pub data SaysSame (nodes others : List Node) : Verdict → Verdict → Type 0 where
   scored : {black white : ℕ} {over : Bool} → SaysSame nodes others (Score black white over) (Score black white over)
   illegal_at : {turn : ℕ} {reason : Reason} {node other : Node} (index : ℕ) → slice_get nodes index ≡ Some node → slice_get others index ≡ Some other

@@ -21,7 +21,7 @@ pub record Walk : Type 0 where
   pub state : State
   pub illegal : Option IllegalNode
 
--- before the first node, on a board of that side
+-- the walk before the first node, on a board of that side
 abbrev pub before_root : ℕ → Walk
 before_root side = record { taken = []; state = starting side; illegal = None }
 
@@ -31,7 +31,7 @@ stepped walked node (Ok state) =
     record { taken = walked.taken ++ record { node = node; after = state } ∷ []; state = state; illegal = None }
 stepped walked node (Err reason) = record walked { illegal = Some (record { node = node; reason = reason }) }
 
--- one node later; nothing follows an illegal node
+-- the walk one node later; after an illegal node the walk goes no further
 abbrev pub next_by : Walk → Option IllegalNode → Node → Walk
 next_by walked (Some met) node = walked
 next_by walked None node = stepped walked node (step walked.state node)
@@ -39,7 +39,7 @@ next_by walked None node = stepped walked node (step walked.state node)
 abbrev pub next : Walk → Node → Walk
 next walked node = next_by walked walked.illegal node
 
--- along these nodes, from the state in which a game on a board of that side begins
+-- the walk along these nodes, from the state in which a game on a board of that side begins
 abbrev pub walk : ℕ → List Node → Walk
 walk side nodes = fold next (before_root side) nodes
 

@@ -16,11 +16,11 @@ use std::alloc::Global;
 /// The counts of a collection.
 #[derive(Clone, Copy, Debug, PartialEq, Eq)]
 pub struct Counts {
-    /// The number of its games.
+    /// The number of games.
     pub games: u64,
-    /// The number of their nodes, at every depth.
+    /// The number of nodes of all games, at every depth.
     pub nodes: u64,
-    /// The number of its lines.
+    /// The number of lines of play.
     pub lines: u64,
 }
 
@@ -31,7 +31,7 @@ pub struct Counts {
 /// 1. `Read` if the source failed, or `TooLong` if it gave too much, whichever comes first.
 /// 2. `NotSgf`.
 ///
-/// If memory was refused, `Memory { lines: 0 }` is returned in place of `Ok`, or of a fault that wasn't met yet.
+/// If memory was refused, `Memory { lines: 0 }` is returned in place of `Ok`, or of a fault that would have come later.
 pub fn count<S: Source>(alloc: Global, source: &mut S) -> Result<Counts, RunFault>
     requires { (S.state source.old).failures < u64.MAX }
     ensures { IsCount (S.state source.old) (S.state source.new) result }
@@ -58,7 +58,7 @@ fn counted(collection: &Collection<'_>) -> Counts
     }
 }
 
-/// The number of lines of a collection. Each ends at a leaf of its own.
+/// The number of lines of a collection. Each line ends at a leaf of its own.
 fn line_count(collection: &Collection<'_>) -> u64
     ensures { result ≡ length (lines collection.now) }
 {

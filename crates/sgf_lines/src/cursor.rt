@@ -24,7 +24,7 @@ pub struct Cursor<'c, 'a> {
     /// The node at which the search for the next leaf begins.
     next: usize,
 
-    /// The nodes from the root to the last leaf before that node; none before the first line.
+    /// The nodes from the root to the last leaf before the node `next`; none before the first line.
     path: Vec<usize>,
 }
 
@@ -127,8 +127,8 @@ impl<'c, 'a> Cursor<'c, 'a> {
         self.collection.node(self.path[index])
     }
 
-    /// Appends to `out` the nodes of that line from an index on, as the sgf form writes them. Appends to `ends` the offset in
-    /// `out` at which each of them ends. After a refusal of memory both are unchanged.
+    /// Appends to `out` the nodes of that line from an index on, as the sgf form writes them. For each node it appends to `ends`
+    /// the offset in `out` where that node ends. If memory is refused, `out` and `ends` are unchanged.
     pub(crate) fn push_nodes(
         &self,
         from: usize,
@@ -146,7 +146,7 @@ impl<'c, 'a> Cursor<'c, 'a> {
             .push_nodes(numbers_from(&self.path, from), out, ends)
     }
 
-    /// The place of that node.
+    /// The place of a node of the line before the cursor, by its index from 0.
     pub(crate) fn place(&self, index: usize) -> u64
         requires { index < length (nodes_before self.now) }
         ensures { (node : Node) → slice_get (nodes_before self.now) index ≡ Some node → result ≡ node.place }

@@ -3,7 +3,7 @@
 //! | Module | What it has |
 //! |---|---|
 //! | `source` | what gives bytes; sources over a slice and over a reader |
-//! | `sink` | what takes bytes; sinks over a writer and over an array; putting all of some bytes |
+//! | `sink` | what takes bytes; sinks over a writer and over an array; putting bytes until all are taken |
 //! | `buffered_sink` | a sink over a writer that holds bytes back |
 
 pub(crate) mod buffered_sink;

@@ -19,9 +19,9 @@ pub enum RunFault {
     #[error("input is longer than {MAX_LENGTH} bytes")]
     TooLong,
 
-    /// What the source gave, `len` bytes, spells no collection (SGF FF[4], EBNF).
-    /// Some text of the grammar begins with its first `at` bytes, and none with
-    /// more of them. So if `at` is `len`, the input ends too early.
+    /// The `len` bytes that the source gave spell no collection (SGF FF[4], EBNF).
+    /// The first `at` bytes are the beginning of some text of the grammar, and no
+    /// more of the bytes are. So if `at` is `len`, the input ends too early.
     /// Nothing was written.
     #[error("byte {at}: not SGF")]
     NotSgf { at: usize, len: usize },

@@ -17,8 +17,8 @@ use std::alloc::Global;
 use std::marker::Model;
 
 /// A follower goes over the lines after a cursor, in file order, and judges each. Nodes that a
-/// line shares with the line before it are not played again. Contracts see it as the collection, the
-/// index (from 0) of its next line, and whether it shows the line before that one.
+/// line shares with the line before it are not played again. Contracts see a follower as the collection,
+/// the index (from 0) of its next line, and whether it shows the line before the next line.
 #[derive(Drop)]
 pub struct Follower<'c, 'a> {
     cursor: Cursor<'c, 'a>,
@@ -73,7 +73,7 @@ impl<'c, 'a> Follower<'c, 'a> {
         Ok(Some(verdict))
     }
 
-    /// The line of the verdict that was returned last. `next` must have returned one, and memory mustn't have been refused since.
+    /// The line whose verdict `next` returned last. There must be such a verdict, and memory mustn't have been refused since then.
     pub fn line(&self) -> LineRef<'_>
         requires { self.now.shows ≡ true }
         ensures { IsLine self.now.games (self.now.index - 1) result }

@@ -10,11 +10,11 @@ use sgf_tree::MemoryFault;
 /// What is known of the line before a cursor.
 #[derive(Clone, Copy)]
 pub(crate) enum Before {
-    /// Nothing of it is held, or there is none.
+    /// Nothing of that line is held, or there is no such line.
     Unheld,
-    /// For all its nodes, what is kept from line to line is held.
+    /// What is kept from line to line is held for all nodes of that line.
     Held,
-    /// Memory was refused while it was made or judged, so it comes again as the next line.
+    /// Memory was refused while that line was judged, so that line comes again as the next one.
     Refused,
 }
 

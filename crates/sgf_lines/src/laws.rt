@@ -26,8 +26,8 @@ ghost use Rattle.sgf_lines.specs.Walk.{walk, IsAfter, HasIllegal};
 ghost use Rattle.sgf_lines.specs.Script.{has_no_commands, script};
 ghost use Rattle.sgf_lines.specs.Replay.{shows, replayed};
 
-/// If some text spells a collection, the places of its lines rise strictly.
-/// So no line comes twice, and its place identifies a line.
+/// If some text spells a collection, the places of the collection's lines rise strictly.
+/// So no line comes twice, and a line is identified by its place.
 pub fn rise()
     ensures { (games : Games) (text : List ℕ) → Spells games text → IsStrictlyIncreasing (map place_of (lines games)) }
 {
@@ -61,8 +61,8 @@ pub fn kept()
 }
 
 /// One text after another, in list form. Let each of two texts spell games, and let the second not begin with a byte order mark.
-/// Then the two joined spell the games of both. Their rows are those of the first text, and then those of the second. In
-/// the latter, places are raised by the length of the first text, and game numbers by its number of games.
+/// Then the two joined spell the games of both. Their rows are those of the first text, and then those of the second. In the
+/// rows of the second, places are raised by the length of the first text, and game numbers by its number of games.
 /// So a database that grows at its end leaves all earlier rows unchanged.
 pub fn append()
     ensures spelled { (games others : Games) (text later : List ℕ) → Spells games text → Spells others later
@@ -76,8 +76,8 @@ pub fn append()
     sgf_tree::laws::append();
 }
 
-/// The places that the lines of a collection touch are the places of all its nodes, in file order. A page has at most as many
-/// judged nodes as its lines touch, and at most as many as there are nodes. So no run plays more.
+/// The nodes on the lines of a collection, each taken once, are all its nodes, in file order. A page has at most as many judged
+/// nodes as there are nodes on its lines, and at most as many as the collection has nodes. So no run plays more nodes.
 pub fn touched()
     ensures places { (games : Games) (text : List ℕ) → Spells games text
         → touched_places (lines games) ≡ node_places games }
@@ -90,7 +90,7 @@ pub fn touched()
 
 /// Take a page with a limit, and the page of all lines after its last line. If some
 /// text spells the collection, the two joined are the page without the limit.
-/// So runs of at least one line, each begun after the last place of the run before, make the whole output.
+/// So if each run writes a line or more, and begins after the last place of the run before, the outputs join to the whole output.
 pub fn pages()
     ensures { (games : Games) (text : List ℕ) → Spells games text → (options : Options) (front : List Line) (last : Line)
         → page options games ≡ Some (front ++ last ∷ []) → (rest : List Line)
@@ -102,7 +102,7 @@ pub fn pages()
 
 /// An engine that begins without a board reads the bytes of a script with commands, and follows it from the top. The script sets
 /// the size, and clears the board before the first stone. It plays no stone on a point that isn't empty. The last board is the
-/// colouring of the judged line after the nodes before its first illegal one, or after all nodes.
+/// colouring after all nodes of the judged line, or after the nodes before its first illegal node.
 /// So an engine that plays stones by the same rules shows the position that was judged.
 pub fn replay()
     ensures { (line : Line) (side : ℕ) → game_kind (root_properties line.nodes) ≡ board side
@@ -118,8 +118,8 @@ pub fn replay()
 }
 
 /// The verdict of a line on a board of a given side, from the state in which a game begins. If each node's step is
-/// taken, the verdict is the score of the state after all of them. Else it names the first node whose step is
-/// refused, in the state after the nodes before it. The verdict then has that node's place, its reason, and the
+/// taken, the verdict is the score of the state after all of them. Otherwise it names the first node whose step is
+/// refused in the state after the nodes before that node. The verdict then has that node's place, its reason, and the
 /// number of turns made before the node, plus 1. Every list of nodes is of exactly one of these two kinds.
 pub fn judged()
     ensures scored { (side : ℕ) (nodes : List Node) (state : State) → IsAfter (starting side) nodes state

@@ -17,22 +17,22 @@
 //! }
 //! ```
 //!
-//! The loops end because each turn leaves one line fewer. (`lines_in_memory` has the whole loops, with their proofs.)
+//! The loops end because each pass leaves one line fewer. (`lines_in_memory` has the whole loops, with their proofs.)
 //!
 //! ```text
 //! decreases-lines l = length (lines l.cursor.games) - l.cursor.index
 //! decreases-verdicts l = length (lines l.follower.games) - l.follower.index
 //! ```
 //!
-//! The node given to `judge` must be a leaf. By [`laws::named`] the last node of each line is one.
+//! The node given to `judge` must be a leaf. By [`laws::named`] the last node of each line is a leaf.
 //! [`judge_at`] needs only the place of a line.
 //!
 //! | Module | What it has |
 //! |---|---|
 //! | `line`, `cursor`, `seek` | what is shown of a line; going over the lines of a collection; seeking the line with a place |
 //! | `options`, `fault` | what a run is asked for; how it may fail |
-//! | `verdict`, `judging` | the verdict of a line; judging lines: |
-//! | `judging/one_line`, `judging/judge` | one line, by its leaf or its place; a judge that goes along the nodes of a line, and back |
+//! | `verdict`, `judging` | the verdict of a line; judging lines, in the modules below |
+//! | `judging/one_line`, `judging/judge` | one line, by its leaf or its place; a judge that goes along a line's nodes, and back |
 //! | `judging/root`, `judging/contents`, `judging/step` | the board of a root's game; what a node holds; playing a node |
 //! | `going_on` | going on to the next line, and how much of it is held already |
 //! | `follower` | going over the lines that follow a cursor, and judging each |

@@ -38,7 +38,7 @@ impl Form {
         }
     }
 
-    /// The form with this number; None if none has it.
+    /// The form with this number, from 0; None if no form has it.
     pub fn numbered(number: u32) -> Option<Form>
         ensures { result ≡ slice_get forms number }
     {

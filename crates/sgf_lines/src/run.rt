@@ -38,9 +38,9 @@ const CHUNK: usize = 65_536;
 /// Reads a source to its end, and writes the records of the lines of the collection that
 /// its bytes spell (SGF FF[4], EBNF). Returns the number of lines written.
 ///
-/// The lines are those that follow the line with the place `options.after`, or all. Of these the first `options.limit` are
-/// written, or all. Each is written in the form `options.form`, in file order. A record is built whole before its first byte is
-/// put. After `Ok` the sink was flushed once, after the last record. It was flushed even if there was no record.
+/// The lines are those that follow the line with the place `options.after`; all lines if this is None. Of these the first
+/// `options.limit` are written; all of them if this is None. Each is written in the form `options.form`, in file order. A record is
+/// built whole before its first byte is put. After `Ok` the sink was flushed once, at the end, even if there was no record.
 /// After `Read`, `TooLong`, `NotSgf` and `NoSuchLine` the sink is as it was: nothing was put, and it was not flushed.
 ///
 /// The faults come in this order:
@@ -50,7 +50,7 @@ const CHUNK: usize = 65_536;
 /// 3. `NoSuchLine`.
 /// 4. `Write` if the sink failed.
 ///
-/// If memory was refused, `Memory` is returned in place of `Ok`, or of a fault that wasn't met yet.
+/// If memory was refused, `Memory` is returned in place of `Ok`, or of a fault that would have come later.
 pub fn split<S: Source, T: Sink>(
     alloc: Global,
     source: &mut S,
@@ -69,11 +69,11 @@ pub fn split<S: Source, T: Sink>(
 /// Splits as `split` does, with the same results, and adds to `plays` the number of nodes that it played. A node is played when
 /// its step is worked out, and not again for another line that shares it. `plays` must have room for `MAX_LENGTH` more.
 ///
-/// After `Ok` this is the number of different nodes that are judged on the lines written. On a line these are all nodes, or the
-/// nodes up to and including the first that isn't allowed. If the line's game isn't judged, there are none.
+/// After `Ok` the added number is that of the different nodes that are judged on the lines written. On a line these are all nodes,
+/// or the nodes up to and including the first that isn't allowed. If the line's game isn't judged, there are none.
 ///
-/// After `Write` or `Memory` it is at least the number for the first `lines` lines, and at most the number for these and the next
-/// one. After any other fault it is 0. In the form `Form::Sgf`, which has no verdict, it is always 0.
+/// After `Write` or `Memory` the added number is at least that for the first `lines` lines, and at most that for these and the next
+/// line. After any other fault it is 0. In the form `Form::Sgf`, which has no verdict, it is always 0.
 pub fn split_counted<S: Source, T: Sink>(
     alloc: Global,
     source: &mut S,
@@ -131,7 +131,7 @@ pub(crate) fn read_all<S: Source>(source: &mut S, text: &mut Vec<u8>) -> Result<
     }
 }
 
-/// A cursor after the line with the place that is asked for; before the first line if none is.
+/// A cursor after the line with the place that is asked for; before the first line if no place is asked for.
 fn cursor_after<'c, 'a>(
     alloc: Global,
     collection: &'c Collection<'a>,
@@ -168,13 +168,13 @@ pub(crate) struct Run<'c, 'a> {
     /// The judgement on that line, in the forms that judge.
     judge: Judge,
 
-    /// Its text as a game, in the sgf form.
+    /// That line as a game, in the sgf form.
     game: Pieces,
 
-    /// Its commands, in the gtp form.
+    /// The commands of that line, in the gtp form.
     script: Script,
 
-    /// What comes first in its record, in the forms that judge.
+    /// What comes first in the record of that line, in the forms that judge.
     head: Vec<u8>,
 }
 
@@ -217,7 +217,7 @@ impl<'c, 'a> Run<'c, 'a> {
         }
     }
 
-    /// Writes those records, without the flush.
+    /// Does the same as `write`, but doesn't flush the sink.
     fn write_lines<T: Sink>(&mut self, limit: u64, sink: &mut T) -> Result<u64, RunFault>
         requires fresh { IsFresh self.old }
         requires countable { (T.state sink.old).failures < u64.MAX }
@@ -265,7 +265,7 @@ impl<'c, 'a> Run<'c, 'a> {
         Ok(true)
     }
 
-    /// Makes the record of the line before the cursor. The run has kept its first `held` nodes already.
+    /// Makes the record of the line before the cursor. What a run keeps of the line's first `held` nodes is there already.
     fn make(&mut self, held: usize) -> Result<(), MemoryFault>
         requires some_node { 0 < length (nodes_before self.old.cursor) }
         requires some_line { 0 < self.old.cursor.index }

@@ -9,7 +9,7 @@ ghost use Rattle.sgf_lines.specs.inner.Seeking.{IsLeafAt, AllBefore, GoesOnFrom}
 use sgf_tree::{Collection, MemoryFault};
 use thiserror::Error;
 
-/// Why a cursor wasn't put after a line. The cursor is unchanged then.
+/// Why a call that takes the place of a line failed. A cursor is unchanged then.
 #[derive(Clone, Copy, Debug, PartialEq, Eq, Error)]
 pub enum SeekFault {
     /// No line has this place: no node has it, or the node with it isn't a leaf.
@@ -50,8 +50,8 @@ pub(crate) fn leaf_at(collection: &Collection<'_>, place: u64) -> Option<usize>
     None
 }
 
-/// The node to look at after a node that is before the place. Usually it is the next node. But if the last
-/// node below this one is before the place, too, it is the first one after all nodes below.
+/// The node to look at after `node`, which is before the place. If the last node below `node` is before the
+/// place, too, all nodes below are skipped. Otherwise the node to look at is the next one.
 fn go_on_from(collection: &Collection<'_>, node: usize, place: u64) -> usize
     requires within { node < node_count collection.now }
     requires small { node_count collection.now ≤ usize.MAX }

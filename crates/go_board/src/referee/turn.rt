@@ -1,5 +1,5 @@
 //! A referee's turns. For positional superko the referee asks the past whether a stone
-//! would make a colouring that was there since the last setup of stones.
+//! would repeat a colouring made since the last setup of stones.
 
 use crate::fault::{MemoryFault, TurnFault};
 use crate::past::Past;
@@ -77,7 +77,7 @@ impl<P: Past> Referee<P> {
         Ok(())
     }
 
-    /// Plays a stone as a player's turn, unless this repeats a colouring. Returns whether the turn was taken.
+    /// Plays a stone as a player's turn, unless it repeats a colouring of the present stretch. Returns whether the turn was taken.
     fn take_stone(&mut self, colour: Colour, point: Point) -> Result<bool, MemoryFault>
         requires on_board { IsOn self.old.present.colouring.side point }
         requires only_repeat { MayOnlyRepeat self.old.present colour (Stone point) }

@@ -2,7 +2,7 @@
 use Rattle.std.specs.Prelude.{ℕ, nat_le, if◌then◌else◌, List, [], ◌∷◌, length}
 use Rattle.go_board.specs.State.{State, States}
 
--- the states of a referee when it had accepted at most `depth` setups and turns
+-- a referee's states after undoing until at most `depth` states are left before the present one
 abbrev pub back_from : State → List State → ℕ → States
 back_from present [] depth = record { present = present; earlier = [] }
 back_from present (earlier ∷ others) depth =

@@ -11,7 +11,8 @@ abbrev pub first_after : List ℕ → ℕ
 first_after [] = 0
 first_after (number ∷ numbers) = last_number (number ∷ numbers) + 1
 
--- The new path keeps a prefix of the old one. Then it has the nodes from the first one after the old line down to its own leaf.
+-- The new path keeps the first `kept` nodes of the old path. The nodes from the first one after the old line, down to the new leaf,
+-- come after these.
 pub record Continues (old : List ℕ) (kept : ℕ) (new : List ℕ) : Type 0 where
   pub kept_within : kept ≤ length old
   pub more : ℕ

@@ -31,7 +31,7 @@ kind_named name =
 abbrev pub kind_of : Property → Option Kind
 kind_of p = kind_named p.name
 
--- the comment that was found before; if none was, this one
+-- the comment that was found before; if no comment was found, the value `first`
 abbrev pub first_comment : Option (List ℕ) → List ℕ → Option (List ℕ)
 first_comment (Some met) first = Some met
 first_comment None first = Some first
@@ -56,14 +56,14 @@ setup_with_stones NoSetup true = Meant None
 setup_with_stones (Meant player) true = Meant player
 setup_with_stones Faulty true = Faulty
 
--- a setup with more players, of whom this is the last; None if one of them isn't a player
+-- a setup with more players, given the last of them; None is given if one of their values names no player
 abbrev pub setup_with_player : Setup → Option Colour → Setup
 setup_with_player setup None = Faulty
 setup_with_player NoSetup (Some player) = Meant (Some player)
 setup_with_player (Meant before) (Some player) = Meant (Some player)
 setup_with_player Faulty (Some player) = Faulty
 
--- The operations of the stones were appended to `old`; or some of the stones name no rectangle of the board.
+-- Either the operations of the stones were appended to `old`, or some of the stones name no rectangle of the board.
 pub record AddsAreas (side : ℕ) (stones : List Stones) (old new : List SetupOp) (good : Bool) : Type 0 where
   pub added : MatchBool good ((ops : List SetupOp) × (operations stones side ≡ Some ops) × (new ≡ old ++ ops)) (operations stones side ≡ None)
   pub on_board : All (λ op. IsRectOn side op.area) old → All (λ op. IsRectOn side op.area) new

@@ -21,8 +21,8 @@ use Rattle.sgf_lines.specs.declared.judging.step.Effect.TheVariants.{Nothing, St
 use Rattle.sgf_lines.specs.declared.judging.step.TakenStep.{TakenStep}
 use Rattle.sgf_lines.specs.inner.Back.{back_to}
 
--- Either the game isn't judged, and this is the verdict. Or a referee has these states, one
--- more than nodes were allowed; once a node wasn't allowed, the verdict is known.
+-- Either the game isn't judged, and the verdict is `told`. Or a referee has these states, one more
+-- than the nodes that were allowed; if a node wasn't allowed, `ended` is the verdict.
 pub data Judgement : Type 0 where
   unjudged : (told : Verdict) → Judgement
   judged : (states : States) → (ended : Option Verdict) → Judgement
@@ -44,18 +44,18 @@ begun_game not_go = unjudged NotGo
 begun_game bad_size = unjudged BadSize
 begun_game (board side) = judged (begun side) None
 
--- a step that was taken adds a state; a refused step ends the line
+-- a step that was taken adds a state; a refused step settles the verdict
 abbrev pub stepped : States → Node → Result State Reason → Judgement
 stepped states node (Ok state) = judged (followed_by states state) None
 stepped states node (Err reason) = judged states (Some (Illegal (states.present.turns + 1) node.place reason))
 
--- after one more node
+-- the judgement after one more node
 abbrev pub after : Judgement → Node → Judgement
 after (unjudged told) node = unjudged told
 after (judged states (Some told)) node = judged states (Some told)
 after (judged states None) node = stepped states node (step states.present node)
 
--- after these nodes
+-- the judgement after these nodes
 abbrev pub judging : GameKind → List Node → Judgement
 judging kind nodes = fold after (begun_game kind) nodes
 
@@ -79,7 +79,7 @@ abbrev pub state_of : Result State Reason → Option State
 state_of (Ok state) = Some state
 state_of (Err reason) = None
 
--- the state that a node leads to; None if it isn't allowed, or if nothing is played any more
+-- the state that a node leads to; None if the node isn't allowed, or if the verdict is known already
 abbrev pub state_after : Judgement → Node → Option State
 state_after (unjudged told) node = None
 state_after (judged states (Some told)) node = None
@@ -101,7 +101,8 @@ abbrev pub judgement_of : Option Verdict → Option States → Judgement
 judgement_of ended None = unjudged (unwrap_or ended NotGo)
 judgement_of ended (Some states) = judged states ended
 
--- The referee takes the step. Or it refuses the step for its reason, or memory is refused; then it is unchanged.
+-- Either the referee takes the step. Or it refuses the step for the step's reason, or memory is refused: then the referee is
+-- unchanged.
 abbrev pub IsStepped : {A : Type 0} → Result State Reason → States → States → Result A TurnFault → Type 0
 IsStepped step old new (Ok _) = (step ≡ Ok new.present) × (new ≡ followed_by old new.present)
 IsStepped step old new (Err (IllegalTurn reason)) = (step ≡ Err reason) × (new ≡ old)
@@ -137,7 +138,7 @@ abbrev pub side_in : Judgement → ℕ
 side_in (unjudged told) = 0
 side_in (judged states ended) = states.present.colouring.side
 
--- what is reported of the next node: its step, if that was taken
+-- what is reported of the next node: its step, if the step was taken
 abbrev pub IsTakenFrom : Judgement → Node → Option TakenStep → Type 0
 IsTakenFrom judgement node None = state_after judgement node ≡ None
 IsTakenFrom judgement node (Some taken) =

@@ -26,7 +26,7 @@ judging_front nodes count = judging (game_kind (root_properties nodes)) (take co
 abbrev pub script_front : List Node → ℕ → ScriptState
 script_front nodes count = script_of (game_kind (root_properties nodes)) (take count nodes)
 
--- what a run keeps from line to line: the judgement, the game in pieces and the script of a line, each only in the forms that need it
+-- what a run keeps from line to line: a line's judgement, its game in pieces and its script, each only in the forms that need it
 pub record Kept : Type 0 where
   pub judgement : Judgement
   pub game : PiecesState
@@ -35,19 +35,19 @@ pub record Kept : Type 0 where
 abbrev pub kept_in : Run → Kept
 kept_in run = record { judgement = run.judge.judgement; game = run.game; script = run.script }
 
--- of the first `count` nodes of a line
+-- what a run keeps of a line can be cut back to the first `count` of these nodes
 abbrev pub KeepsBy : Form → List Node → ℕ → Kept → Type 0
 KeepsBy list_form nodes count kept = back count kept.judgement ≡ judging_front nodes count
 KeepsBy sgf_form nodes count kept = cut (count + 1) kept.game ≡ open_record (take count nodes)
 KeepsBy gtp_form nodes count kept = (back count kept.judgement ≡ judging_front nodes count) × (script_back count kept.script ≡ script_front nodes count)
 
--- of a line whose record was made
+-- what a run keeps is that of a line with these nodes, whose record was made
 abbrev pub HoldsBy : Form → List Node → Kept → Type 0
 HoldsBy list_form nodes kept = kept.judgement ≡ judging_front nodes (length nodes)
 HoldsBy sgf_form nodes kept = kept.game ≡ whole_record nodes
 HoldsBy gtp_form nodes kept = (kept.judgement ≡ judging_front nodes (length nodes)) × (kept.script ≡ script_ended (script_front nodes (length nodes)))
 
--- what holds of the line before a cursor
+-- what is known of the line before a cursor, and of what is kept of it
 abbrev pub StandsBy : Form → Before → CursorState → Kept → Type 0
 StandsBy form Unheld cursor kept = Unit {0}
 StandsBy form Held cursor kept = (0 < length (nodes_before cursor)) × HoldsBy form (nodes_before cursor) kept
@@ -75,7 +75,7 @@ record_in run = record_by run.form run.head.items run.game run.script
 abbrev pub fresh_plays : List Node → ℕ → ℕ
 fresh_plays nodes shared = length (judged_on (game_kind (root_properties nodes)) nodes) - shared
 
--- The plays went from `old` to `new` by this many. If memory was refused, by at most so many.
+-- The plays rose from `old` to `new` by `count`. If memory was refused, they rose by at most `count`.
 pub record PlaysUpTo {A E : Type 0} (old new count : ℕ) (result : Result A E) : Type 0 where
   pub not_fewer : old ≤ new
   pub not_more : new ≤ old + count
@@ -89,8 +89,8 @@ pub record HasPlays (form : Form) (before : Before) (cursor : CursorState) (coun
   pub goes_on : GoesOnBy before cursor (advanced cursor) held
   pub count_is : count ≡ plays_in form (fresh_plays line.nodes held)
 
--- The plays went from `old` to `new` when a cursor's next line was to be written. They rose by those for that line, if there is
--- one. If memory was refused, they rose by none or some of those.
+-- The plays went from `old` to `new` when a cursor's next line was to be written. They rose by the plays for that line, if there
+-- is a next line. If memory was refused, they rose by at most the plays for that line.
 abbrev pub PlaysLine : {E : Type 0} → Form → Before → CursorState → ℕ → ℕ → Result Bool E → Type 0
 PlaysLine form before cursor old new (Ok true) = (count : ℕ) × HasPlays form before cursor count × (new ≡ old + count)
 PlaysLine form before cursor old new (Ok false) = new ≡ old

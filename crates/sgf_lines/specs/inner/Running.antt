@@ -59,7 +59,7 @@ pub record HasRecord (form : Form) (old new : CursorState) (bytes : List ℕ) : 
   pub bytes_are : bytes ≡ record_of form line
   pub goes_on : new ≡ advanced old
 
--- a sink took all of these bytes, or took fewer and failed
+-- a sink took all of these bytes, or it took fewer of them and failed
 abbrev pub PutsAll : {A E : Type 0} → SinkState → SinkState → List ℕ → Result A E → Type 0
 PutsAll old new bytes (Ok _) = Appends old.taken new.taken bytes × (new.failures ≡ old.failures)
 PutsAll old new bytes (Err _) = (count : ℕ) × (count < length bytes) × Appends old.taken new.taken (take count bytes) × (new.failures ≡ old.failures + 1)

@@ -37,12 +37,13 @@ is_unreaching grid Nothing = false
 is_unreaching grid stones_set = has_unreaching grid
 is_unreaching grid (one_play colour play) = false
 
--- the commands so far, and how many of the first pieces stand before a setup that leaves a stone without a liberty
+-- the commands so far, and how many pieces stand before the first setup that leaves a stone without a liberty
 pub record ScriptState : Type 0 where
   pub text : PiecesState
   pub said : ℕ
 
--- a script without commands: before any line; of a line that isn't judged; or of one whose board has more columns than vertices have letters
+-- A script without commands. It stands before any line, for a line that isn't judged, or for a line whose board has more columns
+-- than vertices have letters.
 abbrev pub no_script : ScriptState
 no_script = record { text = no_pieces; said = 0 }
 
@@ -57,21 +58,21 @@ abbrev pub script_on : Option Grid → ScriptState
 script_on None = no_script
 script_on (Some grid) = script_begun grid.side
 
--- one more piece; a script without commands stays so
+-- the script with one more piece; a script without commands stays without
 abbrev pub said_on : ScriptState → Bool → List ℕ → ScriptState
 said_on old unreaching more =
     if length old.text.pieces == 0 then old
     else record { text = closed (pushed old.text more); said = if old.said == length old.text.pieces then (if unreaching then old.said else old.said + 1) else old.said }
 
--- back to the first `count` taken nodes
+-- the script cut back to the first `count` taken nodes
 abbrev pub script_back : ℕ → ScriptState → ScriptState
 script_back count old = record { text = cut (count + 1) old.text; said = min (count + 1) old.said }
 
--- with the empty row that ends a script
+-- the script with the empty row that ends it
 abbrev pub script_ended : ScriptState → ScriptState
 script_ended old = record { text = pushed old.text (codes "\n"); said = old.said }
 
--- what is written of a script: the empty row alone unless all its pieces can be said
+-- what is written of a script: its whole text; but an empty row alone if some setup leaves a stone without a liberty
 abbrev pub script_text : ScriptState → List ℕ
 script_text script = if nat_lt script.said (length script.text.pieces) then codes "\n" else concat script.text.pieces ++ script.text.begun
 
@@ -86,7 +87,7 @@ script_of not_go nodes = no_script
 script_of bad_size nodes = no_script
 script_of (board side) nodes = script_along side (walk side nodes).taken
 
--- one more node, given the judgement before it
+-- the script after one more node, by the state after the node or by the judgement before it
 abbrev pub said_by : ScriptState → Option State → Node → ScriptState
 said_by old None node = old
 said_by old (Some state) node =

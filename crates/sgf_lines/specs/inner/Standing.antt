@@ -13,7 +13,8 @@ use Rattle.sgf_lines.specs.inner.PathTo.{IsPathTo}
 abbrev pub lines_before : Games → ℕ → ℕ
 lines_before games number = prefix_len (λ path. nat_lt (leaf_of path) number) (paths games)
 
--- Where a cursor stands. It goes on from the node `next`. The node before that is the last leaf, and `numbers` is the path to it.
+-- Where a cursor stands. It goes on from the node `next`. The node before `next`, if there is one, is a leaf, and `numbers` is the
+-- path to this leaf.
 pub record IsAfterLeaf (games : Games) (next : ℕ) (numbers : List ℕ) : Type 0 where
   pub within : next ≤ node_count games
   pub start : next ≡ 0 → numbers ≡ []

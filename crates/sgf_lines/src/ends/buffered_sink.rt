@@ -15,11 +15,11 @@ const CAPACITY: usize = 65_536;
 /// A sink over any writer that holds back up to 65,536 bytes.
 ///
 /// It writes what it holds back when there is no room for more, and at a flush, which also flushes
-/// the writer. Bytes that are too long to be held are passed straight to the writer. If the writer
-/// reports its bytes, the sink reports those that it has taken and delivered.
+/// the writer. If it gets more bytes at once than it can hold, it passes them straight to the writer. If
+/// the writer reports its bytes, the sink reports those that it has taken and delivered.
 ///
-/// An interrupted write, or one of 0 bytes, counts as failed, too. After a failure the writer isn't
-/// called again. Nor is it called when the sink is dropped: what was held back is lost.
+/// An interrupted write counts as failed, and so does a write of 0 bytes. After a failure the writer isn't
+/// called again. Dropping the sink doesn't call the writer either: the bytes that are held back are lost.
 #[derive(Debug, Drop)]
 pub struct BufferedSink<W: Write + Drop> {
     writer: W,
@@ -58,7 +58,7 @@ impl<W: Write + Drop> BufferedSink<W> {
         self.writer
     }
 
-    /// Takes bytes that there is room for.
+    /// Holds bytes back. There must be room for them.
     fn hold(&mut self, bytes: &[u8])
         requires never_failed { self.old.failures ≡ 0 }
         requires room { vec_len self.old.buffer + length bytes.now ≤ 65536 }
@@ -87,8 +87,8 @@ impl<W: Write + Drop> BufferedSink<W> {
         Ok(())
     }
 
-    /// Takes bytes that there is no room for: makes room first, or writes them
-    /// straight if they are longer than all that can be held.
+    /// Takes bytes for which there is no room. First it writes all that is held back.
+    /// Then it holds the bytes back, or writes them straight if they are too many to hold.
     #[cold]
     #[inline(never)]
     fn put_without_room(&mut self, bytes: &[u8]) -> Result<usize, SinkFault>

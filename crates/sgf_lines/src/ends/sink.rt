@@ -28,7 +28,7 @@ pub trait Sink {
         requires countable { (state self.old).failures < u64.MAX }
         ensures { IsPut (state self.old) (state self.new) bytes.now result };
 
-    /// Delivers all that it has taken. It takes nothing.
+    /// Delivers all bytes that the sink has taken. A flush takes no bytes.
     ///
     /// If the sink fails, its count of failures rises by one, and what it held back may be delivered in part.
     fn flush(&mut self) -> Result<(), SinkFault>
@@ -46,8 +46,8 @@ pub trait Sink {
 /// A sink over any writer, which may be a `&mut Vec<u8>`. If the writer reports its bytes, the sink reports
 /// those that it has taken.
 ///
-/// It holds nothing back: what it takes is passed on to the writer. Its flush flushes the writer. An interrupted write, or one of
-/// 0 bytes, counts as failed, too. After a failure the writer isn't called again.
+/// It holds nothing back: what it takes is passed on to the writer. Its flush flushes the writer. An interrupted write counts as
+/// failed, and so does a write of 0 bytes. After a failure the writer isn't called again.
 #[derive(Debug, Drop)]
 pub struct WriteSink<W: Write + Drop> {
     writer: W,

@@ -19,7 +19,7 @@ pub trait Source {
     ghost state: { Self → SourceState };
 
     /// Writes the next bytes to the front of `buffer`, which must not be empty.
-    /// Returns how many they are: 0 at the end of the source, and only there.
+    /// Returns the number of these bytes. It is 0 at the end of the source, and only there.
     ///
     /// If the source fails, it gives nothing, and its count of failures rises by one.
     fn get(&mut self, buffer: &mut [u8]) -> Result<usize, SourceFault>

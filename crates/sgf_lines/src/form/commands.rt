@@ -13,7 +13,7 @@ use go_board::{Board, Colour, MAX_VERTEX_SIDE, Play, Point, Size, Vertex, vertex
 use memchr::memchr;
 use sgf_tree::{MemoryFault, push_text};
 
-/// Appends the commands before those of the first node, which set the size of the board and clear it.
+/// Appends the commands that come before those of the first node. They set the size of the board and clear the board.
 pub(crate) fn push_board_commands(size: Size, output: &mut Vec<u8>) -> Result<(), MemoryFault>
     ensures { OnOk result (output.new.items ≡ output.old.items ++ board_commands size) }
 {
@@ -22,7 +22,7 @@ pub(crate) fn push_board_commands(size: Size, output: &mut Vec<u8>) -> Result<()
     push_bytes(b"\nclear_board\n", output)
 }
 
-/// Appends what a taken step adds to the script of a line; `board` is the board after it.
+/// Appends what a taken step adds to the script of a line; `board` is the board after the step.
 pub(crate) fn push_step(
     step: TakenStep<'_>,
     board: &Board,
@@ -128,7 +128,7 @@ fn push_point(
     }
 }
 
-/// Appends a play command. It is laid out first and appended at once, because most nodes add one.
+/// Appends a play command. Its bytes are laid out first and appended in one call, because most nodes add one.
 fn push_play(
     size: Size,
     colour: Colour,

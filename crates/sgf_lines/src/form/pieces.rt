@@ -32,7 +32,7 @@ impl Model for Pieces {
 }
 
 impl Pieces {
-    /// No pieces, and an empty unfinished one.
+    /// A text without finished pieces. The unfinished piece is empty.
     pub(crate) fn new(alloc: Global) -> Pieces
         ensures { result ≡ no_pieces }
     {
@@ -49,7 +49,7 @@ impl Pieces {
         self.ends.len()
     }
 
-    /// Appends a piece for each node of the line before a cursor from an index on, as the sgf form writes it.
+    /// Appends a piece for each node, from an index on, of the line before a cursor: the node as the sgf form writes it.
     pub(crate) fn push_nodes(
         &mut self,
         cursor: &Cursor<'_, '_>,

@@ -10,8 +10,8 @@ use crate::form::pieces::Pieces;
 use sgf_tree::MemoryFault;
 
 /// Changes `kept` to the record of the line before the cursor. `kept` has the first `held` nodes of that line already.
-/// The record is a piece for the parenthesis, a piece for each node, and an unfinished piece for its end.
-/// The next line cuts that off. After a refusal of memory nothing is known of the record.
+/// The record is a piece for the parenthesis, a piece for each node, and an unfinished piece for its end. The
+/// next line cuts this unfinished piece off. After a refusal of memory nothing is known of the record.
 pub(crate) fn follow(
     cursor: &Cursor<'_, '_>,
     held: usize,
@@ -21,7 +21,7 @@ pub(crate) fn follow(
     requires keeps { 0 < held → cut (held + 1) kept.old ≡ open_record (take held (nodes_before cursor.now)) }
     ensures { OnOk result (kept.new ≡ whole_record (nodes_before cursor.now)) }
 {
-    // A line has fewer nodes than there are numbers.
+    // A line has fewer nodes than `usize::MAX`, so `held + 1` is a number.
     let _nodes = cursor.len();
     if held == 0 {
         begin(kept)?;

@@ -24,7 +24,7 @@ pub(crate) struct Script {
     /// judged, or if its board has more columns than vertices have letters.
     pieces: Pieces,
 
-    /// The number of pieces before the first setup that leaves a stone without a liberty; all of them if there is none.
+    /// The number of pieces before the first setup that leaves a stone without a liberty; of all pieces if no setup does so.
     said: usize,
 
     /// A buffer for the commands of a node.
@@ -74,7 +74,7 @@ impl Script {
         Ok(())
     }
 
-    /// Adds a node whose step was taken; `board` is the board after it.
+    /// Adds the commands of a node whose step was taken; `board` is the board after the step.
     fn say(&mut self, step: TakenStep<'_>, board: &Board) -> Result<(), MemoryFault>
         requires letters { (length self.old.text.pieces == 0) ≡ false → board.now.side ≤ MAX_VERTEX_SIDE }
         requires playable { IsPlayable board.now.side step.effect }
@@ -94,7 +94,7 @@ impl Script {
         Ok(())
     }
 
-    /// Judges a node with this place, and adds it if its step was taken.
+    /// Judges a node with this place, and adds its commands if its step was taken.
     fn take(
         &mut self,
         node: &NodeRef<'_, '_>,
@@ -135,7 +135,8 @@ impl Script {
         self.pieces.push(b"\n")
     }
 
-    /// The bytes that are written: the script, or an empty row alone if the line can't be written as commands.
+    /// The bytes that are written after the line's row: the commands and an empty row, or an empty row alone if the line can't be
+    /// written as commands.
     pub(crate) fn text(&self) -> &[u8]
         ensures { result.now ≡ script_text self.now }
     {

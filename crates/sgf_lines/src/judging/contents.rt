@@ -27,7 +27,7 @@ pub(crate) enum Moves<'a> {
 pub(crate) enum Setup {
     /// There are neither stones nor players.
     Nothing,
-    /// Each value names a rectangle of the board or a player. This is the last player, if there is one.
+    /// Each value names a rectangle of the board or a player. The field is the last player, if there is one.
     Meant(Option<Colour>),
     /// Some value of AB, AW or AE names no rectangle of the board, or some value of PL names no player.
     Faulty,
@@ -38,7 +38,7 @@ pub(crate) enum Setup {
 pub(crate) struct Contents<'a> {
     pub(crate) moves: Moves<'a>,
     pub(crate) setup: Setup,
-    /// The first value of its first C.
+    /// The first value of the node's first C.
     pub(crate) comment: Option<&'a [u8]>,
 }
 
@@ -51,8 +51,8 @@ pub(crate) enum Kind {
     Comment,
 }
 
-/// What a node holds, on a board of that size. Unless the setup is faulty,
-/// `operations` becomes what its values of AB, AW and AE set up, in order.
+/// What a node holds, on a board of that size. Unless the setup is faulty, `operations`
+/// becomes the operations that the node's values of AB, AW and AE name, in order.
 pub(crate) fn gathered<'a>(
     node: &NodeRef<'_, 'a>,
     size: Size,
@@ -80,7 +80,7 @@ impl<'a> Contents<'a> {
         }
     }
 
-    /// What a property holds if its name has one letter and it has one value.
+    /// What a property holds if its name is this one letter and its only value is `raw`.
     fn of_lone(letter: u8, raw: &'a [u8]) -> Contents<'a>
         ensures { (side : ℕ) → IsGathered side (lone_property letter raw.now ∷ []) [] result }
     {
@@ -200,7 +200,7 @@ fn with_stones(setup: Setup, good: bool) -> Setup
     }
 }
 
-/// A setup with more players, of whom this is the last. None means that one of the values names no player.
+/// A setup with more players. `last` is the last of them; None means that one of the values names no player.
 fn with_player(setup: Setup, last: Option<Colour>) -> Setup
     ensures { result ≡ setup_with_player setup last }
 {

@@ -1,4 +1,4 @@
-//! A judge goes along the nodes of a line, and back to where the next line leaves it.
+//! A judge goes along the nodes of a line, and back to the last node that the next line shares.
 
 ghost use Rattle.std.specs.Prelude.{◌≡◌, ◌+◌, ◌<◌, OnOk, OnErr, IfOk, option_copied};
 ghost use Rattle.go_board.specs.State.{begun};
@@ -24,7 +24,7 @@ pub(crate) struct Judge {
     /// A buffer for what a node sets up.
     operations: Vec<SetupOp>,
 
-    /// The verdict, once it is known before the line's last node.
+    /// The verdict, if it is known already: the game isn't judged, or a node isn't allowed.
     ended: Option<Verdict>,
 
     plays: u64,
@@ -89,8 +89,8 @@ impl Judge {
         Ok(())
     }
 
-    /// Takes one more node, with this place, and returns its step. None if the step isn't taken: the game isn't judged, the node
-    /// isn't allowed, or the line ended before it. After a refusal of memory nothing is changed.
+    /// Takes one more node, with this place, and returns its step. None if the step isn't taken: the game isn't judged, or this
+    /// node or an earlier one isn't allowed. After a refusal of memory nothing is changed.
     pub(crate) fn take<'a>(
         &mut self,
         node: &NodeRef<'_, 'a>,
@@ -178,8 +178,8 @@ impl Judge {
     }
 }
 
-/// A referee of a game on a board of that size. This is a function of its own because it
-/// holds whole boards. A call makes room for them even if no game is made.
+/// A referee of a game on a board of that size. This is a function of its own because whole boards
+/// stand on its stack. Inlined, it would make each call of `begin_on` set aside room for them.
 #[inline(never)]
 fn new_referee(alloc: Global, size: Size) -> Result<Referee<PrintPast>, MemoryFault>
     ensures { IfOk result (λ referee. referee ≡ begun size) }

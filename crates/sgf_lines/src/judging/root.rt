@@ -13,7 +13,7 @@ use sgf_tree::{NodeRef, number};
 const USUAL_SIDE: i64 = 19;
 
 /// Returns the size of the board of a root's game. If the game isn't judged, returns the verdict of
-/// each of its lines. A game that isn't Go is called that even if its size is faulty.
+/// each of its lines. If the game isn't Go, this is `NotGo`, even if its size is faulty.
 pub(crate) fn board_size(root: &NodeRef<'_, '_>) -> Result<Size, Verdict>
     ensures { result ≡ size_said (game_kind root.now.properties) }
 {
@@ -34,7 +34,7 @@ fn first_value<'a>(node: &NodeRef<'_, 'a>, name: &[u8]) -> Option<&'a [u8]>
     Some(property.value(0))
 }
 
-/// Whether a value of GM means Go: there is none, or it is the number 1.
+/// Whether the game is Go by its GM: it has no GM, or the value is the number 1.
 fn is_go(game: Option<&[u8]>) -> bool
     ensures { result ≡ is_go_rule (option_copied game.entry) }
 {
@@ -44,7 +44,7 @@ fn is_go(game: Option<&[u8]>) -> bool
     }
 }
 
-/// The size that a value of SZ gives: 19 if there is none, else a number that is the side of a board. None for any other value.
+/// The size that SZ gives: 19 if there is no SZ, or its value if this is the side of a board. None for any other value.
 fn size(value: Option<&[u8]>) -> Option<Size>
     ensures { result ≡ side_of (option_copied value.entry) }
 {

@@ -29,7 +29,7 @@ pub(crate) enum Effect {
 #[derive(Clone, Copy)]
 pub(crate) struct TakenStep<'a> {
     pub(crate) effect: Effect,
-    /// The first value of its first C.
+    /// The first value of the node's first C.
     pub(crate) comment: Option<&'a [u8]>,
 }
 
@@ -58,7 +58,7 @@ pub(crate) fn take_step<'a, P: Past>(
     }
 }
 
-/// Takes the step of a node with these contents; its stones make these operations.
+/// Takes the step of a node with these contents. `operations` has the operations of the node's stones.
 fn take_contents<P: Past>(
     referee: &mut Referee<P>,
     contents: &Contents<'_>,

@@ -50,7 +50,7 @@ pub record IsNextBracket (text : List ℕ) (at end : ℕ) : Type 0 where
   pub bracket : slice_index text end ≡ close_bracket
   pub before : HasNoBracket text at end
 
--- the bytes from `first` to `end` are the run of `\` just before `end`; bytes before `at` aren't counted
+-- the bytes from `first` to `end` are the run of `\` just before `end`, as far as it stands from `at` on
 pub record AreBackslashesBefore (text : List ℕ) (at first end : ℕ) : Type 0 where
   pub low : at ≤ first
   pub rises : first ≤ end
@@ -83,15 +83,15 @@ pub record IsTwoPlain (text : List ℕ) (at : ℕ) : Type 0 where
   pub plain : ArePlain text at (at + 2)
   pub bracket : slice_index text (at + 2) ≡ close_bracket
 
--- after any white space at `at` comes a byte that is less than every letter and bracket
+-- after any white space at `at` comes a byte less than `A`, so neither a letter nor a bracket
 pub record IsNodeEnd (text : List ℕ) (at : ℕ) : Type 0 where
   pub next : ℕ
   pub white_space : IsSpan is_white_space text at next
   pub inside : next < length text
   pub below : slice_index text next < capital_a
 
--- the text begins like `;B[pd]`, without a gap: a `;`, a capital, and two plain bytes between brackets. At least one
--- more byte follows.
+-- After its first byte the text begins like `B[pd]`, without a gap: a capital, and two plain bytes between brackets. At least one
+-- more byte follows. The first byte, which is the `;` of a node, may be any byte here.
 pub record IsShortFront (text : List ℕ) : Type 0 where
   pub within : 6 < length text
   pub capital : IsTrue (is_upper (slice_index text 1))

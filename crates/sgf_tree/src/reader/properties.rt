@@ -13,12 +13,12 @@ use crate::reader::fault::PartFault;
 use crate::reader::scan::{letters_end, short_name_end, skip_white_space};
 use crate::reader::value::{is_two_plain, near_value_end, read_value};
 
-/// The least number of bytes that must be left for a look at a short property: a letter or two, a `[`,
-/// the 16 bytes in which the `]` is searched, and the byte after it.
+/// A property is read at a glance only if at least this many bytes are left: one or two letters, a `[`,
+/// the 16 bytes among which the `]` is searched for, and the byte after these.
 const GLANCE: usize = 20;
 
-/// Whether the byte at `at` ends the node before any property, as a `;` or a parenthesis does. It is
-/// inlined, so such a node is read without a call. A false result says nothing.
+/// Whether the byte at `at` ends the node before any property, as a `;` or a parenthesis does. This function
+/// is inlined, so such a node is read without a call. If the result is false, nothing is known.
 #[inline(always)]
 pub(crate) fn ends_at_once(text: &[u8], at: usize) -> bool
     ensures { IsTrue result → ArePropertiesRead text.now at at }
@@ -29,9 +29,9 @@ pub(crate) fn ends_at_once(text: &[u8], at: usize) -> bool
     false
 }
 
-/// Whether a node's properties, which begin at `at`, are a single one with a name of one letter and a value of two bytes, as in
-/// `B[pd]`, and the node ends at once after it. Most nodes are like that. It is inlined, so they are read
-/// without a call of `read_properties`. A false result says nothing.
+/// Whether a node has only one property, which is at `at`, and ends at once after it. The property's name is one letter, and its
+/// only value is two bytes, as in `B[pd]`. Most nodes are like that. This function is inlined, so they are read
+/// without a call of `read_properties`. If the result is false, nothing is known.
 #[inline(always)]
 pub(crate) fn is_lone_property(text: &[u8], at: usize) -> bool
     requires { at ≤ length text.now }
@@ -53,7 +53,7 @@ pub(crate) fn is_lone_property(text: &[u8], at: usize) -> bool
 /// How far a part of a text was read.
 #[derive(Clone, Copy)]
 pub(crate) struct PartRead {
-    /// The offset of the byte after it and the white space there.
+    /// The offset after the part and the white space that follows it.
     pub end: usize,
     /// 0 only if the sgf form writes the part as it stands in the text. Any other number says nothing.
     pub left_out: usize,
@@ -106,7 +106,7 @@ fn read_property(
 }
 
 /// Reads at a glance the property whose identifier begins at `start`, if it has a name of one or two letters
-/// and one short value. Nearly all properties are like that. None says nothing.
+/// and one short value. Nearly all properties are like that. If the result is None, nothing is known.
 #[inline(always)]
 fn read_short_property(text: &[u8], start: usize) -> Option<PartRead>
     requires within { start < length text.now }

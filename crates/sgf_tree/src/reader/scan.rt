@@ -128,15 +128,15 @@ fn far_capitals_end(text: &[u8], at: usize) -> usize
     end
 }
 
-/// Whether the text begins with a node that is written like `;B[pd]`.
+/// Whether the node at the front of the text is written like `;B[pd]`. If it is false, nothing is known.
 pub(crate) fn is_lone_node(text: &[u8]) -> bool
     ensures { IsTrue result → IsLoneNode text.now }
 {
     is_short_front(text) && ends_node(text, 6)
 }
 
-/// Whether the text begins with a node whose first property is written like
-/// `B[pd]`, and has no other value. If it is false, nothing is known.
+/// Whether the first property of the node at the front of the text is written
+/// like `B[pd]`, and has no other value. If it is false, nothing is known.
 pub(crate) fn is_lone_front(text: &[u8]) -> bool
     ensures { IsTrue result → IsLoneFront text.now }
 {
@@ -152,7 +152,8 @@ fn ends_values(text: &[u8], at: usize) -> bool
     end == text.len() || text[end] != b'['
 }
 
-/// Whether the text begins with a `;` and a property that is written like `B[pd]`, and goes on after these.
+/// Whether a property that is written like `B[pd]` follows the first byte of the text, and the text goes on after it.
+/// The first byte is the `;` of a node, and isn't looked at.
 fn is_short_front(text: &[u8]) -> bool
     ensures { IsTrue result → IsShortFront text.now }
 {

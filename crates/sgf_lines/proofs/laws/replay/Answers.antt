@@ -1,4 +1,4 @@
--- Each line of a script does to the board what its node's step does to the state.
+-- The rows of a node in a script do to the board what the node's step does to the state.
 use Rattle.sgf_lines.proofs.Placing.{BoardLaws}
 use Rattle.sgf_lines.proofs.Replaying.{script_replayed}
 use Rattle.sgf_lines.proofs.laws.replay.Goals as goal
