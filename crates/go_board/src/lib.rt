@@ -39,8 +39,8 @@
 //! A point *reaches* a colour if a path of adjacent points of the point's own colour leads
 //! from it to a point of that colour. A stone that reaches empty has a liberty.
 //!
-//! A past takes memory only in `new`, `push`, `restart`, `play` and `set_up`, and a referee only in `new`, `setup`, `turn` and
-//! `stay`. The `reset` of either takes memory only if the past can't begin anew in place.
+//! A past takes memory in `new`, `push`, `restart`, `play` and `set_up`, and a referee in `new`, `setup`, `turn` and `stay`.
+//! Besides these calls only `reset` may take memory, and only if the past can't begin anew in place.
 //!
 //! Worked examples are in the crate `go_board_tests`.
 #![tactic(auto)]

@@ -98,7 +98,7 @@ after_clear (sized side) = shows (empty_grid side)
 after_clear (shows board) = shows (empty_grid board.side)
 after_clear refused = refused
 
--- the point with this column from the left, from 0, and this number from the bottom, from 1; None if the board doesn't have it
+-- the point in this column (the leftmost is 0) and this row (the lowest is 1); None if the board has no such point
 abbrev pub point_there : ℕ → ℕ → ℕ → Option Point
 point_there side col number =
     if nat_lt col side && (nat_le 1 number && nat_le number side) then Some (record { col = col; row = side - number }) else None

@@ -38,7 +38,7 @@ verdict_of nodes = verdict_by (game_kind (root_properties nodes)) nodes
 abbrev pub verdict : Line → Verdict
 verdict line = verdict_of line.nodes
 
--- the judged nodes of a line: all, or those up to the first that isn't allowed, or none
+-- the judged nodes of a line: all, or those up to and including the first that isn't allowed, or none
 abbrev pub judged_on : GameKind → List Node → List Node
 judged_on not_go nodes = []
 judged_on bad_size nodes = []
