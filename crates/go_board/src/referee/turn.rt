@@ -20,7 +20,7 @@ impl<P: Past> Referee<P> {
 
     /// Takes a player's turn (Tromp-Taylor). A stone's point must be on the board. After a refusal nothing is changed.
     ///
-    /// - `Illegal`: the first of `Over`, `Turn`, `Occupied` and `Repeat` that holds. This refusal takes no memory.
+    /// - `Illegal`: the first of `Over`, `Turn`, `Occupied` and `Repeat` that holds. This refusal comes even if memory is refused.
     /// - `Memory`: the turn is allowed, but memory was refused.
     pub fn turn(&mut self, colour: Colour, play: Play) -> Result<(), TurnFault>
         requires { IsPlayOn self.old.present.colouring.side play }
