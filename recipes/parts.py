@@ -36,7 +36,9 @@ def parts(text, most):
                 begin, count = end, 0
             end = after
             count += 1
-    yield begin, len(text), count
+    if count == 0 or text[end:].strip():
+        end = len(text)  # what isn't white space after the last game has to be refused
+    yield begin, end, count
 
 
 def rows_of(name, most):
