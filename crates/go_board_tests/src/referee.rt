@@ -121,7 +121,7 @@ fn on_three<P: Past>(rt: &impl Abort, alloc: Global) -> Result<(), Fail> {
     Ok(())
 }
 
-/// A setup names only the player. Then the area of her one stone is the whole board.
+/// A setup names only the player, White. She plays the only stone, and all nine points count for her.
 fn player_alone<P: Past>(rt: &impl Abort, alloc: Global) -> Result<(), Fail> {
     let mut game = Referee::<P>::new(alloc, size(rt, 3))?;
     game.setup(&[], Some(Colour::White))?;

@@ -1,4 +1,5 @@
-//! Calls of a referee that ask for memory: `new`, `turn`, `setup` and `stay`. Also `reset`, which asks for none with these pasts.
+//! Calls of a referee that ask for memory: `new`, `turn`, `setup` and `stay`. Also `reset`, which asks for
+//! none with `ListPast` and `PrintPast`.
 
 use crate::seen::Seen;
 use go_board::{
@@ -230,7 +231,7 @@ fn undo<P: Past>(game: &mut Referee<P>, seen: &mut Seen) {
     game.undo();
 }
 
-/// Begins another game, which asks for no memory with these pasts.
+/// Begins another game. With `ListPast` and `PrintPast` this asks for no memory.
 fn begin_another<P: Past>(game: &mut Referee<P>, seen: &mut Seen) {
     let size = game.board().size();
     seen.call();

@@ -45,9 +45,10 @@ const OTHER_GAME: &[u8] = b"(;GM[2](;)(;))";
 
 const OTHER_ROWS: [&[u8]; 2] = [b"8 1 2 unjudged game\n", b"11 1 2 unjudged game\n"];
 
-/// The rows of the game of two lines.
+/// The row of the first line of `TWO`.
 pub const FIRST: &[u8] = b"8 1 2 score 9 0 open\n";
 
+/// The row of its second line.
 pub const SECOND: &[u8] = b"22 1 3 score 1 1 open\n";
 
 const SCRIPT: &[u8] =

@@ -9,7 +9,7 @@ use std::test::Fail;
 /// One game of two lines, whose rows have 43 bytes.
 const TWO: &[u8] = b"(;SZ[3](;B[aa])(;B[bb];W[aa]))";
 
-/// The job of writing all lines of standard input.
+/// The job of splitting standard input in this form, all its lines of play.
 fn split(form: Form) -> Job {
     Job::Split {
         options: Options {
