@@ -4,9 +4,9 @@
 # make scripts    runs only the scripts of tests/
 # make lib        proves and builds the library for C and Python: out/libsgflines.so.0
 # make sgf_lines_tests  proves and builds the program of tests/failing_calls.sh
-# make install    PREFIX=/usr/local DESTDIR= PROGRAM=sgfsplit: installs the program, manual page, completion for bash, zsh and fish, the tools,
-#                 the library, header, pkg-config file, and the Python module (in PYTHON_DIR=PREFIX/lib/python3/dist-packages)
-# make uninstall  removes these again
+# make install    installs the program, manual page, completion for bash, zsh and fish, the tools, the library, header, pkg-config file,
+#                 and the Python module. Defaults: PREFIX=/usr/local DESTDIR= PROGRAM=sgfsplit PYTHON_DIR=PREFIX/lib/python3/dist-packages
+# make uninstall  removes what `make install` with the same variables installed
 # make deb        makes a Debian package in out/
 # make bench      measures the program (see docs/PERFORMANCE.md)
 PREFIX ?= /usr/local

@@ -6,7 +6,7 @@
 #include <stdio.h>
 #include <stdlib.h>
 
-/* The bytes of a file, and how many; NULL where it can't be read. */
+/* Returns the first bytes of a file, at most one more than a text may have, and sets their number. Returns NULL if that fails. */
 static uint8_t *read_file(const char *name, size_t *length) {
     FILE *file = fopen(name, "rb");
     uint8_t *bytes = malloc(SGF_LINES_MAX_LENGTH + 1);

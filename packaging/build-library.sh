@@ -1,6 +1,6 @@
 #!/usr/bin/env bash
-# Proves and builds the static library of crates/sgf_lines_c, and makes the shared library out/libsgflines.so.0 of it. The shared library contains
-# its allocating functions, over the C library's malloc. All messages of the prover go to out/sgf_lines_c.log.
+# Proves and builds the static library of crates/sgf_lines_c, and makes the shared library out/libsgflines.so.0 from it. The shared library also
+# has the kit's functions that allocate memory with the C library's malloc. All messages of the prover go to out/sgf_lines_c.log.
 set -uo pipefail
 cd "$(dirname "$0")/.."
 top=$PWD
@@ -11,8 +11,8 @@ kit=$(dirname "$(dirname "$(readlink -f "$(command -v rt)")")")
 log=out/sgf_lines_c.log
 mkdir -p out "$crate/out"
 
-# Whether the libraries below are those that the gate has just proved. `rt lib` doesn't accept these, because they name no sources. It would prove
-# them all once more.
+# Whether the merge gate has just proved the libraries `below`. `rt lib` doesn't accept those libraries, because they name no sources, and would
+# prove them all once more.
 just_proved() {
     local name
     for name in "${below[@]}"; do
@@ -22,7 +22,7 @@ just_proved() {
     done
 }
 
-# The same proof and build as `rt lib`, with these libraries.
+# Proves and builds as `rt lib` does, but over these libraries.
 build_over() {
     local name words=(-L "dependency=$kit/rlibs")
     for name in "${below[@]}"; do words+=(-L "dependency=$top/crates/$name/out/rlib"); done

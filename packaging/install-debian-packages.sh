@@ -1,5 +1,5 @@
 #!/bin/sh
-# Installs the packages that the scripts of tests/ and recipes/ use, on a Debian machine, as root. The test command skips each script whose
+# Installs the packages that the scripts of tests/ and recipes/ use. Run it on Debian, as root. The test command skips each script whose
 # programs are missing.
 set -eu
 apt-get update

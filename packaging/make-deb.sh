@@ -1,10 +1,10 @@
 #!/usr/bin/env bash
-# Makes the Debian package OUT/PROGRAM_VERSION_ARCHITECTURE.deb, and prints its path. It has the built program, its manual page, completion and
-# documents, and the library for C and Python. Variables: OUT (out), PROGRAM (sgfsplit). The file VERSION has the version.
+# Makes the Debian package OUT/PROGRAM_VERSION_ARCHITECTURE.deb, and prints its path. The package has the program, its manual page, completion
+# and documents, and the library for C and Python. Variables with their defaults: OUT (out), PROGRAM (sgfsplit). The file VERSION has the version.
 #
-# The owner has to choose a maintainer's address and a licence. Until then the package names none that works.
+# The owner has to choose a maintainer's address and a licence. Until then the package's address doesn't work, and its licence is `none-chosen-yet`.
 #
-# Debian's package sgf2dg has another /usr/bin/sgfsplit. So the package conflicts with it, unless PROGRAM gives another name.
+# Debian's package sgf2dg has another /usr/bin/sgfsplit. So this package conflicts with sgf2dg, unless PROGRAM gives another name.
 set -euo pipefail
 cd "$(dirname "$0")/.."
 out=${OUT:-out}
@@ -20,7 +20,7 @@ make --no-print-directory install DESTDIR="$stage" PREFIX=/usr PROGRAM="$program
 strip --strip-unneeded "$stage/usr/bin/$program" "$stage/usr/lib/libsgflines.so.0"
 chmod 644 "$stage/usr/lib/libsgflines.so.0"
 gzip -9n "$stage/usr/share/man/man1/$program.1"
-# Debian keeps zsh's completions elsewhere
+# Debian keeps zsh's completions in another folder.
 mkdir -p "$stage/usr/share/zsh/vendor-completions"
 mv "$stage/usr/share/zsh/site-functions/_$program" "$stage/usr/share/zsh/vendor-completions"
 rmdir "$stage/usr/share/zsh/site-functions"
@@ -60,7 +60,7 @@ Description: split a Go game with variations into its lines of play and judge ea
  Debian's sgf2dg has another program of the name sgfsplit, which writes one file
  for each variation and judges nothing.
 CONTROL
-# Python keeps compiled modules beside the sources.
+# Python keeps compiled modules beside the sources. They aren't in the package, so prerm removes them.
 cat > "$stage/DEBIAN/prerm" <<'PRERM'
 #!/bin/sh
 set -e

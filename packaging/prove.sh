@@ -1,5 +1,5 @@
 #!/usr/bin/env bash
-# Proves and builds the program of a crate and runs it once with the words: packaging/prove.sh CRATE WORDS..
+# Proves and builds the program of a crate, and runs the program once with these words: packaging/prove.sh CRATE WORDS..
 # One row shows the progress: a crate, and how many of its functions are proved. All messages go to out/CRATE.log.
 set -uo pipefail
 cd "$(dirname "$0")/.."

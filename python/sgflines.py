@@ -12,7 +12,7 @@
 
 A text is bytes, or anything else that lends its bytes (a bytearray, a memoryview, an mmap). docs/OUTPUT.md of sgfsplit explains the
 numbers. The library libsgflines.so.0 does the work without the interpreter's lock, so threads split at the same time. The variable
-SGFLINES names the library. Without it, the module loads the one of the same installation or build, or else the system's.
+SGFLINES names the library. Without that, the module loads the library of its own installation or build, or else the system's.
 """
 import ctypes
 import os
@@ -29,14 +29,14 @@ NO_VERDICT, SCORE, ILLEGAL, NOT_GO, BAD_SIZE = range(5)
 REASONS = ["", "mixed", "two-moves", "bad-setup", "bad-point", "over", "turn", "occupied", "repeat"]
 
 Counts = namedtuple("Counts", "games nodes lines")
-Counts.__doc__ = "The number of games of a collection, of their nodes, and of its lines of play."
+Counts.__doc__ = "The numbers of games, nodes and lines of play of a collection."
 Row = namedtuple("Row", "place game nodes verdict")
 Row.__doc__ = """A line of play. `place` is the offset of the `;` of its last node, `game` the number of its game, from 1, and `nodes` the
 number of its nodes. `verdict` is a Score, an Illegal, NotGo() or BadSize()."""
 Score = namedtuple("Score", "black white over")
 Score.__doc__ = "Each player's area at the end of a line, and whether two passes in a row ended the game."
 Illegal = namedtuple("Illegal", "turn place reason")
-Illegal.__doc__ = "The first illegal node of a line: the turns made before it plus 1, the node's place, and why, as in docs/RULES.md."
+Illegal.__doc__ = "The first illegal node of a line. `turn` is 1 plus the number of turns before it; docs/RULES.md has the reasons."
 NotGo = namedtuple("NotGo", "")
 NotGo.__doc__ = "The game isn't Go, so its lines aren't judged."
 BadSize = namedtuple("BadSize", "")
@@ -44,11 +44,11 @@ BadSize.__doc__ = "The board isn't a square of 1 to 52 points a side, so the gam
 
 
 class Fault(ValueError):
-    """A text or an option is refused. Refused memory raises Python's MemoryError instead."""
+    """A text is refused, or no line has the place that was asked for. Refused memory raises MemoryError instead."""
 
 
 class NotSgf(Fault):
-    """Byte `at`, counted from 0, is the first that no SGF text can have there."""
+    """The text isn't SGF. `at` is the offset of the first faulty byte, from 0."""
 
     def __init__(self, at):
         super().__init__(f"byte {at}: not SGF")
@@ -97,7 +97,7 @@ class _Judged(ctypes.Structure):
 
 
 def _library():
-    """The library, and the types of its functions."""
+    """Loads the library, and sets the types of its functions."""
     here = os.path.dirname(os.path.abspath(__file__))
     near = [os.path.join(here, *way, LIBRARY) for way in (("..", ".."), ("..", "out"))]
     name = os.environ.get("SGFLINES") or next((path for path in near if os.path.exists(path)), LIBRARY)
@@ -127,20 +127,20 @@ class _Lent:
             self.held = (ctypes.c_char * self.length).from_buffer(self.view)
             self.start = ctypes.addressof(self.held)
         else:
-            # bytes stay in place; any other read-only text is copied
+            # a bytes object is lent in place; any other read-only text is copied
             self.held = ctypes.c_char_p(text if isinstance(text, bytes) else self.view.tobytes())
             self.start = ctypes.cast(self.held, ctypes.c_void_p)
 
 
 def _number(name, number):
-    """The number, which has at most 64 bits."""
+    """Returns the number. Raises ValueError if it isn't from 0 to 2**64 - 1."""
     if not 0 <= number < 1 << 64:
         raise ValueError(f"{name} is a number from 0 to 2**64 - 1")
     return number
 
 
 def _option(name, number):
-    """Whether an option is given, and its number."""
+    """Returns whether an option is given, and its number, which is 0 if it isn't."""
     return (False, 0) if number is None else (True, _number(name, number))
 
 
@@ -160,7 +160,7 @@ def _refuse(status, at):
 def output(text, form="list", after=None, limit=None):
     """The records of the lines of play of a text, joined: the bytes that `sgfsplit split` writes.
 
-    form: "list", "sgf" or "gtp". after: only the lines that follow the line with this place. limit: at most this many lines.
+    form: "list", "sgf" or "gtp". after: only the lines after the one with this place. limit: at most the first `limit` lines.
     """
     if form not in FORMS:
         raise ValueError(f"form is one of {', '.join(FORMS)}")
@@ -181,7 +181,7 @@ def output(text, form="list", after=None, limit=None):
     return bytes(memoryview(room)[:answer.bytes])
 
 
-# a whole value, or the end of a game, as the sgf form writes them: a `]` within a value has a `\` before it
+# in the sgf form: a whole value, or the end of a game; a `]` inside a value has a `\` before it
 _PART = re.compile(rb"\[[^\]\\]*(?:\\.[^\]\\]*)*\]|\)\n", re.DOTALL)
 
 
@@ -195,7 +195,7 @@ def _games(joined):
 
 
 def records(text, form, after=None, limit=None):
-    """The record of each line of play, as bytes: a row, a game or a script. Joined they are what `output` gives."""
+    """The record of each line of play, as bytes: a row, a game or a script. The joined records are what `output` returns."""
     joined = output(text, form, after, limit)
     if form == "sgf":
         return list(_games(joined))
@@ -204,7 +204,7 @@ def records(text, form, after=None, limit=None):
 
 
 def _row(line):
-    """The row in one line of the list form."""
+    """The Row that a row of the list form describes."""
     place, game, nodes, kind, *rest = line.split(" ")
     if kind == "score":
         verdict = Score(int(rest[0]), int(rest[1]), rest[2] == "over")
@@ -216,7 +216,7 @@ def _row(line):
 
 
 def rows(text, after=None, limit=None):
-    """The row of each line of play, judged: a list of Row."""
+    """A list with the Row of each line of play. Each has the line's verdict."""
     return [_row(line) for line in output(text, "list", after, limit).decode("ascii").splitlines()]
 
 

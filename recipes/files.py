@@ -1,11 +1,11 @@
 #!/usr/bin/env python3
 """files.py [--form sgf|gtp|list] [-0] OUT FILE|FOLDER..
 
-Writes each line of play to its own file, named by its place:
-OUT/dir/name/PLACE.sgf for dir/name.sgf, or PLACE.gtp, or PLACE.list. Comments
-may contain anything. A file that already has the right bytes isn't written
-again. So a run that was stopped goes on when you call it again, and a changed
-game is written anew.
+Writes each line of play to a file of its own, whose name is the line's place:
+OUT/dir/name/PLACE.sgf for dir/name.sgf, or PLACE.gtp, or PLACE.list. Line feeds
+and brackets in comments do no harm. A file that already has the right bytes
+isn't written again. So if a call was stopped, the next one goes on, and the
+lines of a changed game are written anew.
 
   files.py lines library
   files.py --form gtp scripts library

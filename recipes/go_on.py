@@ -2,18 +2,17 @@
 """go_on.py [-0] ROWS FILE
 go_on.py [-0] FOLDER FILE|FOLDER..
 
-Continues after the last row of ROWS. It adds the rows of the lines of play
-that were appended to FILE since, and creates ROWS if it doesn't exist. ROWS
-then has the bytes of one run over the whole FILE, even if a killed run had cut
-it off at any byte.
+Adds to ROWS the rows of the lines of play that were appended to FILE after the
+last row of ROWS was written. ROWS is created if it doesn't exist. ROWS then has
+the bytes of one run over the whole FILE, even if a killed run had cut ROWS off
+at any byte.
 
   go_on.py rows.txt library.sgf
   go_on.py out library           out/library/name.rows for each
                                  library/name.sgf, as library.py keeps them
 
-Append only whole games. Status 1: FILE was refused, or no line of it ends at
-the last place of ROWS, because something before it changed. ROWS is then
-unchanged.
+Append only whole games. Status 1: FILE was refused, or none of its lines has
+the last place of ROWS, because earlier text changed. ROWS is then unchanged.
 """
 import os
 import re
@@ -25,8 +24,8 @@ CUT = re.compile(rb"([0-9]+[a-z0-9 -]*)?")
 
 
 def whole_rows(rows, path):
-    """The place of the last whole row of ROWS, or None if there is none, and the number of bytes up to its end. ROWS is searched from its
-    end."""
+    """Returns the place of the last whole row of ROWS (None without such a row), and the number of bytes up to the end of that row. Reads
+    ROWS from its end."""
     rows.seek(0, os.SEEK_END)
     begin, tail = rows.tell(), b""
     while begin > 0 and tail.count(b"\n") < 2:
@@ -42,7 +41,7 @@ def whole_rows(rows, path):
 
 
 def go_on(path, name):
-    """Adds to the rows at `path` those that come after them in the file."""
+    """Adds to the rows at `path` the rows of the later lines of the file `name`."""
     with open(path if os.path.exists(path) else os.devnull, "rb") as old:
         last, size = whole_rows(old, path)
         old.seek(0)

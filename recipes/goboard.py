@@ -1,11 +1,11 @@
-"""SGF nodes and Go for the tools: nodes with their values, points, and a board that plays as the program's referee does.
+"""SGF nodes and Go for the tools: nodes with their values, points, and a board that captures as the program's referee does.
 
     import goboard
     for row, line in goboard.lines("game.sgf"):
         print(row.place, len(line.moves), line.board.stones)
 
-A point is (column, row), both from 0, from the upper left corner. A colour is "B" or "W". A pass is None. Pass only texts that the
-program has accepted.
+A point is (column, row), both counted from 0 in the upper left corner. A colour is "B" or "W". A pass is None. Use these functions only
+for texts that the program has accepted.
 """
 import re
 from itertools import zip_longest
@@ -21,8 +21,8 @@ ESCAPE_OR_END = re.compile(rb"\\.|\]", re.DOTALL)
 
 
 def tokens(text, at=0, pattern=OUTSIDE):
-    """The matches of the pattern outside values, from `at` on, and each value with its brackets, as (place, end). A value that is never
-    closed ends with the text."""
+    """From `at` on, the (begin, end) of each value with its brackets, and of each match of the pattern outside values. A value that is never
+    closed goes to the end of the text."""
     while found := pattern.search(text, at):
         at = found.end()
         if text[at - 1:at] == b"[":
@@ -33,7 +33,7 @@ def tokens(text, at=0, pattern=OUTSIDE):
 
 
 def nodes(text, at=0):
-    """Each node from `at` on, as a list of its properties (name, values). Values are the bytes of the text. Names are in upper case."""
+    """Each node from `at` on, as a list of its properties (name, values). Values are bytes of the text. Names have only their capitals."""
     node = None
     for begin, end in tokens(text, at):
         token = text[begin:end]
@@ -56,7 +56,7 @@ def point_of(value, side):
 
 
 def points_of(value, side):
-    """The points of the point or rectangle that a value names, or None."""
+    """The points of the rectangle that a value names, which may be a single point; None if it names none."""
     first, colon, last = value.partition(b":")
     corners = point_of(first, side), point_of(last if colon else first, side)
     if None in corners or corners[0][0] > corners[1][0] or corners[0][1] > corners[1][1]:
@@ -69,7 +69,7 @@ def is_pass(value, side):
 
 
 def vertex_of(point, side):
-    """The point as Go players write it, such as C7; `pass` for None. Sides over 25 have no such names: there it is the point's two SGF letters."""
+    """The point as Go players write it, such as C7; `pass` for None. On sides over 25, which have no such names, the point's two SGF letters."""
     if point is None:
         return "pass"
     col, row = point
@@ -82,7 +82,7 @@ def point_at(vertex, side):
 
 
 class Board:
-    """A square board with its stones by point. Stones can be put anywhere; the next move takes every group without a liberty."""
+    """A square board with its stones by point. `put` captures nothing, so the next stone that is played captures on the whole board."""
 
     def __init__(self, side):
         self.side, self.stones, self.is_set_up = side, {}, False
@@ -93,7 +93,7 @@ class Board:
                 if 0 <= c < self.side and 0 <= r < self.side]
 
     def region(self, point):
-        """The connected points of the same colour as this one, and the colours beside them (None means empty)."""
+        """The points of the group or empty region of this point, and the other colours beside them (None means empty)."""
         own = self.stones.get(point)
         seen, waiting, borders = {point}, [point], set()
         while waiting:
@@ -106,7 +106,7 @@ class Board:
         return seen, borders
 
     def clear(self, colour, around):
-        """Removes the groups of a colour that have a stone among the points and no liberty."""
+        """Removes each group of a colour that has no liberty, and has a stone on one of the points `around`."""
         for point in around:
             if self.stones.get(point) == colour:
                 group, borders = self.region(point)
@@ -133,7 +133,7 @@ class Board:
                 self.stones[point] = colour
 
     def area(self):
-        """Each player's points: her stones, and the empty points that reach her stones alone."""
+        """Black's points and White's. A player's points are her stones, and the empty points that reach only her stones."""
         counts = {"B": 0, "W": 0}
         for colour in self.stones.values():
             counts[colour] += 1
@@ -148,7 +148,7 @@ class Board:
 
 
 class Line(NamedTuple):
-    """A line of play, played to its end or up to its illegal node."""
+    """A line of play, played to its end or up to its first illegal node."""
     board: Board
     moves: list  # (colour, point) of each legal move
     numbers: dict  # by point, the number from 1 of the move whose stone stands there
@@ -160,14 +160,14 @@ SETUPS = {"AB": "B", "AW": "W", "AE": None}
 
 
 def lines(name, after=None, limit=None, most=None):
-    """The row and the line of play of each judged line of a file. With `most` only that many moves are played."""
+    """The row and the Line of each judged line of a file. With `most`, at most so many moves of each line are played."""
     for row, record in zip_longest(sgfsplit.rows(name, after, limit), sgfsplit.records(name, "sgf", after, limit)):
         if row.verdict != "unjudged":
             yield row, played(record, row, most)
 
 
 def played(record, row, most=None):
-    """The line of play in a record of the sgf form; `row` has its verdict. With `most` only that many moves are played."""
+    """The Line in a record of the sgf form. `row` is the row of that line. With `most`, at most so many moves are played."""
     board, moves, numbers, set_ups, illegal = None, [], {}, [], None
     for node in nodes(record):
         if len(moves) == most:

@@ -3,7 +3,7 @@
 
 Lists the lines of play in which the referee finds an illegal node. Each row
 has the place of that node, the turn, what is played or set up there, and the
-reason. It has the form that compilers use, so editors can jump to the place:
+reason. Rows have the form of compiler messages, so editors can jump to places:
 FILE:LINE:COLUMN: turn TURN: B[tt]: over
 
   illegal_lines.py library
@@ -24,7 +24,7 @@ MOST = 60
 
 
 def told(node, reason):
-    """The properties of a node that the reason is about, in one row, shortened if they are long."""
+    """Those properties of a node that the reason is about, in one row. A long text is shortened."""
     text = "".join(name + "".join(f"[{value.decode('utf-8', 'replace')}]" for value in values)
                    for name, values in node if name in SHOWN.get(reason, MOVES))
     return sgfsplit.shown(text if len(text) <= MOST else text[:MOST] + "..")

@@ -2,9 +2,9 @@
 """library.py [--sshlogin MACHINES] [-0] OUT FILE|FOLDER..
 
 Splits a library on all cores, with a progress bar. OUT/dir/name.rows gets the
-rows of dir/name.sgf. If it was refused, OUT/dir/name.fault gets the row that
-says why. A later call does only the files that were added, changed or
-repaired, or that had failed.
+rows of dir/name.sgf. If that file is refused, OUT/dir/name.fault gets the row
+that says why. A later call splits only files that were added or changed since,
+or that weren't split before.
 
   library.py out library         all .sgf files below the folder library
   library.py --sshlogin :,server1,server2 out library
@@ -12,7 +12,7 @@ repaired, or that had failed.
                                  one); they must see the same folders
   find . -name '*.sgf' -mtime -7 -print0 | library.py -0 out
 
-OUT/.done.jsonl keeps a sum of the bytes of each finished file. Rows of deleted
+OUT/.done.jsonl keeps a checksum of each file that was split. Rows of deleted
 files stay: remove OUT to begin anew. Status 1: a file was refused.
 """
 import contextlib
@@ -29,7 +29,7 @@ from concurrent.futures import ThreadPoolExecutor, as_completed
 
 import sgfsplit
 
-FILES, FILES_THERE, BYTES = 64, 256, 4 << 20  # the most of a batch here, on other machines, and in bytes
+FILES, FILES_THERE, BYTES = 64, 256, 4 << 20  # a batch ends at so many files here, at so many on other machines, or above so many bytes
 DONE = ".done.jsonl"
 
 
@@ -45,7 +45,8 @@ def sum_of(name):
 
 
 def split_one(name, path, known):
-    """Writes the rows of a file, unless its bytes have the known sum. Returns the sum of its bytes, and the row that says why it was refused."""
+    """Writes the rows of a file, unless they exist and the file has the checksum `known`. Returns the file's checksum and None. If the file is
+    refused, returns None and the row that says why."""
     try:
         if os.path.exists(name) and not os.path.isfile(name):
             raise sgfsplit.Refused(f"{sgfsplit.shown(name)}: not a file")
@@ -73,12 +74,12 @@ def keep_fault(path, row):
 
 
 def split_batch(batch):
-    """The result for each file of a batch: its name, its path below OUT, its sum, and why it was refused."""
+    """The result for each file of a batch: its name, the path of its output without the ending, and what `split_one` returns."""
     return [(name, path, *split_one(name, path, known)) for name, path, known in batch]
 
 
 def batches(files, most):
-    """The files in batches. A batch has few files or few bytes, so that neither small files nor large ones keep a core waiting."""
+    """The files in batches. A batch ends at `most` files, or when it has more than BYTES bytes. So no batch keeps a core busy for long."""
     batch, size = [], 0
     for name, path, known in files:
         batch.append((name, path, known))
@@ -91,7 +92,7 @@ def batches(files, most):
 
 
 def here(work):
-    """The answers to the batches, in the order in which they come, from a worker on each core of this machine."""
+    """The answers to the batches, as they come in, from a worker on each core of this machine."""
     workers, mine = [], threading.local()
 
     def begin():
@@ -107,7 +108,7 @@ def here(work):
     pool = ThreadPoolExecutor(len(os.sched_getaffinity(0)), initializer=begin)
     try:
         for answer in as_completed([pool.submit(ask, batch) for batch in work]):
-            with contextlib.suppress(OSError, ValueError):  # a worker that was ended leaves its batch undone
+            with contextlib.suppress(OSError, ValueError):  # if a worker was killed, its batch isn't done
                 yield answer.result()
     finally:
         pool.shutdown(cancel_futures=True)
@@ -116,8 +117,8 @@ def here(work):
 
 
 def there(work, machines):
-    """The answers to the batches, from several machines by GNU Parallel. No name is put on a command line: batches and answers are rows of
-    JSON, and the command has only variables."""
+    """The answers to the batches, from several machines, by GNU Parallel. No file's name is put on a command line: batches and answers are
+    rows of JSON, and the command has only variables."""
     if shutil.which("parallel") is None:
         raise sgfsplit.Trouble("--sshlogin needs GNU Parallel, which isn't installed")
     settings = {"TOOL": os.path.abspath(__file__), "FOLDER": os.getcwd(), "SGFSPLIT": sgfsplit.program()}
@@ -154,7 +155,8 @@ def bar(done, total):
 
 
 def known_of(path):
-    """The results of earlier calls: for each path below OUT, the sum of the file that was split to it. A row that was cut off is ignored."""
+    """The results of earlier calls: for each path below OUT, the checksum of the file whose rows it has, or None. A row that was cut off is
+    ignored."""
     known = {}
     with open(path, "rb") as journal:
         for line in journal:

@@ -9,15 +9,16 @@ with moves such as B-Q16 or W-pass.
   openings.py --games 4 library  counts games, not lines: a game with many
                                  variations counts once for each opening
   openings.py --symmetry 4 library
-                                 counts the eight views of a board as one, the
-                                 one that begins in the upper right
-  openings.py --setup 4 library  counts lines with stones set up before these
-                                 moves as `setup`; else they are left out
+                                 counts the eight views of a board together, as
+                                 the view that begins in the upper right
+  openings.py --setup 4 library  counts a line with stones set up before move N
+                                 as `setup`; without --setup it is left out
   openings.py --csv 4 library    writes count,side and a column for each move
 
-Only moves that are really made count. A line with an illegal node counts up to
-that node. A line without a move, or that isn't judged, doesn't count. On sides
-over 25 a point is its two letters in SGF. Status 1: a file was refused.
+Only legal moves count. A line with an illegal node counts up to that node. A
+line without moves doesn't count, and neither does a line that isn't judged. On
+sides over 25 a point is written as its two letters in SGF. Status 1: a file
+was refused.
 """
 import csv
 import sys
@@ -39,7 +40,8 @@ def viewed(point, view, side):
 
 
 def upper_right(moves, side):
-    """The moves in one of the eight views. The first move that differs between views decides: it is furthest right there, then furthest up."""
+    """The moves in one of the eight views. The first move that differs between views decides: the view with this move furthest right, then
+    furthest up, is taken."""
     key = lambda view: [(0, 0) if point is None else (-point[0], point[1]) for _, point in view]
     return min(([(colour, viewed(point, view, side)) for colour, point in moves] for view in VIEWS), key=key)
 

@@ -2,15 +2,16 @@
 """parts.py [--most BYTES] [-0] FILE|FOLDER..
 
 Writes the rows of a collection of any size. sgfsplit takes 64 MiB at a time,
-so the text is cut between games. If you append one collection to another, the
-rows of the first don't change. In the rows of the second the places rise by
-the length of the first, and the game numbers by its number of games. So the
-raised rows of the parts are the rows of the whole. The rows of each file follow
-those of the file before.
+so the text is cut between games, and each part is split alone. Then the places
+in the rows of a part are raised by the length of the text before the part, and
+the game numbers by the number of games before it. The result is the rows of
+the whole text, because cutting changes only these numbers. The rows of each
+file follow those of the file before.
 
   parts.py huge.sgf > rows.txt
   parts.py --most 1000000 huge.sgf > rows.txt
-                                 the most bytes of a part; default 67108864
+                                 the most bytes of a part of several games;
+                                 without --most it is 67108864
 
 A single game of more than 64 MiB is still refused. Status 1: a file was
 refused; the rows of the parts before the fault are written.
@@ -20,9 +21,11 @@ import subprocess
 import goboard
 import sgfsplit
 
+MARK = b"\xef\xbb\xbf"  # the byte order mark, which may stand only before the first game
+
 
 def parts(text, most):
-    """The beginning and end of each part, and its number of games. A part ends after a game, and the last one at the end of the text."""
+    """The beginning, the end and the number of games of each part. The last part ends at the end of the text, every other part after a game."""
     begin = end = depth = count = 0
     for place, after in goboard.tokens(text, 0, goboard.PARENTHESES):
         byte = text[place:place + 1]
@@ -33,13 +36,17 @@ def parts(text, most):
                 begin, count = end, 0
             end = after
             count += 1
-    yield begin, len(text), count
+    if count == 0 or text[end:].strip():
+        end = len(text)  # what isn't white space after the last game has to be refused
+    yield begin, end, count
 
 
 def rows_of(name, most):
     """The rows of a file of any size."""
     text, games_before = sgfsplit.text_of(name), 0
     for begin, end, count in parts(text, most):
+        if begin > 0 and text[begin:begin + len(MARK)] == MARK:
+            raise sgfsplit.Refused(sgfsplit.fault_of(name, 1, b"sgfsplit: byte 0: not SGF", begin))
         run = subprocess.run([sgfsplit.program(), "split"], input=text[begin:end], stdout=subprocess.PIPE, stderr=subprocess.PIPE)
         if run.returncode:
             raise sgfsplit.Refused(sgfsplit.fault_of(name, run.returncode, run.stderr, begin))

@@ -3,9 +3,9 @@
 picture.py [--line PLACE] [-0] --out OUT FILE|FOLDER..
 
 Draws the board at the end of each line of play as SVG, with the line's row
-below. For an illegal line it draws the board at the illegal move, with that
-point marked. A stone has the number of its move. The boards of a file stand
-side by side, four in a row.
+below. For an illegal line it draws the board before the illegal node, with a
+cross where that node plays. A stone has the number of its move. The boards of a
+file stand side by side, four in a row.
 
   picture.py game.sgf > game.svg
   picture.py --line 170 game.sgf > line.svg
@@ -23,7 +23,7 @@ import sys
 import goboard
 import sgfsplit
 
-STEP, EDGE, MARGIN, ACROSS = 24, 16, 42, 4  # from line to line, to the edge of the wood, to the first line; and boards in a row
+STEP, EDGE, MARGIN, ACROSS = 24, 16, 42, 4  # pixels from line to line, from the outer line to the wood's edge and to the border; boards in a row
 WOOD, INK, MARK = "#e8c77d", "#554433", "#c00000"
 FILLS = {"B": "black", "W": "white"}
 
@@ -46,12 +46,12 @@ def names(side):
 
 
 def at(index):
-    """The position of a column or row, counted from 0."""
+    """The coordinate in the picture of the column or row with this number, from 0."""
     return MARGIN + STEP * index
 
 
 def grid(side):
-    """The wood with its lines and dots, and the names beside them."""
+    """The wood with its lines and dots, and the names of columns and rows."""
     first, last = at(0), at(side - 1)
     size = last - first + 2 * EDGE
     parts = [f'<rect x="{first - EDGE}" y="{first - EDGE}" width="{size}" height="{size}" fill="{WOOD}"/>']
@@ -78,7 +78,7 @@ def stones(line):
 
 
 def marks(line):
-    """The points of the illegal node's moves, each with a cross."""
+    """A cross on each point at which the illegal node plays."""
     values = [value for name, values in line.illegal or () if name in ("B", "W") for value in values]
     points = [goboard.point_of(value, line.board.side) for value in values if not goboard.is_pass(value, line.board.side)]
     return [f'<path class="illegal" d="M{at(col) - 7} {at(row) - 7}l14 14m0 -14l-14 14" stroke="{MARK}" stroke-width="4" fill="none"/>'
@@ -86,7 +86,7 @@ def marks(line):
 
 
 def board(row, line, left, top):
-    """One board with its row, at a position in the picture, and its width and height."""
+    """Draws one board with its row, at this position in the picture. Returns the SVG elements, the width and the height."""
     last = at(line.board.side - 1)
     width = max(last + MARGIN, 7.2 * len(str(row)) + 20)
     parts = [f'<g class="board" data-place="{row.place}" transform="translate({left + (width - last - MARGIN) / 2:g} {top})">']
@@ -96,7 +96,7 @@ def board(row, line, left, top):
 
 
 def picture(lines):
-    """The text of an SVG of lines. Each line is a pair: its row, and the line as played."""
+    """The SVG text of the boards of these lines. Each line is a pair: its row, and the line as played."""
     parts, left, top, height, width = [], 0, 0, 0, 0
     for number, (row, line) in enumerate(lines):
         if number % ACROSS == 0:
@@ -124,7 +124,7 @@ def lines_of(name, place):
 
 
 def drawn(name, place):
-    """The text of the picture of a file's lines, or of one line."""
+    """The SVG text of the boards of a file's lines, or of the line with this place."""
     lines = list(lines_of(name, place))
     if not lines:
         raise sgfsplit.Refused(f"{sgfsplit.shown(name)}: no board, since no line is judged")

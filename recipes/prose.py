@@ -2,18 +2,18 @@
 """prose.py < mail.txt | sgfsplit split
 prose.py [-0] OUT FILE|FOLDER..
 
-Overwrites the text around the games, such as mail headers, an introduction or
-a signature, with spaces. Line feeds stay, and so does every place: a fault is
-named by its place in the mail. A game begins at a `(` before a `;` and ends
-with its `)`. A game that is cut off continues to the end of the text, so it is
-refused at its true byte. OUT/dir/name.sgf gets the text of dir/name.sgf, and
-OUT/dir/mail.txt.sgf gets the text of dir/mail.txt.
+Writes spaces over the text around the games, such as mail headers or a
+signature. Line feeds stay, and so does every place: sgfsplit names a fault by
+its place in the mail. A game begins at a `(` that a `;` follows, and ends with
+the matching `)`. If this `)` is missing, the game goes to the end of the text,
+and sgfsplit refuses it at its first faulty byte. OUT/dir/name.sgf gets the text
+of dir/name.sgf, and OUT/dir/mail.txt.sgf gets the text of dir/mail.txt.
 
   prose.py < mail.txt | sgfsplit split
   prose.py clean mails/*.txt && verdicts.py clean
 
-Prose that looks like a game, such as `(;`, is treated as a game, and the
-program refuses it. Status 1: a file was refused.
+Prose that looks like a game, such as `(;`, is treated as a game, and sgfsplit
+refuses it. Status 1: a file was refused.
 """
 import re
 import sys

@@ -2,10 +2,10 @@
 """replay.py [-0] FILE|FOLDER..
 
 A second referee: GNU Go plays the script of each line of play. It must accept
-each legal move, and refuse an illegal move with the reason `occupied` or
-`repeat`. This tool plays the line too: the stones on both boards must be the
-same, and their area must be the score of the row. A line that differs gets a
-row, and the last row is: N lines agree, N differ, N left out.
+each legal move. If a row says `occupied` or `repeat`, GNU Go must refuse that
+illegal move. This tool plays the line too: the stones on both boards must be
+the same, and their area must be the score of the row. A line that differs gets
+a row, and the last row is: N lines agree, N differ, N left out.
 
   replay.py library
   ENGINE='my-engine --gtp' replay.py library
@@ -13,12 +13,12 @@ row, and the last row is: N lines agree, N differ, N left out.
                                  Protocol, with the same rules
 
 Comments never reach the engine. Lines without a script are left out, and so
-are sides that the engine refuses. An engine treats the stones of a setup as
-moves. If it refuses a move because it repeats a position on the way to a setup,
-the line is left out. Stones are compared if the engine knows list_stones, as
-GNU Go does. GNU Go 3.8 accepts a suicide of several stones that repeats a
-position: a line with one differs. Status 1: a line differs, or a file was
-refused. Debian: gnugo
+are lines on a side that the engine refuses. An engine treats the stones of a
+setup as moves. So it may refuse a move that repeats a position on the way to a
+setup. The line is then left out. Stones are compared if the engine knows
+list_stones, as GNU Go does. GNU Go 3.8 accepts a suicide of several stones that
+repeats a position: a line with such a suicide differs. Status 1: a line
+differs, or a file was refused. GNU Go is Debian's package gnugo.
 """
 import os
 import re
@@ -57,7 +57,7 @@ class Engine:
         self.run.communicate()
 
     def ask(self, commands):
-        """The reply to each command: whether it was accepted, and its text. All commands are sent at once."""
+        """The reply to each command: whether the command was accepted, and the text of the reply. All commands are sent at once."""
         feeder = threading.Thread(target=self.send, args=("".join(command + "\n" for command in commands).encode(),))
         feeder.start()
         replies = [self.reply() for _ in commands]
@@ -84,19 +84,19 @@ class Engine:
         raise sgfsplit.Trouble("the engine ended without a reply")
 
     def stones(self, side):
-        """The stones on its board, by point."""
+        """The stones on the engine's board, by point."""
         replies = self.ask(["list_stones black", "list_stones white"])
         return {goboard.point_at(vertex, side): colour for colour, (_, text) in zip("BW", replies) for vertex in text.split()}
 
 
 def commands_of(script):
-    """The commands of a script, and nothing else."""
+    """The commands of a script, without its comments."""
     return [line.decode() for line in script.split(b"\n") if COMMAND.fullmatch(line)]
 
 
 def is_of_setup(line, commands):
-    """Whether the stones after these commands are only the first part of a setup. The engine plays a setup as moves, so it has seen that
-    position before."""
+    """Whether the stones after these commands are the first stones of a setup. The engine plays a setup stone by stone, so it has seen that
+    position."""
     board = goboard.Board(line.board.side)
     for words in (command.split() for command in commands):
         if words[0] == "clear_board":
@@ -111,7 +111,7 @@ def is_of_setup(line, commands):
 
 
 def forbidden(line, reason):
-    """The command of the illegal move that an engine must refuse, or None."""
+    """The command of the illegal move, if an engine must refuse it; else None."""
     if line.illegal is None or reason not in ("occupied", "repeat"):
         return None
     (colour, value), = [(name, value) for name, values in line.illegal if name in ("B", "W") for value in values]
@@ -119,7 +119,7 @@ def forbidden(line, reason):
 
 
 def compare(engine, row, line, script):
-    """The engine's objection to a line, None if it agrees, or False if it can't judge the line."""
+    """What differs in a line, as text; None if nothing differs; False if the line is left out."""
     commands = commands_of(script)
     if not commands or not engine.ask(commands[:1])[0][0]:
         return False

@@ -7,8 +7,8 @@ its rows as named tuples and its records one by one.
     for record in sgfsplit.records("game.sgf", "sgf"):
         print(len(record))
 
-A file that can't be opened or is refused raises Refused. Its text is the row that says why: FILE:LINE:COLUMN: not SGF. Names are str, as
-os.fsdecode returns them. The variable SGFSPLIT names the program; without it, it is PROGRAM. Boards and nodes are in goboard.py.
+A file that can't be opened or is refused raises Refused. The text of Refused is the row that says why: FILE:LINE:COLUMN: not SGF. Names
+are str, as os.fsdecode returns them. The variable SGFSPLIT names the program, or else PROGRAM does. Boards and nodes are in goboard.py.
 """
 import contextlib
 import fcntl
@@ -25,7 +25,7 @@ import sys
 import tempfile
 from typing import NamedTuple, Optional
 
-PROGRAM = "sgfsplit"  # a name to look for in PATH; make install writes the path from this file's folder
+PROGRAM = "sgfsplit"  # a name to look for in PATH; `make install` replaces it by a path from this file's folder
 LIMIT = 67108864  # the most bytes that the program takes
 PIECE = 1 << 20
 ESCAPE, VALUE = re.compile(rb"\\.", re.DOTALL), re.compile(rb"\[[^\]]*\]")
@@ -72,7 +72,7 @@ class Row(NamedTuple):
 
 
 class Places:
-    """Converts places, which are offsets in bytes from 0, to line and column, both from 1. Columns count bytes. Rising places cost one pass."""
+    """Converts a place, an offset in bytes from 0, to line and column, both from 1. Columns count bytes. If places rise, the text is read once."""
 
     def __init__(self, text):
         self.text, self.at, self.line = text, 0, 1
@@ -117,7 +117,7 @@ def is_ours(path):
 
 
 def shown(name):
-    """A name as it is shown in a row of text: control characters as \\n or \\x1b, and therefore \\ as \\\\."""
+    """A name as it is shown in a row of text: control characters as \\n or \\x1b, and \\ as \\\\."""
     return re.sub(r"[\x00-\x1f\x7f-\x9f\\]", lambda found: CONTROLS.get(found[0], f"\\x{ord(found[0]):02x}"), name)
 
 
@@ -162,7 +162,7 @@ def fault_of(name, status, fault, begin=0):
 @contextlib.contextmanager
 def output(name, *words):
     """What the program writes about a file, as a stream of bytes. Raises Refused at the end if the program ended with a
-    fault. If it refused the file, it has written nothing. If the system failed, it may have written whole records."""
+    fault. If the program refused the file, the stream was empty. If the system failed, it may have had some records."""
     with opened(name) as text, subprocess.Popen([program(), *words], stdin=text, stdout=subprocess.PIPE, stderr=subprocess.PIPE) as run:
         try:
             yield run.stdout
@@ -184,7 +184,7 @@ def write_rows(file, name, after=None):
 
 
 def page(after, limit):
-    """The options for the lines after the one with the place `after`, and for at most `limit` lines."""
+    """The options that ask for the lines after the one with the place `after`, and for at most the first `limit` of these."""
     return [word for option, number in (("--after", after), ("--limit", limit)) if number is not None for word in (option, str(number))]
 
 
@@ -209,7 +209,8 @@ def records(name, form="sgf", after=None, limit=None):
 
 
 def is_inside(line, inside):
-    """Whether a value is still open after a row of the sgf form. There, line feeds stand only in values and after games."""
+    """Whether a value is open after a row of the sgf form; `inside` says whether one was open before. In this form, line feeds stand only in
+    values and after games."""
     line = ESCAPE.sub(b"", line)
     if inside:
         _, closed, line = line.partition(b"]")
@@ -219,7 +220,7 @@ def is_inside(line, inside):
 
 
 def locked(path):
-    """The file at the path, opened for appending bytes. It waits until no other process has locked it."""
+    """Opens the file at the path for appending bytes, and locks it. Waits as long as another process has it locked."""
     while True:
         file = open(os.open(path, os.O_RDWR | os.O_CREAT | os.O_APPEND | os.O_NOFOLLOW, 0o666), "ab")
         fcntl.flock(file, fcntl.LOCK_EX)
@@ -231,7 +232,7 @@ def locked(path):
 @contextlib.contextmanager
 def written(path):
     """A file to write to. It stands beside `path`, and is renamed to `path` when everything is written. The folders above it are created.
-    Anything that a killed run left beside it is overwritten."""
+    If a killed run left such a file, it is overwritten."""
     folder, name = os.path.split(path)
     beside = os.path.join(folder, f".{hashlib.blake2b(os.fsencode(name), digest_size=8).hexdigest()}.part")
     try:
@@ -250,7 +251,7 @@ def written(path):
 
 
 class Words(Exception):
-    """The words of a tool are wrong. The text says what is wrong with them."""
+    """The words of a command line are wrong. The text says what is wrong with them."""
 
 
 class Job:
@@ -268,7 +269,7 @@ class Job:
 
     @contextlib.contextmanager
     def going_on(self):
-        """Work on one file, which may be refused."""
+        """For the work on one file. If that work raises Refused, reports it, and the tool goes on."""
         try:
             yield
         except Refused as refused:
@@ -283,7 +284,7 @@ class Job:
                 yield name
 
     def below(self, folder):
-        """The .sgf files below a folder in the order of their names, without those below `left_out`, which has the tool's own outputs."""
+        """The .sgf files below a folder, in the order of their names. Those below `left_out`, the tool's own outputs, are left out."""
         told = lambda error: self.refuse(f"{shown(error.filename)}: {error.strerror}")
         for path, folders, names in os.walk(folder, onerror=told):
             inner = [(name, os.path.join(path, name)) for name in folders]
@@ -298,8 +299,8 @@ class Job:
                     yield whole
 
     def outputs(self, out, ending, is_apart=False):
-        """The name of each file, and the path of its output below the folder `out`: out/dir/name.ending. With `is_apart` no file may stand below
-        `out`, because the output could overwrite it."""
+        """The name of each file, and the path of its output below the folder `out`: out/dir/name.ending. With `is_apart` a file below `out` is
+        refused, because the output could overwrite it."""
         self.left_out = out
         taken = {}
         for name in self.files():
@@ -330,7 +331,7 @@ def is_below(path, folder):
 
 def kept(out, name, ending):
     """The path out/dir/name.ending for a file dir/name.sgf. A name that doesn't end in .sgf stays whole. So do `.sgf` and `...sgf`,
-    because without the ending they would be a folder's name. The path never leaves `out`."""
+    because the rest of such a name would mean a folder. The path never leaves `out`."""
     path = os.path.normpath(name)
     if os.path.isabs(path) or path.split(os.sep)[0] == os.pardir:
         path = os.path.relpath(os.path.abspath(path), os.sep)
@@ -341,15 +342,15 @@ def kept(out, name, ending):
 
 
 def number_of(word, least, most, what):
-    """The number in a word, from `least` to `most`. The message about a wrong word calls it `what`."""
+    """The number in a word, from `least` to `most`. Raises Words for any other word, and that message begins with `what`."""
     if not re.fullmatch("[0-9]{1,18}", word) or not least <= int(word) <= most:
         raise Words(f"{what}, from {least} to {most}")
     return int(word)
 
 
 def options_of(words, flags, values):
-    """The options at the front of a command line, and how many words they are. They end at the first other word or at `--`, so no name after
-    that is taken for an option. If a word is an option and also the name of a file here, it is refused, unless `--` is among the words."""
+    """The options at the front of a command line, and how many words they are. The options end at `--` or at the first other word. So no name
+    after that is taken for an option. A word that is an option and also a file's name is refused, unless `--` is among the words."""
     options, at, known = {}, 0, {"-h", "--help", "-0", *flags, *values}
     is_sure = "--" in words and not os.path.lexists("--")
     while at < len(words) and words[at].startswith("-") and words[at] != "-":
@@ -390,7 +391,7 @@ def job_of(words, flags, values, first, is_filter):
 
 
 def ended(tool, usage, *takes):
-    """Does the job of the command line. Returns the status, and the row that says why it isn't 0."""
+    """Does the job of the command line. Returns the status, and a row about the failure, or None."""
     try:
         job = job_of(sys.argv[1:], *takes)
         if job is None:
@@ -405,7 +406,7 @@ def ended(tool, usage, *takes):
     except Trouble as trouble:
         return 3, trouble
     except OSError as error:
-        os.dup2(os.open(os.devnull, os.O_WRONLY), sys.stdout.fileno())  # output that can't be written isn't tried again
+        os.dup2(os.open(os.devnull, os.O_WRONLY), sys.stdout.fileno())  # so Python doesn't try to write the lost output again
         told = error.strerror if error.filename is None else f"{shown(os.fsdecode(error.filename))}: {error.strerror}"
         return (0, None) if isinstance(error, BrokenPipeError) else (3, told)
     except KeyboardInterrupt:
@@ -413,9 +414,9 @@ def ended(tool, usage, *takes):
 
 
 def start(tool, usage, flags=(), values=(), first=0, is_filter=False):
-    """Runs a tool with the Job of the command line, and ends with its status. Flags are options without a value, values have a word after them,
-    `first` words come before the names of files, and a filter is called without words too.
-    1: a file was refused; 2: wrong words; 3: the program or the system failed."""
+    """Runs a tool with the Job of the command line, and ends with the tool's status. `flags` are its options without a value, and `values` are
+    those with a value. `first` is how many words come before the names of files. A filter may be called without words.
+    Status 1: a file was refused; 2: wrong words; 3: the program or the system failed."""
     if None in (sys.stdin, sys.stdout, sys.stderr):
         status, fault = 3, "a standard stream is closed"
     else:

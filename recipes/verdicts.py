@@ -11,9 +11,9 @@ columns, empty in CSV, and null in JSON and SQLite.
   verdicts.py --json library               each row an object
   verdicts.py --sqlite games.db library    the table `lines` of a database
 
-SQLite's table is filled in one transaction. If you repeat it, a file's rows
-replace its old ones. A name that isn't UTF-8 is a BLOB there. Status 1: a file
-was refused.
+SQLite's table is filled in one transaction. If you fill it again, the new rows
+of a file replace its old rows. A file's name that isn't UTF-8 is stored as a
+BLOB. Status 1: a file was refused.
 """
 import contextlib
 import csv
@@ -30,7 +30,7 @@ FORMS = ("--csv", "--json", "--sqlite")
 
 
 def table(job):
-    """Each row of each file, after the file's name."""
+    """Each row of each file, as a tuple that begins with the file's name."""
     for name in job.files():
         with job.going_on():
             for row in sgfsplit.rows(name):

@@ -19,7 +19,12 @@ printf '(;SZ[9];B[aa]' >> open.sgf
 sed 's/B\[bb\]/B bb/' whole.sgf > damaged.sgf
 sed '1s/.*/x&/' whole.sgf > front.sgf
 : > empty.sgf
-for file in open.sgf damaged.sgf front.sgf empty.sgf; do
+{ printf '\357\273\277'; cat whole.sgf; } > marked.sgf
+{ printf %s "$(cat whole.sgf)"; cat marked.sgf; } > mark_between.sgf
+"$SGFSPLIT" split marked.sgf > want.marked
+"$tool" --most 1 marked.sgf > got
+same want.marked got 'a byte order mark in front'
+for file in open.sgf damaged.sgf front.sgf empty.sgf mark_between.sgf; do
     if "$SGFSPLIT" split "$file" 2> row; then failed "$file was accepted"; fi
     place=$(sed 's/[^0-9]*\([0-9]*\).*/\1/' row)
     line=$(($(head -c "$place" "$file" | wc -l) + 1)) column=$(($(head -c "$place" "$file" | tail -n 1 | wc -c) + 1))

@@ -16,7 +16,7 @@ cleared_cell grid colour point =
     if same_cell (cell_at grid point) (stone_of colour) && not (reaches grid Empty point) then Empty
     else cell_at grid point
 
--- The grid after a colour was cleared, so its groups without a liberty were taken off. Each point of the colour that doesn't
+-- The grid after a colour was cleared, which takes off its groups without a liberty. Each point of the colour that doesn't
 -- reach empty is made empty. All points are tested on the grid as it was.
 unfoldable pub clear : Grid → Colour → Grid
 clear grid colour = grid_of grid.side (cleared_cell grid colour)

@@ -16,11 +16,11 @@ pub record PastColourings : Type 0 where
   pub newest : Held
   pub older : List Held
 
--- all of them, newest first
+-- all past colourings, newest first
 abbrev pub all_of : PastColourings → List Held
 all_of past = past.newest ∷ past.older
 
--- the newest of them
+-- the newest past colouring
 abbrev pub newest_grid : PastColourings → Grid
 newest_grid past = past.newest.colouring
 
@@ -52,9 +52,9 @@ HaveSide side past = AllHaveSide side (all_of past)
 
 -- what becomes of a past when a stone is played; the result says whether the colouring that the stone makes was added
 pub record IsPlayed {E : Type 0} (colour : Colour) (point : Point) (old new : PastColourings) (result : Result Bool E) : Type 0 where
-  -- it wasn't added exactly if the present stretch has it already
+  -- the colouring wasn't added exactly if the present stretch has it already
   pub known : IfOk result (λ added. IsFalse added ↔ Contains (present_stretch old) (play (newest_grid old) colour point))
   pub ok : IfOk result (λ added. new ≡ (if added then with_next old (play (newest_grid old) colour point) false else old))
-  -- memory is refused only if the stretch doesn't have it
+  -- memory is refused only if the stretch doesn't have the colouring
   pub refused : OnErr result (¬ Contains (present_stretch old) (play (newest_grid old) colour point))
   pub err : OnErr result (new ≡ old)

@@ -1,6 +1,6 @@
 -- Reaching a colour, as the Tromp-Taylor rules define it: by a path of adjacent points of the point's own colour. The empty
--- points beside a group are its liberties: a stone reaches empty if its group has one. A point of the wanted colour reaches it by
--- itself. That is this project's choice; clearing and the score don't depend on it.
+-- points beside a group are its liberties: a stone reaches empty if its group has a liberty. A point of the wanted colour reaches
+-- that colour by itself. This is this project's choice; clearing and the score don't depend on it.
 use Rattle.std.specs.Prelude.{◌≡◌, ℕ, zero, suc, ◌*◌, Bool, ◌&&◌, ◌||◌, List, [], ◌∷◌}
 use Rattle.std.specs.List.{list_any}
 use Rattle.go_board.specs.declared.stones.Cell.{Cell}
@@ -10,8 +10,8 @@ use Rattle.go_board.specs.Point.{IsOn, AreAdjacent, are_adjacent, points}
 use Rattle.go_board.specs.Grid.{Grid, cell_at}
 use Rattle.go_board.specs.Marking.{Marking, is_marked, marking_of}
 
--- The path leads from the point to one of the wanted colour. Each of its points is on the grid and adjacent to the one before.
--- All points but the last have the colour `own`.
+-- The path leads from the point to a point of the wanted colour. Each point of the path is on the grid and adjacent to the point
+-- before it. All points but the last have the colour `own`.
 abbrev pub Leads : Grid → Cell → Cell → Point → List Point → Type 0
 Leads grid own wanted point [] = IsOn grid.side point × (cell_at grid point ≡ wanted)
 Leads grid own wanted point (next ∷ path) =

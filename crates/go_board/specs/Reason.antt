@@ -18,7 +18,7 @@ use Rattle.go_board.specs.State.{State, is_over}
 -- - Over: two passes in a row ended the game.
 -- - Turn: the other player must move.
 -- - Occupied: the point isn't empty.
--- - Repeat: the colouring that the stone makes was there since the last setup of stones, whoever moved then (positional superko).
+-- - Repeat: the stone would repeat a colouring made since the last setup of stones, whoever moved then (positional superko).
 -- The reasons of whole nodes hold of no turn.
 abbrev pub Forbids : State → Colour → Play → Reason → Type 0
 Forbids state colour turn Over = state.passes ≡ 2
@@ -43,7 +43,7 @@ pub record IsFirstReason (state : State) (colour : Colour) (turn : Play) (reason
   pub holds : Forbids state colour turn reason
   pub first : (other : Reason) → rank_of other < rank_of reason → ¬ Forbids state colour turn other
 
--- Somewhere in the stretch a colouring has a stone on the point, and the one after it has none. The list is newest first.
+-- Somewhere in the stretch a colouring has a stone on the point, and the next colouring has none there. The list is newest first.
 abbrev pub WasEmptied : Point → List Grid → Type 0
 WasEmptied point [] = ⊥
 WasEmptied point (later ∷ []) = ⊥
@@ -52,7 +52,7 @@ WasEmptied point (later ∷ (earlier ∷ others)) =
 
 -- Below, the same as a function that computes; the laws say that the two agree.
 
--- that player must move
+-- the player of that colour must move
 abbrev pub must_move : Option Colour → Colour → Bool
 must_move None colour = false
 must_move (Some player) colour = same_cell (stone_of player) (stone_of colour)
@@ -66,7 +66,7 @@ abbrev pub is_occupied : State → Play → Bool
 is_occupied state Pass = false
 is_occupied state (Stone point) = not (same_cell (cell_at state.colouring point) Empty)
 
--- the colouring that a turn's stone makes was there since the last setup of stones
+-- the turn is a stone that repeats a colouring made since the last setup of stones
 abbrev pub is_repeat : State → Colour → Play → Bool
 is_repeat state colour Pass = false
 is_repeat state colour (Stone point) = list_any (same_grid (play state.colouring colour point)) state.seen

@@ -40,9 +40,9 @@ is_in area point =
 unfoldable pub with_area : Grid → SetupOp → Grid
 with_area grid op = grid_of grid.side (λ point. if is_in op.area point then op.cell else cell_at grid point)
 
--- The state after a setup. Its areas are coloured in order, and nothing is captured. The colourings begin
--- anew, so a ko doesn't reach back over a setup. Passes are 0, and the player who must move is the given
--- one, or None. If there are no areas, the player is set and all else stays.
+-- The state after a setup. The setup's areas are coloured in order, and nothing is captured. The list of
+-- colourings begins anew, so a ko doesn't reach back over a setup. Passes are 0, and the player who must
+-- move is the given one, or None. If there are no areas, the player is set and all else stays.
 abbrev pub set_up : State → List SetupOp → Option Colour → State
 set_up state [] player = record state { player = player }
 set_up state (op ∷ ops) player =
@@ -83,7 +83,7 @@ pub record States : Type 0 where
 abbrev pub begun : ℕ → States
 begun side = record { present = starting side; earlier = [] }
 
--- the oldest among a state and those before it
+-- the oldest of a state and the states before it
 abbrev pub oldest_of : State → List State → State
 oldest_of state [] = state
 oldest_of state (earlier ∷ others) = oldest_of earlier others

@@ -1,5 +1,5 @@
--- The property values of SGF FF[4] that name points. Which values are passes, as `tt` may
--- be, is defined in NodeValues.antt of sgf_lines, for the values of moves.
+-- The property values of SGF FF[4] that name points. A move's value may also be a pass, such
+-- as `tt`: NodeValues.antt of sgf_lines defines which values are passes.
 use Rattle.std.specs.Prelude.{ℕ, ◌-◌, ◌+◌, ◌&&◌, ◌==◌, nat_lt, nat_le, if◌then◌else◌, Option, Some, None, option_and_then, List, [], ◌∷◌}
 use Rattle.go_board.specs.declared.points.Point.{Point}
 use Rattle.go_board.specs.declared.points.Rect.{Rect}
@@ -26,7 +26,7 @@ letter_value letter =
     if nat_le small_a letter && nat_le letter small_z then Some (letter - small_a)
     else (if nat_le capital_a letter && nat_le letter capital_z then Some (letter - capital_a + 26) else None)
 
--- the same on a board of that side: None if the column or row isn't on it
+-- the same on a board of that side: None if the column or row isn't on the board
 abbrev pub coordinate : ℕ → ℕ → Option ℕ
 coordinate side letter =
     option_and_then (λ index. if nat_lt index side then Some index else None) (letter_value letter)

@@ -26,7 +26,7 @@ pub struct Board {
     /// The points with a white stone.
     white: [u64; MAX_ROWS],
     /// Whether every stone is known to reach empty. This is known after a
-    /// move. A colouring from outside can have a stone that doesn't.
+    /// move. A setup can leave a stone that doesn't reach empty.
     settled: bool,
 }
 
@@ -97,7 +97,7 @@ impl Board {
         cell_in(self.black[row], self.white[row], usize::from(point.col))
     }
 
-    /// The columns of a row with a stone of a colour, a bit for each.
+    /// The columns of a row that have a stone of a colour, as a word with a bit for each column.
     pub(crate) fn columns_of(&self, row: u8, colour: Colour) -> u64
         requires { row < self.now.side }
         ensures within { (col : ℕ) → col < self.now.side → has_bit result col
@@ -120,7 +120,7 @@ impl Board {
         self.colour_columns(point.row, column, cell);
     }
 
-    /// Colours the points of a row in a set of columns. Nothing is cleared.
+    /// Colours the points of a row that are in a set of columns. Nothing is cleared.
     pub(crate) fn colour_columns(&mut self, row: u8, columns: u64, cell: Cell)
         requires row { row < self.old.side }
         requires columns { (col : ℕ) → IsTrue (has_bit columns col) → col < self.old.side }
@@ -166,7 +166,7 @@ impl Board {
         }
     }
 
-    /// Whether every stone is known to reach empty. If this is true, every stone does.
+    /// Whether every stone is known to reach empty. If this is false, nothing is known.
     pub(crate) fn is_settled(&self) -> bool
         ensures { IsTrue result → has_unreaching self.now ≡ false }
     {

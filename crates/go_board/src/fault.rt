@@ -8,7 +8,7 @@ use std::alloc::{AllocError, AllocFailed};
 use std::error::Error;
 use std::fmt;
 
-/// A call was refused memory. The value that it was made on, or was to append to, is unchanged.
+/// A call was refused memory. The value that the call was made on is unchanged.
 #[derive(Clone, Copy, Debug, PartialEq, Eq)]
 pub struct MemoryFault;
 

@@ -29,8 +29,8 @@ pub fn listing()
         ↔ (IsOn side point × (index ≡ index_of side point))) }
 {}
 
-/// The cells of a grid are what stands on its points, in their order. So
-/// two grids of one side with the same on each point are equal.
+/// The cells of a grid are what stands on its points, in the order of the points.
+/// So two grids are equal if they have the same side and the same cell at each point.
 pub fn colouring()
     ensures cells { (grid : Grid) → length grid.cells ≡ grid.side * grid.side
         → map (cell_at grid) (points grid.side) ≡ grid.cells }
@@ -71,7 +71,7 @@ pub fn clearing()
         → cell_at (clear grid colour) point ≡ cell_at grid point }
 {}
 
-/// A score counts exactly the points of the player's colour, and the empty points that reach hers and not the other's.
+/// A score counts exactly the points of the player's colour, and the empty points that reach her colour and not the other's.
 pub fn scoring()
     ensures { (grid : Grid) (colour : Colour) (point : Point) → IsOn grid.side point
         → (IsTrue (counts_for grid colour point) ↔ CountsFor grid colour point) }
@@ -102,7 +102,7 @@ pub fn reasons()
         → ((reason_of state colour turn ≡ None) ↔ ((reason : Reason) → ¬ Forbids state colour turn reason)) }
 {}
 
-/// A stone that stays on its point can repeat a colouring of the stretch only if that point was emptied in the stretch.
+/// A stone that stays on its point can repeat a colouring of the present stretch only if that point was emptied in the stretch.
 pub fn repeating()
     ensures { (state : State) (others : List Grid) (colour : Colour) (point : Point)
         → state.seen ≡ state.colouring ∷ others → cell_at state.colouring point ≡ Empty

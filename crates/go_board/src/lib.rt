@@ -4,8 +4,8 @@
 //! can name.) Playing a stone takes off the opponent's groups without a liberty, and then the player's own (suicide).
 //!
 //! A `Referee` is seen as the list of the states that a game went through. An accepted setup or turn adds the state that the
-//! rules give. A refusal changes nothing, and undo takes the newest state back. A turn that would bring back a colouring since
-//! the last setup of stones is refused (positional superko). A `Past` holds the colourings for that.
+//! rules give. A refusal changes nothing, and undo takes the newest state back. A stone that would repeat a colouring made since
+//! the last setup of stones is refused (positional superko). A `Past` holds the colourings for this check.
 //!
 //! ```text
 //! let mut referee = Referee::<ListPast>::new(alloc, size)?;
@@ -25,8 +25,8 @@
 //! | `board` | the board: reading, setting, moves, score |
 //! | `board/stone_rows` | the stones of a row as bits |
 //! | `board/flood`, `board/search` | the flood that counts its steps, and its worklist |
-//! | `board/regions`, `board/fill` | sets of points as rows of bits; filling them: the score, whether all stones reach empty |
-//! | `board/group`, `board/capture` | the group of a stone, by rows of bits; what a stone takes off, as rows |
+//! | `board/regions`, `board/fill` | sets of points as rows of bits; filling them, which shows the score and who reaches empty |
+//! | `board/group`, `board/capture` | whether a stone's group has a liberty, by rows of bits; what a stone takes off |
 //! | `board/glance` | a glance at the rows around a stone, which usually shows that the stone takes nothing off |
 //! | `board/areas` | colouring areas and emptying sets of points |
 //! | `past` | the colourings that a game has been through; `past/list_past` and `past/print_past` keep them |
@@ -39,8 +39,8 @@
 //! A point *reaches* a colour if a path of adjacent points of the point's own colour leads
 //! from it to a point of that colour. A stone that reaches empty has a liberty.
 //!
-//! A past takes memory only in `new`, `push`, `restart`, `play` and `set_up`, and a referee only in `new`, `setup`, `turn` and
-//! `stay`. Their `reset` takes memory only if the past can't begin anew in place.
+//! A past takes memory in `new`, `push`, `restart`, `play` and `set_up`, and a referee in `new`, `setup`, `turn` and `stay`.
+//! Besides these calls only `reset` may take memory, and only if the past can't begin anew in place.
 //!
 //! Worked examples are in the crate `go_board_tests`.
 #![tactic(auto)]

@@ -52,7 +52,7 @@ impl Marks {
         *row |= 1 << point.col;
     }
 
-    /// Whether a point is marked. It must be on the board.
+    /// Whether a point is marked. The point must be on the board.
     pub fn has(&self, point: Point) -> bool
         requires { IsOn self.now.side point }
         ensures { result ≡ is_marked self.now point }

@@ -23,8 +23,8 @@ pub use list_past::ListPast;
 pub use print_past::PrintPast;
 use std::alloc::Global;
 
-/// The colourings that a game has been through, at least one. Each is marked if it begins a
-/// stretch. The present stretch is the newest colouring that begins one, and all after it.
+/// The colourings that a game has been through, at least one. Each is marked if it begins a stretch.
+/// The present stretch is the newest colouring with a mark, and all colourings after it.
 ///
 /// The boards given to `holds`, `push` and `restart` must have the size of these
 /// colourings. A call that fails with `MemoryFault` leaves the past unchanged.
@@ -36,8 +36,8 @@ pub trait Past: Drop {
     fn new(alloc: Global, board: &Board) -> Result<Self, MemoryFault>
         ensures { IfOk result (λ past. held past ≡ only board.now) };
 
-    /// Forgets all colourings, and then holds this one alone, which begins a stretch. Its size may
-    /// be another one. A past that can do this in place takes less time than a new one.
+    /// Forgets all colourings, and then holds that of `board` alone, which begins a stretch. The board may
+    /// have another size than before. A past that can do this in place takes less time than a new one.
     fn reset(&mut self, alloc: Global, board: &Board) -> Result<(), MemoryFault>
         ensures ok { OnOk result (held self.new ≡ only board.now) }
         ensures err { OnErr result (held self.new ≡ held self.old) }
@@ -70,7 +70,7 @@ pub trait Past: Drop {
     /// Plays a stone on an empty point of the newest colouring, with its captures or its suicide (Tromp-Taylor). Adds the
     /// colouring that this makes to the present stretch, unless the stretch has it already. Returns whether it was added.
     ///
-    /// Memory is refused only once it is known that the stretch doesn't have the colouring.
+    /// This fails with `MemoryFault` only if the stretch doesn't have the colouring.
     fn play(&mut self, colour: Colour, point: Point) -> Result<bool, MemoryFault>
         requires one_side { HaveSide (newest_grid (held self.old)).side (held self.old) }
         requires on_board { IsOn (newest_grid (held self.old)).side point }
@@ -86,7 +86,7 @@ pub trait Past: Drop {
         Ok(true)
     }
 
-    /// Colours areas of the newest colouring, in order, whatever stood there, and adds the result. It begins a stretch.
+    /// Colours areas of the newest colouring, in order, whatever stood there. Adds the result, which begins a stretch.
     fn set_up(&mut self, ops: &[SetupOp]) -> Result<(), MemoryFault>
         requires one_side { HaveSide (newest_grid (held self.old)).side (held self.old) }
         requires areas { All (λ op. IsRectOn (newest_grid (held self.old)).side op.area) ops.now }

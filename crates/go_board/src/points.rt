@@ -28,7 +28,7 @@ impl Point {
         usize::from(self.row) * usize::from(size.side()) + usize::from(self.col)
     }
 
-    /// The point at an index of that list.
+    /// The point with this index, counted as by `index`.
     pub(crate) fn of_index(index: usize, size: Size) -> Point
         requires { index < size * size }
         ensures on_board { IsOn size result }

@@ -9,7 +9,7 @@ use std::fmt;
 /// The others are faults of a node, found before a referee is asked.
 #[derive(Clone, Copy, Debug, PartialEq, Eq)]
 pub enum Reason {
-    /// The node has moves, and setup stones or a player.
+    /// The node has moves, and also setup stones or a player.
     Mixed,
     /// The node has two moves or more.
     TwoMoves,
@@ -23,7 +23,7 @@ pub enum Reason {
     Turn,
     /// The point isn't empty.
     Occupied,
-    /// The stone would make a colouring that was there since the last setup of stones (positional superko).
+    /// The stone would repeat a colouring made since the last setup of stones (positional superko).
     Repeat,
 }
 

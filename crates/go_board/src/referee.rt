@@ -1,5 +1,6 @@
-//! The referee: the Tromp-Taylor rules over a past, with undo. Each accepted call keeps the player and the passes from before it, and
-//! whether it was a turn (`Earlier`). `undo` restores them. If the call added a colouring to the past, `undo` takes that off.
+//! The referee: the Tromp-Taylor rules over a past, with undo. Each accepted call keeps the player and the passes from before the
+//! call, and whether the call was a turn (`Earlier`). `undo` restores these. If the call added a colouring to the past, `undo`
+//! removes it.
 
 mod plays;
 mod setup;

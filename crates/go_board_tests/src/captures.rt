@@ -1,4 +1,4 @@
-//! Games with captures: both pasts must return the same results, and an undo must restore each board.
+//! Games with captures. Both kinds of past must return the same results, and undoing must restore each board.
 
 use crate::given::{at, size};
 use crate::referee::{answers, turn, undo};
@@ -20,7 +20,7 @@ fn coordinate(rt: &impl Abort, number: u64, side: u8) -> u8 {
     ((number >> 40) % u64::from(side)) as u8
 }
 
-/// Plays stones on pseudorandom points, over both pasts. Both must return the same results.
+/// Plays the same pseudorandom stones over both pasts. Both must return the same results.
 fn play_in_step(
     rt: &impl Abort,
     listed: &mut Referee<ListPast>,
@@ -75,7 +75,7 @@ fn undo_in_step(
     assert!(rt; printed.score() == (0, 0));
 }
 
-/// Plays stones on pseudorandom points over both pasts in step, and then takes all of them back.
+/// Plays the same pseudorandom stones over both pasts, and then takes all of them back.
 fn same_game(rt: &impl Abort, alloc: Global, side: u8, tries: u32) -> Result<(), Fail> {
     let mut listed = Referee::<ListPast>::new(alloc, size(rt, side))?;
     let mut printed = Referee::<PrintPast>::new(alloc, size(rt, side))?;
@@ -84,7 +84,7 @@ fn same_game(rt: &impl Abort, alloc: Global, side: u8, tries: u32) -> Result<(),
     Ok(())
 }
 
-/// The stones that lead to a ko: the last of them captures the one before it.
+/// The stones that lead to a ko. The last stone captures the one before it.
 const INTO_KO: [(Colour, u8, u8); 9] = [
     (Colour::Black, 1, 0),
     (Colour::White, 2, 0),
@@ -129,7 +129,7 @@ fn fill_but_one<P: Past>(rt: &impl Abort, game: &mut Referee<P>) {
     }
 }
 
-/// The stone on the last point captures all the others. An undo restores them.
+/// A white stone on the last point captures all the black ones. An undo restores them.
 fn takes_all_others<P: Past>(rt: &impl Abort, game: &mut Referee<P>) {
     answers(rt, game, Colour::White, Play::Stone(at(8, 8)), Ok(()));
     assert!(rt; game.score() == (0, 81));
@@ -137,7 +137,7 @@ fn takes_all_others<P: Past>(rt: &impl Abort, game: &mut Referee<P>) {
     assert!(rt; game.score() == (81, 0));
 }
 
-/// Eighty stones are captured at once, and restored.
+/// Eighty stones are captured at once, and an undo restores them.
 fn large_capture<P: Past>(rt: &impl Abort, alloc: Global) -> Result<(), Fail> {
     let mut game = Referee::<P>::new(alloc, size(rt, 9))?;
     fill_but_one(rt, &mut game);

@@ -13,7 +13,7 @@ pub(crate) fn at(col: u8, row: u8) -> Point
     Point { col, row }
 }
 
-/// The size with this side, which must be one that boards can have.
+/// The size of a board of this side, which must be from 1 to 52.
 pub(crate) fn size(rt: &impl Abort, side: u8) -> Size
     ensures { result ≡ side }
 {

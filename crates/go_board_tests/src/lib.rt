@@ -1,16 +1,16 @@
 //! Worked examples of `go_board`, which call it as any other crate does.
 //!
-//! They are in a crate of their own because a crate with tests is proved once more with them.
+//! They are in a crate of their own, because a crate that has tests is proved a second time together with them.
 //!
 //! | Module | Examples of |
 //! |---|---|
 //! | `size`, `values`, `vertices` | sides, values that name points and rectangles, points as the Go Text Protocol writes them |
 //! | `board` | reaching, clearing, scores, moves and copies |
 //! | `moves` | moves one after the other, and a move after points were set |
-//! | `past` | a stretch that begins anew, and prints with the same low bits |
+//! | `past` | a second stretch, and prints with the same low bits |
 //! | `referee` | turns, setup, undo, another game; the messages of the faults |
 //! | `captures` | games with captures over both pasts |
-//! | `given` | points and sizes for the others |
+//! | `given` | nothing: it has points and sizes for the other modules |
 #![tactic(auto)]
 
 #[cfg(test)]

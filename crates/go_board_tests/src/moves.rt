@@ -1,4 +1,4 @@
-//! Moves one after the other, on boards whose stones are all known to reach empty; and a move after points were set.
+//! Moves one after the other, on boards whose stones are all known to have liberties. Also a move after points were set.
 
 use go_board::{Board, Cell, Colour, Point, Size};
 use std::process::Abort;
@@ -16,7 +16,7 @@ fn empty(rt: &impl Abort, side: u8) -> Board {
     Board::empty(Size::new(side).expect(rt, "the side of a board"))
 }
 
-/// How many black and how many white stones there are.
+/// The number of black stones on the board, and that of white ones.
 fn stones(board: &Board) -> (usize, usize) {
     let (mut black, mut white) = (0usize, 0usize);
     for row in 0..board.size().side() {
@@ -31,7 +31,7 @@ fn stones(board: &Board) -> (usize, usize) {
     (black, white)
 }
 
-/// Moves one after the other. After each come the numbers of black and white stones that then stand, and the reason.
+/// Moves one after the other. Each has the numbers of black and white stones that stand after it, and a word on why.
 const MOVES: [(Colour, u8, u8, (usize, usize), &str); 7] = [
     (Colour::Black, 1, 0, (1, 0), "one stone"),
     (Colour::White, 0, 0, (1, 1), "one liberty is left"),

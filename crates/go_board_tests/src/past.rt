@@ -20,8 +20,8 @@ fn with_stone(board: &Board, point: Point, cell: Cell) -> Board
     copy
 }
 
-/// Whether the present stretch holds exactly the expected boards: the last
-/// one alone if a stretch began anew with it, else the other two.
+/// If `anew`: whether the present stretch holds `white` alone. Else: whether
+/// it holds `empty` and `black`, and not `white`.
 fn has_alone<P: Past>(past: &P, anew: bool, empty: &Board, black: &Board, white: &Board) -> bool
     requires empty { HaveSide empty.now.side (P.held past.now) }
     requires black { HaveSide black.now.side (P.held past.now) }
@@ -30,7 +30,7 @@ fn has_alone<P: Past>(past: &P, anew: bool, empty: &Board, black: &Board, white:
     past.holds(empty) != anew && past.holds(black) != anew && past.holds(white) == anew
 }
 
-/// A stretch that begins anew hides the earlier colourings, until it is taken back.
+/// A new stretch hides the earlier colourings, until the stretch is taken back.
 fn begins_anew<P: Past>(rt: &impl Abort, past: &mut P, empty: &Board) -> Result<(), MemoryFault>
     requires side { empty.now.side ≡ 3 }
     requires one { P.held past.old ≡ only empty.now }
@@ -47,14 +47,14 @@ fn begins_anew<P: Past>(rt: &impl Abort, past: &mut P, empty: &Board) -> Result<
     Ok(())
 }
 
-/// A past of the empty board, in which a stretch begins anew.
+/// Begins a new stretch in a past of the empty board alone.
 fn past_begins_anew<P: Past>(rt: &impl Abort, alloc: Global) -> Result<(), MemoryFault> {
     let empty = Board::empty(size(rt, 3));
     let mut past = P::new(alloc, &empty)?;
     begins_anew(rt, &mut past, &empty)
 }
 
-/// Two colourings whose prints have the same low bits are still two colourings.
+/// A past that holds one colouring doesn't hold another whose print has the same low bits.
 fn prints_alike<P: Past>(rt: &impl Abort, alloc: Global) -> Result<(), Fail> {
     let empty = Board::empty(size(rt, 25));
     let inner = with_stone(&empty, at(12, 4), Cell::Black);

@@ -9,7 +9,7 @@ use std::alloc::Global;
 use std::process::Abort;
 use std::test::Fail;
 
-/// Takes a turn. If it isn't allowed, returns the reason. A stone must be on the board.
+/// Takes a turn. If the turn isn't legal, returns the reason. The point of a stone must be on the board.
 pub(crate) fn turn<P: Past>(
     rt: &impl Abort,
     referee: &mut Referee<P>,
@@ -37,7 +37,7 @@ pub(crate) fn answers<P: Past>(
     );
 }
 
-/// The referee must have made this many turns, hold this many calls that can be undone, and give this score.
+/// The referee must have made this many turns, be able to undo this many calls, and give this score.
 fn stands<P: Past>(
     rt: &impl Abort,
     referee: &Referee<P>,
@@ -62,7 +62,7 @@ fn set_area<P: Past>(
     referee.setup(&[SetupOp { cell, area }], None)
 }
 
-/// Takes back the newest call.
+/// Takes back the newest turn or setup.
 pub(crate) fn undo<P: Past>(rt: &impl Abort, referee: &mut Referee<P>) {
     assert!(rt; referee.depth() > 0);
     referee.undo();
@@ -72,7 +72,7 @@ fn illegal(reason: Reason) -> Result<(), TurnFault> {
     Err(TurnFault::Illegal(reason))
 }
 
-/// On one point: Black must move first, every stone repeats the empty board, and two passes end the game.
+/// On a board of one point: Black must move first, every stone repeats the empty board, and two passes end the game.
 fn on_one<P: Past>(rt: &impl Abort, alloc: Global) -> Result<(), Fail> {
     let mut game = Referee::<P>::new(alloc, size(rt, 1))?;
     let pass = Play::Pass;
@@ -121,7 +121,7 @@ fn on_three<P: Past>(rt: &impl Abort, alloc: Global) -> Result<(), Fail> {
     Ok(())
 }
 
-/// A setup of the player alone, and then one stone that owns the whole board.
+/// A setup names only the player, White. She plays the only stone, and all nine points count for her.
 fn player_alone<P: Past>(rt: &impl Abort, alloc: Global) -> Result<(), Fail> {
     let mut game = Referee::<P>::new(alloc, size(rt, 3))?;
     game.setup(&[], Some(Colour::White))?;
@@ -130,7 +130,7 @@ fn player_alone<P: Past>(rt: &impl Abort, alloc: Global) -> Result<(), Fail> {
     Ok(())
 }
 
-/// A referee that begins another game of the same size after two turns is like a new one.
+/// Takes two turns, and begins another game, on a board of this side. The referee must then be like a new one.
 fn begins_again<P: Past>(
     rt: &impl Abort,
     game: &mut Referee<P>,
@@ -144,7 +144,7 @@ fn begins_again<P: Past>(
     Ok(())
 }
 
-/// A referee that begins another game, of another size or of the same, is like a new one.
+/// A referee that begins another game is like a new one, whether the board has another side or the same.
 fn another_game<P: Past>(rt: &impl Abort, alloc: Global) -> Result<(), Fail> {
     let mut game = Referee::<P>::new(alloc, size(rt, 3))?;
     for side in [2, 5, 5] {

@@ -1,4 +1,4 @@
--- What a run and a count say whose source is a text in memory.
+-- What follows from a run or a count whose source is a text in memory.
 use Rattle.std.proofs.Common.{◌≡◌, ℕ, ◌+◌, ◌≤◌, List, [], ◌++◌, length, Option, Some, None, Ok, Err, sym, ap, ◌∙◌, subst, append-nil, length-append, arith, inl, inr, ◌<◌, drop}
 use Rattle.std.specs.Io.KnownBytes.{Appends, Consumes, IsAtEnd}
 use Rattle.sgf_lines.specs.Ends.{SourceState, SinkState}
@@ -15,25 +15,25 @@ use Rattle.sgf_lines_c.specs.declared.status.Status.TheVariants.{Done, NotSgf as
 use Rattle.sgf_lines_c.specs.SplitAnswer.{IsPartOf, Says, NeedsRoom, told, told_of}
 use Rattle.sgf_lines_c.specs.inner.Running.{IsRefusal, IsUncounted, Puts}
 
--- what was given up to the end is the text
+-- a source that is at its end gave exactly the text
 whole_text : (text : List ℕ) (left : Option (List ℕ)) (given : List ℕ) → Consumes (Some text) left given → IsAtEnd left → given ≡ text
 whole_text text None given h end = absurd h
 whole_text text (Some ys) given h end = sym (h ∙ ap (λ bs. given ++ bs) end ∙ append-nil given)
 
--- no more was given than the text
+-- a source gave no more bytes than the text has
 given_short : (text : List ℕ) (left : Option (List ℕ)) (given : List ℕ) → Consumes (Some text) left given → length given ≤ length text
 given_short text None given h = absurd h
 given_short text (Some ys) given h = let e : length text ≡ length given + length ys = ap length h ∙ length-append given ys in omega arith
 
--- what was given is the text
+-- a source that was read whole gave exactly the text, which isn't too long
 all_given : (text : List ℕ) (left : Option (List ℕ)) (given : List ℕ) → Consumes (Some text) left given → IsWhole given left → (given ≡ text) × (length text ≤ MAX_LENGTH)
 all_given text left given h whole = let e = whole_text text left given h whole.at_end in (e, rw e at whole.within)
 
--- a part of a page was written
+-- `count` is at most the number of lines of the page of the text
 part_of : (o : Options) (text : List ℕ) (left : Option (List ℕ)) (given : List ℕ) (page : List Line) (count : ℕ) → Consumes (Some text) left given → IsGood o given left page → count ≤ length page → IsPartOf o text count
 part_of o text left given page count h good fewer = let all = all_given text left given h good.whole in inl (all.1, (page, rw all.0 at good.has_page, fewer))
 
--- a run whose source had the text to come, and which failed
+-- what a failed run over the text says of the text
 pub run_refused : (o : Options) (text : List ℕ) (source new_source : SourceState) (sink new_sink : SinkState) (fault : RunFault) → source.to_come ≡ Some text
     → IsRun o source new_source sink new_sink (Err fault) → IsRefusal o text fault
 run_refused o text source new_source sink new_sink fault starts run = by fault run.answers
@@ -53,7 +53,7 @@ run_refused o text source new_source sink new_sink fault starts run = by fault r
     by (Memory count) (inl a) = part_of o text left run.given a.0 count consumes a.1 a.2
     by (Memory count) (inr a) = inr a.1
 
--- a count, likewise
+-- what a failed count over the text says of the text
 pub count_refused : (text : List ℕ) (source new_source : SourceState) (fault : RunFault) → source.to_come ≡ Some text → IsCount source new_source (Err fault) → IsUncounted text fault
 count_refused text source new_source fault starts count = by fault count.answers
   where
@@ -71,11 +71,11 @@ count_refused text source new_source fault starts count = by fault count.answers
     by (Write count) a = tt
     by (Memory count) a = tt
 
--- what is told of the records of a page
+-- the answer that `put` gives for the records of a page is `told_of` the page
 told_page : (o : Options) (page : List Line) (lines : ℕ) (records : List ℕ) → lines ≡ length page → records ≡ output o.form page → told lines (length records) 0 ≡ told_of o page
 told_page o page lines records e f = ap (λ n. told n (length records) 0) e ∙ ap (λ bs. told (length page) (length bs) 0) f
 
--- these are the records of the page of the text
+-- `records` are the records of the page of the text, and `lines` is their number
 pub record IsTaken (o : Options) (text records : List ℕ) (lines : ℕ) : Type 0 where
   page : List Line
   page_is : HasPage o text page
@@ -83,7 +83,7 @@ pub record IsTaken (o : Options) (text records : List ℕ) (lines : ℕ) : Type 
   records_are : records ≡ output o.form page
   count : lines ≡ length page
 
--- a run that is done, whose sink began empty and ended with these records
+-- a run over the text succeeded; its sink was empty before, and then held these records
 pub taken_in_memory : (o : Options) (text records : List ℕ) (source new_source : SourceState) (sink new_sink : SinkState) (lines : ℕ) → source.to_come ≡ Some text
     → sink.taken ≡ Some [] → new_sink.taken ≡ Some records → IsRun o source new_source sink new_sink (Ok lines) → IsTaken o text records lines
 taken_in_memory o text records source new_source sink new_sink lines starts empty ends run =
@@ -93,7 +93,7 @@ taken_in_memory o text records source new_source sink new_sink lines starts empt
     let takes : Appends (Some []) (Some records) (output o.form a.0) = rw (empty, ends) at a.2 in
     record { page = a.0; page_is = rw all.0 at a.1.has_page; short = all.1; records_are = takes; count = a.3 }
 
--- what was put is what the run says
+-- after such a run, `Says` holds of the status and the answer of `put`
 pub put_of_run : (o : Options) (text records old new : List ℕ) (lines : ℕ) (status : Status) (answer : Answer) → IsTaken o text records lines → Puts records old new status
     → answer ≡ told lines (length records) 0 → Says o text old new answer status
 put_of_run o text records old new lines Done answer run put is =

@@ -1,4 +1,4 @@
--- What a count reports, and what that says of the text.
+-- What `sgf_lines_count` reports, and what that says of the text.
 use Rattle.std.specs.Prelude.{◌≡◌, ℕ, ◌<◌, ◌≤◌, List, length}
 use Rattle.sgf_tree.specs.Tree.{Games, game_count, node_count}
 use Rattle.sgf_tree.specs.Spelling.{Spells}
@@ -10,11 +10,11 @@ use Rattle.sgf_lines_c.specs.declared.status.Status.{Status}
 use Rattle.sgf_lines_c.specs.declared.status.Status.TheVariants.{Done, NotSgf, EndsEarly, TooLong, NoSuchLine, UnknownForm, RoomTooSmall, OutOfMemory}
 use Rattle.sgf_lines_c.specs.Status.{number_of}
 
--- the counts of a collection
+-- the answer that reports the counts of a collection
 abbrev pub told_of : Games → CountAnswer
 told_of games = record { games = game_count games; nodes = node_count games; lines = length (lines games); at = 0 }
 
--- no counts, and the offset of a fault
+-- an answer that has only the offset of a fault, and no counts
 abbrev pub fault_told : ℕ → CountAnswer
 fault_told at = record { games = 0; nodes = 0; lines = 0; at = at }
 
@@ -29,7 +29,7 @@ Says text answer UnknownForm = ⊥
 Says text answer RoomTooSmall = ⊥
 Says text answer OutOfMemory = answer ≡ fault_told 0
 
--- The answer of a count that returned this number.
+-- The answer of `sgf_lines_count`, if it returned this number.
 pub record IsCount (text : List ℕ) (answer : CountAnswer) (number : ℕ) : Type 0 where
   pub status : Status
   pub number_is : number ≡ number_of status

@@ -1,4 +1,4 @@
--- What a judge reports, and what that says of the text and of its line with a place.
+-- What `sgf_lines_judge` reports, and what that says of the text and the place.
 use Rattle.std.specs.Prelude.{◌≡◌, ℕ, ◌+◌, ◌<◌, ◌≤◌, false, List, length}
 use Rattle.sgf_tree.specs.Tree.{Games}
 use Rattle.sgf_tree.specs.Spelling.{Spells}
@@ -19,11 +19,11 @@ use Rattle.sgf_lines_c.specs.Status.{number_of}
 abbrev pub reason_number : Reason → ℕ
 reason_number reason = rank_of reason + 1
 
--- no verdict, and a place
+-- an answer that has only `at`, and no verdict
 abbrev pub no_verdict : ℕ → JudgeAnswer
 no_verdict at = record { verdict = 0; reason = 0; black = 0; white = 0; turn = 0; place = 0; at = at; over = false }
 
--- a verdict
+-- the answer that reports a verdict
 abbrev pub verdict_told : Verdict → JudgeAnswer
 verdict_told (Score black white over) = record (no_verdict 0) { verdict = 1; black = black; white = white; over = over }
 verdict_told (Illegal turn place reason) = record (no_verdict 0) { verdict = 2; turn = turn; place = place; reason = reason_number reason }
@@ -42,7 +42,7 @@ Says text place answer UnknownForm = ⊥
 Says text place answer RoomTooSmall = ⊥
 Says text place answer OutOfMemory = answer ≡ no_verdict 0
 
--- The answer of a judge that returned this number.
+-- The answer of `sgf_lines_judge`, if it returned this number.
 pub record IsJudged (text : List ℕ) (place : ℕ) (answer : JudgeAnswer) (number : ℕ) : Type 0 where
   pub status : Status
   pub number_is : number ≡ number_of status

@@ -1,4 +1,4 @@
--- What a split reports, what that says of the text, and what the caller's room holds.
+-- What `sgf_lines_split` reports, what that says of the text, and what the room (the caller's buffer for the records) then holds.
 use Rattle.std.specs.Prelude.{◌≡◌, ℕ, ◌<◌, ◌≤◌, ◌⊎◌, List, ◌++◌, length, drop, Option, Some, None}
 use Rattle.sgf_tree.specs.Refusal.{IsFaultyAt}
 use Rattle.sgf_lines.specs.Lines.{Line}
@@ -15,11 +15,11 @@ use Rattle.sgf_lines_c.specs.Status.{number_of}
 abbrev pub told : ℕ → ℕ → ℕ → Answer
 told lines bytes at = record { lines = lines; bytes = bytes; at = at }
 
--- what is reported of the records of these lines
+-- the answer that reports how many these lines are, and how many bytes their records have
 abbrev pub told_of : Options → List Line → Answer
 told_of options page = told (length page) (length (output options.form page)) 0
 
--- After the call the page's records are at the front of the room, and the rest of the room is unchanged.
+-- After the call the records of the page are at the front of the room, and the rest of the room is unchanged.
 pub record IsDone (options : Options) (text old_room new_room : List ℕ) (answer : Answer) : Type 0 where
   pub page : List Line
   pub page_is : HasPage options text page
@@ -36,7 +36,7 @@ pub record NeedsRoom (options : Options) (text room : List ℕ) (answer : Answer
   pub too_small : length room < length (output options.form page)
   pub told_is : answer ≡ told_of options page
 
--- The page has at least as many lines as there was memory for; or the text wasn't split yet, and the count is 0.
+-- The page of the text has at least `count` lines. Or the count is 0, and nothing is said of the text.
 abbrev pub IsPartOf : Options → List ℕ → ℕ → Type 0
 IsPartOf options text count =
     ((length text ≤ MAX_LENGTH) × ((page : List Line) × HasPage options text page × (count ≤ length page))) ⊎ (count ≡ 0)
@@ -61,7 +61,7 @@ abbrev pub Answers : Option Options → List ℕ → List ℕ → List ℕ → A
 Answers None text old_room new_room answer status = (status ≡ UnknownForm) × (answer ≡ told 0 0 0) × (new_room ≡ old_room)
 Answers (Some options) text old_room new_room answer status = Says options text old_room new_room answer status
 
--- The answer of a split that returned this number.
+-- The answer of `sgf_lines_split`, if it returned this number.
 pub record IsSplit (asked : Asked) (text old_room new_room : List ℕ) (answer : Answer) (number : ℕ) : Type 0 where
   pub status : Status
   pub number_is : number ≡ number_of status

@@ -1,2 +1,2 @@
--- Words of private contracts.
+-- What only private contracts cite.
 pub mod Running

@@ -1,4 +1,4 @@
-//! What a split, a count and a judge report to the caller.
+//! What the three calls report to the caller.
 
 ghost use Rattle.std.specs.Prelude.{◌≡◌};
 ghost use Rattle.sgf_lines_c.specs.SplitAnswer.{told};
@@ -8,7 +8,7 @@ ghost use Rattle.sgf_lines_c.specs.JudgeAnswer.{reason_number as number_of, verd
 use go_board::Reason;
 use sgf_lines::Verdict;
 
-/// What a split reports. A number that has no meaning for the status is 0.
+/// What `sgf_lines_split` reports. A number that has no meaning for the status is 0.
 #[repr(C)]
 #[derive(Clone, Copy)]
 pub struct Answer {
@@ -17,20 +17,20 @@ pub struct Answer {
     pub lines: u64,
     /// After `Done` and `RoomTooSmall`: how many bytes the records have.
     pub bytes: u64,
-    /// After `NotSgf` and `EndsEarly`: the offset in bytes, from 0, of the first faulty byte, or the length of the text. After
+    /// After `NotSgf`: the offset in bytes, from 0, of the first faulty byte. After `EndsEarly`: the length of the text. After
     /// `NoSuchLine`: the place that was asked for.
     pub at: u64,
 }
 
 impl Answer {
-    /// An answer without numbers.
+    /// An answer in which every number is 0.
     pub(crate) fn nothing() -> Answer
         ensures { result ≡ told 0 0 0 }
     {
         Answer::at(0)
     }
 
-    /// An answer that has only a place.
+    /// An answer that has only `at`.
     pub(crate) fn at(at: u64) -> Answer
         ensures { result ≡ told 0 0 at }
     {
@@ -53,7 +53,7 @@ impl Answer {
     }
 }
 
-/// What a count reports. A number that has no meaning for the status is 0.
+/// What `sgf_lines_count` reports. A number that has no meaning for the status is 0.
 #[repr(C)]
 #[derive(Clone, Copy)]
 pub struct CountAnswer {
@@ -63,12 +63,12 @@ pub struct CountAnswer {
     pub nodes: u64,
     /// The number of lines of play.
     pub lines: u64,
-    /// After `NotSgf` and `EndsEarly`: the offset in bytes, from 0, of the first faulty byte, or the length of the text.
+    /// After `NotSgf`: the offset in bytes, from 0, of the first faulty byte. After `EndsEarly`: the length of the text.
     pub at: u64,
 }
 
 impl CountAnswer {
-    /// An answer that has only a place.
+    /// An answer that has only `at`.
     pub(crate) fn at(at: u64) -> CountAnswer
         ensures { result ≡ fault_told at }
     {
@@ -81,14 +81,14 @@ impl CountAnswer {
     }
 }
 
-/// What a judge reports. A number that has no meaning for the status or the verdict is 0.
+/// What `sgf_lines_judge` reports. A number that has no meaning for the status or the verdict is 0.
 #[repr(C)]
 #[derive(Clone, Copy)]
 pub struct JudgeAnswer {
     /// The verdict: 1 for a score, 2 for an illegal node, 3 if the game isn't
     /// Go, 4 if the board isn't a square of 1 to 52 points a side.
     pub verdict: u32,
-    /// Why the node isn't allowed: the number of the reason, from 1 in the order of checking.
+    /// Why the node is illegal: the number of the reason, from 1 in the order of checking.
     pub reason: u32,
     /// Black's area score after the last node, in points.
     pub black: u32,
@@ -98,15 +98,15 @@ pub struct JudgeAnswer {
     pub turn: u64,
     /// The place of the illegal node: the offset in bytes, from 0, of its `;`.
     pub place: u64,
-    /// After `NotSgf` and `EndsEarly`: the offset in bytes, from 0, of the first faulty byte,
-    /// or the length of the text. After `NoSuchLine`: the place that was asked for.
+    /// After `NotSgf`: the offset in bytes, from 0, of the first faulty byte. After
+    /// `EndsEarly`: the length of the text. After `NoSuchLine`: the place that was asked for.
     pub at: u64,
     /// Whether two passes in a row ended the game. It is false if there is no score.
     pub over: bool,
 }
 
 impl JudgeAnswer {
-    /// An answer with a place, and without a verdict.
+    /// An answer that has only `at`, and no verdict.
     pub(crate) fn at(at: u64) -> JudgeAnswer
         ensures { result ≡ no_verdict at }
     {
@@ -122,7 +122,7 @@ impl JudgeAnswer {
         }
     }
 
-    /// An answer with a verdict.
+    /// The answer that reports a verdict.
     pub(crate) fn of(verdict: Verdict) -> JudgeAnswer
         ensures { result ≡ verdict_told verdict }
     {

@@ -24,7 +24,7 @@ pub struct Asked {
 }
 
 impl Asked {
-    /// The options of the run; None if no form has the number.
+    /// The options of the run; None if no form has the number `form`.
     pub(crate) fn options(&self) -> Option<Options>
         ensures { result ≡ options_of self.now }
     {
@@ -37,7 +37,7 @@ impl Asked {
     }
 }
 
-/// The number, if it counts.
+/// The number if it counts, else None.
 fn given_number(counts: bool, number: u64) -> Option<u64>
     ensures { result ≡ given counts number }
 {

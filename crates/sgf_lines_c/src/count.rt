@@ -43,7 +43,7 @@ fn count_text(alloc: Global, text: &[u8]) -> (Status, CountAnswer)
     }
 }
 
-/// What a failed count reports. The source is a text in memory, which never fails.
+/// What a failed count reports. The source is a text in memory, so no read fails.
 fn refusal(fault: RunFault) -> (Status, CountAnswer)
     ensures { (text : List ℕ) → IsUncounted text fault → Says text result.1 result.0 }
 {

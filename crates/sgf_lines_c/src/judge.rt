@@ -16,7 +16,7 @@ use std::alloc::Global;
 /// - `Done`: the answer has the verdict.
 /// - `NotSgf`: `at` is the offset in bytes, from 0, of the first faulty byte.
 /// - `EndsEarly`: `at` is the length of the text.
-/// - `NoSuchLine`: no line has the place, which is `at`.
+/// - `NoSuchLine`: no line has the place; `at` is the place.
 /// - `TooLong`, `OutOfMemory`: every number is 0.
 #[unsafe(no_mangle)]
 pub extern "C" fn sgf_lines_judge(

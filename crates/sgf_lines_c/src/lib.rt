@@ -1,14 +1,14 @@
 //! The lines of play of an SGF collection, for programs in C and in languages that can call C.
 //!
-//! A thin static library over `sgf_lines`. `include/sgf_lines.h` declares what it exports, and describes it in C's terms.
-//! It keeps nothing between two calls, so any number of threads may call it at once. It opens nothing, and writes only to what
-//! the caller passes for writing. Memory comes from the C library's `malloc`, and all of it is freed before a call returns.
+//! A thin static library over `sgf_lines`. `include/sgf_lines.h` declares the exported calls, and describes them for C programs.
+//! The library keeps nothing between two calls, so any number of threads may call it at once. It opens nothing, and writes only to
+//! what the caller passes for writing. Memory comes from the C library's `malloc`, and all of it is freed before a call returns.
 //!
 //! | Module | What it has |
 //! |---|---|
 //! | `split`, `count`, `judge` | the three calls |
 //! | `asked` | what a caller asks for |
-//! | `answer` | what a split, a count and a judge report |
+//! | `answer` | what the three calls report |
 //! | `status` | how a call ended |
 #![tactic(auto)]
 

@@ -15,15 +15,15 @@ use std::alloc::Global;
 /// room, and returns the number of a `Status`.
 ///
 /// - `Done`: the records are at the front of the room, and the rest of it is
-///   unchanged. `lines` is the number of their lines, `bytes` their length.
+///   unchanged. `lines` is the number of records, `bytes` their length.
 /// - `RoomTooSmall`: the same two numbers. So `bytes` is the room that the records need.
 /// - `NotSgf`: `at` is the offset in bytes, from 0, of the first faulty byte.
 /// - `EndsEarly`: `at` is the length of the text.
 /// - `TooLong`, `UnknownForm`: every number is 0.
 /// - `NoSuchLine`: `at` is the place that was asked for.
-/// - `OutOfMemory`: there was memory for the records of the first `lines` lines; 0 if it was refused before the first.
+/// - `OutOfMemory`: there was memory for the records of the first `lines` lines, which may be none.
 ///
-/// After each status but `Done` the room is unchanged.
+/// After every status except `Done` the room is unchanged.
 #[unsafe(no_mangle)]
 pub extern "C" fn sgf_lines_split(
     alloc: Global,
@@ -42,7 +42,7 @@ pub extern "C" fn sgf_lines_split(
     status.number()
 }
 
-/// Writes to the front of the room the records of the lines that the options select.
+/// Writes the records of the lines that the options select to the front of the room.
 fn split_into(alloc: Global, text: &[u8], options: &Options, room: &mut [u8]) -> (Status, Answer)
     ensures { Says options.now text.now room.old room.new result.1 result.0 }
 {
@@ -54,7 +54,7 @@ fn split_into(alloc: Global, text: &[u8], options: &Options, room: &mut [u8]) ->
     }
 }
 
-/// Puts the records at the front of the room if they fit. `lines` is the number of their lines.
+/// Puts the records at the front of the room. If they don't fit, the room is unchanged. `lines` is the number of records.
 fn put(records: &[u8], lines: u64, room: &mut [u8]) -> (Status, Answer)
     ensures { Puts records.now room.old room.new result.0 × (result.1 ≡ told lines (length records.now) 0) }
 {

@@ -8,9 +8,9 @@ ghost use Rattle.sgf_lines_c.specs.Status.{number_of};
 pub enum Status {
     /// The call did all that was asked.
     Done,
-    /// The text isn't a collection (SGF FF[4], EBNF), and has a first byte that no collection can have there.
+    /// The text isn't a collection (SGF FF[4], EBNF), and no collection begins with it.
     NotSgf,
-    /// The text isn't a collection, but some collection begins with it: it ends too early.
+    /// The text isn't a collection, but some collection begins with it. So the text ends too early.
     EndsEarly,
     /// The text has more than `sgf_lines::MAX_LENGTH` bytes.
     TooLong,

@@ -1,4 +1,4 @@
--- The rows of decoding, and the function that computes by them.
+-- The rules of decoding, and the function that computes by them.
 use Rattle.std.proofs.Common.{◌≡◌, ◌≢◌, ℕ, Bool, true, false, ◌==◌, List, [], ◌∷◌, ◌++◌, refl, sym, ap, subst, ◌∙◌, append-nil, arith}
 use Rattle.std.proofs.lemmas.Bool.{eqb-true}
 use Rattle.sgf_tree.specs.Text.{is_break, is_pair, spaced, MakesNoPair, IsDecoded, nothing, last_backslash, escaped_pair, escaped_break, escaped_byte, pair, line_break, plain_byte, unescaped, after_backslash, text_of}
@@ -62,7 +62,7 @@ module _ (b : ℕ) where
     more-by false true e f = rw (e, f) (pair f near)
     more-by false false e f = rw (e, f) (front-byte b (n ∷ t ∷ rest) (text_of (n ∷ t ∷ rest)) e f next)
 
--- what the function computes is the text by the rows
+-- what the function computes is the text by the rules
 pub is-decoded : (raw : List ℕ) → IsDecoded raw (text_of raw)
 is-decoded [] = nothing
 is-decoded (b ∷ []) = one-by b (b == 92) refl

@@ -3,7 +3,7 @@ use Rattle.std.specs.Prelude.{◌≡◌, ◌≢◌, ℕ, ◌+◌, ◌-◌, ◌<�
 use Rattle.std.specs.List.{flat_map}
 use Rattle.sgf_tree.specs.Tree.{Node, Games, no_games, game, node_count}
 
--- A node, the number of its parent, and whether it is the first after a `(`. The parent is
+-- A node, the number of its parent, and whether the node is the first after a `(`. The parent is
 -- the node before it on its line; None for the root of a game of the collection.
 pub record OrderedNode : Type 0 where
   pub node : Node
@@ -15,8 +15,8 @@ abbrev pub further_nodes : ℕ → List Node → List OrderedNode
 further_nodes last [] = []
 further_nodes last (node ∷ rest) = record { node = node; parent = Some last; opens = false } ∷ further_nodes (last + 1) rest
 
--- The nodes of some games. The first node has the number `number`, and its parent is `parent`. The list begins with the
--- own nodes of the first game. Then come the nodes of the games below its last own node, and then those of the games after it.
+-- The nodes of some games. The first node has the number `number`, and its parent is `parent`. The list begins with the first
+-- game's own nodes (`first` and `more`). Then come the nodes of the games below these, and then those of the games after it.
 abbrev pub nodes_from : ℕ → Option ℕ → Games → List OrderedNode
 nodes_from number parent no_games = []
 nodes_from number parent (game first more below after) =
@@ -29,7 +29,7 @@ nodes_from number parent (game first more below after) =
 abbrev pub ordered_nodes : Games → List OrderedNode
 ordered_nodes games = nodes_from 0 None games
 
--- the node with a number, its place, and the number of the node before it on its line
+-- the node with this number; None if there is none
 abbrev pub node_at : Games → ℕ → Option Node
 node_at games number = option_map (λ ordered. ordered.node) (slice_get (ordered_nodes games) number)
 
@@ -37,9 +37,11 @@ node_at games number = option_map (λ ordered. ordered.node) (slice_get (ordered
 abbrev pub nodes_at : Games → List ℕ → List Node
 nodes_at games numbers = flat_map (λ number. option_to_list (node_at games number)) numbers
 
+-- the place of the node with this number
 abbrev pub place_at : Games → ℕ → Option ℕ
 place_at games number = option_map (λ ordered. ordered.node.place) (slice_get (ordered_nodes games) number)
 
+-- the parent of the node with this number: Some None for the root of a game, None if there is no such node
 abbrev pub parent_at : Games → ℕ → Option (Option ℕ)
 parent_at games number = option_map (λ ordered. ordered.parent) (slice_get (ordered_nodes games) number)
 

@@ -1,6 +1,6 @@
 -- What stands between the brackets of a value (SGF FF[4], ValueType and Escaping): any number of units. No unit is a bare `]`, so
--- they end at the first `]` that no `\` escapes. IsPropValue (Spelling) requires that `]` next. `s` is what is left of the text
--- before the units, and `r` what is left after them.
+-- they end at the first `]` that no `\` escapes. IsPropValue (Spelling) requires this `]` after them. `s` is the text from the
+-- first unit on, and `r` is the text after the last one.
 use Rattle.std.specs.Prelude.{◌≢◌, ℕ, List, [], ◌∷◌}
 use Rattle.sgf_tree.specs.Bytes.{backslash, close_bracket}
 

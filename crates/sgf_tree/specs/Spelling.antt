@@ -1,6 +1,6 @@
 -- Which texts spell a collection: the EBNF of SGF FF[4] down to the brackets of a value. Between these stand any bytes, with
--- escapes (`RawValue.antt`). In each relation `s` is what is left of the text before a thing, and `r` what is left after it. `t`,
--- `u`, `w` and the names with several letters are what is left between its parts.
+-- escapes (`RawValue.antt`). In each relation `s` is the text from the beginning of a thing on, and `r` is the text after the
+-- thing. `t`, `u`, `w` and the longer names are the text after one of its parts.
 use Rattle.std.specs.Prelude.{◌≡◌, ℕ, ◌+◌, Bool, ◌||◌, ◌&&◌, ◌==◌, nat_le, IsTrue, List, [], ◌∷◌, length}
 use Rattle.sgf_tree.specs.Bytes.{tab, line_feed, vertical_tab, form_feed, carriage_return, space, open_parenthesis, close_parenthesis, semicolon, capital_a, capital_z, open_bracket, close_bracket, small_a, small_z, byte_ef, byte_bb, byte_bf}
 use Rattle.sgf_tree.specs.RawValue.{IsValue}

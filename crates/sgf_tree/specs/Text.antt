@@ -19,7 +19,7 @@ abbrev pub MakesNoPair : ℕ → List ℕ → Type 0
 MakesNoPair byte [] = Unit {0}
 MakesNoPair byte (next ∷ rest) = is_pair byte next ≡ false
 
--- The text of a raw value. Each rule says what the first bytes of the value become. The text of the rest follows it.
+-- The text of a raw value. Each rule says what the first bytes of the value become. The text of the other bytes comes after that.
 pub data IsDecoded : List ℕ → List ℕ → Type 0 where
   -- nothing, or a `\` as the last byte: nothing
   nothing : IsDecoded [] []
@@ -35,7 +35,7 @@ pub data IsDecoded : List ℕ → List ℕ → Type 0 where
   -- another byte: that byte, spaced
   plain_byte : {byte : ℕ} {rest text : List ℕ} → byte ≢ backslash → is_break byte ≡ false → IsDecoded rest text → IsDecoded (byte ∷ rest) (spaced byte ∷ text)
 
--- what a byte becomes that no `\` escapes: an LF for a line break, else `spaced` of the byte
+-- what an unescaped byte becomes: an LF for a line break, else `spaced` of the byte
 abbrev pub unescaped : ℕ → ℕ
 unescaped b = if is_break b then line_feed else spaced b
 
@@ -43,7 +43,7 @@ unescaped b = if is_break b then line_feed else spaced b
 abbrev pub after_backslash : ℕ → List ℕ
 after_backslash b = if is_break b then [] else spaced b ∷ []
 
--- the text as a function, by the first rule that fits
+-- the decoded text as a function: at each step it takes the first rule that fits
 abbrev pub text_of : List ℕ → List ℕ
 text_of [] = []
 text_of (byte ∷ []) = if byte == backslash then [] else unescaped byte ∷ []

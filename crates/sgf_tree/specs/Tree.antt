@@ -21,8 +21,8 @@ pub record Node : Type 0 where
   pub properties : List Property
 
 -- Games that stand side by side. A game (a GameTree of SGF, at any depth) has a first node, more nodes after it, and the games
--- below them, each of which begins a variation. Then come the games after it. A node that no node follows is a leaf. Only the
--- games of the collection itself are counted and numbered, not those below others.
+-- below these nodes, each of which begins a variation. `after` has the games after this game. A node that no node follows is a
+-- leaf. Only the games of the collection itself are counted and numbered, not those below others.
 pub data Games : Type 0 where
   no_games : Games
   game : (first : Node) (more : List Node) (below after : Games) → Games

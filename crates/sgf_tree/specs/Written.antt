@@ -15,7 +15,7 @@ property_text p = p.name ++ flat_map value_text (values p)
 abbrev pub node_text : Node → List ℕ
 node_text n = codes ";" ++ flat_map property_text n.properties
 
--- the offsets where texts end if they follow each other without a gap; the first begins at the given offset
+-- the offsets where texts end, if the first begins at the offset `start` and each of the others where the one before it ends
 abbrev pub ends_from : ℕ → List (List ℕ) → List ℕ
 ends_from start [] = []
 ends_from start (text ∷ texts) = (start + length text) ∷ ends_from (start + length text) texts

@@ -23,7 +23,7 @@ pub struct Collection<'a> {
     text: &'a [u8],
     games: u32,
     nodes: Vec<NodeEntry>,
-    /// In file order, so that a binary search finds the long values of a node.
+    /// The long values, in file order. So a binary search finds the one at a given offset.
     long: Vec<LongValue>,
 }
 
@@ -47,7 +47,7 @@ impl<'a> Collection<'a> {
     ghost use Rattle.sgf_tree.specs.inner.Layout.{games_in, IsLaidOut};
     ghost use Rattle.sgf_tree.specs.inner.KeptEnds.{AreKeptEnds};
 
-    /// The collection of the text, which the entries hold.
+    /// The collection that the text spells. The entries must hold this collection.
     pub(crate) fn new(
         text: &'a [u8],
         games: u32,
@@ -95,8 +95,9 @@ impl<'a> Collection<'a> {
         }
     }
 
-    /// Appends the nodes with these numbers to `out` as the sgf form writes them. Appends to `ends` the offset in `out` at which
-    /// each of them ends. Text that already has that form is copied in one piece. After a refusal of memory both are unchanged.
+    /// Appends the nodes with these numbers to `out` as the sgf form writes them. For each node it appends to `ends` the offset in
+    /// `out` where that node ends. Text that already has that form is copied in one piece. If memory is refused, `out` and `ends`
+    /// are unchanged.
     pub fn push_nodes(
         &self,
         numbers: &[usize],
@@ -139,8 +140,8 @@ impl<'a> Collection<'a> {
         Ok(())
     }
 
-    /// Appends the first node of a list, and the nodes after it as long as each is beside the one before it.
-    /// Returns how many these are. After a refusal of memory some of them may be appended.
+    /// Appends the first node of a list, and the nodes after it as long as each is beside the one before it (`Link::Next`).
+    /// Returns how many nodes it appended. After a refusal of memory some of them may be appended.
     fn push_run(
         &self,
         numbers: &[usize],
@@ -177,7 +178,7 @@ impl<'a> Collection<'a> {
         Ok(count)
     }
 
-    /// The number of the parent of node `i`, the node before it on its line. None for the root of a game.
+    /// The number of the parent of node `i`, which is the node before it on its line. None if node `i` is the root of a game.
     pub fn parent(&self, i: usize) -> Option<usize>
         requires { i < node_count self.now }
         ensures { parent_at self.now i ≡ Some result }

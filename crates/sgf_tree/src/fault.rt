@@ -14,8 +14,8 @@ pub enum ReadFault {
     TooLong,
 
     /// The text spells no collection (SGF FF[4], EBNF).
-    /// Some text of the grammar begins with its first `at` bytes, and none with more
-    /// of them. So if `at` is the text's length, the text ends too early.
+    /// Its first `at` bytes are the beginning of some text of the grammar, and no more
+    /// of its bytes are. So if `at` is the text's length, the text ends too early.
     #[error("byte {at}: not SGF")]
     NotSgf { at: usize },
 
@@ -24,7 +24,7 @@ pub enum ReadFault {
     Memory,
 }
 
-/// Memory was refused. The value that the call was made on, or was to append to, is unchanged.
+/// Memory was refused. The call changed neither the value that it was made on nor the vector that it appends to.
 #[derive(Clone, Copy, Debug, PartialEq, Eq, Error)]
 #[error("out of memory")]
 pub struct MemoryFault;

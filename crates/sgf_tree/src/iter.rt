@@ -15,7 +15,7 @@ use crate::reader::value::value_end;
 use crate::written::written_properties_end;
 use std::marker::Model;
 
-/// The properties of a node that are left, in file order. No call on it takes memory.
+/// The properties of a node that `next` hasn't taken off yet, in file order. Its calls take no memory.
 #[derive(Drop)]
 pub struct Properties<'c, 'a> {
     pub(crate) rest: &'a [u8],
@@ -40,7 +40,7 @@ impl<'c, 'a> Model for Properties<'c, 'a> {
 }
 
 impl<'c, 'a> Properties<'c, 'a> {
-    /// The properties of a node, which begin at `at` in a text. `long` is what was kept of the text's long values.
+    /// The properties of a node, which begin at `at` in a text. `long` has the kept lengths of the text's long values.
     #[inline(always)]
     pub(crate) fn new(text: &'a [u8], at: usize, long: &'c Vec<LongValue>) -> Properties<'c, 'a>
         requires within { at ≤ length text.now }
@@ -53,8 +53,8 @@ impl<'c, 'a> Properties<'c, 'a> {
     }
 
     /// Takes off the properties at the front that are written just as the sgf form writes them. These have no
-    /// white space and no small letters between their parts. Returns their text, without the white space before
-    /// it. The text is empty if the first property isn't written like that, or if none is left.
+    /// white space between their parts, and no small letters in their identifiers. Returns their text, without the
+    /// white space before it. The text is empty if the first property isn't written like that, or if none is left.
     pub(crate) fn written(&mut self) -> &'a [u8]
         ensures { IsWrittenFront self.old self.new result.now }
     {
@@ -87,7 +87,7 @@ impl<'c, 'a> Iterator for Properties<'c, 'a> {
     }
 }
 
-/// The raw values of a property that are left, in file order. No call on it takes memory.
+/// The raw values of a property that `next` hasn't taken off yet, in file order. Its calls take no memory.
 #[derive(Drop)]
 pub struct Values<'a> {
     /// The first value, until it is taken off. Its end is known already.
@@ -111,7 +111,7 @@ impl<'a> Model for Values<'a> {
 }
 
 impl<'a> Values<'a> {
-    /// The first raw value of a property, and those at the front of the text after it.
+    /// The first raw value of a property, and then the raw values at the front of `more`, which is the text after it.
     #[inline(always)]
     pub(crate) fn new(first: &'a [u8], more: &'a [u8]) -> Values<'a>
         requires { AreValuesIn more.now }
@@ -175,7 +175,7 @@ fn property_at<'a>(text: &'a [u8], start: usize, long: &Vec<LongValue>) -> (Prop
 
 /// Where the raw value at `at` begins, after white space and a `[`, and where its `]` is. None if no value is there.
 ///
-/// This is inlined, because a call would pass its offsets in memory.
+/// This is inlined, because a call would return the two offsets through memory.
 #[inline(always)]
 fn value_at(text: &[u8], at: usize, long: Option<&Vec<LongValue>>) -> Option<(usize, usize)>
     requires within { at ≤ length text.now }

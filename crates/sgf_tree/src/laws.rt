@@ -21,7 +21,7 @@ pub fn one()
     ensures { (games others : Games) (text : List ℕ) → Spells games text → Spells others text → games ≡ others }
 {}
 
-/// If some text spells a collection, the places of its nodes rise strictly in file order.
+/// If some text spells a collection, the places of the collection's nodes rise strictly in file order.
 pub fn places_rise()
     ensures { (games : Games) (text : List ℕ) → Spells games text → PlacesRise games }
 {}

@@ -10,13 +10,13 @@ pub(crate) enum Link {
     Root(u32),
     /// It is the first node after a `(`, and the node with this number is its parent.
     Variation(u32),
-    /// The node before it in the file is its parent. If it is beside that node, the text from
-    /// the parent's `;` to its own `;` already has the sgf form.
+    /// The node before it in the file is its parent. If `beside` is true, the text from the
+    /// parent's `;` up to this node's `;` already has the sgf form.
     Next { beside: bool },
 }
 
 impl Link {
-    /// Whether a node is beside the one before it.
+    /// Whether the node is known to be beside the one before it, as `Next` says.
     pub(crate) fn is_beside(self) -> bool
         ensures { IsTrue result → self ≡ Next true }
     {
@@ -37,11 +37,11 @@ pub(crate) struct NodeEntry {
     pub last_below: u32,
 }
 
-/// A long raw value. Its length is kept, so that steps over its node don't search for its end again.
+/// A long raw value. Its length is kept, so that the value's end isn't searched for again.
 #[derive(Clone, Copy)]
 pub(crate) struct LongValue {
-    /// How many bytes of the text are left from its first byte on. The count is the same for a
-    /// part of the text that ends where the text ends.
+    /// The number of bytes from the value's first byte to the end of the text. The number is the
+    /// same in each part of the text that ends where the text ends.
     pub left: u32,
     pub bytes: u32,
 }

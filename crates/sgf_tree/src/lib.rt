@@ -5,7 +5,7 @@
 //!
 //! A [`Collection`] numbers its nodes from 0 in file order. Of each node it keeps the place, the parent and
 //! the last node below it, in 16 bytes a node. The properties of a node and their raw values are read from
-//! the text again when they are asked for, one after another. None of this takes memory.
+//! the text again when they are asked for, one after another. Reading them takes no memory.
 //!
 //! ```text
 //! let collection = read(alloc, text)?;

@@ -21,7 +21,7 @@ pub struct NodeRef<'c, 'a> {
     pub(crate) place: u32,
     /// The text from the node's `;` on.
     pub(crate) text: &'a [u8],
-    /// What was kept of the text's long values. It is a reference to the vector, because that is smaller than a slice.
+    /// The kept lengths of the text's long values. A reference to the vector is smaller than a slice would be.
     pub(crate) long: &'c Vec<LongValue>,
 }
 
@@ -58,11 +58,11 @@ impl<'c, 'a> NodeRef<'c, 'a> {
         Properties::new(text, 1, self.long)
     }
 
-    /// The letter and the raw value of the first property, if they are recognized at a glance, as
-    /// in `;B[pd]`; and the properties after it. If they aren't recognized, this returns None and
-    /// all properties. So both parts together are always all properties.
+    /// If the first property is recognized at a glance, as in `;B[pd]`, this returns its letter and its raw
+    /// value, and the properties after it. Otherwise it returns None and all properties. So the two parts
+    /// of the result together are always all properties.
     ///
-    /// They are recognized only if the name is one capital and the only value is two bytes that stand for themselves.
+    /// The first property is recognized only if its name is one capital and its only value is two bytes without an escape.
     pub fn front(&self) -> (Option<(u8, &'a [u8])>, Properties<'c, 'a>)
         ensures { self.now.properties ≡ option_to_list (option_map (λ lone. lone_property lone.0 lone.1.now) result.0) ++ result.1 }
     {

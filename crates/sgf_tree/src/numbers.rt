@@ -6,7 +6,7 @@ ghost use Rattle.sgf_tree.specs.Number.{magnitude_of, number_of};
 /// The most digits that a number may have.
 const MAX_DIGITS: usize = 18;
 
-/// The value of a raw value that is a number (SGF FF[4], Number): a `+`, a `-` or no sign, then 1 to 18 digits, and nothing else.
+/// The number that a raw value spells (SGF FF[4], Number): a `+`, a `-` or no sign, then 1 to 18 digits, and nothing else.
 /// None for any other raw value. The limit of 18 digits is this project's choice.
 pub fn number(raw: &[u8]) -> Option<i64>
     ensures { result ≡ number_of raw.now }

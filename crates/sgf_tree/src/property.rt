@@ -95,7 +95,7 @@ impl<'a> PropRef<'a> {
     }
 }
 
-/// Whether an identifier is one or two capitals, as nearly all are. Then it is the name.
+/// Whether an identifier is one or two capitals, as nearly all are. If so, the identifier itself is the name.
 fn is_short_name(identifier: &[u8]) -> bool
     ensures { IsTrue result → name_in identifier.now ≡ identifier.now }
 {

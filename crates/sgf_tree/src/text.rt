@@ -10,8 +10,8 @@ use std::simd::prelude::*;
 /// Appends the decoded text of a raw value to `out` (SGF FF[4], Text).
 ///
 /// - A line break is CR LF, LF CR, LF or CR, and becomes an LF.
-/// - A `\` before a line break is dropped together with it. Before any
-///   other byte it alone is dropped, and so is a `\` at the end.
+/// - A `\` before a line break is dropped, and the line break too. Before
+///   any other byte, or at the end, only the `\` is dropped.
 /// - The bytes 9, 11 and 12 become a space, after a `\` too.
 /// - Every other byte stays.
 ///
@@ -40,7 +40,7 @@ pub fn push_text(raw: &[u8], out: &mut Vec<u8>) -> Result<(), MemoryFault>
 /// The number of bytes that are looked at together.
 const TOGETHER: usize = 16;
 
-/// The number of bytes at the front that stand for themselves, whatever follows. There may be more.
+/// A number of bytes at the front that stand for themselves, whatever follows. The byte after them may do so too.
 fn literal_length(raw: &[u8]) -> usize
     ensures within { result ≤ length raw.now }
     ensures literal { text_of raw.now ≡ take result raw.now ++ text_of (drop result raw.now) }
@@ -59,8 +59,8 @@ fn literal_length(raw: &[u8]) -> usize
     end
 }
 
-/// How many of the `TOGETHER` bytes at `at` come before the first that may
-/// not stand for itself: a `\`, or a control byte up to CR.
+/// How many of the `TOGETHER` bytes at `at` come before the first `\` or control
+/// byte up to CR. The bytes before it stand for themselves.
 fn near_literals(raw: &[u8], at: usize) -> usize
     requires { at + TOGETHER ≤ length raw.now }
     ensures at_most { result ≤ TOGETHER }

@@ -1,12 +1,12 @@
 //! Worked examples of `sgf_tree`, which call it as any other crate does: nodes, names, values and numbers.
 //!
-//! They are in a crate of their own because a crate with tests is proved once more with them. Tests of
-//! the program cover first faults, places, values and decoded text (`tests/program.sh`,
-//! `tests/values.sh`). `sgf_lines_tests` covers parents and the last nodes below.
+//! They are in a crate of their own, because a crate that has tests is proved a second time together
+//! with them. Tests of the program cover first faults, places, values and decoded text
+//! (`tests/program.sh`, `tests/values.sh`). `sgf_lines_tests` covers parents, and the last node below a node.
 //!
 //! | Module | Examples of |
 //! |---|---|
-//! | `node` | for which nodes `front` returns a property, what the sgf form writes, and properties one after another |
+//! | `node` | for which nodes `front` returns a property, how the sgf form writes a node, and properties one after another |
 //! | `property` | names, and values that outlive their collection |
 //! | `numbers` | values that are numbers, and values that aren't |
 #![tactic(auto)]

@@ -1,4 +1,4 @@
-//! Nodes: for which of them `front` returns a property (no clause says that), and how the sgf form writes them.
+//! For which nodes `front` returns a property (no clause says that), and how the sgf form writes a node.
 
 use sgf_tree::{Collection, NodeRef, Properties, read};
 use std::alloc::Global;
@@ -74,7 +74,7 @@ fn nodes_at_a_glance(rt: HostRuntime) {
     }
 }
 
-/// Of the root: how many properties it has, how many values they have, and how many bytes these have.
+/// The number of the root's properties, the number of their values, and the number of bytes of these values.
 fn sizes(collection: &Collection<'_>) -> (usize, usize, usize) {
     let mut values = 0usize;
     let mut bytes = 0usize;

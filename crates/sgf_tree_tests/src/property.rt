@@ -1,5 +1,5 @@
-//! Names of properties, which are the capitals of the written identifiers; and
-//! values, which are parts of the text and live as long as it does.
+//! The name of a property has the capitals of the written identifier. A value
+//! is a part of the text, and lives as long as the text does.
 
 use sgf_tree::read;
 use std::alloc::Global;
@@ -31,7 +31,7 @@ fn names(rt: HostRuntime) {
     }
 }
 
-/// The first value of the root's property with that name. The collection is dropped by then: the value is a part of the text.
+/// The first value of the root's property with that name. The value outlives the collection, because it is a part of the text.
 fn value_of<'a>(alloc: Global, text: &'a [u8], name: &[u8]) -> Option<&'a [u8]> {
     match read(alloc, text) {
         Ok(collection) => {

@@ -1,4 +1,4 @@
--- What clap makes of the words that ask for a job.
+-- How clap reads the words that ask for a job.
 use Rattle.std.proofs.Common.{Bool, ◌≡◌, true, List, [], ◌∷◌, ◌++◌, codes, refl, false, ◌&&◌, Option, Some, None, ap, sym, ◌∙◌}
 use Rattle.std.proofs.Math.Bool.{and-false}
 use Rattle.std.proofs.lemmas.Bool.{and_from}
@@ -23,7 +23,7 @@ pub app_simple : (names : FormNames) → is_simple (program_app names) ≡ true
 unfolding clap_on_literals
 app_simple names = refl
 
--- the command is of the kind whose faults clap tells
+-- the command is simple and free; of such a command clap's contracts tell the faults
 pub app_free : (names : FormNames) → is_simple_and_free (program_app names) ≡ true
 unfolding clap_on_literals
 app_free names = refl
@@ -34,7 +34,7 @@ accepts_form names word = list_any (λ name. same_text false name.now word) name
 abbrev pub accepts_number : Text → Bool
 accepts_number word = is_unsigned_in 0 18446744073709551615 word
 
--- the word is no option
+-- clap doesn't take the word for an option
 pub record IsNoOption (w : Text) : Type 0 where
   pub two : bytes_eq w (45 ∷ 45 ∷ []) ≡ false
   pub long : long_of w ≡ None
@@ -62,7 +62,7 @@ Pending = Option (Text × List Text)
 abbrev pub held : List Row → Pending → Held
 held rows pending = record { rows = rows; pending = pending; skip = 0 }
 
--- the walk between two options
+-- clap's walk over the words, between two options
 abbrev pub between : List Row → Pending → Walk
 between rows pending =
     record { held = held rows pending; waiting = idle; position = 1; is_trailing = false; stopped = None }
@@ -77,7 +77,7 @@ module _ (names : FormNames) where
   abbrev pub settles : List Row → Pending → Type 0
   settles rows p = settle_passes (split_rules names) false (held rows p) ≡ true
 
-  -- the rows and what is pending after an option, where it is given
+  -- the rows, and then what is pending, after an option; both are unchanged if the option isn't given
   abbrev pub rows_with : Option Text → List Row → Pending → List Row
   rows_with None rows p = rows
   rows_with (Some v) rows p = settled_rows (split_rules names) p rows

@@ -1,4 +1,4 @@
--- What clap makes of plain words, in the words of the job.
+-- How clap reads plain words, and what that says of the job.
 use Rattle.std.proofs.Common.{◌≡◌, ◌∙◌, ◌<◌, ◌≤◌, ◌^◌, ◌==◌, inl, inr, ℕ, Bool, true, false, cond, List, [], ◌∷◌, map, drop, refl, sym, ap, subst, arith, codes, Option, Some, None, Result, Ok, Err}
 use Rattle.std.specs.Prelude.{IfSome, option_map, unwrap_or}
 use Rattle.std.specs.Borrow.{Bor}
@@ -83,7 +83,7 @@ pub number_plain : (word : Word) → IsNumberWord word → IsNoOption word
 number_plain [] h = absurd (omega (arith, h.0))
 number_plain (d ∷ ds) h = two_is_none ds d (ne_eqb _ _ (λ e. omega (arith, digit_from_value d h.2.0)))
 
--- what `get_one` reads of a number
+-- for a number word `get_one` returns the number
 pub number_read : (E : Type 0) (G : List ℕ → Result ℕ E → Type 0) (word : Word) (r : Option ℕ) → ReadsOne G word r
     → ((u : List ℕ) (x : Result ℕ E) → G u x → ParsesUnsigned 64 10 u x) → IsNumberWord word → r ≡ Some (digits_value 10 word)
 number_read E G word (Some v) read only h =
@@ -158,9 +158,9 @@ module _ (names : FormNames) (are : names_of names ≡ form_names) where
   pub count_words_hold : (file : Option Word) → IfSome file IsFileWord → first_of (codes "file") (rows_after (count_rules names) [] (file_words file)) ≡ file
   count_words_hold file plain = count_row names file (each_some file IsFileWord IsNoOption file_plain plain)
 
--- ---- what a getter gave
+-- ---- what a getter returned
 
--- the word after what was given
+-- the text that a getter returned is this word
 pub given_word : (o : Option (Bor (List ℕ))) (x : Bor (List ℕ)) (w : Word) → option_map (λ s. s.now) o ≡ Some w → o ≡ Some x → x.now ≡ w
 given_word None x w e is = cc
 given_word (Some y) x w e is = cc

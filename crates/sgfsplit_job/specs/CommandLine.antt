@@ -12,14 +12,14 @@ use Rattle.sgf_lines.specs.Form.{forms, form_word}
 use Rattle.sgfsplit_job.specs.declared.request.JobFault.{JobFault}
 use Rattle.sgfsplit_job.specs.declared.request.JobFault.TheVariants.{Words, Memory}
 
--- a list of the forms as the program holds it
+-- a list of the names of forms, as the program holds it
 abbrev pub FormNames : Type 0
 FormNames = Bor (List (Bor (List ℕ)))
 
 abbrev pub names_of : FormNames → List (List ℕ)
 names_of names = map (λ name. name.now) names.now
 
--- `--form FORM`: one of these names; `list` if it isn't given
+-- `--form FORM`: FORM is one of these names; without this option it is `list`
 abbrev pub form_rule : FormNames → Rule
 form_rule names = record (new_rule (codes "form")) {
   long = Some (codes "form");
@@ -36,7 +36,7 @@ number_rule name = record (new_rule name) {
   parser = Some (Unsigned 0 18446744073709551615);
 }
 
--- FILE
+-- the argument FILE
 abbrev pub file_rule : Rule
 file_rule = record (new_rule (codes "file")) { value_names = 1 }
 
@@ -62,7 +62,7 @@ program_app names = with_subcommand (with_subcommand program_alone (split_app na
 abbrev pub form_names : List (List ℕ)
 form_names = map form_word forms
 
--- clap finds no fault in the words, read as a command line of the program
+-- clap finds no fault in the words as a command line of the program
 abbrev pub AreFaultless : List (List ℕ) → Type 0
 AreFaultless words =
     (names : FormNames) × (names_of names ≡ form_names) × (fault_of (program_app names) words ≡ [])
@@ -72,7 +72,7 @@ abbrev pub HasFault : List (List ℕ) → ErrorKind → Type 0
 HasFault words kind =
     (names : FormNames) × (names_of names ≡ form_names) × IsAmong kind (fault_of (program_app names) words)
 
--- words are refused only for a fault that they have
+-- If words are refused with `Words error`, clap finds a fault of the error's kind in them. `Memory` says nothing of the words.
 abbrev pub IsTrueOf : List (List ℕ) → JobFault → Type 0
 IsTrueOf words (Words error) = HasFault words (kind_of error)
 IsTrueOf words Memory = Unit {0}

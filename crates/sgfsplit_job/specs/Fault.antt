@@ -1,4 +1,4 @@
--- Why the program ends with a status other than 0: the status, and the row on standard error.
+-- The exit status of each fault, and its row on standard error.
 use Rattle.std.specs.Prelude.{ℕ, ◌++◌, ◌==◌, List, codes, decimal, if◌then◌else◌}
 use Rattle.sgf_lines.specs.Answer.{MAX_LENGTH}
 use Rattle.sgf_lines.specs.declared.fault.RunFault.TheVariants.{Read, TooLong, NotSgf, NoSuchLine, Write, Memory}
@@ -31,6 +31,6 @@ message_of (Run (NoSuchLine place)) = codes "no line ends at " ++ decimal place
 message_of (Run (Write lines)) = codes "write failed"
 message_of (Run (Memory lines)) = codes "out of memory"
 
--- the row, with its line feed
+-- the row on standard error, with its line feed
 abbrev pub fault_row : Fault → List ℕ
 fault_row fault = codes "sgfsplit: " ++ message_of fault ++ codes "\n"

@@ -1,5 +1,5 @@
--- What the public contracts cite, directly or through other definitions. Words
--- of private contracts, views and invariants are in `inner`.
+-- What the public contracts cite, directly or through other definitions. What only
+-- private contracts, views and invariants cite is in `inner`.
 pub mod CommandLine
 pub mod PlainWords
 pub mod Fault

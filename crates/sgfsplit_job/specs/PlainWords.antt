@@ -1,4 +1,4 @@
--- The plain words of a command line, and the job that they ask for.
+-- Plain words are the options of a command line in the order of its help, then FILE. This file says which job they ask for.
 use Rattle.std.specs.Prelude.{◌≡◌, ◌≢◌, ◌⊎◌, ℕ, ◌<◌, ◌≤◌, List, [], ◌∷◌, ◌++◌, length, Option, Some, None, IfSome, codes}
 use Rattle.std.specs.Prelude.{option_map, unwrap_or, if◌then◌else◌, string_bytes}
 use Rattle.std.specs.Str.{bytes_eq}
@@ -26,16 +26,16 @@ abbrev pub IsNameWord : Word → Type 0
 IsNameWord [] = ⊥
 IsNameWord (first ∷ rest) = first ≢ hyphen
 
--- FILE: such a name, or `-`
+-- FILE: a name as `IsNameWord` says, or `-`
 abbrev pub IsFileWord : Word → Type 0
 IsFileWord word = IsNameWord word ⊎ (word ≡ codes "-")
 
--- the file that FILE names: None, for standard input, if there is no FILE or it is `-`
+-- the file that FILE names; None, which is standard input, if FILE isn't given or is `-`
 abbrev pub file_of : Option Word → Option Word
 file_of None = None
 file_of (Some word) = if bytes_eq word (codes "-") then None else Some word
 
--- what follows `split`: each option or none, and FILE or none
+-- what follows `split`: each option and FILE may be given or not
 pub record SplitWords : Type 0 where
   pub form : Option Form
   pub after : Option Word
@@ -47,7 +47,7 @@ pub record ArePlainWords (words : SplitWords) : Type 0 where
   pub limit : IfSome words.limit IsNumberWord
   pub file : IfSome words.file IsFileWord
 
--- an option and its value; nothing if it isn't given
+-- an option and its value; no words if the option isn't given
 abbrev pub option_words : Word → Option Word → List Word
 option_words option None = []
 option_words option (Some value) = option ∷ value ∷ []
@@ -68,7 +68,7 @@ split_words name words =
 abbrev pub count_words : Word → Option Word → List Word
 count_words name file = name ∷ codes "count" ∷ file_words file
 
--- the options that the words give; the form is `list` if none is named
+-- the options that the words give; without `--form` the form is `list`
 abbrev pub options_of : SplitWords → Options
 options_of words = record {
   form = unwrap_or words.form form.List;
@@ -76,12 +76,12 @@ options_of words = record {
   limit = option_map (digits_value 10) words.limit;
 }
 
--- the job is to split the file with this name, by these options
+-- the job is to split the file with this name, with these options; None is standard input
 abbrev pub SplitsBy : Options → Option Word → Job → Type 0
 SplitsBy options file (Split o f) = (o ≡ options) × (option_map string_bytes f ≡ file)
 SplitsBy options file (Count f) = ⊥
 
--- the job is to count the file with this name
+-- the job is to count the games, nodes and lines of the file with this name; None is standard input
 abbrev pub CountsFile : Option Word → Job → Type 0
 CountsFile file (Split o f) = ⊥
 CountsFile file (Count f) = option_map string_bytes f ≡ file

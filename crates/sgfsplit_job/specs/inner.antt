@@ -1,3 +1,3 @@
--- Words of private contracts, views and invariants.
+-- What only private contracts, views and invariants cite.
 pub mod Found
 pub mod ShortText

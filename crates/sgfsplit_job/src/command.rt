@@ -1,4 +1,4 @@
-//! The command line as clap sees it:
+//! The command line as it is described to clap:
 //!
 //! ```text
 //! sgfsplit split [--form list|sgf|gtp] [--after PLACE] [--limit N] [FILE]

@@ -1,11 +1,11 @@
-//! Why the program ends with a status other than 0: the status, and the row on standard error.
+//! The faults of the program. Each has an exit status and a row on standard error.
 
 ghost use Rattle.std.specs.Prelude.{◌≡◌, ◌<◌, ◌≤◌, ◌+◌, ◌++◌, length};
 
 use crate::short_text::ShortText;
 use sgf_lines::{MAX_LENGTH, RunFault, Sink};
 
-/// Why the program ends with a status other than 0.
+/// Why the program ends with a status other than 0. (A mistake in the words is clap's error instead, with status 2.)
 #[derive(Clone, Copy, Debug, PartialEq, Eq)]
 pub enum Fault {
     /// FILE can't be opened.
@@ -58,7 +58,7 @@ impl Fault {
         text
     }
 
-    /// The message in three parts: words, a number or none, more words.
+    /// The message in three parts: a text, a number or None, and another text.
     fn message(&self) -> (&'static str, Option<u64>, &'static str)
         ensures text { result.0.now ++ (number_text result.1 ++ result.2.now) ≡ message_of self.now }
         ensures short { length result.0.now + length result.2.now ≤ 40 }

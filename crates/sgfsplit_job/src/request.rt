@@ -41,7 +41,7 @@ impl Job {
 /// Why there is no job.
 #[derive(Debug, Drop)]
 pub enum JobFault {
-    /// The words aren't a job of the program, or ask for help. The error has clap's text and status.
+    /// The words ask for no job of the program, or for help. The error has clap's text and status.
     Words(Error),
     /// Memory was refused.
     Memory,

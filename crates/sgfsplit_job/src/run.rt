@@ -1,4 +1,4 @@
-//! Doing a job, and showing clap's text: what is read and written, the exit status, and the row on standard error.
+//! Does a job, or shows clap's text. Both return the exit status, and put the row of a fault on the sink for faults.
 
 ghost use Rattle.std.specs.Prelude.{◌≡◌, ◌<◌, ◌+◌, ℕ, Some, OnOk};
 ghost use Rattle.std.specs.Result.{result_err};
@@ -18,8 +18,8 @@ use std::alloc::Global;
 /// Does a job, reports its fault if there is one, and returns the exit status.
 ///
 /// With status 0 the output has delivered all that it took, and `faults` is unchanged. With another
-/// status the output holds what was written before the fault. After refused memory it is flushed, so
-/// that whole records are delivered. Whether that flush succeeds makes no difference.
+/// status the output has taken what was written before the fault. After refused memory the output is
+/// flushed, so that whole records are delivered. If that flush fails, the status is the same.
 ///
 /// The row of a fault goes to `faults`, which is flushed. If `faults` fails, the status is the same.
 pub fn act<S: Source, T: Sink, E: Sink>(
@@ -71,7 +71,7 @@ fn do_job<S: Source, T: Sink>(
     }
 }
 
-/// After refused memory, flushes the output, whatever the flush returns. After another fault, leaves it alone.
+/// After refused memory, flushes the output, and ignores a failure of that flush. After another fault, does nothing.
 fn flush_after<T: Sink>(fault: &RunFault, output: &mut T)
     requires { (lines : ℕ) → fault.now ≡ Memory lines → (T.state output.old).failures < u64.MAX }
     ensures { FlushesAfter (Some fault.now) (T.state output.old) (T.state output.new) }
@@ -123,7 +123,7 @@ pub fn show<T: Sink, E: Sink>(alloc: Global, error: &Error, output: &mut T, faul
     tell(&Fault::Run(RunFault::Write { lines: 0 }), faults)
 }
 
-/// Puts a whole text and flushes the sink, or stops at the first failure. Returns whether all was put and flushed.
+/// Puts a whole text and flushes the sink, or stops at the first failure. Returns whether both succeeded.
 fn put_text<T: Sink>(text: &[u8], sink: &mut T) -> bool
     requires { (T.state sink.old).failures < u64.MAX }
     ensures { TakesText text.now (T.state sink.old) (T.state sink.new) result }

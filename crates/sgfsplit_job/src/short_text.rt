@@ -4,10 +4,10 @@ ghost use Rattle.std.specs.Prelude.{◌≡◌, ◌≤◌, ◌+◌, ◌++◌, [],
 
 use itoa::Buffer;
 
-/// The number of bytes that there is room for.
+/// The greatest length of a short text, in bytes.
 const ROOM: usize = 120;
 
-/// A short text.
+/// A text of at most `ROOM` bytes.
 #[derive(Drop)]
 pub(crate) struct ShortText {
     bytes: [u8; ROOM],

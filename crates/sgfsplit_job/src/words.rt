@@ -20,11 +20,11 @@ use std::alloc::{AllocError, Global};
 
 /// The job that the words ask for. The first word is the program's own name.
 ///
-/// A number is at most 18,446,744,073,709,551,615. Words that aren't a job of `sgfsplit
-/// split` or `sgfsplit count` are refused with `JobFault::Words`, which has clap's text and
-/// status. So are words that ask for help. Refused memory is `JobFault::Memory`.
+/// A number is at most 18,446,744,073,709,551,615. Words that ask for neither `sgfsplit split`
+/// nor `sgfsplit count` are refused with `JobFault::Words`, which has clap's text and status.
+/// So are words that ask for help. Refused memory is `JobFault::Memory`.
 pub fn job<'a>(alloc: Global, words: &'a [String]) -> Result<Job, JobFault>
-    // Each option is given or not, in the order of the help. FILE is given or not.
+    // For plain words: each option may be given or not, in the order of the help. FILE may be given or not.
     ensures split { (name : Word) (given : SplitWords) → ArePlainWords given
         → map string_bytes words.now ≡ split_words name given
         → MatchResult result (SplitsBy (options_of given) (file_of_rule given.file)) (λ fault. fault ≡ JobFault.Memory) }
@@ -108,7 +108,7 @@ fn form_given(found: &ArgMatches) -> Form
     }
 }
 
-/// The number that an option gives; None if the option isn't there.
+/// The number that an option gives; None if the option isn't given.
 fn number_given(found: &ArgMatches, name: &str) -> Option<u64>
     ensures none { one_of name.now (rows_found found.now) ≡ None → result ≡ None }
     ensures some { (word : Word) → IsNumberWord word → one_of name.now (rows_found found.now) ≡ Some word
@@ -128,7 +128,7 @@ fn file_given(alloc: Global, found: &ArgMatches) -> Result<Option<String>, Alloc
     }
 }
 
-/// The file that FILE names; None, for standard input, if it is `-`.
+/// The file that the word FILE names; None, which is standard input, for the word `-`.
 fn file_of(alloc: Global, word: &str) -> Result<Option<String>, AllocError>
     ensures { IfOk result (λ file. option_map string_bytes file ≡ file_of_rule (Some word.now)) }
 {

@@ -1,4 +1,4 @@
--- What a job says whose source is a text in memory and whose output is an empty vector.
+-- What follows from a job whose source is a text in memory and whose output is an empty vector.
 use Rattle.std.proofs.Common.{◌≡◌, ℕ, List, [], ◌++◌, Option, Some, None, Result, Ok, Err, sym, ap, ◌∙◌, arith, append-nil}
 use Rattle.std.specs.Result.{result_err}
 use Rattle.std.specs.Io.KnownBytes.{Appends, Keeps, Consumes, IsAtEnd}
@@ -24,12 +24,12 @@ whole_text : (text : List ℕ) (left : Option (List ℕ)) (given : List ℕ) →
 whole_text text None given h end = absurd h
 whole_text text (Some ys) given h end = sym (h ∙ ap (λ bs. given ++ bs) end ∙ append-nil given)
 
--- what an empty vector took is what it holds, where all is delivered
+-- a vector that was empty and has delivered all holds what it took
 all_held : (taken : Option (List ℕ)) (items bytes : List ℕ) → Appends (Some []) taken bytes → Keeps (Some items) taken → items ≡ bytes
 all_held None items bytes takes kept = absurd takes
 all_held (Some xs) items bytes takes kept = sym kept ∙ takes
 
--- a run that ended well wrote the page
+-- a run without a fault wrote the records of the page
 of_run : (options : Options) (text items : List ℕ) (source new_source : SourceState) (sink new_sink : SinkState) (result : Result ℕ RunFault) → source.to_come ≡ Some text → sink.taken ≡ Some []
     → new_sink.delivered ≡ Some items → IsRun options source new_source sink new_sink result → None ≡ result_err result
     → (page : List Line) × HasPage options text page × (items ≡ output options.form page)
@@ -42,7 +42,7 @@ of_run options text items source new_source sink new_sink (Ok k) starts empty ho
     (a.0, rw all at a.1.has_page, all_held new_sink.taken items (output options.form a.0) takes kept)
 of_run options text items source new_source sink new_sink (Err fault) starts empty holds h none = absurd (cc)
 
--- counts that were written are those of the text
+-- a count without a fault wrote the row of the text's counts
 of_count : (text items : List ℕ) (source new_source : SourceState) (sink new_sink : SinkState) (counted : Result Counts RunFault) → source.to_come ≡ Some text → sink.taken ≡ Some []
     → new_sink.delivered ≡ Some items → IsCount source new_source counted → WritesCounts counted sink new_sink None
     → (games : Games) × Spells games text × (items ≡ counts_row (counts_of games))
@@ -68,7 +68,7 @@ not_zero (NoSuchLine place) e = absurd (omega (arith, e))
 not_zero (Write lines) e = absurd (omega (arith, e))
 not_zero (Memory lines) e = absurd (omega (arith, e))
 
--- a job that was done with status 0 has written all of it
+-- a job that ended with status 0 has written all that was asked for
 pub has_written : (job : Job) (text items : List ℕ) (source new_source : SourceState) (output new_output faults new_faults : SinkState) (status : ℕ) → source.to_come ≡ Some text
     → output.taken ≡ Some [] → new_output.delivered ≡ Some items → IsAct job source new_source output new_output faults new_faults status → HasWritten job text status items
 has_written job text items source new_source output new_output faults new_faults status starts empty holds h = by h.fault h.does h.flushes h.tells

@@ -1,4 +1,4 @@
--- What a job writes that ends with status 0.
+-- What a job has written if it ends with status 0.
 use Rattle.std.specs.Prelude.{◌≡◌, ℕ, List}
 use Rattle.sgf_tree.specs.Tree.{Games}
 use Rattle.sgf_tree.specs.Spelling.{Spells}
@@ -9,7 +9,7 @@ use Rattle.sgf_lines.specs.Counts.{counts_of, counts_row}
 use Rattle.sgfsplit_job.specs.declared.request.Job.{Job}
 use Rattle.sgfsplit_job.specs.declared.request.Job.TheVariants.{Split, Count}
 
--- The records of the lines that were asked for, or the row of counts, of the collection that the text spells.
+-- With status 0 this was written: for `Split` the records of the text's page, for `Count` the row of the text's counts.
 abbrev pub HasWritten : Job → List ℕ → ℕ → List ℕ → Type 0
 HasWritten (Split options file) text status written =
     status ≡ 0 → (page : List Line) × HasPage options text page × (written ≡ output options.form page)

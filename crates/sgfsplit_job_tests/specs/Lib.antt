@@ -1,2 +1,2 @@
--- What the contract of the example says.
+-- What the contract of the example `done_in_memory` cites.
 pub mod InMemory

@@ -3,7 +3,7 @@
 use std::io;
 use std::io::{ErrorKind, Read, Write};
 
-/// A reader of a text. One of its calls, counted from 1, fails as if it was interrupted.
+/// A reader of a text. Call number `fails_at`, counted from 1, fails with `Interrupted`; 0 names no call.
 #[derive(Drop)]
 pub(crate) struct Reads<'a> {
     pub(crate) left: &'a [u8],
@@ -25,7 +25,8 @@ impl Read for Reads<'_> {
     }
 }
 
-/// A writer that takes at most `most` bytes at a call. One of its writes, counted from 1, fails, or each flush does.
+/// A writer that takes at most `most` bytes at a call. Write number `fails_at`, counted from 1, fails; 0 names no
+/// write. Unless `can_flush`, each flush fails.
 #[derive(Drop)]
 pub(crate) struct Writes {
     pub(crate) calls: u32,
@@ -37,7 +38,7 @@ pub(crate) struct Writes {
 }
 
 impl Writes {
-    /// A writer that never fails, and wasn't called yet.
+    /// A writer that was never called, and never fails.
     pub(crate) fn new() -> Writes {
         Writes {
             calls: 0,

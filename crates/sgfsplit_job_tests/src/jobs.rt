@@ -1,4 +1,4 @@
-//! Jobs between a reader and writers that count their calls.
+//! Jobs over a reader and writers that count their calls.
 
 use crate::ends::{Reads, Writes};
 use sgf_lines::{BufferedSink, Form, Options, ReadSource, WriteSink};
@@ -9,7 +9,7 @@ use std::test::Fail;
 /// One game of two lines, whose rows have 43 bytes.
 const TWO: &[u8] = b"(;SZ[3](;B[aa])(;B[bb];W[aa]))";
 
-/// The job of writing all lines of standard input.
+/// The job of splitting standard input in this form, all its lines of play.
 fn split(form: Form) -> Job {
     Job::Split {
         options: Options {
@@ -35,7 +35,7 @@ fn status(
     Ok(act(alloc, job, &mut source, &mut output, &mut faults))
 }
 
-/// A reader of a text that fails at this call.
+/// A reader of a text whose call number `fails_at` fails.
 fn reads(text: &[u8], fails_at: u32) -> Reads<'_> {
     Reads {
         left: text,

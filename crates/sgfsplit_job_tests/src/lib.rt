@@ -1,11 +1,11 @@
 //! Examples of `sgfsplit_job`. A job over a text in memory is proved to write what was asked for. Tests check what no clause
-//! says: how many calls a job makes on its reader and its writers. These count their calls, and may fail.
+//! says: how many calls a job makes of its reader and its writers. The reader and the writers count these calls, and may fail.
 //!
 //! | Module | What it has |
 //! |---|---|
 //! | `in_memory` | a job over a text in memory, done as the program does it over its streams |
 //! | `ends` | a reader and a writer that count their calls, and may fail |
-//! | `jobs` | jobs between them: how many calls are made, and that none follows a failure |
+//! | `jobs` | jobs over such a reader and such writers: how many calls are made, and that none follows a failure |
 //! | `words` | the jobs that words ask for |
 #![tactic(auto)]
 

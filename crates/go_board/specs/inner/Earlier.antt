@@ -26,11 +26,11 @@ abbrev pub past_of_older : PastColourings → List Held → PastColourings
 past_of_older past [] = past
 past_of_older past (first ∷ others) = record { newest = first; older = others }
 
--- the past before the call that this was kept at
+-- the past before the call at which `kept` was kept
 abbrev pub past_before : PastColourings → Earlier → PastColourings
 past_before past kept = if kept.grew then past_of_older past past.older else past
 
--- how many turns were made before the call that this was kept at
+-- how many turns were made before the call at which `kept` was kept
 abbrev pub turns_before : ℕ → Earlier → ℕ
 turns_before turns kept = turns - from_bool kept.turned
 
@@ -41,7 +41,7 @@ states_before past turns (kept ∷ others) =
     state_of (past_before past kept) kept.player kept.passes (turns_before turns kept)
     ∷ states_before (past_before past kept) (turns_before turns kept) others
 
--- the present state and the earlier ones; what is kept of the earlier ones stands oldest first
+-- the present state and the earlier states; the list of what is kept of the earlier states is oldest first
 abbrev pub states_of : PastColourings → Option Colour → ℕ → ℕ → List Earlier → States
 states_of past player passes turns earlier =
     record { present = state_of past player passes turns; earlier = states_before past turns (reverse earlier) }
@@ -71,8 +71,9 @@ abbrev pub AreBounded : List Earlier → Type 0
 AreBounded [] = Unit {0}
 AreBounded (kept ∷ others) = (kept.passes ≤ 2) × AreBounded others
 
--- What a referee keeps, with its earlier states newest first. The past colourings have one side, and at least as many older
--- ones as calls made the past grow. There are at most two passes, and as many turns as calls were turns. The oldest state is the starting one.
+-- What a referee keeps, with its earlier states newest first. The past colourings have one side. At least as many of them are
+-- older than the newest as calls made the past grow. There are at most two passes, and as many turns as calls that were turns.
+-- The oldest state is the starting one.
 pub record IsRefereeKept (past : PastColourings) (player : Option Colour) (passes turns : ℕ) (earlier : List Earlier) : Type 0 where
   pub one_side : HaveSide (newest_grid past).side past
   pub enough : grown earlier ≤ length past.older

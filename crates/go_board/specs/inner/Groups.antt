@@ -11,7 +11,7 @@ use Rattle.go_board.specs.Clearing.{play}
 use Rattle.go_board.specs.inner.Rows.{is_set}
 
 -- The points that pass the test are stones of one colour. Each stone of that
--- colour beside one of them passes, too. No point beside them is empty.
+-- colour beside such a point passes, too. No point beside these stones is empty.
 pub record IsWithoutLiberty (grid : Grid) (colour : Colour) (test : Point → Bool) : Type 0 where
   pub stones : (point : Point) → IsOn grid.side point → IsTrue (test point) → cell_at grid point ≡ stone_of colour
   pub shut : (point neighbour : Point) → IsOn grid.side point → IsOn grid.side neighbour → AreAdjacent point neighbour
@@ -30,11 +30,11 @@ abbrev pub AllReach : Grid → Colour → Type 0
 AllReach grid colour =
     (point : Point) → IsOn grid.side point → cell_at grid point ≡ stone_of colour → Reaches grid Empty point
 
--- a stone of the colour that doesn't reach empty
+-- whether the point has a stone of the colour that doesn't reach empty
 abbrev pub is_shut : Grid → Colour → Point → Bool
 is_shut grid colour point = same_cell (cell_at grid point) (stone_of colour) && not (reaches grid Empty point)
 
--- a stone of the colour on a point reaches empty
+-- if the point has a stone of the colour, the stone reaches empty
 abbrev pub ReachesIfStone : Grid → Colour → Point → Type 0
 ReachesIfStone grid colour point = cell_at grid point ≡ stone_of colour → Reaches grid Empty point
 
@@ -43,7 +43,8 @@ abbrev pub ReachBeside : Grid → Colour → Point → Type 0
 ReachBeside grid colour point =
     (neighbour : Point) → IsOn grid.side neighbour → AreAdjacent point neighbour → ReachesIfStone grid colour neighbour
 
--- A stone of the colour on the point reaches empty, and so do the opponent's stones beside it. So nothing is captured.
+-- If the point has a stone of the colour, the stone reaches empty. The opponent's stones beside the point reach empty, too. So
+-- nothing is captured.
 abbrev pub AllLive : Grid → Colour → Point → Type 0
 AllLive grid colour point = ReachesIfStone grid colour point × ReachBeside grid (opponent colour) point
 
@@ -54,7 +55,7 @@ pub record IsWithout (before after : Grid) (Gone : Point → Type 0) : Type 0 wh
   pub emptied : (point : Point) → IsOn before.side point → Gone point → cell_at after point ≡ Empty
   pub kept : (point : Point) → IsOn before.side point → (¬ Gone point) → cell_at after point ≡ cell_at before point
 
--- a stone of the colour on the point is in the rows, or it reaches empty
+-- if the point has a stone of the colour, the rows have the point, or the stone reaches empty
 abbrev pub IsTakenOrReaches : Grid → Colour → List ℕ → Point → Type 0
 IsTakenOrReaches grid colour rows point =
     cell_at grid point ≡ stone_of colour → IsTrue (is_set rows point) ⊎ Reaches grid Empty point

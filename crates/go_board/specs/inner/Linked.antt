@@ -4,7 +4,7 @@ use Rattle.go_board.specs.declared.points.Point.{Point}
 use Rattle.go_board.specs.Point.{IsOn, AreAdjacent}
 use Rattle.go_board.specs.inner.Rows.{is_set, IsAmong, IsClosed}
 
--- Every set that has the one point and is closed within the room has the other point, too.
+-- Every set that has the point `from` and is closed within the room also has the other point.
 abbrev pub IsLinked : (Point → Bool) → Point → Point → Type 0
 IsLinked room from point = (set : Point → Bool) → IsClosed room set → IsTrue (set from) → IsTrue (set point)
 
@@ -12,11 +12,11 @@ IsLinked room from point = (set : Point → Bool) → IsClosed room set → IsTr
 abbrev pub IsFree : List ℕ → List ℕ → Point → Type 0
 IsFree own others point = IsOn (length own) point × (is_set own point ≡ false) × (is_set others point ≡ false)
 
--- a point without a stone is beside this one
+-- a point without a stone is beside the point `stone`
 abbrev pub HasLiberty : List ℕ → List ℕ → Point → Type 0
 HasLiberty own others stone = (point : Point) × IsFree own others point × AreAdjacent point stone
 
--- a stone with a liberty that is linked to the stone on `from`
+-- the stone has a liberty, and is linked to the stone on `from`
 pub record IsLiberty (own others : List ℕ) (from stone : Point) : Type 0 where
   pub own_stone : IsTrue (is_set own stone)
   pub linked : IsLinked (is_set own) from stone

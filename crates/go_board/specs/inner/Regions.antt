@@ -46,17 +46,17 @@ with_columns grid row columns cell =
 abbrev pub reaches_through_own : Grid → Cell → Cell → Point → Bool
 reaches_through_own grid own wanted point = is_either (cell_at grid point) own wanted && reaches grid wanted point
 
--- how many points of a square are set in one and not in the other
+-- how many points of a square are in the set `rows` and not in the set `others`
 unfoldable pub count_apart : ℕ → List ℕ → List ℕ → ℕ
 count_apart side rows others = count_by (λ point. is_set rows point && not (is_set others point)) (points side)
 
--- the points of one set that aren't in the other
+-- `left` has the points of `rows` that aren't in `others`
 pub record IsDifference (rows others left : List ℕ) : Type 0 where
   pub on : (point : Point) → point.row < length rows → point.col < 64
       → is_set left point ≡ (is_set rows point && not (is_set others point))
   pub off : (point : Point) → IsTrue (is_set left point) → IsTrue (is_set rows point)
 
--- the stones of one set that have a liberty of their own
+-- `alive` has the stones of `own` that have an empty point beside them
 pub record HaveLiberty (own others alive : List ℕ) : Type 0 where
   pub from : (stone : Point) → IsTrue (is_set alive stone) → IsTrue (is_set own stone) × HasLiberty own others stone
   pub to : (stone : Point) → stone.col < 64 → IsTrue (is_set own stone) → HasLiberty own others stone → IsTrue (is_set alive stone)

@@ -32,15 +32,15 @@ HasBeside room set =
 abbrev pub HasNext : (ℕ → Bool) → (ℕ → Bool) → Type 0
 HasNext room set = (col : ℕ) → IsTrue (set col) → IsTrue (room (suc col)) → IsTrue (set (suc col))
 
--- A word is the seed, and columns that each closed set with the seed also has. All of them
--- are within the room. Towards the next columns the word is as wide as it can be.
+-- The word has the seed's columns, and others of the room. Each set that has the seed and is closed within the room has
+-- these others, too. If a column of the room comes next after a column of the word, the word has it.
 pub record IsWidened (room seed word : ℕ) : Type 0 where
   pub within : IsPart (has_bit word) (has_bit room)
   pub kept : IsPart (has_bit seed) (has_bit word)
   pub next : HasNext (has_bit room) (has_bit word)
   pub least : (set : ℕ → Bool) → HasBeside (has_bit room) set → IsPart (has_bit seed) set → IsPart (has_bit word) set
 
--- a row has those columns of a word that the room has
+-- the row has each column of `word` that the room has in this row
 abbrev pub IsTaken : List ℕ → List ℕ → ℕ → ℕ → Type 0
 IsTaken room rows row word =
     (col : ℕ) → IsTrue (has_bit (slice_index room row) col) → IsTrue (has_bit word col)
@@ -69,7 +69,7 @@ IsRowClosed room set row =
     (point other : Point) → point.row ≡ row → AreAdjacent point other
     → IsTrue (room point) → IsTrue (set other) → IsTrue (set point)
 
--- `new` is `old`, and points that each closed set with `old` also has. All of them are within the room.
+-- `new` has the points of `old`, and other points of the room. Each closed set that has the points of `old` has these others, too.
 pub record Grows (room old new : Point → Bool) : Type 0 where
   pub within : IsAmong new room
   pub kept : IsAmong old new

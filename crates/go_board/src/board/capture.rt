@@ -1,4 +1,4 @@
-//! What a stone takes off, as rows of bits: the groups beside it that it leaves without a liberty, or its own.
+//! What a stone takes off, as rows of bits: the groups beside it that it leaves without a liberty, or its own group.
 
 ghost use Rattle.std.specs.Prelude.{◌≡◌, ◌↔◌, ◌||◌, ◌≤◌, IsTrue, false, length};
 ghost use Rattle.go_board.specs.declared.points.Point.{Point};
@@ -17,9 +17,9 @@ use crate::points::Point;
 use crate::stones::{Cell, Colour};
 
 impl Board {
-    /// Finds the points that a stone on an empty point takes off, on a board on which every stone
-    /// reaches empty. Only the stone's own group and the groups beside it can then be without a
-    /// liberty. The stone is put on the board for this, and taken away again.
+    /// Finds the points that a stone on an empty point takes off. Before the move every stone on the
+    /// board must reach empty. So after it only the stone's own group and the groups beside the stone
+    /// can be without a liberty. The stone is put on the board for this search, and removed again.
     pub(crate) fn find_taken(&mut self, colour: Colour, point: Point, taken: &mut [u64])
         requires on_board { IsOn self.old.side point }
         requires empty { cell_at self.old point ≡ Empty }
@@ -39,7 +39,7 @@ impl Board {
         self.restore(true);
     }
 
-    /// Finds the groups of a colour beside a point that have no liberty.
+    /// Adds to `shut` the groups of a colour that are beside a point and have no liberty.
     fn find_shut_beside(&self, colour: Colour, point: Point, shut: &mut [u64])
         requires on_board { IsOn self.now.side point }
         requires shut { AreShutGroups self.now colour shut.old }

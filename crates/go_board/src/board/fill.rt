@@ -8,8 +8,8 @@ ghost use Rattle.go_board.specs.inner.Rows.{has_bit, is_set, row_above, IsPart, 
 use crate::board::regions::with_column;
 use crate::board::stone_rows::without_column;
 
-/// Adds to a set all points that a path within the room connects to it. Each row adds the points of the room that are
-/// beside points of the set. If a row has grown, the rows above and below it that can add a point now wait for their turn.
+/// Adds to a set all points that a path within `room` connects to it. Each row adds the points of the room that are beside
+/// points of the set. If a row has grown, those of the rows above and below it that can now add a point wait for their turn.
 pub(crate) fn fill(rows: &mut [u64], room: &[u64])
     requires same { length rows.old ≡ length room.now }
     requires few { length rows.old < 64 }
@@ -24,8 +24,8 @@ pub(crate) fn fill(rows: &mut [u64], room: &[u64])
     }
 }
 
-/// Lets the first row that waits take the points beside it. If it grew, the rows beside it that can take a point from it
-/// wait, too. Returns that row, and the rows that wait then.
+/// Grows the first row that waits (`grow_row`). If the row gets new points, those of the rows above and below it that can take
+/// a point from it wait, too. Returns the number of the row, and the rows that wait afterwards.
 pub(crate) fn grow_lowest(rows: &mut [u64], room: &[u64], waiting: u64) -> (usize, u64)
     requires same { length rows.old ≡ length room.now }
     requires few { length rows.old < 64 }
@@ -49,7 +49,7 @@ pub(crate) fn grow_lowest(rows: &mut [u64], room: &[u64], waiting: u64) -> (usiz
     (row, with_rows_lacking(left, rows, room, row))
 }
 
-/// Lets each row take the points beside it, from the first row to the last.
+/// Grows each row (`grow_row`), from the first row to the last.
 /// Returns the rows that can take a point from the row below them.
 fn grow_down(rows: &mut [u64], room: &[u64]) -> u64
     requires same { length rows.old ≡ length room.now }
@@ -67,7 +67,7 @@ fn grow_down(rows: &mut [u64], room: &[u64]) -> u64
     waiting
 }
 
-/// The rows that wait, and the rows beside `row` that can take a point from it.
+/// The rows that wait, and those of the rows above and below `row` that can take a point from it.
 pub(crate) fn with_rows_lacking(waiting: u64, rows: &[u64], room: &[u64], row: usize) -> u64
     requires same { length room.now ≡ length rows.now }
     requires few { length rows.now < 64 }
@@ -132,7 +132,7 @@ fn widened(seed: u64, room: u64) -> u64
     }
 }
 
-/// A set of columns, widened by the columns of the room that follow one of them without a gap: as far as a sum carries.
+/// A set of columns, widened by the columns of the room that follow one of them without a gap. The carry of a sum finds these.
 fn carried(seed: u64, room: u64) -> u64
     requires { IsPart (has_bit seed) (has_bit room) }
     ensures { IsWidened room seed result }

@@ -32,8 +32,8 @@ impl Board {
     }
 }
 
-/// The columns of a row with a stone of the player, with one of the opponent, and
-/// without a stone. A row outside the board has none of these columns.
+/// The columns of a row that have a stone of the player (`own`), a stone of the opponent
+/// (`others`) or no stone (`free`). A row outside the board has no columns.
 #[derive(Clone, Copy)]
 pub(crate) struct RowStones {
     pub(crate) own: u64,
@@ -41,16 +41,16 @@ pub(crate) struct RowStones {
     pub(crate) free: u64,
 }
 
-/// Some columns of a row: those in which the player's stone finds a liberty,
-/// and those in which an opponent's stone has none of its own.
+/// Some columns of a row. In those of `alive` the player's stone finds a liberty.
+/// In those of `shut` an opponent's stone has no empty point beside it.
 #[derive(Clone, Copy)]
 struct Look {
     alive: u64,
     shut: u64,
 }
 
-/// Whether a glance at the rows around a point shows two things of a stone of the player there. It has a liberty, by itself or by
-/// a stone beside it. And it leaves each stone of the opponent beside it a liberty of its own.
+/// Whether a glance at the rows around a point shows two things about a player's stone there. The stone has a liberty, by itself or
+/// by a stone beside it. And each stone of the opponent beside it still has an empty point beside itself.
 fn leaves_all_alive(own: &[u64], others: &[u64], point: Point) -> bool
     requires same { length others.now ≡ length own.now }
     requires few { length own.now < 64 }
@@ -102,7 +102,7 @@ pub(crate) fn row_at(own: &[u64], others: &[u64], middle: usize, i: usize) -> Ro
     }
 }
 
-/// Looks at the stones in some columns of a row. `above` and `below` are the free columns of the rows above and below it.
+/// Looks at the points in some columns of a row. `above` and `below` are the free columns of the rows above and below this row.
 fn look_at_row(columns: u64, above: u64, row: RowStones, below: u64) -> Look
     ensures alive { (col : ℕ) → IsTrue (has_bit result.alive col) → IsTrue (has_bit columns col)
         × (IsTrue (has_bit row.free col) ⊎ (IsTrue (has_bit row.own col) × IsInOrBeside above row.free below col)) }

@@ -11,9 +11,9 @@ use crate::board::glance::row_at;
 use crate::board::regions::with_column;
 use crate::points::Point;
 
-/// Whether the group of a stone has a liberty: a point beside it without a stone. `own` has the stones of its colour, `others`
-/// those of the other colour. `group` is empty at first. It grows row by row, until a point of it has a
-/// liberty. If none has one, it ends as the whole group.
+/// Whether the group of the stone on `from` has a liberty: an empty point beside it. `own` has the stones of its colour, `others`
+/// those of the other colour. `group` must be empty. It grows row by row, until one of its stones has a
+/// liberty. If no stone has one, `group` becomes the whole group.
 pub(crate) fn has_liberty(own: &[u64], others: &[u64], from: Point, group: &mut [u64]) -> bool
     requires own_rows { length own.now ≡ length group.old }
     requires other_rows { length others.now ≡ length group.old }

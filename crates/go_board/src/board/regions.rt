@@ -94,7 +94,7 @@ pub(crate) fn no_rows() -> [u64; MAX_ROWS]
     [0; MAX_ROWS]
 }
 
-/// The points of a board that aren't in a set.
+/// Writes to `others` the points of a board that aren't in `rows`.
 fn other_points(rows: &[u64], others: &mut [u64])
     requires few { length rows.now < 64 }
     requires same { length others.old ≡ length rows.now }
@@ -106,7 +106,7 @@ fn other_points(rows: &[u64], others: &mut [u64])
     }
 }
 
-/// The columns that aren't in a set, of a row with `side` columns.
+/// The columns of a row that aren't in `word`. The row has `side` columns.
 pub(crate) fn other_columns(word: u64, side: usize) -> u64
     requires { side < 64 }
     ensures within { (col : ℕ) → col < side → has_bit result col ≡ not (has_bit word col) }
@@ -124,7 +124,7 @@ pub(crate) fn with_column(word: u64, col: usize, set: bool) -> u64
     if set { word | 1 << col } else { word }
 }
 
-/// The points of a set that aren't in another one.
+/// Writes to `left` the points of `rows` that aren't in `others`.
 fn difference(rows: &[u64], others: &[u64], left: &mut [u64])
     requires others { length others.now ≡ length rows.now }
     requires left { length left.old ≡ length rows.now }
@@ -135,7 +135,7 @@ fn difference(rows: &[u64], others: &[u64], left: &mut [u64])
     }
 }
 
-/// The stones of one colour that have a liberty of their own. `others` has those of the other colour.
+/// Writes to `alive` the stones of `own` that have an empty point beside them. `others` has the stones of the other colour.
 fn stones_with_liberty(own: &[u64], others: &[u64], alive: &mut [u64])
     requires few { length own.now < 64 }
     requires others { length others.now ≡ length own.now }

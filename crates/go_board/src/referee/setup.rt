@@ -13,9 +13,9 @@ impl<P: Past> Referee<P> {
 
     /// Sets up stones or the player (SGF FF[4]).
     ///
-    /// - With operations: these colour their areas in order, whatever stood there, and nothing is cleared. The past begins anew,
-    ///   so a ko doesn't reach back over the setup. Passes are 0. The given player must move; if it is None, either may.
-    /// - Without operations: only the player changes. A player must be given then.
+    /// - With operations: these colour their areas in order, whatever stood there, and nothing is cleared. A new stretch begins,
+    ///   so a ko doesn't reach back over the setup. Passes are 0. The given player must move; if `player` is None, either may.
+    /// - Without operations: only the player changes. In this case a player must be given.
     ///
     /// `MemoryFault` comes only if memory was refused; then nothing is changed.
     pub fn setup(&mut self, ops: &[SetupOp], player: Option<Colour>) -> Result<(), MemoryFault>
@@ -44,7 +44,7 @@ impl<P: Past> Referee<P> {
         Ok(())
     }
 
-    /// Colours areas, and begins the past anew with the result.
+    /// Colours areas, and begins a new stretch of the past with the result.
     fn begin_anew(&mut self, ops: &[SetupOp], player: Option<Colour>) -> Result<(), MemoryFault>
         requires { All (λ op. IsRectOn self.old.present.colouring.side op.area) ops.now }
         ensures ok { OnOk result (self.new ≡ followed_by self.old

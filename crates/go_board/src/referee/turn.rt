@@ -1,5 +1,5 @@
 //! A referee's turns. For positional superko the referee asks the past whether a stone
-//! would make a colouring that was there since the last setup of stones.
+//! would repeat a colouring made since the last setup of stones.
 
 use crate::fault::{MemoryFault, TurnFault};
 use crate::past::Past;
@@ -20,7 +20,7 @@ impl<P: Past> Referee<P> {
 
     /// Takes a player's turn (Tromp-Taylor). A stone's point must be on the board. After a refusal nothing is changed.
     ///
-    /// - `Illegal`: the first of `Over`, `Turn`, `Occupied` and `Repeat` that holds. This refusal takes no memory.
+    /// - `Illegal`: the first of `Over`, `Turn`, `Occupied` and `Repeat` that holds. This refusal comes even if memory is refused.
     /// - `Memory`: the turn is allowed, but memory was refused.
     pub fn turn(&mut self, colour: Colour, play: Play) -> Result<(), TurnFault>
         requires { IsPlayOn self.old.present.colouring.side play }
@@ -77,7 +77,7 @@ impl<P: Past> Referee<P> {
         Ok(())
     }
 
-    /// Plays a stone as a player's turn, unless this repeats a colouring. Returns whether the turn was taken.
+    /// Plays a stone as a player's turn, unless it repeats a colouring of the present stretch. Returns whether the turn was taken.
     fn take_stone(&mut self, colour: Colour, point: Point) -> Result<bool, MemoryFault>
         requires on_board { IsOn self.old.present.colouring.side point }
         requires only_repeat { MayOnlyRepeat self.old.present colour (Stone point) }

@@ -1,4 +1,4 @@
--- What the parts of a split and a count do.
+-- What a failed run or count says of its text, and what is put into the room.
 use Rattle.std.specs.Prelude.{◌≡◌, ℕ, ◌<◌, ◌≤◌, List, ◌++◌, length, drop}
 use Rattle.sgf_tree.specs.Refusal.{IsFaultyAt}
 use Rattle.sgf_lines.specs.Answer.{MAX_LENGTH, HasNoLine}
@@ -9,7 +9,7 @@ use Rattle.sgf_lines_c.specs.SplitAnswer.{IsPartOf}
 use Rattle.sgf_lines_c.specs.declared.status.Status.{Status}
 use Rattle.sgf_lines_c.specs.declared.status.Status.TheVariants.{Done, NotSgf, EndsEarly, TooLong, NoSuchLine, UnknownForm, RoomTooSmall, OutOfMemory}
 
--- why a run failed; its source gave this text
+-- what a failed run over this text says of the text, by the fault
 abbrev pub IsRefusal : Options → List ℕ → RunFault → Type 0
 IsRefusal options text Read = Unit {0}
 IsRefusal options text RunTooLong = MAX_LENGTH < length text
@@ -18,13 +18,13 @@ IsRefusal options text (RunNoSuchLine place) = (length text ≤ MAX_LENGTH) × H
 IsRefusal options text (Write count) = IsPartOf options text count
 IsRefusal options text (Memory count) = IsPartOf options text count
 
--- why a count failed; its source gave this text
+-- what a failed count over this text says of the text, by the fault
 abbrev pub IsUncounted : List ℕ → RunFault → Type 0
 IsUncounted text RunTooLong = MAX_LENGTH < length text
 IsUncounted text (RunNotSgf at len) = (length text ≤ MAX_LENGTH) × IsFaultyAt text at × (len ≡ length text)
 IsUncounted text _ = Unit {0}
 
--- the bytes were put at the front of a room; or the room is too small, and unchanged
+-- Done: the bytes were put at the front of a room. RoomTooSmall: the room has fewer bytes, and is unchanged.
 abbrev pub Puts : List ℕ → List ℕ → List ℕ → Status → Type 0
 Puts bytes old new Done = (length bytes ≤ length old) × (new ≡ bytes ++ drop (length bytes) old)
 Puts bytes old new RoomTooSmall = (length old < length bytes) × (new ≡ old)

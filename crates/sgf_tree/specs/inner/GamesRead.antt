@@ -40,13 +40,13 @@ lasts number (game first more below after) =
     let next = number + 1 + length more in
     replicate (1 + length more) (number + length more + node_count below) ++ lasts next below ++ lasts (next + node_count below) after
 
--- the same for the closed and the open games; each own node of an open game has 0
+-- the same for the closed and the open games, but each own node of an open game has 0
 abbrev pub open_lasts : Games → List OpenGame → List ℕ
 open_lasts closed [] = lasts 0 closed
 open_lasts closed (inmost ∷ outer) =
     open_lasts closed outer ++ replicate (1 + length inmost.more) 0 ++ lasts (open_count closed outer + 1 + length inmost.more) inmost.below
 
--- the node is the root of the game with this number; the game is closed, or it is the next one after the closed games
+-- the node is the root of the game with this number, which is a closed game or the next one after the closed games
 abbrev pub IsRootOf : Games → ℕ → ℕ → Type 0
 IsRootOf closed node_number game_number =
     ((node_number < node_count closed) × (game_of closed node_number ≡ game_number)) ⊎ ((node_number ≡ node_count closed) × (game_number ≡ game_count closed + 1))
@@ -78,7 +78,7 @@ pub record IsNodeRead (text : List ℕ) (place end : ℕ) (link : Link) (old new
   pub properties : ArePropertiesRead text (place + 1) end
   pub pushed : new ≡ old ++ record { place = place; link = link; last_below = 0 } ∷ []
 
--- a game began when the machine had this stack, and its own nodes were read up to `end`
+-- after a `(` at this stack, the own nodes of a game were read up to `end`
 pub record IsSequenceRead (text : List ℕ) (end : ℕ) (stack : Stack) (nodes : List NodeEntry) : Type 0 where
   pub last : OpenGame
   pub stands : StandsBetween text end (record { closed = stack.closed; unclosed = last ∷ stack.unclosed })
@@ -99,7 +99,7 @@ pub record AreOwnNodes (nodes : List NodeEntry) (first last : ℕ) : Type 0 wher
 abbrev pub without_last : NodeEntry → NodeEntry
 without_last entry = record { place = entry.place; link = entry.link; last_below = 0 }
 
--- The nodes from `first` to `last` now have the number of the newest node as their last node below.
+-- The nodes from `first` to `last` now have the number of the newest node as their `last_below`.
 -- Nothing else changed. `parent` is the parent of the node `first`.
 pub record ClosesGame (old new : List NodeEntry) (first last : ℕ) (parent : Option ℕ) : Type 0 where
   pub same : map without_last new ≡ map without_last old
@@ -123,7 +123,7 @@ pub record IsMarkRead (text : List ℕ) (at : ℕ) : Type 0 where
       → next_state at state (slice_index text at) ≡ between_games (record { closed = no_games; unclosed = [] }) (slice_index text at)
   pub end : accepted state ≡ accepted (after_game (record { closed = no_games; unclosed = [] }))
 
--- If the machine has the games of a stack and `at` is just after a `(`, then the own nodes of that game were read up to `end`.
+-- If the machine has the games of a stack and `at` is just after a `(`, the own nodes of this new game were read up to `end`.
 abbrev pub ReadsSequence : List ℕ → ℕ → ℕ → Link → List NodeEntry → List NodeEntry → Type 0
 ReadsSequence text at end link old new =
     (stack : Stack) → ComesTo text at (opened stack) → HoldStack text stack old → IsOpening stack link → IsSequenceRead text end stack new

@@ -1,4 +1,4 @@
--- Where the long values of a text end, as far as that is kept.
+-- Where the long values of a text end. A reader may keep the ends of only some of them.
 use Rattle.std.specs.Prelude.{◌≡◌, ℕ, ◌+◌, ◌<◌, ◌≤◌, List, length, slice_index, All}
 use Rattle.sgf_tree.specs.Bytes.{close_bracket}
 use Rattle.sgf_tree.specs.inner.Progress.{SpellsValue}
@@ -15,6 +15,6 @@ pub record IsRawValueAt (text : List ℕ) (at end : ℕ) : Type 0 where
 abbrev pub IsKeptEnd : List ℕ → LongValue → Type 0
 IsKeptEnd text long = (at : ℕ) → at + long.left ≡ length text → IsRawValueAt text at (at + long.bytes)
 
--- that holds of each entry
+-- each entry is a kept end
 abbrev pub AreKeptEnds : List ℕ → List LongValue → Type 0
 AreKeptEnds text entries = All (IsKeptEnd text) entries

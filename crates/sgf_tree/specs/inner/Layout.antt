@@ -44,8 +44,8 @@ abbrev pub outlines_by : ℕ → List NodeEntry → List Outline
 outlines_by number [] = []
 outlines_by number (entry ∷ rest) = outline_by number entry ∷ outlines_by (number + 1) rest
 
--- If an entry says that a node is beside the one before it, then the text from that one's `;` up to this
--- node's `;` is just as the sgf form writes that one.
+-- If an entry says that a node is beside the node before it, then the text from the `;` of the earlier node up to
+-- the `;` of the later one is just what the sgf form writes for the earlier node.
 abbrev pub AreBeside : List ℕ → List NodeEntry → Type 0
 AreBeside text nodes =
     (number : ℕ) (default : NodeEntry) → number + 1 < length nodes → (get_or nodes (number + 1) default).link ≡ Next true

@@ -1,4 +1,4 @@
--- The bytes of a value that stand for themselves, and how many of the bytes looked at together do.
+-- The bytes of a value that stand for themselves, and how many bytes at the front of sixteen do so.
 use Rattle.std.specs.Prelude.{ℕ, ◌<◌, ◌≤◌, ◌==◌, Bool, not, ◌||◌, ◌&&◌, nat_le, if◌then◌else◌, List, slice_index, IsTrue}
 use Rattle.std.specs.Int.Count.{count_trailing_zeros}
 use Rattle.sgf_tree.specs.Bytes.{tab, carriage_return, backslash}

@@ -38,7 +38,7 @@ pub data MachineState : Type 0 where
   after_value : (node : Started) (property : Property) → MachineState
   after_game : (stack : Stack) → MachineState
 
--- a property with the values before and one more
+-- a property with the values given first and one more value
 abbrev pub property_of : List ℕ → List (List ℕ) → List ℕ → Property
 property_of name [] value = record { name = name; first = value; more = [] }
 property_of name (first ∷ rest) value = record { name = name; first = first; more = rest ++ value ∷ [] }
@@ -53,7 +53,7 @@ abbrev pub add_node : List OpenGame → Node → List OpenGame
 add_node [] node = []
 add_node (inmost ∷ outer) node = record { first = inmost.first; more = inmost.more ++ node ∷ []; below = inmost.below } ∷ outer
 
--- a game that begins
+-- a game that begins with this node
 abbrev pub new_game : Node → OpenGame
 new_game node = record { first = node; more = []; below = no_games }
 
@@ -70,7 +70,7 @@ ended node =
 abbrev pub whole_game : OpenGame → Games
 whole_game open_game = game open_game.first open_game.more open_game.below no_games
 
--- the innermost open game becomes the last game below the one around it; without one around it, the last game of all
+-- the innermost open game becomes the last game below the open game around it; if there is none, the last of the whole games
 abbrev pub close_in : Games → List OpenGame → Option MachineState
 close_in closed [] = None
 close_in closed (inmost ∷ []) = Some (after_game (record { closed = joined closed (whole_game inmost); unclosed = [] }))
@@ -88,7 +88,7 @@ close stack = close_in stack.closed stack.unclosed
 abbrev pub new_node : Stack → Bool → ℕ → MachineState
 new_node stack opens at = in_node (record { stack = stack; opens = opens; place = at; properties = [] })
 
--- the byte comes where a node may end
+-- the state after a byte that comes where a node may end
 abbrev pub after_node : ℕ → Stack → ℕ → Option MachineState
 after_node at stack byte =
     if byte == semicolon then Some (new_node stack false at)
@@ -96,7 +96,7 @@ after_node at stack byte =
     else (if byte == close_parenthesis then close stack
     else None))
 
--- white space, a `(` or a `)`, after a game or before the first one
+-- the state after a byte that comes after a game or before the first one: white space, a `(` or a `)`
 abbrev pub between_games : Stack → ℕ → Option MachineState
 between_games stack byte =
     if is_white_space byte then Some (after_game stack)
@@ -104,7 +104,7 @@ between_games stack byte =
     else (if byte == close_parenthesis then close stack
     else None))
 
--- the byte at an offset takes a state to the next one; None if it is refused
+-- the state after the byte at an offset; None if the byte is refused
 unfoldable pub next_state : ℕ → MachineState → ℕ → Option MachineState
 next_state at start byte = if byte == byte_ef then Some first_of_mark else between_games (record { closed = no_games; unclosed = [] }) byte
 next_state at first_of_mark byte = if byte == byte_bb then Some second_of_mark else None
@@ -139,7 +139,7 @@ next_state at (after_value node property) byte =
     else after_node at (ended (with_property node property)) byte))
 next_state at (after_game stack) byte = between_games stack byte
 
--- the bytes from an offset on take a state to this one; None if one of them is refused
+-- the state after the bytes from an offset on; None if one of them is refused
 unfoldable pub run : ℕ → MachineState → List ℕ → Option MachineState
 run at state [] = Some state
 run at state (byte ∷ rest) = option_and_then (λ next. run (at + 1) next rest) (next_state at state byte)

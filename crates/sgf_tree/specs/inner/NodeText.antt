@@ -1,5 +1,5 @@
--- Functions that return the properties and the raw values at the front of a text. A part of the text has them as its view.
--- `ArePropertiesIn` and `AreValuesIn` say that they agree with the grammar.
+-- Functions that return the properties and the raw values at the front of a text. Views of parts of the text are defined by
+-- these functions. `ArePropertiesIn` and `AreValuesIn` say that the functions agree with the grammar.
 use Rattle.std.specs.Prelude.{◌≡◌, ◌≢◌, ℕ, zero, suc, ◌+◌, ◌<◌, ◌≤◌, Bool, false, ◌||◌, ◌==◌, if◌then◌else◌, List, [], ◌∷◌, ◌++◌, length, drop, slice_range, filter, map, IsTrue, Option, None, Some}
 use Rattle.std.specs.List.{flat_map}
 use Rattle.sgf_tree.specs.Bytes.{semicolon, open_bracket, backslash, close_bracket}
@@ -16,7 +16,7 @@ unfoldable pub left_after : (ℕ → Bool) → List ℕ → List ℕ
 left_after test [] = []
 left_after test (byte ∷ rest) = if test byte then left_after test rest else byte ∷ rest
 
--- that front
+-- the longest front that passes a test
 unfoldable pub front : (ℕ → Bool) → List ℕ → List ℕ
 front test [] = []
 front test (byte ∷ rest) = if test byte then byte ∷ front test rest else []
@@ -30,7 +30,7 @@ raw_value (byte ∷ next ∷ rest) =
     else (if byte == backslash then byte ∷ next ∷ raw_value rest
     else byte ∷ raw_value (next ∷ rest))
 
--- the bytes after that `]`
+-- the bytes after the `]` that ends the raw value
 unfoldable pub after_raw_value : List ℕ → List ℕ
 after_raw_value [] = []
 after_raw_value (byte ∷ []) = []
@@ -60,7 +60,7 @@ after_values_up_to (suc count) text =
 unfoldable pub values_in : List ℕ → List (List ℕ)
 values_in text = values_up_to (length text) text
 
--- the values that are left; the first may be known already
+-- the values that are left; if the first is given, it comes before the others
 abbrev pub values_left : Option (List ℕ) → List (List ℕ) → List (List ℕ)
 values_left None values = values
 values_left (Some first) values = first ∷ values
@@ -139,7 +139,7 @@ pub record IsPastValues (text rest : List ℕ) : Type 0 where
   pub spelled : ArePropValues values text rest
   pub none_left : IsNoPropValue rest
 
--- the same; `end` is the offset where that text begins
+-- all values from the offset `from` on end at the offset `end`
 pub record IsValuesEnd (text : List ℕ) (from end : ℕ) : Type 0 where
   pub within : end ≤ length text
   pub past : IsPastValues (drop from text) (drop end text)
@@ -171,14 +171,14 @@ pub record IsPropertyWritten (whole_text : List ℕ) (at end : ℕ) : Type 0 whe
   pub ends : NoValueFollows (drop end whole_text)
   pub text : slice_range whole_text at end ≡ property_text property
 
--- the text between the two offsets is the first properties, written as the sgf form writes them; the others come after it
+-- the text between the two offsets is the first properties, as the sgf form writes them; the other properties come after `end`
 pub record ArePropertiesWritten (whole_text : List ℕ) (from end : ℕ) : Type 0 where
   pub rises : from ≤ end
   pub within : end ≤ length whole_text
   pub left : ArePropertiesIn (drop end whole_text)
   pub front : IsWrittenFront (properties_in (drop from whole_text)) (properties_in (drop end whole_text)) (slice_range whole_text from end)
 
--- nodes were appended to a text as the sgf form writes them, and the offset where each of them ends to `ends`
+-- nodes were appended to a text as the sgf form writes them, and the offsets where they end were appended to `ends`
 pub record ArePushed (nodes : List Node) (old new ends new_ends : List ℕ) : Type 0 where
   pub text : new ≡ old ++ flat_map node_text nodes
   pub ends_are : new_ends ≡ ends ++ ends_from (length old) (map node_text nodes)

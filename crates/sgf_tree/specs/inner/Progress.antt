@@ -50,7 +50,7 @@ pub record IsNextBracket (text : List ℕ) (at end : ℕ) : Type 0 where
   pub bracket : slice_index text end ≡ close_bracket
   pub before : HasNoBracket text at end
 
--- the bytes from `first` to `end` are the run of `\` just before `end`; bytes before `at` aren't counted
+-- the bytes from `first` to `end` are the run of `\` just before `end`, as far as it stands from `at` on
 pub record AreBackslashesBefore (text : List ℕ) (at first end : ℕ) : Type 0 where
   pub low : at ≤ first
   pub rises : first ≤ end

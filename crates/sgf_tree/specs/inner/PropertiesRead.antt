@@ -42,12 +42,12 @@ pub record IsPropertyRead (text : List ℕ) (start end : ℕ) : Type 0 where
   pub reached : (node : Started) → ComesTo text (start + 1) (in_name node (slice_index text start ∷ []))
       → (property : Property) × ComesTo text end (after_value node property)
 
--- the same, as the code tells it: how far it was read, and whether the sgf form writes it as it stands
+-- the same, as the code says it: how far the property was read, and whether the sgf form writes it as it stands
 pub record IsWholePropertyRead (text : List ℕ) (start : ℕ) (read : PartRead) : Type 0 where
   pub property : IsPropertyRead text start read.end
   pub written : IsTrue read.as_written → IsPropertyWritten text start read.end
 
--- a node was read up to `end`; only what may come after a node may come next
+-- the machine has read a node up to `end`, and takes only what may come after a node
 pub record StandsAfterNode (text : List ℕ) (end : ℕ) (whole : Started) : Type 0 where
   pub state : MachineState
   pub reached : ComesTo text end state

@@ -1,5 +1,5 @@
--- How a collection is stored as a list, so that it can be the value of a model. For each game a token comes first, then those of
--- the games below it, then those of the games after it. This says nothing of what a text means.
+-- How a collection is stored as a list, so that it can be the value of a model. For each game its token comes first, then the
+-- tokens of the games below it, then those of the games after it. This says nothing of what a text means.
 use Rattle.std.specs.Prelude.{◌≡◌, ℕ, List, [], ◌∷◌, ◌++◌, Option, Some, None, refl}
 use Rattle.std.specs.Coded.{Coded, code_by, coded×, coded_ℕ, coded_list, coded_option}
 use Rattle.std.proofs.Common.{◌∙◌, ap, sym, append_assoc, append-nil}
@@ -32,7 +32,7 @@ abbrev pub tokens : Games → List Token
 tokens no_games = None ∷ []
 tokens (game first more below after) = Some (first, more) ∷ (tokens below ++ tokens after)
 
--- a game with these own nodes, over the next two games
+-- a game with these own nodes: the first of the list is what is below it, the second what is after it
 abbrev pub over_next : Node → List Node → List Games → List Games
 over_next first more (below ∷ after ∷ rest) = game first more below after ∷ rest
 over_next first more (below ∷ []) = []

@@ -16,7 +16,7 @@ use crate::reader::fault::PartFault;
 use crate::reader::properties::{PartRead, glance, read_properties};
 use crate::reader::scan::skip_white_space;
 
-/// Reads all games; the first `(` may be at `at`. Returns the number of games.
+/// Reads all games. The first `(` is expected at `at`. Returns the number of games.
 pub(crate) fn read_games(
     text: &[u8],
     at: usize,
@@ -60,7 +60,8 @@ pub(crate) fn read_games(
     Ok(games)
 }
 
-/// The link of a game's first node, after `games` finished games. `innermost` is the last node of the innermost open game.
+/// The link of a game's first node, after `games` finished games. `innermost` is the last node of the innermost open game, or
+/// None if no game is open.
 fn opening_link(games: u32, innermost: Option<u32>) -> Link
     requires { games < MAX_LENGTH }
     ensures { (k : Stack) → tip k.closed k.unclosed ≡ innermost → game_count k.closed ≡ games
@@ -73,7 +74,7 @@ fn opening_link(games: u32, innermost: Option<u32>) -> Link
 }
 
 /// Reads the own nodes of the game whose `(` is just before `at`. The first node gets
-/// this link. Returns the offset after the nodes and the white space there.
+/// the link `link`. Returns the offset after the nodes and the white space after them.
 fn read_sequence(
     text: &[u8],
     at: usize,
@@ -137,7 +138,7 @@ fn read_node(
     Ok(read)
 }
 
-/// Stores the number of the newest node in each own node of a game, as the last node below it.
+/// Stores the number of the newest node as `last_below` in each own node of a game.
 /// `tip` is the last own node. Returns the parent of the first own node.
 fn close_game(nodes: &mut Vec<NodeEntry>, tip: u32) -> Option<u32>
     requires few { length nodes.old.items ≤ MAX_LENGTH }

@@ -14,8 +14,8 @@ use crate::reader::scan::{letters_end, short_name_end, skip_white_space, white_s
 use crate::reader::value::{NEAR, near_value_end, read_value};
 use std::simd::prelude::*;
 
-/// The least number of bytes that must be left for a look at a short property: a letter or two, a `[`,
-/// the 16 bytes in which the `]` is searched, and the byte after it.
+/// A property is read at a glance only if at least this many bytes are left: one or two letters, a `[`,
+/// the 16 bytes among which the `]` is searched for, and the byte after these.
 const GLANCE: usize = 20;
 
 /// Reads at a glance the properties of a node, which begin at `at`: none, or a move and perhaps short properties, as in
@@ -87,7 +87,7 @@ fn after_move(text: &[u8], at: usize) -> Option<PartRead>
 /// How far a part of a text was read.
 #[derive(Clone, Copy)]
 pub(crate) struct PartRead {
-    /// The offset of the byte after it and the white space there.
+    /// The offset after the part and the white space that follows it.
     pub end: usize,
     /// Whether the sgf form writes the part as it stands in the text. False says nothing.
     pub as_written: bool,
@@ -122,7 +122,7 @@ pub(crate) fn read_properties(
 }
 
 /// Reads at a glance the property whose identifier begins at `start`, if it has a name of one or two letters
-/// and one short value. Nearly all properties are like that. None says nothing.
+/// and one short value. Nearly all properties are like that. If the result is None, nothing is known.
 #[inline(always)]
 fn read_short_property(text: &[u8], start: usize) -> Option<PartRead>
     requires within { start < length text.now }

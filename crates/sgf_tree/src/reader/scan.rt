@@ -110,8 +110,8 @@ pub(crate) fn is_lone_node(text: &[u8]) -> bool
     is_short_front(text) && ends_node(text, 6)
 }
 
-/// Whether the text begins with a node whose first property is written like
-/// `B[pd]`, and has no other value. If it is false, nothing is known.
+/// Whether the first property of the node at the front of the text is written
+/// like `B[pd]`, and has no other value. If it is false, nothing is known.
 pub(crate) fn is_lone_front(text: &[u8]) -> bool
     ensures { IsTrue result → IsLoneFront text.now }
 {
@@ -127,7 +127,8 @@ fn ends_values(text: &[u8], at: usize) -> bool
     end == text.len() || text[end] != b'['
 }
 
-/// Whether the text begins with a `;` and a property that is written like `B[pd]`, and goes on after these.
+/// Whether a property that is written like `B[pd]` follows the first byte of the text, and the text goes on after it.
+/// The first byte is the `;` of a node, and isn't looked at.
 fn is_short_front(text: &[u8]) -> bool
     ensures { IsTrue result → IsMove text.now 1 }
 {

@@ -128,7 +128,7 @@ fn short_value_end(text: &[u8], at: usize) -> Option<usize>
     near_value_end(text, at)
 }
 
-/// The same, where at least `NEAR` bytes are left.
+/// The same, but at least `NEAR` bytes must be left.
 #[inline(always)]
 pub(crate) fn near_value_end(text: &[u8], at: usize) -> Option<usize>
     requires { at + NEAR ≤ length text.now }
@@ -144,7 +144,7 @@ pub(crate) fn near_value_end(text: &[u8], at: usize) -> Option<usize>
     Some(bracket)
 }
 
-/// Whether the raw value at `at` is two bytes that stand for themselves, as in a point.
+/// Whether the raw value at `at` is two bytes without an escape, as in a point.
 pub(crate) fn is_two_plain(text: &[u8], at: usize) -> bool
     requires { at + 2 < length text.now }
     ensures { IsTrue result → IsTwoPlain text.now at }
@@ -173,8 +173,8 @@ fn near_bracket(text: &[u8], at: usize) -> Option<usize>
 
 /// The offset of the `]` that ends the raw value at `at`, by searches. None if the text ends before it.
 ///
-/// A `]` is escaped if an odd number of `\` is just before it. Only those after the start of the value, or after the end of an
-/// escape, are counted: earlier bytes belong to other units.
+/// A `]` is escaped if an odd number of `\` is just before it. The `\` are counted from `start` on, which is where the value
+/// begins or an escape ends: earlier bytes belong to other units.
 #[inline(never)]
 fn far_value_end(text: &[u8], at: usize) -> Option<usize>
     requires { at ≤ length text.now }

@@ -1,4 +1,4 @@
--- The job that is done is the one that the words say.
+-- The job that is done is the one that the words ask for.
 use Rattle.std.proofs.Common.{inl}
 use Rattle.sgfsplit.proofs.status.Goals as goal
 

@@ -10,7 +10,7 @@ use Rattle.sgfsplit_job.specs.PlainWords.{SplitWords}
 abbrev pub rows_found : ArgMatches → List Row
 rows_found found = rows_of (found_of found)
 
--- the rows hold these words
+-- clap found these words; if `--form` isn't given, it found the form `list`
 pub record HoldSplitWords (words : SplitWords) (rows : List Row) : Type 0 where
   pub form : first_of (codes "form") rows ≡ Some (form_word (unwrap_or words.form form.List))
   pub after : one_of (codes "after") rows ≡ words.after

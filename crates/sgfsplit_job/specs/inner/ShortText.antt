@@ -2,7 +2,7 @@
 use Rattle.sgfsplit_job.specs.declared.short_text.ShortText.{ShortText}
 use Rattle.std.specs.Prelude.{ℕ, List, [], Option, Some, None, take, decimal}
 
--- the text of a number; nothing if there is none
+-- a number in decimal digits; the empty text if there is no number
 abbrev pub number_text : Option ℕ → List ℕ
 number_text None = []
 number_text (Some n) = decimal n

@@ -1,4 +1,4 @@
--- The source had the whole text to come.
+-- The source began with the whole text to come.
 use Rattle.std.proofs.Common.{ap}
 use Rattle.sgf_lines.specs.Ends.{SourceState}
 use Rattle.sgf_lines_c.proofs.InMemory.{count_refused}

@@ -2,7 +2,7 @@ use Rattle.std.proofs.Common.{ap, ap₂, codes, ◌≡◌, ◌∙◌}
 use Rattle.clap.specs.Simple.{app_of, app_of_fields, new_app, with_rule}
 use Rattle.sgfsplit_job.proofs.command.split_command.Goals as goal
 
--- each step adds what it says to what a parse reads of the command
+-- each call of the builder adds its part to the command that a parse reads
 pub returns : goal.returns
 returns c =
     let form = c.form_option.ensures.rule in

@@ -2,7 +2,7 @@ use Rattle.std.proofs.Common.{◌≡◌, List, ℕ, ◌++◌, length}
 use Rattle.std.specs.Io.KnownBytes.{Appends}
 use Rattle.sgfsplit_job.proofs.run.put_text.Given as goal
 
--- a front of the text was put, and nothing failed
+-- the sink took a prefix of the text, and didn't fail
 abbrev pub invariant-loop-rest : goal.invariant-loop-rest
 invariant-loop-rest g l =
     (front : List ℕ) × (l.text ≡ front ++ l.rest)

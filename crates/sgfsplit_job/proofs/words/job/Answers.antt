@@ -12,11 +12,11 @@ use Rattle.sgfsplit_job.proofs.CommandLine.{app_free, app_simple}
 use Rattle.sgfsplit_job.proofs.PlainWords.{split_words_taken, split_words_entered, count_words_taken, count_words_entered, count_words_hold}
 use Rattle.sgfsplit_job.proofs.words.job.Goals as goal
 
--- an error that doesn't say that memory was refused has one of the kinds
+-- an error of a kind other than OutOfMemory has one of these kinds
 not_memory : (kinds : Kinds) (error : Error) → HasKind kinds error → ¬ (kind_of error ≡ OutOfMemory) → IsAmong (kind_of error) kinds
 not_memory kinds error h other = elim h [ inl memory ↦ absurd (other memory) | inr among ↦ among ]
 
--- clap takes plain words, so it refuses them only for want of memory
+-- clap accepts plain words, so it returns an error for them only if memory is refused
 pub returns-in_default : goal.returns-in_default
 returns-in_default c =
     let command = c.in_ok-command.ensures in
@@ -48,14 +48,14 @@ returns-clause-count c = λ name file plain are.
     let counts = c.in_ok-found_job.ensures.count _ (matches.1 ∙ (ap₂ subcommand_of command.2 are ∙ count_words_entered command.0 command.1 name file)) in
     subst (λ (f : Option Word). CountsFile (file_of f) c.in_ok-found_job.field-0) (count_words_hold command.0 command.1 file plain) counts
 
--- an Ok of clap comes only where it finds no fault
+-- clap returns Ok only if it finds no fault
 pub returns-clause-faultless : goal.returns-clause-faultless
 returns-clause-faultless c =
     let command = c.in_ok-command.ensures in
     let free = ap is_simple_and_free command.2 ∙ app_free command.0 in
     (command.0, command.1, ap (λ a. fault_of a (map string_bytes c.args.words.now)) (sym command.2) ∙ c.in-Ok.ensures.kinds free)
 
--- where memory was refused
+-- memory was refused
 pub returns-in_err-command-clause-split : goal.returns-in_err-command-clause-split
 returns-in_err-command-clause-split c = λ name given plain are. let p = err_from_is_err_and c.from_residual.result c.from_residual.ensures.1 in rw (p.1, p.2) refl
 
