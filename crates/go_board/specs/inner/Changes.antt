@@ -1,4 +1,4 @@
--- Past colourings. The newest is kept whole; of each older one the rows are kept that lead back to it.
+-- Past colourings. The newest is kept whole; of each older one the rows are kept that lead back to it. A change is one such row.
 use Rattle.std.specs.Prelude.{◌≡◌, ◌⊎◌, ◌==◌, ℕ, suc, ◌-◌, ◌*◌, ◌%◌, ◌<◌, ◌≤◌, Bool, List, [], ◌∷◌, ◌++◌, IsTrue, IsFalse, All, false, if◌then◌else◌, Option, Some, None, length, take, drop, reverse, slice_index_or}
 use Rattle.go_board.specs.declared.stones.Cell.TheVariants.{Black, White, Empty}
 use Rattle.go_board.specs.declared.points.Point.{Point}
@@ -21,7 +21,7 @@ first_grid (first ∷ others) = Some first.colouring
 abbrev pub IsNumber : List Held → ℕ → Grid → Type 0
 IsNumber held number grid = first_grid (drop (length held - 1 - number) held) ≡ Some grid
 
--- the grid with the stones of a change in its row
+-- the grid with one row replaced by the row that the change keeps
 unfoldable pub with_change : Grid → Change → Grid
 with_change grid change =
     grid_of grid.side (λ point. if point.row == change.row
@@ -102,7 +102,8 @@ AreKept grid (kept ∷ others) changes =
     × (IsTrue (is_full (length others)) → MakeOne (before grid kept changes) (drop kept.start changes))
     × AreKept (before grid kept changes) others (changes_before kept changes)
 
--- each colouring begins a stretch, or has one more older colouring in its stretch than the one before it has
+-- The count of a colouring, `older_in_stretch`, is 0 if it begins a stretch.
+-- Otherwise it is 1 more than the count of the colouring before it.
 abbrev pub AreCounted : ℕ → List Older → Type 0
 AreCounted older_in_stretch [] = older_in_stretch ≡ 0
 AreCounted older_in_stretch (kept ∷ others) =

@@ -6,17 +6,15 @@
 //! white 2). That is linear in the codes, so colourings with equal fingerprints can be built from a
 //! formula. The bits above are a sum over the rows, each of which is mixed as a whole.
 
-ghost use Rattle.std.specs.Prelude.{◌≡◌, ◌<◌, ◌%◌, ◌^◌, ℕ, IsTrue};
+ghost use Rattle.std.specs.Prelude.{◌≡◌, ◌<◌, ◌%◌, ◌^◌};
 ghost use Rattle.go_board.specs.declared.stones.Cell.TheVariants.{Empty};
 ghost use Rattle.go_board.specs.Colour.{stone_of};
 ghost use Rattle.go_board.specs.Point.{IsOn};
 ghost use Rattle.go_board.specs.Grid.{cell_at, with_cell};
 ghost use Rattle.go_board.specs.inner.Print.{code_in, folded, mixed, print_in, print_of, row_print, weight};
-ghost use Rattle.go_board.specs.inner.Rows.{has_bit};
 
 use crate::board::Board;
 use crate::board::regions::with_column;
-use crate::board::stone_rows::without_column;
 use crate::points::Point;
 use crate::size::{MAX_POINTS, Size};
 use crate::stones::Colour;

@@ -18,8 +18,8 @@ const FIRST_PRINTS: usize = 64;
 const HEADS_AT_ONCE: usize = 64;
 
 /// Prints, oldest first. Most of them are never looked up, so prints are linked only when a look-up
-/// comes. Each linked print has a link to the newest earlier print with the same key. For two
-/// linked prints there is at least one key, so on average a key has at most two prints.
+/// comes. Each linked print has a link to the newest earlier print with the same key. There is at
+/// least one key for every two linked prints, so on average a key has at most two of them.
 #[derive(Drop)]
 pub(crate) struct Table {
     /// For each key the number of the newest linked print that has it: the print's index plus 1, or 0 if there is none.

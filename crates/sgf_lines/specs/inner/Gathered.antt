@@ -51,7 +51,7 @@ setup_with_stones NoSetup true = Meant None
 setup_with_stones (Meant player) true = Meant player
 setup_with_stones Faulty true = Faulty
 
--- a setup with more players, given the last of them; None is given if one of their values names no player
+-- what a setup becomes with the values of one more PL: Some has the last player that they name, None means that one names no player
 abbrev pub setup_with_player : Setup → Option Colour → Setup
 setup_with_player setup None = Faulty
 setup_with_player NoSetup (Some player) = Meant (Some player)
