@@ -1,10 +1,11 @@
 -- The print of a colouring: sums, the words of rows, and one stone more.
-use Rattle.std.proofs.Common.{◌≡◌, ◌≢◌, inl, inr, ℕ, zero, suc, ◌+◌, ◌-◌, ◌*◌, ◌/◌, ◌%◌, ◌^◌, ◌<◌, ◌≤◌, ◌||◌, Bool, true, false, cond, length, refl, sym, ap, ◌∙◌, arith}
+use Rattle.std.proofs.Common.{◌≡◌, ◌≢◌, inl, inr, ℕ, zero, suc, ◌+◌, ◌-◌, ◌*◌, ◌/◌, ◌%◌, ◌^◌, ◌<◌, ◌≤◌, ◌||◌, Bool, true, false, cond, length, refl, sym, ap, ◌∙◌, arith, bit_or, ◌==◌, w64}
 use Rattle.std.specs.Int.{bit_at}
+use Rattle.std.specs.Int.Count.{count_leading_zeros, count_trailing_zeros}
 use Rattle.std.proofs.Math.Nat.{mod-add-mod, add-mul-mod_self_left, mod-add-div, mod-eq_of_lt}
-use Rattle.std.proofs.lemmas.Bool.{cases_Bool, cases_eq, cases_lt, false_from_ne_true}
-use Rattle.std.proofs.lemmas.Nat.{mod_below, pow-add, pow_pos, mul-mod_first}
-use Rattle.std.proofs.lemmas.Nat.Bits.{bit_at_above, bit_at_cat_high, bit_at_cat_low, same_from_bits}
+use Rattle.std.proofs.lemmas.Bool.{cases_Bool, cases_eq, cases_lt, false_from_ne_true, or_parts}
+use Rattle.std.proofs.lemmas.Nat.{leading_length, leading_top, mod_below, pow-add, pow_pos, mul-mod_first}
+use Rattle.std.proofs.lemmas.Nat.Bits.{bit_at-trailing_zeros, bit_at_above, bit_at_cat_high, bit_at_cat_low, same_from_bits}
 use denote.Enum.Bare.{sameb}
 use Rattle.go_board.specs.contracts.stones.Colour.{the_type}
 use Rattle.go_board.specs.declared.stones.Cell.{Cell}
@@ -20,7 +21,7 @@ use Rattle.go_board.specs.inner.Rows.{has_bit}
 use Rattle.go_board.proofs.PointLemmas.{index_below}
 use Rattle.go_board.proofs.GridLemmas.{cell_at-with_cell, cell_at-with_cell_elsewhere}
 use Rattle.go_board.proofs.StoneRowsLemmas.{bit_same}
-use Rattle.go_board.proofs.WordLemmas.{bit_at-gone}
+use Rattle.go_board.proofs.WordLemmas.{bit_at-gone, has_bit-or}
 
 pub sum-more : (n : ℕ) (f : ℕ → ℕ) → sum_below (n + 1) f ≡ sum_below n f + f n
 sum-more n f = let next : n + 1 ≡ suc n = omega arith in ap (λ m. sum_below m f) next
@@ -231,6 +232,38 @@ power-odd n is =
     ∙ ap (λ k. k * 31 % 16384) (sym (even_power (n / 2)))
     ∙ mul-mod_first (31 ^ (2 * (n / 2))) 31 16384
     ∙ ap (λ k. k % 16384) (sym next)
+
+-- a sum of nothing, and a sum that ends in nothing
+pub sum-none : (n : ℕ) (f : ℕ → ℕ) → ((i : ℕ) → i < n → f i ≡ 0) → sum_below n f ≡ 0
+sum-none zero f none = refl
+sum-none (suc n) f none = omega (arith, sum-none n f (λ i low. none i (omega (arith, low))), none n (omega arith))
+
+pub sum-front : (m n : ℕ) (f : ℕ → ℕ) → m ≤ n → ((i : ℕ) → m ≤ i → i < n → f i ≡ 0) → sum_below n f ≡ sum_below m f
+sum-front m zero f le none = let same : zero ≡ m = omega (arith, le) in ap (λ (k : ℕ). sum_below k f) same
+sum-front m (suc n) f le none =
+    elim (cases_eq m (suc n)) [
+      | inl all ↦ ap (λ (k : ℕ). sum_below k f) (sym all)
+      | inr more ↦ omega (arith, sum-front m n f (omega (arith, le, more)) (λ i from low. none i from (omega (arith, low))), none n (omega (arith, le, more)) (omega arith))
+    ]
+
+-- a column without a stone adds nothing
+pub column-none : (side row black white k : ℕ) → has_bit (bit_or black white) k ≡ false → code_in black white k * weight side (record { col = k; row = row }) ≡ 0
+column-none side row black white k empty =
+    let parts = or_parts _ _ (sym (has_bit-or black white k) ∙ empty) in
+    none-added side row black white k parts.0 parts.1
+
+-- a word has a width, no column from it on, and none before its first one
+module _ (word : ℕ) (some : 0 < word) (fits : word < 2 ^ 64) where
+  pub width-some : 0 < 64 - count_leading_zeros 64 word
+  width-some = omega (arith, (leading_top 64 word some fits).1)
+
+  pub none-high : (k : ℕ) → 64 - count_leading_zeros 64 word ≤ k → has_bit word k ≡ false
+  none-high k high =
+      let top = leading_length 64 word fits in
+      ap (λ (n : ℕ). n == 1) (bit_at_above word top.0 k top.2 (omega (arith, top.1, high)))
+
+  pub none-low : (k : ℕ) → k < count_trailing_zeros 64 word → has_bit word k ≡ false
+  none-low k low = ap (λ (n : ℕ). n == 1) ((bit_at-trailing_zeros w64 word some fits).2 k low)
 
 -- The factor of a column, and that of the column before it. No column of the row is after the last point of the grid.
 module _ (side row col : ℕ) (in_row : row < side) (low : col < side) where

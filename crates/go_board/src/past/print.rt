@@ -89,16 +89,22 @@ fn print_of_row(board: &Board, row: u8) -> u64
     row_print(board.size(), row, black, white)
 }
 
-/// What a row adds to a print. The factor of each column is 31 times the factor of the column after it.
+/// What a row adds to a print. The factor of each column is 31 times the factor of the column after it. Only the columns from the
+/// first stone to the last one are looked at.
 fn row_print(size: Size, row: u8, black: u64, white: u64) -> u64
     requires { row < size }
     ensures { result ≡ row_print size row black white % 2 ^ 64 }
 {
-    let side = usize::from(size.side());
-    let after = size.points() - side * (usize::from(row) + 1);
-    let mut factor = power(after);
     let mut print = mixed(row, black, white);
-    'columns: for col in (0..side).rev() {
+    let stones = black | white;
+    if stones == 0 {
+        return print;
+    }
+    let side = usize::from(size.side());
+    let low = stones.trailing_zeros() as usize;
+    let high = side.min(64 - stones.leading_zeros() as usize);
+    let mut factor = power(size.points() - (usize::from(row) * side + high));
+    'columns: for col in (low..high).rev() {
         print = print.wrapping_add(code_in(black, white, col) * factor);
         factor = 31 * factor % FINGERPRINTS;
     }
