@@ -259,7 +259,7 @@ INPUTS = {
     "stripes": ("columns of 52 set up, and taken away in turn", lambda n: repeated(n, "(;SZ[52]", ";AB[aa:ZZ]AW" + "".join(
         f"[{letter}a:{letter}Z]" for letter in LETTERS[::2]) + ";AE[aa:ZZ]", ")"), FORMS),
     "passes": ("passes, and a setup after each two", lambda n: repeated(n, "(", ";B[];W[];AE[aa]", ")"), FORMS),
-    "script": ("setups of one point on a full board of 25", lambda n: repeated(n // 64, "(;SZ[25]AB[aa:yx]", ";AB[aa]", ")"), FORMS),
+    "script": ("setups of one point on a nearly full board of 25", lambda n: repeated(n // 64, "(;SZ[25]AB[aa:yx]", ";AB[aa]", ")"), FORMS),
     "repeats": ("variations that bring back the colouring of 73,000 turns before", repeats, ["list", "count"]),
     "open": ("variations that play one stone in a labyrinth of side 52, whose corridor is open",
              lambda n: labyrinth(n, False, "(;B[aa])"), ["list", "count"]),

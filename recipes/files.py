@@ -10,7 +10,7 @@ lines of a changed game are written anew.
   files.py lines library
   files.py --form gtp scripts library
 
-Files of deleted lines stay: remove OUT to begin anew. Status 1: a file was
+Files of lines that are gone stay: remove OUT to begin anew. Status 1: a file was
 refused.
 """
 import os
