@@ -1,0 +1,139 @@
+//! Texts that are rare in libraries, and hard.
+
+use crate::chance::Chance;
+use crate::goban::{Goban, PASS, Player};
+use crate::texts::parts::{Lists, Manner, Part, add_parts};
+use crate::texts::{Text, Words};
+use std::alloc::{AllocError, Global};
+
+/// So many games in which nobody lives: captures and kos without end.
+pub(crate) fn make_fights(
+    alloc: Global,
+    side: usize,
+    count: usize,
+    moves: usize,
+    chance: &mut Chance,
+) -> Result<Lists, AllocError> {
+    let mut fights = Lists::new(alloc);
+    let mut goban = Goban::new(side);
+    for _ in 0..count {
+        goban.clear(side);
+        add_fight(&mut fights, &mut goban, moves, chance)?;
+        fights.end()?;
+    }
+    Ok(fights)
+}
+
+/// Adds a fight. Where the simplest ko forbids a move, and before every eighth move, there is a variation: the forbidden move, which
+/// would bring a position back, or else a move on the point of the move before last, which often has a stone.
+fn add_fight(
+    fights: &mut Lists,
+    goban: &mut Goban,
+    moves: usize,
+    chance: &mut Chance,
+) -> Result<(), AllocError> {
+    let mut player = Player::Black;
+    let mut before = PASS;
+    let mut last = PASS;
+    let mut open = 0usize;
+    for i in 0..moves {
+        let near = if chance.once_in(3) { PASS } else { last };
+        let forbidden = goban.forbidden();
+        let point = goban
+            .play_somewhere(player, near, false, chance)
+            .unwrap_or(PASS);
+        if point == PASS && last == PASS {
+            break;
+        }
+        if forbidden != PASS || i % 8 == 7 {
+            let other = if forbidden != PASS { forbidden } else { before };
+            fights.add(Part::Open)?;
+            fights.add_move(player, other)?;
+            fights.add(Part::Close)?;
+            fights.add(Part::Open)?;
+            open = open.saturating_add(1);
+        }
+        fights.add_move(player, point)?;
+        player = player.other();
+        before = last;
+        last = point;
+    }
+    for _ in 0..open {
+        fights.add(Part::Close)?;
+    }
+    Ok(())
+}
+
+/// Adds a fight as a game.
+pub(crate) fn add_fight_game(
+    text: &mut Text,
+    fights: &Lists,
+    words: &Words,
+    side: usize,
+    number: usize,
+    chance: &mut Chance,
+) -> Result<(), AllocError> {
+    let manner = Manner {
+        side,
+        turned: number % 8,
+        timed: false,
+        comments: 512,
+        words: 20,
+    };
+    text.add_root(side)?;
+    add_parts(text, fights.list(number / 8), words, manner, chance)?;
+    text.add(b")\n")
+}
+
+/// Adds a game with so many variations of one move, after the moves of a fight.
+pub(crate) fn add_wide(
+    text: &mut Text,
+    goban: &mut Goban,
+    moves: usize,
+    variations: usize,
+    chance: &mut Chance,
+) -> Result<(), AllocError> {
+    goban.clear(19);
+    text.add_root(19)?;
+    let mut player = Player::Black;
+    let mut last = PASS;
+    for _ in 0..moves {
+        let point = goban
+            .play_somewhere(player, last, true, chance)
+            .unwrap_or(PASS);
+        text.add_move(player, point, 19, 0)?;
+        player = player.other();
+        last = point;
+    }
+    for _ in 0..variations {
+        let point = goban.anywhere(chance);
+        text.add(b"(")?;
+        text.add_move(player, point, 19, 0)?;
+        text.add(b")")?;
+    }
+    text.add(b")\n")
+}
+
+/// Adds a game with a comment of pages at each of so many moves.
+pub(crate) fn add_lecture(
+    text: &mut Text,
+    words: &Words,
+    goban: &mut Goban,
+    moves: usize,
+    chance: &mut Chance,
+) -> Result<(), AllocError> {
+    goban.clear(19);
+    text.add_root(19)?;
+    let mut player = Player::Black;
+    let mut last = PASS;
+    for _ in 0..moves {
+        let point = goban
+            .play_somewhere(player, last, true, chance)
+            .unwrap_or(PASS);
+        text.add_move(player, point, 19, 0)?;
+        words.add_comment(text, 4000, chance)?;
+        player = player.other();
+        last = point;
+    }
+    text.add(b")\n")
+}

@@ -1,0 +1,230 @@
+//! Whole games, and libraries of them.
+
+use crate::chance::Chance;
+use crate::goban::{Goban, PASS, Player};
+use crate::texts::parts::{Lists, Manner, Part, add_parts};
+use crate::texts::{Text, Words};
+use std::alloc::{AllocError, Global};
+
+/// Games, each as the text after its root, once for each way to turn the board.
+#[derive(Drop)]
+pub(crate) struct Games {
+    bodies: Text,
+    /// Where each body ends.
+    ends: Vec<usize>,
+    /// Where the last node of each body begins.
+    lasts: Vec<usize>,
+}
+
+impl Games {
+    /// Eight times so many games on 19 by 19 with up to `moves` moves, at least half of these.
+    pub(crate) fn new(
+        alloc: Global,
+        count: usize,
+        moves: usize,
+        words: &Words,
+        chance: &mut Chance,
+    ) -> Result<Games, AllocError> {
+        let made = make_games(alloc, count, moves, chance)?;
+        let mut games = Games {
+            bodies: Text::new(alloc),
+            ends: Vec::new(alloc),
+            lasts: Vec::new(alloc),
+        };
+        for number in 0..count {
+            for turned in 0..8 {
+                let manner = Manner {
+                    side: 19,
+                    turned,
+                    timed: number % 4 == 0,
+                    comments: 32,
+                    words: 20,
+                };
+                // a game with variations can't go on after them
+                let again = number % 10 != 9 && chance.once_in(50);
+                games.add_body(made.list(number), again, words, manner, chance)?;
+            }
+        }
+        Ok(games)
+    }
+
+    /// Adds a body. If `again` is true, its last two moves are on the same point.
+    fn add_body(
+        &mut self,
+        parts: &[Part],
+        again: bool,
+        words: &Words,
+        manner: Manner,
+        chance: &mut Chance,
+    ) -> Result<(), AllocError> {
+        let last = add_parts(&mut self.bodies, parts, words, manner, chance)?;
+        if again {
+            self.bodies.add(b";B[dd];W[dd]")?;
+        }
+        self.bodies.add(b")\n")?;
+        self.ends.push(self.bodies.len())?;
+        self.lasts.push(last)?;
+        Ok(())
+    }
+
+    /// Where a body begins, where its last node begins, and where it ends.
+    fn span(&self, number: usize) -> (usize, usize, usize) {
+        let start = match self.ends.get(number.wrapping_sub(1)) {
+            Some(start) => *start,
+            None => 0,
+        };
+        match (self.lasts.get(number), self.ends.get(number)) {
+            (Some(last), Some(end)) => (start, *last, *end),
+            (_, _) => (start, start, start),
+        }
+    }
+
+    /// Adds one of the games to a text, with a long header if `full` is true. Returns the place of its last node.
+    pub(crate) fn add_one(
+        &self,
+        text: &mut Text,
+        full: bool,
+        chance: &mut Chance,
+    ) -> Result<usize, AllocError> {
+        let (start, last, end) = self.span(chance.below(self.ends.len()));
+        text.add_root(19)?;
+        if full {
+            add_header(text, chance)?;
+        }
+        let place = text.len().wrapping_add(last).wrapping_sub(start);
+        text.add(self.bodies.part(start, end))?;
+        Ok(place)
+    }
+
+    /// Adds a library of about `size` bytes. Returns the place of a line in its middle, if the line's last node is the last move.
+    pub(crate) fn add_library(
+        &self,
+        text: &mut Text,
+        size: usize,
+        chance: &mut Chance,
+    ) -> Result<usize, AllocError> {
+        let mut middle = 0;
+        for _ in 0..size {
+            if text.len() >= size {
+                break;
+            }
+            let before = text.len();
+            let last = self.add_one(text, true, chance)?;
+            if before < size / 2 {
+                middle = last;
+            }
+        }
+        Ok(middle)
+    }
+}
+
+/// So many games on 19 by 19 with up to `moves` moves, at least half of these. Every tenth has a variation.
+fn make_games(
+    alloc: Global,
+    count: usize,
+    moves: usize,
+    chance: &mut Chance,
+) -> Result<Lists, AllocError> {
+    let mut games = Lists::new(alloc);
+    let mut goban = Goban::new(19);
+    let mut line: Vec<u16> = Vec::new(alloc);
+    for number in 0..count {
+        let length = (moves / 2).saturating_add(chance.below(moves / 2));
+        play_game(&mut goban, &mut line, length, chance)?;
+        let branch = if number % 10 == 9 {
+            chance.below(line.len())
+        } else {
+            line.len()
+        };
+        add_line(&mut games, &line, 0, branch)?;
+        if branch < line.len() {
+            games.add(Part::Open)?;
+            add_line(&mut games, &line, branch, line.len())?;
+            games.add(Part::Close)?;
+            games.add(Part::Open)?;
+            add_variation(&mut games, &mut goban, &line, branch, chance)?;
+            games.add(Part::Close)?;
+        }
+        games.end()?;
+    }
+    Ok(games)
+}
+
+/// Plays a game from an empty board.
+fn play_game(
+    goban: &mut Goban,
+    line: &mut Vec<u16>,
+    length: usize,
+    chance: &mut Chance,
+) -> Result<(), AllocError> {
+    goban.clear(19);
+    line.clear();
+    let mut player = Player::Black;
+    let mut last = PASS;
+    for _ in 0..length {
+        let point = goban
+            .play_somewhere(player, last, true, chance)
+            .unwrap_or(PASS);
+        line.push((point % 4096) as u16)?;
+        player = player.other();
+        last = point;
+    }
+    Ok(())
+}
+
+/// Adds some of the moves of a line.
+fn add_line(games: &mut Lists, line: &[u16], start: usize, end: usize) -> Result<(), AllocError> {
+    for (i, point) in line.iter().enumerate() {
+        if start <= i && i < end {
+            games.add_move(player_at(i), usize::from(*point))?;
+        }
+    }
+    Ok(())
+}
+
+/// Adds moves that follow the first `branch` moves of a line.
+fn add_variation(
+    games: &mut Lists,
+    goban: &mut Goban,
+    line: &[u16],
+    branch: usize,
+    chance: &mut Chance,
+) -> Result<(), AllocError> {
+    goban.clear(19);
+    for (i, point) in line.iter().enumerate() {
+        if i < branch {
+            goban.play(player_at(i), usize::from(*point));
+        }
+    }
+    let mut player = player_at(branch);
+    let mut last = PASS;
+    for _ in 0..chance.below(30).saturating_add(1) {
+        let point = goban
+            .play_somewhere(player, last, true, chance)
+            .unwrap_or(PASS);
+        games.add_move(player, point)?;
+        player = player.other();
+        last = point;
+    }
+    Ok(())
+}
+
+/// The player of a move, by the number of moves before it.
+pub(crate) fn player_at(depth: usize) -> Player {
+    if depth % 2 == 0 {
+        Player::Black
+    } else {
+        Player::White
+    }
+}
+
+/// Adds the rest of a root.
+fn add_header(text: &mut Text, chance: &mut Chance) -> Result<(), AllocError> {
+    text.add(b"CA[UTF-8]KM[6.5]RU[Japanese]\nPB[Player ")?;
+    text.add_number(chance.below(1000))?;
+    text.add(b"]PW[Player ")?;
+    text.add_number(chance.below(1000))?;
+    text.add(b"]BR[5d]WR[4d]DT[2010-06-18]EV[Round ")?;
+    text.add_number(chance.below(1000))?;
+    text.add(b"]RE[B+R]TM[2700]\n")
+}

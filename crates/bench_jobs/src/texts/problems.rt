@@ -1,0 +1,121 @@
+//! Problems: a position that is set up, and short answers to it.
+
+use crate::chance::Chance;
+use crate::goban::{Goban, PASS, Player};
+use crate::texts::games::player_at;
+use crate::texts::parts::{Lists, Manner, Part, add_parts};
+use crate::texts::{Text, Words};
+use std::alloc::{AllocError, Global};
+
+/// So many problems in a corner, with 10 to 40 stones and two to ten answers of one to eight moves.
+pub(crate) fn make_problems(
+    alloc: Global,
+    count: usize,
+    chance: &mut Chance,
+) -> Result<Lists, AllocError> {
+    let mut problems = Lists::new(alloc);
+    let mut goban = Goban::new(9);
+    let mut stones: Vec<u16> = Vec::new(alloc);
+    for _ in 0..count {
+        let most = chance.below(30).saturating_add(10);
+        set_stones(&mut goban, &mut stones, most, chance)?;
+        problems.add(Part::Stones(Player::Black))?;
+        add_stones(&mut problems, &stones, 0)?;
+        problems.add(Part::Stones(Player::White))?;
+        add_stones(&mut problems, &stones, 1)?;
+        problems.add(Part::Asked)?;
+        for _ in 0..chance.below(9).saturating_add(2) {
+            goban.clear(9);
+            for (i, point) in stones.iter().enumerate() {
+                goban.put(player_at(i), usize::from(*point));
+            }
+            add_answer(&mut problems, &mut goban, chance)?;
+        }
+        problems.end()?;
+    }
+    Ok(problems)
+}
+
+/// Puts stones of both players near one another.
+fn set_stones(
+    goban: &mut Goban,
+    stones: &mut Vec<u16>,
+    most: usize,
+    chance: &mut Chance,
+) -> Result<(), AllocError> {
+    goban.clear(9);
+    stones.clear();
+    let mut last = PASS;
+    for i in 0..most {
+        if let Some(point) = goban.play_somewhere(player_at(i), last, true, chance) {
+            stones.push((point % 4096) as u16)?;
+            last = point;
+        }
+    }
+    Ok(())
+}
+
+/// Adds every second stone, from the one with this number on.
+fn add_stones(problems: &mut Lists, stones: &[u16], first: usize) -> Result<(), AllocError> {
+    for (i, point) in stones.iter().enumerate() {
+        if i % 2 == first {
+            problems.add(Part::Stone(*point))?;
+        }
+    }
+    Ok(())
+}
+
+/// Adds an answer.
+fn add_answer(
+    problems: &mut Lists,
+    goban: &mut Goban,
+    chance: &mut Chance,
+) -> Result<(), AllocError> {
+    problems.add(Part::Open)?;
+    let mut player = Player::Black;
+    let mut last = PASS;
+    for _ in 0..chance.below(8).saturating_add(1) {
+        let point = goban
+            .play_somewhere(player, last, true, chance)
+            .unwrap_or(PASS);
+        problems.add_move(player, point)?;
+        player = player.other();
+        last = point;
+    }
+    if chance.once_in(2) {
+        problems.add(Part::Right)?;
+    }
+    problems.add(Part::Close)
+}
+
+/// Adds problems up to about `size` bytes.
+pub(crate) fn add_problems(
+    text: &mut Text,
+    problems: &Lists,
+    words: &Words,
+    size: usize,
+    chance: &mut Chance,
+) -> Result<(), AllocError> {
+    for _ in 0..size {
+        if text.len() >= size {
+            break;
+        }
+        let side = match chance.below(3) {
+            0 => 9,
+            1 => 13,
+            _ => 19,
+        };
+        let manner = Manner {
+            side,
+            turned: chance.below(8),
+            timed: false,
+            comments: 32,
+            words: 8,
+        };
+        let number = chance.below(problems.len());
+        text.add_root(side)?;
+        add_parts(text, problems.list(number), words, manner, chance)?;
+        text.add(b")\n")?;
+    }
+    Ok(())
+}
