@@ -1,12 +1,8 @@
--- The print of a colouring: one number made from what stands on all its points. Its low 14 bits are the fingerprint: a sum in
--- which the code of each point is multiplied by a power of 31. The bits above are mixed from whole rows.
-use Rattle.std.specs.Prelude.{ℕ, zero, suc, ◌+◌, ◌-◌, ◌*◌, ◌/◌, ◌%◌, ◌^◌, Bool, List, map, if◌then◌else◌, bit_xor}
-use Rattle.std.specs.Int.{bit_at}
+-- The print of a colouring: one number made from what stands on all its points. It is a sum of mixes of whole rows.
+use Rattle.std.specs.Prelude.{ℕ, zero, suc, ◌+◌, ◌*◌, ◌/◌, ◌%◌, ◌^◌, Bool, List, map, if◌then◌else◌, bit_xor}
 use Rattle.go_board.specs.declared.stones.Cell.{Cell}
 use Rattle.go_board.specs.declared.stones.Cell.TheVariants.{Black, White}
-use Rattle.go_board.specs.declared.points.Point.{Point}
 use Rattle.go_board.specs.Colour.{same_cell}
-use Rattle.go_board.specs.Point.{index_of}
 use Rattle.go_board.specs.Grid.{Grid, cell_at}
 use Rattle.go_board.specs.Past.{Held}
 
@@ -23,33 +19,20 @@ word_below n test = sum_below n (λ col. if test col then 2 ^ col else 0)
 abbrev pub row_word : Grid → Cell → ℕ → ℕ
 row_word grid cell row = word_below grid.side (λ col. same_cell (cell_at grid (record { col = col; row = row })) cell)
 
--- the code of a column of a row: empty 0, black 1, white 2
-abbrev pub code_in : ℕ → ℕ → ℕ → ℕ
-code_in black white col = bit_at black col + 2 * bit_at white col
-
--- the factor of a point's code in the fingerprint: 31 to the power of the number of points after it
-abbrev pub weight : ℕ → Point → ℕ
-weight side point = 31 ^ (side * side - 1 - index_of side point) % 16384
-
 -- a 64-bit number whose low half depends on all bits of another one
 abbrev pub folded : ℕ → ℕ
 folded word = bit_xor word (word / 2 ^ 32)
 
--- a number in the bits above the fingerprint; it depends on all stones of a row, and isn't linear in them
+-- a 64-bit number that depends on all stones of a row, and isn't linear in them
 unfoldable pub mixed : ℕ → ℕ → ℕ → ℕ
 mixed row black white =
     let first : ℕ = (row * 2 ^ 52 % 2 ^ 64 + black) % 2 ^ 64 in
     let second : ℕ = (folded (first * 15485907386658061715 % 2 ^ 64) + white) % 2 ^ 64 in
-    folded (second * 11400714819323198485 % 2 ^ 64) * 2 ^ 14 % 2 ^ 64
-
--- what a row adds to a print
-abbrev pub row_print : ℕ → ℕ → ℕ → ℕ → ℕ
-row_print side row black white =
-    mixed row black white + sum_below side (λ col. code_in black white col * weight side (record { col = col; row = row }))
+    folded (second * 11400714819323198485 % 2 ^ 64)
 
 -- what a row of a grid adds to the print of the grid
 abbrev pub print_in : Grid → ℕ → ℕ
-print_in grid row = row_print grid.side row (row_word grid Black row) (row_word grid White row)
+print_in grid row = mixed row (row_word grid Black row) (row_word grid White row)
 
 -- the print, a 64-bit number
 abbrev pub print_of : Grid → ℕ

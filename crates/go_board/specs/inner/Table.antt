@@ -1,10 +1,10 @@
 -- A list of prints, oldest first, in which those with the same key are linked.
 -- A number in a link or a head is an index plus 1; 0 means none.
-use Rattle.std.specs.Prelude.{◌≡◌, ◌≢◌, ℕ, ◌-◌, ◌/◌, ◌^◌, ◌<◌, ◌≤◌, Option, Some, None, List, length, slice_index, bit_and}
+use Rattle.std.specs.Prelude.{◌≡◌, ◌≢◌, ℕ, ◌-◌, ◌<◌, ◌≤◌, Option, Some, None, List, length, slice_index, bit_and}
 
--- a print's key in a table with this many heads, made from the bits above the fingerprint
+-- a print's key in a table with this many heads: the low bits
 abbrev pub key_of : ℕ → ℕ → ℕ
-key_of size print = bit_and (print / 2 ^ 14) (size - 1)
+key_of size print = bit_and print (size - 1)
 
 -- the number of the newest of the first `count` prints that has the key; 0 if none has it
 pub record IsNewest (size : ℕ) (prints : List ℕ) (count key number : ℕ) : Type 0 where

@@ -4,7 +4,6 @@ ghost use Rattle.std.specs.Prelude.{◌≡◌, ℕ, ◌+◌, ◌-◌, ◌<◌, �
 ghost use Rattle.go_board.specs.inner.Table.{key_of, IsTable, IsLastOf};
 
 use crate::fault::MemoryFault;
-use crate::past::print::FINGERPRINT_BITS;
 use std::alloc::Global;
 use std::marker::Model;
 
@@ -155,15 +154,13 @@ impl Table {
     }
 }
 
-/// The key of a print in a table with this many heads. The key leaves the fingerprint out. The fingerprint is
-/// linear in the cells, so someone could choose moves after which all fingerprints are equal. If it were the key, each look-up
-/// would then go over all prints.
+/// The key of a print in a table with this many heads.
 fn key_of(heads: usize, print: u64) -> usize
     requires { 0 < heads }
     ensures value { result ≡ key_of heads print }
     ensures within { result < heads }
 {
-    (print >> FINGERPRINT_BITS) as usize & (heads - 1)
+    print as usize & (heads - 1)
 }
 
 /// Heads for keys that no print has.

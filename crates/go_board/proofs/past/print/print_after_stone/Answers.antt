@@ -1,11 +1,11 @@
-use Rattle.std.proofs.Common.{◌≡◌, ◌+◌, ◌*◌, ◌-◌, ◌%◌, ◌^◌, ◌<◌, false, ap, ◌∙◌, subst, sym}
+use Rattle.std.proofs.Common.{◌≡◌, ◌+◌, ◌-◌, ◌%◌, ◌^◌, ◌<◌, false, ap, ◌∙◌, subst, sym}
 use Rattle.go_board.specs.declared.stones.Cell.{Cell}
 use Rattle.go_board.specs.declared.stones.Cell.TheVariants.{Black, White}
 use Rattle.go_board.specs.Colour.{same_cell, stone_of}
 use Rattle.go_board.specs.Grid.{cell_at}
-use Rattle.go_board.specs.inner.Print.{code_in, mixed, row_word, weight}
+use Rattle.go_board.specs.inner.Print.{mixed, row_word}
 use Rattle.go_board.specs.inner.Rows.{has_bit}
-use Rattle.go_board.proofs.PrintLemmas.{is_black, is_white, word-is, word-after, row-more, print-more}
+use Rattle.go_board.proofs.PrintLemmas.{is_black, is_white, word-is, word-after, print-more}
 use Rattle.go_board.proofs.past.print.print_after_stone.Goals as goal
 
 pub returns : goal.returns
@@ -30,9 +30,6 @@ returns c =
     let white_is : row_word g White p.row ≡ white.result = sym (word-is (λ k. same_cell (cell_at g (record { col = k; row = p.row })) White) g.side white.result white.ensures.within white.ensures.off) in
     let new_black_is = sym (word-after g p stone Black black.result new_black.result c.eq.result on all no_black black.ensures.within black.ensures.off black_there black_elsewhere (c.eq.ensures ∙ is_black c.args.colour)) in
     let new_white_is = sym (word-after g p stone White white.result new_white.result c.eq-2.result on all no_white white.ensures.within white.ensures.off white_there white_elsewhere (c.eq-2.ensures ∙ is_white c.args.colour)) in
-    let more = row-more g.side p.row black.result white.result new_black.result new_white.result p.col on.0 no_black no_white black_elsewhere white_elsewhere in
-    let added : c.code_in-code.result * c.weight.result ≡ code_in new_black.result new_white.result p.col * weight g.side p = ap (λ n. n * c.weight.result) (c.code_in-code.ensures.value ∙ ap (code_in new_black.result new_white.result) at) ∙ ap (λ n. code_in new_black.result new_white.result p.col * n) (c.weight.ensures.value ∙ ap (λ n. weight n p) c.size.ensures) in
-    ap (λ n. (((c.args.print + n) % 2 ^ 64 + c.mixed.result) % 2 ^ 64 + (2 ^ 64 - c.mixed-2.result)) % 2 ^ 64) added
-    ∙ ap (λ n. (((c.args.print + code_in new_black.result new_white.result p.col * weight g.side p) % 2 ^ 64 + n) % 2 ^ 64 + (2 ^ 64 - c.mixed-2.result)) % 2 ^ 64) c.mixed.ensures
-    ∙ ap (λ n. (((c.args.print + code_in new_black.result new_white.result p.col * weight g.side p) % 2 ^ 64 + mixed p.row new_black.result new_white.result) % 2 ^ 64 + (2 ^ 64 - n)) % 2 ^ 64) c.mixed-2.ensures
-    ∙ print-more g p stone black.result white.result new_black.result new_white.result on all black_is white_is new_black_is new_white_is more c.args.print c.requires.print (subst (λ n. n < 2 ^ 64) c.mixed-2.ensures c.mixed-2.type_inv)
+    ap (λ n. ((c.args.print + n) % 2 ^ 64 + (2 ^ 64 - c.mixed-2.result)) % 2 ^ 64) c.mixed.ensures
+    ∙ ap (λ n. ((c.args.print + mixed p.row new_black.result new_white.result) % 2 ^ 64 + (2 ^ 64 - n)) % 2 ^ 64) c.mixed-2.ensures
+    ∙ print-more g p stone black.result white.result new_black.result new_white.result on all black_is white_is new_black_is new_white_is c.args.print c.requires.print (subst (λ n. n < 2 ^ 64) c.mixed-2.ensures c.mixed-2.type_inv)
