@@ -16,7 +16,7 @@ use std::alloc::Global;
 use std::marker::Model;
 
 /// The number of earlier states that a new referee has room for.
-const FIRST_STATES: usize = 64;
+const FIRST_STATES: usize = 256;
 
 /// A referee of one game. It is seen as the list of the states that the game was in: the present one, and before it one for each
 /// accepted call that wasn't taken back. Such a call is a setup, a turn or a stay. A refused call changes nothing.

@@ -22,7 +22,7 @@ use std::alloc::Global;
 use std::marker::Model;
 
 /// The number of older colourings that a new past has room for.
-const FIRST_OLDER: usize = 64;
+const FIRST_OLDER: usize = 256;
 
 /// The colourings of a past, numbered from 0 in the order in which they were added.
 #[derive(Drop)]

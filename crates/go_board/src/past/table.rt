@@ -8,10 +8,10 @@ use std::alloc::Global;
 use std::marker::Model;
 
 /// The number of heads in the table of a new past.
-const FIRST_HEADS: usize = 1024;
+const FIRST_HEADS: usize = 64;
 
 /// The number of prints that a new past has room for.
-const FIRST_PRINTS: usize = 64;
+const FIRST_PRINTS: usize = 256;
 
 /// How many heads can be emptied together in the time that emptying the head of one print takes.
 const HEADS_AT_ONCE: usize = 64;
