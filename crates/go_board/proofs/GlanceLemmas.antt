@@ -151,6 +151,9 @@ module _ (g : Grid) (k : Colour) (p : Point) (own others : List ℕ) (side : g.s
             ∙ neither_stone k (cell_at g z) (sym (is_own.on z on_z) ∙ found.3) (sym (is_others.on z on_z) ∙ found.4),
       )
 
+  pub no_columns_free : (i : ℕ) → AreFree i 0
+  no_columns_free i = λ col is. absurd (false≢true (sym (has_bit-zero col) ∙ is))
+
   pub free_elsewhere : (i : ℕ) (row : RowStones) → IsRowAt own others p.row i row → i ≢ 2 → AreFree i row.free
   free_elsewhere i row is other = free_point i row is (λ z at _ same. other (let row = ap (λ (x : Point). x.row) same in omega (arith, row, at.1)))
 

@@ -28,7 +28,9 @@ impl Board {
         ensures { IsTrue result → TakesOff self.now colour point [] }
     {
         self.has_all_cells();
-        leaves_all_alive(self.rows_of(colour), self.rows_of(colour.opponent()), point)
+        let own = self.rows_of(colour);
+        let others = self.rows_of(colour.opponent());
+        stands_apart(own, others, point) || leaves_all_alive(own, others, point)
     }
 }
 
@@ -47,6 +49,50 @@ pub(crate) struct RowStones {
 struct Look {
     alive: u64,
     shut: u64,
+}
+
+/// The points in some columns of a row that are free, and those with a stone of the opponent.
+#[derive(Clone, Copy)]
+struct Beside {
+    free: u64,
+    others: u64,
+}
+
+/// Whether a player's stone on a point has an empty point and no stone of the opponent beside it. This is quicker to see than what
+/// `leaves_all_alive` looks at, and about half of all stones stand like that.
+fn stands_apart(own: &[u64], others: &[u64], point: Point) -> bool
+    requires same { length others.now ≡ length own.now }
+    requires few { length own.now < 64 }
+    requires on_board { IsOn (length own.now) point }
+    ensures { (grid : Grid) (colour : Colour) → grid.side ≡ length own.now
+        → AreRowsOf grid.side (λ p. same_cell (cell_at grid p) (stone_of colour)) own.now
+        → AreRowsOf grid.side (λ p. same_cell (cell_at grid p) (stone_of (opponent colour))) others.now
+        → IsTrue result → AllLive (with_cell grid point (stone_of colour)) colour point }
+{
+    let col = usize::from(point.col);
+    let middle = usize::from(point.row);
+    let above = row_at(own, others, middle, 1);
+    let mut here = row_at(own, others, middle, 2);
+    here.free = without_column(here.free, col);
+    let below = row_at(own, others, middle, 3);
+    let stone = with_column(0, col, true);
+    let up = beside_in(stone, above);
+    let along = beside_in(columns_beside(0, stone, 0), here);
+    let down = beside_in(stone, below);
+    let alive = up.free | along.free | down.free;
+    let touched = up.others | along.others | down.others;
+    alive != 0 && touched == 0
+}
+
+/// The points in some columns of a row that are free, and those with a stone of the opponent.
+fn beside_in(columns: u64, row: RowStones) -> Beside
+    ensures free { (col : ℕ) → IsTrue (has_bit result.free col) → IsTrue (has_bit columns col) × IsTrue (has_bit row.free col) }
+    ensures others { (col : ℕ) → has_bit result.others col ≡ false → IsTrue (has_bit columns col) → has_bit row.others col ≡ false }
+{
+    Beside {
+        free: columns & row.free,
+        others: columns & row.others,
+    }
 }
 
 /// Whether a glance at the rows around a point shows two things about a player's stone there. The stone has a liberty, by itself or
