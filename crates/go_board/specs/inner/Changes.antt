@@ -8,8 +8,10 @@ use Rattle.go_board.specs.declared.past.changes.TheConstants.{FULL}
 use Rattle.go_board.specs.Colour.{same_cell}
 use Rattle.go_board.specs.Point.{IsOn}
 use Rattle.go_board.specs.Grid.{Grid, cell_at, grid_of}
-use Rattle.go_board.specs.Clearing.{has_unreaching}
+use Rattle.go_board.specs.Clearing.{has_unreaching, play}
 use Rattle.go_board.specs.Past.{Held}
+use Rattle.go_board.specs.declared.stones.Colour.{Colour}
+use Rattle.go_board.specs.inner.Groups.{TakesOff}
 use Rattle.go_board.specs.inner.Rows.{has_bit}
 
 -- the first of these colourings
@@ -67,6 +69,12 @@ pub record KeepRows (grid : Grid) (rows : ℕ → Bool) (old new : List Change) 
 pub record CoverChange (old new : Grid) (all : Bool) (rows : ℕ → Bool) : Type 0 where
   pub same : (point : Point) → IsOn old.side point → IsFalse (rows point.row) → cell_at new point ≡ cell_at old point
   pub whole : IsTrue all → (row : ℕ) → row < old.side → IsTrue (rows row)
+
+-- the new changes are the old ones and some rows of the grid, among them all rows that a stone changes, and if `all`, all rows
+pub record KeepPlayed (grid : Grid) (point : Point) (taken : List ℕ) (all : Bool) (old new : List Change) : Type 0 where
+  pub rows : ℕ → Bool
+  pub kept : KeepRows grid rows old new
+  pub cover : (colour : Colour) → TakesOff grid colour point taken → CoverChange grid (play grid colour point) all rows
 
 -- the step after this many others keeps all rows of the colouring before it
 abbrev pub is_full : ℕ → Bool

@@ -1,10 +1,10 @@
 //! Past colourings. The newest is kept whole. An older one is kept as the rows that lead back to it.
 
-ghost use Rattle.std.specs.Prelude.{◌≡◌, ◌≢◌, ◌<◌, ◌≤◌, ℕ, IsTrue, OnOk, OnErr, length, slice_index};
+ghost use Rattle.std.specs.Prelude.{◌≡◌, ◌≢◌, ◌==◌, ◌<◌, ◌≤◌, ℕ, IsTrue, OnOk, OnErr, length, slice_index};
 ghost use Rattle.go_board.specs.declared.stones.Colour.{Colour};
 ghost use Rattle.go_board.specs.Point.{IsOn};
 ghost use Rattle.go_board.specs.Clearing.{play};
-ghost use Rattle.go_board.specs.inner.Changes.{after_changes, with_change, AreOn, IsChangeOn, KeepRows, CoverChange, is_full};
+ghost use Rattle.go_board.specs.inner.Changes.{after_changes, with_change, AreOn, IsChangeOn, KeepRows, KeepPlayed, CoverChange, is_full};
 ghost use Rattle.go_board.specs.inner.Groups.{TakesOff};
 ghost use Rattle.go_board.specs.inner.Rows.{has_bit};
 
@@ -89,6 +89,45 @@ pub(crate) fn keep_rows(
     Ok(())
 }
 
+/// Adds one row of a board. If memory is refused, none is added.
+fn keep_row(board: &Board, row: u8, changes: &mut Vec<Change>) -> Result<(), MemoryFault>
+    requires { row < board.now.side }
+    ensures ok { OnOk result (KeepRows board.now (λ r. r == row) changes.old.items changes.new.items) }
+    ensures err { OnErr result (changes.new.items ≡ changes.old.items) }
+{
+    changes.push(Change {
+        row,
+        black: board.columns_of(row, Colour::Black),
+        white: board.columns_of(row, Colour::White),
+    })?;
+    Ok(())
+}
+
+/// Adds the rows of a board that a stone changes; all rows if `all` is true. `taken` is what the stone takes off. If memory is
+/// refused, none is added.
+#[inline(always)]
+pub(crate) fn keep_played(
+    board: &Board,
+    point: Point,
+    taken: &[u64],
+    all: bool,
+    changes: &mut Vec<Change>,
+) -> Result<(), MemoryFault>
+    requires on_board { IsOn board.now.side point }
+    requires few { length taken.now ≤ board.now.side }
+    ensures ok { OnOk result (KeepPlayed board.now point taken.now all changes.old.items changes.new.items) }
+    ensures err { OnErr result (changes.new.items ≡ changes.old.items) }
+{
+    // most stones change their own row alone
+    if taken.is_empty() && !all {
+        keep_row(board, point.row, changes)?;
+        return Ok(());
+    }
+    let rows = rows_played(board, point, taken, all);
+    keep_rows(board, rows, changes)?;
+    Ok(())
+}
+
 /// The rows in which two boards differ; all rows if `all` is true.
 pub(crate) fn rows_apart(old: &Board, new: &Board, all: bool) -> u64
     requires { new.now.side ≡ old.now.side }
@@ -105,7 +144,7 @@ pub(crate) fn rows_apart(old: &Board, new: &Board, all: bool) -> u64
 }
 
 /// The rows that a stone changes; all rows if `all` is true. `taken` is what the stone takes off.
-pub(crate) fn rows_played(old: &Board, point: Point, taken: &[u64], all: bool) -> u64
+fn rows_played(old: &Board, point: Point, taken: &[u64], all: bool) -> u64
     requires on_board { IsOn old.now.side point }
     requires few { length taken.now ≤ old.now.side }
     ensures within { (row : ℕ) → IsTrue (has_bit result row) → row < old.now.side }

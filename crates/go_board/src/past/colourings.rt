@@ -14,7 +14,7 @@ ghost use Rattle.go_board.specs.declared.points.Point.{Point};
 use crate::board::Board;
 use crate::fault::MemoryFault;
 use crate::past::changes::{
-    Change, FULL, Older, is_full, keep_rows, rows_apart, rows_played, take_back,
+    Change, FULL, Older, is_full, keep_played, keep_rows, rows_apart, take_back,
 };
 use crate::points::Point;
 use crate::stones::Colour;
@@ -166,8 +166,7 @@ impl Colourings {
             settled: self.newest.is_settled(),
         };
         let full = is_full(self.older.len());
-        let rows = rows_played(&self.newest, point, taken, full);
-        keep_rows(&self.newest, rows, &mut self.changes)?;
+        keep_played(&self.newest, point, taken, full, &mut self.changes)?;
         self.newest.put(colour, point, taken);
         self.older.push(kept).unwrap();
         self.older_in_stretch += 1;
