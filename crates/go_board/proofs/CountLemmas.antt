@@ -41,7 +41,7 @@ ones_more n c =
     ∙ omega arith
 
 -- a word whose bits are all below k
-below_from_bits : (n k : ℕ) → ((c : ℕ) → has_bit n c ≡ true → c < k) → n % 2 ^ k ≡ n
+pub below_from_bits : (n k : ℕ) → ((c : ℕ) → has_bit n c ≡ true → c < k) → n % 2 ^ k ≡ n
 below_from_bits n k each =
     same_from_bits (n % 2 ^ k) n
     (λ i.

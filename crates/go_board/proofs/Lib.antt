@@ -16,9 +16,11 @@ pub mod FillLemmas
 pub mod LinkedLemmas
 pub mod StoneGroupLemmas
 pub mod RegionLemmas
+pub mod HalvesLemmas
 pub mod BesideLemmas
 pub mod LibertyLemmas
 pub mod CountLemmas
+pub mod AreaHalvesLemmas
 pub mod NeighbourLemmas
 pub mod FloodLemmas
 pub mod SweepLemmas

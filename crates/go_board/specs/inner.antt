@@ -3,6 +3,7 @@ pub mod Rows
 pub mod Fill
 pub mod Linked
 pub mod Regions
+pub mod Halves
 pub mod Glance
 pub mod Search
 pub mod Flood

@@ -1,6 +1,7 @@
 //! The board: reading and setting points, moves and the score (Tromp-Taylor).
 
 mod areas;
+mod both_areas;
 pub(crate) mod capture;
 mod fill;
 mod flood;
@@ -10,6 +11,7 @@ pub(crate) mod regions;
 mod search;
 pub(crate) mod stone_rows;
 
+use crate::board::both_areas::HALF;
 use crate::board::regions::{count_apart, no_rows, with_column};
 use crate::board::stone_rows::{cell_in, with_columns};
 use crate::points::Point;
@@ -223,6 +225,9 @@ impl Board {
         ensures black { result.0 ≡ score_of self.now Black }
         ensures white { result.1 ≡ score_of self.now White }
     {
+        if self.size.side() < HALF {
+            return self.score_in_halves();
+        }
         let side = usize::from(self.size.side());
         let (mut black_words, mut white_words) = (no_rows(), no_rows());
         let black = &mut black_words[..side];
