@@ -14,7 +14,7 @@ ghost use Rattle.go_board.specs.inner.Rows.{has_bit, is_set, IsInOrBeside};
 
 use crate::board::Board;
 use crate::board::group::columns_beside;
-use crate::board::regions::{other_columns, with_column};
+use crate::board::regions::{all_columns, columns_left, with_column};
 use crate::board::stone_rows::without_column;
 use crate::points::Point;
 use crate::stones::Colour;
@@ -71,10 +71,11 @@ fn stands_apart(own: &[u64], others: &[u64], point: Point) -> bool
 {
     let col = usize::from(point.col);
     let middle = usize::from(point.row);
-    let above = row_at(own, others, middle, 1);
-    let mut here = row_at(own, others, middle, 2);
+    let all = all_columns(own.len());
+    let above = row_at(own, others, all, middle, 1);
+    let mut here = row_at(own, others, all, middle, 2);
     here.free = without_column(here.free, col);
-    let below = row_at(own, others, middle, 3);
+    let below = row_at(own, others, all, middle, 3);
     let stone = with_column(0, col, true);
     let up = beside_in(stone, above);
     let along = beside_in(columns_beside(0, stone, 0), here);
@@ -108,12 +109,13 @@ fn leaves_all_alive(own: &[u64], others: &[u64], point: Point) -> bool
 {
     let col = usize::from(point.col);
     let middle = usize::from(point.row);
-    let first = row_at(own, others, middle, 0);
-    let above = row_at(own, others, middle, 1);
-    let mut here = row_at(own, others, middle, 2);
+    let all = all_columns(own.len());
+    let first = row_at(own, others, all, middle, 0);
+    let above = row_at(own, others, all, middle, 1);
+    let mut here = row_at(own, others, all, middle, 2);
     here.free = without_column(here.free, col);
-    let below = row_at(own, others, middle, 3);
-    let last = row_at(own, others, middle, 4);
+    let below = row_at(own, others, all, middle, 3);
+    let last = row_at(own, others, all, middle, 4);
     let stone = with_column(0, col, true);
     let up = look_at_row(stone, first.free, above, here.free);
     let along = look_at_row(columns_beside(0, stone, 0), above.free, here, below.free);
@@ -124,9 +126,12 @@ fn leaves_all_alive(own: &[u64], others: &[u64], point: Point) -> bool
 }
 
 /// What stands on a row near the row `middle`. `i` is 0 for the second row above it, and 2 for `middle` itself.
-pub(crate) fn row_at(own: &[u64], others: &[u64], middle: usize, i: usize) -> RowStones
+/// `all` has all columns.
+pub(crate) fn row_at(own: &[u64], others: &[u64], all: u64, middle: usize, i: usize) -> RowStones
     requires same { length others.now ≡ length own.now }
     requires few { length own.now < 64 }
+    requires within { (col : ℕ) → col < length own.now → IsTrue (has_bit all col) }
+    requires off { (col : ℕ) → IsTrue (has_bit all col) → col < length own.now }
     requires middle { middle < length own.now }
     requires near { i ≤ 4 }
     ensures is { IsRowAt own.now others.now middle i result }
@@ -138,7 +143,7 @@ pub(crate) fn row_at(own: &[u64], others: &[u64], middle: usize, i: usize) -> Ro
         return RowStones {
             own: own[row],
             others: others[row],
-            free: other_columns(own[row] | others[row], own.len()),
+            free: columns_left(all, own[row] | others[row]),
         };
     }
     RowStones {

@@ -8,7 +8,7 @@ ghost use Rattle.go_board.specs.inner.Linked.{HasLiberty, IsLiberty, IsShutIn};
 
 use crate::board::fill::{grow_lowest, with_rows_lacking};
 use crate::board::glance::row_at;
-use crate::board::regions::with_column;
+use crate::board::regions::{all_columns, with_column};
 use crate::points::Point;
 
 /// Whether the group of the stone on `from` has a liberty: an empty point beside it. `own` has the stones of its colour, `others`
@@ -49,9 +49,10 @@ pub(crate) fn columns_with_liberty(own: &[u64], others: &[u64], row: usize) -> u
     ensures to { (stone : Point) → stone.row ≡ row → stone.col < 64 → HasLiberty own.now others.now stone
         → IsTrue (has_bit result stone.col) }
 {
-    let above = row_at(own, others, row, 1);
-    let here = row_at(own, others, row, 2);
-    let below = row_at(own, others, row, 3);
+    let all = all_columns(own.len());
+    let above = row_at(own, others, all, row, 1);
+    let here = row_at(own, others, all, row, 2);
+    let below = row_at(own, others, all, row, 3);
     columns_beside(above.free, here.free, below.free)
 }
 

@@ -1,6 +1,6 @@
 //! Sets of a board's points by what stands on them, as rows of words. Filling these shows what reaches what.
 
-ghost use Rattle.std.specs.Prelude.{◌≡◌, ◌≢◌, ◌↔◌, false, ℕ, ◌<◌, ◌≤◌, ◌||◌, IsTrue, not, length, replicate};
+ghost use Rattle.std.specs.Prelude.{◌≡◌, ◌≢◌, ◌↔◌, false, ℕ, ◌<◌, ◌≤◌, ◌||◌, ◌&&◌, IsTrue, not, length, replicate};
 ghost use Rattle.go_board.specs.declared.points.Point.{Point};
 ghost use Rattle.go_board.specs.declared.stones.Cell.TheVariants.{Empty};
 ghost use Rattle.go_board.specs.Point.{IsOn};
@@ -113,6 +113,23 @@ pub(crate) fn other_columns(word: u64, side: usize) -> u64
     ensures off { (col : ℕ) → IsTrue (has_bit result col) → col < side }
 {
     ((1 << side) - 1) & !word
+}
+
+/// All columns of a row that has `side` columns.
+pub(crate) fn all_columns(side: usize) -> u64
+    requires { side < 64 }
+    ensures within { (col : ℕ) → col < side → IsTrue (has_bit result col) }
+    ensures off { (col : ℕ) → IsTrue (has_bit result col) → col < side }
+{
+    other_columns(0, side)
+}
+
+/// The columns of `all` that aren't in `word`.
+pub(crate) fn columns_left(all: u64, word: u64) -> u64
+    ensures within { (col : ℕ) → col < 64 → has_bit result col ≡ (has_bit all col && not (has_bit word col)) }
+    ensures off { (col : ℕ) → IsTrue (has_bit result col) → IsTrue (has_bit all col) }
+{
+    all & !word
 }
 
 /// The word, with the bit of a column set if `set` is true.

@@ -1,0 +1,6 @@
+use Rattle.std.proofs.Common.{not, ap, ◌∙◌}
+use Rattle.go_board.proofs.WordLemmas.{has_bit-zero}
+use Rattle.go_board.proofs.board.regions.all_columns.Goals as goal
+
+pub returns-clause-within : goal.returns-clause-within
+returns-clause-within c = λ col low. c.other_columns.ensures.within col low ∙ ap not (has_bit-zero col)
