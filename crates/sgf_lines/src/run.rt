@@ -4,7 +4,7 @@ ghost use Rattle.std.specs.Prelude.{◌≡◌, ◌<◌, ◌≤◌, ◌+◌, ℕ,
 ghost use Rattle.sgf_tree.specs.declared.fault.TheConstants.{MAX_LENGTH};
 ghost use Rattle.sgf_tree.specs.Spelling.{Spells};
 ghost use Rattle.sgf_tree.specs.Tree.{node_count};
-ghost use Rattle.sgf_lines.specs.Ends.{HasDelivered};
+ghost use Rattle.sgf_lines.specs.Ends.{HasDelivered, SourceState};
 ghost use Rattle.sgf_lines.specs.Answer.{IsRun, read_failures, write_failures};
 ghost use Rattle.sgf_lines.specs.Lines.{lines};
 ghost use Rattle.sgf_lines.specs.Record.{record_of};
@@ -13,7 +13,7 @@ ghost use Rattle.sgf_lines.specs.declared.going_on.Before.TheVariants.{Held};
 ghost use Rattle.sgf_lines.specs.inner.Following.{line_before, nodes_before};
 ghost use Rattle.sgf_lines.specs.inner.Keeping.{Holds, HoldsBy, IsFresh, KeepsBy, PlaysLine, PlaysUpTo, fresh_plays, kept_in, record_by, record_in};
 ghost use Rattle.sgf_lines.specs.inner.Views.{built_text};
-ghost use Rattle.sgf_lines.specs.inner.Running.{HasRecord, IsReading, IsStart, PutsAll, WritesLines};
+ghost use Rattle.sgf_lines.specs.inner.Running.{AnswersSome, HasRead, HasRecord, IsReading, IsStart, PutsAll, WritesLines};
 
 use crate::cursor::Cursor;
 use crate::ends::sink::{Sink, SinkFault, put_all};
@@ -33,7 +33,10 @@ use crate::seek::SeekFault;
 use sgf_tree::{Collection, MAX_LENGTH, MemoryFault, read};
 use std::alloc::Global;
 
-/// The number of bytes that a source is asked for at once.
+/// The number of bytes that a source is asked for at once, until it gives as many.
+const SMALL_CHUNK: usize = 4_096;
+
+/// The number of bytes that it is asked for at once after that.
 const CHUNK: usize = 65_536;
 
 /// Reads a source to its end, and writes the records of the lines of the collection that
@@ -109,7 +112,8 @@ pub fn split_counted<S: Source, T: Sink>(
     result
 }
 
-/// Appends all that a source gives to an empty text.
+/// Appends all that a source gives to an empty text. Most games fit in the small buffer, and setting the large one to zeros takes longer
+/// than reading such a game.
 pub(crate) fn read_all<S: Source>(source: &mut S, text: &mut Vec<u8>) -> Result<(), RunFault>
     requires countable { (S.state source.old).failures < u64.MAX }
     requires empty { text.old.items ≡ [] }
@@ -117,19 +121,62 @@ pub(crate) fn read_all<S: Source>(source: &mut S, text: &mut Vec<u8>) -> Result<
     ensures failures { (S.state source.new).failures
         ≡ (S.state source.old).failures + read_failures result }
 {
+    let mut chunk = [0u8; SMALL_CHUNK];
+    'read: loop {
+        match read_some(source, &mut chunk, text) {
+            Ok(0) => return Ok(()),
+            Ok(SMALL_CHUNK) => return read_rest(source, text),
+            Ok(_) => {}
+            Err(fault) => return Err(fault),
+        }
+    }
+}
+
+/// Appends all that a source still gives. The large buffer is this function's own, so it is set to zeros only for a text that needs it.
+#[inline(never)]
+fn read_rest<S: Source>(source: &mut S, text: &mut Vec<u8>) -> Result<(), RunFault>
+    requires countable { (S.state source.old).failures < u64.MAX }
+    requires short { length text.old.items ≤ MAX_LENGTH }
+    ensures answer { (start : SourceState) → HasRead start (S.state source.old) text.old.items
+        → IsReading start (S.state source.new) text.new.items result }
+    ensures failures { (S.state source.new).failures
+        ≡ (S.state source.old).failures + read_failures result }
+{
     let mut chunk = [0u8; CHUNK];
     'read: loop {
-        let Ok(count) = source.get(&mut chunk) else {
-            return Err(RunFault::Read);
-        };
-        if count == 0 {
-            return Ok(());
+        match read_some(source, &mut chunk, text) {
+            Ok(0) => return Ok(()),
+            Ok(_) => {}
+            Err(fault) => return Err(fault),
         }
-        if MAX_LENGTH - text.len() < count {
-            return Err(RunFault::TooLong);
-        }
-        text.extend_from_slice(&chunk[..count])?;
     }
+}
+
+/// Asks a source once, and appends what it gives. Returns the number of these bytes; it is 0 at the end of the source, and only there.
+fn read_some<S: Source>(
+    source: &mut S,
+    chunk: &mut [u8],
+    text: &mut Vec<u8>,
+) -> Result<usize, RunFault>
+    requires room { 0 < length chunk.old }
+    requires few { length chunk.old ≤ 65536 }
+    requires countable { (S.state source.old).failures < u64.MAX }
+    requires short { length text.old.items ≤ MAX_LENGTH }
+    ensures answer { (start : SourceState) → HasRead start (S.state source.old) text.old.items
+        → AnswersSome start (S.state source.new) text.new.items result }
+    ensures grows { IfOk result (λ count. length text.new.items ≡ length text.old.items + count) }
+    ensures short { IfOk result (λ count. length text.new.items ≤ MAX_LENGTH) }
+    ensures failures { (S.state source.new).failures
+        ≡ (S.state source.old).failures + read_failures result }
+{
+    let Ok(count) = source.get(chunk) else {
+        return Err(RunFault::Read);
+    };
+    if MAX_LENGTH - text.len() < count {
+        return Err(RunFault::TooLong);
+    }
+    text.extend_from_slice(&chunk[..count])?;
+    Ok(count)
 }
 
 /// A cursor after the line with the place that is asked for; before the first line if no place is asked for.

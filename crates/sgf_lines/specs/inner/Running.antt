@@ -1,5 +1,5 @@
 -- What the parts of a run do.
-use Rattle.std.specs.Prelude.{◌≡◌, ℕ, ◌<◌, ◌≤◌, ◌+◌, List, length, drop, take, Option, Some, Result, Ok, Err, slice_get}
+use Rattle.std.specs.Prelude.{◌≡◌, ℕ, ◌<◌, ◌≤◌, ◌+◌, List, length, drop, take, Option, Some, Result, Ok, Err, slice_get, ⊤}
 use Rattle.std.specs.Io.KnownBytes.{Appends, Consumes}
 use Rattle.sgf_tree.specs.Tree.{Games}
 use Rattle.sgf_tree.specs.declared.fault.TheConstants.{MAX_LENGTH}
@@ -29,6 +29,17 @@ pub record IsReading {A : Type 0} (source new_source : SourceState) (text : List
   pub gives : Appends source.given new_source.given given
   pub consumes : Consumes source.to_come new_source.to_come given
   pub answers : AnswersReading given new_source.to_come text result
+
+-- what a source has given since `start` is the text
+pub record HasRead (start now : SourceState) (text : List ℕ) : Type 0 where
+  pub gives : Appends start.given now.given text
+  pub consumes : Consumes start.to_come now.to_come text
+  pub failures : now.failures ≡ start.failures
+
+-- what the result of asking a source once says of all that it has given since `start`
+abbrev pub AnswersSome : SourceState → SourceState → List ℕ → Result ℕ RunFault → Type 0
+AnswersSome start now text (Ok count) = HasRead start now text × (count ≡ 0 → IsWhole text now.to_come)
+AnswersSome start now text (Err fault) = IsReading {A = ⊤} start now text (Err fault)
 
 -- why a text of `len` bytes wasn't read, as the fault of a run
 abbrev pub unread : ReadFault → ℕ → RunFault

@@ -1,0 +1,17 @@
+-- Of any state from which the source has given the text, it has still given the text.
+use Rattle.std.proofs.Common.{length, ◌-◌, ◌≡◌, ◌≤◌}
+use Rattle.sgf_tree.specs.declared.fault.TheConstants.{MAX_LENGTH}
+use Rattle.sgf_lines.specs.Ends.{SourceState}
+use Rattle.sgf_lines.specs.inner.Running.{HasRead}
+use Rattle.sgf_lines.proofs.run.read_rest.Given as goal
+
+abbrev pub invariant-read : goal.invariant-read
+invariant-read g l = record {
+  bound : length l.text.items ≤ MAX_LENGTH;
+  room : length l.chunk ≡ 65536;
+  has_read : (start : SourceState) → HasRead start (g.S.Source.state l.initial.source) l.initial.text.items → HasRead start (g.S.Source.state l.source) l.text.items;
+  failures : (g.S.Source.state l.source).failures ≡ (g.S.Source.state l.initial.source).failures;
+}
+
+abbrev pub decreases-read : goal.decreases-read
+decreases-read g l = MAX_LENGTH - length l.text.items
