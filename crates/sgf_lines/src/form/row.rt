@@ -34,12 +34,20 @@ impl Row {
         }
     }
 
+    /// Becomes the empty text. The bytes are kept: those before the start are never shown.
+    fn clear(&mut self)
+        ensures text { built_text self.new ≡ [] }
+        ensures room { self.new.start ≡ 160 }
+    {
+        self.start = ROOM;
+    }
+
     /// Becomes the row of a line with this verdict, and a line feed.
     pub(crate) fn lay_out(&mut self, line: &LineRef<'_>, verdict: Verdict)
         ensures text { built_text self.new ≡ row_text line.now.place line.now.game (length line.now.path.now) verdict ++ codes "\n" }
         ensures room { 2 ≤ self.new.start }
     {
-        *self = Row::new();
+        self.clear();
         self.put(b"\n");
         self.put_verdict(verdict);
         self.put(b" ");
