@@ -15,6 +15,12 @@ use sgf_tree::MemoryFault;
 use std::alloc::Global;
 use std::marker::Model;
 
+/// The number of bytes that there is room for at once.
+const ROOM: usize = 4_096;
+
+/// The number of pieces that there is room for at once.
+const PIECES: usize = 256;
+
 /// A text of pieces, one after the other, and an unfinished piece after them. It can be cut
 /// back to any number of its first pieces.
 #[derive(Drop)]
@@ -44,6 +50,15 @@ impl Pieces {
             text: Vec::new(alloc),
             ends: Vec::new(alloc),
         }
+    }
+
+    /// Makes room for the text of a usual game at once: otherwise it would be moved again and again while it grows.
+    pub(crate) fn make_room(&mut self) -> Result<(), MemoryFault>
+        ensures { self.new ≡ self.old }
+    {
+        self.text.reserve(ROOM)?;
+        self.ends.reserve(PIECES)?;
+        Ok(())
     }
 
     /// The number of pieces.

@@ -37,6 +37,7 @@ fn begin(kept: &mut Pieces) -> Result<(), MemoryFault>
     ensures { OnOk result (kept.new ≡ open_record []) }
 {
     kept.cut_back(0);
+    kept.make_room()?;
     kept.push(b"(")?;
     kept.close()
 }

@@ -62,6 +62,7 @@ impl Script {
         self.silence();
         if size.side() <= MAX_VERTEX_SIDE {
             let mut side = Buffer::new();
+            self.pieces.make_room()?;
             self.pieces.push(b"boardsize ")?;
             self.pieces
                 .push(side.format(u64::from(size.side())).as_bytes())?;
