@@ -2,6 +2,7 @@
 
 ghost use Rattle.std.specs.Prelude.{◌≡◌, ℕ, List, [], ◌∷◌, ◌++◌, ◌+◌, ◌≤◌, ◌<◌, ◌*◌, OnOk, option_copied};
 ghost use Rattle.go_board.specs.Point.{IsOn};
+ghost use Rattle.go_board.specs.declared.referee.plays.Play.TheVariants.{Stone};
 ghost use Rattle.go_board.specs.State.{IsPlayOn};
 ghost use Rattle.sgf_lines.specs.Script.{text_rows, comment_row, comment_text, colour_letter, play_command, stone_commands, colouring_commands, board_commands};
 ghost use Rattle.sgf_lines.specs.inner.Cutting.{commands_at, AreAppended, pass_command, stone_command};
@@ -74,7 +75,9 @@ fn push_comment_row(piece: &[u8], output: &mut Vec<u8>) -> Result<(), MemoryFaul
     push_bytes(b"\n", output)
 }
 
-/// Appends a whole board: the command that clears it, then all black stones, then all white ones.
+/// Appends a whole board: the command that clears it, then all black stones, then all white ones. This is a function of its own
+/// because few nodes need it, and it has the code for the stones of a colour twice.
+#[inline(never)]
 fn push_board(board: &Board, output: &mut Vec<u8>) -> Result<(), MemoryFault>
     requires { board.now.side ≤ MAX_VERTEX_SIDE }
     ensures { OnOk result (output.new.items ≡ output.old.items ++ colouring_commands board.now) }
@@ -84,7 +87,9 @@ fn push_board(board: &Board, output: &mut Vec<u8>) -> Result<(), MemoryFault>
     push_stones(board, Colour::White, output)
 }
 
-/// Appends the stones of a colour, row by row from the top, from left to right.
+/// Appends the stones of a colour, row by row from the top, from left to right. It is inlined, and so are the functions for a row
+/// and a point: then the colour that each point is compared with is known when the code is compiled.
+#[inline(always)]
 fn push_stones(board: &Board, colour: Colour, output: &mut Vec<u8>) -> Result<(), MemoryFault>
     requires { board.now.side ≤ MAX_VERTEX_SIDE }
     ensures { OnOk result (output.new.items ≡ output.old.items ++ stone_commands board.now colour) }
@@ -96,6 +101,7 @@ fn push_stones(board: &Board, colour: Colour, output: &mut Vec<u8>) -> Result<()
 }
 
 /// Appends the stones of a colour in a row, from left to right. The stones of the rows above it must be appended already.
+#[inline(always)]
 fn push_row(board: &Board, row: u8, colour: Colour, output: &mut Vec<u8>) -> Result<(), MemoryFault>
     requires letters { board.now.side ≤ MAX_VERTEX_SIDE }
     requires row { row < board.now.side }
@@ -109,6 +115,7 @@ fn push_row(board: &Board, row: u8, colour: Colour, output: &mut Vec<u8>) -> Res
 }
 
 /// Appends the stone on a point, if it has that colour.
+#[inline(always)]
 fn push_point(
     board: &Board,
     point: Point,
@@ -120,13 +127,30 @@ fn push_point(
     ensures { OnOk result (output.new.items ≡ output.old.items ++ commands_at board.now colour point) }
 {
     if board.at(point) == colour.stone() {
-        push_play(board.size(), colour, Play::Stone(point), output)
+        push_stone_on(board.size(), colour, point, output)
     } else {
         Ok(())
     }
 }
 
-/// Appends a play command. Its bytes are laid out first and appended in one call, because most nodes add one.
+/// Appends the play command of a stone on a board. Most points have none, so the search for stones is short without this code.
+#[inline(never)]
+fn push_stone_on(
+    size: Size,
+    colour: Colour,
+    point: Point,
+    output: &mut Vec<u8>,
+) -> Result<(), MemoryFault>
+    requires letters { size ≤ MAX_VERTEX_SIDE }
+    requires on_board { IsOn size point }
+    ensures { OnOk result (output.new.items ≡ output.old.items ++ play_command size colour (Stone point)) }
+{
+    push_play(size, colour, Play::Stone(point), output)
+}
+
+/// Appends a play command. Its bytes are laid out first and appended in one call, because most nodes add one. It is inlined for
+/// the same reason.
+#[inline(always)]
 fn push_play(
     size: Size,
     colour: Colour,
@@ -157,6 +181,7 @@ fn push_pass(colour: Colour, output: &mut Vec<u8>) -> Result<(), MemoryFault>
 }
 
 /// Appends the play command of a stone.
+#[inline(always)]
 fn push_stone(colour: Colour, vertex: Vertex, output: &mut Vec<u8>) -> Result<(), MemoryFault>
     requires { vertex.row < 100 }
     ensures { OnOk result (output.new.items ≡ output.old.items ++ stone_command colour vertex) }
