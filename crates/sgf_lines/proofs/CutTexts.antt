@@ -1,9 +1,12 @@
 -- A text that is cut where a test passes, by the first byte where it does.
-use Rattle.std.proofs.Common.{◌≡◌, ℕ, ◌<◌, ◌+◌, ◌-◌, ◌++◌, Option, Some, None, Bool, true, false, List, [], ◌∷◌, zero, suc, length, take, drop, get_or, refl, sym, ap, ◌∙◌, arith}
+use Rattle.std.proofs.Common.{◌≡◌, ℕ, ◌<◌, ◌+◌, ◌-◌, ◌++◌, Option, Some, None, Bool, true, false, List, [], ◌∷◌, zero, suc, length, take, drop, get_or, refl, sym, ap, ◌∙◌, arith, length-append}
+use Rattle.std.specs.Prelude.{◌==◌, is_some}
 use Rattle.std.specs.List.{flat_map, slice_split}
+use Rattle.std.proofs.Math.Seq.{drop-append_seam}
 use Rattle.std.proofs.lemmas.Bool.{false_from_ne_true}
 use Rattle.std.proofs.lemmas.List.{take_all, length-drop, append-nil, append_assoc}
 use Rattle.memchr.specs.Find.{IsFirstByte}
+use Rattle.sgf_lines.specs.Script.{text_rows, comment_row}
 
 module _ (test : ℕ → Bool) where
   -- no byte before `end` passes
@@ -49,3 +52,19 @@ module _ (test : ℕ → Bool) where
   rows-on row t end old new whole found appended before =
       let later : List ℕ = flat_map row (slice_split test (take (length t - (end + 1)) (drop (end + 1) t))) in
       ap (λ bs. bs ++ later) appended ∙ append_assoc old (row (take end t)) later ∙ ap (λ bs. old ++ bs) (sym (rows-found row t end found)) ∙ before
+
+-- the comment rows of a text that isn't empty
+pub of_pieces : (bs : List ℕ) → (length bs ≡ 0 → ⊥) → text_rows bs ≡ flat_map comment_row (slice_split (λ c. c == 10) bs)
+of_pieces [] some = absurd (some refl)
+of_pieces (b ∷ bs) some = refl
+
+-- a text in which no line feed was found is one row
+pub one_row : (t : List ℕ) (r : Option ℕ) → (length t ≡ 0 → ⊥) → IsFirstByte (λ b. b == 10) t r → is_some r ≡ false → text_rows t ≡ comment_row t
+one_row t (Some end) some first never = cc
+one_row t None some first never = of_pieces t some ∙ rows-none (λ b. b == 10) comment_row t None first (λ end e. cc)
+
+-- what was appended is the text from the offset on at which it was appended
+pub appended_last : (head text whole : List ℕ) (start : ℕ) → whole ≡ head ++ text → start ≡ length head → take (length whole - start) (drop start whole) ≡ text
+appended_last head text whole start e s =
+    let last : drop start whole ≡ text = rw (e, s) (drop-append_seam head text) in
+    rw last (take_all (length whole - start) text (omega (arith, ap length e, length-append head text)))

@@ -4,6 +4,7 @@ ghost use Rattle.std.specs.Prelude.{◌≡◌, ℕ, List, [], ◌∷◌, ◌++�
 ghost use Rattle.go_board.specs.Point.{IsOn};
 ghost use Rattle.go_board.specs.declared.referee.plays.Play.TheVariants.{Stone};
 ghost use Rattle.go_board.specs.State.{IsPlayOn};
+ghost use Rattle.sgf_tree.specs.Text.{text_of};
 ghost use Rattle.sgf_lines.specs.Script.{text_rows, comment_row, comment_text, colour_letter, play_command, stone_commands, colouring_commands, board_commands};
 ghost use Rattle.sgf_lines.specs.inner.Cutting.{commands_at, AreAppended, pass_command, stone_command};
 ghost use Rattle.sgf_lines.specs.inner.Scripting.{IsPlayable, step_script};
@@ -43,11 +44,29 @@ pub(crate) fn push_step(
 fn push_comment(comment: Option<&[u8]>, output: &mut Vec<u8>) -> Result<(), MemoryFault>
     ensures { OnOk result (output.new.items ≡ output.old.items ++ text_rows (comment_text (option_copied comment.entry))) }
 {
-    let Some(raw) = comment else {
-        return Ok(());
-    };
+    match comment {
+        Some(raw) => push_text_of(raw, output),
+        None => Ok(()),
+    }
+}
+
+/// Appends the rows of the text that a raw value stands for. Most texts have one row: so the text is decoded in place, after the
+/// bytes that begin a row. This is a function of its own because most nodes have no comment.
+#[inline(never)]
+fn push_text_of(raw: &[u8], output: &mut Vec<u8>) -> Result<(), MemoryFault>
+    ensures { OnOk result (output.new.items ≡ output.old.items ++ text_rows (text_of raw.now)) }
+{
+    let row = output.len();
+    push_bytes(b"# ", output)?;
+    let start = output.len();
+    push_text(raw, output)?;
+    let text = &output[start..];
+    if !text.is_empty() && memchr(b'\n', text).is_none() {
+        return push_bytes(b"\n", output);
+    }
     let mut text = Vec::new(*output.allocator());
-    push_text(raw, &mut text)?;
+    text.extend_from_slice(&output[start..])?;
+    output.truncate(row);
     push_text_rows(&text, output)
 }
 

@@ -1,14 +1,8 @@
-use Rattle.std.proofs.Common.{◌≡◌, ◌++◌, ◌==◌, List, [], ◌∷◌, length, refl, sym, ap, subst, ◌∙◌, OnOk, ℕ}
-use Rattle.std.specs.List.{flat_map, slice_split}
+use Rattle.std.proofs.Common.{◌≡◌, ◌++◌, ◌==◌, length, sym, ap, subst, ◌∙◌, OnOk}
 use Rattle.std.proofs.lemmas.Bool.{eqb-false}
-use Rattle.sgf_lines.specs.Script.{text_rows, comment_row}
-use Rattle.sgf_lines.proofs.CutTexts.{rows-on, rows-none}
+use Rattle.sgf_lines.specs.Script.{comment_row}
+use Rattle.sgf_lines.proofs.CutTexts.{of_pieces, rows-on, rows-none}
 use Rattle.sgf_lines.proofs.form.commands.push_text_rows.Goals as goal
-
--- the comment rows of a text that isn't empty
-of_pieces : (bs : List ℕ) → (length bs ≡ 0 → ⊥) → text_rows bs ≡ flat_map comment_row (slice_split (λ c. c == 10) bs)
-of_pieces [] some = absurd (some refl)
-of_pieces (b ∷ bs) some = refl
 
 pub pieces-preserved : goal.pieces-preserved
 pieces-preserved c =
