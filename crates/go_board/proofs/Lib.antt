@@ -38,3 +38,4 @@ pub mod TableLemmas
 pub mod StoneRowsLemmas
 pub mod GlanceLemmas
 pub mod TakenLemmas
+pub mod TakenPrintLemmas

@@ -4,15 +4,17 @@
 //! It is a sum over the rows, each of which is mixed as a whole. The mix isn't linear in the stones. If it were, colourings with equal
 //! prints could be built from a formula. A stone changes one row, so its print takes the mixes of two rows.
 
-ghost use Rattle.std.specs.Prelude.{◌≡◌, ◌<◌, ◌%◌, ◌^◌};
+ghost use Rattle.std.specs.Prelude.{◌≡◌, ◌==◌, ◌||◌, ◌<◌, ◌%◌, ◌^◌, not, slice_index};
 ghost use Rattle.go_board.specs.declared.stones.Cell.TheVariants.{Empty};
 ghost use Rattle.go_board.specs.Colour.{stone_of};
 ghost use Rattle.go_board.specs.Point.{IsOn};
 ghost use Rattle.go_board.specs.Grid.{cell_at, with_cell};
+ghost use Rattle.go_board.specs.Clearing.{play};
+ghost use Rattle.go_board.specs.inner.Groups.{TakesOff};
 ghost use Rattle.go_board.specs.inner.Print.{folded, mixed, print_in, print_of};
 
 use crate::board::Board;
-use crate::board::regions::with_column;
+use crate::board::regions::{columns_left, with_column};
 use crate::points::Point;
 use crate::stones::Colour;
 
@@ -66,6 +68,72 @@ pub(crate) fn print_after_stone(print: u64, board: &Board, colour: Colour, point
     print
         .wrapping_add(mixed(point.row, new_black, new_white))
         .wrapping_sub(mixed(point.row, black, white))
+}
+
+/// The print after a stone is put on an empty point, from the print before; `taken` is what the stone takes off. Only rows that change
+/// are looked at.
+pub(crate) fn print_after_taking(
+    print: u64,
+    board: &Board,
+    colour: Colour,
+    point: Point,
+    taken: &[u64],
+) -> u64
+    requires on_board { IsOn board.now.side point }
+    requires empty { cell_at board.now point ≡ Empty }
+    requires taken { TakesOff board.now colour point taken.now }
+    requires print { print ≡ print_of board.now }
+    ensures { result ≡ print_of (play board.now colour point) }
+{
+    board.has_all_cells();
+    let mut found = print;
+    for row in 0..board.size().side() {
+        if is_changed(point, taken, row) {
+            found = found
+                .wrapping_add(print_of_row_after(board, colour, point, taken, row))
+                .wrapping_sub(print_of_row(board, row));
+        }
+    }
+    found
+}
+
+/// Whether a row has the point, or a point of `taken`.
+fn is_changed(point: Point, taken: &[u64], row: u8) -> bool
+    ensures { result ≡ ((row == point.row) || not (slice_index taken.now row == 0)) }
+{
+    let has_point = row == point.row;
+    has_point | (columns_in(taken, row) != 0)
+}
+
+/// The columns of a row of a set, which may have fewer rows.
+fn columns_in(rows: &[u64], row: u8) -> u64
+    ensures { result ≡ slice_index rows.now row }
+{
+    let row = usize::from(row);
+    if row < rows.len() { rows[row] } else { 0 }
+}
+
+/// What a row adds to the print of a board, once a stone is put on an empty point and takes `taken` off.
+fn print_of_row_after(board: &Board, colour: Colour, point: Point, taken: &[u64], row: u8) -> u64
+    requires row { row < board.now.side }
+    requires on_board { IsOn board.now.side point }
+    requires empty { cell_at board.now point ≡ Empty }
+    requires taken { TakesOff board.now colour point taken.now }
+    ensures { result ≡ print_in (play board.now colour point) row % 2 ^ 64 }
+{
+    board.has_all_cells();
+    let col = usize::from(point.col);
+    let gone = columns_in(taken, row);
+    let has_point = row == point.row;
+    let black = board.columns_of(row, Colour::Black);
+    let white = board.columns_of(row, Colour::White);
+    let with_black = with_column(black, col, has_point & (colour == Colour::Black));
+    let with_white = with_column(white, col, has_point & (colour == Colour::White));
+    mixed(
+        row,
+        columns_left(with_black, gone),
+        columns_left(with_white, gone),
+    )
 }
 
 /// What a row of a board adds to the print of the board.

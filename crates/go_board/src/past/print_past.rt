@@ -14,7 +14,7 @@ use crate::board::stone_rows::has_column;
 use crate::fault::MemoryFault;
 use crate::past::Past;
 use crate::past::colourings::Colourings;
-use crate::past::print::{print_after_stone, print_from, print_of};
+use crate::past::print::{print_after_stone, print_after_taking, print_from, print_of};
 use crate::past::table::Table;
 use crate::points::Point;
 use crate::size::MAX_ROWS;
@@ -224,9 +224,7 @@ impl PrintPast {
         if taken.is_empty() {
             return print_after_stone(self.prints.newest(), newest, colour, point);
         }
-        let mut made = newest.copy();
-        made.put(colour, point, taken);
-        print_from(self.prints.newest(), newest, &made)
+        print_after_taking(self.prints.newest(), newest, colour, point, taken)
     }
 
     /// Whether a colouring of the present stretch has this print.
