@@ -1,5 +1,5 @@
 -- Filling a set of points: the rows that wait, and those that don't.
-use Rattle.std.proofs.Common.{◌≡◌, ◌≢◌, ◌⊎◌, inl, inr, ℕ, ◌+◌, ◌^◌, ◌<◌, ◌||◌, Bool, true, false, not, nat_eq, List, length, slice_index, bit_and, w64, refl, sym, ap, ◌∙◌, subst, arith}
+use Rattle.std.proofs.Common.{◌≡◌, ◌≢◌, ◌⊎◌, inl, inr, ℕ, ◌+◌, ◌^◌, ◌<◌, ◌||◌, ◌&&◌, Bool, true, false, not, nat_eq, List, length, slice_index, bit_and, w64, refl, sym, ap, ◌∙◌, subst, arith}
 use Rattle.std.specs.Int.{bit_not}
 use Rattle.std.proofs.lemmas.Bool.{and_from, or_left, or_right, cases_eq, cases_Bool, false≢true, true≢false}
 use Rattle.std.proofs.lemmas.Bool.Decides.{Decides-eqb}
@@ -21,6 +21,19 @@ none_lacking word room here low_room low_here none col there is =
     in_the_other (has_bit (bit_and word room) col) (has_bit here col) (has_bit-and word room col ∙ and_from _ _ is there)
     (sym (has_bit-without (bit_and word room) here col low_here (column_below 64 room col low_room there))
     ∙ ap (λ n. has_bit n col) (zero_of (bit_and (bit_and word room) (bit_not w64 here)) none) ∙ has_bit-zero col)
+
+-- where a word has none of what a row lacks, the row has what the word has of the room
+and_left : (a b : Bool) → b ≡ true → (a && b) ≡ false → a ≡ false
+and_left true b is none = sym is ∙ none
+and_left false b is none = refl
+
+pub none_left : (word room here left : ℕ) → room < 2 ^ 64 → here < 2 ^ 64 → left ≡ bit_and room (bit_not w64 here) → not (nat_eq (bit_and left word) 0) ≡ false → (col : ℕ) → has_bit room col ≡ true → has_bit word col ≡ true → has_bit here col ≡ true
+none_left word room here left low_room low_here left_is none col there is =
+    in_the_other (has_bit room col) (has_bit here col) there
+    (sym (has_bit-without room here col low_here (column_below 64 room col low_room there))
+    ∙ ap (λ n. has_bit n col) (sym left_is)
+    ∙ and_left (has_bit left col) (has_bit word col) is
+    (sym (has_bit-and left word col) ∙ ap (λ n. has_bit n col) (zero_of (bit_and left word) none) ∙ has_bit-zero col))
 
 -- a set of rows with one more, if it is to be
 module _ (word next col : ℕ) (b : Bool) (there : has_bit next col ≡ (has_bit word col || b)) where

@@ -12,11 +12,14 @@ ghost use Rattle.go_board.specs.inner.Halves.{low_halves, high_halves, ArePaired
 
 use crate::board::Board;
 use crate::board::fill::fill;
-use crate::board::regions::{no_rows, other_columns};
+use crate::board::regions::other_columns;
 use crate::stones::Colour;
 
 /// The number of columns of half a word. A board with fewer leaves an empty column between the halves.
 pub(crate) const HALF: u8 = 32;
+
+/// Rows enough for such a board: so few that they are quick to clear.
+const FEW_ROWS: usize = HALF as usize;
 
 /// A word's low half is its rest by this divisor, and its high half is the quotient.
 const HALVES: u64 = 1 << HALF;
@@ -29,7 +32,7 @@ impl Board {
         ensures white { result.1 ≡ score_of self.now White }
     {
         let side = usize::from(self.size().side());
-        let (mut area_words, mut room_words) = (no_rows(), no_rows());
+        let (mut area_words, mut room_words) = ([0; FEW_ROWS], [0; FEW_ROWS]);
         let areas = &mut area_words[..side];
         let room = &mut room_words[..side];
         pair_rows(

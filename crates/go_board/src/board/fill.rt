@@ -49,7 +49,7 @@ pub(crate) fn grow_lowest(rows: &mut [u64], room: &[u64], waiting: u64) -> (usiz
     (row, with_rows_lacking(left, rows, room, row))
 }
 
-/// Grows each row (`grow_row`), from the first row to the last.
+/// Grows each row (`grow_row_below`), from the first row to the last.
 /// Returns the rows that can take a point from the row below them.
 fn grow_down(rows: &mut [u64], room: &[u64]) -> u64
     requires same { length rows.old ≡ length room.now }
@@ -57,14 +57,17 @@ fn grow_down(rows: &mut [u64], room: &[u64]) -> u64
     requires within { IsAmong (is_set rows.old) (is_set room.now) }
     ensures { IsFilledBut room.now rows.old rows.new result }
 {
-    let mut waiting = 0;
+    // the row above, and what it lacks of the room, stay at hand for the row below it
+    let mut above = 0;
+    let mut lacking = 0;
+    let mut waiting_above = 0;
     'rows: for row in 0..rows.len() {
-        grow_row(rows, room, row);
-        if row > 0 {
-            waiting = with_column(waiting, row - 1, lacks(rows, room, row - 1, rows[row]));
-        }
+        grow_row_below(rows, room, row, above);
+        above = rows[row];
+        waiting_above = with_column(waiting_above, row, lacking & above != 0);
+        lacking = room[row] & !above;
     }
-    waiting
+    waiting_above >> 1
 }
 
 /// The rows that wait, and those of the rows above and below `row` that can take a point from it.
@@ -109,7 +112,23 @@ fn grow_row(rows: &mut [u64], room: &[u64], row: usize)
     ensures unchanged { slice_index rows.new row ≡ slice_index rows.old row → rows.new ≡ rows.old }
     ensures fuller { slice_index rows.new row ≢ slice_index rows.old row → lacking rows.new < lacking rows.old }
 {
-    let beside = row_above(rows, row) | row_below(rows, row);
+    let above = row_above(rows, row);
+    grow_row_below(rows, room, row, above);
+}
+
+/// The same, given the row above.
+fn grow_row_below(rows: &mut [u64], room: &[u64], row: usize, above: u64)
+    requires same { length rows.old ≡ length room.now }
+    requires row { row < length rows.old }
+    requires within { IsAmong (is_set rows.old) (is_set room.now) }
+    requires above { above ≡ row_above rows.old row }
+    ensures grows { Grows (is_set room.now) (is_set rows.old) (is_set rows.new) }
+    ensures closed { IsRowClosed (is_set room.now) (is_set rows.new) row }
+    ensures others { (other : ℕ) → other ≢ row → slice_index rows.new other ≡ slice_index rows.old other }
+    ensures unchanged { slice_index rows.new row ≡ slice_index rows.old row → rows.new ≡ rows.old }
+    ensures fuller { slice_index rows.new row ≢ slice_index rows.old row → lacking rows.new < lacking rows.old }
+{
+    let beside = above | row_below(rows, row);
     rows[row] = widened((rows[row] | beside) & room[row], room[row]);
 }
 

@@ -1,43 +1,69 @@
-use Rattle.std.proofs.Common.{◌≡◌, ◌<◌, ◌-◌, inl, inr, length, sym, ap, ◌∙◌, subst, arith, rules, slice_index}
+use Rattle.std.proofs.Common.{◌≡◌, ◌≢◌, ◌<◌, ◌+◌, ◌/◌, ◌^◌, ℕ, suc, bit_and, w64, inl, inr, length, refl, sym, ap, ◌∙◌, arith, rules, slice_index}
+use Rattle.std.specs.Int.{bit_not}
 use Rattle.std.proofs.lemmas.Bool.{false≢true}
-use Rattle.go_board.specs.inner.Rows.{has_bit, IsTaken}
-use Rattle.go_board.proofs.WordLemmas.{has_bit-zero}
+use Rattle.go_board.specs.inner.Rows.{has_bit, row_above}
+use Rattle.go_board.proofs.WordLemmas.{has_bit-zero, has_bit-right}
 use Rattle.go_board.proofs.GrowLemmas.{Grows-none}
-use Rattle.go_board.proofs.FillLemmas.{filled_to_more, part_with, from_with, taken_with}
+use Rattle.go_board.proofs.FillLemmas.{filled_to_more, part_with, from_with, taken_with, none_left}
 use Rattle.go_board.proofs.board.fill.grow_down.Goals as goal
-use Rattle.go_board.proofs.board.fill.grow_down.Goals.{then-row-gt0, else-row-gt0}
 
 pub rows-init : goal.rows-init
 rows-init c = record {
-  all = c.requires.same;
-  grows = Grows-none c.args.room.now c.args.rows.now c.requires.within;
-  rows_in = λ r is. absurd (false≢true (sym (has_bit-zero r) ∙ is));
-  closed = λ r below. absurd (omega (arith, below));
+  filled = record {
+    all = c.requires.same;
+    grows = Grows-none c.args.room.now c.args.rows.now c.requires.within;
+    rows_in = λ r is. absurd (false≢true (sym (has_bit-zero r) ∙ is));
+    closed = λ r below. absurd (omega (arith, below));
+  };
+  above = refl;
+  lacking = λ r before. absurd (omega (arith, before));
 }
 
 pub rows-preserved : goal.rows-preserved
 rows-preserved c =
+    let l = c.rows in
     let room = c.args.room.now in
     let first = c.args.rows.now in
-    let rows = c.rows.rows in
-    let next = c.grow_row.new.rows in
-    let row = c.rows.row in
-    let was = c.rows.invariant in
-    let grown = c.grow_row.ensures in
+    let rows = l.rows in
+    let next = c.grow_row_below.new.rows in
+    let row = l.row in
+    let was = l.invariant.filled in
+    let grown = c.grow_row_below.ensures in
     let long : length next ≡ length rows = search rules in
     let within : row < length rows = omega (arith, c.rows-test.true, was.all, c.requires.same) in
-    elim c.if-row-gt0.branch [
-      | then-row-gt0 w ↦
-          let e = w.with_column-waiting.ensures in
-          rw w.waiting-is
-          (filled_to_more room first rows next c.rows.waiting w.with_column-waiting.result row within was long grown.grows grown.closed grown.others
-          (part_with _ _ _ _ e.there e.elsewhere)
-          (λ r is. elim (from_with _ _ _ _ e.there e.elsewhere r is) [ inl old ↦ inl old | inr at ↦ inr (omega (arith, at, w.if-row-gt0.true)) ])
+    let e = c.with_column-waiting_above.ensures in
+    let after = c.with_column-waiting_above.result in
+    let bits : (word r : ℕ) → has_bit (word / 2 ^ 1) r ≡ has_bit word (suc r) = has_bit-right in
+    let next_low : (r : ℕ) → slice_index next r < 2 ^ 64 = λ r. search rules in
+    let step : row + 1 ≡ suc row = omega arith in
+    let room_low : (r : ℕ) → slice_index room r < 2 ^ 64 = λ r. search rules in
+    record {
+      filled = filled_to_more room first rows next (l.waiting_above / 2 ^ 1) (after / 2 ^ 1) row within was long grown.grows grown.closed grown.others
+          (λ r is. bits after r ∙ part_with _ _ _ _ e.there e.elsewhere (suc r) (sym (bits l.waiting_above r) ∙ is))
+          (λ r is.
+          elim (from_with _ _ _ _ e.there e.elsewhere (suc r) (sym (bits after r) ∙ is)) [
+            | inl old ↦ inl (bits l.waiting_above r ∙ old)
+            | inr at ↦ inr (omega (arith, at))
+          ])
           (λ r before none.
-          let at : row - 1 ≡ r = omega (arith, before) in
-          subst (λ k. IsTaken room next k (slice_index next row)) at (w.lacks.ensures (taken_with _ _ _ _ e.there (ap (has_bit w.with_column-waiting.result) at ∙ none)))))
-      | else-row-gt0 w ↦
-          rw w.waiting-is
-          (filled_to_more room first rows next c.rows.waiting c.rows.waiting row within was long grown.grows grown.closed grown.others
-          (λ r is. is) (λ r is. inl is) (λ r before. absurd (omega (arith, before, w.if-row-gt0.false))))
-    ]
+          let at : suc r ≡ row = omega (arith, before) in
+          let other : r ≢ row = omega (arith, before) in
+          let left = l.invariant.lacking r before ∙ ap (λ w. bit_and (slice_index room r) (bit_not w64 w)) (sym (grown.others r other)) in
+          none_left (slice_index next row) (slice_index room r) (slice_index next r) l.lacking (room_low r) (next_low r) left
+          (taken_with _ _ _ _ e.there (ap (has_bit after) (sym at) ∙ sym (bits after r) ∙ none)));
+      above = sym (ap (row_above next) step);
+      lacking = λ r before.
+          let same : row ≡ r = omega (arith, before) in
+          ap (λ k. bit_and (slice_index room k) (bit_not w64 (slice_index next k))) same;
+    }
+
+pub returns : goal.returns
+returns c =
+    let l = c.rows in
+    let was = l.invariant.filled in
+    record {
+      all = was.all;
+      grows = was.grows;
+      rows_in = was.rows_in;
+      closed = λ r below none. was.closed r (omega (arith, below, was.all, c.rows-test.false)) none;
+    }
