@@ -90,8 +90,8 @@ def long_line(size, side):
 
 
 def equal_keys(size):
-    """One line of moves whose colourings have prints with equal low bits. Pairs of distant points have equal weights in these bits, and always
-    one of the two is black. White passes."""
+    """One line of moves whose colourings have equal low bits in a sum of powers of 31. Pairs of distant points have equal weights in these bits,
+    and always one of the two is black. White passes."""
     chance = random.Random(19)
     pairs, walls = [], set()
     for row in (1, 4, 7, 10):
@@ -122,6 +122,27 @@ def equal_keys(size):
         flip(which)
         up = not up
     return "".join(text) + ")"
+
+
+def far_right(size):
+    """One line of moves whose colourings differ only in the last two columns of side 52: holes of two points behind black walls. White fills
+    half a hole or fills it, which is suicide; no colouring comes twice. Black passes."""
+    rows = range(0, 52, 2)
+    first, last = LETTERS[50], LETTERS[51]
+    front = ("(;SZ[52]AB" + f"[{LETTERS[49]}a:{LETTERS[49]}Z]" + "".join(f"[{first}{LETTERS[row + 1]}:{last}{LETTERS[row + 1]}]" for row in rows)
+             + "PL[W]" + "".join(f";W[{first}{LETTERS[row]}];B[]" for row in rows))
+    room = (size - len(front) - 1) // 10
+    # a hole goes the way filled on the left, empty, filled on the right, and back; the next hole steps where it turns
+    states, ways, moves = [0] * len(rows), [1] * len(rows), []
+    while len(moves) < room:
+        which = 0
+        while not 0 <= states[which] + ways[which] <= 2:
+            ways[which] = -ways[which]
+            which += 1
+        old, states[which] = states[which], states[which] + ways[which]
+        column = {(0, 1): last, (1, 2): last, (2, 1): first, (1, 0): first}[old, states[which]]
+        moves.append(f";W[{column}{LETTERS[rows[which]]}];B[]")
+    return front + "".join(moves) + ")"
 
 
 def signs():
@@ -249,7 +270,8 @@ INPUTS = {
     "root": ("a root of half the text, and variations of it", lambda n: repeated(n, "(;" + "A[]" * (n // 6), "(;B[aa])", ")"), ["list", "count"]),
     "long19": ("one line of moves on side 19, all in one stretch", lambda n: long_line(n, 19), FORMS),
     "long52": ("one line of moves on side 52, all in one stretch", lambda n: long_line(n, 52), FORMS),
-    "keys": ("one line of moves on side 52, half of whose prints have the same low bits", equal_keys, ["list", "count"]),
+    "keys": ("one line of moves on side 52, half of whose sums of powers of 31 have the same low bits", equal_keys, ["list", "count"]),
+    "right": ("one line of moves on side 52 in holes of the last two columns", far_right, ["list", "count"]),
     "prints": ("one line of moves on side 52, of colourings with equal sums of powers of 31", equal_prints, ["list", "count"]),
     "searches": ("moves in a hole of two points in a group of 1,973 stones, whose only other liberty is far away", searches, ["list", "count"]),
     "captures": ("variations that capture 2,703 stones", lambda n: repeated(n, "(;SZ[52]AW[aa:ZZ]AE[aa]PL[B]", "(;B[aa])", ")"), ["list", "count"]),

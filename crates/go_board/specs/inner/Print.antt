@@ -28,7 +28,8 @@ unfoldable pub mixed : ℕ → ℕ → ℕ → ℕ
 mixed row black white =
     let first : ℕ = (row * 2 ^ 52 % 2 ^ 64 + black) % 2 ^ 64 in
     let second : ℕ = (folded (first * 15485907386658061715 % 2 ^ 64) + white) % 2 ^ 64 in
-    folded (second * 11400714819323198485 % 2 ^ 64)
+    let third : ℕ = folded (second * 11400714819323198485 % 2 ^ 64) in
+    folded (third * 15485907386658061715 % 2 ^ 64)
 
 -- what a row of a grid adds to the print of the grid
 abbrev pub print_in : Grid → ℕ → ℕ

@@ -1,8 +1,8 @@
 //! The print of a colouring: one number made from what stands on all its points.
 //! Usually one comparison of prints is enough to show that two colourings differ.
 //!
-//! It is a sum over the rows, each of which is mixed as a whole. The mix isn't linear in the stones. If it were, colourings with equal
-//! prints could be built from a formula. A stone changes one row, so its print takes the mixes of two rows.
+//! It is a sum over the rows, each of which is mixed as a whole. Colourings with equal prints could be built from a formula if the mix
+//! were linear in the stones. A stone that takes nothing off changes one row, so its print takes two mixes.
 
 ghost use Rattle.std.specs.Prelude.{◌≡◌, ◌==◌, ◌||◌, ◌<◌, ◌%◌, ◌^◌, not, slice_index};
 ghost use Rattle.go_board.specs.declared.stones.Cell.TheVariants.{Empty};
@@ -97,7 +97,7 @@ pub(crate) fn print_after_taking(
     found
 }
 
-/// Whether a row has the point, or a point of `taken`.
+/// Whether a row has the point, or a point of `taken`. Both are looked at, since that takes no branch.
 fn is_changed(point: Point, taken: &[u64], row: u8) -> bool
     ensures { result ≡ ((row == point.row) || not (slice_index taken.now row == 0)) }
 {
@@ -146,14 +146,16 @@ fn print_of_row(board: &Board, row: u8) -> u64
     mixed(row, black, white)
 }
 
-/// A number that depends on all stones of a row, and isn't linear in them.
+/// A number that isn't linear in the stones of a row. A product carries bits only upwards, and `folded` brings them down again. So
+/// after three rounds each bit depends on all stones; after two, the low bits wouldn't depend on white stones far to the right.
 #[tactic(auto, unfolding(crate::specs::inner::Print::mixed))]
 fn mixed(row: u8, black: u64, white: u64) -> u64
     ensures { result ≡ mixed row black white }
 {
     let first = (u64::from(row) << 52).wrapping_add(black);
     let second = folded(first.wrapping_mul(BLACK_MIXER)).wrapping_add(white);
-    folded(second.wrapping_mul(WHITE_MIXER))
+    let third = folded(second.wrapping_mul(WHITE_MIXER));
+    folded(third.wrapping_mul(BLACK_MIXER))
 }
 
 /// A number whose low half depends on all bits of another one.
