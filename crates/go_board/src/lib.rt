@@ -26,6 +26,7 @@
 //! | `board/stone_rows` | the stones of a row as bits |
 //! | `board/flood`, `board/search` | the flood that counts its steps, and its worklist |
 //! | `board/regions`, `board/fill` | sets of points as rows of bits; filling them, which shows the score and who reaches empty |
+//! | `board/both_areas` | the areas of both colours on a small board, filled at once |
 //! | `board/group`, `board/capture` | whether a stone's group has a liberty, by rows of bits; what a stone takes off |
 //! | `board/glance` | a glance at the rows around a stone, which usually shows that the stone takes nothing off |
 //! | `board/areas` | colouring areas and emptying sets of points |

@@ -79,6 +79,21 @@ fn scores(rt: HostRuntime) {
     assert!(rt; three(&rt, [E, B, E, B, B, W, E, W, W]).score() == (4, 3));
 }
 
+/// The greatest board whose rows are filled in halves of words, and the smallest one whose rows are filled in whole words.
+#[test]
+fn scores_by_one_stone(rt: HostRuntime) {
+    let mut small = Board::empty(size(&rt, 31));
+    small.set(at(30, 30), B);
+    assert!(rt; small.score() == (961, 0));
+    small.set(at(0, 0), W);
+    assert!(rt; small.score() == (1, 1));
+    let mut large = Board::empty(size(&rt, 32));
+    large.set(at(31, 31), B);
+    assert!(rt; large.score() == (1024, 0));
+    large.set(at(0, 0), W);
+    assert!(rt; large.score() == (1, 1));
+}
+
 #[test]
 fn moves(rt: HostRuntime) {
     let mut board = three(&rt, [B, E, W, W, W, E, E, E, E]);

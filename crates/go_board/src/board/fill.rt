@@ -116,7 +116,7 @@ fn grow_row(rows: &mut [u64], room: &[u64], row: usize)
     grow_row_below(rows, room, row, above);
 }
 
-/// The same, given the row above.
+/// Grows a row (`grow_row`); `above` is the row above it.
 fn grow_row_below(rows: &mut [u64], room: &[u64], row: usize, above: u64)
     requires same { length rows.old ≡ length room.now }
     requires row { row < length rows.old }

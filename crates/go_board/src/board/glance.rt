@@ -85,7 +85,7 @@ fn stands_apart(own: &[u64], others: &[u64], point: Point) -> bool
     alive != 0 && touched == 0
 }
 
-/// The points in some columns of a row that are free, and those with a stone of the opponent.
+/// Of those columns of a row, the ones that are free and the ones with a stone of the opponent.
 fn beside_in(columns: u64, row: RowStones) -> Beside
     ensures free { (col : ℕ) → IsTrue (has_bit result.free col) → IsTrue (has_bit columns col) × IsTrue (has_bit row.free col) }
     ensures others { (col : ℕ) → has_bit result.others col ≡ false → IsTrue (has_bit columns col) → has_bit row.others col ≡ false }

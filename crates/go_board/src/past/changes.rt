@@ -105,6 +105,7 @@ fn keep_row(board: &Board, row: u8, changes: &mut Vec<Change>) -> Result<(), Mem
 
 /// Adds the rows of a board that a stone changes; all rows if `all` is true. `taken` is what the stone takes off. If memory is
 /// refused, none is added.
+// Inlined: where `taken` is known to be empty, only the short way is left.
 #[inline(always)]
 pub(crate) fn keep_played(
     board: &Board,

@@ -1,4 +1,4 @@
-use Rattle.std.proofs.Common.{◌≡◌, ◌<◌, ℕ, ◌+◌, ◌-◌, ◌&&◌, not, length, get_or, bit_or, ap, ◌∙◌, arith}
+use Rattle.std.proofs.Common.{◌+◌, ◌-◌, ◌&&◌, not, get_or, bit_or, ap, ◌∙◌, arith}
 use Rattle.go_board.specs.inner.Rows.{has_bit}
 use Rattle.go_board.proofs.GlanceLemmas.{row_inside, row_free}
 use Rattle.go_board.proofs.board.glance.row_at.Goals as goal

@@ -1,4 +1,4 @@
-use Rattle.std.proofs.Common.{◌≡◌, ◌==◌, ◌<◌, ℕ, length, refl, sym, ap, ◌∙◌, arith, rules}
+use Rattle.std.proofs.Common.{◌≡◌, ◌==◌, length, refl, sym, ◌∙◌, arith}
 use Rattle.std.proofs.lemmas.Bool.{eq-eqb, eqb-true, false≢true}
 use Rattle.go_board.specs.inner.Rows.{has_bit}
 use Rattle.go_board.proofs.ChangesLemmas.{stone_covered}

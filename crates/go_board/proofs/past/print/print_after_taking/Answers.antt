@@ -1,5 +1,4 @@
-use Rattle.std.proofs.Common.{◌≡◌, ◌+◌, ◌-◌, ◌*◌, ◌%◌, ◌^◌, ◌<◌, ◌||◌, ◌==◌, ℕ, not, slice_index, refl, ap, sym, ◌∙◌, arith, rules}
-use Rattle.std.proofs.lemmas.Bool.{eq-eqb}
+use Rattle.std.proofs.Common.{◌≡◌, ◌+◌, ◌-◌, ◌*◌, ◌%◌, ◌^◌, ◌<◌, ap, sym, ◌∙◌, arith, rules}
 use Rattle.go_board.specs.Clearing.{play}
 use Rattle.go_board.specs.inner.Print.{print_in, sum_below}
 use Rattle.go_board.proofs.PrintLemmas.{rows-exchanged, rows-more, same-row, sum-more}
