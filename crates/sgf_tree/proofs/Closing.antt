@@ -2,11 +2,12 @@
 use Rattle.std.proofs.Common.{◌≡◌, ℕ, suc, ◌+◌, ◌-◌, ◌<◌, ◌≤◌, true, false, inl, inr, List, [], ◌∷◌, ◌++◌, length, get_or, set, take, drop, map, replicate, slice_get, Option, Some, option_map, sym, ap, subst, ◌∙◌, arith, append_assoc}
 use Rattle.std.proofs.Math.ListN.{get_or-map}
 use Rattle.std.proofs.lemmas.Bool.{cases_lt}
-use Rattle.std.proofs.lemmas.List.{length-map, length-take-le, map-set, set-get_or, set_at, take_more}
-use Rattle.std.proofs.lemmas.Option.{slice_get-get_or}
+use Rattle.std.proofs.lemmas.List.{length-map, length-set, length-take-le, get_or_default, get_or-set_same, map-set, set-get_or, set_at, take_more}
+use Rattle.std.proofs.lemmas.Option.{slice_get-get_or, same_Some}
 use Rattle.sgf_tree.specs.inner.Layout.{parent_by, opens_by}
 use Rattle.sgf_tree.specs.inner.GamesRead.{opens_at, AreOwnNodes, without_last, ClosesGame}
 use Rattle.sgf_tree.specs.declared.layout.Link.{Link}
+use Rattle.sgf_tree.specs.declared.layout.Link.TheVariants.{Next}
 use Rattle.sgf_tree.specs.declared.layout.NodeEntry.{NodeEntry}
 
 abbrev pub last_of : NodeEntry → ℕ
@@ -81,6 +82,23 @@ pub parent-link : (old new : List NodeEntry) (tip from at : ℕ) (x : NodeEntry)
 parent-link old new tip from at x l m lt e f =
     ap (option_map (λ (n : NodeEntry). parent_by n.link at)) (slice_get-get_or old at x lt)
     ∙ ap (λ k. Some (parent_by k at)) (sym (lasts-link old new tip from at x m) ∙ ap (λ (n : NodeEntry). n.link) (sym e) ∙ f)
+
+-- the entry of the node that got it, which keeps its link
+pub last-set : (ns new : List NodeEntry) (at last : ℕ) → at < length ns
+    → ((node : NodeEntry) → slice_get ns at ≡ Some node → new ≡ set ns at (record { place = node.place; link = node.link; last_below = last }))
+    → (x : NodeEntry) × (x ≡ get_or ns at x) × (new ≡ set ns at (record { place = x.place; link = x.link; last_below = last }))
+    × ((l : Link) → option_map (λ (n : NodeEntry). n.link) (slice_get new at) ≡ Some l → x.link ≡ l)
+last-set ns new at last lt changes =
+    let none : NodeEntry = record { place = 0; link = Next false; last_below = 0 } in
+    let x : NodeEntry = get_or ns at none in
+    let y : NodeEntry = record { place = x.place; link = x.link; last_below = last } in
+    let is : new ≡ set ns at y = changes x (slice_get-get_or ns at none lt) in
+    let there : slice_get (set ns at y) at ≡ Some y = slice_get-get_or (set ns at y) at none (omega (arith, lt, length-set ns at y)) ∙ ap Some (get_or-set_same ns at y none lt) in (
+      x,
+      get_or_default ns at none x lt,
+      is,
+      λ l e. same_Some x.link l (sym (ap (option_map (λ (n : NodeEntry). n.link)) (ap (λ ms. slice_get ms at) is ∙ there)) ∙ e),
+    )
 
 -- the game is closed once its first node got it
 pub lasts-closed : (old new : List NodeEntry) (tip first at : ℕ) (parent : Option ℕ) → AreOwnNodes old first tip → first ≤ at → at ≤ tip → opens_at old at ≡ Some true

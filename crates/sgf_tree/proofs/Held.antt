@@ -1,7 +1,7 @@
 -- What the flat vectors of a collection say of its nodes.
-use Rattle.std.proofs.Common.{◌≡◌, ℕ, zero, suc, ◌+◌, ◌-◌, ◌<◌, ◌≤◌, Bool, true, false, List, [], ◌∷◌, length, map, get_or, drop, slice_range, All, slice_get, Option, Some, None, option_map, refl, vec_len, sym, ap, subst, ◌∙◌, arith}
+use Rattle.std.proofs.Common.{◌≡◌, ℕ, zero, suc, ◌+◌, ◌-◌, ◌<◌, ◌≤◌, Bool, true, false, List, [], ◌∷◌, length, map, get_or, drop, slice_range, All, slice_get, Option, Some, None, option_map, refl, sym, ap, subst, ◌∙◌, arith}
 use Rattle.std.proofs.lemmas.List.{drop-drop, get_or_default, length-map}
-use Rattle.std.proofs.lemmas.Option.{slice_get-get_or, slice_get-map}
+use Rattle.std.proofs.lemmas.Option.{slice_get-get_or, slice_get-map, same_Some}
 use Rattle.sgf_tree.specs.declared.fault.TheConstants.{MAX_LENGTH}
 use Rattle.sgf_tree.specs.Tree.{Node, Games, node_count}
 use Rattle.sgf_tree.specs.Spelling.{Spells, AreProperties}
@@ -21,7 +21,7 @@ use Rattle.sgf_tree.proofs.OrderedNodes.{length-ordered_nodes, parent_at-lt, gam
 
 -- the fields lay the collection out
 abbrev Holds : Inside → Type 0
-Holds s = IsLaidOut s.text.now s.games s.nodes.items
+Holds s = IsLaidOut s.text.now s.games s.nodes
 
 option_map-within : {A B : Type 0} (f : A → B) (xs : List A) (i : ℕ) (y : B) → option_map f (slice_get xs i) ≡ Some y → i < length xs
 option_map-within f [] i y h = absurd (cc)
@@ -34,66 +34,91 @@ from-outline f h same None = refl
 from-outline f h same (Some r) = ap Some (same r)
 
 module _ (s : Inside) (held : Holds s) (g : Games) (is : games_in s.text.now ≡ g) where
-  ordered-held : map outline (ordered_nodes g) ≡ outlines_by 0 s.nodes.items
+  ordered-held : map outline (ordered_nodes g) ≡ outlines_by 0 s.nodes
   ordered-held = ap (λ c. map outline (ordered_nodes c)) (sym is) ∙ held.same_order
 
-  pub count-held : vec_len s.nodes ≡ node_count g
+  pub count-held : length s.nodes ≡ node_count g
   count-held =
-      omega (arith, s.nodes.ok.0, length-outlines_by 0 s.nodes.items, ap length ordered-held, length-map (ordered_nodes g) outline, length-ordered_nodes g)
+      omega (arith, length-outlines_by 0 s.nodes, ap length ordered-held, length-map (ordered_nodes g) outline, length-ordered_nodes g)
+
+  -- an entry with a part that was read
+  pub entry-with : {A : Type 0} (f : NodeEntry → A) (i : ℕ) (y : A) → i < node_count g → option_map f (slice_get s.nodes i) ≡ Some y
+      → (x : NodeEntry) × (x ≡ get_or s.nodes i x) × (f x ≡ y)
+  entry-with f i y h e =
+      let none : NodeEntry = record { place = 0; link = Next false; last_below = 0 } in
+      let inside : i < length s.nodes = omega (arith, count-held) in
+      let x : NodeEntry = get_or s.nodes i none in
+      (x, get_or_default s.nodes i none x inside, same_Some (f x) y (sym (ap (option_map f) (slice_get-get_or s.nodes i none inside)) ∙ e))
 
   -- the node of the entry x
-  ordered_at-held : (i : ℕ) (x : NodeEntry) → i < node_count g → x ≡ get_or s.nodes.items i x → option_map outline (slice_get (ordered_nodes g) i) ≡ Some (outline_by i x)
+  ordered_at-held : (i : ℕ) (x : NodeEntry) → i < node_count g → x ≡ get_or s.nodes i x → option_map outline (slice_get (ordered_nodes g) i) ≡ Some (outline_by i x)
   ordered_at-held i x h e =
       let start : 0 + i ≡ i = omega arith in
       sym (slice_get-map outline (ordered_nodes g) i)
       ∙ ap (λ rs. slice_get rs i) ordered-held
-      ∙ outlines_by-at 0 s.nodes.items i x (omega (arith, s.nodes.ok.0, count-held))
-      ∙ ap (λ n. Some (outline_by n (get_or s.nodes.items i x))) start
+      ∙ outlines_by-at 0 s.nodes i x (omega (arith, count-held))
+      ∙ ap (λ n. Some (outline_by n (get_or s.nodes i x))) start
       ∙ ap (λ y. Some (outline_by i y)) (sym e)
 
-  pub place-held : (i : ℕ) (x : NodeEntry) → i < node_count g → x ≡ get_or s.nodes.items i x → place_at g i ≡ Some x.place
+  pub place-held : (i : ℕ) (x : NodeEntry) → i < node_count g → x ≡ get_or s.nodes i x → place_at g i ≡ Some x.place
   place-held i x h e =
       sym (from-outline (λ (r : OrderedNode). r.node.place) (λ (o : Outline). o.place) (λ r. refl) (slice_get (ordered_nodes g) i))
       ∙ ap (option_map (λ (o : Outline). o.place)) (ordered_at-held i x h e)
 
   -- its parent, by its link
-  pub parent-held : (i : ℕ) (x : NodeEntry) (l : Link) → i < node_count g → x ≡ get_or s.nodes.items i x → x.link ≡ l → parent_at g i ≡ Some (parent_by l i)
+  pub parent-held : (i : ℕ) (x : NodeEntry) (l : Link) → i < node_count g → x ≡ get_or s.nodes i x → x.link ≡ l → parent_at g i ≡ Some (parent_by l i)
   parent-held i x l h e f =
       sym (from-outline (λ (r : OrderedNode). r.parent) (λ (o : Outline). o.parent) (λ r. refl) (slice_get (ordered_nodes g) i))
       ∙ ap (option_map (λ (o : Outline). o.parent)) (ordered_at-held i x h e) ∙ ap (λ k. Some (parent_by k i)) f
 
   -- a node that follows the node before it is not the first one
-  pub next-held : {beside : Bool} (i : ℕ) (x : NodeEntry) → i < node_count g → x ≡ get_or s.nodes.items i x → x.link ≡ Next beside → 1 ≤ i
+  pub next-held : {beside : Bool} (i : ℕ) (x : NodeEntry) → i < node_count g → x ≡ get_or s.nodes i x → x.link ≡ Next beside → 1 ≤ i
   next-held {beside} i x h e f = omega (arith, parent_at-lt g i (i - 1) (parent-held i x (Next beside) h e f))
 
   -- the game of a node is that of its parent
-  pub game-held : (i p : ℕ) (x : NodeEntry) (l : Link) → i < node_count g → x ≡ get_or s.nodes.items i x → x.link ≡ l → parent_by l i ≡ Some p → (p < i) × (game_of g p ≡ game_of g i)
+  pub game-held : (i p : ℕ) (x : NodeEntry) (l : Link) → i < node_count g → x ≡ get_or s.nodes i x → x.link ≡ l → parent_by l i ≡ Some p → (p < i) × (game_of g p ≡ game_of g i)
   game-held i p x l h e f q =
       let parent : parent_at g i ≡ Some (Some p) = parent-held i x l h e f ∙ ap Some q in
       (parent_at-lt g i p parent, game_of-parent g i p parent)
 
   -- and that of a root is in its link
-  pub root-held : (i k : ℕ) (x : NodeEntry) → i < node_count g → x ≡ get_or s.nodes.items i x → x.link ≡ Root k → game_of g i ≡ k
+  pub root-held : (i k : ℕ) (x : NodeEntry) → i < node_count g → x ≡ get_or s.nodes i x → x.link ≡ Root k → game_of g i ≡ k
   root-held i k x h e f =
       ap (λ c. game_of c i) (sym is)
-      ∙ held.games_numbered i x k (slice_get-get_or s.nodes.items i x (omega (arith, s.nodes.ok.0, count-held)) ∙ ap Some (sym e)) f
+      ∙ held.games_numbered i x k (slice_get-get_or s.nodes i x (omega (arith, count-held)) ∙ ap Some (sym e)) f
 
-  pub last-held : (i : ℕ) (x : NodeEntry) → i < node_count g → x ≡ get_or s.nodes.items i x → IsLastBelow g i x.last_below
+  pub last-held : (i : ℕ) (x : NodeEntry) → i < node_count g → x ≡ get_or s.nodes i x → IsLastBelow g i x.last_below
   last-held i x h e =
-      subst (λ c. IsLastBelow c i x.last_below) is (held.last_known i x (slice_get-get_or s.nodes.items i x (omega (arith, s.nodes.ok.0, count-held)) ∙ ap Some (sym e)))
+      subst (λ c. IsLastBelow c i x.last_below) is (held.last_known i x (slice_get-get_or s.nodes i x (omega (arith, count-held)) ∙ ap Some (sym e)))
 
-  pub place-within : (i : ℕ) (x : NodeEntry) → i < node_count g → x ≡ get_or s.nodes.items i x → x.place < length s.text.now
+  pub place-within : (i : ℕ) (x : NodeEntry) → i < node_count g → x ≡ get_or s.nodes i x → x.place < length s.text.now
   place-within i x h e =
-      subst (λ (y : NodeEntry). y.place < length s.text.now) (sym e) (held.places_within i x (omega (arith, s.nodes.ok.0, count-held)))
+      subst (λ (y : NodeEntry). y.place < length s.text.now) (sym e) (held.places_within i x (omega (arith, count-held)))
+
+  -- the same, where its place was read
+  pub place-at : (i p : ℕ) → i < node_count g → option_map (λ (n : NodeEntry). n.place) (slice_get s.nodes i) ≡ Some p → place_at g i ≡ Some p
+  place-at i p h e =
+      let x = entry-with (λ (n : NodeEntry). n.place) i p h e in
+      place-held i x.0 h x.1 ∙ ap Some x.2
+
+  pub within-at : (i p : ℕ) → i < node_count g → option_map (λ (n : NodeEntry). n.place) (slice_get s.nodes i) ≡ Some p → p < length s.text.now
+  within-at i p h e =
+      let x = entry-with (λ (n : NodeEntry). n.place) i p h e in
+      subst (λ q. q < length s.text.now) x.2 (place-within i x.0 h x.1)
+
+  pub last-at : (i last : ℕ) → i < node_count g → option_map (λ (n : NodeEntry). n.last_below) (slice_get s.nodes i) ≡ Some last → IsLastBelow g i last
+  last-at i last h e =
+      let x = entry-with (λ (n : NodeEntry). n.last_below) i last h e in
+      subst (IsLastBelow g i) x.2 (last-held i x.0 h x.1)
 
   -- the entry of a node of that place
-  pub entry-held : (i p : ℕ) → place_at g i ≡ Some p → (x : NodeEntry) × (i < node_count g) × (x ≡ get_or s.nodes.items i x) × (x.place ≡ p)
+  pub entry-held : (i p : ℕ) → place_at g i ≡ Some p → (x : NodeEntry) × (i < node_count g) × (x ≡ get_or s.nodes i x) × (x.place ≡ p)
   entry-held i p h =
       let within : i < node_count g = omega (arith, option_map-within (λ (r : OrderedNode). r.node.place) (ordered_nodes g) i p h, length-ordered_nodes g) in
       let none : NodeEntry = record { place = 0; link = Next false; last_below = 0 } in
-      let inside : i < length s.nodes.items = omega (arith, s.nodes.ok.0, count-held) in
-      let x : NodeEntry = get_or s.nodes.items i none in
-      let here : x ≡ get_or s.nodes.items i x = get_or_default s.nodes.items i none x inside in
+      let inside : i < length s.nodes = omega (arith, count-held) in
+      let x : NodeEntry = get_or s.nodes i none in
+      let here : x ≡ get_or s.nodes i x = get_or_default s.nodes i none x inside in
       let same : Some x.place ≡ Some p = sym (place-held i x within here) ∙ h in
       (x, within, here, cc)
 
@@ -108,8 +133,19 @@ module _ (s : Inside) (held : Holds s) (g : Games) (is : games_in s.text.now ≡
   pub rise-held : PlacesRise g
   rise-held = subst PlacesRise is (places-rise (games_in s.text.now) s.text.now held.spelled)
 
+  -- the number of a node is at most its place
+  pub number-within : (i p : ℕ) → place_at g i ≡ Some p → i ≤ p
+  number-within zero p h = omega arith
+  number-within (suc i) p h =
+      let entry = entry-held (suc i) p h in
+      let none : NodeEntry = record { place = 0; link = Next false; last_below = 0 } in
+      let before : i < node_count g = omega (arith, entry.1) in
+      let x : NodeEntry = get_or s.nodes i none in
+      let here : place_at g i ≡ Some x.place = place-held i x before (get_or_default s.nodes i none x (omega (arith, count-held, before))) in
+      omega (arith, number-within i x.place here, rise-held i (suc i) x.place p (omega arith) here h)
+
   -- its properties are spelled after its `;`
-  spelled-at : (i : ℕ) (x : NodeEntry) (o : Option OrderedNode) → slice_get (ordered_nodes g) i ≡ o → i < node_count g → x ≡ get_or s.nodes.items i x
+  spelled-at : (i : ℕ) (x : NodeEntry) (o : Option OrderedNode) → slice_get (ordered_nodes g) i ≡ o → i < node_count g → x ≡ get_or s.nodes i x
       → (n : Node) × (node_at g i ≡ Some n) × (n.place ≡ x.place) × IsNodeSpelled s.text.now n
   spelled-at i x None e h f = let none : Option ℕ = None in
       let never : none ≡ Some x.place = ap (option_map (λ (r : OrderedNode). r.node.place)) (sym e) ∙ place-held i x h f in absurd (cc)
@@ -123,7 +159,7 @@ module _ (s : Inside) (held : Holds s) (g : Games) (is : games_in s.text.now ≡
       (r.node, ap (option_map (λ (q : OrderedNode). q.node)) e, cc, subst (λ (q : OrderedNode). IsNodeSpelled s.text.now q.node) (sym same) (all i r lt))
 
   -- what a reference to it holds
-  pub node-held : (i : ℕ) (x : NodeEntry) → i < node_count g → x ≡ get_or s.nodes.items i x
+  pub node-held : (i : ℕ) (x : NodeEntry) → i < node_count g → x ≡ get_or s.nodes i x
       → (node_at g i ≡ Some (record { place = x.place; properties = properties_in (drop 1 (drop x.place s.text.now)) }))
       × IsNodeIn (drop x.place s.text.now)
   node-held i x h e =
@@ -142,20 +178,28 @@ module _ (s : Inside) (held : Holds s) (g : Games) (is : games_in s.text.now ≡
         },
       )
 
+  -- the same, where its place was read
+  pub node-at : (i p : ℕ) → i < node_count g → option_map (λ (n : NodeEntry). n.place) (slice_get s.nodes i) ≡ Some p
+      → (node_at g i ≡ Some (record { place = p; properties = properties_in (drop 1 (drop p s.text.now)) })) × IsNodeIn (drop p s.text.now)
+  node-at i p h e =
+      let x = entry-with (λ (n : NodeEntry). n.place) i p h e in
+      subst (λ q. (node_at g i ≡ Some (record { place = q; properties = properties_in (drop 1 (drop q s.text.now)) })) × IsNodeIn (drop q s.text.now)) x.2
+      (node-held i x.0 h x.1)
+
   -- a node that is beside another one stands where that one ends, as it is written
-  pub beside-held : (i p q : ℕ) (y : NodeEntry) → place_at g i ≡ Some p → y ≡ get_or s.nodes.items (i + 1) y → y.link ≡ Next true → i + 1 < node_count g → place_at g (i + 1) ≡ Some q
+  pub beside-held : (i p q : ℕ) (y : NodeEntry) → place_at g i ≡ Some p → y ≡ get_or s.nodes (i + 1) y → y.link ≡ Next true → i + 1 < node_count g → place_at g (i + 1) ≡ Some q
       → (n : Node) × (node_at g i ≡ Some n) × (p < q) × (slice_range s.text.now p q ≡ node_text n)
   beside-held i p q y h here is lt f =
       let entry = entry-held i p h in
       let x : NodeEntry = entry.0 in
       let next : Some y.place ≡ Some q = sym (place-held (i + 1) y lt here) ∙ f in
       let at : y.place ≡ q = cc in
-      let within : i < length s.nodes.items = omega (arith, s.nodes.ok.0, count-held, lt) in
-      let first : get_or s.nodes.items i y ≡ x = get_or_default s.nodes.items i y x within ∙ sym entry.2 in
-      let written : IsNodeWritten s.text.now (get_or s.nodes.items i y).place (get_or s.nodes.items (i + 1) y).place =
-      held.beside i y (omega (arith, s.nodes.ok.0, count-held, lt)) (ap (λ (m : NodeEntry). m.link) (sym here) ∙ is) in
+      let within : i < length s.nodes = omega (arith, count-held, lt) in
+      let first : get_or s.nodes i y ≡ x = get_or_default s.nodes i y x within ∙ sym entry.2 in
+      let written : IsNodeWritten s.text.now (get_or s.nodes i y).place (get_or s.nodes (i + 1) y).place =
+      held.beside i y (omega (arith, count-held, lt)) (ap (λ (m : NodeEntry). m.link) (sym here) ∙ is) in
       let there : IsNodeWritten s.text.now x.place q =
-      subst (λ k. IsNodeWritten s.text.now x.place k) at (subst (λ (m : NodeEntry). IsNodeWritten s.text.now x.place m.place) (sym here) (subst (λ (m : NodeEntry). IsNodeWritten s.text.now m.place (get_or s.nodes.items (i + 1) y).place) first written)) in
+      subst (λ k. IsNodeWritten s.text.now x.place k) at (subst (λ (m : NodeEntry). IsNodeWritten s.text.now x.place m.place) (sym here) (subst (λ (m : NodeEntry). IsNodeWritten s.text.now m.place (get_or s.nodes (i + 1) y).place) first written)) in
       let place : x.place ≡ p = entry.3 in (
         record { place = x.place; properties = properties_in (drop 1 (drop x.place s.text.now)) },
         (node-held i x entry.1 entry.2).0,

@@ -55,3 +55,4 @@ pub mod WrittenParts
 pub mod LoneNodes
 pub mod ShortProperties
 pub mod Runs
+pub mod Packing

@@ -2,6 +2,7 @@
 pub mod TreeCode
 pub mod Machine
 pub mod Layout
+pub mod Packing
 pub mod NodeText
 pub mod Progress
 pub mod Literals

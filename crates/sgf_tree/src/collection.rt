@@ -9,8 +9,9 @@ ghost use Rattle.sgf_tree.specs.inner.NodeText.{ArePushed, GoesOn};
 ghost use Rattle.sgf_tree.specs.FileOrder.{node_at, nodes_at, place_at, parent_at, IsLeaf, game_of, IsLastBelow, PlacesRise};
 
 use crate::fault::MemoryFault;
-use crate::layout::{Link, LongValue, NodeEntry};
+use crate::layout::{Link, LongValue};
 use crate::node::NodeRef;
+use crate::nodes::Nodes;
 use crate::reader::scan::rest_from;
 use crate::written::push_part;
 use std::marker::Model;
@@ -22,7 +23,7 @@ use std::marker::Model;
 pub struct Collection<'a> {
     text: &'a [u8],
     games: u32,
-    nodes: Vec<NodeEntry>,
+    nodes: Nodes,
     /// The long values, in file order. So a binary search finds the one at a given offset.
     long: Vec<LongValue>,
 }
@@ -40,7 +41,7 @@ impl<'a> Model for Collection<'a> {
 
     ghost view = { λ c. games_in c.text.now };
 
-    ghost invariant = { λ c. IsLaidOut c.text.now c.games c.nodes.items × AreKeptEnds c.text.now c.long.items };
+    ghost invariant = { λ c. IsLaidOut c.text.now c.games c.nodes × AreKeptEnds c.text.now c.long.items };
 }
 
 impl<'a> Collection<'a> {
@@ -51,10 +52,10 @@ impl<'a> Collection<'a> {
     pub(crate) fn new(
         text: &'a [u8],
         games: u32,
-        nodes: Vec<NodeEntry>,
+        nodes: Nodes,
         long: Vec<LongValue>,
     ) -> Collection<'a>
-        requires laid_out { IsLaidOut text.now games nodes.items }
+        requires laid_out { IsLaidOut text.now games nodes }
         requires kept { AreKeptEnds text.now long.items }
         ensures { result ≡ games_in text.now }
     {
@@ -87,10 +88,10 @@ impl<'a> Collection<'a> {
         requires { i < node_count self.now }
         ensures { node_at self.now i ≡ Some result }
     {
-        let entry = self.nodes[i];
+        let at = self.nodes.place(i);
         NodeRef {
-            place: entry.place,
-            text: rest_from(self.text, entry.place as usize),
+            place: at,
+            text: rest_from(self.text, at as usize),
             long: &self.long,
         }
     }
@@ -165,7 +166,7 @@ impl<'a> Collection<'a> {
         let mut count = 1;
         'beside: while count < numbers.len()
             && numbers[count] == last + 1
-            && self.nodes[last + 1].link.is_beside()
+            && self.nodes.link(last + 1).is_beside()
         {
             last += 1;
             count += 1;
@@ -183,7 +184,7 @@ impl<'a> Collection<'a> {
         requires { i < node_count self.now }
         ensures { parent_at self.now i ≡ Some result }
     {
-        match self.nodes[i].link {
+        match self.nodes.link(i) {
             Link::Root(_) => None,
             Link::Variation(parent) => Some(parent as usize),
             Link::Next { .. } => Some(i - 1),
@@ -203,7 +204,7 @@ impl<'a> Collection<'a> {
         requires { i < node_count self.now }
         ensures { place_at self.now i ≡ Some result }
     {
-        self.nodes[i].place as usize
+        self.nodes.place(i) as usize
     }
 
     /// The number, from 1, of the game that has node `i`.
@@ -213,7 +214,7 @@ impl<'a> Collection<'a> {
     {
         let mut at = i;
         'climb: loop {
-            match self.nodes[at].link {
+            match self.nodes.link(at) {
                 Link::Root(game) => return game as usize,
                 Link::Variation(parent) => at = parent as usize,
                 Link::Next { .. } => at -= 1,
@@ -226,6 +227,6 @@ impl<'a> Collection<'a> {
         requires { i < node_count self.now }
         ensures { IsLastBelow self.now i result }
     {
-        self.nodes[i].last_below as usize
+        self.nodes.last_below(i) as usize
     }
 }

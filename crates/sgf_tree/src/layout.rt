@@ -1,4 +1,4 @@
-//! The entries of the flat vectors that hold a collection: 16 bytes for each node, and 8 bytes for each long value.
+//! What a collection knows of a node, and of a long value. `nodes` says how a node is kept in 8 bytes.
 
 ghost use Rattle.std.specs.Prelude.{◌≡◌, true, IsTrue};
 ghost use Rattle.sgf_tree.specs.declared.layout.Link.TheVariants.{Next};
@@ -27,7 +27,7 @@ impl Link {
     }
 }
 
-/// A node. Its properties are read from the text again.
+/// A node, as contracts see it. Its properties are read from the text again.
 #[derive(Clone, Copy)]
 pub(crate) struct NodeEntry {
     /// The offset of its `;` in bytes, from 0.
@@ -37,7 +37,7 @@ pub(crate) struct NodeEntry {
     pub last_below: u32,
 }
 
-/// A long raw value. Its length is kept, so that the value's end isn't searched for again.
+/// A long raw value, in 8 bytes. Its length is kept, so that the value's end isn't searched for again.
 #[derive(Clone, Copy)]
 pub(crate) struct LongValue {
     /// The number of bytes from the value's first byte to the end of the text. The number is the

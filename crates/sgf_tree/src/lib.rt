@@ -4,8 +4,9 @@
 //! spells, or the first byte that no text of the grammar can have there.
 //!
 //! A [`Collection`] numbers its nodes from 0 in file order. Of each node it keeps the place, the parent and
-//! the last node below it, in 16 bytes a node. The properties of a node and their raw values are read from
-//! the text again when they are asked for, one after another. Reading them takes no memory.
+//! the last node below it, in 8 bytes. The first node of a game or of a variation takes 8 bytes more. The
+//! properties of a node and their raw values are read from the text again when they are asked for, one after
+//! another. Reading them takes no memory.
 //!
 //! ```text
 //! let collection = read(alloc, text)?;
@@ -28,7 +29,8 @@
 //! | `collection`, `node`, `property` | looking into a collection that was read |
 //! | `iter` | the properties of a node and the values of a property, one after another |
 //! | `written` | writing a node as the sgf form does |
-//! | `layout` | the entries of the flat vectors that hold a collection |
+//! | `nodes` | keeping the nodes of a collection in few bytes |
+//! | `layout` | what is known of a node and of a long value |
 //! | `text`, `numbers` | the decoded text of a value; the value of a number |
 //! | `fault` | how a call may fail |
 //! | `laws` | what holds of all texts |
@@ -42,6 +44,7 @@ mod iter;
 pub mod laws;
 mod layout;
 mod node;
+mod nodes;
 mod numbers;
 mod property;
 mod reader;

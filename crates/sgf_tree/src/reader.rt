@@ -1,6 +1,6 @@
 //! Reading a text.
 //!
-//! The reader goes over the text once. Each node that ends is pushed to a vector, and the length of each long value to another.
+//! The reader goes over the text once. Each node that ends is pushed to `Nodes`, and the length of each long value to a vector.
 //! A fault is reported at the first byte that no text of the grammar can have there.
 
 ghost use Rattle.std.specs.Prelude.{◌≡◌, ◌<◌, ◌≤◌, ◌↔◌, [], length, Err, IfOk, IfErr, OnOk};
@@ -19,7 +19,8 @@ pub(crate) mod value;
 
 use crate::collection::Collection;
 use crate::fault::{MAX_LENGTH, ReadFault};
-use crate::layout::{LongValue, NodeEntry};
+use crate::layout::LongValue;
+use crate::nodes::Nodes;
 use crate::reader::fault::PartFault;
 use crate::reader::games::read_games;
 use crate::reader::mark::mark_end;
@@ -43,7 +44,7 @@ pub fn read<'a>(alloc: Global, text: &'a [u8]) -> Result<Collection<'a>, ReadFau
     if text.len() > MAX_LENGTH {
         return Err(ReadFault::TooLong);
     }
-    let Ok(mut nodes) = Vec::with_capacity(alloc, FIRST_NODES) else {
+    let Ok(mut nodes) = Nodes::with_capacity(alloc, FIRST_NODES) else {
         return Err(ReadFault::Memory);
     };
     let mut long = Vec::new(alloc);
@@ -55,15 +56,11 @@ pub fn read<'a>(alloc: Global, text: &'a [u8]) -> Result<Collection<'a>, ReadFau
 }
 
 /// Reads a whole text. Returns the number of its games.
-fn read_whole(
-    text: &[u8],
-    nodes: &mut Vec<NodeEntry>,
-    long: &mut Vec<LongValue>,
-) -> Result<u32, PartFault>
+fn read_whole(text: &[u8], nodes: &mut Nodes, long: &mut Vec<LongValue>) -> Result<u32, PartFault>
     requires short { length text.now ≤ MAX_LENGTH }
-    requires nothing_read { nodes.old.items ≡ [] }
+    requires nothing_read { nodes.old ≡ [] }
     requires nothing_kept { long.old.items ≡ [] }
-    ensures read { IfOk result (ReadsWhole text.now nodes.new.items) }
+    ensures read { IfOk result (ReadsWhole text.now nodes.new) }
     ensures fault { IfErr result (IsTrueFault text.now) }
     ensures kept { OnOk result (AreKeptEnds text.now long.new.items) }
 {

@@ -10,6 +10,7 @@
 ghost use Rattle.sgf_tree.specs.declared.reader.fault.PartFault.TheVariants.{Memory};
 ghost use Rattle.std.specs.Prelude.{◌≡◌};
 
+use crate::fault::MemoryFault;
 use std::alloc::AllocFailed;
 
 /// Why reading a text stopped.
@@ -24,6 +25,14 @@ impl<T: Drop> From<AllocFailed<T>> for PartFault {
     ghost from_gives = { λ _ fault. fault ≡ Memory };
 
     fn from(_refused: AllocFailed<T>) -> PartFault {
+        PartFault::Memory
+    }
+}
+
+impl From<MemoryFault> for PartFault {
+    ghost from_gives = { λ _ fault. fault ≡ Memory };
+
+    fn from(_refused: MemoryFault) -> PartFault {
         PartFault::Memory
     }
 }

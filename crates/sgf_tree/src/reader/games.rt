@@ -11,7 +11,8 @@ ghost use Rattle.sgf_tree.specs.inner.GamesRead.{tip, IsOpening, AreOwnNodes, Cl
 ghost use Rattle.sgf_tree.specs.inner.GamesRead.{StandsBetween, IsNodeRead, ReadsSequence, ReadsWhole, IsFaultInSequence};
 
 use crate::fault::MAX_LENGTH;
-use crate::layout::{Link, LongValue, NodeEntry};
+use crate::layout::{Link, LongValue};
+use crate::nodes::Nodes;
 use crate::reader::fault::PartFault;
 use crate::reader::properties::{PartRead, glance, read_properties};
 use crate::reader::scan::skip_white_space;
@@ -20,15 +21,15 @@ use crate::reader::scan::skip_white_space;
 pub(crate) fn read_games(
     text: &[u8],
     at: usize,
-    nodes: &mut Vec<NodeEntry>,
+    nodes: &mut Nodes,
     long: &mut Vec<LongValue>,
 ) -> Result<u32, PartFault>
     requires short { length text.now ≤ MAX_LENGTH }
     requires within { at ≤ length text.now }
     requires begins { StandsBetween text.now at (record { closed = no_games; unclosed = [] }) }
-    requires nothing_read { nodes.old.items ≡ [] }
+    requires nothing_read { nodes.old ≡ [] }
     requires kept { AreKeptEnds text.now long.old.items }
-    ensures read { IfOk result (ReadsWhole text.now nodes.new.items) }
+    ensures read { IfOk result (ReadsWhole text.now nodes.new) }
     ensures fault { IfErr result (IsTrueFault text.now) }
     ensures kept { OnOk result (AreKeptEnds text.now long.new.items) }
 {
@@ -79,18 +80,18 @@ fn read_sequence(
     text: &[u8],
     at: usize,
     link: Link,
-    nodes: &mut Vec<NodeEntry>,
+    nodes: &mut Nodes,
     long: &mut Vec<LongValue>,
 ) -> Result<usize, PartFault>
     requires short { length text.now ≤ MAX_LENGTH }
     requires within { at ≤ length text.now }
-    requires room { length nodes.old.items ≤ at }
+    requires room { length nodes.old ≤ at }
     requires kept { AreKeptEnds text.now long.old.items }
-    ensures read { IfOk result (λ end. ReadsSequence text.now at end link nodes.old.items nodes.new.items) }
-    ensures room { IfOk result (λ end. length nodes.new.items ≤ end) }
+    ensures read { IfOk result (λ end. ReadsSequence text.now at end link nodes.old nodes.new) }
+    ensures room { IfOk result (λ end. length nodes.new ≤ end) }
     ensures rises { IfOk result (λ end. at ≤ end) }
     ensures within { IfOk result (λ end. end ≤ length text.now) }
-    ensures fault { IfErr result (IsFaultInSequence text.now at link nodes.old.items) }
+    ensures fault { IfErr result (IsFaultInSequence text.now at link nodes.old) }
     ensures kept { OnOk result (AreKeptEnds text.now long.new.items) }
 {
     let place = skip_white_space(text, at);
@@ -113,14 +114,14 @@ fn read_node(
     text: &[u8],
     place: usize,
     link: Link,
-    nodes: &mut Vec<NodeEntry>,
+    nodes: &mut Nodes,
     long: &mut Vec<LongValue>,
 ) -> Result<PartRead, PartFault>
     requires short { length text.now ≤ MAX_LENGTH }
     requires within { place < length text.now }
-    requires room { length nodes.old.items ≤ place }
+    requires room { length nodes.old ≤ place }
     requires kept { AreKeptEnds text.now long.old.items }
-    ensures read { IfOk result (λ read. IsNodeRead text.now place read.end link nodes.old.items nodes.new.items) }
+    ensures read { IfOk result (λ read. IsNodeRead text.now place read.end link nodes.old nodes.new) }
     ensures written { IfOk result (λ read. IsTrue read.as_written → AreWritten text.now (place + 1) read.end) }
     ensures fault { IfErr result (IsFaultInNode text.now (place + 1)) }
     ensures kept { OnOk result (AreKeptEnds text.now long.new.items) }
@@ -130,29 +131,24 @@ fn read_node(
         Some(read) => read,
         None => read_properties(text, at, long)?,
     };
-    nodes.push(NodeEntry {
-        place: place as u32,
-        link,
-        last_below: 0,
-    })?;
+    nodes.push(place as u32, link)?;
     Ok(read)
 }
 
 /// Stores the number of the newest node as `last_below` in each own node of a game.
 /// `tip` is the last own node. Returns the parent of the first own node.
-fn close_game(nodes: &mut Vec<NodeEntry>, tip: u32) -> Option<u32>
-    requires few { length nodes.old.items ≤ MAX_LENGTH }
-    requires within { tip < length nodes.old.items }
-    requires own { (first : ℕ) × AreOwnNodes nodes.old.items first tip }
-    ensures { (first : ℕ) → AreOwnNodes nodes.old.items first tip
-        → ClosesGame nodes.old.items nodes.new.items first tip result }
+fn close_game(nodes: &mut Nodes, tip: u32) -> Option<u32>
+    requires few { length nodes.old ≤ MAX_LENGTH }
+    requires within { tip < length nodes.old }
+    requires own { (first : ℕ) × AreOwnNodes nodes.old first tip }
+    ensures { (first : ℕ) → AreOwnNodes nodes.old first tip
+        → ClosesGame nodes.old nodes.new first tip result }
 {
     let last = (nodes.len() - 1) as u32;
     let mut at = tip as usize;
     'own: loop {
-        let node = &mut nodes[at];
-        node.last_below = last;
-        match node.link {
+        nodes.set_last_below(at, last);
+        match nodes.link(at) {
             Link::Root(_) => return None,
             Link::Variation(parent) => return Some(parent),
             Link::Next { .. } => at -= 1,

@@ -1,8 +1,9 @@
-use Rattle.std.proofs.Common.{◌≡◌, ◌<◌, ◌++◌, slice_range, Some, refl, ap, ◌∙◌, arith}
-use Rattle.sgf_tree.specs.Tree.{Node}
+use Rattle.std.proofs.Common.{◌≡◌, ◌+◌, ◌<◌, ◌++◌, slice_range, Some, refl, ap, ◌∙◌, arith}
+use Rattle.sgf_tree.specs.Tree.{Node, node_count}
 use Rattle.sgf_tree.specs.FileOrder.{node_at}
 use Rattle.sgf_tree.specs.Written.{node_text}
-use Rattle.sgf_tree.proofs.Held.{count-held, entry-held, inside-held, beside-held}
+use Rattle.sgf_tree.specs.declared.layout.NodeEntry.{NodeEntry}
+use Rattle.sgf_tree.proofs.Held.{count-held, entry-with, number-within, inside-held, beside-held}
 use Rattle.sgf_tree.proofs.Runs.{run-none, run-more, run-done}
 use Rattle.sgf_tree.proofs.collection.Collection.push_run.Goals as goal
 use Rattle.sgf_tree.proofs.collection.Collection.push_run.Goals.{After-place-end}
@@ -15,11 +16,11 @@ beside-init c =
 -- the next number is one of a node
 pub overflow_add-last : goal.overflow_add-last
 overflow_add-last c =
-    let entry = entry-held c.self.inside c.self.invariant.0 _ c.self.view_is c.beside.last _ c.beside.invariant.place_is in
-    omega (arith, entry.1, count-held c.self.inside c.self.invariant.0 _ c.self.view_is, c.self.inside.nodes.small)
+    let place_is = c.beside.invariant.place_is in
+    omega (arith, number-within c.self.inside c.self.invariant.0 _ c.self.view_is _ _ place_is, inside-held c.self.inside c.self.invariant.0 _ c.self.view_is _ _ place_is, c.self.invariant.0.short)
 
-pub index-requires : goal.index-requires
-index-requires c =
+pub link-requires : goal.link-requires
+link-requires c =
     let next = c.requires.within c.beside.count 0 c.beside-test.true in
     omega (arith, count-held c.self.inside c.self.invariant.0 _ c.self.view_is, next, c.if-numbers-count.true)
 
@@ -28,8 +29,10 @@ before : (c : After-place-end) → (n : Node) × (node_at c.args.self.now c.besi
     × (slice_range c.self.inside.text.now c.beside.end c.place-end.result ≡ node_text n)
 before c =
     let next = c.requires.within c.beside.count 0 c.beside-test.true in
-    beside-held c.self.inside c.self.invariant.0 _ c.self.view_is c.beside.last c.beside.end c.place-end.result c.index.result.now c.beside.invariant.place_is c.index.ensures
-    (c.is_beside.ensures c.if-is_beside.true) (omega (arith, next, c.if-numbers-count.true)) c.place-end.ensures
+    let within : c.beside.last + 1 < node_count c.args.self.now = omega (arith, next, c.if-numbers-count.true) in
+    let y = entry-with c.self.inside c.self.invariant.0 _ c.self.view_is (λ (n : NodeEntry). n.link) (c.beside.last + 1) _ within c.link.ensures in
+    beside-held c.self.inside c.self.invariant.0 _ c.self.view_is c.beside.last c.beside.end c.place-end.result y.0 c.beside.invariant.place_is y.1
+    (y.2 ∙ c.is_beside.ensures c.if-is_beside.true) within c.place-end.ensures
 
 pub overflow_sub-end : goal.overflow_sub-end
 overflow_sub-end c = omega (arith, c.beside.invariant.rises, (before (goal.at.overflow_sub-end c).After-place-end).2)

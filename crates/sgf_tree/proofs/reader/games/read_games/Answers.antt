@@ -15,7 +15,7 @@ returns-in_err-at-in-40-clause-fault c =
     (c.in_err-at-in-40.ensures.fault so_far.stack (games-open c.args.text.now c.games.at c.games.games c.games.tip _ so_far c.games-test.true c.in-40.is) so_far.held (c.opening_link.ensures so_far.stack so_far.tip_is so_far.games_are))
 
 -- the game's own nodes were read
-sequence : (c : In_ok-at-in-40) → IsSequenceRead c.args.text.now c.in_ok-at-in-40.at c.games.invariant.so_far.stack c.read_sequence.new.nodes.items
+sequence : (c : In_ok-at-in-40) → IsSequenceRead c.args.text.now c.in_ok-at-in-40.at c.games.invariant.so_far.stack c.read_sequence.new.nodes
 sequence c =
     let so_far = c.games.invariant.so_far in
     c.in_ok-at-in-40.ensures.read so_far.stack (games-open c.args.text.now c.games.at c.games.games c.games.tip _ so_far c.games-test.true c.in-40.is) so_far.held (c.opening_link.ensures so_far.stack so_far.tip_is so_far.games_are)
@@ -24,18 +24,18 @@ pub overflow_sub-tip : goal.overflow_sub-tip
 overflow_sub-tip c =
     let read = sequence (goal.at.overflow_sub-tip c).In_ok-at-in-40 in
     let k = c.games.invariant.so_far.stack in
-    omega (arith, c.len.ensures, c.read_sequence.new.nodes.ok.0, nodes-held c.args.text.now (record { closed = k.closed; unclosed = read.last ∷ k.unclosed }) _ read.held)
+    omega (arith, c.len.ensures, nodes-held c.args.text.now (record { closed = k.closed; unclosed = read.last ∷ k.unclosed }) _ read.held)
 
 pub games-preserved-in-40 : goal.games-preserved-in-40
 games-preserved-in-40 c =
     let so_far = c.games.invariant.so_far in
-    let count : length c.read_sequence.new.nodes.items ≡ c.len.result = omega (arith, c.len.ensures, c.read_sequence.new.nodes.ok.0) in
+    let count : length c.read_sequence.new.nodes ≡ c.len.result = omega (arith, c.len.ensures) in
     record {
       within = c.in_ok-at-in-40.ensures.within;
       few = omega (arith, c.games.invariant.few, c.in_ok-at-in-40.ensures.rises);
       room = c.in_ok-at-in-40.ensures.room;
       so_far =
-          subst (λ n. GamesSoFar c.args.text.now c.in_ok-at-in-40.at c.games.games (Some (n - 1)) c.read_sequence.new.nodes.items) count
+          subst (λ n. GamesSoFar c.args.text.now c.in_ok-at-in-40.at c.games.games (Some (n - 1)) c.read_sequence.new.nodes) count
           (games-sequence c.args.text.now c.in_ok-at-in-40.at c.games.games so_far.stack _ (sequence (goal.at.games-preserved-in-40 c).In_ok-at-in-40) so_far.games_are);
       kept = c.in_ok-at-in-40.ensures.kept;
     }
@@ -65,7 +65,7 @@ games-preserved c =
       | then-is_none w ↦ omega (arith, w.games-is)
       | else-is_none w ↦ omega (arith, w.games-is)
     ] in
-    let same : length c.close_game-tip.new.nodes.items ≡ length c.games.nodes.items = close-count c.args.text.now c.games.at c.games.games c.in-Some.last _ so_far _ _ c.close_game-tip.ensures in
+    let same : length c.close_game-tip.new.nodes ≡ length c.games.nodes = close-count c.args.text.now c.games.at c.games.games c.in-Some.last _ so_far _ _ c.close_game-tip.ensures in
     record {
       within = c.skip_white_space-at.ensures.within;
       few = omega (arith, at_most, c.games.invariant.few, c.skip_white_space-at.ensures.rises);

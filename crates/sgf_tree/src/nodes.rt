@@ -1,0 +1,200 @@
+//! The nodes of a collection in file order, in 8 bytes a node.
+//!
+//! A node's text often has only 6 bytes, as in `;B[pd]`. So the memory of the nodes costs much of the time of reading.
+//!
+//! A place is less than `MAX_LENGTH`, so its top bits are free. They hold the kind of the node. Most nodes follow the node before them, and
+//! need only one number more: `last_below`. The first node of a game or of a variation needs two. These are in a second vector, and the
+//! entry of the node has their index. So a first node takes 16 bytes. Nothing is searched for.
+//!
+//! Contracts see a list of `NodeEntry`, and neither vector.
+
+ghost use Rattle.std.specs.Prelude.{◌≡◌, ◌^◌, ◌<◌, ◌≤◌, ◌++◌, ◌∷◌, [], length, option_map, slice_get, slice_set, IfOk, OnOk, OnErr};
+ghost use Rattle.sgf_tree.specs.declared.layout.NodeEntry.{NodeEntry};
+ghost use Rattle.sgf_tree.specs.inner.Packing.{link_by};
+
+use crate::fault::MemoryFault;
+use crate::layout::Link;
+use std::alloc::Global;
+use std::marker::Model;
+
+/// The number of first nodes that there is room for at once. Most texts have few variations, or none, so the vector seldom grows.
+const ROOM_FOR_FIRSTS: usize = 16;
+
+/// Places are less than this. A word holds a place plus the node's kind times this.
+const PLACES: u32 = 1 << 30;
+
+/// The kind of a node that follows the node before it.
+const NEXT: u32 = 0;
+/// The same, and `Link::Next` says that the node is beside the one before it.
+const BESIDE: u32 = 1;
+/// The kind of the root of a game.
+const ROOT: u32 = 2;
+/// The kind of the first node of a variation.
+const VARIATION: u32 = 3;
+
+/// A node as it is kept.
+#[derive(Clone, Copy)]
+struct Packed {
+    /// The node's place plus its kind times `PLACES`.
+    place_and_kind: u32,
+    /// For a first node the index of its numbers in `firsts`. For any other node its `last_below`.
+    value: u32,
+}
+
+/// The numbers of the first node of a game or of a variation.
+#[derive(Clone, Copy)]
+struct First {
+    /// The number of the game if the node is its root, else the number of the node's parent.
+    number: u32,
+    /// The greatest number among the node and the nodes below it.
+    last_below: u32,
+}
+
+/// The nodes of a collection in file order, numbered from 0.
+#[derive(Drop)]
+pub(crate) struct Nodes {
+    entries: Vec<Packed>,
+    /// The numbers of the first nodes, in file order.
+    firsts: Vec<First>,
+}
+
+impl Model for Nodes {
+    ghost use Rattle.std.specs.Prelude.{List, map};
+    ghost use Rattle.sgf_tree.specs.declared.layout.NodeEntry.{NodeEntry};
+
+    ghost Value = { List NodeEntry };
+
+    ghost use Rattle.sgf_tree.specs.inner.Packing.{node_of, AreFirstsOf};
+
+    ghost view = { λ n. map (node_of n.firsts.items) n.entries.items };
+
+    ghost invariant = { λ n. AreFirstsOf n.firsts.items n.entries.items };
+}
+
+impl Nodes {
+    /// No nodes, with room for `count` nodes.
+    pub(crate) fn with_capacity(alloc: Global, count: usize) -> Result<Nodes, MemoryFault>
+        ensures { IfOk result (λ nodes. nodes ≡ []) }
+    {
+        Ok(Nodes {
+            entries: Vec::with_capacity(alloc, count)?,
+            firsts: Vec::with_capacity(alloc, ROOM_FOR_FIRSTS)?,
+        })
+    }
+
+    /// The number of nodes.
+    pub(crate) fn len(&self) -> usize
+        ensures { result ≡ length self.now }
+    {
+        self.entries.len()
+    }
+
+    /// Appends the node with this place and link. Its `last_below` is 0. If memory is refused, the nodes are unchanged.
+    // Inlined: where the link is known to be `Next`, only the short way is left.
+    #[inline(always)]
+    pub(crate) fn push(&mut self, place: u32, link: Link) -> Result<(), MemoryFault>
+        requires low { place < PLACES }
+        requires few { length self.old < 2 ^ 32 }
+        ensures pushed { OnOk result (self.new ≡ self.old ++ record { place = place; link = link; last_below = 0 } ∷ []) }
+        ensures unchanged { OnErr result (self.new ≡ self.old) }
+    {
+        match link {
+            Link::Next { beside } => self.push_next(place, beside),
+            Link::Root(game) => self.push_first(place, ROOT, game),
+            Link::Variation(parent) => self.push_first(place, VARIATION, parent),
+        }
+    }
+
+    /// Appends a node that follows the node before it. If memory is refused, the nodes are unchanged.
+    #[inline(always)]
+    fn push_next(&mut self, place: u32, beside: bool) -> Result<(), MemoryFault>
+        requires { place < PLACES }
+        ensures pushed { OnOk result (self.new ≡ self.old ++ record { place = place; link = Link.Next beside; last_below = 0 } ∷ []) }
+        ensures unchanged { OnErr result (self.new ≡ self.old) }
+    {
+        let kind = if beside { BESIDE } else { NEXT };
+        self.entries.push(Packed {
+            place_and_kind: place + kind * PLACES,
+            value: 0,
+        })?;
+        Ok(())
+    }
+
+    /// Appends a first node of this kind. If memory is refused, the nodes are unchanged.
+    fn push_first(&mut self, place: u32, kind: u32, number: u32) -> Result<(), MemoryFault>
+        requires low { place < PLACES }
+        requires few { length self.old < 2 ^ 32 }
+        requires first { ROOT ≤ kind }
+        requires kind { kind ≤ VARIATION }
+        ensures pushed { OnOk result (self.new ≡ self.old ++ record { place = place; link = link_by kind number; last_below = 0 } ∷ []) }
+        ensures unchanged { OnErr result (self.new ≡ self.old) }
+    {
+        let index = self.firsts.len();
+        self.firsts.push(First {
+            number,
+            last_below: 0,
+        })?;
+        let pushed = self.entries.push(Packed {
+            place_and_kind: place + kind * PLACES,
+            value: index as u32,
+        });
+        if pushed.is_err() {
+            self.firsts.truncate(index);
+            return Err(MemoryFault);
+        }
+        Ok(())
+    }
+
+    /// The place of node `i`. `i` must be less than `len()`, here and in the calls below.
+    #[inline(always)]
+    pub(crate) fn place(&self, i: usize) -> u32
+        requires { i < length self.now }
+        ensures { option_map (λ (n : NodeEntry). n.place) (slice_get self.now i) ≡ Some result }
+    {
+        self.entries[i].place_and_kind % PLACES
+    }
+
+    /// How node `i` follows the nodes before it.
+    #[inline(always)]
+    pub(crate) fn link(&self, i: usize) -> Link
+        requires { i < length self.now }
+        ensures { option_map (λ (n : NodeEntry). n.link) (slice_get self.now i) ≡ Some result }
+    {
+        let entry = self.entries[i];
+        match entry.place_and_kind / PLACES {
+            NEXT => Link::Next { beside: false },
+            BESIDE => Link::Next { beside: true },
+            ROOT => Link::Root(self.firsts[entry.value as usize].number),
+            _ => Link::Variation(self.firsts[entry.value as usize].number),
+        }
+    }
+
+    /// The greatest number among node `i` and the nodes below it.
+    #[inline(always)]
+    pub(crate) fn last_below(&self, i: usize) -> u32
+        requires { i < length self.now }
+        ensures { option_map (λ (n : NodeEntry). n.last_below) (slice_get self.now i) ≡ Some result }
+    {
+        let entry = self.entries[i];
+        if entry.place_and_kind / PLACES < ROOT {
+            entry.value
+        } else {
+            self.firsts[entry.value as usize].last_below
+        }
+    }
+
+    /// Stores `last` as the `last_below` of node `i`.
+    #[inline(always)]
+    pub(crate) fn set_last_below(&mut self, i: usize, last: u32)
+        requires { i < length self.old }
+        ensures { (node : NodeEntry) → slice_get self.old i ≡ Some node
+            → self.new ≡ slice_set self.old i (record node { last_below = last }) }
+    {
+        let entry = self.entries[i];
+        if entry.place_and_kind / PLACES < ROOT {
+            self.entries[i].value = last;
+        } else {
+            self.firsts[entry.value as usize].last_below = last;
+        }
+    }
+}
