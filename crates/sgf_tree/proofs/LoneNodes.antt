@@ -84,9 +84,13 @@ module _ (s : List ℕ) (is : IsMove s 1) where
 pub front-left : (s : List ℕ) (is : IsLoneFront s) → ArePropertiesIn (drop 1 s) → (properties_in (drop 1 s) ≡ lone s is.front ∷ properties_in (drop 6 s)) × ArePropertiesIn (drop 6 s)
 front-left s is held = left-after held (spelled s is.front) (ends-at s 6 is.ends.next is.ends.white_space is.ends.other)
 
+-- the properties of a node of one property
+pub lone-properties : (s : List ℕ) (is : IsLoneNode s) → properties_in (drop 1 s) ≡ lone s is.front ∷ []
+lone-properties s is = properties-in (properties (spelled s is.front) no_property) (ends-node s 6 is.ends)
+
 -- the text of a node of one property
 pub lone-text : (s : List ℕ) → IsLoneNode s → s ≡ 59 ∷ drop 1 s → slice_range s 0 6 ≡ codes ";" ++ flat_map property_text (properties_in (drop 1 s))
 lone-text s is begins =
     ap (take 6) (begins ∙ ap (λ u. 59 ∷ u) (here s is.front))
     ∙ ap (λ v. codes ";" ++ flat_map property_text (lone_property (get_or s 1 0) v ∷ [])) (ap (take 2) (sym (value-here s is.front)))
-    ∙ ap (λ ps. codes ";" ++ flat_map property_text ps) (sym (properties-in (properties (spelled s is.front) no_property) (ends-node s 6 is.ends)))
+    ∙ ap (λ ps. codes ";" ++ flat_map property_text ps) (sym (lone-properties s is))

@@ -1,6 +1,6 @@
 //! A node of a collection.
 
-ghost use Rattle.std.specs.Prelude.{◌≡◌, ◌<◌, ◌++◌, length, slice_get, find, Some, OnOk, OnErr, option_map, option_to_list};
+ghost use Rattle.std.specs.Prelude.{◌≡◌, ◌<◌, ◌++◌, ◌∷◌, [], length, slice_get, find, Some, IfSome, OnOk, OnErr, option_map, option_to_list};
 ghost use Rattle.std.specs.Str.{bytes_eq};
 ghost use Rattle.sgf_tree.specs.Tree.{lone_property};
 ghost use Rattle.sgf_tree.specs.Written.{node_text};
@@ -9,6 +9,7 @@ use crate::fault::MemoryFault;
 use crate::iter::Properties;
 use crate::layout::LongValue;
 use crate::property::PropRef;
+use crate::reader::properties::is_lone_at_once;
 use crate::reader::scan::{is_lone_front, is_lone_node, part};
 use crate::written::push_node;
 use std::marker::Model;
@@ -72,6 +73,23 @@ impl<'c, 'a> NodeRef<'c, 'a> {
             (Some((text[1], part(text, 3, 5))), left)
         } else {
             (None, self.iter())
+        }
+    }
+
+    /// If the node is recognized at a glance as one property, as `;B[pd]` is, this returns the property's letter and its raw value.
+    /// If it returns None, nothing is known.
+    ///
+    /// The node is recognized only if the property's name is one capital, its only value is two bytes without an escape, nothing
+    /// stands between the node's parts or after them, and the text goes on for a while.
+    #[inline(always)]
+    pub fn lone(&self) -> Option<(u8, &'a [u8])>
+        ensures { IfSome result (λ lone. self.now.properties ≡ lone_property lone.0 lone.1.now ∷ []) }
+    {
+        let text = self.text;
+        if is_lone_at_once(text) {
+            Some((text[1], part(text, 3, 5)))
+        } else {
+            None
         }
     }
 

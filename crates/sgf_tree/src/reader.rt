@@ -13,7 +13,7 @@ ghost use Rattle.sgf_tree.specs.inner.GamesRead.{ReadsWhole};
 mod fault;
 mod games;
 mod mark;
-mod properties;
+pub(crate) mod properties;
 pub(crate) mod scan;
 pub(crate) mod value;
 

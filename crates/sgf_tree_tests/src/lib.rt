@@ -6,7 +6,7 @@
 //!
 //! | Module | Examples of |
 //! |---|---|
-//! | `node` | for which nodes `front` returns a property, how the sgf form writes a node, and properties one after another |
+//! | `node` | for which nodes `front` and `lone` return a property, how the sgf form writes a node, and properties one after another |
 //! | `property` | names, and values that outlive their collection |
 //! | `numbers` | values that are numbers, and values that aren't |
 #![tactic(auto)]

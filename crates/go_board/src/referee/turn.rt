@@ -22,6 +22,8 @@ impl<P: Past> Referee<P> {
     ///
     /// - `Illegal`: the first of `Over`, `Turn`, `Occupied` and `Repeat` that holds. This refusal comes even if memory is refused.
     /// - `Memory`: the turn is allowed, but memory was refused.
+    // Not inlined: there is one copy of it, and what it calls is inlined there.
+    #[inline(never)]
     pub fn turn(&mut self, colour: Colour, play: Play) -> Result<(), TurnFault>
         requires { IsPlayOn self.old.present.colouring.side play }
         ensures illegal { (r : Reason) → (IsErrOf result (TurnFault.Illegal r)

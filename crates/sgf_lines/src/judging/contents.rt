@@ -81,7 +81,7 @@ impl<'a> Contents<'a> {
     }
 
     /// What a property holds if its name is this one letter and its only value is `raw`.
-    fn of_lone(letter: u8, raw: &'a [u8]) -> Contents<'a>
+    pub(crate) fn of_lone(letter: u8, raw: &'a [u8]) -> Contents<'a>
         ensures { (side : ℕ) → IsGathered side (lone_property letter raw.now ∷ []) [] result }
     {
         match letter {

@@ -91,6 +91,8 @@ impl Judge {
 
     /// Takes one more node, and returns its step. None if the step isn't taken: the game isn't judged, the node
     /// isn't allowed, or the line ended before it. After a refusal of memory nothing is changed.
+    // Inlined: a caller that needs no step has no step put together.
+    #[inline(always)]
     pub(crate) fn take<'a>(
         &mut self,
         node: &NodeRef<'_, 'a>,

@@ -1,7 +1,7 @@
 //! A node's step on a referee.
 
 ghost use Rattle.std.specs.Prelude.{◌≡◌, ◌<◌, ◌⊎◌, ◌∷◌, [], length, All, IfOk, IsSome, Ok, if◌then◌else◌};
-ghost use Rattle.sgf_tree.specs.Tree.{Node};
+ghost use Rattle.sgf_tree.specs.Tree.{Node, lone_property};
 ghost use Rattle.go_board.specs.Point.{IsRectOn};
 ghost use Rattle.go_board.specs.State.{set_up as set_up_rule};
 ghost use Rattle.sgf_lines.specs.NodeValues.{move_value as move_value_rule};
@@ -37,7 +37,47 @@ pub(crate) struct TakenStep<'a> {
 /// its stones and its player, or stays. `operations` is a buffer.
 ///
 /// If the node isn't allowed, the first reason is returned. After a refusal the referee is unchanged.
+#[inline(always)]
 pub(crate) fn take_step<'a, P: Past>(
+    referee: &mut Referee<P>,
+    node: &NodeRef<'_, 'a>,
+    operations: &mut Vec<SetupOp>,
+) -> Result<TakenStep<'a>, TurnFault>
+    ensures stepped { IsStepped (step referee.old.present node.now) referee.old referee.new result }
+    ensures told { IfOk result (IsStepOf referee.old.present.colouring.side node.now) }
+{
+    match node.lone() {
+        Some((letter, raw)) => take_lone_step(referee, letter, raw),
+        None => take_any_step(referee, node, operations),
+    }
+}
+
+/// Takes the step of a node that has one property, whose name is this letter and whose only value is `raw`. Most nodes are like that.
+// Inlined: what such a node doesn't need drops out.
+#[inline(always)]
+fn take_lone_step<'a, P: Past>(
+    referee: &mut Referee<P>,
+    letter: u8,
+    raw: &'a [u8],
+) -> Result<TakenStep<'a>, TurnFault>
+    ensures stepped { (node : Node) → node.properties ≡ lone_property letter raw.now ∷ []
+        → IsStepped (step referee.old.present node) referee.old referee.new result }
+    ensures told { (node : Node) → node.properties ≡ lone_property letter raw.now ∷ []
+        → IfOk result (IsStepOf referee.old.present.colouring.side node) }
+{
+    let contents = Contents::of_lone(letter, raw);
+    match take_contents(referee, &contents, &[]) {
+        Ok(effect) => Ok(TakenStep {
+            effect,
+            comment: contents.comment,
+        }),
+        Err(fault) => Err(fault),
+    }
+}
+
+/// The same as `take_step`, whatever the node holds.
+#[inline(never)]
+fn take_any_step<'a, P: Past>(
     referee: &mut Referee<P>,
     node: &NodeRef<'_, 'a>,
     operations: &mut Vec<SetupOp>,
@@ -59,6 +99,7 @@ pub(crate) fn take_step<'a, P: Past>(
 }
 
 /// Takes the step of a node with these contents. `operations` has the operations of the node's stones.
+#[inline(always)]
 fn take_contents<P: Past>(
     referee: &mut Referee<P>,
     contents: &Contents<'_>,
@@ -109,6 +150,7 @@ fn set_up<P: Past>(
 }
 
 /// Takes the turn of a move.
+#[inline(always)]
 fn take_move<P: Past>(
     referee: &mut Referee<P>,
     colour: Colour,

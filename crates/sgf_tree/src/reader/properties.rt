@@ -2,7 +2,7 @@
 
 ghost use Rattle.std.specs.Prelude.{◌≡◌, false, ◌<◌, ◌≤◌, ◌+◌, ◌%◌, length, slice_index, IsTrue, IfSome, IfOk, IfErr, OnOk};
 ghost use Rattle.sgf_tree.specs.Spelling.{is_upper};
-ghost use Rattle.sgf_tree.specs.inner.Progress.{IsSpan, IsMove, EndsNode};
+ghost use Rattle.sgf_tree.specs.inner.Progress.{IsSpan, IsMove, IsLoneNode, EndsNode};
 ghost use Rattle.sgf_tree.specs.inner.NodeText.{AreWritten};
 ghost use Rattle.sgf_tree.specs.inner.PropertiesRead.{AreValuesEnded, IsNameRead, IsWholePropertyRead, ArePropertiesRead, IsFaultInProperty, IsFaultInNode};
 ghost use Rattle.sgf_tree.specs.inner.KeptEnds.{AreKeptEnds};
@@ -29,16 +29,16 @@ pub(crate) fn glance(text: &[u8], at: usize) -> Option<PartRead>
     if text.len() - at < NEAR {
         return None;
     }
-    if b' ' < text[at] && text[at] < b'A' {
-        return Some(PartRead {
-            end: at,
-            as_written: true,
-        });
-    }
     let in_place = bytes_in_place(text, at);
     if in_place % 64 == 63 {
         return Some(PartRead {
             end: at + 5,
+            as_written: true,
+        });
+    }
+    if b' ' < text[at] && text[at] < b'A' {
+        return Some(PartRead {
+            end: at,
             as_written: true,
         });
     }
@@ -63,6 +63,14 @@ fn bytes_in_place(text: &[u8], at: usize) -> u64
     (u8x16::from_slice(&text[at..]) - least)
         .simd_le(above)
         .to_bitmask()
+}
+
+/// Whether the text begins with a node that is written like `;B[pd]`, and goes on for a while. If it is false, nothing is known.
+#[inline(always)]
+pub(crate) fn is_lone_at_once(text: &[u8]) -> bool
+    ensures { IsTrue result → IsLoneNode text.now }
+{
+    text.len() > NEAR && bytes_in_place(text, 1) % 64 == 63
 }
 
 /// Reads the properties of a node that begin with a move at `at`, if those after it are short. None says nothing.
