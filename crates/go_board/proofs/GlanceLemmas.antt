@@ -1,5 +1,5 @@
 -- What the words of bits around a point tell of a stone on it.
-use Rattle.std.proofs.Common.{◌≡◌, ◌≢◌, ◌⊎◌, inl, inr, ℕ, ◌+◌, ◌^◌, ◌<◌, ◌||◌, Bool, true, false, not, List, [], length, get_or, bit_and, bit_or, w64, refl, sym, ap, ◌∙◌, arith, subst}
+use Rattle.std.proofs.Common.{◌≡◌, ◌≢◌, ◌⊎◌, inl, inr, ℕ, zero, suc, ◌+◌, ◌^◌, ◌<◌, ◌||◌, ◌&&◌, Bool, true, false, not, List, [], length, get_or, bit_and, bit_or, w64, refl, sym, ap, ◌∙◌, arith, subst}
 use Rattle.std.specs.Int.{bit_not}
 use Rattle.std.proofs.lemmas.Bool.{or_cases, or_parts, and_parts, and_from, not-true, false≢true, cases_eq}
 use Rattle.go_board.specs.declared.stones.Cell.TheVariants.{Empty}
@@ -13,7 +13,7 @@ use Rattle.go_board.specs.Reaching.{Reaches}
 use Rattle.go_board.specs.inner.Glance.{IsInRowAround, IsRowAt}
 use Rattle.go_board.specs.inner.Groups.{ReachesIfStone}
 use Rattle.go_board.specs.inner.Regions.{AreRowsOf}
-use Rattle.go_board.specs.inner.Rows.{has_bit, is_set, IsInOrBeside}
+use Rattle.go_board.specs.inner.Rows.{has_bit, is_set, row_above, IsInOrBeside}
 use Rattle.go_board.proofs.GridLemmas.{Decides-same_cell, cell_at-with_cell_elsewhere}
 use Rattle.go_board.proofs.GroupLemmas.{neither_stone}
 use Rattle.go_board.proofs.ReachingLemmas.{path_by_step}
@@ -46,7 +46,7 @@ without_from one other without c low few none first second =
     (sym (has_bit-without (bit_and one other) without c few (column_below 64 one c low first)) ∙ none)
 
 -- a word that isn't 0 has a column
-some_bit : (w : ℕ) → w < 2 ^ 64 → w ≢ 0 → (c : ℕ) × (has_bit w c ≡ true)
+pub some_bit : (w : ℕ) → w < 2 ^ 64 → w ≢ 0 → (c : ℕ) × (has_bit w c ≡ true)
 some_bit w low some = (_, (lowest_left w w some low (λ c is. is)).0)
 
 pub some_of_three : (a b c : ℕ) → a < 2 ^ 64 → b < 2 ^ 64 → c < 2 ^ 64 → bit_or (bit_or a b) c ≢ 0
@@ -69,6 +69,61 @@ none_of_three a b c col none =
     let last = or_parts _ _ (sym (has_bit-or (bit_or a b) c col) ∙ no) in
     let first = or_parts _ _ (sym (has_bit-or a b col) ∙ last.0) in
     (first.0, first.1, last.1)
+
+pub none_of_two : (a b col : ℕ) → bit_or a b ≡ 0 → (has_bit a col ≡ false) × (has_bit b col ≡ false)
+none_of_two a b col none = or_parts _ _ (sym (has_bit-or a b col) ∙ ap (λ w. has_bit w col) none ∙ has_bit-zero col)
+
+-- where no stone of the other rows is in the column of the stone, and none of its own row is beside it
+pub untouched : (stone up down along here : ℕ) → bit_or (bit_and stone (bit_or up down)) (bit_and along here) ≡ 0 → (col : ℕ)
+    → (has_bit stone col ≡ true → (has_bit up col ≡ false) × (has_bit down col ≡ false)) × (has_bit along col ≡ true → has_bit here col ≡ false)
+untouched stone up down along here none col =
+    let no : has_bit (bit_or (bit_and stone (bit_or up down)) (bit_and along here)) col ≡ false = ap (λ w. has_bit w col) none ∙ has_bit-zero col in
+    let both = or_parts _ _ (sym (has_bit-or (bit_and stone (bit_or up down)) (bit_and along here) col) ∙ no) in (
+      λ there.
+          or_parts _ _
+          (sym (has_bit-or up down col)
+          ∙ ap (λ b. b && has_bit (bit_or up down) col) (sym there)
+          ∙ sym (has_bit-and stone (bit_or up down) col)
+          ∙ both.0),
+      λ there. ap (λ b. b && has_bit here col) (sym there) ∙ sym (has_bit-and along here col) ∙ both.1,
+    )
+
+-- the rows above and below a row, of which only the opponent's stones are looked at
+pub others_above : (own others : List ℕ) (row word : ℕ) → word ≡ row_above others row
+    → IsRowAt own others row 1 (record { own = 0; others = word; free = 0 })
+others_above own others zero word same = record {
+  are_free = λ col is. absurd (false≢true (sym (has_bit-zero col) ∙ is));
+  are_own = λ col is. absurd (false≢true (sym (has_bit-zero col) ∙ is));
+  has_others = λ p there is. absurd (omega (arith, there));
+}
+others_above own others (suc r) word same = record {
+  are_free = λ col is. absurd (false≢true (sym (has_bit-zero col) ∙ is));
+  are_own = λ col is. absurd (false≢true (sym (has_bit-zero col) ∙ is));
+  has_others = λ p there is. ap (λ w. has_bit w p.col) same ∙ ap (λ n. has_bit (get_or others n 0) p.col) (omega (arith, there)) ∙ is;
+}
+
+pub others_below : (own others : List ℕ) (row word : ℕ) → word ≡ get_or others (row + 1) 0
+    → IsRowAt own others row 3 (record { own = 0; others = word; free = 0 })
+others_below own others row word same = record {
+  are_free = λ col is. absurd (false≢true (sym (has_bit-zero col) ∙ is));
+  are_own = λ col is. absurd (false≢true (sym (has_bit-zero col) ∙ is));
+  has_others = λ p there is. ap (λ w. has_bit w p.col) same ∙ ap (λ n. has_bit (get_or others n 0) p.col) (omega (arith, there)) ∙ is;
+}
+
+-- a row of the board without stones of the opponent in some columns: what isn't the player's there is free
+pub free_along : (own others : List ℕ) (row along columns : ℕ) → row < length own
+    → ((col : ℕ) → col < length own → has_bit columns col ≡ not (has_bit (get_or own row 0) col))
+    → ((col : ℕ) → has_bit columns col ≡ true → col < length own)
+    → ((col : ℕ) → has_bit along col ≡ true → has_bit (get_or others row 0) col ≡ false)
+    → IsRowAt own others row 2 (record { own = 0; others = get_or others row 0; free = bit_and along columns })
+free_along own others row along columns below within off none = record {
+  are_free = λ col is.
+      let both = and_parts _ _ (sym (has_bit-and along columns col) ∙ is) in
+      let low = off col both.1 in
+      (record { col = col; row = row }, (refl, refl), (low, below), not-true _ (sym (within col low) ∙ both.1), none col both.0);
+  are_own = λ col is. absurd (false≢true (sym (has_bit-zero col) ∙ is));
+  has_others = λ p there is. ap (λ n. has_bit (get_or others n 0) p.col) (omega (arith, there)) ∙ is;
+}
 
 -- a row around a row of the board
 pub row_inside : (own others : List ℕ) (middle i r free : ℕ) → r + 2 ≡ middle + i → r < length own
@@ -160,6 +215,9 @@ module _ (g : Grid) (k : Colour) (p : Point) (own others : List ℕ) (side : g.s
   pub free_besides : (row : RowStones) → IsRowAt own others p.row 2 row → has_bit row.free p.col ≡ false → AreFree 2 row.free
   free_besides row is none =
       free_point 2 row is (λ z at set same. false≢true (sym none ∙ ap (λ (x : Point). has_bit row.free x.col) (sym same) ∙ set))
+
+  pub free_adjacent : (i : ℕ) (row : RowStones) → IsRowAt own others p.row i row → AreBeside p i row.free → AreFree i row.free
+  free_adjacent i row is beside = free_point i row is (λ z at set. apart p z (beside z at.1 set))
 
   to_free : (q z : Point) → IsOn g.side q → AreAdjacent q z → IsOn g.side z → cell_at after z ≡ Empty → Reaches after Empty q
   to_free q z on_q next on_z empty = path_by_step after Empty q z on_q next on_z (inr empty) ([], (on_z, empty))

@@ -169,7 +169,7 @@ fn with_before(word: u64, room: u64) -> u64
 }
 
 /// The row above a row; empty above the first.
-fn row_above(rows: &[u64], row: usize) -> u64
+pub(crate) fn row_above(rows: &[u64], row: usize) -> u64
     requires { row < length rows.now }
     ensures { result ≡ row_above rows.now row }
 {
@@ -177,7 +177,7 @@ fn row_above(rows: &[u64], row: usize) -> u64
 }
 
 /// The row below a row; empty below the last.
-fn row_below(rows: &[u64], row: usize) -> u64
+pub(crate) fn row_below(rows: &[u64], row: usize) -> u64
     requires { row < length rows.now }
     ensures { result ≡ slice_index rows.now (row + 1) }
 {

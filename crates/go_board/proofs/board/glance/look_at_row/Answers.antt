@@ -1,6 +1,11 @@
-use Rattle.std.proofs.Common.{inl, inr, arith, rules, ◌<◌, ◌^◌}
+use Rattle.std.proofs.Common.{inl, inr, arith, rules, ◌<◌, ◌^◌, sym, ◌∙◌}
+use Rattle.std.proofs.lemmas.Bool.{and_parts}
+use Rattle.go_board.proofs.WordLemmas.{has_bit-and}
 use Rattle.go_board.proofs.GlanceLemmas.{either_from, without_from}
 use Rattle.go_board.proofs.board.glance.look_at_row.Goals as goal
+
+pub returns-clause-free : goal.returns-clause-free
+returns-clause-free c = λ col is. and_parts _ _ (sym (has_bit-and c.args.columns c.args.row.free col) ∙ is)
 
 pub returns-clause-alive : goal.returns-clause-alive
 returns-clause-alive c = λ col is.

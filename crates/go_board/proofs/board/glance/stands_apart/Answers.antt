@@ -1,82 +1,65 @@
-use Rattle.std.proofs.Common.{◌≡◌, ◌<◌, ◌^◌, rules, ℕ, inl, inr, true, refl, sym, ap, ◌∙◌, arith, subst}
-use Rattle.std.proofs.lemmas.Bool.{cases_eq, eqb-true, or_right, false≢true}
+use Rattle.std.proofs.Common.{◌≡◌, ◌<◌, ◌^◌, rules, ℕ, inl, inr, true, refl, sym, ap, ◌∙◌, arith, subst, get_or, bit_and}
+use Rattle.std.proofs.lemmas.Bool.{cases_eq, eqb-false, not-true, or_right, and_parts, false≢true}
 use Rattle.go_board.specs.declared.board.glance.RowStones.{RowStones}
 use Rattle.go_board.specs.Point.{IsOn, DifferByOne}
 use Rattle.go_board.specs.inner.Glance.{IsRowAt}
 use Rattle.go_board.specs.inner.Rows.{has_bit}
-use Rattle.go_board.proofs.WordLemmas.{has_bit-zero}
+use Rattle.go_board.proofs.WordLemmas.{has_bit-and, has_bit-zero}
 use Rattle.go_board.proofs.NeighbourLemmas.{DifferByOne-sym}
-use Rattle.go_board.proofs.GlanceLemmas.{AreBeside, only_beside, row_all_but, some_of_three, none_of_three, free_elsewhere, free_besides, no_columns_free, alive_reaches, left_reaches}
+use Rattle.go_board.proofs.GlanceLemmas.{AreBeside, only_beside, some_bit, untouched, others_above, others_below, free_along, free_adjacent, no_columns_free, alive_reaches, left_reaches}
 use Rattle.go_board.proofs.board.glance.stands_apart.Goals as goal
 
-pub returns-then-alive-ne0 : goal.returns-then-alive-ne0
-returns-then-alive-ne0 c = λ g k side is_own is_others none.
+pub returns-then-touched-eq0 : goal.returns-then-touched-eq0
+returns-then-touched-eq0 c = λ g k side is_own is_others some.
     let p = c.args.point in
     let own = c.args.own.now in
     let others = c.args.others.now in
     let on : IsOn g.side p = (omega (arith, side, c.requires.on_board), omega (arith, side, c.requires.on_board)) in
-    let at : c.from-middle.result ≡ p.row = c.from-middle.ensures in
-    let col : c.from-col.result ≡ p.col = c.from-col.ensures in
-    let above = c.row_at-above.result in
-    let free = c.without_column.result in
-    let here : RowStones = record { own = c.row_at-here.result.own; others = c.row_at-here.result.others; free = free } in
-    let below = c.row_at-below.result in
+    let at : c.from-row.result ≡ p.row = c.from-row.ensures in
+    let col : c.from.result ≡ p.col = c.from.ensures in
+    let row = c.from-row.result in
     let stone = c.with_column-stone.result in
-    let wide = c.columns_beside.result in
-    let is_above : IsRowAt own others p.row 1 above = subst (λ m. IsRowAt own others m 1 above) at c.row_at-above.ensures.is in
-    let still = λ (n : ℕ) (there : has_bit free n ≡ true).
-    elim (cases_eq n c.from-col.result) as (λ _. has_bit c.row_at-here.result.free n ≡ true) [
-      | inl same ↦ absurd (false≢true (sym c.without_column.ensures.there ∙ ap (has_bit free) (sym same) ∙ there))
-      | inr other ↦ sym (c.without_column.ensures.elsewhere n other) ∙ there
-    ] in
-    let is_here : IsRowAt own others p.row 2 here = subst (λ m. IsRowAt own others m 2 here) at (row_all_but own others c.from-middle.result 2 free c.row_at-here.result still c.row_at-here.ensures.is) in
-    let is_below : IsRowAt own others p.row 3 below = subst (λ m. IsRowAt own others m 3 below) at c.row_at-below.ensures.is in
-    let free_above = free_elsewhere g k p own others side on is_own is_others 1 above is_above (λ e. omega (arith, e)) in
-    let free_here = free_besides g k p own others side on is_own is_others here is_here (ap (has_bit free) (sym col) ∙ c.without_column.ensures.there) in
-    let free_below = free_elsewhere g k p own others side on is_own is_others 3 below is_below (λ e. omega (arith, e)) in
+    let wide = c.columns_beside-along.result in
+    let up = c.row_above.result in
+    let down = c.row_below.result in
+    let mid = get_or others row 0 in
+    let free = bit_and wide c.other_columns.result in
+    let above : RowStones = record { own = 0; others = up; free = 0 } in
+    let here : RowStones = record { own = 0; others = mid; free = free } in
+    let below : RowStones = record { own = 0; others = down; free = 0 } in
+    let apart = untouched stone up down wide mid c.if-touched-eq0.true in
+    let is_above : IsRowAt own others p.row 1 above = subst (λ m. IsRowAt own others m 1 above) at (others_above own others row up c.row_above.ensures) in
+    let is_here : IsRowAt own others p.row 2 here =
+    subst (λ m. IsRowAt own others m 2 here) at
+    (free_along own others row wide c.other_columns.result (omega (arith, at, c.requires.on_board)) c.other_columns.ensures.within c.other_columns.ensures.off (λ n. (apart n).1)) in
+    let is_below : IsRowAt own others p.row 3 below = subst (λ m. IsRowAt own others m 3 below) at (others_below own others row down c.row_below.ensures) in
     let no_free = λ (i : ℕ). no_columns_free g k p own others side on is_own is_others i in
-    let up = c.beside_in-up in
-    let along = c.beside_in-along in
-    let down = c.beside_in-down in
-    let up_low : up.result.free < 2 ^ 64 = search rules in
-    let along_low : along.result.free < 2 ^ 64 = search rules in
-    let down_low : down.result.free < 2 ^ 64 = search rules in
     let alone = λ (n : ℕ) (is : has_bit stone n ≡ true).
     elim (cases_eq n p.col) as (λ _. n ≡ p.col) [
       | inl same ↦ same
       | inr other ↦ absurd (false≢true (sym (has_bit-zero n) ∙ sym (c.with_column-stone.ensures.elsewhere n (λ e. other (e ∙ col))) ∙ is))
     ] in
     let there : has_bit stone p.col ≡ true =
-    ap (has_bit stone) (sym col) ∙ c.with_column-stone.ensures.there ∙ or_right (has_bit 0 c.from-col.result) true refl in
-    let beside_up : AreBeside p 1 stone = λ q row is. inl (sym (alone q.col is), inr (omega (arith, row))) in
-    let beside_down : AreBeside p 3 stone = λ q row is. inl (sym (alone q.col is), inl (omega (arith, row))) in
+    ap (has_bit stone) (sym col) ∙ c.with_column-stone.ensures.there ∙ or_right (has_bit 0 c.from.result) true refl in
     let beside_along : AreBeside p 2 wide = λ q row is.
-    let w = only_beside stone q.col (c.columns_beside.ensures.from q.col is) in
+    let w = only_beside stone q.col (c.columns_beside-along.ensures.from q.col is) in
     inr (omega (arith, row), DifferByOne-sym q.col p.col (subst (DifferByOne q.col) (alone w.0 w.2) w.1)) in
-    let lost = λ (n : ℕ). none_of_three up.result.others along.result.others down.result.others n (eqb-true _ _ none) in (
-      λ own_stone.
-          elim (some_of_three up.result.free along.result.free down.result.free up_low along_low down_low c.if-alive-ne0.true) [
-            | inl some ↦
-                alive_reaches g k p own others side on is_own is_others 0 stone 0 above 0 is_above (no_free 0) free_above (no_free 2)
-                up.result.free beside_up (λ n is. let w = up.ensures.free n is in (w.0, inl w.1)) some own_stone
-            | inr (inl some) ↦
-                alive_reaches g k p own others side on is_own is_others 1 wide 0 here 0 is_here (no_free 1) free_here (no_free 3)
-                along.result.free beside_along (λ n is. let w = along.ensures.free n is in (w.0, inl w.1)) some own_stone
-            | inr (inr some) ↦
-                alive_reaches g k p own others side on is_own is_others 2 stone 0 below 0 is_below (no_free 2) free_below (no_free 4)
-                down.result.free beside_down (λ n is. let w = down.ensures.free n is in (w.0, inl w.1)) some own_stone
-          ],
+    let both = λ (n : ℕ) (is : has_bit free n ≡ true). and_parts _ _ (sym (has_bit-and wide c.other_columns.result n) ∙ is) in
+    let free_here = free_adjacent g k p own others side on is_own is_others 2 here is_here (λ q row is. beside_along q row (both q.col is).0) in
+    let low : free < 2 ^ 64 = search rules in (
+      alive_reaches g k p own others side on is_own is_others 1 wide 0 here 0 is_here (no_free 1) free_here (no_free 3)
+          free beside_along (λ n is. ((both n is).0, inl is)) (some_bit free low (eqb-false _ _ (not-true _ some))),
       λ q on_q next.
           elim next [
             | inl (same, inl row) ↦
-                left_reaches g k p own others side on is_own is_others 2 stone 0 below 0 is_below (no_free 2) free_below (no_free 4)
-                down.result.others (λ n none at other. absurd (false≢true (sym (down.ensures.others n none at) ∙ other))) (λ n. (lost n).2) q (omega (arith, row)) on_q (inl (same, inl row)) (ap (has_bit stone) (sym same) ∙ there)
+                left_reaches g k p own others side on is_own is_others 2 stone 0 below 0 is_below (no_free 2) (no_free 3) (no_free 4)
+                0 (λ n _ at other. absurd (false≢true (sym ((apart n).0 at).1 ∙ other))) has_bit-zero q (omega (arith, row)) on_q (inl (same, inl row)) (ap (has_bit stone) (sym same) ∙ there)
             | inl (same, inr row) ↦
-                left_reaches g k p own others side on is_own is_others 0 stone 0 above 0 is_above (no_free 0) free_above (no_free 2)
-                up.result.others (λ n none at other. absurd (false≢true (sym (up.ensures.others n none at) ∙ other))) (λ n. (lost n).0) q (omega (arith, row)) on_q (inl (same, inr row)) (ap (has_bit stone) (sym same) ∙ there)
+                left_reaches g k p own others side on is_own is_others 0 stone 0 above 0 is_above (no_free 0) (no_free 1) (no_free 2)
+                0 (λ n _ at other. absurd (false≢true (sym ((apart n).0 at).0 ∙ other))) has_bit-zero q (omega (arith, row)) on_q (inl (same, inr row)) (ap (has_bit stone) (sym same) ∙ there)
             | inr (same, differ) ↦
                 left_reaches g k p own others side on is_own is_others 1 wide 0 here 0 is_here (no_free 1) free_here (no_free 3)
-                along.result.others (λ n none at other. absurd (false≢true (sym (along.ensures.others n none at) ∙ other))) (λ n. (lost n).1) q (omega (arith, same)) on_q (inr (same, differ))
-                (c.columns_beside.ensures.to q.col (omega (arith, on_q.0, side, c.requires.few)) (inr (inr (p.col, DifferByOne-sym p.col q.col differ, there))))
+                0 (λ n _ at other. absurd (false≢true (sym ((apart n).1 at) ∙ other))) has_bit-zero q (omega (arith, same)) on_q (inr (same, differ))
+                (c.columns_beside-along.ensures.to q.col (omega (arith, on_q.0, side, c.requires.few)) (inr (inr (p.col, DifferByOne-sym p.col q.col differ, there))))
           ],
     )

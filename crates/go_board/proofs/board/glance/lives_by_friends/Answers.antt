@@ -7,7 +7,7 @@ use Rattle.go_board.specs.inner.Rows.{has_bit}
 use Rattle.go_board.proofs.WordLemmas.{has_bit-zero}
 use Rattle.go_board.proofs.NeighbourLemmas.{DifferByOne-sym}
 use Rattle.go_board.proofs.GlanceLemmas.{AreBeside, only_beside, row_all_but, some_of_three, none_of_three, free_elsewhere, free_besides, alive_reaches, left_reaches}
-use Rattle.go_board.proofs.board.glance.leaves_all_alive.Goals as goal
+use Rattle.go_board.proofs.board.glance.lives_by_friends.Goals as goal
 
 pub returns-then-alive-ne0 : goal.returns-then-alive-ne0
 returns-then-alive-ne0 c = λ g k side is_own is_others none.
