@@ -1,5 +1,6 @@
 -- The print of a colouring: one number made from what stands on all its points. It is a sum of mixes of whole rows.
 use Rattle.std.specs.Prelude.{ℕ, zero, suc, ◌+◌, ◌*◌, ◌/◌, ◌%◌, ◌^◌, Bool, List, map, if◌then◌else◌, bit_xor}
+use Rattle.std.specs.Int.{w64, rotate_left}
 use Rattle.go_board.specs.declared.stones.Cell.{Cell}
 use Rattle.go_board.specs.declared.stones.Cell.TheVariants.{Black, White}
 use Rattle.go_board.specs.Colour.{same_cell}
@@ -19,17 +20,17 @@ word_below n test = sum_below n (λ col. if test col then 2 ^ col else 0)
 abbrev pub row_word : Grid → Cell → ℕ → ℕ
 row_word grid cell row = word_below grid.side (λ col. same_cell (cell_at grid (record { col = col; row = row })) cell)
 
--- a 64-bit number whose low half depends on all bits of another one
+-- the two halves of a number below 2^128, joined
 abbrev pub folded : ℕ → ℕ
-folded word = bit_xor word (word / 2 ^ 32)
+folded product = bit_xor (product % 2 ^ 64) (product / 2 ^ 64)
 
 -- a 64-bit number that depends on all stones of a row, and isn't linear in them
 unfoldable pub mixed : ℕ → ℕ → ℕ → ℕ
 mixed row black white =
-    let first : ℕ = (row * 2 ^ 52 % 2 ^ 64 + black) % 2 ^ 64 in
-    let second : ℕ = (folded (first * 15485907386658061715 % 2 ^ 64) + white) % 2 ^ 64 in
-    let third : ℕ = folded (second * 11400714819323198485 % 2 ^ 64) in
-    folded (third * 15485907386658061715 % 2 ^ 64)
+    let key : ℕ = (row + 1) * 13787848793156543929 % 2 ^ 64 in
+    let first : ℕ = bit_xor key black in
+    let second : ℕ = (rotate_left w64 key 32 + white) % 2 ^ 64 in
+    folded (first * second)
 
 -- what a row of a grid adds to the print of the grid
 abbrev pub print_in : Grid → ℕ → ℕ

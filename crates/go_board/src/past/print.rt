@@ -11,18 +11,15 @@ ghost use Rattle.go_board.specs.Point.{IsOn};
 ghost use Rattle.go_board.specs.Grid.{cell_at, with_cell};
 ghost use Rattle.go_board.specs.Clearing.{play};
 ghost use Rattle.go_board.specs.inner.Groups.{TakesOff};
-ghost use Rattle.go_board.specs.inner.Print.{folded, mixed, print_in, print_of};
+ghost use Rattle.go_board.specs.inner.Print.{mixed, print_in, print_of};
 
 use crate::board::Board;
 use crate::board::regions::{columns_left, with_column};
 use crate::points::Point;
 use crate::stones::Colour;
 
-/// An odd number with many bits set, which spreads the bits of a row's black stones upwards.
-const BLACK_MIXER: u64 = 0xd6e8_feb8_6659_fd93;
-
-/// The same for the row's white stones.
-const WHITE_MIXER: u64 = 0x9e37_79b9_7f4a_7c15;
+/// An odd number with many bits set, which makes the key of a row.
+const ROW_MIXER: u64 = 0xbf58_476d_1ce4_e5b9;
 
 /// The print of a board.
 pub(crate) fn print_of(board: &Board) -> u64
@@ -146,21 +143,15 @@ fn print_of_row(board: &Board, row: u8) -> u64
     mixed(row, black, white)
 }
 
-/// A number that isn't linear in the stones of a row. A product carries bits only upwards, and `folded` brings them down again. So
-/// after three rounds each bit depends on all stones; after two, the low bits wouldn't depend on white stones far to the right.
-#[tactic(auto, unfolding(crate::specs::inner::Print::mixed))]
+/// A number that isn't linear in the stones of a row: the two halves of one product, joined (a folded multiply). Each factor has the key of
+/// the row in it. With keys that differ in few bits, equal changes of several rows would change their numbers alike. The bits of the keys
+/// above the columns are such that no factor is 0.
 fn mixed(row: u8, black: u64, white: u64) -> u64
     ensures { result ≡ mixed row black white }
 {
-    let first = (u64::from(row) << 52).wrapping_add(black);
-    let second = folded(first.wrapping_mul(BLACK_MIXER)).wrapping_add(white);
-    let third = folded(second.wrapping_mul(WHITE_MIXER));
-    folded(third.wrapping_mul(BLACK_MIXER))
-}
-
-/// A number whose low half depends on all bits of another one.
-fn folded(number: u64) -> u64
-    ensures { result ≡ folded number }
-{
-    number ^ (number >> 32)
+    let key = (u64::from(row) + 1).wrapping_mul(ROW_MIXER);
+    let first = key ^ black;
+    let second = key.rotate_left(32).wrapping_add(white);
+    let (low, high) = first.carrying_mul(second, 0);
+    low ^ high
 }
