@@ -19,7 +19,7 @@ use crate::stones::Colour;
 pub(crate) const HALF: u8 = 32;
 
 /// Rows enough for such a board: so few that they are quick to clear.
-const FEW_ROWS: usize = HALF as usize;
+pub(crate) const FEW_ROWS: usize = HALF as usize;
 
 /// A word's low half is its rest by this divisor, and its high half is the quotient.
 const HALVES: u64 = 1 << HALF;

@@ -1,6 +1,6 @@
 //! What a stone takes off, as rows of bits: the groups beside it that it leaves without a liberty, or its own group.
 
-ghost use Rattle.std.specs.Prelude.{◌≡◌, ◌↔◌, ◌||◌, ◌≤◌, IsTrue, false, length};
+ghost use Rattle.std.specs.Prelude.{◌≡◌, ◌↔◌, ◌||◌, ◌≤◌, IsTrue, IsFalse, false, length};
 ghost use Rattle.go_board.specs.declared.points.Point.{Point};
 ghost use Rattle.go_board.specs.declared.stones.Cell.TheVariants.{Empty};
 ghost use Rattle.go_board.specs.Point.{IsOn};
@@ -11,71 +11,126 @@ ghost use Rattle.go_board.specs.inner.Groups.{AreShutGroups, IsTakenOrReaches, A
 ghost use Rattle.go_board.specs.inner.Rows.{is_set, IsAmong};
 
 use crate::board::Board;
-use crate::board::group::has_liberty;
-use crate::board::regions::{is_none, no_rows};
+use crate::board::both_areas::FEW_ROWS;
+use crate::board::group::{has_liberty, lives_by_row};
+use crate::board::regions::no_rows;
 use crate::points::Point;
 use crate::stones::{Cell, Colour};
 
 impl Board {
-    /// Finds the points that a stone on an empty point takes off. Before the move every stone on the
+    /// Finds the points that a stone on an empty point takes off, and whether there are any. Before the move every stone on the
     /// board must reach empty. So after it only the stone's own group and the groups beside the stone
     /// can be without a liberty. The stone is put on the board for this search, and removed again.
-    pub(crate) fn find_taken(&mut self, colour: Colour, point: Point, taken: &mut [u64])
+    pub(crate) fn find_taken(&mut self, colour: Colour, point: Point, taken: &mut [u64]) -> bool
         requires on_board { IsOn self.old.side point }
         requires empty { cell_at self.old point ≡ Empty }
         requires settled { has_unreaching self.old ≡ false }
         requires rows { length taken.old ≡ self.old.side }
         requires none { (p : Point) → is_set taken.old p ≡ false }
         ensures taken { TakesOff self.old colour point taken.new }
+        ensures none { IsFalse result → (p : Point) → is_set taken.new p ≡ false }
         ensures unchanged { self.new ≡ self.old }
     {
         self.has_all_cells();
         self.set(point, colour.stone());
-        self.find_shut_beside(colour.opponent(), point, taken);
-        if is_none(taken) {
-            self.find_shut(colour, point, taken);
+        let mut some = self.find_shut_beside(colour.opponent(), point, taken);
+        if !some {
+            some = self.find_shut(colour, point, taken);
         }
         self.set(point, Cell::Empty);
         self.restore(true);
+        some
     }
 
-    /// Adds to `shut` the groups of a colour that are beside a point and have no liberty.
-    fn find_shut_beside(&self, colour: Colour, point: Point, shut: &mut [u64])
+    /// Adds to `shut` the groups of a colour that are beside a point and have no liberty. Returns whether there are any.
+    fn find_shut_beside(&self, colour: Colour, point: Point, shut: &mut [u64]) -> bool
         requires on_board { IsOn self.now.side point }
         requires shut { AreShutGroups self.now colour shut.old }
         ensures shut { AreShutGroups self.now colour shut.new }
         ensures beside { AreTakenOrReachBeside self.now colour point shut.new }
+        ensures none { IsFalse result → shut.new ≡ shut.old }
+        ensures some { IsTrue result → (p : Point) × IsTrue (is_set shut.new p) }
     {
         self.has_all_cells();
+        let mut some = false;
         let beside = point.neighbours();
         for at in beside {
             // a call costs more than this test, and most of these points have no such stone
             if self.has_stone(colour, at) {
-                self.find_shut(colour, at, shut);
+                some |= self.find_shut(colour, at, shut);
             }
         }
+        some
     }
 
-    /// Adds the group of the stone on a point to `shut` if it has no liberty. Nothing is added
-    /// if the point isn't on the board, or has no stone of that colour.
-    fn find_shut(&self, colour: Colour, point: Point, shut: &mut [u64])
-        requires { AreShutGroups self.now colour shut.old }
+    /// Adds the group of the stone on a point to `shut` if it has no liberty. Returns whether that is so.
+    fn find_shut(&self, colour: Colour, point: Point, shut: &mut [u64]) -> bool
+        requires on_board { IsOn self.now.side point }
+        requires stone { cell_at self.now point ≡ stone_of colour }
+        requires shut { AreShutGroups self.now colour shut.old }
         ensures shut { AreShutGroups self.now colour shut.new }
         ensures kept { IsAmong (is_set shut.old) (is_set shut.new) }
-        ensures beside { IsOn self.now.side point → IsTakenOrReaches self.now colour shut.new point }
+        ensures here { IsTakenOrReaches self.now colour shut.new point }
+        ensures none { IsFalse result → shut.new ≡ shut.old }
+        ensures some { IsTrue result → IsTrue (is_set shut.new point) }
     {
         self.has_all_cells();
-        if !self.has_stone(colour, point) {
-            return;
+        // most groups live by a stone in the same row, and this needs no rows to be cleared
+        if lives_by_row(self.rows_of(colour), self.rows_of(colour.opponent()), point) {
+            return false;
+        }
+        self.find_shut_around(colour, point, shut)
+    }
+
+    /// The same as `find_shut`, for a group that may have a liberty only in other rows.
+    #[inline(never)]
+    fn find_shut_around(&self, colour: Colour, point: Point, shut: &mut [u64]) -> bool
+        requires on_board { IsOn self.now.side point }
+        requires stone { cell_at self.now point ≡ stone_of colour }
+        requires shut { AreShutGroups self.now colour shut.old }
+        ensures shut { AreShutGroups self.now colour shut.new }
+        ensures kept { IsAmong (is_set shut.old) (is_set shut.new) }
+        ensures here { IsTakenOrReaches self.now colour shut.new point }
+        ensures none { IsFalse result → shut.new ≡ shut.old }
+        ensures some { IsTrue result → IsTrue (is_set shut.new point) }
+    {
+        self.has_all_cells();
+        let side = usize::from(self.size.side());
+        if side <= FEW_ROWS {
+            let mut words = [0; FEW_ROWS];
+            return self.find_shut_in(colour, point, &mut words[..side], shut);
         }
         let mut words = no_rows();
-        let group = &mut words[..usize::from(self.size.side())];
+        self.find_shut_in(colour, point, &mut words[..side], shut)
+    }
+
+    /// The same as `find_shut`. `group` must be empty, and has the group afterwards, or a part of it.
+    fn find_shut_in(
+        &self,
+        colour: Colour,
+        point: Point,
+        group: &mut [u64],
+        shut: &mut [u64],
+    ) -> bool
+        requires on_board { IsOn self.now.side point }
+        requires stone { cell_at self.now point ≡ stone_of colour }
+        requires rows { length group.old ≡ self.now.side }
+        requires empty { (p : Point) → is_set group.old p ≡ false }
+        requires shut { AreShutGroups self.now colour shut.old }
+        ensures shut { AreShutGroups self.now colour shut.new }
+        ensures kept { IsAmong (is_set shut.old) (is_set shut.new) }
+        ensures here { IsTakenOrReaches self.now colour shut.new point }
+        ensures none { IsFalse result → shut.new ≡ shut.old }
+        ensures some { IsTrue result → IsTrue (is_set shut.new point) }
+    {
+        self.has_all_cells();
         let own = self.rows_of(colour);
         let others = self.rows_of(colour.opponent());
         if has_liberty(own, others, point, group) {
-            return;
+            return false;
         }
         add_points(group, shut);
+        true
     }
 
     /// Whether a point is on the board and has a stone of a colour.

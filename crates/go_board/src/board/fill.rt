@@ -133,7 +133,7 @@ fn grow_row_below(rows: &mut [u64], room: &[u64], row: usize, above: u64)
 }
 
 /// Widens a set of columns by the columns of the room beside it, until there are no more.
-fn widened(seed: u64, room: u64) -> u64
+pub(crate) fn widened(seed: u64, room: u64) -> u64
     requires { IsPart (has_bit seed) (has_bit room) }
     ensures within { IsPart (has_bit result) (has_bit room) }
     ensures kept { IsPart (has_bit seed) (has_bit result) }

@@ -1,18 +1,18 @@
 //! The group of a stone, by rows of words.
 
-ghost use Rattle.std.specs.Prelude.{◌≡◌, false, ℕ, ◌<◌, IsTrue, IsFalse, length};
+ghost use Rattle.std.specs.Prelude.{◌≡◌, false, ℕ, ◌<◌, IsTrue, IsFalse, length, slice_index};
 ghost use Rattle.go_board.specs.declared.points.Point.{Point};
 ghost use Rattle.go_board.specs.Point.{IsOn};
-ghost use Rattle.go_board.specs.inner.Rows.{has_bit, is_set, IsInOrBeside};
-ghost use Rattle.go_board.specs.inner.Linked.{HasLiberty, IsLiberty, IsShutIn};
+ghost use Rattle.go_board.specs.inner.Rows.{has_bit, is_set, HasBeside, IsInOrBeside, IsPart};
+ghost use Rattle.go_board.specs.inner.Linked.{HasLiberty, IsLiberty, IsLinked, IsShutIn};
 
-use crate::board::fill::{grow_lowest, with_rows_lacking};
+use crate::board::fill::{grow_lowest, widened, with_rows_lacking};
 use crate::board::glance::row_at;
 use crate::board::regions::{all_columns, with_column};
 use crate::points::Point;
 
 /// Whether the group of the stone on `from` has a liberty: an empty point beside it. `own` has the stones of its colour, `others`
-/// those of the other colour. `group` must be empty. It grows row by row, until one of its stones has a
+/// those of the other colour. `group` must be empty. It grows row by row, from the stones joined in one row, until one of its stones has a
 /// liberty. If no stone has one, `group` becomes the whole group.
 pub(crate) fn has_liberty(own: &[u64], others: &[u64], from: Point, group: &mut [u64]) -> bool
     requires own_rows { length own.now ≡ length group.old }
@@ -26,9 +26,12 @@ pub(crate) fn has_liberty(own: &[u64], others: &[u64], from: Point, group: &mut 
     ensures rows { length group.new ≡ length group.old }
 {
     let first = usize::from(from.row);
-    group[first] = with_column(0, usize::from(from.col), true);
-    let alone = with_column(0, first, true);
-    let mut waiting = with_rows_lacking(alone, group, own, first);
+    let joined = joined_in_row(own, from);
+    if joined & columns_with_liberty(own, others, first) != 0 {
+        return true;
+    }
+    group[first] = joined;
+    let mut waiting = with_rows_lacking(0, group, own, first);
     'rows: while waiting != 0 {
         let (row, left) = grow_lowest(group, own, waiting);
         let alive = group[row] & columns_with_liberty(own, others, row);
@@ -38,6 +41,34 @@ pub(crate) fn has_liberty(own: &[u64], others: &[u64], from: Point, group: &mut 
         waiting = left;
     }
     false
+}
+
+/// Whether the stone on `from` has a liberty, or a stone of its row that no gap divides from it. Then its group lives, and no
+/// other row of the group is looked at.
+pub(crate) fn lives_by_row(own: &[u64], others: &[u64], from: Point) -> bool
+    requires same { length others.now ≡ length own.now }
+    requires few { length own.now < 64 }
+    requires on_board { IsOn (length own.now) from }
+    requires stone { IsTrue (is_set own.now from) }
+    ensures { IsTrue result → (p : Point) × IsLiberty own.now others.now from p }
+{
+    let row = usize::from(from.row);
+    joined_in_row(own, from) & columns_with_liberty(own, others, row) != 0
+}
+
+/// The columns of the stones in a stone's row that no gap divides from it, and its own column.
+fn joined_in_row(own: &[u64], from: Point) -> u64
+    requires row { from.row < length own.now }
+    requires column { from.col < 64 }
+    requires stone { IsTrue (is_set own.now from) }
+    ensures start { IsTrue (has_bit result from.col) }
+    ensures within { IsPart (has_bit result) (has_bit (slice_index own.now from.row)) }
+    ensures closed { HasBeside (has_bit (slice_index own.now from.row)) (has_bit result) }
+    ensures linked { (col : ℕ) → IsTrue (has_bit result col)
+        → IsLinked (is_set own.now) from (record { col = col; row = from.row }) }
+{
+    let stone = with_column(0, usize::from(from.col), true);
+    widened(stone, own[usize::from(from.row)])
 }
 
 /// The columns in which a row's point has a liberty: a point beside it that is in neither `own` nor `others`.

@@ -1,6 +1,6 @@
 //! Past colourings. The newest is kept whole. An older one is kept as the rows that lead back to it.
 
-ghost use Rattle.std.specs.Prelude.{◌≡◌, ◌+◌, ◌-◌, ◌*◌, ◌<◌, ◌≤◌, ◌↔◌, ◌∷◌, false, IsTrue, IfOk, OnOk, OnErr, if◌then◌else◌, length, map, take, drop};
+ghost use Rattle.std.specs.Prelude.{◌≡◌, ◌+◌, ◌-◌, ◌*◌, ◌<◌, ◌≤◌, ◌↔◌, ◌∷◌, false, IsTrue, IsFalse, IfOk, OnOk, OnErr, if◌then◌else◌, length, map, take, drop};
 ghost use Rattle.go_board.specs.declared.stones.Cell.TheVariants.{Empty};
 ghost use Rattle.go_board.specs.Point.{IsOn};
 ghost use Rattle.go_board.specs.Grid.{cell_at};
@@ -130,17 +130,18 @@ impl Colourings {
         Ok(())
     }
 
-    /// Finds the points that a stone on an empty point takes off (`Board::find_taken`).
-    pub(crate) fn find_taken(&mut self, colour: Colour, point: Point, taken: &mut [u64])
+    /// Finds the points that a stone on an empty point takes off, and whether there are any (`Board::find_taken`).
+    pub(crate) fn find_taken(&mut self, colour: Colour, point: Point, taken: &mut [u64]) -> bool
         requires on_board { IsOn (newest_grid self.old).side point }
         requires empty { cell_at (newest_grid self.old) point ≡ Empty }
         requires settled { has_unreaching (newest_grid self.old) ≡ false }
         requires rows { length taken.old ≡ (newest_grid self.old).side }
         requires none { (p : Point) → is_set taken.old p ≡ false }
         ensures taken { TakesOff (newest_grid self.old) colour point taken.new }
+        ensures none { IsFalse result → (p : Point) → is_set taken.new p ≡ false }
         ensures unchanged { self.new ≡ self.old }
     {
-        self.newest.find_taken(colour, point, taken);
+        self.newest.find_taken(colour, point, taken)
     }
 
     /// Adds the colouring that a stone makes; `taken` is what the stone takes off. The colouring continues the present stretch.

@@ -9,7 +9,7 @@ ghost use Rattle.go_board.specs.inner.Rows.{is_set, IsAmong};
 
 use crate::board::Board;
 use crate::board::capture::add_points;
-use crate::board::regions::{is_none, no_rows};
+use crate::board::regions::no_rows;
 use crate::board::stone_rows::has_column;
 use crate::fault::MemoryFault;
 use crate::past::Past;
@@ -155,11 +155,10 @@ impl PrintPast {
     {
         let mut words = no_rows();
         let taken = &mut words[..usize::from(self.newest().size().side())];
-        self.colourings.find_taken(colour, point, taken);
-        if is_none(taken) {
-            return self.play_taking(colour, point, &[]);
+        if self.colourings.find_taken(colour, point, taken) {
+            return self.play_taking(colour, point, taken);
         }
-        self.play_taking(colour, point, taken)
+        self.play_taking(colour, point, &[])
     }
 
     /// The same as `play`; `taken` is what the stone takes off.

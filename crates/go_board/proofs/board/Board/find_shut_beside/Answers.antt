@@ -1,9 +1,9 @@
-use Rattle.std.proofs.Common.{◌≡◌, ◌∙◌, inl, inr, sym, subst, arith}
+use Rattle.std.proofs.Common.{◌≡◌, ◌||◌, Bool, false, ◌∙◌, inl, inr, sym, subst, arith}
 use Rattle.std.specs.List.{Contains}
 use Rattle.std.proofs.lemmas.List.{take_all}
 use Rattle.go_board.specs.Point.{IsOn}
 use Rattle.go_board.specs.inner.Groups.{IsTakenOrReaches}
-use Rattle.std.proofs.lemmas.Bool.{false≢true}
+use Rattle.std.proofs.lemmas.Bool.{cases_Bool, or_cases, or_left, or_right, false≢true}
 use Rattle.go_board.specs.declared.points.Point.{Point}
 use Rattle.go_board.specs.Colour.{stone_of}
 use Rattle.go_board.specs.Grid.{cell_at}
@@ -11,6 +11,13 @@ use Rattle.go_board.proofs.PointLemmas.{Contains-take_more}
 use Rattle.go_board.proofs.TakenLemmas.{taken_still}
 use Rattle.go_board.proofs.board.Board.find_shut_beside.Goals as goal
 use Rattle.go_board.proofs.board.Board.find_shut_beside.Goals.{then-has_stone, else-has_stone}
+
+-- where neither holds, each fails
+or_neither : (a b : Bool) → (a || b) ≡ false → (a ≡ false) × (b ≡ false)
+or_neither a b none = (
+  elim (cases_Bool a) as (λ _. a ≡ false) [ inl holds ↦ absurd (false≢true (sym none ∙ or_left a b holds)) | inr fails ↦ fails ],
+  elim (cases_Bool b) as (λ _. b ≡ false) [ inl holds ↦ absurd (false≢true (sym none ∙ or_right a b holds)) | inr fails ↦ fails ],
+)
 
 pub loop-at-preserved : goal.loop-at-preserved
 loop-at-preserved c =
@@ -21,11 +28,19 @@ loop-at-preserved c =
       | then-has_stone w ↦
           rw w.shut-is
           (record {
-            shut = w.find_shut.ensures.shut;
+            shut = w.find_shut-some.ensures.shut;
             beside = λ q among on.
                 elim ((turn q).0 among) [
-                  | inl before ↦ taken_still g k _ _ q w.find_shut.ensures.kept (c.loop-at.invariant.beside q before on)
-                  | inr is ↦ subst (IsTakenOrReaches g k w.find_shut.new.shut) (sym is) (w.find_shut.ensures.beside (subst (IsOn g.side) is on))
+                  | inl before ↦ taken_still g k _ _ q w.find_shut-some.ensures.kept (c.loop-at.invariant.beside q before on)
+                  | inr is ↦ subst (IsTakenOrReaches g k w.find_shut-some.new.shut) (sym is) w.find_shut-some.ensures.here
+                ];
+            none = λ fails.
+                let neither = or_neither _ _ (sym w.some-is ∙ fails) in
+                w.find_shut-some.ensures.none neither.1 ∙ c.loop-at.invariant.none neither.0;
+            some = λ holds.
+                elim (or_cases _ _ (sym w.some-is ∙ holds)) [
+                  | inl before ↦ (let p = c.loop-at.invariant.some before in (p.0, w.find_shut-some.ensures.kept p.0 p.1))
+                  | inr now ↦ (_, w.find_shut-some.ensures.some now)
                 ];
           })
       | else-has_stone w ↦
@@ -37,6 +52,8 @@ loop-at-preserved c =
                   | inl before ↦ c.loop-at.invariant.beside q before on stone
                   | inr is ↦ absurd (false≢true (sym w.if-has_stone.false ∙ c.has_stone.ensures.1 (subst (λ p. IsOn g.side p × (cell_at g p ≡ stone_of k)) is (on, stone))))
                 ];
+            none = λ fails. c.loop-at.invariant.none (sym w.some-is ∙ fails);
+            some = λ holds. c.loop-at.invariant.some (sym w.some-is ∙ holds);
           })
     ]
 

@@ -1,53 +1,44 @@
-use Rattle.std.proofs.Common.{◌≡◌, ◌≢◌, ◌<◌, ◌^◌, ℕ, List, length, set, slice_index, true, false, inl, inr, sym, ap, ◌∙◌, subst, arith, rules}
-use Rattle.std.proofs.Math.Bool.{or-true}
+use Rattle.std.proofs.Common.{◌≡◌, ◌<◌, ◌^◌, ℕ, List, length, set, slice_index, true, inl, inr, sym, ap, ◌∙◌, subst, arith, rules}
 use Rattle.std.proofs.lemmas.Bool.{and_from, cases_Bool, cases_eq, false≢true}
 use Rattle.std.proofs.lemmas.List.{length-set}
 use Rattle.go_board.specs.declared.points.Point.{Point}
 use Rattle.go_board.specs.Point.{DifferByOne}
 use Rattle.go_board.specs.inner.Rows.{has_bit, is_set, IsTaken}
+use Rattle.go_board.specs.inner.Linked.{IsLinked}
 use Rattle.go_board.specs.inner.Fill.{IsFilledBut}
-use Rattle.go_board.proofs.WordLemmas.{from_more, has_bit-and, has_bit-zero, column_below}
+use Rattle.go_board.proofs.WordLemmas.{has_bit-and, has_bit-zero, column_below}
 use Rattle.go_board.proofs.FillLemmas.{IsClosed-all}
-use Rattle.go_board.proofs.LinkedLemmas.{in_first, from_in_first, first_filled, common_column, IsLiberty-in}
+use Rattle.go_board.proofs.LinkedLemmas.{in_first, of_first, first_filled, common_column, IsLiberty-in, IsLiberty-joined}
 use Rattle.go_board.proofs.board.group.has_liberty.Goals as goal
 
 -- the group at first
 module _ (c : goal.After-with_rows_lacking-waiting) where
   abbrev begun : List ℕ
-  begun = set c.args.group.now c.from-first.result c.with_column.result
+  begun = set c.args.group.now c.from-first.result c.joined_in_row-joined.result
 
-  there : has_bit c.with_column.result c.args.from.col ≡ true
-  there = ap (has_bit c.with_column.result) (sym c.from.ensures) ∙ c.with_column.ensures.there ∙ or-true (has_bit 0 c.from.result)
+  first_is : begun ≡ set c.args.group.now c.args.from.row c.joined_in_row-joined.result
+  first_is = ap (λ r. set c.args.group.now r c.joined_in_row-joined.result) c.from-first.ensures
 
-  elsewhere : (k : ℕ) → k ≢ c.args.from.col → has_bit c.with_column.result k ≡ false
-  elsewhere k other = c.with_column.ensures.elsewhere k (λ e. other (e ∙ c.from.ensures)) ∙ has_bit-zero k
-
-  first_is : begun ≡ set c.args.group.now c.args.from.row c.with_column.result
-  first_is = ap (λ r. set c.args.group.now r c.with_column.result) c.from-first.ensures
-
-  pub only : (p : Point) → is_set begun p ≡ true → p ≡ c.args.from
-  only = in_first c.args.own.now c.args.others.now c.args.from c.args.group.now begun c.with_column.result c.requires.none c.requires.on_board.1 there elsewhere first_is
+  pub within : (p : Point) → is_set begun p ≡ true → (p.row ≡ c.args.from.row) × (has_bit c.joined_in_row-joined.result p.col ≡ true)
+  within = in_first c.args.own.now c.args.others.now c.args.from c.args.group.now begun c.joined_in_row-joined.result c.requires.none c.requires.on_board.1 first_is
 
   pub start : is_set begun c.args.from ≡ true
-  start = from_in_first c.args.own.now c.args.others.now c.args.from c.args.group.now begun c.with_column.result c.requires.none c.requires.on_board.1 there elsewhere first_is
+  start = of_first c.args.own.now c.args.others.now c.args.from c.args.group.now begun c.joined_in_row-joined.result c.requires.none c.requires.on_board.1 first_is c.args.from.col c.joined_in_row-joined.ensures.start
 
-  pub waits : has_bit c.with_rows_lacking-waiting.result c.args.from.row ≡ true
-  waits =
-      ap (has_bit c.with_rows_lacking-waiting.result) (sym c.from-first.ensures)
-      ∙ c.with_rows_lacking-waiting.ensures.kept _ (c.with_column-alone.ensures.there ∙ or-true (has_bit 0 c.from-first.result))
+  pub linked : (p : Point) → is_set begun p ≡ true → IsLinked (is_set c.args.own.now) c.args.from p
+  linked p is =
+      let w = within p is in
+      subst (λ r. IsLinked (is_set c.args.own.now) c.args.from (record { col = p.col; row = r })) (sym w.0) (c.joined_in_row-joined.ensures.linked p.col w.1)
 
   pub filled : IsFilledBut c.args.own.now begun begun c.with_rows_lacking-waiting.result
   filled =
       let lacking = c.with_rows_lacking-waiting.ensures in
       let long : length begun ≡ length c.args.own.now = length-set c.args.group.now _ _ ∙ sym c.requires.own_rows in
-      first_filled c.args.own.now c.args.others.now c.args.from c.args.group.now begun c.with_column.result c.requires.none c.requires.on_board.1 there elsewhere first_is
-      c.with_rows_lacking-waiting.result c.requires.stone (sym c.requires.own_rows) waits
+      first_filled c.args.own.now c.args.others.now c.args.from c.args.group.now begun c.joined_in_row-joined.result c.requires.none c.requires.on_board.1 first_is
+      c.joined_in_row-joined.ensures.within c.joined_in_row-joined.ensures.closed c.with_rows_lacking-waiting.result (sym c.requires.own_rows)
       (λ r is.
       elim (lacking.from r is) [
-        | inl at ↦ (elim (from_more _ _ _ c.with_column-alone.ensures.there c.with_column-alone.ensures.elsewhere r at) [
-          | inl before ↦ absurd (false≢true (sym (has_bit-zero r) ∙ before))
-          | inr same ↦ omega (arith, same, c.from-first.ensures, c.requires.on_board.1, c.requires.own_rows)
-        ])
+        | inl before ↦ absurd (false≢true (sym (has_bit-zero r) ∙ before))
         | inr below ↦ omega (arith, below, long)
       ])
       (λ r differ below none.
@@ -56,16 +47,26 @@ module _ (c : goal.After-with_rows_lacking-waiting) where
 
 pub rows-init : goal.rows-init
 rows-init c = record {
-  only = only c;
+  linked = linked c;
   start = start c;
   filled = filled c;
-  shut = λ q none is.
-      absurd (false≢true (sym none ∙ ap (λ (x : Point). has_bit c.with_rows_lacking-waiting.result x.row) (only c q is) ∙ waits c));
+  shut = λ q none is free.
+      let w = within c q is in
+      let low : c.joined_in_row-joined.result < 2 ^ 64 = search rules in
+      let alive = c.columns_with_liberty.ensures.to q (w.0 ∙ sym c.from-first.ensures) (column_below 64 c.joined_in_row-joined.result q.col low w.1) free in
+      false≢true (sym (ap (λ k. has_bit k q.col) c.if-joined-columns_with_liberty-ne0.false ∙ has_bit-zero q.col) ∙ has_bit-and c.joined_in_row-joined.result c.columns_with_liberty.result q.col ∙ and_from _ _ w.1 alive);
 }
+
+pub returns-then-joined-columns_with_liberty-ne0-clause-lives : goal.returns-then-joined-columns_with_liberty-ne0-clause-lives
+returns-then-joined-columns_with_liberty-ne0-clause-lives c = λ _.
+    let joined = c.joined_in_row-joined in
+    let low : joined.result < 2 ^ 64 = search rules in
+    let both = common_column joined.result c.columns_with_liberty.result low c.if-joined-columns_with_liberty-ne0.true in
+    IsLiberty-joined c.args.own.now c.args.others.now c.args.from joined.result c.from-first.result c.from-first.ensures joined.ensures.within joined.ensures.linked c.columns_with_liberty.result c.columns_with_liberty.ensures.from both
 
 pub rows-preserved : goal.rows-preserved
 rows-preserved c = record {
-  only = c.rows.invariant.only;
+  linked = c.rows.invariant.linked;
   start = c.rows.invariant.start;
   filled = c.grow_lowest-row.ensures.filled _ c.rows.invariant.filled;
   shut = λ q none is free.
@@ -74,8 +75,8 @@ rows-preserved c = record {
             let word = slice_index c.grow_lowest-row.new.rows c.grow_lowest-row.result.0 in
             let low : word < 2 ^ 64 = search rules in
             let stone : has_bit word q.col ≡ true = ap (λ r. has_bit (slice_index c.grow_lowest-row.new.rows r) q.col) (sym at) ∙ is in
-            let alive = c.columns_with_liberty.ensures.to q at (column_below 64 word q.col low stone) free in
-            false≢true (sym (ap (λ w. has_bit w q.col) c.if-alive-ne0.false ∙ has_bit-zero q.col) ∙ has_bit-and word c.columns_with_liberty.result q.col ∙ and_from _ _ stone alive)
+            let alive = c.columns_with_liberty-in-rows.ensures.to q at (column_below 64 word q.col low stone) free in
+            false≢true (sym (ap (λ w. has_bit w q.col) c.if-alive-ne0.false ∙ has_bit-zero q.col) ∙ has_bit-and word c.columns_with_liberty-in-rows.result q.col ∙ and_from _ _ stone alive)
         | inr other ↦
             c.rows.invariant.shut q
             (elim (cases_Bool (has_bit c.rows.waiting q.row)) [
@@ -91,9 +92,9 @@ returns-then-alive-ne0-clause-lives c = λ _.
     let row = c.grow_lowest-row.result.0 in
     let word = slice_index c.grow_lowest-row.new.rows row in
     let low : word < 2 ^ 64 = search rules in
-    let both = common_column word c.columns_with_liberty.result low c.if-alive-ne0.true in
+    let both = common_column word c.columns_with_liberty-in-rows.result low c.if-alive-ne0.true in
     let grown = c.grow_lowest-row.ensures.filled _ c.rows.invariant.filled in
-    (record { col = both.0; row = row }, IsLiberty-in c.args.own.now c.args.others.now c.args.from _ c.grow_lowest-row.new.rows (record { col = both.0; row = row }) c.rows.invariant.only grown.grows both.1 (c.columns_with_liberty.ensures.from both.0 both.2))
+    (record { col = both.0; row = row }, IsLiberty-in c.args.own.now c.args.others.now c.args.from _ c.grow_lowest-row.new.rows (record { col = both.0; row = row }) c.rows.invariant.linked grown.grows both.1 (c.columns_with_liberty-in-rows.ensures.from both.0 both.2))
 
 pub returns-clause-shut : goal.returns-clause-shut
 returns-clause-shut c = λ _.

@@ -3,12 +3,12 @@ use Rattle.std.proofs.Common.{◌≡◌, ◌+◌, ◌*◌, ◌^◌, false, IsTru
 use Rattle.go_board.specs.declared.points.Point.{Point}
 use Rattle.go_board.specs.inner.Rows.{has_bit, is_set, lacking}
 use Rattle.go_board.specs.inner.Fill.{IsFilledBut}
-use Rattle.go_board.specs.inner.Linked.{HasLiberty}
+use Rattle.go_board.specs.inner.Linked.{HasLiberty, IsLinked}
 use Rattle.go_board.proofs.board.group.has_liberty.Given as goal
 
 abbrev pub invariant-rows : goal.invariant-rows
 invariant-rows l = record {
-  only : (p : Point) → IsTrue (is_set l.initial.group p) → p ≡ l.fn.from;
+  linked : (p : Point) → IsTrue (is_set l.initial.group p) → IsLinked (is_set l.own) l.fn.from p;
   start : IsTrue (is_set l.initial.group l.fn.from);
   filled : IsFilledBut l.own l.initial.group l.group l.waiting;
   shut : (q : Point) → has_bit l.waiting q.row ≡ false → IsTrue (is_set l.group q) → ¬ (HasLiberty l.own l.others q);

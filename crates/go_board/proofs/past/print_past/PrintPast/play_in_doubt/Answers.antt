@@ -10,13 +10,18 @@ find_taken-requires-clause-none c = λ p. none_in_front c.from.result 52 c.no_ro
 
 pub play_taking-requires-clause-taken : goal.play_taking-requires-clause-taken
 play_taking-requires-clause-taken c =
+    subst (λ (past : PastColourings). TakesOff (newest_grid past) c.args.colour c.args.point c.find_taken.new.taken) (sym c.find_taken.ensures.unchanged)
+    c.find_taken.ensures.taken
+
+pub play_taking-requires-2-clause-taken : goal.play_taking-requires-2-clause-taken
+play_taking-requires-2-clause-taken c =
     let k = c.args.colour in
     let p = c.args.point in
     subst (λ (past : PastColourings). TakesOff (newest_grid past) k p []) (sym c.find_taken.ensures.unchanged)
-    (takes_none _ k p c.find_taken.new.taken (c.is_none.ensures.0 c.if-is_none.true) c.find_taken.ensures.taken)
+    (takes_none _ k p c.find_taken.new.taken (c.find_taken.ensures.none c.if-find_taken.false) c.find_taken.ensures.taken)
 
-pub returns-then-is_none : goal.returns-then-is_none
-returns-then-is_none c =
+pub returns-then-find_taken : goal.returns-then-find_taken
+returns-then-find_taken c =
     subst (λ (past : PastColourings). IsPlayed c.args.colour c.args.point past c.play_taking.new.self c.play_taking.result) (c.find_taken.ensures.unchanged ∙ c.self.view_is) c.play_taking.ensures
 
 pub returns : goal.returns
