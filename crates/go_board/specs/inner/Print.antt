@@ -27,7 +27,7 @@ folded product = bit_xor (product % 2 ^ 64) (product / 2 ^ 64)
 -- a 64-bit number that depends on all stones of a row, and isn't linear in them
 unfoldable pub mixed : ℕ → ℕ → ℕ → ℕ
 mixed row black white =
-    let key : ℕ = (row + 1) * 13787848793156543929 % 2 ^ 64 in
+    let key : ℕ = (row + 1) * 10723151780598845931 % 2 ^ 64 in
     let first : ℕ = bit_xor key black in
     let second : ℕ = (rotate_left w64 key 32 + white) % 2 ^ 64 in
     folded (first * second)

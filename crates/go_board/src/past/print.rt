@@ -19,7 +19,7 @@ use crate::points::Point;
 use crate::stones::Colour;
 
 /// An odd number with many bits set, which makes the key of a row.
-const ROW_MIXER: u64 = 0xbf58_476d_1ce4_e5b9;
+const ROW_MIXER: u64 = 0x94d0_49bb_1331_11eb;
 
 /// The print of a board.
 pub(crate) fn print_of(board: &Board) -> u64

@@ -13,7 +13,7 @@ pub returns : goal.returns
 unfolding mixed
 returns c =
     let row : c.from.result ≡ c.args.row = c.from.ensures in
-    let key : ℕ = (c.from.result + 1) * 13787848793156543929 % 2 ^ 64 in
+    let key : ℕ = (c.from.result + 1) * 10723151780598845931 % 2 ^ 64 in
     let low : c.carrying_mul-low.result.0 < 2 ^ 64 = search rules in
     joined c.carrying_mul-low.result.0 c.carrying_mul-low.result.1 _ low c.carrying_mul-low.ensures
     ∙ ap (λ n. folded (bit_xor key c.args.black * ((n + c.args.white) % 2 ^ 64))) c.rotate_left.ensures
