@@ -76,11 +76,11 @@ impl<'c, 'a> NodeRef<'c, 'a> {
         }
     }
 
-    /// If the node is recognized at a glance as one property, as `;B[pd]` is, this returns the property's letter and its raw value.
-    /// If it returns None, nothing is known.
+    /// If the node is recognized at a glance as one property, as `;B[pd]` is, this returns the property's letter and its raw value,
+    /// which is two bytes. If it returns None, nothing is known.
     ///
     /// The node is recognized only if the property's name is one capital, its only value is two bytes without an escape, nothing
-    /// stands between the node's parts or after them, and the text goes on for a while.
+    /// stands between the node's parts or after them, and at least 17 bytes of text are left from its `;` on.
     #[inline(always)]
     pub fn lone(&self) -> Option<(u8, &'a [u8])>
         ensures { IfSome result (λ lone. self.now.properties ≡ lone_property lone.0 lone.1.now ∷ []) }

@@ -1,4 +1,4 @@
-//! The nodes of a collection in file order, in 8 bytes a node.
+//! The nodes of a collection in file order, in 8 or 16 bytes a node.
 //!
 //! A node's text often has only 6 bytes, as in `;B[pd]`. So the memory of the nodes costs much of the time of reading.
 //!
@@ -17,7 +17,8 @@ use crate::layout::Link;
 use std::alloc::Global;
 use std::marker::Model;
 
-/// The number of first nodes that there is room for at once. Most texts have few variations, or none, so the vector seldom grows.
+/// The number of first nodes that there is room for at once. Most texts have one game and few variations, so the vector seldom
+/// grows.
 const ROOM_FOR_FIRSTS: usize = 16;
 
 /// Places are less than this. A word holds a place plus the node's kind times this.
@@ -25,7 +26,7 @@ const PLACES: u32 = 1 << 30;
 
 /// The kind of a node that follows the node before it.
 const NEXT: u32 = 0;
-/// The same, and `Link::Next` says that the node is beside the one before it.
+/// The kind of a node that follows the node before it, and is beside it (`Link::Next`).
 const BESIDE: u32 = 1;
 /// The kind of the root of a game.
 const ROOT: u32 = 2;

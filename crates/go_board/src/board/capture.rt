@@ -18,8 +18,8 @@ use crate::points::Point;
 use crate::stones::{Cell, Colour};
 
 impl Board {
-    /// Finds the points that a stone on an empty point takes off, and whether there are any. Before the move every stone on the
-    /// board must reach empty. So after it only the stone's own group and the groups beside the stone
+    /// Finds the points that a stone on an empty point takes off. False is returned only if there are none. Before the move every
+    /// stone on the board must reach empty. So after it only the stone's own group and the groups beside the stone
     /// can be without a liberty. The stone is put on the board for this search, and removed again.
     pub(crate) fn find_taken(&mut self, colour: Colour, point: Point, taken: &mut [u64]) -> bool
         requires on_board { IsOn self.old.side point }
@@ -83,6 +83,7 @@ impl Board {
     }
 
     /// The same as `find_shut`, for a group that may have a liberty only in other rows.
+    // Not inlined: it is seldom called, and its rows stay off the usual way.
     #[inline(never)]
     fn find_shut_around(&self, colour: Colour, point: Point, shut: &mut [u64]) -> bool
         requires on_board { IsOn self.now.side point }

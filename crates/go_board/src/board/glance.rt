@@ -122,8 +122,8 @@ fn look_around(own: &[u64], others: &[u64], point: Point) -> Around
     }
 }
 
-/// Whether five rows show that each stone of the opponent above or below a point still has an empty point beside itself, once a
-/// player's stone is on the point.
+/// Whether the two rows above a point and the two below it show that each stone of the opponent just above or below the point still has
+/// an empty point beside itself, once a player's stone is on the point.
 // Not inlined, as `lives_by_friends`: they are seldom called, and the code before them then has more registers.
 #[inline(never)]
 fn leaves_room_across(own: &[u64], others: &[u64], point: Point) -> bool

@@ -76,6 +76,7 @@ fn take_lone_step<'a, P: Past>(
 }
 
 /// The same as `take_step`, whatever the node holds.
+// Not inlined: it is called for one node of four, and what it needs stays off the usual way.
 #[inline(never)]
 fn take_any_step<'a, P: Past>(
     referee: &mut Referee<P>,

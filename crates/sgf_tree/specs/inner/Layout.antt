@@ -1,4 +1,4 @@
--- How a flat vector holds the collection that a text spells. The properties of a node are read from the text again.
+-- How a list of entries holds the collection that a text spells. The properties of a node are read from the text again.
 use Rattle.std.specs.Prelude.{◌≡◌, ℕ, ◌+◌, ◌-◌, ◌<◌, ◌≤◌, Bool, true, false, List, [], ◌∷◌, length, map, All, get_or, slice_get, Option, Some, None, unwrap_or}
 use Rattle.sgf_tree.specs.Tree.{Games, no_games, game_count}
 use Rattle.sgf_tree.specs.FileOrder.{OrderedNode, ordered_nodes, game_of, IsLastBelow}

@@ -65,7 +65,7 @@ fn bytes_in_place(text: &[u8], at: usize) -> u64
         .to_bitmask()
 }
 
-/// Whether the text begins with a node that is written like `;B[pd]`, and goes on for a while. If it is false, nothing is known.
+/// Whether the text begins with a node that is written like `;B[pd]`, and goes on for 11 bytes at least. If it is false, nothing is known.
 #[inline(always)]
 pub(crate) fn is_lone_at_once(text: &[u8]) -> bool
     ensures { IsTrue result → IsLoneNode text.now }
