@@ -70,7 +70,7 @@ same want got
 # A run that ends too early doesn't change the table.
 cp games.db before.db
 mkdir more
-for number in $(seq 200); do cp games/corner.sgf "more/$number.sgf"; done
+for number in $(seq 2000); do cp games/corner.sgf "more/$number.sgf"; done
 timeout -s KILL 0.3 "$tool" --sqlite games.db more games 2> /dev/null || true
 table > got
 same want got "the table after a killed run"
