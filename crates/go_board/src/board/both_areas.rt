@@ -18,7 +18,7 @@ use crate::stones::Colour;
 /// The number of columns of half a word. A board with fewer leaves an empty column between the halves.
 pub(crate) const HALF: u8 = 32;
 
-/// Rows enough for a board of so many rows: so few that they are quick to clear.
+/// The most rows of a board whose sets take few words. Few words are quick to clear.
 pub(crate) const FEW_ROWS: usize = HALF as usize;
 
 /// A word's low half is its rest by this divisor, and its high half is the quotient.

@@ -16,10 +16,10 @@ use std::alloc::Global;
 use std::marker::Model;
 
 /// The number of bytes that there is room for at once.
-const ROOM: usize = 4_096;
+const FIRST_BYTES: usize = 4_096;
 
 /// The number of pieces that there is room for at once.
-const PIECES: usize = 256;
+const FIRST_PIECES: usize = 256;
 
 /// A text of pieces, one after the other, and an unfinished piece after them. It can be cut
 /// back to any number of its first pieces.
@@ -56,8 +56,8 @@ impl Pieces {
     pub(crate) fn make_room(&mut self) -> Result<(), MemoryFault>
         ensures { self.new ≡ self.old }
     {
-        self.text.reserve(ROOM)?;
-        self.ends.reserve(PIECES)?;
+        self.text.reserve(FIRST_BYTES)?;
+        self.ends.reserve(FIRST_PIECES)?;
         Ok(())
     }
 

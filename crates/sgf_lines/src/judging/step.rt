@@ -37,6 +37,7 @@ pub(crate) struct TakenStep<'a> {
 /// its stones and its player, or stays. `operations` is a buffer.
 ///
 /// If the node isn't allowed, the first reason is returned. After a refusal the referee is unchanged.
+// Inlined: a caller that needs no step has none put together.
 #[inline(always)]
 pub(crate) fn take_step<'a, P: Past>(
     referee: &mut Referee<P>,
@@ -100,6 +101,7 @@ fn take_any_step<'a, P: Past>(
 }
 
 /// Takes the step of a node with these contents. `operations` has the operations of the node's stones.
+// Inlined, as `take_lone_step`.
 #[inline(always)]
 fn take_contents<P: Past>(
     referee: &mut Referee<P>,
@@ -151,6 +153,7 @@ fn set_up<P: Past>(
 }
 
 /// Takes the turn of a move.
+// Inlined, as `take_lone_step`.
 #[inline(always)]
 fn take_move<P: Past>(
     referee: &mut Referee<P>,
