@@ -22,9 +22,9 @@ use Rattle.sgf_tree.specs.Refusal.{IsFaultyWhereNotSgf}
 use Rattle.sgf_tree.specs.declared.fault.ReadFault.{ReadFault}
 use Rattle.sgf_tree.specs.declared.fault.ReadFault.TheVariants.{TooLong as TextTooLong, NotSgf as TextNotSgf, Memory as TextMemory}
 use Rattle.sgf_lines.specs.Ends.{SourceState, SinkState, Delivers, TakesNothing}
-use Rattle.sgf_lines.specs.Answer.{IsWhole, read_failures}
+use Rattle.sgf_lines.specs.Answer.{read_failures}
 use Rattle.sgf_lines.specs.Counts.{counts_of, AnswersCount, IsCount, IsWriting}
-use Rattle.sgf_lines.specs.inner.Running.{IsReading, PutsAll, unread}
+use Rattle.sgf_lines.specs.inner.Running.{HasReadAll, PutsAll, unread}
 use Rattle.sgf_lines.specs.declared.counting.Counts.{Counts}
 use Rattle.sgf_lines.specs.declared.fault.RunFault.{RunFault}
 use Rattle.sgf_lines.specs.declared.fault.RunFault.TheVariants.{NotSgf, Write, Memory}
@@ -61,22 +61,17 @@ no_line_more c i other =
 pub all_before : (c : Games) → lines_before c (node_count c) ≡ length (lines c)
 all_before c = no_line_left c (node_count c) (λ j le lt leaf. omega arith) ∙ length-paths c
 
-module _ {A : Type 0} (source new_source : SourceState) (text : List ℕ) (u : A) (h : IsReading {A = A} source new_source text (Ok u)) (reads : new_source.failures ≡ source.failures) where
-  whole : IsWhole text new_source.to_come
-  whole = let e : h.given ≡ text = sym h.answers.1 in rw e at h.answers.0
-
+module _ (source new_source : SourceState) (text : List ℕ) (h : HasReadAll source new_source text) where
   of_text : (result : Result Counts RunFault) → read_failures result ≡ 0 → AnswersCount text new_source.to_come result → IsCount source new_source result
-  of_text result none answers =
-      let e : h.given ≡ text = sym h.answers.1 in
-      record { given = text; gives = rw e at h.gives; consumes = rw e at h.consumes; answers = answers; source_failures = omega (arith, reads, none) }
+  of_text result none answers = record { given = text; gives = h.read.gives; consumes = h.read.consumes; answers = answers; source_failures = omega (arith, h.read.failures, none) }
 
   pub count_of_games : (c : Games) (counts : Counts) → Spells c text → counts ≡ counts_of c → IsCount source new_source (Ok counts)
-  count_of_games c counts spelled is = of_text (Ok counts) refl (whole, (c, spelled, is))
+  count_of_games c counts spelled is = of_text (Ok counts) refl (h.whole, (c, spelled, is))
 
   unread_says : (fault : ReadFault) → (fault ≡ TextTooLong → MAX_LENGTH < length text) → IsFaultyWhereNotSgf text fault → IsCount source new_source (Err (unread fault (length text)))
-  unread_says TextTooLong long faulty = absurd (omega (arith, long refl, whole.within))
-  unread_says (TextNotSgf at) long faulty = of_text (Err (NotSgf at (length text))) refl (whole, faulty, refl)
-  unread_says TextMemory long faulty = of_text (Err (Memory 0)) refl (whole.within, refl)
+  unread_says TextTooLong long faulty = absurd (omega (arith, long refl, h.whole.within))
+  unread_says (TextNotSgf at) long faulty = of_text (Err (NotSgf at (length text))) refl (h.whole, faulty, refl)
+  unread_says TextMemory long faulty = of_text (Err (Memory 0)) refl (h.whole.within, refl)
 
   pub count_of_unread : (fault : ReadFault) (met : RunFault) → met ≡ unread fault (length text) → (fault ≡ TextTooLong → MAX_LENGTH < length text) → IsFaultyWhereNotSgf text fault
       → IsCount source new_source (Err met)

@@ -8,7 +8,7 @@ use Rattle.sgf_lines.specs.Lines.{Line, lines}
 use Rattle.sgf_lines.specs.Record.{record_of, output}
 use Rattle.sgf_lines.specs.Ends.{SinkState, SourceState, HasDelivered}
 use Rattle.sgf_lines.specs.Answer.{IsCutShort, read_failures, IsWhole, IsGood, Answers, write_failures}
-use Rattle.sgf_lines.specs.inner.Running.{WritesLines, IsReading, IsStart, unread}
+use Rattle.sgf_lines.specs.inner.Running.{WritesLines, HasReadAll, IsStart, unread}
 use Rattle.sgf_lines.specs.declared.options.Form.{Form}
 use Rattle.sgf_lines.specs.declared.fault.RunFault.{RunFault}
 use Rattle.sgf_lines.specs.declared.fault.RunFault.TheVariants.{Read, TooLong, NotSgf, NoSuchLine, Write, Memory}
@@ -87,16 +87,12 @@ module _ (o : Options) (text : List ℕ) (to_come : Option (List ℕ)) (old new 
   unread_says (TextNotSgf at) long faulty whole = ((whole, faulty, refl, refl), refl)
   unread_says TextMemory long faulty whole = (inr (whole.within, refl, refl), inr (refl, refl))
 
-module _ {A : Type 0} (o : Options) (source new_source : SourceState) (text : List ℕ) (u : A) (h : IsReading {A = A} source new_source text (Ok u)) (sink : SinkState) (old : ℕ) where
-  whole : IsWhole text new_source.to_come
-  whole = let same : h.given ≡ text = sym h.answers.1 in rw same at h.answers.0
-
+module _ (o : Options) (source new_source : SourceState) (text : List ℕ) (h : HasReadAll source new_source text) (sink : SinkState) (old : ℕ) where
   run_of : (new_sink : SinkState) (new : ℕ) (result : Result ℕ RunFault) (plays : ℕ) → Answers o text new_source.to_come sink new_sink result × AnswersPlays o text new_source.to_come plays result
-      → new ≡ old + plays → new_source.failures ≡ source.failures + read_failures result → new_sink.failures ≡ sink.failures + write_failures result → IsRunWithPlays o source new_source sink new_sink old new result
+      → new ≡ old + plays → read_failures result ≡ 0 → new_sink.failures ≡ sink.failures + write_failures result → IsRunWithPlays o source new_source sink new_sink old new result
   run_of new_sink new result plays answers rises reads writes =
-      let same : h.given ≡ text = sym h.answers.1 in
       record {
-        run = record { given = text; gives = rw same at h.gives; consumes = rw same at h.consumes; answers = answers.0; source_failures = reads; sink_failures = writes };
+        run = record { given = text; gives = h.read.gives; consumes = h.read.consumes; answers = answers.0; source_failures = omega (arith, h.read.failures, reads); sink_failures = writes };
         plays = plays;
         rises = rises;
         answers = answers.1;
@@ -104,22 +100,22 @@ module _ {A : Type 0} (o : Options) (source new_source : SourceState) (text : Li
 
   -- no collection is spelled
   pub unread_run : (fault : ReadFault) (met : RunFault) → met ≡ unread fault (length text) → (fault ≡ TextTooLong → MAX_LENGTH < length text) → IsFaultyWhereNotSgf text fault
-      → new_source.failures ≡ source.failures + read_failures {A = ℕ} (Err met) → sink.failures ≡ sink.failures + write_failures {A = ℕ} (Err met) → IsRunWithPlays o source new_source sink sink old old (Err met)
+      → read_failures {A = ℕ} (Err met) ≡ 0 → sink.failures ≡ sink.failures + write_failures {A = ℕ} (Err met) → IsRunWithPlays o source new_source sink sink old old (Err met)
   unread_run fault met is long faulty reads writes =
-      let said = unread_says o text new_source.to_come sink sink fault long faulty whole in
+      let said = unread_says o text new_source.to_come sink sink fault long faulty h.whole in
       run_of sink old (Err met) 0 (rw is said) (omega arith) reads writes
 
   -- no cursor stands before the page
   pub no_start_run : (c : Games) (fault : RunFault) → Spells c text → IsStart c o.after (Err fault)
-      → new_source.failures ≡ source.failures + read_failures {A = ℕ} (Err fault) → sink.failures ≡ sink.failures + write_failures {A = ℕ} (Err fault) → IsRunWithPlays o source new_source sink sink old old (Err fault)
-  no_start_run c fault spelled start reads writes = run_of sink old (Err fault) 0 (start_says o text new_source.to_come sink sink c fault spelled whole start) (omega arith) reads writes
+      → read_failures {A = ℕ} (Err fault) ≡ 0 → sink.failures ≡ sink.failures + write_failures {A = ℕ} (Err fault) → IsRunWithPlays o source new_source sink sink old old (Err fault)
+  no_start_run c fault spelled start reads writes = run_of sink old (Err fault) 0 (start_says o text new_source.to_come sink sink c fault spelled h.whole start) (omega arith) reads writes
 
   -- the lines of the page were written
   pub lines_run : (c : Games) (at : CursorState) (new_sink : SinkState) (plays new : ℕ) (result : Result ℕ RunFault) → Spells c text → IsStart c o.after (Ok at)
       → WritesLines o.form (limited o.limit (drop at.index (lines c))) sink new_sink plays result → new ≡ old + plays
-      → OnOk result (HasDelivered new_sink) → new_source.failures ≡ source.failures → new_sink.failures ≡ sink.failures + write_failures result → IsRunWithPlays o source new_source sink new_sink old new result
-  lines_run c at new_sink plays new result spelled start w rises delivered reads writes =
+      → OnOk result (HasDelivered new_sink) → new_sink.failures ≡ sink.failures + write_failures result → IsRunWithPlays o source new_source sink new_sink old new result
+  lines_run c at new_sink plays new result spelled start w rises delivered writes =
       let ls = limited o.limit (drop at.index (lines c)) in
-      let good : IsGood o text new_source.to_come ls = record { whole = whole; has_page = record { games = c; spelled = spelled; page_is = ap (option_map (limited o.limit)) start } } in
+      let good : IsGood o text new_source.to_come ls = record { whole = h.whole; has_page = record { games = c; spelled = spelled; page_is = ap (option_map (limited o.limit)) start } } in
       run_of new_sink new result plays (lines_say o text new_source.to_come sink new_sink ls plays result good w delivered) rises
-      (omega (arith, reads, no_read o.form ls sink new_sink plays result w)) writes
+      (no_read o.form ls sink new_sink plays result w) writes

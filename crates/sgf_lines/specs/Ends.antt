@@ -1,6 +1,7 @@
 -- What the source and the sink of a run show to contracts, and what their calls do.
-use Rattle.std.specs.Prelude.{◌≡◌, ℕ, ◌+◌, ◌<◌, ◌≤◌, List, [], length, take, Option, Result, Ok, Err}
+use Rattle.std.specs.Prelude.{◌≡◌, ℕ, ◌+◌, ◌<◌, ◌≤◌, List, [], length, take, Option, Some, None, Result, Ok, Err}
 use Rattle.std.specs.Io.KnownBytes.{Keeps, Appends, Consumes, IsAtEnd}
+use denote.Ref.{Bor}
 
 -- A source: how often it has failed, the bytes that it has given so far, and those still to come. A
 -- list is None if the source doesn't report it; contracts then say nothing about it.
@@ -27,6 +28,19 @@ pub record GivesNothing (old new : SourceState) : Type 0 where
 abbrev pub IsGet : {E : Type 0} → SourceState → SourceState → List ℕ → Result ℕ E → Type 0
 IsGet old new buffer (Ok n) = (n ≤ length buffer) × Gives old new (take n buffer)
 IsGet old new buffer (Err _) = GivesNothing old new
+
+-- a source that had never failed gave these bytes at once, and no more are to come
+pub record GivesAll (old new : SourceState) (bytes : List ℕ) : Type 0 where
+  pub never_failed : old.failures ≡ 0
+  pub failures : new.failures ≡ old.failures
+  pub given : Appends old.given new.given bytes
+  pub to_come : Consumes old.to_come new.to_come bytes
+  pub at_end : IsAtEnd new.to_come
+
+-- the result of a source that was asked for all bytes still to come, if they are `most` at most: these bytes, or nothing was given
+abbrev pub GivesRest : ℕ → SourceState → SourceState → Option (Bor (List ℕ)) → Type 0
+GivesRest most old new None = new ≡ old
+GivesRest most old new (Some bytes) = (length bytes.now ≤ most) × GivesAll old new bytes.now
 
 -- A sink: how often it has failed, the bytes that it has taken so far, and the prefix of these
 -- that it has delivered. Delivered bytes were passed on, and are no longer held back. A list is

@@ -3,14 +3,15 @@
 ghost use Rattle.std.specs.Prelude.{◌≡◌, ◌<◌, ◌++◌, length, decimal};
 ghost use Rattle.sgf_lines.specs.Lines.{lines};
 ghost use Rattle.sgf_lines.specs.Counts.{IsCount, IsWriting, counts_of, counts_row};
-ghost use Rattle.sgf_lines.specs.inner.Running.{PutsAll};
+ghost use Rattle.sgf_lines.specs.Ends.{SourceState};
+ghost use Rattle.sgf_lines.specs.inner.Running.{HasReadAll, PutsAll};
 
 use crate::ends::sink::{Sink, SinkFault, put_all};
 use crate::ends::source::Source;
 use crate::fault::RunFault;
 use crate::run::read_all;
 use itoa::Buffer;
-use sgf_tree::{Collection, read};
+use sgf_tree::{Collection, MAX_LENGTH, read};
 use std::alloc::Global;
 
 /// The counts of a collection.
@@ -36,12 +37,22 @@ pub fn count<S: Source>(alloc: Global, source: &mut S) -> Result<Counts, RunFaul
     requires { (S.state source.old).failures < u64.MAX }
     ensures { IsCount (S.state source.old) (S.state source.new) result }
 {
+    if let Some(text) = source.give_rest(MAX_LENGTH) {
+        return count_text(alloc, text);
+    }
     let mut text = Vec::new(alloc);
     match read_all(source, &mut text) {
         Ok(()) => {}
         Err(fault) => return Err(fault),
     }
-    match read(alloc, &text) {
+    count_text(alloc, &text)
+}
+
+/// Counts as `count` does, once a source has given all of a text.
+fn count_text(alloc: Global, text: &[u8]) -> Result<Counts, RunFault>
+    ensures { (source new_source : SourceState) → HasReadAll source new_source text.now → IsCount source new_source result }
+{
+    match read(alloc, text) {
         Ok(collection) => Ok(counted(&collection)),
         Err(fault) => Err(RunFault::unread(fault, text.len())),
     }

@@ -13,7 +13,7 @@ ghost use Rattle.sgf_lines.specs.declared.going_on.Before.TheVariants.{Held};
 ghost use Rattle.sgf_lines.specs.inner.Following.{line_before, nodes_before};
 ghost use Rattle.sgf_lines.specs.inner.Keeping.{Holds, HoldsBy, IsFresh, KeepsBy, PlaysLine, PlaysUpTo, fresh_plays, kept_in, record_by, record_in};
 ghost use Rattle.sgf_lines.specs.inner.Views.{built_text};
-ghost use Rattle.sgf_lines.specs.inner.Running.{AnswersSome, HasRead, HasRecord, IsReading, IsStart, PutsAll, WritesLines};
+ghost use Rattle.sgf_lines.specs.inner.Running.{AnswersSome, HasRead, HasReadAll, HasRecord, IsReading, IsStart, PutsAll, WritesLines};
 
 use crate::cursor::Cursor;
 use crate::ends::sink::{Sink, SinkFault, put_all};
@@ -91,12 +91,33 @@ pub fn split_counted<S: Source, T: Sink>(
     ensures { IsRunWithPlays options.now (S.state source.old) (S.state source.new)
         (T.state sink.old) (T.state sink.new) plays.old plays.new result }
 {
+    if let Some(text) = source.give_rest(MAX_LENGTH) {
+        return split_text(alloc, text, sink, options, plays);
+    }
     let mut text = Vec::new(alloc);
     match read_all(source, &mut text) {
         Ok(()) => {}
         Err(fault) => return Err(fault),
     }
-    let collection = match read(alloc, &text) {
+    split_text(alloc, &text, sink, options, plays)
+}
+
+/// Splits a text as `split_counted` does, once a source has given all of it.
+// Not inlined: it is called twice.
+#[inline(never)]
+fn split_text<T: Sink>(
+    alloc: Global,
+    text: &[u8],
+    sink: &mut T,
+    options: &Options,
+    plays: &mut Plays,
+) -> Result<u64, RunFault>
+    requires sink_countable { (T.state sink.old).failures < u64.MAX }
+    requires plays_countable { plays.old + MAX_LENGTH ≤ u64.MAX }
+    ensures { (source new_source : SourceState) → HasReadAll source new_source text.now
+        → IsRunWithPlays options.now source new_source (T.state sink.old) (T.state sink.new) plays.old plays.new result }
+{
+    let collection = match read(alloc, text) {
         Ok(collection) => collection,
         Err(fault) => return Err(RunFault::unread(fault, text.len())),
     };

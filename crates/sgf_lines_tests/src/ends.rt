@@ -34,6 +34,7 @@ pub fn calls(alloc: Global, seen: &mut Seen) {
         }
     }
     array_is_full(alloc, seen);
+    rest_at_once(seen);
 }
 
 /// A source that gives one byte of a text at each call, for `calls` calls, and then fails.
@@ -92,6 +93,39 @@ fn source_fails(alloc: Global, calls: usize, seen: &mut Seen) {
         Ok(2) => seen.right(!fails && written == LENGTH, "a byte a read"),
         _ => seen.wrong("a run whose source fails"),
     }
+}
+
+/// A source over bytes in memory that has given its first 3 bytes. It gives the rest at once unless fewer bytes are asked for, and then
+/// it is at its end. A source that has no bytes in memory gives none at once.
+fn rest_at_once(seen: &mut Seen) {
+    let mut source = SliceSource::new(TWO);
+    let mut first = [0u8; 3];
+    seen.right(
+        source.get(&mut first).is_ok_and(|count| count == 3),
+        "the first bytes",
+    );
+    let left = TWO.len() - 3;
+    seen.right(
+        source.give_rest(left - 1).is_none(),
+        "more bytes at once than asked for",
+    );
+    seen.right(
+        source.give_rest(left).is_some_and(|rest| rest == &TWO[3..]),
+        "the other bytes at once",
+    );
+    seen.right(
+        source.get(&mut first).is_ok_and(|count| count == 0),
+        "bytes given twice",
+    );
+    let mut slow = byte_by_byte(3);
+    seen.right(
+        slow.give_rest(usize::MAX).is_none(),
+        "bytes that are not in memory",
+    );
+    seen.right(
+        slow.get(&mut first).is_ok_and(|count| count == 1),
+        "a byte after none",
+    );
 }
 
 /// A count whose source fails after so many calls.

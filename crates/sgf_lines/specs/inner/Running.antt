@@ -36,6 +36,11 @@ pub record HasRead (start now : SourceState) (text : List ℕ) : Type 0 where
   pub consumes : Consumes start.to_come now.to_come text
   pub failures : now.failures ≡ start.failures
 
+-- the same, and the source has no more to give
+pub record HasReadAll (start now : SourceState) (text : List ℕ) : Type 0 where
+  pub read : HasRead start now text
+  pub whole : IsWhole text now.to_come
+
 -- what the result of asking a source once says of all that it has given since `start`
 abbrev pub AnswersSome : SourceState → SourceState → List ℕ → Result ℕ RunFault → Type 0
 AnswersSome start now text (Ok count) = HasRead start now text × (count ≡ 0 → IsWhole text now.to_come)

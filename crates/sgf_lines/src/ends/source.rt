@@ -1,7 +1,9 @@
 //! Where the bytes of a run come from.
 
+ghost use Rattle.std.specs.Borrow.{sem};
+ghost use Rattle.std.specs.Io.BufRead.{Rests};
 ghost use Rattle.std.specs.Prelude.{◌≡◌, ◌<◌, ◌≤◌, List, ℕ, [], length, take, drop, Some, None};
-ghost use Rattle.sgf_lines.specs.Ends.{SourceState, IsGet};
+ghost use Rattle.sgf_lines.specs.Ends.{SourceState, IsGet, GivesRest};
 
 use std::io::Read;
 use thiserror::Error;
@@ -30,6 +32,15 @@ pub trait Source {
     /// How often it has failed.
     fn failures(&self) -> u64
         ensures { result ≡ (state self.now).failures };
+
+    /// Gives all bytes still to come at once, without a copy, if the source has them in memory and they are `most` at most.
+    /// Otherwise it returns None, and gives nothing: `get` gives the bytes then. None is always a right answer.
+    fn give_rest(&mut self, most: usize) -> Option<&[u8]>
+        ensures* rest { sem 𝓛 (Rests Self.row self.entry (λ new. GivesRest most (state self.old) (state new) result)) }
+    {
+        let _most = most;
+        None
+    }
 }
 
 /// A source over bytes in memory. It never fails, and takes no memory.
@@ -66,6 +77,15 @@ impl<'a> Source for SliceSource<'a> {
 
     fn failures(&self) -> u64 {
         0
+    }
+
+    fn give_rest(&mut self, most: usize) -> Option<&[u8]> {
+        let rest = &self.bytes[self.given..];
+        if rest.len() > most {
+            return None;
+        }
+        self.given = self.bytes.len();
+        Some(rest)
     }
 }
 

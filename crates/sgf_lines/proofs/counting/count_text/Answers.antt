@@ -1,0 +1,13 @@
+-- What is said of the text is said of the count, whatever source gave it.
+use Rattle.std.proofs.Common.{Err, ap}
+use Rattle.sgf_lines.proofs.LineCounts.{count_of_games, count_of_unread}
+use Rattle.sgf_lines.proofs.counting.count_text.Goals as goal
+
+pub returns-in-Ok : goal.returns-in-Ok
+returns-in-Ok c source new_source read =
+    count_of_games source new_source c.args.text.now read _ _ c.in-Ok.ensures.spelled c.counted.ensures
+
+pub returns-in-Err : goal.returns-in-Err
+returns-in-Err c source new_source read =
+    count_of_unread source new_source c.args.text.now read c.in-Err.fault c.unread.result c.unread.ensures
+    (λ is. c.in-Err.ensures.too_long.0 (ap Err is)) c.in-Err.ensures.not_sgf
