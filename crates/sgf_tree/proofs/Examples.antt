@@ -1,6 +1,6 @@
 -- Worked examples: the machine computes the collections of a few texts.
 use Rattle.std.proofs.Common.{◌≡◌, ℕ, [], ◌∷◌, Some, None, refl}
-use Rattle.sgf_tree.specs.Tree.{Node, no_games, game}
+use Rattle.sgf_tree.specs.Tree.{Node, no_games, game, leaf_count}
 use Rattle.sgf_tree.specs.inner.Machine.{next_state, run, accepted, collection_of}
 
 abbrev bare : ℕ → Node
@@ -31,3 +31,9 @@ none : (collection_of [] ≡ None) × (collection_of (40 ∷ 41 ∷ []) ≡ None
     × (collection_of (40 ∷ 59 ∷ 40 ∷ 59 ∷ 41 ∷ 59 ∷ 41 ∷ []) ≡ None)
 unfolding collection_of accepted run next_state
 none = (refl, refl, refl, refl, refl, refl)
+
+-- the leaves of no games, and of `(;)`, `(;(;)(;))` and `(;(;(;)))(;)`
+leaves : (leaf_count no_games ≡ 0) × (leaf_count (game (bare 1) [] no_games no_games) ≡ 1)
+    × (leaf_count (game (bare 1) [] (game (bare 3) [] no_games (game (bare 6) [] no_games no_games)) no_games) ≡ 2)
+    × (leaf_count (game (bare 1) [] (game (bare 3) [] (game (bare 5) [] no_games no_games) no_games) (game (bare 10) [] no_games no_games)) ≡ 2)
+leaves = (refl, refl, refl, refl)

@@ -26,9 +26,10 @@ pub game-next : (at : ℕ) (k : Stack) (b : ℕ) → next_state at (after_game k
 unfolding next_state
 game-next at k b = refl
 
-none-accepted : accepted (after_game (record { closed = no_games; unclosed = [] })) ≡ None
+pub none-accepted : (closed : Games) → game_count closed ≡ 0 → accepted (after_game (record { closed = closed; unclosed = [] })) ≡ None
 unfolding accepted
-none-accepted = refl
+none-accepted no_games e = refl
+none-accepted (game first more below after) e = absurd (omega arith)
 
 some-accepted : (closed : Games) → 0 < game_count closed → accepted (after_game (record { closed = closed; unclosed = [] })) ≡ Some closed
 unfolding accepted
@@ -39,13 +40,10 @@ some-accepted (game first more below after) h = refl
 between-refused : (k : Stack) (b : ℕ) → is_white_space b ≡ false → b ≢ 40 → b ≢ 41 → between_games k b ≡ None
 between-refused k b white ne40 ne41 = rw (white, ne_eqb b 40 ne40, ne_eqb b 41 ne41)
 
--- a `)` with no game open
-no-close : (k : Stack) → tip k.closed k.unclosed ≡ None → between_games k 41 ≡ None
-no-close k h = no-close-in k.closed k.unclosed h
-  where
-    no-close-in : (closed : Games) (gs : List OpenGame) → tip closed gs ≡ None → close_in closed gs ≡ None
-    no-close-in closed [] e = refl
-    no-close-in closed (g ∷ gs) e = absurd (cc)
+-- no game is open if there is no tip
+pub no-tip : (closed : Games) (gs : List OpenGame) → tip closed gs ≡ None → gs ≡ []
+no-tip closed [] e = refl
+no-tip closed (g ∷ gs) e = absurd (cc)
 
 -- the end of a game leaves the tip of the game around it
 tip-closed : (closed : Games) (g : OpenGame) (gs : List OpenGame) → tip (add_games closed gs (whole_game g)).closed (add_games closed gs (whole_game g)).unclosed ≡ tip closed gs
@@ -60,19 +58,61 @@ games-counted closed g [] parent games games' up e if_none if_some =
 games-counted closed g (h ∷ hs) parent games games' up e if_none if_some =
     e ∙ sym (if_some (ap is_some (sym up)))
 
-unfinished : (closed : Games) (gs : List OpenGame) (last : Option ℕ) (games : ℕ) → tip closed gs ≡ last → game_count closed ≡ games → (is_some last ≡ true) ⊎ (games ≡ 0)
+pub unfinished : (closed : Games) (gs : List OpenGame) (last : Option ℕ) (games : ℕ) → tip closed gs ≡ last → game_count closed ≡ games → (is_some last ≡ true) ⊎ (games ≡ 0)
     → accepted (after_game (record { closed = closed; unclosed = gs })) ≡ None
 unfinished closed (g ∷ gs) last games tip_is e h = open-unaccepted closed g gs
-unfinished no_games [] last games tip_is e h = none-accepted
-unfinished (game first more below after) [] last games tip_is e (inl h) =
-    absurd (false≢true (ap is_some tip_is ∙ h))
-unfinished (game first more below after) [] last games tip_is e (inr h) = absurd (omega arith)
+unfinished closed [] last games tip_is e (inl h) = absurd (false≢true (ap is_some tip_is ∙ h))
+unfinished closed [] last games tip_is e (inr h) = none-accepted closed (e ∙ h)
 
 no-tip-left : (closed : Games) (gs : List OpenGame) (last : Option ℕ) → tip closed gs ≡ last → is_some last ≡ false → gs ≡ []
 no-tip-left closed [] last tip_is h = refl
 no-tip-left closed (g ∷ gs) last tip_is h = absurd (true≢false (ap is_some tip_is ∙ h))
 
 module _ (t : List ℕ) where
+  module _ (at : ℕ) (k : Stack) (stands : StandsBetween t at k) where
+    -- a `(`
+    pub games-open : at < length t → get_or t at 0 ≡ 40 → ComesTo t (at + 1) (opened k)
+    games-open lt e =
+        run-take-step t at stands.state (opened k) stands.reached lt (stands.next lt ∙ ap (between_games k) e)
+
+    -- another byte
+    pub games-faulty : at < length t → get_or t at 0 ≢ 40 → get_or t at 0 ≢ 41 → IsFaultyAt t at
+    games-faulty lt ne40 ne41 =
+        refused-faulty t at stands.state lt stands.reached (stands.next lt ∙ between-refused k (get_or t at 0) (stands.not_white_space lt) ne40 ne41)
+
+    -- a `)` with no game open
+    pub close-faulty : at < length t → get_or t at 0 ≡ 41 → k.unclosed ≡ [] → IsFaultyAt t at
+    close-faulty lt e none =
+        refused-faulty t at stands.state lt stands.reached (stands.next lt ∙ ap (between_games k) e ∙ ap (close_in k.closed) none)
+
+    -- a `)` that ends a game
+    pub close-stands : (g : OpenGame) (gs : List OpenGame) (next : ℕ) → k.unclosed ≡ g ∷ gs → at < length t → get_or t at 0 ≡ 41 → IsSpan is_white_space t (at + 1) next
+        → StandsBetween t next (add_games k.closed gs (whole_game g))
+    close-stands g gs next is lt e white =
+        let k' : Stack = add_games k.closed gs (whole_game g) in
+        let step_is : next_state at stands.state (get_or t at 0) ≡ Some (after_game k') =
+        stands.next lt ∙ ap (between_games k) e ∙ ap (close_in k.closed) is ∙ closed-in k.closed g gs in
+        record {
+          state = after_game k';
+          reached = run-white t (at + 1) next (after_game k') (stays-after_game k') white.rises white.within white.passing (run-take-step t at stands.state (after_game k') stands.reached lt step_is);
+          next = λ _. game-next next k' (get_or t next 0);
+          end = refl;
+          not_white_space = white.stops;
+        }
+
+    -- the end of the text
+    module _ (ends : at ≡ length t) where
+      pub games-unfinished : accepted (after_game k) ≡ None → IsFaultyAt t (length t)
+      games-unfinished none =
+          ends-faulty t stands.state (subst (λ i. ComesTo t i stands.state) ends stands.reached) (stands.end ∙ none)
+
+      pub games-whole : ComesTo t (length t) stands.state
+      games-whole = subst (λ i. ComesTo t i stands.state) ends stands.reached
+
+      pub games-accepted : k.unclosed ≡ [] → 0 < game_count k.closed → accepted stands.state ≡ Some k.closed
+      games-accepted all some =
+          stands.end ∙ ap (λ gs. accepted (after_game (record { closed = k.closed; unclosed = gs }))) all ∙ some-accepted k.closed some
+
   -- games were read up to `at`: so many whole ones, and the innermost open one has that last node
   pub record GamesSoFar (at games : ℕ) (last : Option ℕ) (ns : List NodeEntry) : Type 0 where
     pub stack : Stack
@@ -81,28 +121,9 @@ module _ (t : List ℕ) where
     pub tip_is : tip stack.closed stack.unclosed ≡ last
     pub games_are : game_count stack.closed ≡ games
 
-  module _ (at games : ℕ) (last : Option ℕ) (ns : List NodeEntry) (so_far : GamesSoFar at games last ns) where
-    -- a `(`
-    pub games-open : at < length t → get_or t at 0 ≡ 40 → ComesTo t (at + 1) (opened so_far.stack)
-    games-open lt e =
-        run-take-step t at so_far.stands.state (opened so_far.stack) so_far.stands.reached lt (so_far.stands.next lt ∙ ap (between_games so_far.stack) e)
-
-    -- another byte
-    pub games-faulty : at < length t → get_or t at 0 ≢ 40 → get_or t at 0 ≢ 41 → IsFaultyAt t at
-    games-faulty lt ne40 ne41 =
-        refused-faulty t at so_far.stands.state lt so_far.stands.reached (so_far.stands.next lt ∙ between-refused so_far.stack (get_or t at 0) (so_far.stands.not_white_space lt) ne40 ne41)
-
-    pub close-faulty : at < length t → get_or t at 0 ≡ 41 → last ≡ None → IsFaultyAt t at
-    close-faulty lt e none =
-        refused-faulty t at so_far.stands.state lt so_far.stands.reached (so_far.stands.next lt ∙ ap (between_games so_far.stack) e ∙ no-close so_far.stack (so_far.tip_is ∙ none))
-
   -- the link of the first node after a `(`
   pub opening-root : (k : Stack) (games : ℕ) → tip k.closed k.unclosed ≡ None → game_count k.closed ≡ games → IsOpening k (Root (games + 1))
   opening-root k games none e = (no-tip k.closed k.unclosed none, ap (λ n. n + 1) (sym e))
-    where
-      no-tip : (closed : Games) (gs : List OpenGame) → tip closed gs ≡ None → gs ≡ []
-      no-tip closed [] h = refl
-      no-tip closed (g ∷ gs) h = absurd (cc)
 
   -- the game's own nodes
   pub games-sequence : (end games : ℕ) (k : Stack) (ns : List NodeEntry) → IsSequenceRead t end k ns → game_count k.closed ≡ games
@@ -174,40 +195,27 @@ module _ (t : List ℕ) where
         let done = closes ns' parent h in
         let up : tip so_far.stack.closed inmost.outer ≡ parent =
         same_Some _ _ (sym (own-parent so_far.stack.closed inmost.inner inmost.outer ns held-inner.same_order) ∙ done.parent_is) in
-        let step_is : next_state at so_far.stands.state (get_or t at 0) ≡ Some (after_game closed_stack) =
-        so_far.stands.next lt ∙ ap (between_games so_far.stack) e ∙ ap (close_in so_far.stack.closed) inmost.is ∙ closed-in so_far.stack.closed inmost.inner inmost.outer in
         record {
           stack = closed_stack;
-          stands = record {
-            state = after_game closed_stack;
-            reached = run-white t (at + 1) next (after_game closed_stack) (stays-after_game closed_stack) white.rises white.within white.passing (run-take-step t at so_far.stands.state (after_game closed_stack) so_far.stands.reached lt step_is);
-            next = λ _. game-next next closed_stack (get_or t next 0);
-            end = refl;
-            not_white_space = white.stops;
-          };
+          stands = close-stands at so_far.stack so_far.stands inmost.inner inmost.outer next inmost.is lt e white;
           held = game-closed t so_far.stack.closed inmost.inner inmost.outer ns ns' parent held-inner done;
           tip_is = tip-closed so_far.stack.closed inmost.inner inmost.outer ∙ up;
           games_are = games-counted so_far.stack.closed inmost.inner inmost.outer parent games games' up so_far.games_are if_none if_some;
         }
 
   -- the end of the text
-  module _ (at games : ℕ) (last : Option ℕ) (ns : List NodeEntry) (so_far : GamesSoFar at games last ns) (ends : at ≡ length t) where
-    pub games-unfinished : (is_some last ≡ true) ⊎ (games ≡ 0) → IsFaultyAt t (length t)
-    games-unfinished h =
-        ends-faulty t so_far.stands.state (subst (λ i. ComesTo t i so_far.stands.state) ends so_far.stands.reached)
-        (so_far.stands.end ∙ unfinished so_far.stack.closed so_far.stack.unclosed last games so_far.tip_is so_far.games_are h)
-
-    pub games-finished : is_some last ≡ false → 0 < games → (c : Games) × (games ≡ game_count c) × IsRead t c ns
-    games-finished none some =
-        let all : so_far.stack.unclosed ≡ [] = no-tip-left so_far.stack.closed so_far.stack.unclosed last so_far.tip_is none in (
-          so_far.stack.closed,
-          sym so_far.games_are,
-          record {
-            reached = so_far.stands.state;
-            whole = subst (λ i. ComesTo t i so_far.stands.state) ends so_far.stands.reached;
-            accepts =
-                so_far.stands.end ∙ ap (λ gs. accepted (after_game (record { closed = so_far.stack.closed; unclosed = gs }))) all ∙ some-accepted so_far.stack.closed (omega (arith, so_far.games_are));
-            held =
-                subst (λ gs. HoldStack t (record { closed = so_far.stack.closed; unclosed = gs }) ns) all so_far.held;
-          },
-        )
+  pub games-finished : (at games : ℕ) (last : Option ℕ) (ns : List NodeEntry) → GamesSoFar at games last ns → at ≡ length t
+      → is_some last ≡ false → 0 < games → (c : Games) × (games ≡ game_count c) × IsRead t c ns
+  games-finished at games last ns so_far ends none some =
+      let k : Stack = so_far.stack in
+      let all : k.unclosed ≡ [] = no-tip-left k.closed k.unclosed last so_far.tip_is none in (
+        k.closed,
+        sym so_far.games_are,
+        record {
+          reached = so_far.stands.state;
+          whole = games-whole at k so_far.stands ends;
+          accepts = games-accepted at k so_far.stands ends all (omega (arith, so_far.games_are));
+          held =
+              subst (λ gs. HoldStack t (record { closed = k.closed; unclosed = gs }) ns) all so_far.held;
+        },
+      )

@@ -26,6 +26,7 @@ pub mod SequencesRead
 pub mod GameEnds
 pub mod LastBelow
 pub mod GamesLoop
+pub mod Counting
 pub mod ByteOrderMark
 pub mod WholeRead
 pub mod Leaves

@@ -5,18 +5,12 @@ use Rattle.std.proofs.lemmas.Bool.{and_from, cases_lt}
 use Rattle.std.proofs.lemmas.Simd.{length-chunk, length-zip2, get_or-chunk, get_or-zip2, tops_compared, mask_l-mod, bit_mask_l}
 use Rattle.std.specs.Simd.Lanes.{chunk, zip2, mask_l, top}
 use Rattle.sgf_tree.specs.inner.Progress.{is_plain, IsMove, EndsNode}
+use Rattle.sgf_tree.specs.inner.Counting.{IsMoveNode}
 use Rattle.sgf_tree.proofs.ValueEnds.{other-plain}
 
 -- how far a byte is above another, where 0 comes after 255
 abbrev above : ℕ → ℕ → ℕ
 above byte other = (byte + (256 - other)) % 256
-
--- the least byte of each place, and how far above it a byte may be
-abbrev least : List ℕ
-least = 65 ∷ 91 ∷ 94 ∷ 94 ∷ 93 ∷ 33 ∷ 0 ∷ 0 ∷ 0 ∷ 0 ∷ 0 ∷ 0 ∷ 0 ∷ 0 ∷ 0 ∷ 0 ∷ []
-
-abbrev most : List ℕ
-most = 25 ∷ 0 ∷ 253 ∷ 253 ∷ 0 ∷ 31 ∷ 0 ∷ 0 ∷ 0 ∷ 0 ∷ 0 ∷ 0 ∷ 0 ∷ 0 ∷ 0 ∷ 0 ∷ []
 
 -- the lowest bits of a number
 low-bits : (n : ℕ) → n % 32 ≡ 31 → (n / 1 % 2 ≡ 1) × (n / 2 % 2 ≡ 1) × (n / 4 % 2 ≡ 1) × (n / 8 % 2 ≡ 1) × (n / 16 % 2 ≡ 1)
@@ -29,7 +23,8 @@ is-set false e = absurd (omega arith)
 other-than : (b : ℕ) → b < 256 → above b 94 ≤ 253 → IsTrue (is_plain b)
 other-than b fits h = other-plain b (λ e. omega (arith, h)) (λ e. omega (arith, h))
 
-module _ (t : List ℕ) (at : ℕ) (room : at + 16 ≤ length t) (fits : (i : ℕ) → get_or t i 0 < 256) where
+-- the least byte of each place, and how far above it a byte may be
+module _ (least most : List ℕ) (places : length least ≡ 16) (t : List ℕ) (at : ℕ) (room : at + 16 ≤ length t) where
   abbrev distances : List ℕ
   distances = zip2 above (chunk at 16 t) least
 
@@ -37,66 +32,115 @@ module _ (t : List ℕ) (at : ℕ) (room : at + 16 ≤ length t) (fits : (i : �
   bits = mask_l (map (top 7) (zip2 (λ a b. cond (leb a b) 255 0) distances most)) % 2 ^ 64
 
   long : length distances ≡ 16
-  long = length-zip2 above (chunk at 16 t) least (length-chunk at 16 t room) ∙ length-chunk at 16 t room
+  long = length-zip2 above (chunk at 16 t) least (length-chunk at 16 t room ∙ sym places) ∙ length-chunk at 16 t room
 
-  abbrev lanes : List Bool
-  lanes = zip2 leb distances most
+  module _ (tops : length most ≡ 16) where
+    abbrev lanes : List Bool
+    lanes = zip2 leb distances most
 
-  bits-lanes : bits ≡ mask_l lanes
-  bits-lanes = ap (λ ms. mask_l ms % 2 ^ 64) (tops_compared w8 leb distances most) ∙ mask_l-mod lanes 64 (omega (arith, long, length-zip2 leb distances most long))
+    bits-lanes : bits ≡ mask_l lanes
+    bits-lanes = ap (λ ms. mask_l ms % 2 ^ 64) (tops_compared w8 leb distances most) ∙ mask_l-mod lanes 64 (omega (arith, long, length-zip2 leb distances most (long ∙ sym tops)))
 
-  in-place : (i : ℕ) → i < 16 → bits / 2 ^ i % 2 ≡ 1 → above (get_or t (at + i) 0) (get_or least i 0) ≤ get_or most i 0
-  in-place i lt set =
-      let byte = get_or-chunk at 16 t i 0 lt in
-      let distance : get_or distances i 0 ≡ above (get_or t (at + i) 0) (get_or least i 0) =
-      get_or-zip2 above (chunk at 16 t) least i 0 0 0 (omega (arith, length-chunk at 16 t room)) lt ∙ ap (λ b. above b (get_or least i 0)) byte in
-      let lane : get_or lanes i false ≡ leb (above (get_or t (at + i) 0) (get_or least i 0)) (get_or most i 0) =
-      get_or-zip2 leb distances most i 0 0 false (omega (arith, long)) lt ∙ ap (λ d. leb d (get_or most i 0)) distance in
-      let bit : ◌≡◌ {A = ℕ} (cond (get_or lanes i false) 1 0) 1 = sym (bit_mask_l lanes i) ∙ ap (λ n. n / 2 ^ i % 2) (sym bits-lanes) ∙ set in
-      leb-true (above (get_or t (at + i) 0) (get_or least i 0)) (get_or most i 0) (sym lane ∙ is-set (get_or lanes i false) bit)
+    pub in-place : (i j : ℕ) → j ≡ at + i → i < 16 → bits / 2 ^ i % 2 ≡ 1 → above (get_or t j 0) (get_or least i 0) ≤ get_or most i 0
+    in-place i j is lt set =
+        let byte = get_or-chunk at 16 t i 0 lt in
+        let distance : get_or distances i 0 ≡ above (get_or t (at + i) 0) (get_or least i 0) =
+        get_or-zip2 above (chunk at 16 t) least i 0 0 0 (omega (arith, length-chunk at 16 t room)) (omega (arith, places)) ∙ ap (λ b. above b (get_or least i 0)) byte in
+        let lane : get_or lanes i false ≡ leb (above (get_or t (at + i) 0) (get_or least i 0)) (get_or most i 0) =
+        get_or-zip2 leb distances most i 0 0 false (omega (arith, long)) (omega (arith, tops)) ∙ ap (λ d. leb d (get_or most i 0)) distance in
+        let bit : ◌≡◌ {A = ℕ} (cond (get_or lanes i false) 1 0) 1 = sym (bit_mask_l lanes i) ∙ ap (λ n. n / 2 ^ i % 2) (sym bits-lanes) ∙ set in
+        subst (λ k. above (get_or t k 0) (get_or least i 0) ≤ get_or most i 0) (sym is)
+        (leb-true (above (get_or t (at + i) 0) (get_or least i 0)) (get_or most i 0) (sym lane ∙ is-set (get_or lanes i false) bit))
 
-  module _ (e : bits % 32 ≡ 31) where
-    first : above (get_or t at 0) 65 ≤ 25
-    first = let here : at + 0 ≡ at = omega arith in subst (λ i. above (get_or t i 0) 65 ≤ 25) here (in-place 0 (omega arith) (low-bits bits e).0)
+-- a move, by how far its bytes are above the least ones
+move-from : (t : List ℕ) (at : ℕ) → ((i : ℕ) → get_or t i 0 < 256) → at + 4 < length t → above (get_or t at 0) 65 ≤ 25 → above (get_or t (at + 1) 0) 91 ≤ 0
+    → above (get_or t (at + 2) 0) 94 ≤ 253 → above (get_or t (at + 3) 0) 94 ≤ 253 → above (get_or t (at + 4) 0) 93 ≤ 0 → IsMove t at
+move-from t at fits within first second third fourth fifth =
+    let four : at + 2 + 2 ≡ at + 4 = omega arith in
+    let range : (65 ≤ get_or t at 0) × (get_or t at 0 ≤ 90) = (omega (arith, first, fits at), omega (arith, first, fits at)) in
+    record {
+      capital = and_from (nat_le 65 (get_or t at 0)) (nat_le (get_or t at 0) 90) (le-leb 65 (get_or t at 0) range.0) (le-leb (get_or t at 0) 90 range.1);
+      bracket = omega (arith, second, fits (at + 1));
+      value = record {
+        within = omega arith;
+        plain = record { rises = omega arith; within = omega arith; passing = plain };
+        bracket = rw four (omega (arith, fifth, fits (at + 4)));
+      };
+    }
+  where
+    plain : (i : ℕ) → at + 2 ≤ i → i < at + 2 + 2 → IsTrue (is_plain (get_or t i 0))
+    plain i low high =
+        elim (cases_lt i (at + 3)) [
+          | inl lt ↦ let same : i ≡ at + 2 = omega arith in rw same (other-than (get_or t (at + 2) 0) (fits (at + 2)) third)
+          | inr le ↦ let same : i ≡ at + 3 = omega arith in rw same (other-than (get_or t (at + 3) 0) (fits (at + 3)) fourth)
+        ]
 
-    second : above (get_or t (at + 1) 0) 91 ≤ 0
-    second = in-place 1 (omega arith) (low-bits bits e).1
+-- the bytes of a move, and the byte after it
+module _ (t : List ℕ) (at : ℕ) (room : at + 16 ≤ length t) (fits : (i : ℕ) → get_or t i 0 < 256) where
+  abbrev least : List ℕ
+  least = 65 ∷ 91 ∷ 94 ∷ 94 ∷ 93 ∷ 33 ∷ 0 ∷ 0 ∷ 0 ∷ 0 ∷ 0 ∷ 0 ∷ 0 ∷ 0 ∷ 0 ∷ 0 ∷ []
 
-    third : above (get_or t (at + 2) 0) 94 ≤ 253
-    third = in-place 2 (omega arith) (low-bits bits e).2
+  abbrev most : List ℕ
+  most = 25 ∷ 0 ∷ 253 ∷ 253 ∷ 0 ∷ 31 ∷ 0 ∷ 0 ∷ 0 ∷ 0 ∷ 0 ∷ 0 ∷ 0 ∷ 0 ∷ 0 ∷ 0 ∷ []
 
-    fourth : above (get_or t (at + 3) 0) 94 ≤ 253
-    fourth = in-place 3 (omega arith) (low-bits bits e).3
+  abbrev move_bits : ℕ
+  move_bits = bits least most refl t at room
 
-    fifth : above (get_or t (at + 4) 0) 93 ≤ 0
-    fifth = in-place 4 (omega arith) (low-bits bits e).4
+  here : (i j : ℕ) → j ≡ at + i → i < 16 → move_bits / 2 ^ i % 2 ≡ 1 → above (get_or t j 0) (get_or least i 0) ≤ get_or most i 0
+  here = in-place least most refl t at room refl
 
-    pub move-stands : IsMove t at
-    move-stands =
-        let four : at + 2 + 2 ≡ at + 4 = omega arith in
-        let range : (65 ≤ get_or t at 0) × (get_or t at 0 ≤ 90) = (omega (arith, first, fits at), omega (arith, first, fits at)) in
-        record {
-          capital = and_from (nat_le 65 (get_or t at 0)) (nat_le (get_or t at 0) 90) (le-leb 65 (get_or t at 0) range.0) (le-leb (get_or t at 0) 90 range.1);
-          bracket = omega (arith, second, fits (at + 1));
-          value = record {
-            within = omega arith;
-            plain = record { rises = omega arith; within = omega arith; passing = plain };
-            bracket = rw four (omega (arith, fifth, fits (at + 4)));
-          };
-        }
-      where
-        plain : (i : ℕ) → at + 2 ≤ i → i < at + 2 + 2 → IsTrue (is_plain (get_or t i 0))
-        plain i low high =
-            elim (cases_lt i (at + 3)) [
-              | inl lt ↦ let same : i ≡ at + 2 = omega arith in rw same (other-than (get_or t (at + 2) 0) (fits (at + 2)) third)
-              | inr le ↦ let same : i ≡ at + 3 = omega arith in rw same (other-than (get_or t (at + 3) 0) (fits (at + 3)) fourth)
-            ]
+  pub move-stands : move_bits % 32 ≡ 31 → IsMove t at
+  move-stands e =
+      let set = low-bits move_bits e in
+      move-from t at fits (omega arith) (here 0 at (omega arith) (omega arith) set.0) (here 1 (at + 1) refl (omega arith) set.1) (here 2 (at + 2) refl (omega arith) set.2)
+      (here 3 (at + 3) refl (omega arith) set.3) (here 4 (at + 4) refl (omega arith) set.4)
 
-  pub node-ends : bits % 64 ≡ 63 → EndsNode t (at + 5)
+  pub node-ends : move_bits % 64 ≡ 63 → EndsNode t (at + 5)
   node-ends e =
-      let sixth : above (get_or t (at + 5) 0) 33 ≤ 31 = in-place 5 (omega arith) (omega (arith, e)) in
+      let sixth : above (get_or t (at + 5) 0) 33 ≤ 31 = here 5 (at + 5) refl (omega arith) (omega (arith, e)) in
       record {
         within = omega arith;
         above = omega (arith, sixth, fits (at + 5));
         below = omega (arith, sixth, fits (at + 5));
       }
+
+-- the bytes of two nodes that begin with a move, and the byte after them
+module _ (t : List ℕ) (at : ℕ) (room : at + 16 ≤ length t) (fits : (i : ℕ) → get_or t i 0 < 256) where
+  abbrev two_least : List ℕ
+  two_least = 59 ∷ 65 ∷ 91 ∷ 94 ∷ 94 ∷ 93 ∷ 59 ∷ 65 ∷ 91 ∷ 94 ∷ 94 ∷ 93 ∷ 33 ∷ 0 ∷ 0 ∷ 0 ∷ []
+
+  abbrev two_most : List ℕ
+  two_most = 0 ∷ 25 ∷ 0 ∷ 253 ∷ 253 ∷ 0 ∷ 0 ∷ 25 ∷ 0 ∷ 253 ∷ 253 ∷ 0 ∷ 31 ∷ 255 ∷ 255 ∷ 255 ∷ []
+
+  abbrev two_bits : ℕ
+  two_bits = bits two_least two_most refl t at room
+
+  there : (i j : ℕ) → j ≡ at + i → i < 16 → two_bits / 2 ^ i % 2 ≡ 1 → above (get_or t j 0) (get_or two_least i 0) ≤ get_or two_most i 0
+  there = in-place two_least two_most refl t at room refl
+
+  pub first-node : two_bits % 64 ≡ 63 → IsMoveNode t at
+  first-node e =
+      let semicolon : above (get_or t at 0) 59 ≤ 0 = there 0 at (omega arith) (omega arith) (omega (arith, e)) in
+      record {
+        begins = omega (arith, semicolon, fits at);
+        move = move-from t (at + 1) fits (omega arith) (there 1 (at + 1) refl (omega arith) (omega (arith, e))) (there 2 (at + 1 + 1) (omega arith) (omega arith) (omega (arith, e)))
+            (there 3 (at + 1 + 2) (omega arith) (omega arith) (omega (arith, e))) (there 4 (at + 1 + 3) (omega arith) (omega arith) (omega (arith, e))) (there 5 (at + 1 + 4) (omega arith) (omega arith) (omega (arith, e)));
+      }
+
+  module _ (e : two_bits ≡ 65535) where
+    all-there : (i j : ℕ) → j ≡ at + i → i < 16 → 65535 / 2 ^ i % 2 ≡ 1 → above (get_or t j 0) (get_or two_least i 0) ≤ get_or two_most i 0
+    all-there i j is lt set = there i j is lt (ap (λ n. n / 2 ^ i % 2) e ∙ set)
+
+    pub second-node : IsMoveNode t (at + 6)
+    second-node =
+        let semicolon : above (get_or t (at + 6) 0) 59 ≤ 0 = all-there 6 (at + 6) refl (omega arith) refl in
+        record {
+          begins = omega (arith, semicolon, fits (at + 6));
+          move = move-from t (at + 6 + 1) fits (omega arith) (all-there 7 (at + 6 + 1) (omega arith) (omega arith) refl) (all-there 8 (at + 6 + 1 + 1) (omega arith) (omega arith) refl)
+              (all-there 9 (at + 6 + 1 + 2) (omega arith) (omega arith) refl) (all-there 10 (at + 6 + 1 + 3) (omega arith) (omega arith) refl) (all-there 11 (at + 6 + 1 + 4) (omega arith) (omega arith) refl);
+        }
+
+    pub second-ends : EndsNode t (at + 12)
+    second-ends =
+        let after : above (get_or t (at + 12) 0) 33 ≤ 31 = all-there 12 (at + 12) refl (omega arith) refl in
+        record { within = omega arith; above = omega (arith, after, fits (at + 12)); below = omega (arith, after, fits (at + 12)) }

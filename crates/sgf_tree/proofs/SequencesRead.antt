@@ -2,14 +2,14 @@
 use Rattle.std.proofs.Common.{◌≡◌, ◌≢◌, ℕ, ◌+◌, ◌-◌, ◌<◌, ◌≤◌, Bool, true, false, IsTrue, inl, inr, List, [], ◌∷◌, ◌++◌, length, get_or, Some, None, refl, sym, ap, subst, ◌∙◌, arith, length-append, ne_eqb}
 use Rattle.std.proofs.lemmas.Bool.{cases_lt}
 use Rattle.std.proofs.lemmas.List.{get_or_push}
-use Rattle.sgf_tree.specs.Tree.{Games, no_games, game}
+use Rattle.sgf_tree.specs.Tree.{Property, Node, Games, no_games, game}
 use Rattle.sgf_tree.specs.Spelling.{is_white_space}
 use Rattle.sgf_tree.specs.inner.Machine.{OpenGame, Stack, Started, opened, in_node, after_game, after_node, between_games, ended, new_game, new_node, next_state, accepted}
 use Rattle.sgf_tree.specs.Refusal.{IsFaultyAt}
 use Rattle.sgf_tree.specs.inner.NodeText.{AreWritten}
 use Rattle.sgf_tree.specs.inner.Progress.{ComesTo, IsSpan}
-use Rattle.sgf_tree.specs.inner.PropertiesRead.{StandsAfterNode, with_properties}
-use Rattle.sgf_tree.specs.inner.GamesRead.{HoldStack, IsOpening, IsNodeRead, IsSequenceRead}
+use Rattle.sgf_tree.specs.inner.PropertiesRead.{StandsAfterNode, ArePropertiesRead, with_properties}
+use Rattle.sgf_tree.specs.inner.GamesRead.{HoldStack, IsOpening, StandsBetween, IsNodeRead, IsSequenceRead}
 use Rattle.sgf_tree.specs.declared.layout.Link.{Link}
 use Rattle.sgf_tree.specs.declared.layout.Link.TheVariants.{Next}
 use Rattle.sgf_tree.specs.declared.layout.NodeEntry.{NodeEntry}
@@ -67,15 +67,77 @@ module _ (t : List ℕ) where
   next-node end whole stands lt e =
       run-take-step t end stands.state (new_node (ended whole) false end) stands.reached lt (stands.next lt ∙ ap (after_node end (ended whole)) e)
 
-  -- nodes of the game were read, and the last one is `whole`
-  pub record SequenceSoFar (end : ℕ) (is_written : Bool) (k : Stack) (ns : List NodeEntry) : Type 0 where
+  -- nodes of a game were read: the last one is `whole`, and `last` is the game so far
+  pub record NodesSoFar (end : ℕ) (k : Stack) (last : OpenGame) : Type 0 where
     pub whole : Started
-    pub last : OpenGame
     pub stands : StandsAfterNode t end whole
     pub stack_is : ended whole ≡ record { closed = k.closed; unclosed = last ∷ k.unclosed }
-    pub held : HoldStack t (record { closed = k.closed; unclosed = last ∷ k.unclosed }) ns
     pub nothing_below : last.below ≡ no_games
     pub not_white_space : end < length t → is_white_space (get_or t end 0) ≡ false
+
+  -- the game with one more node
+  abbrev pub with_node : OpenGame → Node → OpenGame
+  with_node last n = record { first = last.first; more = last.more ++ n ∷ []; below = last.below }
+
+  pub nodes-first : (at place end : ℕ) (k : Stack) → IsSpan is_white_space t at place → ComesTo t at (opened k) → place < length t → get_or t place 0 ≡ 59
+      → ArePropertiesRead t (place + 1) end → (ps : List Property) × NodesSoFar end k (new_game (record { place = place; properties = ps }))
+  nodes-first at place end k white after lt e read =
+      let n : Started = record { stack = k; opens = true; place = place; properties = [] } in
+      let own = read.reached n refl (place-node at place k white after lt e) in (
+        own.0,
+        record {
+          whole = with_properties n own.0;
+          stands = own.1;
+          stack_is = refl;
+          nothing_below = refl;
+          not_white_space = read.not_white_space;
+        },
+      )
+
+  pub nodes-next : (place end : ℕ) (k : Stack) (last : OpenGame) → NodesSoFar place k last → place < length t → get_or t place 0 ≡ 59
+      → ArePropertiesRead t (place + 1) end → (ps : List Property) × NodesSoFar end k (with_node last (record { place = place; properties = ps }))
+  nodes-next place end k last so_far lt e read =
+      let k' : Stack = record { closed = k.closed; unclosed = last ∷ k.unclosed } in
+      let n : Started = record { stack = k'; opens = false; place = place; properties = [] } in
+      let begins : ComesTo t (place + 1) (in_node n) =
+      subst (λ s. ComesTo t (place + 1) (new_node s false place)) so_far.stack_is (next-node place so_far.whole so_far.stands lt e) in
+      let own = read.reached n refl begins in (
+        own.0,
+        record {
+          whole = with_properties n own.0;
+          stands = own.1;
+          stack_is = refl;
+          nothing_below = so_far.nothing_below;
+          not_white_space = read.not_white_space;
+        },
+      )
+
+  -- no further node follows
+  pub nodes-done : (end : ℕ) (k : Stack) (last : OpenGame) → NodesSoFar end k last → (end < length t → get_or t end 0 ≢ 59)
+      → StandsBetween t end (record { closed = k.closed; unclosed = last ∷ k.unclosed })
+  nodes-done end k last so_far other =
+      let k' : Stack = record { closed = k.closed; unclosed = last ∷ k.unclosed } in
+      record {
+        state = so_far.stands.state;
+        reached = so_far.stands.reached;
+        next = λ lt. so_far.stands.next lt ∙ ap (λ s. after_node end s (get_or t end 0)) so_far.stack_is ∙ node-between end k' (get_or t end 0) (so_far.not_white_space lt) (other lt);
+        end = so_far.stands.unaccepted ∙ sym (open-unaccepted k.closed last k.unclosed);
+        not_white_space = so_far.not_white_space;
+      }
+
+  -- a further node's `;` begins a node
+  pub nodes-node : (end : ℕ) (k : Stack) (last : OpenGame) → NodesSoFar end k last → end < length t → get_or t end 0 ≡ 59
+      → (n : Started) × ((n.properties ≡ []) × ComesTo t (end + 1) (in_node n))
+  nodes-node end k last so_far lt e = (
+    record { stack = ended so_far.whole; opens = false; place = end; properties = [] },
+    (refl, next-node end so_far.whole so_far.stands lt e),
+  )
+
+  -- the same, and the entries hold the nodes
+  pub record SequenceSoFar (end : ℕ) (is_written : Bool) (k : Stack) (ns : List NodeEntry) : Type 0 where
+    pub last : OpenGame
+    pub nodes : NodesSoFar end k last
+    pub held : HoldStack t (record { closed = k.closed; unclosed = last ∷ k.unclosed }) ns
     pub written : IsTrue is_written → (d : NodeEntry) → let place = (get_or ns (length ns - 1) d).place in (get_or t place 0 ≡ 59) × AreWritten t (place + 1) end
 
   -- the node that was pushed last is written, if it is
@@ -92,16 +154,11 @@ module _ (t : List ℕ) where
       → IsSpan is_white_space t at place → ComesTo t at (opened k) → HoldStack t k ns → IsOpening k link → place < length t → get_or t place 0 ≡ 59
       → IsNodeRead t place end link ns ns' → (IsTrue is_written → AreWritten t (place + 1) end) → SequenceSoFar end is_written k ns'
   sequence-first at place end is_written k link ns ns' white after held opening lt e read written =
-      let n : Started = record { stack = k; opens = true; place = place; properties = [] } in
-      let own = read.properties.reached n refl (place-node at place k white after lt e) in
+      let own = nodes-first at place end k white after lt e read.properties in
       record {
-        whole = with_properties n own.0;
         last = new_game (record { place = place; properties = own.0 });
-        stands = own.1;
-        stack_is = refl;
+        nodes = own.1;
         held = first-held t k place end own.0 link ns ns' held opening read lt;
-        nothing_below = refl;
-        not_white_space = read.properties.not_white_space;
         written = last-written place end is_written link ns ns' e read written;
       }
 
@@ -109,47 +166,23 @@ module _ (t : List ℕ) where
       → SequenceSoFar place beside k ns → place < length t → get_or t place 0 ≡ 59 → IsNodeRead t place end (Next beside) ns ns'
       → (IsTrue is_written → AreWritten t (place + 1) end) → SequenceSoFar end is_written k ns'
   sequence-next place end beside is_written k ns ns' so_far lt e read written =
-      let k' : Stack = record { closed = k.closed; unclosed = so_far.last ∷ k.unclosed } in
-      let n : Started = record { stack = k'; opens = false; place = place; properties = [] } in
-      let begins : ComesTo t (place + 1) (in_node n) =
-      subst (λ s. ComesTo t (place + 1) (new_node s false place)) so_far.stack_is (next-node place so_far.whole so_far.stands lt e) in
-      let own = read.properties.reached n refl begins in
+      let own = nodes-next place end k so_far.last so_far.nodes lt e read.properties in
       record {
-        whole = with_properties n own.0;
-        last = record { first = so_far.last.first; more = so_far.last.more ++ record { place = place; properties = own.0 } ∷ []; below = so_far.last.below };
-        stands = own.1;
-        stack_is = refl;
-        held = next-held t k.closed so_far.last k.unclosed place end own.0 ns ns' beside so_far.held so_far.nothing_below read lt
+        last = with_node so_far.last (record { place = place; properties = own.0 });
+        nodes = own.1;
+        held = next-held t k.closed so_far.last k.unclosed place end own.0 ns ns' beside so_far.held so_far.nodes.nothing_below read lt
             (λ is d. let before = so_far.written is d in node-written t (get_or ns (length ns - 1) d).place place before.0 lt e before.1);
-        nothing_below = so_far.nothing_below;
-        not_white_space = read.properties.not_white_space;
         written = last-written place end is_written (Next beside) ns ns' e read written;
       }
 
-  -- no further node follows
   pub sequence-done : (end : ℕ) (is_written : Bool) (k : Stack) (ns : List NodeEntry) → SequenceSoFar end is_written k ns → (end < length t → get_or t end 0 ≢ 59) → IsSequenceRead t end k ns
   sequence-done end is_written k ns so_far other =
-      let k' : Stack = record { closed = k.closed; unclosed = so_far.last ∷ k.unclosed } in
       record {
         last = so_far.last;
-        stands = record {
-          state = so_far.stands.state;
-          reached = so_far.stands.reached;
-          next = λ lt. so_far.stands.next lt ∙ ap (λ s. after_node end s (get_or t end 0)) so_far.stack_is ∙ node-between end k' (get_or t end 0) (so_far.not_white_space lt) (other lt);
-          end = so_far.stands.unaccepted ∙ sym (open-unaccepted k.closed so_far.last k.unclosed);
-          not_white_space = so_far.not_white_space;
-        };
+        stands = nodes-done end k so_far.last so_far.nodes other;
         held = so_far.held;
-        nothing_below = so_far.nothing_below;
+        nothing_below = so_far.nodes.nothing_below;
       }
-
-  -- a further node's `;` begins a node
-  pub sequence-node : (end : ℕ) (is_written : Bool) (k : Stack) (ns : List NodeEntry) → SequenceSoFar end is_written k ns → end < length t → get_or t end 0 ≡ 59
-      → (n : Started) × ((n.properties ≡ []) × ComesTo t (end + 1) (in_node n))
-  sequence-node end is_written k ns so_far lt e = (
-    record { stack = ended so_far.whole; opens = false; place = end; properties = [] },
-    (refl, next-node end so_far.whole so_far.stands lt e),
-  )
 
   -- there are no more nodes than bytes
   pub node-room : (place end : ℕ) (link : Link) (ns ns' : List NodeEntry) → length ns ≤ place → IsNodeRead t place end link ns ns' → length ns' ≤ end

@@ -1,7 +1,7 @@
 -- A property with one value, as the code tells it.
 use Rattle.std.proofs.Common.{◌≡◌, ℕ, ◌+◌, ◌<◌, Bool, false, IsTrue, List, length, get_or, true, refl, arith}
-use Rattle.std.proofs.lemmas.Bool.{or_left}
-use Rattle.sgf_tree.specs.Spelling.{is_upper, is_lower}
+use Rattle.std.proofs.lemmas.Bool.{or_left, false≢true}
+use Rattle.sgf_tree.specs.Spelling.{is_white_space, is_upper, is_lower}
 use Rattle.sgf_tree.specs.inner.NodeText.{is_letter, AreWritten}
 use Rattle.sgf_tree.specs.inner.Progress.{IsSpan, IsBracket, IsValueEnd, IsMove, EndsNode}
 use Rattle.sgf_tree.specs.inner.PropertiesRead.{AreValuesEnded, IsNameRead, AreValuesRead, IsPropertyRead, IsWholePropertyRead, ArePropertiesRead}
@@ -69,6 +69,13 @@ module _ (t : List ℕ) (at : ℕ) (is : IsMove t at) where
   pub move-written : (read : PartRead) → AreValuesEnded t (at + 5) read → IsTrue read.as_written → AreWritten t at read.end
   move-written read ended same =
       written-more t at at read.end (written-none t at (omega (arith, is.value.within))) ((move-whole read ended).written same)
+
+  -- and only white space after it
+  pub spaced-read : (end : ℕ) → IsSpan is_white_space t (at + 5) end → end < length t → get_or t end 0 < 65 → ArePropertiesRead t at end
+  spaced-read end white lt below =
+      let read : PartRead = record { end = end; as_written = false } in
+      let last : AreValuesEnded t (at + 5) read = record { white_space = white; other = λ e. omega (arith, below); written = λ is. absurd (false≢true is) } in
+      properties-done t at end (after-move read last) (λ _. between-not_upper (get_or t end 0) below)
 
   -- and nothing after it
   module _ (ends : EndsNode t (at + 5)) where

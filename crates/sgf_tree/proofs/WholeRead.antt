@@ -5,7 +5,8 @@ use Rattle.sgf_tree.specs.declared.fault.TheConstants.{MAX_LENGTH}
 use Rattle.sgf_tree.specs.Tree.{Games, no_games, game_count, node_count}
 use Rattle.sgf_tree.specs.Spelling.{Spells}
 use Rattle.sgf_tree.specs.FileOrder.{game_of, ordered_nodes, IsLastBelow}
-use Rattle.sgf_tree.specs.inner.Machine.{collection_of}
+use Rattle.sgf_tree.specs.inner.Machine.{MachineState, accepted, collection_of}
+use Rattle.sgf_tree.specs.inner.Progress.{ComesTo}
 use Rattle.sgf_tree.specs.inner.Layout.{games_in, outline, IsLaidOut}
 use Rattle.sgf_tree.specs.inner.GamesRead.{IsRootOf, IsRead}
 use Rattle.sgf_tree.specs.declared.layout.NodeEntry.{NodeEntry}
@@ -16,9 +17,12 @@ use Rattle.sgf_tree.proofs.NodesRead.{nodes-held}
 use Rattle.sgf_tree.proofs.Run.{collection-run}
 use Rattle.sgf_tree.proofs.ValueEnds.{reaches-all}
 
+pub collection-reached : (t : List ℕ) (c : Games) (z : MachineState) → ComesTo t (length t) z → accepted z ≡ Some c → collection_of t ≡ Some c
+collection-reached t c z whole accepts = collection-run t z (reaches-all t z whole) ∙ accepts
+
 module _ (t : List ℕ) (c : Games) (ns : List NodeEntry) (read : IsRead t c ns) where
   whole-collection : collection_of t ≡ Some c
-  whole-collection = collection-run t read.reached (reaches-all t read.reached read.whole) ∙ read.accepts
+  whole-collection = collection-reached t c read.reached read.whole read.accepts
 
   pub whole-games : games_in t ≡ c
   whole-games = ap (λ o. unwrap_or o no_games) whole-collection

@@ -38,6 +38,13 @@ node_count no_games = 0
 node_count (game first more below after) =
     1 + length more + node_count below + node_count after
 
+-- how many leaves they have, at every depth: if no game is below a game, its last own node is one
+abbrev pub leaf_count : Games → ℕ
+leaf_count no_games = 0
+leaf_count (game first more no_games after) = 1 + leaf_count after
+leaf_count (game first more (game first' more' below' after') after) =
+    leaf_count (game first' more' below' after') + leaf_count after
+
 -- the games, and then further games
 abbrev pub joined : Games → Games → Games
 joined no_games others = others

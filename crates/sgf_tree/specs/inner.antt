@@ -9,3 +9,4 @@ pub mod Literals
 pub mod KeptEnds
 pub mod PropertiesRead
 pub mod GamesRead
+pub mod Counting

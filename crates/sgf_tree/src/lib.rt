@@ -2,6 +2,7 @@
 //!
 //! [`read`] goes over a text once. It returns the collection that the text
 //! spells, or the first byte that no text of the grammar can have there.
+//! [`measure`] only counts the games, nodes and leaves, which is faster and takes less memory.
 //!
 //! A [`Collection`] numbers its nodes from 0 in file order. Of each node it keeps the place, the parent and
 //! the last node below it, in 8 bytes. The first node of a game or of a variation takes 8 bytes more. The
@@ -23,9 +24,11 @@
 //! |---|---|
 //! | `reader` | reading a text, and the first fault |
 //! | `reader/games`, `reader/properties` | reading nodes and games; reading the properties of a node |
+//! | `reader/counting` | counting games, nodes and leaves, without keeping nodes |
 //! | `reader/value` | what ends a raw value, and keeping where long values end |
 //! | `reader/mark`, `reader/scan` | the byte order mark; where spans of a text end |
 //! | `reader/fault` | why reading a text stopped, and how the place of the first fault is found |
+//! | `extent` | how much a text holds |
 //! | `collection`, `node`, `property` | looking into a collection that was read |
 //! | `iter` | the properties of a node and the values of a property, one after another |
 //! | `written` | writing a node as the sgf form does |
@@ -39,6 +42,7 @@
 #![tactic(auto)]
 
 mod collection;
+mod extent;
 mod fault;
 mod iter;
 pub mod laws;
@@ -52,10 +56,11 @@ mod text;
 mod written;
 
 pub use collection::Collection;
+pub use extent::Extent;
 pub use fault::{MAX_LENGTH, MemoryFault, ReadFault};
 pub use iter::{Properties, Values};
 pub use node::NodeRef;
 pub use numbers::number;
 pub use property::PropRef;
-pub use reader::read;
+pub use reader::{measure, read};
 pub use text::push_text;

@@ -10,6 +10,7 @@ ghost use Rattle.sgf_tree.specs.inner.Progress.{IsTrueFault};
 ghost use Rattle.sgf_tree.specs.inner.KeptEnds.{AreKeptEnds};
 ghost use Rattle.sgf_tree.specs.inner.GamesRead.{ReadsWhole};
 
+mod counting;
 mod fault;
 mod games;
 mod mark;
@@ -25,6 +26,7 @@ use crate::reader::fault::PartFault;
 use crate::reader::games::read_games;
 use crate::reader::mark::mark_end;
 use crate::reader::scan::skip_white_space;
+pub use counting::measure;
 use std::alloc::Global;
 
 /// The number of nodes that there is room for at once. Most games have fewer, and otherwise the nodes would be moved again and again

@@ -1,4 +1,4 @@
-//! Worked examples of `sgf_tree`, which call it as any other crate does: nodes, names, values and numbers.
+//! Worked examples of `sgf_tree`, which call it as any other crate does: extents, nodes, names, values and numbers.
 //!
 //! They are in a crate of their own, because a crate that has tests is proved a second time together
 //! with them. Tests of the program cover first faults, places, values and decoded text
@@ -6,11 +6,14 @@
 //!
 //! | Module | Examples of |
 //! |---|---|
+//! | `extent` | how many games, nodes and leaves a text has, and a text that is refused |
 //! | `node` | for which nodes `front` and `lone` return a property, how the sgf form writes a node, and properties one after another |
 //! | `property` | names, and values that outlive their collection |
 //! | `numbers` | values that are numbers, and values that aren't |
 #![tactic(auto)]
 
+#[cfg(test)]
+mod extent;
 #[cfg(test)]
 mod node;
 #[cfg(test)]

@@ -1,8 +1,8 @@
-use Rattle.std.proofs.Common.{◌-◌, ◌∷◌, ◌≡◌, ◌⊎◌, ◌≤◌, ◌∙◌, ◌+◌, inl, inr, true, false, is_some, not, length, Some, sym, ap, subst, arith}
+use Rattle.std.proofs.Common.{◌-◌, [], ◌∷◌, ◌≡◌, ◌⊎◌, ◌≤◌, ◌∙◌, ◌+◌, inl, inr, true, false, is_some, not, length, Some, sym, ap, subst, arith}
 use Rattle.std.proofs.lemmas.Bool.{true≢false, false≢true}
 use Rattle.std.proofs.lemmas.Result.{err_from_is_err_and}
 use Rattle.sgf_tree.specs.inner.GamesRead.{IsSequenceRead}
-use Rattle.sgf_tree.proofs.GamesLoop.{GamesSoFar, games-open, games-faulty, close-faulty, games-sequence, close-own, close-within, close-count, games-close, games-unfinished, games-finished}
+use Rattle.sgf_tree.proofs.GamesLoop.{GamesSoFar, games-open, games-faulty, close-faulty, games-sequence, close-own, close-within, close-count, games-close, games-unfinished, games-finished, no-tip, unfinished}
 use Rattle.sgf_tree.proofs.NodesRead.{nodes-held}
 use Rattle.sgf_tree.proofs.reader.games.read_games.Goals as goal
 use Rattle.sgf_tree.proofs.reader.games.read_games.Goals.{In_ok-at-in-40, then-is_none, else-is_none, then-is_some-via-then-is_some, then-is_some-via-else-is_some+then-games-eq0}
@@ -12,13 +12,13 @@ returns-in_err-at-in-40-clause-fault c =
     let p = err_from_is_err_and c.from_residual.result c.from_residual.ensures.1 in
     let so_far = c.games.invariant.so_far in
     rw (p.1, p.2)
-    (c.in_err-at-in-40.ensures.fault so_far.stack (games-open c.args.text.now c.games.at c.games.games c.games.tip _ so_far c.games-test.true c.in-40.is) so_far.held (c.opening_link.ensures so_far.stack so_far.tip_is so_far.games_are))
+    (c.in_err-at-in-40.ensures.fault so_far.stack (games-open c.args.text.now c.games.at so_far.stack so_far.stands c.games-test.true c.in-40.is) so_far.held (c.opening_link.ensures so_far.stack so_far.tip_is so_far.games_are))
 
 -- the game's own nodes were read
 sequence : (c : In_ok-at-in-40) → IsSequenceRead c.args.text.now c.in_ok-at-in-40.at c.games.invariant.so_far.stack c.read_sequence.new.nodes
 sequence c =
     let so_far = c.games.invariant.so_far in
-    c.in_ok-at-in-40.ensures.read so_far.stack (games-open c.args.text.now c.games.at c.games.games c.games.tip _ so_far c.games-test.true c.in-40.is) so_far.held (c.opening_link.ensures so_far.stack so_far.tip_is so_far.games_are)
+    c.in_ok-at-in-40.ensures.read so_far.stack (games-open c.args.text.now c.games.at so_far.stack so_far.stands c.games-test.true c.in-40.is) so_far.held (c.opening_link.ensures so_far.stack so_far.tip_is so_far.games_are)
 
 pub overflow_sub-tip : goal.overflow_sub-tip
 overflow_sub-tip c =
@@ -41,7 +41,10 @@ games-preserved-in-40 c =
     }
 
 pub returns-in_default-tip-clause-fault : goal.returns-in_default-tip-clause-fault
-returns-in_default-tip-clause-fault c = close-faulty c.args.text.now c.games.at c.games.games c.games.tip _ c.games.invariant.so_far c.games-test.true c.in-41.is c.in_default-tip.is
+returns-in_default-tip-clause-fault c =
+    let so_far = c.games.invariant.so_far in
+    let none : so_far.stack.unclosed ≡ [] = no-tip so_far.stack.closed so_far.stack.unclosed (so_far.tip_is ∙ c.in_default-tip.is) in
+    close-faulty c.args.text.now c.games.at so_far.stack so_far.stands c.games-test.true c.in-41.is none
 
 pub close_game-tip-requires-clause-within : goal.close_game-tip-requires-clause-within
 close_game-tip-requires-clause-within c = close-within c.args.text.now c.games.at c.games.games c.in-Some.last _ (rw c.in-Some.is at c.games.invariant.so_far)
@@ -75,7 +78,7 @@ games-preserved c =
     }
 
 pub returns-in_default-clause-fault : goal.returns-in_default-clause-fault
-returns-in_default-clause-fault c = games-faulty c.args.text.now c.games.at c.games.games c.games.tip _ c.games.invariant.so_far c.games-test.true (λ e. omega arith) (λ e. omega arith)
+returns-in_default-clause-fault c = games-faulty c.args.text.now c.games.at c.games.invariant.so_far.stack c.games.invariant.so_far.stands c.games-test.true (λ e. omega arith) (λ e. omega arith)
 
 pub returns-then-is_some-clause-fault : goal.returns-then-is_some-clause-fault
 returns-then-is_some-clause-fault c =
@@ -83,7 +86,9 @@ returns-then-is_some-clause-fault c =
       | then-is_some-via-then-is_some w ↦ inl (sym c.is_some.ensures ∙ w.if-is_some.true)
       | then-is_some-via-else-is_some+then-games-eq0 w ↦ inr w.if-games-eq0.true
     ] in
-    games-unfinished c.args.text.now c.games.at c.games.games c.games.tip _ c.games.invariant.so_far (omega (arith, c.games.invariant.within)) h
+    let so_far = c.games.invariant.so_far in
+    games-unfinished c.args.text.now c.games.at so_far.stack so_far.stands (omega (arith, c.games.invariant.within))
+    (unfinished so_far.stack.closed so_far.stack.unclosed c.games.tip c.games.games so_far.tip_is so_far.games_are h)
 
 pub returns-clause-read : goal.returns-clause-read
 returns-clause-read c =

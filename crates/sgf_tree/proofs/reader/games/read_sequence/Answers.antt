@@ -1,6 +1,6 @@
 use Rattle.std.proofs.Common.{◌≢◌, ◌<◌, length, get_or, refl, arith}
 use Rattle.std.proofs.lemmas.Result.{err_from_is_err_and}
-use Rattle.sgf_tree.proofs.SequencesRead.{place-faulty, place-node, sequence-first, sequence-next, sequence-done, sequence-node, node-room}
+use Rattle.sgf_tree.proofs.SequencesRead.{place-faulty, place-node, sequence-first, sequence-next, sequence-done, nodes-node, node-room}
 use Rattle.sgf_tree.proofs.reader.games.read_sequence.Goals as goal
 use Rattle.sgf_tree.proofs.reader.games.read_sequence.Goals.{then-place-text-via-then-place-text, then-place-text-via-else-place-text+then-text-place-ne59}
 
@@ -44,7 +44,8 @@ returns-in_err-read-2-clause-fault c =
     let p = err_from_is_err_and c.from_residual-in_err-read-2.result c.from_residual-in_err-read-2.ensures.1 in
     rw (p.1, p.2)
     (λ k after held opening.
-    let node = sequence-node c.args.text.now c.nodes.read.end c.nodes.read.as_written k _ (c.nodes.invariant.so_far k after held opening) c.nodes-test.true c.if-text-read-eq59.true in
+    let so_far = c.nodes.invariant.so_far k after held opening in
+    let node = nodes-node c.args.text.now c.nodes.read.end k so_far.last so_far.nodes c.nodes-test.true c.if-text-read-eq59.true in
     c.in_err-read-2.ensures.fault node.0 node.1.0 node.1.1)
 
 pub nodes-preserved : goal.nodes-preserved

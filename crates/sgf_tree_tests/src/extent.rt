@@ -1,0 +1,48 @@
+//! How many games, nodes and leaves a text has, and a text that is refused.
+
+use sgf_tree::{Extent, ReadFault, measure};
+
+#[test]
+fn counts(rt: HostRuntime) {
+    const COUNTS: [(&str, usize, usize, usize); 7] = [
+        ("(;)", 1, 1, 1),
+        (" ( ; ; ) ", 1, 2, 1),
+        ("(;(;)(;;))(;)", 2, 5, 3),
+        ("(;(;(;)))", 1, 3, 1),
+        (
+            "(;B[aa];W[bb];B[cc];W[dd]\n;B[ee];W[ff](;B[gg])(;B[hh]\n;W[ii]))",
+            1,
+            9,
+            2,
+        ),
+        ("(;B[aa];W[b\\]];B[cc]C[(;)];AW[dd][ee])", 1, 4, 1),
+        ("(;B[aa]\n[bb];W[cc]\nC[x];B[dd]\r\n;W[])", 1, 4, 1),
+    ];
+    for &(text, games, nodes, leaves) in &COUNTS {
+        let want = Extent {
+            games,
+            nodes,
+            leaves,
+        };
+        assert!(rt;
+            measure(rt.alloc(), text.as_bytes()) == Ok(want),
+            "of {text:?}"
+        );
+    }
+}
+
+#[test]
+fn refuses(rt: HostRuntime) {
+    const FAULTS: [(&str, usize); 4] = [
+        ("", 0),
+        ("(;B[aa]", 7),
+        ("(;))", 3),
+        ("(;B[aa];W[bb]()", 14),
+    ];
+    for &(text, at) in &FAULTS {
+        assert!(rt;
+            measure(rt.alloc(), text.as_bytes()) == Err(ReadFault::NotSgf { at }),
+            "of {text:?}"
+        );
+    }
+}
