@@ -32,6 +32,7 @@ pub mod Replaying
 pub mod SliceEnds
 pub mod PlayCounts
 pub mod Running
+pub mod LeafLines
 pub mod LineCounts
 pub mod Keeping
 pub mod LineNodes

@@ -1,18 +1,14 @@
 -- How many lines a collection has, by its leaves, and the answer of a count.
-use Rattle.std.proofs.Common.{◌≡◌, ℕ, ◌+◌, ◌<◌, ◌≤◌, length, false, true, map, sym, ap, ◌∙◌, arith, inl, inr, List, [], ◌++◌, take, drop, Result, Ok, Err, refl, append_assoc, append-nil, length-append}
-use Rattle.std.specs.Prelude.{nat_lt, codes}
-use Rattle.std.proofs.lemmas.Bool.{cases_lt, lt-ltb, ltb-true}
+use Rattle.std.proofs.Common.{◌≡◌, ℕ, ◌+◌, ◌<◌, ◌≤◌, length, map, sym, ap, ◌∙◌, arith, List, [], ◌++◌, take, drop, Result, Ok, Err, refl, append_assoc, append-nil, length-append}
+use Rattle.std.specs.Prelude.{codes}
 use Rattle.std.proofs.lemmas.List.{length-map, take-append-drop}
-use Rattle.std.proofs.lemmas.List.Sums.{prefix_len-le-length, prefix_len_passes, prefix_len_stops}
-use Rattle.std.proofs.lemmas.Option.{get_or_from_slice_get, slice_get_within}
-use Rattle.sgf_tree.specs.Tree.{Games, node_count}
-use Rattle.sgf_tree.specs.FileOrder.{IsLeaf}
+use Rattle.sgf_tree.specs.Tree.{Games, game_count, node_count}
 use Rattle.sgf_lines.specs.Lines.{lines}
 use Rattle.sgf_lines.specs.Paths.{paths, leaf_of}
 use Rattle.sgf_lines.specs.inner.Standing.{lines_before}
-use Rattle.sgf_lines.proofs.Visits.{rises_parts, leads, leaves_in_order}
+use Rattle.sgf_lines.proofs.Visits.{rises_parts, leaves_in_order}
 use Rattle.sgf_lines.proofs.Named.{length-paths}
-use Rattle.sgf_lines.proofs.CursorStates.{before_is, next_line, no_line_left}
+use Rattle.sgf_lines.proofs.CursorStates.{no_line_left}
 use Rattle.std.specs.Io.KnownBytes.{Appends}
 use Rattle.std.proofs.KnownBytes.{Appends-kept, Appends-trans}
 use Rattle.std.proofs.Math.Seq.{take-append-add}
@@ -33,33 +29,15 @@ use Rattle.sgf_lines.specs.declared.fault.RunFault.TheVariants.{NotSgf, Write, M
 pub lines_within : (c : Games) → length (lines c) ≤ node_count c
 lines_within c = omega (arith, (rises_parts 0 (map leaf_of (paths c)) (node_count c) (leaves_in_order c)).1, length-map (paths c) leaf_of, length-paths c)
 
--- one line more ends at a leaf
-pub one_line : (c : Games) (i : ℕ) → i < node_count c → IsLeaf c i → lines_before c (i + 1) ≡ lines_before c i + 1
-one_line c i lt leaf = (next_line c i i (omega arith) lt leaf (λ j le below l. omega arith)).1.one_more
-
--- and none where there is no leaf
-pub no_line_more : (c : Games) (i : ℕ) → (IsLeaf c i → ⊥) → lines_before c (i + 1) ≡ lines_before c i
-no_line_more c i other =
-    let k = lines_before c i in
-    before_is c (i + 1) k (prefix_len-le-length (λ path. nat_lt (leaf_of path) i) (paths c))
-    (λ j p e lt.
-    let passes : nat_lt (leaf_of p) i ≡ true =
-    ap (λ path. nat_lt (leaf_of path) i) (sym (get_or_from_slice_get (paths c) j p p e)) ∙ prefix_len_passes (λ path. nat_lt (leaf_of path) i) (paths c) j p lt in
-    omega (arith, ltb-true (leaf_of p) i passes))
-    (λ p e. elim (cases_lt (leaf_of p) (i + 1)) [
-      | inr ge ↦ ge
-      | inl lt ↦ elim (cases_lt (leaf_of p) i) [
-        | inl before ↦
-            let stops : nat_lt (leaf_of p) i ≡ false =
-            ap (λ path. nat_lt (leaf_of path) i) (sym (get_or_from_slice_get (paths c) k p p e)) ∙ prefix_len_stops (λ path. nat_lt (leaf_of path) i) (paths c) p (slice_get_within (paths c) k p e) in
-            absurd (let passes : nat_lt (leaf_of p) i ≡ true = lt-ltb (leaf_of p) i before in cc)
-        | inr from ↦ let same : leaf_of p ≡ i = omega arith in absurd (other (rw same at (leads c k p e).is_leaf))
-      ]
-    ])
-
 -- all lines end before the end
 pub all_before : (c : Games) → lines_before c (node_count c) ≡ length (lines c)
 all_before c = no_line_left c (node_count c) (λ j le lt leaf. omega arith) ∙ length-paths c
+
+-- counts with the three numbers of a collection are its counts
+pub same_counts : (c : Games) (counts : Counts) → counts.games ≡ game_count c → counts.nodes ≡ node_count c → counts.lines ≡ length (lines c) → counts ≡ counts_of c
+same_counts c counts games nodes its_lines =
+    let of = λ (g n l : ℕ). let all : Counts = record { games = g; nodes = n; lines = l } in all in
+    ap (λ g. of g counts.nodes counts.lines) games ∙ ap (λ n. of (game_count c) n counts.lines) nodes ∙ ap (λ l. of (game_count c) (node_count c) l) its_lines
 
 module _ (source new_source : SourceState) (text : List ℕ) (h : HasReadAll source new_source text) where
   of_text : (result : Result Counts RunFault) → read_failures result ≡ 0 → AnswersCount text new_source.to_come result → IsCount source new_source result

@@ -1,7 +1,7 @@
-//! Counting what a collection holds.
+//! Counting what a collection holds. No collection is made for that.
 
-ghost use Rattle.std.specs.Prelude.{◌≡◌, ◌<◌, ◌++◌, length, decimal};
-ghost use Rattle.sgf_lines.specs.Lines.{lines};
+ghost use Rattle.std.specs.Prelude.{◌≡◌, ◌<◌, ◌++◌, ℕ, List, decimal};
+ghost use Rattle.sgf_tree.specs.Extent.{HasExtent};
 ghost use Rattle.sgf_lines.specs.Counts.{IsCount, IsWriting, counts_of, counts_row};
 ghost use Rattle.sgf_lines.specs.Ends.{SourceState};
 ghost use Rattle.sgf_lines.specs.inner.Running.{HasReadAll, PutsAll};
@@ -11,7 +11,7 @@ use crate::ends::source::Source;
 use crate::fault::RunFault;
 use crate::run::read_all;
 use itoa::Buffer;
-use sgf_tree::{Collection, MAX_LENGTH, read};
+use sgf_tree::{Extent, MAX_LENGTH, measure};
 use std::alloc::Global;
 
 /// The counts of a collection.
@@ -52,34 +52,21 @@ pub fn count<S: Source>(alloc: Global, source: &mut S) -> Result<Counts, RunFaul
 fn count_text(alloc: Global, text: &[u8]) -> Result<Counts, RunFault>
     ensures { (source new_source : SourceState) → HasReadAll source new_source text.now → IsCount source new_source result }
 {
-    match read(alloc, text) {
-        Ok(collection) => Ok(counted(&collection)),
+    match measure(alloc, text) {
+        Ok(extent) => Ok(counted(extent)),
         Err(fault) => Err(RunFault::unread(fault, text.len())),
     }
 }
 
-/// The counts of a collection.
-fn counted(collection: &Collection<'_>) -> Counts
-    ensures { result ≡ counts_of collection.now }
+/// The counts of a collection of this extent. Each line ends at a leaf of its own.
+fn counted(extent: Extent) -> Counts
+    ensures { (text : List ℕ) (extent_is : HasExtent text extent) → result ≡ counts_of extent_is.collection }
 {
     Counts {
-        games: collection.games() as u64,
-        nodes: collection.nodes() as u64,
-        lines: line_count(collection),
+        games: extent.games as u64,
+        nodes: extent.nodes as u64,
+        lines: extent.leaves as u64,
     }
-}
-
-/// The number of lines of a collection. Each line ends at a leaf of its own.
-fn line_count(collection: &Collection<'_>) -> u64
-    ensures { result ≡ length (lines collection.now) }
-{
-    let mut count = 0;
-    for node in 0..collection.nodes() {
-        if collection.is_leaf(node) {
-            count += 1;
-        }
-    }
-    count
 }
 
 /// Writes the counts of games, nodes and lines in decimal digits, with a space between them

@@ -5,7 +5,8 @@ use Rattle.sgf_lines.proofs.counting.count_text.Goals as goal
 
 pub returns-in-Ok : goal.returns-in-Ok
 returns-in-Ok c source new_source read =
-    count_of_games source new_source c.args.text.now read _ _ c.in-Ok.ensures.spelled c.counted.ensures
+    let held = c.in-Ok.ensures.measured in
+    count_of_games source new_source c.args.text.now read held.collection _ held.spelled (c.counted.ensures c.args.text.now held)
 
 pub returns-in-Err : goal.returns-in-Err
 returns-in-Err c source new_source read =

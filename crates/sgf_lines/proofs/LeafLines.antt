@@ -1,0 +1,45 @@
+-- A line ends at each leaf, so there are as many lines as leaves.
+use Rattle.std.proofs.Common.{◌≡◌, ℕ, ◌+◌, ◌<◌, List, [], ◌∷◌, ◌++◌, length, refl, arith, length-append}
+use Rattle.std.proofs.lemmas.List.{length-map}
+use Rattle.sgf_tree.specs.Tree.{Node, Games, no_games, game, leaf_count}
+use Rattle.sgf_lines.specs.Lines.{Line, lines, lines_from, lines_of_game, node_lines, through}
+
+-- nothing is lost where lists go on from a branch
+through_some : {A : Type 0} (own : List A) (rests : List (List A)) → 0 < length rests → length (through own rests) ≡ length rests
+through_some own [] some = absurd (omega arith)
+through_some own (rest ∷ rests) some = length-map (rest ∷ rests) (λ r. own ++ r)
+
+some_leaf : (first : Node) (more : List Node) (below after : Games) → 0 < leaf_count (game first more below after)
+some_leaf first more no_games after = omega arith
+some_leaf first more (game f m b a) after = omega (arith, some_leaf f m b a)
+
+-- the variations through some games are as many as their leaves
+variations : (games : Games) → length (node_lines games) ≡ leaf_count games
+variations no_games = refl
+variations (game first more no_games after) = omega (arith, length-append (through (first ∷ more) []) (node_lines after), variations after)
+variations (game first more (game f m b a) after) =
+    let rests = node_lines (game f m b a) in
+    let same : length rests ≡ leaf_count (game f m b a) = variations (game f m b a) in
+    let some : 0 < length rests = omega (arith, same, some_leaf f m b a) in
+    omega (arith, length-append (through (first ∷ more) rests) (node_lines after), through_some (first ∷ more) rests some, same, variations after)
+
+-- the lines through a game, which has as many
+own_lines : (first : Node) (more : List Node) (below : Games) → length (through (first ∷ more) (node_lines below)) ≡ leaf_count (game first more below no_games)
+own_lines first more no_games = refl
+own_lines first more (game f m b a) =
+    let below : Games = game f m b a in
+    let some : 0 < length (node_lines below) = omega (arith, variations below, some_leaf f m b a) in
+    omega (arith, through_some (first ∷ more) (node_lines below) some, variations below)
+
+apart : (first : Node) (more : List Node) (below after : Games) → leaf_count (game first more below after) ≡ leaf_count (game first more below no_games) + leaf_count after
+apart first more no_games after = omega arith
+apart first more (game f m b a) after = omega arith
+
+lines_from_leaves : (number : ℕ) (games : Games) → length (lines_from number games) ≡ leaf_count games
+lines_from_leaves number no_games = refl
+lines_from_leaves number (game first more below after) =
+    let own = through (first ∷ more) (node_lines below) in
+    omega (arith, length-append (lines_of_game number own) (lines_from (number + 1) after), length-map own (λ nodes. let line : Line = record { game_number = number; nodes = nodes } in line), own_lines first more below, apart first more below after, lines_from_leaves (number + 1) after)
+
+pub lines_leaves : (games : Games) → length (lines games) ≡ leaf_count games
+lines_leaves games = lines_from_leaves 1 games
