@@ -96,7 +96,7 @@ fn source_fails(alloc: Global, calls: usize, seen: &mut Seen) {
 }
 
 /// A source over bytes in memory that has given its first 3 bytes. It gives the rest at once unless fewer bytes are asked for, and then
-/// it is at its end. A source that has no bytes in memory gives none at once.
+/// it is at its end.
 fn rest_at_once(seen: &mut Seen) {
     let mut source = SliceSource::new(TWO);
     let mut first = [0u8; 3];
@@ -117,15 +117,14 @@ fn rest_at_once(seen: &mut Seen) {
         source.get(&mut first).is_ok_and(|count| count == 0),
         "bytes given twice",
     );
+    nothing_at_once(seen);
+}
+
+/// A source that has no bytes in memory gives none at once.
+fn nothing_at_once(seen: &mut Seen) {
     let mut slow = byte_by_byte(3);
-    seen.right(
-        slow.give_rest(usize::MAX).is_none(),
-        "bytes that are not in memory",
-    );
-    seen.right(
-        slow.get(&mut first).is_ok_and(|count| count == 1),
-        "a byte after none",
-    );
+    let none = slow.give_rest(usize::MAX).is_none();
+    seen.right(none && slow.calls == 3, "bytes that are not in memory");
 }
 
 /// A count whose source fails after so many calls.
