@@ -1,14 +1,16 @@
 -- What properties hold, gathered one after the other.
-use Rattle.std.proofs.Common.{◌≡◌, ◌<◌, ℕ, Bor, Bool, true, false, Option, Some, None, List, [], ◌∷◌, ◌++◌, map, length, All, refl, sym, ap, ◌∙◌, inl, inr, arith, append-nil, length-append}
+use Rattle.std.proofs.Common.{◌≡◌, ◌≢◌, ◌<◌, ℕ, Bor, Bool, true, false, Option, Some, None, List, [], ◌∷◌, ◌++◌, map, length, All, refl, sym, ap, subst, ◌∙◌, append_assoc, inl, inr, arith, append-nil, length-append}
 use Rattle.std.specs.Prelude.{option_map, option_and_then, option_copied, find, codes, bytes_eq}
 use Rattle.std.specs.Option.{option_or}
 use Rattle.std.specs.List.{flat_map}
 use Rattle.std.proofs.lemmas.Grind.{flat_map-append}
 use Rattle.std.proofs.lemmas.List.{map-append}
 use Rattle.std.proofs.lemmas.List.Folds.{find-append}
-use Rattle.std.proofs.lemmas.Bool.{cases_Bool}
+use Rattle.std.proofs.lemmas.Bool.{cases_Bool, false_from_ne_true}
 use Rattle.std.proofs.lemmas.Slice.Eq.{bytes_eq-Decides}
+use Rattle.std.proofs.lemmas.List.Elements.{All-head, All-tail, All-weaker}
 use Rattle.sgf_tree.specs.Tree.{Property, values}
+use Rattle.sgf_tree.specs.Lead.{IsOtherName, IsLedBy}
 use Rattle.go_board.specs.declared.stones.Colour.{Colour}
 use Rattle.go_board.specs.declared.stones.Cell.{Cell}
 use Rattle.go_board.specs.declared.points.Rect.{Rect}
@@ -24,7 +26,7 @@ use Rattle.sgf_lines.specs.declared.judging.contents.Kind.{Kind}
 use Rattle.sgf_lines.specs.declared.judging.contents.Kind.TheVariants.{Move as move_kind, Stones as stones_kind, Player as player_kind, Comment as comment_kind}
 use Rattle.sgf_lines.specs.NodeContents.{Move, Stones, moves_in, moves_by, stones_in, stones_of, players_in, is_named, first_value}
 use Rattle.sgf_lines.specs.NodeValues.{player_value, operation, operations, last_player}
-use Rattle.sgf_lines.specs.inner.Gathered.{kind_of, AreMoves, IsSetup, setup_with_stones, setup_with_player, AddsAreas, IsGathered}
+use Rattle.sgf_lines.specs.inner.Gathered.{kind_of, AreMoves, IsSetup, setup_with_stones, setup_with_player, AddsAreas, HoldsAlone, IsGathered}
 
 -- one operation before others, and all of two lists, where each is there
 abbrev before_all : Option SetupOp → Option (List SetupOp) → Option (List SetupOp)
@@ -260,3 +262,38 @@ pub values_two : (k : Colour) (ms : List Move) (p : Property) (raw : List ℕ) (
 values_two k ms p raw left is none =
     let mk : List ℕ → Move = λ raw. record { player = k; raw = raw } in
     two_at_least ms (mk p.first) (map mk p.more) (λ e. (mk raw, map mk left, ap (map mk) is))
+
+-- properties that hold nothing, after others
+pub gathered_others : (side : ℕ) (ps rest : List Property) (contents : Contents) → IsGathered side ps [] contents → All (λ (p : Property). kind_of p ≡ None) rest → IsGathered side (ps ++ rest) [] contents
+gathered_others side ps [] contents h none = subst (λ qs. IsGathered side qs [] contents) (sym (append-nil ps)) h
+gathered_others side ps (p ∷ rest) contents h none =
+    subst (λ qs. IsGathered side qs [] contents) (append_assoc ps (p ∷ []) rest)
+    (gathered_others side (ps ++ p ∷ []) rest contents (gathered_nothing side ps [] contents h p (All-head (λ (p : Property). kind_of p ≡ None) p rest none)) (All-tail (λ (p : Property). kind_of p ≡ None) p rest none))
+
+pub gathered_alone : (side : ℕ) (first : Property) (properties : List Property) (contents : Contents) → IsGathered side (first ∷ []) [] contents → HoldsAlone first properties → IsGathered side properties [] contents
+gathered_alone side first properties contents h alone =
+    subst (λ qs. IsGathered side qs [] contents) (sym alone.all) (gathered_others side (first ∷ []) alone.rest contents h alone.nothing)
+
+-- the names of setup properties
+abbrev pub setup_names : List (List ℕ)
+setup_names = codes "AB" ∷ codes "AW" ∷ codes "AE" ∷ codes "PL" ∷ []
+
+-- other names of two letters hold nothing
+other_kind : (p : Property) → IsOtherName setup_names p.name → kind_of p ≡ None
+other_kind p other =
+    let name : List ℕ = p.name in
+    let is_not : (known : List ℕ) → name ≢ known → bytes_eq name known ≡ false = λ known ne. false_from_ne_true (bytes_eq name known) (λ e. ne ((bytes_eq-Decides name known).0 e)) in
+    let longer : (known : List ℕ) → length known ≡ 1 → name ≢ known = λ known short e. omega (arith, other.letters, ap length e) in
+    rw (
+      is_not (codes "B") (longer (codes "B") refl),
+      is_not (codes "W") (longer (codes "W") refl),
+      is_not (codes "AB") (other.other 0 [] (omega arith)),
+      is_not (codes "AW") (other.other 1 [] (omega arith)),
+      is_not (codes "AE") (other.other 2 [] (omega arith)),
+      is_not (codes "PL") (other.other 3 [] (omega arith)),
+      is_not (codes "C") (longer (codes "C") refl),
+    ) refl
+
+pub led_alone : (first : Property) (properties : List Property) → IsLedBy setup_names first properties → HoldsAlone first properties
+led_alone first properties led =
+    record { rest = led.rest; all = led.all; nothing = All-weaker (λ (p : Property). IsOtherName setup_names p.name) (λ (p : Property). kind_of p ≡ None) other_kind led.rest led.others }

@@ -54,6 +54,7 @@ pub mod Iterating
 pub mod Taking
 pub mod WrittenParts
 pub mod LoneNodes
+pub mod Leading
 pub mod ShortProperties
 pub mod Runs
 pub mod Packing

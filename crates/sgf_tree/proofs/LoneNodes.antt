@@ -15,7 +15,7 @@ use Rattle.sgf_tree.proofs.ValueEnds.{plain-other}
 use Rattle.sgf_tree.proofs.WrittenParts.{ends-at, left-after}
 
 -- a node ends where a byte before the letters follows white space
-ends-node : (s : List ℕ) (k : ℕ) → IsNodeEnd s k → NoPropertyFollows (drop k s)
+pub ends-node : (s : List ℕ) (k : ℕ) → IsNodeEnd s k → NoPropertyFollows (drop k s)
 ends-node s k end b t w = by_white (is_white_space b) refl
   where
     e : ℕ
@@ -72,7 +72,7 @@ module _ (s : List ℕ) (is : IsMove s 1) where
   abbrev pub lone : Property
   lone = lone_property (get_or s 1 0) (slice_range s 3 5)
 
-  spelled : IsProperty lone (drop 1 s) rest
+  pub spelled : IsProperty lone (drop 1 s) rest
   spelled =
       let (p, q) = plain-other (get_or s 3 0) first-plain in
       let (u, v) = plain-other (get_or s 4 0) second-plain in

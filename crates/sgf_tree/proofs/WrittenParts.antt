@@ -68,7 +68,7 @@ head-same {qs = qs} {m = m} (property {b} {name} {v} {t = t} {u} {r = r} {vs = v
       subst (λ a. AreProperties qs a m) left are,
     )
 
-properties-more : {ps : List Property} {p : Property} {s m r : List ℕ} → AreProperties ps s m → IsProperty p m r → AreProperties (ps ++ p ∷ []) s r
+pub properties-more : {ps : List Property} {p : Property} {s m r : List ℕ} → AreProperties ps s m → IsProperty p m r → AreProperties (ps ++ p ∷ []) s r
 properties-more no_property is = properties is no_property
 properties-more (properties q qs) is = properties q (properties-more qs is)
 

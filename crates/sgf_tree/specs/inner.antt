@@ -7,6 +7,7 @@ pub mod NodeText
 pub mod Progress
 pub mod Literals
 pub mod KeptEnds
+pub mod Lead
 pub mod PropertiesRead
 pub mod GamesRead
 pub mod Counting

@@ -25,6 +25,7 @@
 //! | `reader` | reading a text, and the first fault |
 //! | `reader/games`, `reader/properties` | reading nodes and games; reading the properties of a node |
 //! | `reader/counting` | counting games, nodes and leaves, without keeping nodes |
+//! | `reader/lead` | recognizing a node that is a move and short properties |
 //! | `reader/value` | what ends a raw value, and keeping where long values end |
 //! | `reader/mark`, `reader/scan` | the byte order mark; where spans of a text end |
 //! | `reader/fault` | why reading a text stopped, and how the place of the first fault is found |

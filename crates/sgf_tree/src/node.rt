@@ -3,12 +3,14 @@
 ghost use Rattle.std.specs.Prelude.{◌≡◌, ◌<◌, ◌++◌, ◌∷◌, [], length, slice_get, find, Some, IfSome, OnOk, OnErr, option_map, option_to_list};
 ghost use Rattle.std.specs.Str.{bytes_eq};
 ghost use Rattle.sgf_tree.specs.Tree.{lone_property};
+ghost use Rattle.sgf_tree.specs.Lead.{IsLedBy};
 ghost use Rattle.sgf_tree.specs.Written.{node_text};
 
 use crate::fault::MemoryFault;
 use crate::iter::Properties;
 use crate::layout::LongValue;
 use crate::property::PropRef;
+use crate::reader::lead::is_led_at_once;
 use crate::reader::properties::is_lone_at_once;
 use crate::reader::scan::{is_lone_front, is_lone_node, part};
 use crate::written::push_node;
@@ -87,6 +89,27 @@ impl<'c, 'a> NodeRef<'c, 'a> {
     {
         let text = self.text;
         if is_lone_at_once(text) {
+            Some((text[1], part(text, 3, 5)))
+        } else {
+            None
+        }
+    }
+
+    /// If the node is recognized at a glance as a property such as `B[pd]`, and perhaps short properties after it whose names aren't
+    /// among `names`, this returns the first property's letter and its raw value, which is two bytes. So a caller that looks only for
+    /// names of one letter and for these names needn't go over the properties of `;B[pd]BL[921.325]OB[3]`. If it returns None, nothing
+    /// is known.
+    ///
+    /// The node is recognized only if its first property is as in `lone`, and if each property after it has a name of two capitals
+    /// and one value of at most 15 bytes, in which no `]` stands, and whose last byte isn't a `\`. Nothing may stand between these parts.
+    /// At least 17 bytes of text must be left from the node's `;` on. If there are more properties than the first, or if white space
+    /// follows the node, then at least 20 bytes must also be left from the end of its last property on.
+    #[inline(always)]
+    pub fn lead(&self, names: &[[u8; 2]]) -> Option<(u8, &'a [u8])>
+        ensures { IfSome result (λ lone. IsLedBy names.now (lone_property lone.0 lone.1.now) self.now.properties) }
+    {
+        let text = self.text;
+        if is_led_at_once(text, names) {
             Some((text[1], part(text, 3, 5)))
         } else {
             None

@@ -13,6 +13,7 @@ ghost use Rattle.sgf_tree.specs.inner.GamesRead.{ReadsWhole};
 mod counting;
 mod fault;
 mod games;
+pub(crate) mod lead;
 mod mark;
 pub(crate) mod properties;
 pub(crate) mod scan;

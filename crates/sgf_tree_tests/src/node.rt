@@ -1,4 +1,4 @@
-//! For which nodes `front` and `lone` return a property (no clause says that), and how the sgf form writes a node.
+//! For which nodes `front`, `lone` and `lead` return a property (no clause says that), and how the sgf form writes a node.
 
 use sgf_tree::{Collection, NodeRef, Properties, read};
 use std::alloc::Global;
@@ -139,4 +139,113 @@ fn nodes_alone(rt: HostRuntime) {
     for &(text, want) in &NODES {
         assert!(rt; alone(rt.alloc(), text, want), "of {text:?}");
     }
+}
+
+/// Whether `lead` returns a property for the text's first node just if it should, and the same as `front`. The names of the other
+/// properties must then be `others`.
+fn leads(alloc: Global, text: &str, names: &[[u8; 2]], want: Option<&str>) -> bool {
+    match read(alloc, text.as_bytes()) {
+        Ok(collection) => {
+            if collection.nodes() == 0 {
+                return false;
+            }
+            let node = collection.node(0);
+            let told = node.lead(names);
+            match want {
+                None => told.is_none(),
+                Some(others) => told.is_some()
+                    && told == node.front().0
+                    && are_named(&node, others.as_bytes()),
+            }
+        }
+        Err(_) => false,
+    }
+}
+
+/// Whether the properties of a node after the first have these names of two letters.
+fn are_named(node: &NodeRef<'_, '_>, names: &[u8]) -> bool {
+    let (_told, mut left) = node.front();
+    for name in names.chunks(2) {
+        match left.next() {
+            Some(property) => {
+                if !property.is(name) {
+                    return false;
+                }
+            }
+            None => return false,
+        }
+    }
+    left.next().is_none()
+}
+
+#[test]
+fn nodes_led(rt: HostRuntime) {
+    const SETUP: [[u8; 2]; 4] = [*b"AB", *b"AW", *b"AE", *b"PL"];
+    const NODES: [(&str, Option<&str>); 46] = [
+        // as for `lone`
+        ("(;B[pd];C[0123456789])", Some("")),
+        ("(;Z[  ];C[01234])", None),
+        ("(;Z[  ];C[012345])", Some("")),
+        ("(;B[pd][dp];C[012345678901234567])", None),
+        ("(;B[p];C[012345678901234567])", None),
+        ("(;B[\\d];C[012345678901234567])", None),
+        ("(; B[pd];C[012345678901234567])", None),
+        ("(;AB[pd];C[012345678901234567])", None),
+        // other properties
+        ("(;B[pd]BL[921.325];C[012345678901234567])", Some("BL")),
+        ("(;W[dp]WL[30]OW[3];C[012345678901234567])", Some("WLOW")),
+        ("(;C[ab]TE[1](;C[012345678901234567]))", Some("TE")),
+        ("(;B[pd]BL[])(;C[012345678901234567])", Some("BL")),
+        ("(;B[pd]C[x];C[012345678901234567])", None),
+        ("(;B[pd]V[1];C[012345678901234567])", None),
+        ("(;B[pd]BLX[1];C[012345678901234567])", None),
+        ("(;B[pd]Bl[1];C[012345678901234567])", None),
+        ("(;B[pd]BLx[1];C[012345678901234567])", None),
+        // each of the names, and names like them
+        ("(;B[pd]AB[aa];C[012345678901234567])", None),
+        ("(;B[pd]AW[aa];C[012345678901234567])", None),
+        ("(;B[pd]AE[aa];C[012345678901234567])", None),
+        ("(;B[pd]PL[W];C[012345678901234567])", None),
+        ("(;B[pd]BL[1]WL[2]AE[aa];C[012345678901234567])", None),
+        ("(;B[pd]AR[aa:bb];C[012345678901234567])", Some("AR")),
+        (
+            "(;B[pd]BA[1]LP[2]PB[3];C[012345678901234567])",
+            Some("BALPPB"),
+        ),
+        // the length of the value, and what it ends with
+        (
+            "(;B[pd]BL[012345678901234];C[012345678901234567])",
+            Some("BL"),
+        ),
+        ("(;B[pd]BL[0123456789012345];C[012345678901234567])", None),
+        ("(;B[pd]BL[\\1];C[012345678901234567])", Some("BL")),
+        ("(;B[pd]BL[1\\\\2];C[012345678901234567])", Some("BL")),
+        ("(;B[pd]BL[\\\\];C[012345678901234567])", None),
+        ("(;B[pd]BL[1\\\\];C[012345678901234567])", None),
+        ("(;B[pd]BL[1\\]2];C[012345678901234567])", None),
+        ("(;B[pd]BL[1\\]];C[012345678901234567])", None),
+        // further values, and white space
+        ("(;B[pd]BL[1][2];C[012345678901234567])", None),
+        ("(;B[pd]BL[1] [2];C[012345678901234567])", None),
+        ("(;B[pd]BL[1]WL[2][3];C[012345678901234567])", None),
+        ("(;B[pd] BL[1];C[012345678901234567])", None),
+        ("(;B[pd]BL [1];C[012345678901234567])", None),
+        ("(;B[pd]BL[1] WL[2];C[012345678901234567])", None),
+        ("(;B[pd] \n;C[012345678901234567])", Some("")),
+        ("(;B[pd]BL[1]\r\n;C[012345678901234567])", Some("BL")),
+        // the end of the text
+        ("(;B[pd]BL[1];C[01234567890123])", None),
+        ("(;B[pd]BL[1];C[012345678901234])", Some("BL")),
+        ("(;B[pd] ;C[0123456789012])", None),
+        ("(;B[pd] ;C[01234567890123])", Some("")),
+        ("(;B[pd]BL[1])", None),
+        ("(;B[pd])", None),
+    ];
+    for &(text, want) in &NODES {
+        assert!(rt; leads(rt.alloc(), text, &SETUP, want), "of {text:?}");
+    }
+    let setup = "(;B[pd]AB[aa]PL[W];C[012345678901234567])";
+    assert!(rt; leads(rt.alloc(), setup, &[], Some("ABPL")));
+    assert!(rt; leads(rt.alloc(), setup, &[*b"AW"], Some("ABPL")));
+    assert!(rt; leads(rt.alloc(), setup, &[*b"AW", *b"PL"], None));
 }

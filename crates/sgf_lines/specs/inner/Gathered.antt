@@ -31,6 +31,12 @@ kind_named name =
 abbrev pub kind_of : Property → Option Kind
 kind_of p = kind_named p.name
 
+-- of these properties only the first, which is this one, holds anything
+pub record HoldsAlone (first : Property) (properties : List Property) : Type 0 where
+  pub rest : List Property
+  pub all : properties ≡ first ∷ rest
+  pub nothing : All (λ property. kind_of property ≡ None) rest
+
 -- what is kept of the moves: none, the only one, or that there are several
 abbrev pub AreMoves : Moves → List Move → Type 0
 AreMoves Nothing moves = moves ≡ []

@@ -6,7 +6,7 @@ ghost use Rattle.go_board.specs.Point.{IsRectOn};
 ghost use Rattle.go_board.specs.State.{set_up as set_up_rule};
 ghost use Rattle.sgf_lines.specs.NodeValues.{move_value as move_value_rule};
 ghost use Rattle.sgf_lines.specs.Step.{step, move_step};
-ghost use Rattle.sgf_lines.specs.inner.Gathered.{IsGathered};
+ghost use Rattle.sgf_lines.specs.inner.Gathered.{HoldsAlone, IsGathered};
 ghost use Rattle.sgf_lines.specs.inner.Judging.{IsStepped, IsStepOf, IsEffect, IsMoveOf, setup_effect};
 
 use crate::judging::contents::{Contents, Moves, Setup, gathered};
@@ -33,6 +33,10 @@ pub(crate) struct TakenStep<'a> {
     pub(crate) comment: Option<&'a [u8]>,
 }
 
+/// The names of the properties that set up stones and players (SGF FF[4], setup properties). Of the names with two letters a step needs
+/// no others.
+const SETUP_NAMES: [[u8; 2]; 4] = [*b"AB", *b"AW", *b"AE", *b"PL"];
+
 /// Takes a node's step, which adds one state. It plays the node's move, sets up
 /// its stones and its player, or stays. `operations` is a buffer.
 ///
@@ -47,13 +51,14 @@ pub(crate) fn take_step<'a, P: Past>(
     ensures stepped { IsStepped (step referee.old.present node.now) referee.old referee.new result }
     ensures told { IfOk result (IsStepOf referee.old.present.colouring.side node.now) }
 {
-    match node.lone() {
+    match node.lead(&SETUP_NAMES) {
         Some((letter, raw)) => take_lone_step(referee, letter, raw),
         None => take_any_step(referee, node, operations),
     }
 }
 
-/// Takes the step of a node that has one property, whose name is this letter and whose only value is `raw`. Most nodes are like that.
+/// Takes the step of a node whose first property has this letter as its name and `raw` as its only value, and whose other properties
+/// hold nothing that a step needs. Most nodes are like that, as `;B[pd]` or `;B[pd]BL[921.325]`.
 // Inlined: what such a node doesn't need drops out.
 #[inline(always)]
 fn take_lone_step<'a, P: Past>(
@@ -61,9 +66,9 @@ fn take_lone_step<'a, P: Past>(
     letter: u8,
     raw: &'a [u8],
 ) -> Result<TakenStep<'a>, TurnFault>
-    ensures stepped { (node : Node) → node.properties ≡ lone_property letter raw.now ∷ []
+    ensures stepped { (node : Node) → HoldsAlone (lone_property letter raw.now) node.properties
         → IsStepped (step referee.old.present node) referee.old referee.new result }
-    ensures told { (node : Node) → node.properties ≡ lone_property letter raw.now ∷ []
+    ensures told { (node : Node) → HoldsAlone (lone_property letter raw.now) node.properties
         → IfOk result (IsStepOf referee.old.present.colouring.side node) }
 {
     let contents = Contents::of_lone(letter, raw);
@@ -77,7 +82,7 @@ fn take_lone_step<'a, P: Past>(
 }
 
 /// The same as `take_step`, whatever the node holds.
-// Not inlined: it is called for one node of four, and what it needs stays off the usual way.
+// Not inlined: it is called for few nodes, and what it needs stays off the usual way.
 #[inline(never)]
 fn take_any_step<'a, P: Past>(
     referee: &mut Referee<P>,

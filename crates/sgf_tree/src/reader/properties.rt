@@ -16,7 +16,7 @@ use std::simd::prelude::*;
 
 /// A property is read at a glance only if at least this many bytes are left: one or two letters, a `[`,
 /// the 16 bytes among which the `]` is searched for, and the byte after these.
-const GLANCE: usize = 20;
+pub(crate) const GLANCE: usize = 20;
 
 /// Reads at a glance the properties of a node, which begin at `at`: none, or a move and perhaps short properties, as in
 /// `B[pd]BL[921.325]`. Nearly all nodes are like that. None says nothing.
@@ -52,7 +52,7 @@ pub(crate) fn glance(text: &[u8], at: usize) -> Option<PartRead>
 /// Which of the bytes at `at` are as in `B[pd];`, all compared at once: bit 0 tells of a capital, bits 1 to 4 of a value of two plain
 /// bytes in its brackets, and bit 5 of a byte that ends a node.
 #[inline(always)]
-fn bytes_in_place(text: &[u8], at: usize) -> u64
+pub(crate) fn bytes_in_place(text: &[u8], at: usize) -> u64
     requires { at + NEAR ≤ length text.now }
     ensures move_stands { result % 32 ≡ 31 → IsMove text.now at }
     ensures node_ends { result % 64 ≡ 63 → EndsNode text.now (at + 5) }

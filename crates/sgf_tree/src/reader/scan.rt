@@ -136,7 +136,7 @@ fn is_short_front(text: &[u8]) -> bool
 }
 
 /// Whether a node ends at `at`, or after white space there. If it is false, nothing is known.
-fn ends_node(text: &[u8], at: usize) -> bool
+pub(crate) fn ends_node(text: &[u8], at: usize) -> bool
     requires { at ≤ length text.now }
     ensures { IsTrue result → IsNodeEnd text.now at }
 {
