@@ -14,6 +14,7 @@ pub mod NearBits
 pub mod NearLiterals
 pub mod NearBrackets
 pub mod MoveBytes
+pub mod MovesRead
 pub mod KeptEnds
 pub mod ValuesRead
 pub mod NameEnds

@@ -1,10 +1,12 @@
 -- How the nodes and games of a text were read: words of the contracts in `reader::games`.
 use Rattle.std.specs.Prelude.{◌≡◌, ℕ, ◌+◌, ◌-◌, ◌<◌, ◌≤◌, ◌⊎◌, Bool, true, false, List, [], ◌∷◌, ◌++◌, length, map, take, drop, replicate, All, slice_get, slice_index, Option, Some, None, option_map}
+use Rattle.sgf_tree.specs.Bytes.{semicolon}
 use Rattle.sgf_tree.specs.Tree.{Games, no_games, game, game_count, node_count}
 use Rattle.sgf_tree.specs.Spelling.{is_white_space}
 use Rattle.sgf_tree.specs.FileOrder.{OrderedNode, further_nodes, nodes_from, game_of}
 use Rattle.sgf_tree.specs.inner.Machine.{OpenGame, Stack, MachineState, opened, after_game, between_games, next_state, accepted}
 use Rattle.sgf_tree.specs.inner.Layout.{parent_by, opens_by, outline, outlines_by, AreBeside}
+use Rattle.sgf_tree.specs.inner.NodeText.{AreWritten}
 use Rattle.sgf_tree.specs.inner.Progress.{ComesTo, IsTrueFault}
 use Rattle.sgf_tree.specs.inner.PropertiesRead.{ArePropertiesRead}
 use Rattle.sgf_tree.specs.declared.layout.Link.{Link}
@@ -77,6 +79,13 @@ pub record StandsBetween (text : List ℕ) (at : ℕ) (stack : Stack) : Type 0 w
 pub record IsNodeRead (text : List ℕ) (place end : ℕ) (link : Link) (old new : List NodeEntry) : Type 0 where
   pub properties : ArePropertiesRead text (place + 1) end
   pub pushed : new ≡ old ++ record { place = place; link = link; last_below = 0 } ∷ []
+
+-- Nodes that follow one another were read from `at` to `end`. Each of them is beside the one before it, and the last one has the sgf
+-- form too.
+pub data AreBesideRead : List ℕ → ℕ → ℕ → List NodeEntry → List NodeEntry → Type 0 where
+  none_read : {text : List ℕ} {at : ℕ} {nodes : List NodeEntry} → AreBesideRead text at at nodes nodes
+  one_more : {text : List ℕ} {at place end : ℕ} {old nodes new : List NodeEntry} → AreBesideRead text at place old nodes → place < length text
+      → slice_index text place ≡ semicolon → IsNodeRead text place end (Next true) nodes new → AreWritten text (place + 1) end → AreBesideRead text at end old new
 
 -- after a `(` at this stack, the own nodes of a game were read up to `end`
 pub record IsSequenceRead (text : List ℕ) (end : ℕ) (stack : Stack) (nodes : List NodeEntry) : Type 0 where

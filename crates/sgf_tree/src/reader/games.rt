@@ -8,14 +8,17 @@ ghost use Rattle.sgf_tree.specs.inner.KeptEnds.{AreKeptEnds};
 ghost use Rattle.sgf_tree.specs.inner.NodeText.{AreWritten};
 ghost use Rattle.sgf_tree.specs.inner.PropertiesRead.{IsFaultInNode};
 ghost use Rattle.sgf_tree.specs.inner.GamesRead.{tip, IsOpening, AreOwnNodes, ClosesGame};
-ghost use Rattle.sgf_tree.specs.inner.GamesRead.{StandsBetween, IsNodeRead, ReadsSequence, ReadsWhole, IsFaultInSequence};
+ghost use Rattle.sgf_tree.specs.inner.GamesRead.{StandsBetween, IsNodeRead, AreBesideRead, ReadsSequence, ReadsWhole, IsFaultInSequence};
 
 use crate::fault::MAX_LENGTH;
 use crate::layout::{Link, LongValue};
 use crate::nodes::Nodes;
 use crate::reader::fault::PartFault;
-use crate::reader::properties::{PartRead, glance, read_properties};
+use crate::reader::properties::{
+    PartRead, bytes_in_place, glance, near_bytes_in_place, read_properties, short_properties,
+};
 use crate::reader::scan::skip_white_space;
+use crate::reader::value::NEAR;
 
 /// Reads all games. The first `(` is expected at `at`. Returns the number of games.
 pub(crate) fn read_games(
@@ -76,6 +79,7 @@ fn opening_link(games: u32, innermost: Option<u32>) -> Link
 
 /// Reads the own nodes of the game whose `(` is just before `at`. The first node gets
 /// the link `link`. Returns the offset after the nodes and the white space after them.
+// One comparison shows two nodes such as `;B[pd]`. A call of `read_node` would clear room for the result of `read_properties` at each node.
 fn read_sequence(
     text: &[u8],
     at: usize,
@@ -100,12 +104,78 @@ fn read_sequence(
     }
     let mut read = read_node(text, place, link, nodes, long)?;
     'nodes: while read.end < text.len() && text[read.end] == b';' {
-        let link = Link::Next {
-            beside: read.as_written,
-        };
-        read = read_node(text, read.end, link, nodes, long)?;
+        let place = read.end;
+        let beside = read.as_written;
+        let in_place = near_bytes_in_place(text, place + 1);
+        if in_place % 64 == 63 {
+            nodes.push(place as u32, Link::Next { beside })?;
+            read = PartRead {
+                end: place + 6,
+                as_written: true,
+            };
+            if in_place % 4096 == 4095 && text[place + 6] == b';' {
+                nodes.push((place + 6) as u32, Link::Next { beside: true })?;
+                read = PartRead {
+                    end: read_moves(text, place + 12, nodes),
+                    as_written: true,
+                };
+            }
+        } else {
+            read = match short_properties(text, place + 1, in_place) {
+                Some(properties) => properties,
+                None => read_properties(text, place + 1, long)?,
+            };
+            nodes.push(place as u32, Link::Next { beside })?;
+        }
     }
     Ok(read.end)
+}
+
+/// Reads nodes at `at` that are written like `;B[pd]`, two by two, as far as two of them come and memory is granted. The text of the
+/// node before them must have the sgf form. Returns the offset after the nodes that were read. More of them may follow.
+#[inline(always)]
+fn read_moves(text: &[u8], at: usize, nodes: &mut Nodes) -> usize
+    requires short { length text.now ≤ MAX_LENGTH }
+    requires within { at ≤ length text.now }
+    requires room { length nodes.old ≤ at }
+    ensures read { AreBesideRead text.now at result nodes.old nodes.new }
+    ensures rises { at ≤ result }
+    ensures within { result ≤ length text.now }
+    ensures room { length nodes.new ≤ result }
+{
+    if text.len() - at > NEAR && text[at] == b';' && text[at + 6] == b';' {
+        read_more_moves(text, at, nodes)
+    } else {
+        at
+    }
+}
+
+/// The same. A call costs something, so it is made only where two nodes seem to come.
+#[inline(never)]
+fn read_more_moves(text: &[u8], at: usize, nodes: &mut Nodes) -> usize
+    requires short { length text.now ≤ MAX_LENGTH }
+    requires within { at ≤ length text.now }
+    requires room { length nodes.old ≤ at }
+    ensures read { AreBesideRead text.now at result nodes.old nodes.new }
+    ensures rises { at ≤ result }
+    ensures within { result ≤ length text.now }
+    ensures room { length nodes.new ≤ result }
+{
+    let mut end = at;
+    'pairs: while text.len() - end > NEAR
+        && text[end] == b';'
+        && text[end + 6] == b';'
+        && bytes_in_place(text, end + 1) % 4096 == 4095
+    {
+        let Ok(()) = nodes.push(end as u32, Link::Next { beside: true }) else {
+            return end;
+        };
+        let Ok(()) = nodes.push((end + 6) as u32, Link::Next { beside: true }) else {
+            return end + 6;
+        };
+        end += 12;
+    }
+    end
 }
 
 /// Reads the node whose `;` stands at `place`.

@@ -42,6 +42,17 @@ pub(crate) fn glance(text: &[u8], at: usize) -> Option<PartRead>
             as_written: true,
         });
     }
+    short_properties(text, at, in_place)
+}
+
+/// Reads the properties of a node, which begin at `at`, if `in_place` tells of a move and the properties after it are short. None
+/// says nothing.
+#[inline(always)]
+pub(crate) fn short_properties(text: &[u8], at: usize, in_place: u64) -> Option<PartRead>
+    requires { in_place % 32 ≡ 31 → IsMove text.now at }
+    ensures read { IfSome result (λ read. ArePropertiesRead text.now at read.end) }
+    ensures written { IfSome result (λ read. IsTrue read.as_written → AreWritten text.now at read.end) }
+{
     if in_place % 32 == 31 {
         after_move(text, at)
     } else {
@@ -49,20 +60,40 @@ pub(crate) fn glance(text: &[u8], at: usize) -> Option<PartRead>
     }
 }
 
-/// Which of the bytes at `at` are as in `B[pd];`, all compared at once: bit 0 tells of a capital, bits 1 to 4 of a value of two plain
-/// bytes in its brackets, and bit 5 of a byte that ends a node.
+/// Which of the bytes at `at` are as in `B[pd];W[dd];`, all compared at once: bit 0 tells of a capital, bits 1 to 4 of a value of two
+/// plain bytes in its brackets, and bit 5 of a byte that ends a node. Bits 6 to 11 tell the same of the next six bytes.
 #[inline(always)]
 pub(crate) fn bytes_in_place(text: &[u8], at: usize) -> u64
     requires { at + NEAR ≤ length text.now }
     ensures move_stands { result % 32 ≡ 31 → IsMove text.now at }
     ensures node_ends { result % 64 ≡ 63 → EndsNode text.now (at + 5) }
+    ensures next_stands { result % 4096 ≡ 4095 → IsMove text.now (at + 6) }
+    ensures next_ends { result % 4096 ≡ 4095 → EndsNode text.now (at + 11) }
 {
     // A byte is in place if it is at most so much above the least one. This wraps, so only `\` and `]` aren't plain.
-    let least = u8x16::from_array([b'A', b'[', 94, 94, b']', 33, 0, 0, 0, 0, 0, 0, 0, 0, 0, 0]);
-    let above = u8x16::from_array([25, 0, 253, 253, 0, 31, 0, 0, 0, 0, 0, 0, 0, 0, 0, 0]);
+    let least = u8x16::from_array([
+        b'A', b'[', 94, 94, b']', 33, b'A', b'[', 94, 94, b']', 33, 0, 0, 0, 0,
+    ]);
+    let above = u8x16::from_array([25, 0, 253, 253, 0, 31, 25, 0, 253, 253, 0, 31, 0, 0, 0, 0]);
     (u8x16::from_slice(&text[at..]) - least)
         .simd_le(above)
         .to_bitmask()
+}
+
+/// The same, but 0 if fewer bytes are left than are compared.
+#[inline(always)]
+pub(crate) fn near_bytes_in_place(text: &[u8], at: usize) -> u64
+    requires { at ≤ length text.now }
+    ensures move_stands { result % 32 ≡ 31 → IsMove text.now at }
+    ensures node_ends { result % 64 ≡ 63 → EndsNode text.now (at + 5) }
+    ensures next_stands { result % 4096 ≡ 4095 → IsMove text.now (at + 6) }
+    ensures next_ends { result % 4096 ≡ 4095 → EndsNode text.now (at + 11) }
+{
+    if text.len() - at < NEAR {
+        0
+    } else {
+        bytes_in_place(text, at)
+    }
 }
 
 /// Whether the text begins with a node that is written like `;B[pd]`, and goes on for 11 bytes at least. If it is false, nothing is known.
