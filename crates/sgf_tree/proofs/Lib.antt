@@ -1,5 +1,6 @@
 pub mod Shrinks
 pub mod Rises
+pub mod PlacedBytes
 pub mod PlacesRise
 pub mod Flat
 pub mod Lists
@@ -56,6 +57,7 @@ pub mod Taking
 pub mod WrittenParts
 pub mod LoneNodes
 pub mod Leading
+pub mod ShortBytes
 pub mod ShortProperties
 pub mod Runs
 pub mod Packing

@@ -1,56 +1,24 @@
 -- The bytes of two moves, all compared at once with the least one that may stand there.
-use Rattle.std.proofs.Common.{◌≡◌, ◌∙◌, ℕ, ◌+◌, ◌-◌, ◌/◌, ◌%◌, ◌^◌, ◌<◌, ◌≤◌, nat_le, Bool, true, false, IsTrue, cond, List, [], ◌∷◌, map, length, get_or, inl, inr, refl, sym, ap, subst, arith, le-leb, leb-true, w8}
-use Rattle.std.proofs.Math.Dec.{leb}
+use Rattle.std.proofs.Common.{◌≡◌, ◌∙◌, ℕ, ◌+◌, ◌/◌, ◌%◌, ◌^◌, ◌<◌, ◌≤◌, nat_le, IsTrue, List, [], ◌∷◌, length, get_or, inl, inr, refl, sym, ap, subst, arith, le-leb}
 use Rattle.std.proofs.lemmas.Bool.{and_from, cases_lt}
-use Rattle.std.proofs.lemmas.Simd.{length-chunk, length-zip2, get_or-chunk, get_or-zip2, tops_compared, mask_l-mod, bit_mask_l}
-use Rattle.std.specs.Simd.Lanes.{chunk, zip2, mask_l, top}
 use Rattle.sgf_tree.specs.inner.Progress.{is_plain, IsMove, EndsNode}
 use Rattle.sgf_tree.specs.inner.Counting.{IsMoveNode}
+use Rattle.sgf_tree.proofs.PlacedBytes
+use Rattle.sgf_tree.proofs.PlacedBytes.{above}
 use Rattle.sgf_tree.proofs.ValueEnds.{other-plain}
-
--- how far a byte is above another, where 0 comes after 255
-abbrev above : ℕ → ℕ → ℕ
-above byte other = (byte + (256 - other)) % 256
 
 -- the lowest bits of a number
 low-bits : (n : ℕ) → n % 32 ≡ 31 → (n / 1 % 2 ≡ 1) × (n / 2 % 2 ≡ 1) × (n / 4 % 2 ≡ 1) × (n / 8 % 2 ≡ 1) × (n / 16 % 2 ≡ 1)
 low-bits n e = (omega arith, omega arith, omega arith, omega arith, omega arith)
 
-is-set : (b : Bool) → ◌≡◌ {A = ℕ} (cond b 1 0) 1 → b ≡ true
-is-set true e = refl
-is-set false e = absurd (omega arith)
-
 other-than : (b : ℕ) → b < 256 → above b 94 ≤ 253 → IsTrue (is_plain b)
 other-than b fits h = other-plain b (λ e. omega (arith, h)) (λ e. omega (arith, h))
 
--- the least byte of each place, and how far above it a byte may be
-module _ (least most : List ℕ) (places : length least ≡ 16) (t : List ℕ) (at : ℕ) (room : at + 16 ≤ length t) where
-  abbrev distances : List ℕ
-  distances = zip2 above (chunk at 16 t) least
-
-  abbrev pub bits : ℕ
-  bits = mask_l (map (top 7) (zip2 (λ a b. cond (leb a b) 255 0) distances most)) % 2 ^ 64
-
-  long : length distances ≡ 16
-  long = length-zip2 above (chunk at 16 t) least (length-chunk at 16 t room ∙ sym places) ∙ length-chunk at 16 t room
-
-  module _ (tops : length most ≡ 16) where
-    abbrev lanes : List Bool
-    lanes = zip2 leb distances most
-
-    bits-lanes : bits ≡ mask_l lanes
-    bits-lanes = ap (λ ms. mask_l ms % 2 ^ 64) (tops_compared w8 leb distances most) ∙ mask_l-mod lanes 64 (omega (arith, long, length-zip2 leb distances most (long ∙ sym tops)))
-
-    pub in-place : (i j : ℕ) → j ≡ at + i → i < 16 → bits / 2 ^ i % 2 ≡ 1 → above (get_or t j 0) (get_or least i 0) ≤ get_or most i 0
-    in-place i j is lt set =
-        let byte = get_or-chunk at 16 t i 0 lt in
-        let distance : get_or distances i 0 ≡ above (get_or t (at + i) 0) (get_or least i 0) =
-        get_or-zip2 above (chunk at 16 t) least i 0 0 0 (omega (arith, length-chunk at 16 t room)) (omega (arith, places)) ∙ ap (λ b. above b (get_or least i 0)) byte in
-        let lane : get_or lanes i false ≡ leb (above (get_or t (at + i) 0) (get_or least i 0)) (get_or most i 0) =
-        get_or-zip2 leb distances most i 0 0 false (omega (arith, long)) (omega (arith, tops)) ∙ ap (λ d. leb d (get_or most i 0)) distance in
-        let bit : ◌≡◌ {A = ℕ} (cond (get_or lanes i false) 1 0) 1 = sym (bit_mask_l lanes i) ∙ ap (λ n. n / 2 ^ i % 2) (sym bits-lanes) ∙ set in
-        subst (λ k. above (get_or t k 0) (get_or least i 0) ≤ get_or most i 0) (sym is)
-        (leb-true (above (get_or t (at + i) 0) (get_or least i 0)) (get_or most i 0) (sym lane ∙ is-set (get_or lanes i false) bit))
+-- a byte that is in place, which stands at `j`
+in-place : (least most : List ℕ) (wide : length least ≡ 16) (wide' : length most ≡ 16) (t : List ℕ) (at : ℕ) (room : at + 16 ≤ length t) (i j : ℕ) → j ≡ at + i → i < 16
+    → PlacedBytes.bits least most wide wide' t at room / 2 ^ i % 2 ≡ 1 → above (get_or t j 0) (get_or least i 0) ≤ get_or most i 0
+in-place least most wide wide' t at room i j is lt set =
+    subst (λ k. above (get_or t k 0) (get_or least i 0) ≤ get_or most i 0) (sym is) (PlacedBytes.in-place least most wide wide' t at room i lt set)
 
 -- a move, by how far its bytes are above the least ones
 move-from : (t : List ℕ) (at : ℕ) → ((i : ℕ) → get_or t i 0 < 256) → at + 4 < length t → above (get_or t at 0) 65 ≤ 25 → above (get_or t (at + 1) 0) 91 ≤ 0
@@ -88,10 +56,10 @@ module _ (t : List ℕ) (at : ℕ) (room : at + 16 ≤ length t) (fits : (i : �
   most = 25 ∷ 0 ∷ 253 ∷ 253 ∷ 0 ∷ 31 ∷ 25 ∷ 0 ∷ 253 ∷ 253 ∷ 0 ∷ 31 ∷ 0 ∷ 0 ∷ 0 ∷ 0 ∷ []
 
   abbrev move_bits : ℕ
-  move_bits = bits least most refl t at room
+  move_bits = PlacedBytes.bits least most refl refl t at room
 
   here : (i j : ℕ) → j ≡ at + i → i < 16 → move_bits / 2 ^ i % 2 ≡ 1 → above (get_or t j 0) (get_or least i 0) ≤ get_or most i 0
-  here = in-place least most refl t at room refl
+  here = in-place least most refl refl t at room
 
   pub move-stands : move_bits % 32 ≡ 31 → IsMove t at
   move-stands e =
@@ -126,10 +94,10 @@ module _ (t : List ℕ) (at : ℕ) (room : at + 16 ≤ length t) (fits : (i : �
   two_most = 0 ∷ 25 ∷ 0 ∷ 253 ∷ 253 ∷ 0 ∷ 0 ∷ 25 ∷ 0 ∷ 253 ∷ 253 ∷ 0 ∷ 31 ∷ 255 ∷ 255 ∷ 255 ∷ []
 
   abbrev two_bits : ℕ
-  two_bits = bits two_least two_most refl t at room
+  two_bits = PlacedBytes.bits two_least two_most refl refl t at room
 
   there : (i j : ℕ) → j ≡ at + i → i < 16 → two_bits / 2 ^ i % 2 ≡ 1 → above (get_or t j 0) (get_or two_least i 0) ≤ get_or two_most i 0
-  there = in-place two_least two_most refl t at room refl
+  there = in-place two_least two_most refl refl t at room
 
   pub first-node : two_bits % 64 ≡ 63 → IsMoveNode t at
   first-node e =

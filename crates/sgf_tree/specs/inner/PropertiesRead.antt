@@ -1,10 +1,10 @@
 -- How the properties of a node were read: words of the contracts in `reader::properties`.
 use Rattle.std.specs.Prelude.{◌≡◌, ◌≢◌, ℕ, ◌+◌, ◌<◌, ◌≤◌, false, IsTrue, List, [], ◌∷◌, length, slice_index, None}
-use Rattle.sgf_tree.specs.Bytes.{open_bracket}
+use Rattle.sgf_tree.specs.Bytes.{open_bracket, close_bracket}
 use Rattle.sgf_tree.specs.Tree.{Property}
-use Rattle.sgf_tree.specs.Spelling.{is_white_space}
+use Rattle.sgf_tree.specs.Spelling.{is_white_space, is_upper}
 use Rattle.sgf_tree.specs.inner.Machine.{Started, MachineState, in_node, in_name, in_value, after_value, after_node, ended, next_state, accepted}
-use Rattle.sgf_tree.specs.inner.Progress.{ComesTo, IsTrueFault, IsSpan, IsBracket}
+use Rattle.sgf_tree.specs.inner.Progress.{ComesTo, IsTrueFault, IsSpan, IsBracket, ArePlain}
 use Rattle.sgf_tree.specs.inner.NodeText.{IsPropertyWritten}
 use Rattle.sgf_tree.specs.declared.reader.fault.PartFault.{PartFault}
 use Rattle.sgf_tree.specs.declared.reader.properties.PartRead.{PartRead}
@@ -26,6 +26,15 @@ pub record AreValuesEnded (text : List ℕ) (end : ℕ) (read : PartRead) : Type
   pub white_space : IsSpan is_white_space text end read.end
   pub other : slice_index text read.end ≢ open_bracket
   pub written : IsTrue read.as_written → read.end ≡ end
+
+-- a property of two capitals and one value of plain bytes begins at `at`, as in `BL[921.325]`; its `]` is at `close`
+pub record IsShortProperty (text : List ℕ) (at close : ℕ) : Type 0 where
+  pub first : IsTrue (is_upper (slice_index text at))
+  pub second : IsTrue (is_upper (slice_index text (at + 1)))
+  pub bracket : slice_index text (at + 2) ≡ open_bracket
+  pub plain : ArePlain text (at + 3) close
+  pub within : close < length text
+  pub end : slice_index text close ≡ close_bracket
 
 -- the identifier that begins at `start` was read up to a `[`
 pub record IsNameRead (text : List ℕ) (start bracket : ℕ) : Type 0 where

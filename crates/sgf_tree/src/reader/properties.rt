@@ -1,10 +1,12 @@
 //! Reading the properties of a node.
 
-ghost use Rattle.std.specs.Prelude.{◌≡◌, false, ◌<◌, ◌≤◌, ◌+◌, ◌%◌, length, slice_index, IsTrue, IfSome, IfOk, IfErr, OnOk};
+ghost use Rattle.std.specs.Prelude.{◌≡◌, ◌≢◌, false, ◌<◌, ◌≤◌, ◌+◌, ◌%◌, length, slice_index, IsTrue, IfSome, IfOk, IfErr, OnOk};
+ghost use Rattle.std.specs.Int.Count.{count_trailing_zeros};
+ghost use Rattle.sgf_tree.specs.Bytes.{close_bracket};
 ghost use Rattle.sgf_tree.specs.Spelling.{is_upper};
 ghost use Rattle.sgf_tree.specs.inner.Progress.{IsSpan, IsMove, IsLoneNode, EndsNode};
 ghost use Rattle.sgf_tree.specs.inner.NodeText.{AreWritten};
-ghost use Rattle.sgf_tree.specs.inner.PropertiesRead.{AreValuesEnded, IsNameRead, IsWholePropertyRead, ArePropertiesRead, IsFaultInProperty, IsFaultInNode};
+ghost use Rattle.sgf_tree.specs.inner.PropertiesRead.{AreValuesEnded, IsNameRead, IsShortProperty, IsWholePropertyRead, ArePropertiesRead, IsFaultInProperty, IsFaultInNode};
 ghost use Rattle.sgf_tree.specs.inner.KeptEnds.{AreKeptEnds};
 
 use crate::fault::MAX_LENGTH;
@@ -105,22 +107,76 @@ pub(crate) fn is_lone_at_once(text: &[u8]) -> bool
 }
 
 /// Reads the properties of a node that begin with a move at `at`, if those after it are short. None says nothing.
+// The first loop reads properties such as `BL[921.325]`, and ends most nodes. The second one reads the others.
 #[inline(always)]
 fn after_move(text: &[u8], at: usize) -> Option<PartRead>
     requires { IsMove text.now at }
     ensures read { IfSome result (λ read. ArePropertiesRead text.now at read.end) }
     ensures written { IfSome result (λ read. IsTrue read.as_written → AreWritten text.now at read.end) }
 {
+    let mut end = at + 5;
+    'near: while let Some(close) = near_property_close(text, end) {
+        end = close + 1;
+        if b' ' < text[end] && text[end] < b'A' {
+            return Some(PartRead {
+                end,
+                as_written: true,
+            });
+        }
+    }
     let PartRead {
         mut end,
         mut as_written,
-    } = property_end(text, at + 5)?;
+    } = property_end(text, end)?;
     'properties: while end < text.len() && text[end].is_ascii_uppercase() {
         let property = read_short_property(text, end)?;
         as_written = as_written & property.as_written;
         end = property.end;
     }
     Some(PartRead { end, as_written })
+}
+
+/// The `]` of a property that begins at `at`, if its name is two capitals, it has one value of few plain bytes, and the text goes on.
+/// If it is None, nothing is known.
+#[inline(always)]
+fn near_property_close(text: &[u8], at: usize) -> Option<usize>
+    requires { at ≤ length text.now }
+    ensures short { IfSome result (IsShortProperty text.now at) }
+    ensures goes_on { IfSome result (λ close. close + 1 < length text.now) }
+{
+    if text.len() - at <= NEAR || text[at] <= b' ' {
+        return None;
+    }
+    let stops = property_stops(text, at);
+    if stops % 8 != 0 || stops == 0 {
+        return None;
+    }
+    let close = at + stops.trailing_zeros() as usize;
+    if text[close] == b']' {
+        Some(close)
+    } else {
+        None
+    }
+}
+
+/// Which of the bytes at `at` stop a property such as `BL[921.325]`, all compared at once: bits 0 to 2 tell of any but two capitals
+/// and a `[`, and the others of a `]` or a `\`.
+#[inline(always)]
+fn property_stops(text: &[u8], at: usize) -> u64
+    requires { at + NEAR ≤ length text.now }
+    ensures near { result ≢ 0 → count_trailing_zeros 64 result < NEAR }
+    ensures short { result % 8 ≡ 0 → result ≢ 0 → slice_index text.now (at + count_trailing_zeros 64 result) ≡ close_bracket
+        → IsShortProperty text.now at (at + count_trailing_zeros 64 result) }
+{
+    // A byte stops it if it is at most so much above the least one. This wraps: 91 comes after `Z`, and 229 bytes further is the byte
+    // before `A`. 92 is `\`, which comes after `[` and before `]`.
+    let least = u8x16::from_array([
+        91, 91, 92, 92, 92, 92, 92, 92, 92, 92, 92, 92, 92, 92, 92, 92,
+    ]);
+    let above = u8x16::from_array([229, 229, 254, 1, 1, 1, 1, 1, 1, 1, 1, 1, 1, 1, 1, 1]);
+    (u8x16::from_slice(&text[at..]) - least)
+        .simd_le(above)
+        .to_bitmask()
 }
 
 /// How far a part of a text was read.

@@ -1,17 +1,31 @@
-use Rattle.std.proofs.Common.{◌∙◌, sym, arith}
+use Rattle.std.proofs.Common.{◌+◌, ◌∙◌, sym, arith}
 use Rattle.std.proofs.lemmas.Bool.{and_parts}
 use Rattle.sgf_tree.proofs.NodeEnds.{properties-more, properties-done}
-use Rattle.sgf_tree.proofs.ShortProperties.{after-move, move-written}
+use Rattle.sgf_tree.proofs.ShortProperties.{after-move, read-to-more, read-to-end, written-to-end}
 use Rattle.sgf_tree.proofs.WrittenParts.{written-more}
 use Rattle.sgf_tree.proofs.reader.properties.after_move.Goals as goal
 
-pub properties-init : goal.properties-init
-properties-init c =
-    let end = c.in_ok-end.field-0 in
-    record {
-      so_far = after-move c.args.text.now c.args.at c.requires end c.in_ok-end.ensures;
-      written = move-written c.args.text.now c.args.at c.requires end c.in_ok-end.ensures;
-    }
+pub near-init : goal.near-init
+near-init c = record { within = omega (arith, c.requires.value.within); so_far = after-move c.args.text.now c.args.at c.requires }
+
+pub near-preserved : goal.near-preserved
+near-preserved c =
+    let is = c.in-Some.ensures.short in
+    record { within = omega (arith, is.within); so_far = read-to-more c.args.text.now c.args.at c.near.end c.near.invariant.so_far c.in-Some.close is }
+
+pub returns-then-text-end-lt65-clause-read : goal.returns-then-text-end-lt65-clause-read
+returns-then-text-end-lt65-clause-read c =
+    let t = c.args.text.now in
+    let end = c.in-Some.close + 1 in
+    read-to-end t c.args.at end (read-to-more t c.args.at c.near.end c.near.invariant.so_far c.in-Some.close c.in-Some.ensures.short)
+    (record { within = c.in-Some.ensures.goes_on; above = c.if-text-end-gt32.true; below = c.if-text-end-lt65.true })
+
+pub returns-then-text-end-lt65-clause-written : goal.returns-then-text-end-lt65-clause-written
+returns-then-text-end-lt65-clause-written c _ =
+    let t = c.args.text.now in
+    let end = c.in-Some.close + 1 in
+    written-to-end t c.args.at end (read-to-more t c.args.at c.near.end c.near.invariant.so_far c.in-Some.close c.in-Some.ensures.short)
+    (record { within = c.in-Some.ensures.goes_on; above = c.if-text-end-gt32.true; below = c.if-text-end-lt65.true })
 
 pub properties-preserved : goal.properties-preserved
 properties-preserved c =
