@@ -2,7 +2,7 @@
 use Rattle.std.proofs.Common.{◌≡◌, ℕ, suc, ◌+◌, ◌-◌, ◌<◌, ◌≤◌, true, false, inl, inr, List, [], ◌∷◌, ◌++◌, length, get_or, set, take, drop, map, replicate, slice_get, Option, Some, option_map, sym, ap, subst, ◌∙◌, arith, append_assoc}
 use Rattle.std.proofs.Math.ListN.{get_or-map}
 use Rattle.std.proofs.lemmas.Bool.{cases_lt}
-use Rattle.std.proofs.lemmas.List.{length-map, length-set, length-take-le, get_or_default, get_or-set_same, map-set, set-get_or, set_at, take_more}
+use Rattle.std.proofs.lemmas.List.{length-map, length-take-le, get_or_default, map-set, set-get_or, set_at, take_more}
 use Rattle.std.proofs.lemmas.Option.{slice_get-get_or, same_Some}
 use Rattle.sgf_tree.specs.inner.Layout.{parent_by, opens_by}
 use Rattle.sgf_tree.specs.inner.GamesRead.{opens_at, AreOwnNodes, without_last, ClosesGame}
@@ -87,17 +87,15 @@ parent-link old new tip from at x l m lt e f =
 pub last-set : (ns new : List NodeEntry) (at last : ℕ) → at < length ns
     → ((node : NodeEntry) → slice_get ns at ≡ Some node → new ≡ set ns at (record { place = node.place; link = node.link; last_below = last }))
     → (x : NodeEntry) × (x ≡ get_or ns at x) × (new ≡ set ns at (record { place = x.place; link = x.link; last_below = last }))
-    × ((l : Link) → option_map (λ (n : NodeEntry). n.link) (slice_get new at) ≡ Some l → x.link ≡ l)
+    × ((l : Link) → option_map (λ (n : NodeEntry). n.link) (slice_get ns at) ≡ Some l → x.link ≡ l)
 last-set ns new at last lt changes =
     let none : NodeEntry = record { place = 0; link = Next false; last_below = 0 } in
     let x : NodeEntry = get_or ns at none in
-    let y : NodeEntry = record { place = x.place; link = x.link; last_below = last } in
-    let is : new ≡ set ns at y = changes x (slice_get-get_or ns at none lt) in
-    let there : slice_get (set ns at y) at ≡ Some y = slice_get-get_or (set ns at y) at none (omega (arith, lt, length-set ns at y)) ∙ ap Some (get_or-set_same ns at y none lt) in (
+    let there : slice_get ns at ≡ Some x = slice_get-get_or ns at none lt in (
       x,
       get_or_default ns at none x lt,
-      is,
-      λ l e. same_Some x.link l (sym (ap (option_map (λ (n : NodeEntry). n.link)) (ap (λ ms. slice_get ms at) is ∙ there)) ∙ e),
+      changes x there,
+      λ l e. same_Some x.link l (sym (ap (option_map (λ (n : NodeEntry). n.link)) there) ∙ e),
     )
 
 -- the game is closed once its first node got it

@@ -1,8 +1,9 @@
 -- How the kept nodes change: one node more, or the last node below a node.
-use Rattle.std.proofs.Common.{◌≡◌, ◌≢◌, ℕ, zero, suc, ◌+◌, ◌*◌, ◌%◌, ◌<◌, ◌≤◌, inl, inr, List, [], ◌∷◌, ◌++◌, length, get_or, set, map, Some, slice_get, refl, sym, ap, subst, ◌∙◌, arith, get_or-set_same, get_or-set_other, length-append}
+use Rattle.std.proofs.Common.{◌≡◌, ◌≢◌, ℕ, zero, suc, ◌+◌, ◌*◌, ◌%◌, ◌<◌, ◌≤◌, inl, inr, List, [], ◌∷◌, ◌++◌, length, get_or, set, map, Some, slice_get, option_map, eqb, refl, sym, ap, subst, ◌∙◌, arith, get_or-set_same, get_or-set_other, length-append}
 use Rattle.std.proofs.lemmas.Bool.{cases_lt, cases_eq}
 use Rattle.std.proofs.lemmas.List.{length-map, length-set, get_or-map, get_or_append_left, get_or_push, get_or_default, same_lists, map_push, map-set}
-use Rattle.std.proofs.lemmas.Option.{get_or_from_slice_get}
+use Rattle.std.proofs.lemmas.Option.{get_or_from_slice_get, slice_get-get_or}
+use Rattle.sgf_tree.specs.declared.layout.Link.TheVariants.{Root, Variation, Next}
 use Rattle.sgf_tree.specs.declared.layout.NodeEntry.{NodeEntry}
 use Rattle.sgf_tree.specs.declared.nodes.Packed.{Packed}
 use Rattle.sgf_tree.specs.declared.nodes.First.{First}
@@ -101,6 +102,42 @@ nodes-push firsts first entries kind place old low le =
     map_push (node_of all) entries p
     ∙ ap (λ (ns : List NodeEntry). ns ++ node_of all p ∷ []) (nodes-same firsts all entries (λ i d lt own. get_or_append_left firsts (first ∷ []) none (get_or entries i d).value (old.within i d lt own)))
     ∙ ap (λ (n : NodeEntry). map (node_of firsts) entries ++ n ∷ []) node_is
+
+-- how the node of an entry follows the nodes before it
+module _ (firsts : List First) (entries : List Packed) (i : ℕ) (p : Packed) (lt : i < length entries) (here : p ≡ get_or entries i p) where
+  entry-link : option_map (λ (n : NodeEntry). n.link) (slice_get (map (node_of firsts) entries) i) ≡ Some (link_by (kind_of p) (first_at firsts p.value).number)
+  entry-link =
+      let node : NodeEntry = node_of firsts p in
+      ap (option_map (λ (n : NodeEntry). n.link)) (slice_get-get_or (map (node_of firsts) entries) i node (omega (arith, lt, length-map entries (node_of firsts))))
+      ∙ ap (λ (n : NodeEntry). Some n.link) (get_or-map (node_of firsts) entries i p node lt ∙ ap (node_of firsts) (sym here))
+
+  pub next-link : kind_of p < 2 → option_map (λ (n : NodeEntry). n.link) (slice_get (map (node_of firsts) entries) i) ≡ Some (Next (eqb (kind_of p) 1))
+  next-link next = entry-link ∙ ap Some (by_kind (kind_of p) (first_at firsts p.value).number next)
+    where
+      by_kind : (kind number : ℕ) → kind < 2 → link_by kind number ≡ Next (eqb kind 1)
+      by_kind zero number lt = refl
+      by_kind (suc zero) number lt = refl
+      by_kind (suc (suc more)) number lt = absurd (omega arith)
+
+  module _ (f : First) (old : AreFirstsOf firsts entries) (first : 2 ≤ kind_of p) (f_is : f ≡ get_or firsts p.value f) where
+    number-is : (first_at firsts p.value).number ≡ f.number
+    number-is =
+        let none : First = record { number = 0; last_below = 0 } in
+        let own : IsFirst (get_or entries i p) = subst IsFirst here first in
+        let within : p.value < length firsts = subst (λ (q : Packed). q.value < length firsts) (sym here) (old.within i p lt own) in
+        ap (λ (g : First). g.number) (get_or_default firsts p.value none f within ∙ sym f_is)
+
+    pub root-link : kind_of p ≡ 2 → option_map (λ (n : NodeEntry). n.link) (slice_get (map (node_of firsts) entries) i) ≡ Some (Root f.number)
+    root-link root = entry-link ∙ ap (λ k. Some (link_by k (first_at firsts p.value).number)) root ∙ ap (λ n. Some (Root n)) number-is
+
+    pub variation-link : kind_of p ≢ 2 → option_map (λ (n : NodeEntry). n.link) (slice_get (map (node_of firsts) entries) i) ≡ Some (Variation f.number)
+    variation-link other = entry-link ∙ ap Some (by_kind (kind_of p) (first_at firsts p.value).number first other) ∙ ap (λ n. Some (Variation n)) number-is
+      where
+        by_kind : (kind number : ℕ) → 2 ≤ kind → kind ≢ 2 → link_by kind number ≡ Variation number
+        by_kind zero number le ne = absurd (omega arith)
+        by_kind (suc zero) number le ne = absurd (omega arith)
+        by_kind (suc (suc zero)) number le ne = absurd (ne refl)
+        by_kind (suc (suc (suc more))) number le ne = refl
 
 module _ (firsts : List First) (entries : List Packed) (i last : ℕ) (p : Packed) (node : NodeEntry) (lt : i < length entries) (here : p ≡ get_or entries i p)
     (is : slice_get (map (node_of firsts) entries) i ≡ Some node) where

@@ -184,18 +184,28 @@ impl Nodes {
         }
     }
 
-    /// Stores `last` as the `last_below` of node `i`.
+    /// Stores `last` as the `last_below` of node `i`. Returns how the node follows the nodes before it.
+    // Both in one call, so that a run of nodes is gone over with one test of each.
     #[inline(always)]
-    pub(crate) fn set_last_below(&mut self, i: usize, last: u32)
+    pub(crate) fn set_last_below(&mut self, i: usize, last: u32) -> Link
         requires { i < length self.old }
-        ensures { (node : NodeEntry) → slice_get self.old i ≡ Some node
+        ensures set { (node : NodeEntry) → slice_get self.old i ≡ Some node
             → self.new ≡ slice_set self.old i (record node { last_below = last }) }
+        ensures link { option_map (λ (n : NodeEntry). n.link) (slice_get self.old i) ≡ Some result }
     {
         let entry = self.entries[i];
-        if entry.place_and_kind / PLACES < ROOT {
+        let kind = entry.place_and_kind / PLACES;
+        if kind < ROOT {
             self.entries[i].value = last;
-        } else {
-            self.firsts[entry.value as usize].last_below = last;
+            return Link::Next {
+                beside: kind == BESIDE,
+            };
         }
+        let first = self.firsts[entry.value as usize];
+        self.firsts[entry.value as usize].last_below = last;
+        if kind == ROOT {
+            return Link::Root(first.number);
+        }
+        Link::Variation(first.number)
     }
 }

@@ -217,8 +217,7 @@ fn close_game(nodes: &mut Nodes, tip: u32) -> Option<u32>
     let last = (nodes.len() - 1) as u32;
     let mut at = tip as usize;
     'own: loop {
-        nodes.set_last_below(at, last);
-        match nodes.link(at) {
+        match nodes.set_last_below(at, last) {
             Link::Root(_) => return None,
             Link::Variation(parent) => return Some(parent),
             Link::Next { .. } => at -= 1,

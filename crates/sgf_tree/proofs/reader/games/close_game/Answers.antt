@@ -10,10 +10,10 @@ use Rattle.sgf_tree.proofs.reader.games.close_game.Goals.{After-set_last_below}
 -- the entry of the node at hand, as it was
 entry : (c : After-set_last_below) → (x : NodeEntry) × (x ≡ get_or c.own.nodes c.own.at x)
     × (c.set_last_below.new.self ≡ set c.own.nodes c.own.at (record { place = x.place; link = x.link; last_below = c.len.result - 1 }))
-    × ((l : Link) → option_map (λ (n : NodeEntry). n.link) (slice_get c.set_last_below.new.self c.own.at) ≡ Some l → x.link ≡ l)
+    × ((l : Link) → option_map (λ (n : NodeEntry). n.link) (slice_get c.own.nodes c.own.at) ≡ Some l → x.link ≡ l)
 entry c =
     let lt : c.own.at < length c.own.nodes = omega (arith, c.requires.within, c.own.invariant.low, lasts-length c.args.nodes.now c.own.nodes c.args.tip (c.own.at + 1) c.own.invariant.lasts) in
-    last-set c.own.nodes c.set_last_below.new.self c.own.at (c.len.result - 1) lt c.set_last_below.ensures
+    last-set c.own.nodes c.set_last_below.new.self c.own.at (c.len.result - 1) lt c.set_last_below.ensures.set
 
 -- it got the number of the last node
 got : (c : After-set_last_below) → GetLasts c.args.nodes.now c.set_last_below.new.self c.args.tip c.own.at
@@ -25,11 +25,6 @@ got c =
     subst (λ ns. GetLasts c.args.nodes.now ns c.args.tip c.own.at) same
     (lasts-more c.args.nodes.now c.own.nodes c.args.tip c.own.at x c.own.invariant.low c.requires.within at.1 c.own.invariant.lasts)
 
-pub link-requires : goal.link-requires
-link-requires c =
-    let old = c.args.nodes.now in
-    omega (arith, c.requires.within, c.own.invariant.low, lasts-length old c.set_last_below.new.self c.args.tip c.own.at (got (goal.at.link-requires c).After-set_last_below))
-
 pub returns-in-Root : goal.returns-in-Root
 returns-in-Root c first own =
     let x = entry (goal.at.returns-in-Root c).After-set_last_below in
@@ -37,9 +32,9 @@ returns-in-Root c first own =
     let at = c.own.at in
     let lt : at < length old = omega arith in
     lasts-closed old _ c.args.tip first at _ own (c.own.invariant.begins first own) c.own.invariant.low
-    (opens-link old c.own.nodes c.args.tip (at + 1) at x.0 _ c.own.invariant.lasts lt x.1 (x.3 _ c.in-Root.ensures))
+    (opens-link old c.own.nodes c.args.tip (at + 1) at x.0 _ c.own.invariant.lasts lt x.1 (x.3 _ c.in-Root.ensures.link))
     (got (goal.at.returns-in-Root c).After-set_last_below)
-    (parent-link old c.own.nodes c.args.tip (at + 1) at x.0 _ c.own.invariant.lasts lt x.1 (x.3 _ c.in-Root.ensures))
+    (parent-link old c.own.nodes c.args.tip (at + 1) at x.0 _ c.own.invariant.lasts lt x.1 (x.3 _ c.in-Root.ensures.link))
 
 pub returns-in-Variation : goal.returns-in-Variation
 returns-in-Variation c first own =
@@ -48,12 +43,12 @@ returns-in-Variation c first own =
     let at = c.own.at in
     let lt : at < length old = omega arith in
     lasts-closed old _ c.args.tip first at _ own (c.own.invariant.begins first own) c.own.invariant.low
-    (opens-link old c.own.nodes c.args.tip (at + 1) at x.0 _ c.own.invariant.lasts lt x.1 (x.3 _ c.in-Variation.ensures))
+    (opens-link old c.own.nodes c.args.tip (at + 1) at x.0 _ c.own.invariant.lasts lt x.1 (x.3 _ c.in-Variation.ensures.link))
     (got (goal.at.returns-in-Variation c).After-set_last_below)
-    (parent-link old c.own.nodes c.args.tip (at + 1) at x.0 _ c.own.invariant.lasts lt x.1 (x.3 _ c.in-Variation.ensures))
+    (parent-link old c.own.nodes c.args.tip (at + 1) at x.0 _ c.own.invariant.lasts lt x.1 (x.3 _ c.in-Variation.ensures.link))
 
 -- where its link says so, there is an own node before it
-after-another : (c : After-set_last_below) {beside : Bool} → option_map (λ (n : NodeEntry). n.link) (slice_get c.set_last_below.new.self c.own.at) ≡ Some (Next beside) → 1 ≤ c.own.at
+after-another : (c : After-set_last_below) {beside : Bool} → option_map (λ (n : NodeEntry). n.link) (slice_get c.own.nodes c.own.at) ≡ Some (Next beside) → 1 ≤ c.own.at
 after-another c is =
     let x = entry c in
     let old = c.args.nodes.now in
@@ -65,11 +60,11 @@ after-another c is =
     omega (arith, before)
 
 pub overflow_sub-at : goal.overflow_sub-at
-overflow_sub-at c = after-another (goal.at.overflow_sub-at c).After-set_last_below c.in-Next.ensures
+overflow_sub-at c = after-another (goal.at.overflow_sub-at c).After-set_last_below c.in-Next.ensures.link
 
 pub own-smaller : goal.own-smaller
 own-smaller c =
-    let before = after-another (goal.at.own-smaller c).After-set_last_below c.in-Next.ensures in omega (arith, before)
+    let before = after-another (goal.at.own-smaller c).After-set_last_below c.in-Next.ensures.link in omega (arith, before)
 
 pub own-preserved : goal.own-preserved
 own-preserved c =
@@ -77,7 +72,7 @@ own-preserved c =
     let old = c.args.nodes.now in
     let at = c.own.at in
     let lt : at < length old = omega arith in
-    let before = λ (first : ℕ) (own : AreOwnNodes old first c.args.tip). nodes-before old c.own.nodes c.args.tip first at own (c.own.invariant.begins first own) (opens-link old c.own.nodes c.args.tip (at + 1) at x.0 _ c.own.invariant.lasts lt x.1 (x.3 _ c.in-Next.ensures)) in
+    let before = λ (first : ℕ) (own : AreOwnNodes old first c.args.tip). nodes-before old c.own.nodes c.args.tip first at own (c.own.invariant.begins first own) (opens-link old c.own.nodes c.args.tip (at + 1) at x.0 _ c.own.invariant.lasts lt x.1 (x.3 _ c.in-Next.ensures.link)) in
     let up : at ≡ at - 1 + 1 = omega (arith, before c.requires.own.0 c.requires.own.1) in
     record {
       low = omega arith;
