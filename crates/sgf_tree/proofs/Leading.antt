@@ -56,14 +56,17 @@ module _ (names : List (List ℕ)) (t : List ℕ) where
         named = All-push (λ (property : Property). IsOtherName names property.name) before.properties one.property before.named one.named;
       }
 
+  -- the last one, right before the end of the node
+  pub others-end : (at end : ℕ) → AreOtherProperties names t at end → end < length t → 32 < get_or t end 0 → get_or t end 0 < 65 → AreOthers names t at
+  others-end at end all lt above below = record {
+    end = end;
+    properties = all;
+    ends = record { next = end; white_space = nothing-skipped t end lt above; inside = lt; below = below };
+  }
+
 -- none after a move that is a node by itself
 pub others-nothing : (names : List (List ℕ)) (t : List ℕ) → EndsNode t 6 → AreOthers names t 6
-others-nothing names t ends =
-    record {
-      end = 6;
-      properties = others-none names t 6 (omega (arith, ends.within));
-      ends = record { next = 6; white_space = nothing-skipped t 6 ends.within ends.above; inside = ends.within; below = ends.below };
-    }
+others-nothing names t ends = others-end names t 6 6 (others-none names t 6 (omega (arith, ends.within))) ends.within ends.above ends.below
 
 -- the properties of the node
 pub led-properties : (names : List (List ℕ)) (s : List ℕ) (is : IsLedNode names s) → IsLedBy names (lone s is.front) (properties_in (drop 1 s))

@@ -51,7 +51,7 @@ module _ (t : List ℕ) (at close : ℕ) (is : IsShortProperty t at close) where
         stops = λ lt. rw is.bracket other;
       }
 
-  two-value : IsValueEnd t (at + 2 + 1) close
+  pub two-value : IsValueEnd t (at + 2 + 1) close
   two-value =
       let three : at + 2 + 1 ≡ at + 3 = omega arith in
       rw three (units-ended t (at + 3) close (plain-units t (at + 3) (at + 3) close (no-units t (at + 3)) is.plain) is.within is.end)

@@ -3,9 +3,9 @@
 ghost use Rattle.std.specs.Prelude.{◌≡◌, ◌≢◌, ◌≤◌, ◌<◌, ◌+◌, length, All, IsTrue, IfSome};
 ghost use Rattle.sgf_tree.specs.inner.Lead.{IsLedNode, AreOthers, IsOtherProperty};
 
-use crate::reader::properties::{GLANCE, bytes_in_place};
+use crate::reader::properties::{bytes_in_place, near_property_close};
 use crate::reader::scan::ends_node;
-use crate::reader::value::{NEAR, near_value_end};
+use crate::reader::value::NEAR;
 
 /// Whether the text begins with a node that is written like `;B[pd]BL[921.325]OB[3]`: a move, and then perhaps short properties
 /// whose names aren't among `names`. If it is false, nothing is known.
@@ -30,33 +30,27 @@ fn are_others(text: &[u8], at: usize, names: &[[u8; 2]]) -> bool
     ensures { IsTrue result → AreOthers names.now text.now at }
 {
     let mut end = at;
-    'properties: while text.len() - end >= GLANCE {
+    'properties: while let Some(next) = other_property_end(text, end, names) {
+        end = next;
         if b' ' < text[end] && text[end] < b'A' {
             return true;
         }
-        let Some(next) = other_property_end(text, end, names) else {
-            return ends_node(text, end);
-        };
-        end = next;
     }
-    false
+    ends_node(text, end)
 }
 
-/// The end of the property whose name begins at `start`, if the name is two capitals and isn't among `names`, and if the only
-/// value is short. If it is None, nothing is known. At least `GLANCE` bytes must be left.
+/// The end of the property whose name begins at `start`, if the name is two capitals and isn't among `names`, if the only value is
+/// short, and if the text goes on. If it is None, nothing is known.
 #[inline(always)]
 fn other_property_end(text: &[u8], start: usize, names: &[[u8; 2]]) -> Option<usize>
-    requires { start + GLANCE ≤ length text.now }
-    ensures { IfSome result (IsOtherProperty names.now text.now start) }
+    requires { start ≤ length text.now }
+    ensures other { IfSome result (IsOtherProperty names.now text.now start) }
+    ensures goes_on { IfSome result (λ end. end < length text.now) }
 {
-    let name = [text[start], text[start + 1]];
-    if !name[0].is_ascii_uppercase() || !name[1].is_ascii_uppercase() || text[start + 2] != b'[' {
+    let close = near_property_close(text, start)?;
+    if !is_other([text[start], text[start + 1]], names) {
         return None;
     }
-    if !is_other(name, names) {
-        return None;
-    }
-    let close = near_value_end(text, start + 3)?;
     Some(close + 1)
 }
 

@@ -18,7 +18,7 @@ use std::simd::prelude::*;
 
 /// A property is read at a glance only if at least this many bytes are left: one or two letters, a `[`,
 /// the 16 bytes among which the `]` is searched for, and the byte after these.
-pub(crate) const GLANCE: usize = 20;
+const GLANCE: usize = 20;
 
 /// Reads at a glance the properties of a node, which begin at `at`: none, or a move and perhaps short properties, as in
 /// `B[pd]BL[921.325]`. Nearly all nodes are like that. None says nothing.
@@ -139,7 +139,7 @@ fn after_move(text: &[u8], at: usize) -> Option<PartRead>
 /// The `]` of a property that begins at `at`, if its name is two capitals, it has one value of few plain bytes, and the text goes on.
 /// If it is None, nothing is known.
 #[inline(always)]
-fn near_property_close(text: &[u8], at: usize) -> Option<usize>
+pub(crate) fn near_property_close(text: &[u8], at: usize) -> Option<usize>
     requires { at ≤ length text.now }
     ensures short { IfSome result (IsShortProperty text.now at) }
     ensures goes_on { IfSome result (λ close. close + 1 < length text.now) }
