@@ -10,7 +10,7 @@ ghost use Rattle.sgf_tree.specs.inner.PropertiesRead.{IsFaultInNode};
 ghost use Rattle.sgf_tree.specs.inner.GamesRead.{tip, IsOpening, AreOwnNodes, ClosesGame};
 ghost use Rattle.sgf_tree.specs.inner.GamesRead.{StandsBetween, IsNodeRead, AreBesideRead, ReadsSequence, ReadsWhole, IsFaultInSequence};
 
-use crate::fault::MAX_LENGTH;
+use crate::fault::{MAX_LENGTH, MemoryFault};
 use crate::layout::{Link, LongValue};
 use crate::nodes::Nodes;
 use crate::reader::fault::PartFault;
@@ -116,7 +116,7 @@ fn read_sequence(
             if in_place % 4096 == 4095 && text[place + 6] == b';' {
                 nodes.push((place + 6) as u32, Link::Next { beside: true })?;
                 read = PartRead {
-                    end: read_moves(text, place + 12, nodes),
+                    end: read_moves(text, place + 12, nodes)?,
                     as_written: true,
                 };
             }
@@ -131,35 +131,35 @@ fn read_sequence(
     Ok(read.end)
 }
 
-/// Reads nodes at `at` that are written like `;B[pd]`, two by two, as far as two of them come and memory is granted. The text of the
+/// Reads nodes at `at` that are written like `;B[pd]`, two by two, as far as two of them come. The text of the
 /// node before them must have the sgf form. Returns the offset after the nodes that were read. More of them may follow.
 #[inline(always)]
-fn read_moves(text: &[u8], at: usize, nodes: &mut Nodes) -> usize
+fn read_moves(text: &[u8], at: usize, nodes: &mut Nodes) -> Result<usize, MemoryFault>
     requires short { length text.now ≤ MAX_LENGTH }
     requires within { at ≤ length text.now }
     requires room { length nodes.old ≤ at }
-    ensures read { AreBesideRead text.now at result nodes.old nodes.new }
-    ensures rises { at ≤ result }
-    ensures within { result ≤ length text.now }
-    ensures room { length nodes.new ≤ result }
+    ensures read { IfOk result (λ end. AreBesideRead text.now at end nodes.old nodes.new) }
+    ensures rises { IfOk result (λ end. at ≤ end) }
+    ensures within { IfOk result (λ end. end ≤ length text.now) }
+    ensures room { IfOk result (λ end. length nodes.new ≤ end) }
 {
     if text.len() - at > NEAR && text[at] == b';' && text[at + 6] == b';' {
         read_more_moves(text, at, nodes)
     } else {
-        at
+        Ok(at)
     }
 }
 
 /// The same. A call costs something, so it is made only where two nodes seem to come.
 #[inline(never)]
-fn read_more_moves(text: &[u8], at: usize, nodes: &mut Nodes) -> usize
+fn read_more_moves(text: &[u8], at: usize, nodes: &mut Nodes) -> Result<usize, MemoryFault>
     requires short { length text.now ≤ MAX_LENGTH }
     requires within { at ≤ length text.now }
     requires room { length nodes.old ≤ at }
-    ensures read { AreBesideRead text.now at result nodes.old nodes.new }
-    ensures rises { at ≤ result }
-    ensures within { result ≤ length text.now }
-    ensures room { length nodes.new ≤ result }
+    ensures read { IfOk result (λ end. AreBesideRead text.now at end nodes.old nodes.new) }
+    ensures rises { IfOk result (λ end. at ≤ end) }
+    ensures within { IfOk result (λ end. end ≤ length text.now) }
+    ensures room { IfOk result (λ end. length nodes.new ≤ end) }
 {
     let mut end = at;
     'pairs: while text.len() - end > NEAR
@@ -167,15 +167,11 @@ fn read_more_moves(text: &[u8], at: usize, nodes: &mut Nodes) -> usize
         && text[end + 6] == b';'
         && bytes_in_place(text, end + 1) % 4096 == 4095
     {
-        let Ok(()) = nodes.push(end as u32, Link::Next { beside: true }) else {
-            return end;
-        };
-        let Ok(()) = nodes.push((end + 6) as u32, Link::Next { beside: true }) else {
-            return end + 6;
-        };
+        nodes.push(end as u32, Link::Next { beside: true })?;
+        nodes.push((end + 6) as u32, Link::Next { beside: true })?;
         end += 12;
     }
-    end
+    Ok(end)
 }
 
 /// Reads the node whose `;` stands at `place`.

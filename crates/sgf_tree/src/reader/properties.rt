@@ -38,25 +38,26 @@ pub(crate) fn glance(text: &[u8], at: usize) -> Option<PartRead>
             as_written: true,
         });
     }
-    if b' ' < text[at] && text[at] < b'A' {
-        return Some(PartRead {
-            end: at,
-            as_written: true,
-        });
-    }
     short_properties(text, at, in_place)
 }
 
-/// Reads the properties of a node, which begin at `at`, if `in_place` tells of a move and the properties after it are short. None
-/// says nothing.
+/// Reads the properties of a node, which begin at `at`: none, or, if `in_place` tells of one, a move and perhaps short properties.
+/// None says nothing.
 #[inline(always)]
 pub(crate) fn short_properties(text: &[u8], at: usize, in_place: u64) -> Option<PartRead>
-    requires { in_place % 32 ≡ 31 → IsMove text.now at }
+    requires within { at ≤ length text.now }
+    requires move_stands { in_place % 32 ≡ 31 → IsMove text.now at }
     ensures read { IfSome result (λ read. ArePropertiesRead text.now at read.end) }
     ensures written { IfSome result (λ read. IsTrue read.as_written → AreWritten text.now at read.end) }
 {
     if in_place % 32 == 31 {
-        after_move(text, at)
+        return after_move(text, at);
+    }
+    if at < text.len() && b' ' < text[at] && text[at] < b'A' {
+        Some(PartRead {
+            end: at,
+            as_written: true,
+        })
     } else {
         None
     }

@@ -85,7 +85,7 @@ nodes-preserved-then-text-place-eq59 c =
     let next-move = subst (IsMove t) seven (bytes.next_stands all) in
     let read = move-node t place (place + 6) c.nodes.read.as_written _ _ refl move ends pushed in
     let next-read = move-node t (place + 6) (place + 12) true _ _ (omega arith) next-move next-ends pushed-next in
-    let more = c.read_moves.ensures in
+    let more = c.in_ok-read_moves.ensures in
     record {
       rises = omega (arith, c.nodes.invariant.rises, more.rises);
       within = more.within;
