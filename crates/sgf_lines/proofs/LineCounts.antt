@@ -1,14 +1,12 @@
--- How many lines a collection has, by its leaves, and the answer of a count.
+-- How many lines a collection has at most, and the answer of a count.
 use Rattle.std.proofs.Common.{◌≡◌, ℕ, ◌+◌, ◌<◌, ◌≤◌, length, map, sym, ap, ◌∙◌, arith, List, [], ◌++◌, take, drop, Result, Ok, Err, refl, append_assoc, append-nil, length-append}
 use Rattle.std.specs.Prelude.{codes}
 use Rattle.std.proofs.lemmas.List.{length-map, take-append-drop}
 use Rattle.sgf_tree.specs.Tree.{Games, game_count, node_count}
 use Rattle.sgf_lines.specs.Lines.{lines}
 use Rattle.sgf_lines.specs.Paths.{paths, leaf_of}
-use Rattle.sgf_lines.specs.inner.Standing.{lines_before}
 use Rattle.sgf_lines.proofs.Visits.{rises_parts, leaves_in_order}
 use Rattle.sgf_lines.proofs.Named.{length-paths}
-use Rattle.sgf_lines.proofs.CursorStates.{no_line_left}
 use Rattle.std.specs.Io.KnownBytes.{Appends}
 use Rattle.std.proofs.KnownBytes.{Appends-kept, Appends-trans}
 use Rattle.std.proofs.Math.Seq.{take-append-add}
@@ -28,10 +26,6 @@ use Rattle.sgf_lines.specs.declared.fault.RunFault.TheVariants.{NotSgf, Write, M
 -- no more lines than nodes
 pub lines_within : (c : Games) → length (lines c) ≤ node_count c
 lines_within c = omega (arith, (rises_parts 0 (map leaf_of (paths c)) (node_count c) (leaves_in_order c)).1, length-map (paths c) leaf_of, length-paths c)
-
--- all lines end before the end
-pub all_before : (c : Games) → lines_before c (node_count c) ≡ length (lines c)
-all_before c = no_line_left c (node_count c) (λ j le lt leaf. omega arith) ∙ length-paths c
 
 -- counts with the three numbers of a collection are its counts
 pub same_counts : (c : Games) (counts : Counts) → counts.games ≡ game_count c → counts.nodes ≡ node_count c → counts.lines ≡ length (lines c) → counts ≡ counts_of c

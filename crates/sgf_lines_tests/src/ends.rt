@@ -1,4 +1,5 @@
-//! Runs whose source gives little at a time and then fails, or whose sink takes little at a time and then fails.
+//! Runs whose source gives little at a time and then fails, or whose sink takes little at a time and then fails. A source that is asked for
+//! all at once.
 
 ghost use Rattle.std.specs.Prelude.{◌≡◌, ◌≤◌, None, []};
 

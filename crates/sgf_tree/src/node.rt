@@ -101,8 +101,9 @@ impl<'c, 'a> NodeRef<'c, 'a> {
     /// is known.
     ///
     /// The node is recognized only if its first property is as in `lone`, and if each property after it has a name of two capitals
-    /// and one value of at most 12 bytes, none of which is a `]` or a `\`. Nothing may stand between these parts. At least 17 bytes of
-    /// text must be left from the node's `;` on, and from the name of each property after the first.
+    /// and one value of at most 12 bytes, none of which is a `]` or a `\`. Nothing may stand between these parts. White space may
+    /// follow the last of them, unlike in `lone`. At least 17 bytes of text must be left from the node's `;` on, and from the name of
+    /// each property after the first.
     #[inline(always)]
     pub fn lead(&self, names: &[[u8; 2]]) -> Option<(u8, &'a [u8])>
         ensures { IfSome result (λ lone. IsLedBy names.now (lone_property lone.0 lone.1.now) self.now.properties) }

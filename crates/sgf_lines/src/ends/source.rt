@@ -33,8 +33,9 @@ pub trait Source {
     fn failures(&self) -> u64
         ensures { result ≡ (state self.now).failures };
 
-    /// Gives all bytes still to come at once, without a copy, if the source has them in memory and they are `most` at most.
-    /// Otherwise it returns None, and gives nothing: `get` gives the bytes then. None is always a right answer.
+    /// Gives all bytes still to come at once, without a copy, if the source has them in memory and they are at most `most` bytes. Then
+    /// the source is at its end. Otherwise it returns None, and is unchanged: `get` gives the bytes then. None is always a right
+    /// answer, and the only one of a source that has failed.
     fn give_rest(&mut self, most: usize) -> Option<&[u8]>
         ensures* rest { sem 𝓛 (Rests Self.row self.entry (λ new. GivesRest most (state self.old) (state new) result)) }
     {

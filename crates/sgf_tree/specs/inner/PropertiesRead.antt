@@ -27,7 +27,7 @@ pub record AreValuesEnded (text : List ℕ) (end : ℕ) (read : PartRead) : Type
   pub other : slice_index text read.end ≢ open_bracket
   pub written : IsTrue read.as_written → read.end ≡ end
 
--- a property of two capitals and one value of plain bytes begins at `at`, as in `BL[921.325]`; its `]` is at `close`
+-- a property of two capitals begins at `at`, as in `BL[921.325]`, and its first value has plain bytes; the `]` of this value is at `close`
 pub record IsShortProperty (text : List ℕ) (at close : ℕ) : Type 0 where
   pub first : IsTrue (is_upper (slice_index text at))
   pub second : IsTrue (is_upper (slice_index text (at + 1)))

@@ -39,8 +39,8 @@ fn are_others(text: &[u8], at: usize, names: &[[u8; 2]]) -> bool
     ends_node(text, end)
 }
 
-/// The end of the property whose name begins at `start`, if the name is two capitals and isn't among `names`, if the only value is
-/// short, and if the text goes on. If it is None, nothing is known.
+/// The end of the first value of the property whose name begins at `start`, if the name is two capitals and isn't among `names`, if this
+/// value is short, and if the text goes on. If it is None, nothing is known.
 #[inline(always)]
 fn other_property_end(text: &[u8], start: usize, names: &[[u8; 2]]) -> Option<usize>
     requires { start ≤ length text.now }

@@ -137,8 +137,8 @@ fn after_move(text: &[u8], at: usize) -> Option<PartRead>
     Some(PartRead { end, as_written })
 }
 
-/// The `]` of a property that begins at `at`, if its name is two capitals, it has one value of few plain bytes, and the text goes on.
-/// If it is None, nothing is known.
+/// The `]` of the first value of a property that begins at `at`, if its name is two capitals, this value has few plain bytes, and the
+/// text goes on. If it is None, nothing is known.
 #[inline(always)]
 pub(crate) fn near_property_close(text: &[u8], at: usize) -> Option<usize>
     requires { at ≤ length text.now }
