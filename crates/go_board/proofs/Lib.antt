@@ -35,6 +35,7 @@ pub mod ChangesLemmas
 pub mod ColumnLemmas
 pub mod ColouringsLemmas
 pub mod TableLemmas
+pub mod TrieLemmas
 pub mod StoneRowsLemmas
 pub mod GlanceLemmas
 pub mod TakenLemmas

@@ -11,5 +11,7 @@ pub mod Groups
 pub mod Earlier
 pub mod Print
 pub mod Changes
+pub mod Trie
+pub mod Key
 pub mod Table
 pub mod Emptied

@@ -5,7 +5,9 @@ mod colourings;
 mod list_past;
 pub(crate) mod print;
 mod print_past;
+mod key;
 mod table;
+mod trie;
 
 ghost use Rattle.std.specs.Prelude.{◌≡◌, ◌<◌, ◌↔◌, ◌∷◌, true, false, All, fold, length, IsTrue, IfOk, OnOk, OnErr, Contains};
 ghost use Rattle.go_board.specs.declared.stones.Cell.TheVariants.{Empty};

@@ -1,0 +1,41 @@
+-- What a colouring is looked up by, as a row of bits: the words of the stretch, of the print, and of each row of the board.
+use Rattle.std.specs.Prelude.{ℕ, zero, suc, ◌/◌, ◌%◌, Bool, ◌==◌, ◌&&◌, nat_lt, if◌then◌else◌, List, [], ◌∷◌, length}
+use Rattle.go_board.specs.declared.past.key.Key.{Key}
+use Rattle.go_board.specs.declared.stones.Cell.{Cell}
+use Rattle.go_board.specs.declared.stones.Cell.TheVariants.{Black, White}
+use Rattle.go_board.specs.Colour.{same_cell}
+use Rattle.go_board.specs.Grid.{Grid, cell_at}
+use Rattle.go_board.specs.Past.{Held}
+use Rattle.go_board.specs.inner.Print.{print_of}
+use Rattle.go_board.specs.inner.Rows.{has_bit}
+
+-- the point with this row and column has such a stone; outside of the grid there is none
+abbrev pub has_stone : Grid → Cell → ℕ → ℕ → Bool
+has_stone grid stone row col =
+    (nat_lt row grid.side && nat_lt col grid.side) && same_cell (cell_at grid (record { col = col; row = row })) stone
+
+-- a bit of a word of the key: word 0 is the start of the stretch, word 1 the print; then each row has a word for Black and one for White
+abbrev pub key_bit : ℕ → ℕ → Grid → ℕ → ℕ → Bool
+key_bit start print grid zero col = has_bit start col
+key_bit start print grid (suc zero) col = has_bit print col
+key_bit start print grid (suc (suc index)) col =
+    has_stone grid (if index % 2 == 0 then Black else White) (index / 2) col
+
+-- the key as a row of bits
+abbrev pub key_row : ℕ → ℕ → Grid → ℕ → Bool
+key_row start print grid place = key_bit start print grid (place / 64) (place % 64)
+
+-- the bits of a key as it is kept
+abbrev pub bits_of : Key → ℕ → Bool
+bits_of key = key_row key.start key.print key.board.now
+
+-- the number of the first colouring of the newest stretch of these colourings, newest first
+abbrev pub start_of : List Held → ℕ
+start_of [] = 0
+start_of (newest ∷ older) = if newest.begins then length older else start_of older
+
+-- the keys of past colourings, newest first
+abbrev pub keys_of : List Held → List (ℕ → Bool)
+keys_of [] = []
+keys_of (newest ∷ older) =
+    key_row (start_of (newest ∷ older)) (print_of newest.colouring) newest.colouring ∷ keys_of older
