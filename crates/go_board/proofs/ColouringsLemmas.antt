@@ -1,6 +1,6 @@
 -- Past colourings, as what is kept of them tells them.
 use Rattle.std.proofs.Common.{◌≡◌, ◌==◌, ℕ, zero, suc, ◌+◌, ◌-◌, ◌<◌, ◌≤◌, inl, inr, List, [], ◌∷◌, ◌++◌, Some, Bool, true, false, cond, length, get_or, map, take, drop, reverse, slice_range, refl, sym, ap, subst, ◌∙◌, arith, length-take, length-append, IsTrue}
-use Rattle.std.proofs.lemmas.List.{take_more, take_all, take_at, drop_at, drop-drop, take-take, reverse-append, length-reverse}
+use Rattle.std.proofs.lemmas.List.{take_more, take_all, take_at, drop_at, drop-drop, take-take, reverse-append, length-reverse, get_or-reverse}
 use Rattle.std.proofs.lemmas.List.Elements.{All-take, All-append}
 use Rattle.std.proofs.lemmas.Bool.{cases_lt}
 use Rattle.std.proofs.lemmas.Bool.Decides.{nat_tests}
@@ -11,6 +11,7 @@ use Rattle.go_board.specs.Grid.{Grid}
 use Rattle.go_board.specs.Clearing.{has_unreaching}
 use Rattle.go_board.specs.Past.{Held, PastColourings, all_of, stretch_of, with_next}
 use Rattle.go_board.specs.inner.Changes.{first_grid, after_changes, is_full, IsEndOf, IsChangeOn, MakeOne, before, changes_before, held_before, AreKept, AreCounted, AreOn, IsPast}
+use Rattle.go_board.specs.inner.Key.{start_of, since}
 use Rattle.go_board.proofs.ChangesLemmas.{after-side}
 
 -- a stretch has no more older colourings than there are
@@ -187,3 +188,65 @@ there-from newest older_in_stretch older changes held same kept number end count
           let up = there-all held older changes newest at (length older - number - 1) number one (omega arith) in
           (up.0, up.1, subst (λ e. IsThere held older changes number e up.0) (sym (ends.1 one lt)) up.2, λ is. absurd (omega (arith, lt, is))))
     ]
+
+-- The start of a stretch: as many numbers back as are counted.
+
+start-newest : (g : Grid) (older_in_stretch : ℕ) (os : List Older) (changes : List Change) → AreCounted older_in_stretch os → start_of (all_held g older_in_stretch os changes) ≡ length os - older_in_stretch
+start-newest g zero os changes h = length-held g os changes ∙ omega arith
+start-newest g (suc n) [] changes h = absurd (omega arith)
+start-newest g (suc n) (o ∷ os) changes h =
+    let one : suc n ≡ suc o.older_in_stretch = h.0 (omega arith) in
+    let goes_on : (suc n == 0) ≡ false = grind (arith, nat_tests) in
+    rw goes_on (start-newest (before g o changes) o.older_in_stretch os (changes_before o changes) h.1 ∙ omega (arith, one))
+
+-- the count of the colouring so many numbers back
+abbrev pub count_back : ℕ → List Older → ℕ → ℕ
+count_back older_in_stretch os zero = older_in_stretch
+count_back older_in_stretch [] (suc j) = 0
+count_back older_in_stretch (o ∷ os) (suc j) = count_back o.older_in_stretch os j
+
+count_back-le : (older_in_stretch : ℕ) (os : List Older) (j : ℕ) → AreCounted older_in_stretch os → j ≤ length os → count_back older_in_stretch os j ≤ length os - j
+count_back-le c os zero h le = omega (arith, counted-le c os h)
+count_back-le c [] (suc j) h le = omega arith
+count_back-le c (o ∷ os) (suc j) h le = omega (arith, count_back-le o.older_in_stretch os j h.1 (omega (arith, le)))
+
+count_back-get : (older_in_stretch : ℕ) (os : List Older) (j : ℕ) (d : Older) → j < length os → count_back older_in_stretch os (suc j) ≡ (get_or os j d).older_in_stretch
+count_back-get c [] j d h = absurd (omega (arith, h))
+count_back-get c (o ∷ os) zero d h = refl
+count_back-get c (o ∷ os) (suc j) d h = count_back-get o.older_in_stretch os j d (omega (arith, h))
+
+start-back : (g : Grid) (older_in_stretch : ℕ) (os : List Older) (changes : List Change) (j : ℕ) → AreCounted older_in_stretch os → j ≤ length os → start_of (drop j (all_held g older_in_stretch os changes)) ≡ length os - j - count_back older_in_stretch os j
+start-back g c os changes zero h le = let same : length os - c ≡ length os - 0 - c = omega arith in start-newest g c os changes h ∙ same
+start-back g c [] changes (suc j) h le = absurd (omega (arith, le))
+start-back g c (o ∷ os) changes (suc j) h le =
+    let same : length os - j - count_back o.older_in_stretch os j ≡ suc (length os) - suc j - count_back o.older_in_stretch os j = omega arith in
+    start-back (before g o changes) o.older_in_stretch os (changes_before o changes) j h.1 (omega (arith, le)) ∙ same
+
+-- the start of the stretch of a number, and that the count is no more than the number
+module _ (g : Grid) (older_in_stretch : ℕ) (older : List Older) (changes : List Change) (held : List Held) (same : all_held g older_in_stretch (reverse older) changes ≡ held) (counted : AreCounted older_in_stretch (reverse older)) (number : ℕ) where
+  start_back : (j : ℕ) → number + j ≡ length older → (count_back older_in_stretch (reverse older) j ≤ number) × (start_of (since number held) ≡ number - count_back older_in_stretch (reverse older) j)
+  start_back j at =
+      let os = reverse older in
+      let turned : length os ≡ length older = length-reverse older in
+      let all : length held ≡ length older + 1 = sym (ap (λ (hs : List Held). length hs) same) ∙ omega (arith, length-held g os changes, turned) in
+      let back : length held - 1 - number ≡ j = omega (arith, all, at) in
+      let is : length os - j - count_back older_in_stretch os j ≡ number - count_back older_in_stretch os j = omega (arith, turned, at) in
+      (
+        omega (arith, count_back-le older_in_stretch os j counted (omega (arith, turned, at)), turned, at),
+        ap (λ k. start_of (drop k held)) back ∙ ap (λ (hs : List Held). start_of (drop j hs)) (sym same) ∙ start-back g older_in_stretch os changes j counted (omega (arith, turned, at)) ∙ is,
+      )
+
+  pub start-of_newest : number ≡ length older → (older_in_stretch ≤ number) × (start_of (since number held) ≡ number - older_in_stretch)
+  start-of_newest is = start_back 0 (omega (arith, is))
+
+  pub start-of_older : (d : Older) → number < length older → ((get_or older number d).older_in_stretch ≤ number) × (start_of (since number held) ≡ number - (get_or older number d).older_in_stretch)
+  start-of_older d low =
+      let j = length older - 1 - number in
+      let turned : length (reverse older) ≡ length older = length-reverse older in
+      let back : length older - 1 - j ≡ number = omega (arith, low) in
+      let count : count_back older_in_stretch (reverse older) (suc j) ≡ (get_or older number d).older_in_stretch =
+          count_back-get older_in_stretch (reverse older) j d (omega (arith, low, turned))
+          ∙ ap (λ (o : Older). o.older_in_stretch) (get_or-reverse older j d (omega (arith, low)))
+          ∙ ap (λ k. (get_or older k d).older_in_stretch) back in
+      let found = start_back (suc j) (omega (arith, low)) in
+      (subst (λ k. k ≤ number) count found.0, found.1 ∙ ap (λ k. number - k) count)

@@ -36,6 +36,7 @@ pub mod ColumnLemmas
 pub mod ColouringsLemmas
 pub mod TableLemmas
 pub mod TrieLemmas
+pub mod KeyLemmas
 pub mod StoneRowsLemmas
 pub mod GlanceLemmas
 pub mod TakenLemmas

@@ -1,13 +1,10 @@
 -- The prints of past colourings.
-use Rattle.std.proofs.Common.{Bool, ◌≡◌, ◌≢◌, ℕ, zero, suc, ◌-◌, ◌<◌, ◌≤◌, false, List, [], ◌∷◌, Option, Some, None, length, get_or, map, take, drop, reverse, Contains, sym, ap, ◌∙◌, arith, ◌++◌}
+use Rattle.std.proofs.Common.{Bool, ◌≡◌, ◌≢◌, ℕ, zero, suc, ◌-◌, ◌<◌, ◌≤◌, false, List, [], ◌∷◌, Some, length, get_or, map, take, drop, reverse, Contains, sym, ap, ◌∙◌, arith, ◌++◌}
 use Rattle.std.proofs.lemmas.List.{get_or-reverse, reverse-append, length-reverse, length-map}
-use Rattle.std.specs.Option.{is_some}
-use Rattle.std.proofs.lemmas.Bool.{false≢true}
 use Rattle.go_board.specs.Grid.{Grid}
 use Rattle.go_board.specs.Past.{Held, PastColourings, all_of, stretch_of, with_next}
 use Rattle.go_board.specs.inner.Changes.{first_grid, IsNumber}
 use Rattle.go_board.specs.inner.Print.{print_of, prints_of}
-use Rattle.go_board.specs.inner.Table.{IsLastOf}
 
 -- the colouring at an index of the list, newest first
 abbrev pub IsAt : List Held → ℕ → Grid → Type 0
@@ -23,7 +20,7 @@ print-at (x ∷ xs) zero g h at = ap print_of (some_same x.colouring g at)
 print-at (x ∷ xs) (suc j) g h at = print-at xs j g (omega (arith, h)) at
 
 -- a colouring among the newest n is at one of these indices, and the other way round
-index-of : (n : ℕ) (held : List Held) (g : Grid) → Contains (map (λ (h : Held). h.colouring) (take n held)) g → (j : ℕ) × (j < n) × (j < length held) × IsAt held j g
+pub index-of : (n : ℕ) (held : List Held) (g : Grid) → Contains (map (λ (h : Held). h.colouring) (take n held)) g → (j : ℕ) × (j < n) × (j < length held) × IsAt held j g
 index-of zero held g c = absurd (omega (arith, c.1))
 index-of (suc n) [] g c = absurd (omega (arith, c.1))
 index-of (suc n) (x ∷ xs) g (zero, h, e) = (zero, omega arith, omega arith, ap (λ (c : Grid). Some c) e)
@@ -31,18 +28,13 @@ index-of (suc n) (x ∷ xs) g (suc k, h, e) =
     let rest = index-of n xs g (k, omega (arith, h), e) in
     (suc rest.0, omega (arith, rest.1), omega (arith, rest.2), rest.3)
 
-of-index : (n j : ℕ) (held : List Held) (g : Grid) → j < n → j < length held → IsAt held j g → Contains (map (λ (h : Held). h.colouring) (take n held)) g
+pub of-index : (n j : ℕ) (held : List Held) (g : Grid) → j < n → j < length held → IsAt held j g → Contains (map (λ (h : Held). h.colouring) (take n held)) g
 of-index zero j held g h l at = absurd (omega (arith, h))
 of-index (suc n) j [] g h l at = absurd (omega (arith, l))
 of-index (suc n) zero (x ∷ xs) g h l at = (zero, omega arith, some_same x.colouring g at)
 of-index (suc n) (suc j) (x ∷ xs) g h l at =
     let rest = of-index n j xs g (omega (arith, h)) (omega (arith, l)) at in
     (suc rest.0, omega (arith, rest.1), rest.2)
-
--- no print of a range is one of which the last wasn't found
-pub none_found : (prints : List ℕ) (print start end : ℕ) (found : Option ℕ) → IsLastOf prints print start end found → is_some found ≡ false → (y : ℕ) → start ≤ y → y < end → get_or prints y 0 ≢ print
-none_found prints print start end None last none = last
-none_found prints print start end (Some x) last none = absurd (false≢true (sym none))
 
 module _ (held : List Held) (prints : List ℕ) (kept : reverse prints ≡ prints_of held) where
   pub same_length : length prints ≡ length held
@@ -74,15 +66,6 @@ module _ (held : List Held) (prints : List ℕ) (kept : reverse prints ≡ print
       let y = length held - 1 - j in
       let turned : length held - 1 - y ≡ j = omega (arith, there.2) in
       never y (omega (arith, there.1, there.2)) (omega (arith, there.2)) (rw turned there.3)
-
-  -- where a look-up by its print finds none, the stretch doesn't have it
-  pub not_found : (start end print : ℕ) (g : Grid) (found : Option ℕ) → stretch_of held ≡ map (λ (h : Held). h.colouring) (take (length held - start) held) → end ≡ length prints
-      → IsLastOf prints print start end found → is_some found ≡ false → print ≡ print_of g → Contains (stretch_of held) g → ⊥
-  not_found start end print g found stretch all last none is =
-      unseen start g stretch
-      (λ y low high at.
-      let within : y < end = omega (arith, high, all, same_length) in
-      missing y print g is high (none_found prints print start end found last none y low within) at)
 
 -- the prints with one more
 pub printed-next : (past next : PastColourings) (prints more : List ℕ) (print : ℕ) (grid : Grid) (begins : Bool) → next ≡ with_next past grid begins → more ≡ prints ++ print ∷ [] → print ≡ print_of grid → reverse prints ≡ prints_of (all_of past) → reverse more ≡ prints_of (all_of next)

@@ -1,97 +1,384 @@
--- A table of prints: when none is linked, and once its newest prints are taken back.
-use Rattle.std.proofs.Common.{◌≡◌, ◌≢◌, ℕ, ◌+◌, ◌-◌, ◌<◌, ◌≤◌, List, [], ◌∷◌, ◌++◌, length, get_or, set, replicate, inl, inr, refl, sym, ap, ◌∙◌, arith, length-append, length-set, get_or-set_same, get_or-set_other}
-use Rattle.std.proofs.lemmas.List.{get_or_append_left, get_or_at, get_or-replicate, length-replicate}
-use Rattle.std.proofs.lemmas.Bool.{cases_eq}
-use Rattle.go_board.specs.inner.Table.{key_of, IsNewest, IsTable}
+-- The table by which colourings are looked up.
+use Rattle.std.proofs.Common.{◌≡◌, ◌≢◌, ◌==◌, ℕ, zero, suc, ◌+◌, ◌-◌, ◌*◌, ◌<◌, ◌≤◌, ◌^◌, Bool, true, false, if◌then◌else◌, List, [], ◌∷◌, ◌++◌, Some, length, length-take, get_or, map, take, drop, reverse, Contains, inl, inr, refl, sym, ap, subst, ◌∙◌, arith}
+use Rattle.std.specs.Vec.{vec_capacity}
+use Rattle.std.proofs.lemmas.Bool.{cases_lt, cases_eq, cases_Bool, ne_eqb, eq-eqb}
+use Rattle.std.proofs.lemmas.List.{drop-drop, length-drop, reverse-append, length-map}
+use Rattle.std.proofs.lemmas.Nat.{mod_below, pow_pos}
+use Rattle.go_board.specs.declared.past.key.TheConstants.{WIDTH}
+use Rattle.go_board.specs.declared.past.table.Table.{Table}
+use Rattle.go_board.specs.declared.past.trie.Node.{Node}
+use Rattle.go_board.specs.Grid.{Grid}
+use Rattle.go_board.specs.Past.{Held, PastColourings, all_of, stretch_of, AllHaveSide}
+use Rattle.go_board.specs.inner.Changes.{first_grid, IsNumber, HasNumber}
+use Rattle.go_board.specs.inner.Key.{key_row, start_of, since, oldest, keys_of}
+use Rattle.go_board.specs.inner.Print.{print_of, prints_of}
+use Rattle.go_board.specs.inner.Table.{IsTable}
+use Rattle.go_board.specs.inner.Trie.{Agree, IsTrie, IsTree, IsOnWay, IsNearest, IsParting, row_of, depth_of, kid_of, without_newest}
+use Rattle.go_board.proofs.KeyLemmas.{front_same, front_agrees, whole_same}
+use Rattle.go_board.proofs.PrintPastLemmas.{IsAt, index-of, of-index, same_length, print-number}
+use Rattle.go_board.proofs.TrieLemmas.{agree_self, agree_on, agree_back, agree_less, trie_tree, trie_length, row_first, row_before, way_equal, way_parts}
 
--- no print is linked yet
-pub table-unlinked : (heads prints : List ℕ) → 0 < length heads → ((k : ℕ) → k < length heads → get_or heads k 0 ≡ 0) → IsTable heads prints []
-table-unlinked heads prints some none = record {
-  some = some;
-  few = omega arith;
-  linked = record {
-    by_head = λ k h. rw (none k h) (record {
-      within = omega arith;
-      there = λ p. absurd (omega (arith, p));
-      newest = λ y low high e. absurd (omega (arith, high));
-    });
-    by_link = λ x h. absurd (omega (arith, h));
-  };
-}
+pub print-small : (grid : Grid) → print_of grid < 2 ^ 64
+print-small grid = mod_below _ (2 ^ 64) (pow_pos 64)
 
-pub table-zeros : (heads prints : List ℕ) (n : ℕ) → 0 < n → heads ≡ replicate n 0 → IsTable heads prints []
-table-zeros heads prints n some is =
-    let count : length heads ≡ n = ap (length {A = ℕ}) is ∙ length-replicate {A = ℕ} n 0 in
-    table-unlinked heads prints (omega (arith, some, count))
-    (λ k h. ap (λ xs. get_or xs k 0) is ∙ get_or-replicate n k 0 0 (omega (arith, h, count)))
+-- Starts of stretches.
 
--- what is said of the front of a list holds of the front alone
-newest-front : (size : ℕ) (ps rest : List ℕ) (n key number : ℕ) → n ≤ length ps → IsNewest size (ps ++ rest) n key number → IsNewest size ps n key number
-newest-front size ps rest n key number few is = record {
-  within = is.within;
-  there = λ some.
-      let in_front : number - 1 < length ps = omega (arith, is.within, some) in
-      ap (key_of size) (sym (get_or_append_left ps rest 0 (number - 1) in_front)) ∙ is.there some;
-  newest = λ y low high e.
-      let in_front : y < length ps = omega (arith, high) in
-      is.newest y low high (ap (key_of size) (get_or_append_left ps rest 0 y in_front) ∙ e);
-}
+stretch-length : (held : List Held) → length (stretch_of held) + start_of held ≡ length held
+stretch-length [] = refl
+stretch-length (x ∷ xs) = elim (cases_Bool x.begins) [
+  | inl first ↦ rw first (omega arith)
+  | inr later ↦ rw later (omega (arith, stretch-length xs))
+]
 
--- nor does the newest of a key go away with the last print if that has another key
-newest-other : (size : ℕ) (ps : List ℕ) (print key number : ℕ) → key_of size print ≢ key → IsNewest size (ps ++ print ∷ []) (length ps + 1) key number → IsNewest size ps (length ps) key number
-newest-other size ps print key number other is =
-    let last : get_or (ps ++ print ∷ []) (length ps) 0 ≡ print = get_or_at ps print [] 0 (length ps) refl in
-    let not_last : number ≢ length ps + 1 = λ e. other (ap (key_of size) (sym last) ∙ ap (λ k. key_of size (get_or (ps ++ print ∷ []) k 0)) (omega (arith, e)) ∙ is.there (omega (arith, e))) in
-    newest-front size ps (print ∷ []) (length ps) key number (omega arith) (record {
-      within = omega (arith, is.within, not_last);
-      there = is.there;
-      newest = λ y low high. is.newest y low (omega (arith, high));
-    })
+-- the start is that number from which on the list is the stretch
+pub start-is : (held : List Held) (start : ℕ) → start < length held → stretch_of held ≡ map (λ (h : Held). h.colouring) (take (length held - start) held) → start ≡ start_of held
+start-is held start low stretch =
+    let count : length (stretch_of held) ≡ length (take (length held - start) held) = ap (λ (gs : List Grid). length gs) stretch ∙ length-map (take (length held - start) held) (λ (h : Held). h.colouring) in
+    omega (arith, count, length-take (length held - start) held, stretch-length held, low)
 
--- prints that aren't linked can go
-pub table-front : (heads ps rest links : List ℕ) → length links ≤ length ps → IsTable heads (ps ++ rest) links → IsTable heads ps links
-table-front heads ps rest links few table =
-    let size = length heads in
-    record {
-      some = table.some;
-      few = few;
-      linked = record {
-        by_head = λ k h. newest-front size ps rest (length links) k (get_or heads k 0) few (table.linked.by_head k h);
-        by_link = λ x h.
-            let before : x < length ps = omega (arith, h, few) in
-            newest-front size ps rest x (key_of size (get_or ps x 0)) (get_or links x 0) (omega (arith, before))
-            (rw (get_or_append_left ps rest 0 x before) at (table.linked.by_link x h));
-      };
-    }
+start-low : (x : Held) (xs : List Held) → start_of (x ∷ xs) ≤ length xs
+start-low x xs = elim (cases_Bool x.begins) [
+  | inl first ↦ rw first (omega arith)
+  | inr later ↦ rw later (omega (arith, stretch-length xs))
+]
 
--- with its newest print a table loses the head of that key, whose place the link takes
-pub table-pop : (heads prints links ps ls : List ℕ) (print number : ℕ) → prints ≡ ps ++ print ∷ [] → links ≡ ls ++ number ∷ [] → length ls ≡ length ps → IsTable heads prints links → IsTable (set heads (key_of (length heads) print) number) ps ls
-table-pop heads prints links ps ls print number parts link_parts same_length whole =
-    let size = length heads in
-    let key = key_of size print in
-    let table : IsTable heads (ps ++ print ∷ []) (ls ++ number ∷ []) = rw (← parts, ← link_parts) whole in
-    let count : length (ls ++ number ∷ []) ≡ length ps + 1 = length-append ls (number ∷ []) ∙ ap (λ n. n + 1) same_length in
-    let last_print : get_or (ps ++ print ∷ []) (length ps) 0 ≡ print = get_or_at ps print [] 0 (length ps) refl in
-    let last_link : get_or (ls ++ number ∷ []) (length ps) 0 ≡ number = get_or_at ls number [] 0 (length ps) same_length in
-    let by_link = table.linked.by_link in
-    let by_head = table.linked.by_head in
-    record {
-      some = rw length-set table.some;
-      few = omega (arith, same_length);
-      linked = record {
-        by_head = λ k h.
-            let within : k < size = omega (arith, h, length-set heads key number) in
-            rw (length-set, same_length)
-            (elim (cases_eq k key) [
-              | inl e ↦ rw (e, get_or-set_same heads key number 0 (omega (arith, within, e)))
-                  (newest-front size ps (print ∷ []) (length ps) key number (omega arith) (rw (last_print, last_link) at (by_link (length ps) (omega (arith, count)))))
-              | inr other ↦ rw (get_or-set_other heads key k number 0 other)
-                  (newest-other size ps print k (get_or heads k 0) (λ e. other (sym e)) (rw count at (by_head k within)))
-            ]);
-        by_link = λ x h.
-            let before : x < length ps = omega (arith, h, same_length) in
-            rw length-set
-            (newest-front size ps (print ∷ []) x (key_of size (get_or ps x 0)) (get_or ls x 0) (omega (arith, before))
-            (rw (get_or_append_left ps (print ∷ []) 0 x before, get_or_append_left ls (number ∷ []) 0 x h) at (by_link x (omega (arith, before, count)))));
-      };
-    }
+-- the newest colouring is at its number, and so are the others
+since-newest : (x : Held) (xs : List Held) → since (length xs) (x ∷ xs) ≡ x ∷ xs
+since-newest x xs = let none : suc (length xs) - 1 - length xs ≡ 0 = omega arith in ap (λ n. drop n (x ∷ xs)) none
+
+since-older : (number : ℕ) (x : Held) (xs : List Held) → number < length xs → since number (x ∷ xs) ≡ since number xs
+since-older number x xs low = let next : suc (length xs) - 1 - number ≡ suc (length xs - 1 - number) = omega (arith, low) in ap (λ n. drop n (x ∷ xs)) next
+
+-- a number of the present stretch has its start
+pub start-since : (held : List Held) (number : ℕ) → start_of held ≤ number → number < length held → start_of (since number held) ≡ start_of held
+start-since [] number low high = absurd (omega (arith, high))
+start-since (x ∷ xs) number low high = elim (cases_lt number (length xs)) [
+  | inr newest ↦ let at : number ≡ length xs = omega (arith, high, newest) in ap (λ n. start_of (since n (x ∷ xs))) at ∙ ap start_of (since-newest x xs)
+  | inl older ↦ ap start_of (since-older number x xs older) ∙ elim (cases_Bool x.begins) [
+    | inl first ↦ absurd (omega (arith, older, subst (λ (t : Bool). (if t then length xs else start_of xs) ≤ number) first low))
+    | inr later ↦ start-since xs number (subst (λ (t : Bool). (if t then length xs else start_of xs) ≤ number) later low) older ∙ ap (λ (t : Bool). if t then length xs else start_of xs) (sym later)
+  ]
+]
+
+-- the start of a number is no more than it
+pub start-before : (held : List Held) (number : ℕ) → number < length held → start_of (since number held) ≤ number
+start-before [] number high = absurd (omega (arith, high))
+start-before (x ∷ xs) number high = elim (cases_lt number (length xs)) [
+  | inr newest ↦
+      let at : number ≡ length xs = omega (arith, high, newest) in
+      subst (λ n. start_of (since n (x ∷ xs)) ≤ n) (sym at) (subst (λ (hs : List Held). start_of hs ≤ length xs) (sym (since-newest x xs)) (start-low x xs))
+  | inl older ↦ subst (λ (hs : List Held). start_of hs ≤ number) (sym (since-older number x xs older)) (start-before xs number older)
+]
+
+-- Keys of numbers.
+
+length-keys : (held : List Held) → length (keys_of held) ≡ length held
+length-keys [] = refl
+length-keys (x ∷ xs) = ap suc (length-keys xs)
+
+some_grid : (a b : Grid) → Some a ≡ Some b → a ≡ b
+some_grid a b e = cc
+
+-- each number has a colouring
+pub number_there : (held : List Held) (number : ℕ) → number < length held → (g : Grid) × IsNumber held number g
+number_there [] number low = absurd (omega (arith, low))
+number_there (x ∷ xs) number low = elim (cases_lt number (length xs)) [
+  | inr newest ↦ let at : number ≡ length xs = omega (arith, low, newest) in (x.colouring, ap (λ n. first_grid (since n (x ∷ xs))) at ∙ ap first_grid (since-newest x xs))
+  | inl older ↦ let there = number_there xs number older in (there.0, ap first_grid (since-older number x xs older) ∙ there.1)
+]
+
+key_of : (held : List Held) (number : ℕ) (g : Grid) → number < length held → IsNumber held number g → row_of (keys_of held) number ≡ key_row (start_of (since number held)) (print_of g) g
+key_of [] number g low is = absurd (omega (arith, low))
+key_of (x ∷ xs) number g low is = elim (cases_lt number (length xs)) [
+  | inr newest ↦
+      let at : number ≡ length xs = omega (arith, low, newest) in
+      let one : x.colouring ≡ g = some_grid x.colouring g (sym (ap (λ n. first_grid (since n (x ∷ xs))) at ∙ ap first_grid (since-newest x xs)) ∙ is) in
+      row_first (key_row (start_of (x ∷ xs)) (print_of x.colouring) x.colouring) (keys_of xs) number (omega (arith, at, length-keys xs))
+      ∙ ap (λ (y : Grid). key_row (start_of (x ∷ xs)) (print_of y) y) one
+      ∙ ap (λ n. key_row n (print_of g) g) (sym (ap (λ n. start_of (since n (x ∷ xs))) at ∙ ap start_of (since-newest x xs)))
+  | inl older ↦
+      row_before (key_row (start_of (x ∷ xs)) (print_of x.colouring) x.colouring) (keys_of xs) number (omega (arith, older, length-keys xs))
+      ∙ key_of xs number g older (sym (ap first_grid (since-older number x xs older)) ∙ is)
+      ∙ ap (λ n. key_row n (print_of g) g) (sym (ap start_of (since-older number x xs older)))
+]
+
+length-oldest : (count : ℕ) (held : List Held) → count ≤ length held → length (oldest count held) ≡ count
+length-oldest count held le = length-drop (length held - count) held ∙ omega (arith, le)
+
+since-oldest : (count number : ℕ) (held : List Held) → count ≤ length held → number < count → since number (oldest count held) ≡ since number held
+since-oldest count number held le low =
+    let all = length-oldest count held le in
+    let sum : length held - count + (length (oldest count held) - 1 - number) ≡ length held - 1 - number = omega (arith, all, le, low) in
+    drop-drop (length (oldest count held) - 1 - number) (length held - count) held ∙ ap (λ n. drop n held) sum
+
+-- the key of a number in the trie
+pub linked_key : (count : ℕ) (held : List Held) (number : ℕ) (g : Grid) → count ≤ length held → number < count → IsNumber held number g
+    → row_of (keys_of (oldest count held)) number ≡ key_row (start_of (since number held)) (print_of g) g
+linked_key count held number g le low is =
+    let same = since-oldest count number held le low in
+    key_of (oldest count held) number g (omega (arith, low, length-oldest count held le)) (ap first_grid same ∙ is)
+    ∙ ap (λ (hs : List Held). key_row (start_of hs) (print_of g) g) same
+
+drop-one : (n : ℕ) (held : List Held) (first : Held) (rest : List Held) → drop n held ≡ first ∷ rest → drop (suc n) held ≡ rest
+drop-one zero [] first rest is = cc
+drop-one zero (x ∷ xs) first rest is = cc
+drop-one (suc n) [] first rest is = cc
+drop-one (suc n) (x ∷ xs) first rest is = drop-one n xs first rest is
+
+-- one more of the oldest colourings
+pub oldest-next : (count : ℕ) (held : List Held) (g : Grid) → count < length held → IsNumber held count g
+    → keys_of (oldest (count + 1) held) ≡ key_row (start_of (since count held)) (print_of g) g ∷ keys_of (oldest count held)
+oldest-next count held g low is =
+    let n = length held - 1 - count in
+    let here : length held - (count + 1) ≡ n = omega (arith, low) in
+    let below : length held - count ≡ suc n = omega (arith, low) in
+    ap (λ m. keys_of (drop m held)) here
+    ∙ parts (drop n held) refl is
+    ∙ ap (λ m. key_row (start_of (drop n held)) (print_of g) g ∷ keys_of (drop m held)) (sym below)
+  where
+    parts : (hs : List Held) → drop (length held - 1 - count) held ≡ hs → first_grid hs ≡ Some g → keys_of hs ≡ key_row (start_of hs) (print_of g) g ∷ keys_of (drop (suc (length held - 1 - count)) held)
+    parts [] at one = cc
+    parts (x ∷ xs) at one =
+        let same : x.colouring ≡ g = some_grid x.colouring g one in
+        ap (λ (y : Grid). key_row (start_of (x ∷ xs)) (print_of y) y ∷ keys_of xs) same
+        ∙ ap (λ (hs : List Held). key_row (start_of (x ∷ xs)) (print_of g) g ∷ keys_of hs) (sym (drop-one (length held - 1 - count) held x xs at))
+
+-- What a table of these colourings tells.
+module _ (held : List Held) (table : Table) (is : IsTable held table) where
+  pub tabled : length table.prints.items ≡ length held
+  tabled = same_length held table.prints.items is.printed
+
+  pub linked_few : length table.nodes.items ≤ length held
+  linked_few = omega (arith, is.few, tabled)
+
+  pub few_nodes : length table.nodes.items < 2 ^ 32
+  few_nodes = omega (arith, is.few, is.room, is.most)
+
+  -- a number's print
+  pub print_there : (number : ℕ) (g : Grid) → number < length held → IsNumber held number g → get_or table.prints.items number 0 ≡ print_of g
+  print_there number g low at = print-number held table.prints.items is.printed number g low at
+
+  -- the trie of the colourings that are in it
+  abbrev pub linked_rows : List (ℕ → Bool)
+  linked_rows = keys_of (oldest (length table.nodes.items) held)
+
+  abbrev pub WayTo : (ℕ → Bool) → ℕ → ℕ → Bool → Type 0
+  WayTo key end node side = IsOnWay (length table.nodes.items) (row_of linked_rows) (depth_of table.nodes.items) key end node side
+
+  abbrev pub Stops : ℕ → ℕ → Bool → Type 0
+  Stops end node side = depth_of table.nodes.items node < depth_of table.nodes.items (kid_of table.nodes.items node side) → end < depth_of table.nodes.items (kid_of table.nodes.items node side)
+
+  module _ (some : 0 < length table.nodes.items) where
+    tree : IsTree WIDTH (length table.nodes.items) (row_of linked_rows) (depth_of table.nodes.items) (kid_of table.nodes.items)
+    tree = trie_tree linked_rows table.nodes.items is.linked some
+
+    pub near_low : {key : ℕ → Bool} {end node : ℕ} {side : Bool} → WayTo key end node side → kid_of table.nodes.items node side < length table.nodes.items
+    near_low {key} {end} {node} {side} way = (tree.kids node side way.slot).there
+
+    -- If a colouring in the trie has that start and print, so has the one where the walk by these bits ends.
+    pub front_near : (start print node number : ℕ) (side : Bool) (key : ℕ → Bool) (any grid : Grid) → key ≡ key_row start print any → start < 2 ^ 64 → print < 2 ^ 64
+        → WayTo key 128 node side → Stops 128 node side
+        → number < length table.nodes.items → IsNumber held number grid → start_of (since number held) ≡ start → print_of grid ≡ print
+        → (start ≤ kid_of table.nodes.items node side) × (get_or table.prints.items (kid_of table.nodes.items node side) 0 ≡ print)
+    front_near start print node number side key any grid is_key start_small print_fits way stop low at same_start same_print =
+        let near = kid_of table.nodes.items node side in
+        let near_in : near < length table.nodes.items = near_low way in
+        let there = number_there held near (omega (arith, near_in, linked_few)) in
+        let grid' = there.0 in
+        let start' = start_of (since near held) in
+        let number_key = linked_key (length table.nodes.items) held number grid linked_few low at in
+        let near_key = linked_key (length table.nodes.items) held near grid' linked_few near_in there.1 in
+        let agrees : Agree (row_of linked_rows number) key 128 = subst (λ x. Agree x key 128) (sym number_key) (subst (λ x. Agree (key_row (start_of (since number held)) (print_of grid) grid) x 128) (sym is_key)
+            (front_agrees (start_of (since number held)) start (print_of grid) print grid any same_start same_print)) in
+        let found : Agree (row_of linked_rows near) key 128 = way_equal tree way stop (omega arith) number low agrees in
+        let front : Agree (key_row start' (print_of grid') grid') (key_row start print any) 128 = subst (λ x. Agree x (key_row start print any) 128) near_key (subst (λ x. Agree (row_of linked_rows near) x 128) is_key found) in
+        let before : start' ≤ near = start-before held near (omega (arith, near_in, linked_few)) in
+        let same = front_same start' start (print_of grid') print grid' any (omega (arith, before, near_in, few_nodes)) start_small (print-small grid') print_fits front in
+        (omega (arith, before, same.0), print_there near grid' (omega (arith, near_in, linked_few)) there.1 ∙ same.1)
+
+    -- If a colouring in the trie has these bits, so has the one where the walk by all of them ends.
+    pub whole_near : (start print node number : ℕ) (side : Bool) (key : ℕ → Bool) (grid grid' : Grid) → key ≡ key_row start print grid → start < 2 ^ 64 → print < 2 ^ 64
+        → WayTo key WIDTH node side → Stops WIDTH node side
+        → number < length table.nodes.items → IsNumber held number grid → start_of (since number held) ≡ start → print_of grid ≡ print
+        → IsNumber held (kid_of table.nodes.items node side) grid'
+        → grid.side ≡ grid'.side → grid.side ≤ 52 → length grid.cells ≡ grid.side * grid.side → length grid'.cells ≡ grid'.side * grid'.side
+        → grid ≡ grid'
+    whole_near start print node number side key grid grid' is_key start_small print_fits way stop low at same_start same_print near_at one_side few all all' =
+        let near = kid_of table.nodes.items node side in
+        let near_in : near < length table.nodes.items = near_low way in
+        let number_key = linked_key (length table.nodes.items) held number grid linked_few low at in
+        let near_key = linked_key (length table.nodes.items) held near grid' linked_few near_in near_at in
+        let same_key : row_of linked_rows number ≡ key = number_key ∙ ap (λ n. key_row n (print_of grid) grid) same_start ∙ ap (λ n. key_row start n grid) same_print ∙ sym is_key in
+        let found : Agree (row_of linked_rows near) key WIDTH = way_equal tree way stop (omega arith) number low (subst (λ x. Agree (row_of linked_rows number) x WIDTH) same_key (agree_self (row_of linked_rows number) WIDTH)) in
+        whole_same start (start_of (since near held)) print (print_of grid') grid grid' one_side few all all'
+        (agree_back (subst (λ x. Agree x (key_row start print grid) WIDTH) near_key (subst (λ x. Agree (row_of linked_rows near) x WIDTH) is_key found)))
+
+    -- Where the next colouring parts, if its start or its print parts it from the one where the walk by these ends.
+    pub front_parts : (start print node place start' print' : ℕ) (side : Bool) (key other : ℕ → Bool) (any any' grid : Grid) → key ≡ key_row start print any → other ≡ key_row start' print' any'
+        → WayTo key 128 node side → Stops 128 node side
+        → start' ≡ start_of (since (kid_of table.nodes.items node side) held) → print' ≡ get_or table.prints.items (kid_of table.nodes.items node side) 0
+        → place < 128 → Agree key other place → key place ≢ other place
+        → Agree key (key_row start print grid) (place + 1) × IsParting (length table.nodes.items) (row_of linked_rows) (key_row start print grid) (kid_of table.nodes.items node side) place
+    front_parts start print node place start' print' side key other any any' grid is_key is_other way stop same_start same_print low same differ =
+        let near = kid_of table.nodes.items node side in
+        let near_in : near < length table.nodes.items = near_low way in
+        let there = number_there held near (omega (arith, near_in, linked_few)) in
+        let near_key = linked_key (length table.nodes.items) held near there.0 linked_few near_in there.1 in
+        let printed = print_there near there.0 (omega (arith, near_in, linked_few)) there.1 in
+        let row = key_row start print grid in
+        let as_row : Agree key row 128 = subst (λ x. Agree x row 128) (sym is_key) (front_agrees start start print print any grid refl refl) in
+        let as_near : Agree other (row_of linked_rows near) 128 = subst (λ x. Agree x (row_of linked_rows near) 128) (sym is_other) (subst (λ x. Agree (key_row start' print' any') x 128) (sym near_key)
+            (front_agrees start' (start_of (since near held)) print' (print_of there.0) any' there.0 same_start (same_print ∙ printed))) in
+        let parting = way_parts tree place way stop (omega arith) low (agree_back (agree_on same (agree_less place (omega (arith, low)) as_near))) (λ e. differ (sym e ∙ sym (as_near.each place low))) in
+        (agree_less (place + 1) (omega (arith, low)) as_row, record {
+          there = parting.there;
+          same = agree_on parting.same (agree_less place (omega (arith, low)) as_row);
+          differ = λ e. parting.differ (e ∙ sym (as_row.each place low));
+          best = λ j h a. parting.best j h (agree_on a (agree_back (agree_less (place + 1) (omega (arith, low)) as_row)));
+        })
+
+-- the same by what a walk found
+module _ (held : List Held) (table : Table) (is : IsTable held table) (some : 0 < length table.nodes.items) (key : ℕ → Bool) (near : ℕ) where
+  abbrev pub Nearest : ℕ → Type 0
+  Nearest end = IsNearest (linked_rows held table is) table.nodes.items key end near
+
+  pub nearest_front : Nearest 128 → (start print number : ℕ) (any grid : Grid) → key ≡ key_row start print any → start < 2 ^ 64 → print < 2 ^ 64
+      → number < length table.nodes.items → IsNumber held number grid → start_of (since number held) ≡ start → print_of grid ≡ print
+      → (start ≤ near) × (get_or table.prints.items near 0 ≡ print)
+  nearest_front n start print number any grid is_key small fits low at same_start same_print =
+      subst (λ x. (start ≤ x) × (get_or table.prints.items x 0 ≡ print)) (sym n.names)
+      (front_near held table is some start print n.node number n.side key any grid is_key small fits n.way n.stop low at same_start same_print)
+
+  pub nearest_whole : Nearest WIDTH → (start print number : ℕ) (grid grid' : Grid) → key ≡ key_row start print grid → start < 2 ^ 64 → print < 2 ^ 64
+      → number < length table.nodes.items → IsNumber held number grid → start_of (since number held) ≡ start → print_of grid ≡ print → IsNumber held near grid'
+      → grid.side ≡ grid'.side → grid.side ≤ 52 → length grid.cells ≡ grid.side * grid.side → length grid'.cells ≡ grid'.side * grid'.side → grid ≡ grid'
+  nearest_whole n start print number grid grid' is_key small fits low at same_start same_print near_at one_side few all all' =
+      whole_near held table is some start print n.node number n.side key grid grid' is_key small fits n.way n.stop low at same_start same_print (subst (λ x. IsNumber held x grid') n.names near_at) one_side few all all'
+
+  -- its start is that of the one that has these bits, if any has them
+  pub nearest_start : Nearest WIDTH → (start print number : ℕ) (grid : Grid) → key ≡ key_row start print grid → start < 2 ^ 64 → print < 2 ^ 64
+      → number < length table.nodes.items → IsNumber held number grid → start_of (since number held) ≡ start → print_of grid ≡ print → start ≤ near
+  nearest_start n start print number grid is_key small fits low at same_start same_print =
+      let near_in : near < length table.nodes.items = subst (λ x. x < length table.nodes.items) (sym n.names) (near_low held table is some n.way) in
+      let there = number_there held near (omega (arith, near_in, linked_few held table is)) in
+      let number_key = linked_key (length table.nodes.items) held number grid (linked_few held table is) low at in
+      let near_key = linked_key (length table.nodes.items) held near there.0 (linked_few held table is) near_in there.1 in
+      let same_key : row_of (linked_rows held table is) number ≡ key = number_key ∙ ap (λ m. key_row m (print_of grid) grid) same_start ∙ ap (λ m. key_row start m grid) same_print ∙ sym is_key in
+      let found : Agree (row_of (linked_rows held table is) near) key WIDTH = subst (λ x. Agree (row_of (linked_rows held table is) x) key WIDTH) (sym n.names)
+          (way_equal (tree held table is some) n.way n.stop (omega arith) number low (subst (λ x. Agree (row_of (linked_rows held table is) number) x WIDTH) same_key (agree_self (row_of (linked_rows held table is) number) WIDTH))) in
+      let front : Agree (key_row (start_of (since near held)) (print_of there.0) there.0) (key_row start print grid) 128 =
+          agree_less 128 (omega arith) (subst (λ x. Agree x (key_row start print grid) WIDTH) near_key (subst (λ x. Agree (row_of (linked_rows held table is) near) x WIDTH) is_key found)) in
+      let before = start-before held near (omega (arith, near_in, linked_few held table is)) in
+      let same = front_same (start_of (since near held)) start (print_of there.0) print there.0 grid (omega (arith, before, near_in, few_nodes held table is)) small (print-small there.0) fits front in
+      omega (arith, before, same.0)
+
+  pub nearest_parts : Nearest 128 → (start print place start' print' : ℕ) (other : ℕ → Bool) (any any' grid : Grid) → key ≡ key_row start print any → other ≡ key_row start' print' any'
+      → start' ≡ start_of (since near held) → print' ≡ get_or table.prints.items near 0 → place < 128 → Agree key other place → key place ≢ other place
+      → Agree key (key_row start print grid) (place + 1) × IsParting (length table.nodes.items) (row_of (linked_rows held table is)) (key_row start print grid) near place
+  nearest_parts n start print place start' print' other any any' grid is_key is_other same_start same_print low same differ =
+      subst (λ x. Agree key (key_row start print grid) (place + 1) × IsParting (length table.nodes.items) (row_of (linked_rows held table is)) (key_row start print grid) x place) (sym n.names)
+      (front_parts held table is some start print n.node place start' print' n.side key other any any' grid is_key is_other n.way n.stop
+      (subst (λ x. start' ≡ start_of (since x held)) n.names same_start) (subst (λ x. print' ≡ get_or table.prints.items x 0) n.names same_print) low same differ)
+
+  -- where it parts by all bits
+  pub nearest_parts_whole : Nearest WIDTH → (start' print' place : ℕ) (other : ℕ → Bool) (grid' : Grid) → other ≡ key_row start' print' grid' → IsNumber held near grid'
+      → start' ≡ start_of (since near held) → print' ≡ get_or table.prints.items near 0 → place < WIDTH → Agree key other place → key place ≢ other place
+      → IsParting (length table.nodes.items) (row_of (linked_rows held table is)) key near place
+  nearest_parts_whole n start' print' place other grid' is_other at same_start same_print low same differ =
+      let near_key : row_of (linked_rows held table is) near ≡ other = nearest_key start' print' other grid' is_other at same_start same_print (subst (λ x. x < length table.nodes.items) (sym n.names) (near_low held table is some n.way)) in
+      let as_near = ap (row_of (linked_rows held table is)) n.names in
+      let one : row_of (linked_rows held table is) (kid_of table.nodes.items n.node n.side) ≡ other = sym as_near ∙ near_key in
+      subst (λ x. IsParting (length table.nodes.items) (row_of (linked_rows held table is)) key x place) (sym n.names)
+      (way_parts (tree held table is some) place n.way n.stop (omega arith) low (subst (λ x. Agree x key place) (sym one) (agree_back same)) (subst (λ (x : ℕ → Bool). x place ≢ key place) (sym one) (λ e. differ (sym e))))
+    where
+      nearest_key : (start' print' : ℕ) (other : ℕ → Bool) (grid' : Grid) → other ≡ key_row start' print' grid' → IsNumber held near grid'
+          → start' ≡ start_of (since near held) → print' ≡ get_or table.prints.items near 0 → near < length table.nodes.items → row_of (linked_rows held table is) near ≡ other
+      nearest_key start' print' other grid' is_other at same_start same_print low =
+          linked_key (length table.nodes.items) held near grid' (linked_few held table is) low at
+          ∙ ap (λ n. key_row n (print_of grid') grid') (sym same_start)
+          ∙ ap (λ n. key_row start' n grid') (sym (same_print ∙ print_there held table is near grid' (omega (arith, low, linked_few held table is)) at))
+          ∙ sym is_other
+
+  -- and if it parts nowhere, it is the same
+  pub nearest_same : Nearest WIDTH → (start' print' : ℕ) (other : ℕ → Bool) (grid' : Grid) → other ≡ key_row start' print' grid' → IsNumber held near grid'
+      → start' ≡ start_of (since near held) → print' ≡ get_or table.prints.items near 0 → near < length table.nodes.items → Agree key other WIDTH → Agree (row_of (linked_rows held table is) near) key WIDTH
+  nearest_same n start' print' other grid' is_other at same_start same_print low same =
+      let near_key : row_of (linked_rows held table is) near ≡ other =
+          linked_key (length table.nodes.items) held near grid' (linked_few held table is) low at
+          ∙ ap (λ n. key_row n (print_of grid') grid') (sym same_start)
+          ∙ ap (λ n. key_row start' n grid') (sym (same_print ∙ print_there held table is near grid' (omega (arith, low, linked_few held table is)) at))
+          ∙ sym is_other in
+      subst (λ x. Agree x key WIDTH) (sym near_key) (agree_back same)
+
+-- one colouring more in the trie
+pub linked_next : (held : List Held) (count : ℕ) (g : Grid) (start print : ℕ) (nodes : List Node) → count < length held → IsNumber held count g → start ≡ start_of (since count held) → print ≡ print_of g
+    → IsTrie WIDTH (key_row start print g ∷ keys_of (oldest count held)) nodes → (length nodes ≡ count + 1) × IsTrie WIDTH (keys_of (oldest (length nodes) held)) nodes
+linked_next held count g start print nodes low at is_start is_print trie =
+    let all : length nodes ≡ count + 1 = trie.0 ∙ omega (arith, length-keys (oldest count held), length-oldest count held (omega (arith, low))) in
+    let rows : key_row start print g ∷ keys_of (oldest count held) ≡ keys_of (oldest (length nodes) held) =
+        ap (λ n. key_row n print g ∷ keys_of (oldest count held)) is_start ∙ ap (λ n. key_row (start_of (since count held)) n g ∷ keys_of (oldest count held)) is_print
+        ∙ sym (oldest-next count held g low at) ∙ ap (λ n. keys_of (oldest n held)) (sym all) in
+    (all, subst (λ (xs : List (ℕ → Bool)). IsTrie WIDTH xs nodes) rows trie)
+
+pub linked_first : (held : List Held) (g : Grid) (nodes : List Node) → 0 < length held → IsNumber held 0 g
+    → IsTrie WIDTH (key_row (start_of (since 0 held)) (print_of g) g ∷ []) nodes → (length nodes ≡ 1) × IsTrie WIDTH (keys_of (oldest (length nodes) held)) nodes
+linked_first held g nodes low at trie =
+    let none : oldest 0 held ≡ [] = empty (oldest 0 held) (length-oldest 0 held (omega arith)) in
+    let next = linked_next held 0 g (start_of (since 0 held)) (print_of g) nodes low at refl refl
+        (subst (λ (hs : List Held). IsTrie WIDTH (key_row (start_of (since 0 held)) (print_of g) g ∷ keys_of hs) nodes) (sym none) trie) in
+    (omega (arith, next.0), next.1)
+  where
+    empty : (hs : List Held) → length hs ≡ 0 → hs ≡ []
+    empty [] e = refl
+    empty (x ∷ xs) e = absurd (omega (arith, e))
+
+-- The trie of one colouring more, and of one less.
+
+pub oldest-same : (count : ℕ) (x : Held) (xs : List Held) → count ≤ length xs → oldest count (x ∷ xs) ≡ oldest count xs
+oldest-same count x xs le = let next : suc (length xs) - count ≡ suc (length xs - count) = omega (arith, le) in ap (λ n. drop n (x ∷ xs)) next
+
+oldest-all : (held : List Held) (count : ℕ) → count ≡ length held → oldest count held ≡ held
+oldest-all held count e = let none : length held - count ≡ 0 = omega (arith, e) in ap (λ n. drop n held) none
+
+pub linked_none : (held : List Held) → IsTrie WIDTH (keys_of (oldest 0 held)) []
+linked_none held = none (oldest 0 held) (length-oldest 0 held (omega arith))
+  where
+    none : (hs : List Held) → length hs ≡ 0 → IsTrie WIDTH (keys_of hs) []
+    none [] e = refl
+    none (x ∷ xs) e = absurd (omega (arith, e))
+
+pub linked_back : (x : Held) (xs : List Held) (nodes : List Node) → length nodes ≡ length xs + 1 → IsTrie WIDTH (keys_of (oldest (length nodes) (x ∷ xs))) nodes
+    → (length (without_newest nodes) ≡ length xs) × IsTrie WIDTH (keys_of (oldest (length (without_newest nodes)) xs)) (without_newest nodes)
+linked_back x xs nodes all trie =
+    let whole : oldest (length nodes) (x ∷ xs) ≡ x ∷ xs = oldest-all (x ∷ xs) (length nodes) (omega (arith, all)) in
+    let rest : IsTrie WIDTH (keys_of xs) (without_newest nodes) = (subst (λ (hs : List Held). IsTrie WIDTH (keys_of hs) nodes) whole trie).3 in
+    let count : length (without_newest nodes) ≡ length xs = trie_length WIDTH (keys_of xs) (without_newest nodes) rest ∙ length-keys xs in
+    (count, subst (λ (hs : List Held). IsTrie WIDTH (keys_of hs) (without_newest nodes)) (sym (oldest-all xs (length (without_newest nodes)) count)) rest)
+
+-- each colouring has the side
+pub side-number : (side : ℕ) (held : List Held) → AllHaveSide side held → (number : ℕ) (g : Grid) → number < length held → IsNumber held number g → g.side ≡ side
+side-number side [] all number g low at = absurd (omega (arith, low))
+side-number side (x ∷ xs) all number g low at = elim (cases_lt number (length xs)) [
+  | inr newest ↦
+      let e : number ≡ length xs = omega (arith, low, newest) in
+      let one : x.colouring ≡ g = some_grid x.colouring g (sym (ap (λ n. first_grid (since n (x ∷ xs))) e ∙ ap first_grid (since-newest x xs)) ∙ at) in
+      ap (λ (y : Grid). y.side) (sym one) ∙ all.0
+  | inl older ↦ side-number side xs all.1 number g older (sym (ap first_grid (since-older number x xs older)) ∙ at)
+]
+
+-- a colouring of the present stretch has a number in it
+pub has_number : (held : List Held) (start : ℕ) (g : Grid) → stretch_of held ≡ map (λ (h : Held). h.colouring) (take (length held - start) held) → Contains (stretch_of held) g → HasNumber held (λ number. start ≤ number) g
+has_number held start g stretch has =
+    let there = index-of (length held - start) held g (subst (λ (gs : List Grid). Contains gs g) stretch has) in
+    let number = length held - 1 - there.0 in
+    let turned : length held - 1 - number ≡ there.0 = omega (arith, there.2) in
+    (number, omega (arith, there.2), omega (arith, there.1, there.2), ap (λ n. first_grid (drop n held)) turned ∙ there.3)
+
+pub has_colouring : (held : List Held) (start : ℕ) (g : Grid) → stretch_of held ≡ map (λ (h : Held). h.colouring) (take (length held - start) held) → HasNumber held (λ number. start ≤ number) g → Contains (stretch_of held) g
+has_colouring held start g stretch has =
+    subst (λ (gs : List Grid). Contains gs g) (sym stretch) (of-index (length held - start) (length held - 1 - has.0) held g (omega (arith, has.1, has.2)) (omega (arith, has.1)) has.3)
+
+pub printed_back : (prints left : List ℕ) (last : ℕ) (newest : Held) (older : List Held) → prints ≡ left ++ last ∷ [] → reverse prints ≡ prints_of (newest ∷ older) → reverse left ≡ prints_of older
+printed_back prints left last newest older parts printed =
+    let turned : ◌≡◌ {A = List ℕ} (last ∷ reverse left) (print_of newest.colouring ∷ prints_of older) = sym (reverse-append left (last ∷ [])) ∙ ap (λ (xs : List ℕ). reverse xs) (sym parts) ∙ printed in
+    cc

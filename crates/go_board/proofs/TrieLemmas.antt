@@ -131,10 +131,10 @@ module _ {w n : ℕ} {b : ℕ → ℕ → Bool} {d : ℕ → ℕ} {k : ℕ → B
 
   -- where a walk ends, an item that is as the key is as what the slot names
   pub way_equal : {key : ℕ → Bool} {end i : ℕ} {s : Bool} → IsOnWay n b d key end i s → (d i < d (k i s) → end < d (k i s)) → end ≤ w
-      → (j : ℕ) → j < n → Agree (b j) key w → Agree (b (k i s)) key end
+      → (j : ℕ) → j < n → Agree (b j) key end → Agree (b (k i s)) key end
   way_equal {key} {end} {i} {s} way stop within j h a =
       let kid = tree.kids i s way.slot in
-      agree_on (agree_less end (stop_reach end kid.far stop within) (agree_back (kid.alike j h (way.all j h (agree_less end within a))))) (agree_less end within a)
+      agree_on (agree_less end (stop_reach end kid.far stop within) (agree_back (kid.alike j h (way.all j h a)))) a
 
   -- and if what the slot names parts from the key, no item is as the key any farther
   pub way_parts : {key : ℕ → Bool} {end i : ℕ} {s : Bool} (place : ℕ) → IsOnWay n b d key end i s → (d i < d (k i s) → end < d (k i s)) → end ≤ w
@@ -455,14 +455,14 @@ pub trie_tree : {w : ℕ} (rows : List (ℕ → Bool)) (nodes : List Node) → I
 trie_tree {w} [] nodes none some = absurd (omega (arith, ap (λ (xs : List Node). length xs) none, some))
 trie_tree {w} (row ∷ older) nodes trie some = subst (λ n. IsTree w n (row_of (row ∷ older)) (depth_of nodes) (kid_of nodes)) (sym trie.0) trie.1
 
-trie_length : (w : ℕ) (rows : List (ℕ → Bool)) (nodes : List Node) → IsTrie w rows nodes → length nodes ≡ length rows
+pub trie_length : (w : ℕ) (rows : List (ℕ → Bool)) (nodes : List Node) → IsTrie w rows nodes → length nodes ≡ length rows
 trie_length w [] nodes none = ap (λ (xs : List Node). length xs) none
 trie_length w (row ∷ older) nodes trie = trie.0
 
-row_first : (key : ℕ → Bool) (rows : List (ℕ → Bool)) (n : ℕ) → n ≡ length rows → row_of (key ∷ rows) n ≡ key
+pub row_first : (key : ℕ → Bool) (rows : List (ℕ → Bool)) (n : ℕ) → n ≡ length rows → row_of (key ∷ rows) n ≡ key
 row_first key rows n e = ap (λ (t : Bool). if t then key else row_of rows n) (eq-eqb n (length rows) e)
 
-row_before : (key : ℕ → Bool) (rows : List (ℕ → Bool)) (n : ℕ) → n < length rows → row_of (key ∷ rows) n ≡ row_of rows n
+pub row_before : (key : ℕ → Bool) (rows : List (ℕ → Bool)) (n : ℕ) → n < length rows → row_of (key ∷ rows) n ≡ row_of rows n
 row_before key rows n h = ap (λ (t : Bool). if t then key else row_of rows n) (ne_eqb n (length rows) (λ e. omega (arith, e, h)))
 
 depth-with_kid : (node : Node) (s : Bool) (x : ℕ) → (with_kid node s x).depth ≡ node.depth
@@ -527,11 +527,11 @@ displaced-parted node false n r own rest less =
     ap (λ (t : Bool). if t then node.on else node.off) (eq-eqb node.off n own) ∙ rest
 
 module _ {w : ℕ} (rows : List (ℕ → Bool)) (nodes : List Node) (key : ℕ → Bool) (trie : IsTrie w rows nodes) (some : 0 < length nodes) where
-  pub trie_parted : {i l p : ℕ} {s : Bool} (node : Node) → IsOnWay (length nodes) (row_of rows) (depth_of nodes) key p i s
+  pub trie_parted : {i l p : ℕ} {s : Bool} (node : Node) → IsSlot (length nodes) (depth_of nodes) i s → depth_of nodes i ≤ p → IsUnder (row_of rows) (depth_of nodes) i s l
       → (depth_of nodes i < depth_of nodes (kid_of nodes i s) → p < depth_of nodes (kid_of nodes i s)) → p < w
       → IsParting (length nodes) (row_of rows) key l p → IsParted nodes key p i s node
       → IsTrie w (key ∷ rows) (with_named nodes i s (length nodes) ++ node ∷ [])
-  trie_parted {i} {l} {p} {s} node way stop within part parted =
+  trie_parted {i} {l} {p} {s} node old low old_under stop within part parted =
       let n = length nodes in
       let count : n ≡ length rows = trie_length w rows nodes trie in
       let tree = trie_tree rows nodes trie some in
@@ -543,14 +543,14 @@ module _ {w : ℕ} (rows : List (ℕ → Bool)) (nodes : List Node) (key : ℕ �
       let first : b n ≡ key = row_first key rows n count in
       let before : (j : ℕ) → j < n → row_of rows j ≡ b j = λ j h. sym (row_before key rows j (omega (arith, h, count))) in
       let at : (o : ℕ) → o < n → node_at new o ≡ node_at front o = λ o h. get_or_append_left front (node ∷ []) no_node o (omega (arith, h, all)) in
-      let changed : node_at front i ≡ with_kid (node_at nodes i) s n = get_or-set_same nodes i (with_kid (node_at nodes i) s n) no_node way.slot.there in
+      let changed : node_at front i ≡ with_kid (node_at nodes i) s n = get_or-set_same nodes i (with_kid (node_at nodes i) s n) no_node old.there in
       let other : (o : ℕ) → o ≢ i → node_at front o ≡ node_at nodes o = λ o apart. get_or-set_other nodes i o (with_kid (node_at nodes i) s n) no_node apart in
       let last : node_at new n ≡ node = subst (λ m. node_at new m ≡ node) all (get_or-append_seam front node [] no_node) in
       let depths : (o : ℕ) → o < n → depth_of nodes o ≡ d o = λ o h. sym (ap (λ (x : Node). x.depth) (at o h) ∙ elim (cases_eq o i) [
         | inl same ↦ ap (λ m. depth_of front m) same ∙ ap (λ (x : Node). x.depth) changed ∙ depth-with_kid (node_at nodes i) s n ∙ ap (λ m. depth_of nodes m) (sym same)
         | inr apart ↦ ap (λ (x : Node). x.depth) (other o apart)
       ]) in
-      let to_new : kid_of new i s ≡ n = ap (λ (x : Node). named x s) (at i way.slot.there ∙ changed) ∙ named-with_kid (node_at nodes i) s n in
+      let to_new : kid_of new i s ≡ n = ap (λ (x : Node). named x s) (at i old.there ∙ changed) ∙ named-with_kid (node_at nodes i) s n in
       let others : (o : ℕ) (t : Bool) → o < n → (i ≡ o → s ≢ t) → kid_of new o t ≡ kid_of nodes o t = λ o t h apart. ap (λ (x : Node). named x t) (at o h) ∙ elim (cases_eq o i) [
         | inl same ↦ ap (λ m. kid_of front m t) same ∙ ap (λ (x : Node). named x t) changed ∙ named-with_other (node_at nodes i) s t n (apart (sym same)) ∙ ap (λ m. kid_of nodes m t) (sym same)
         | inr elsewhere_too ↦ ap (λ (x : Node). named x t) (other o elsewhere_too)
@@ -560,29 +560,29 @@ module _ {w : ℕ} (rows : List (ℕ → Bool)) (nodes : List Node) (key : ℕ �
       let to_own : kid_of new n (b n p) ≡ n = ap (λ (t : Bool). kid_of new n t) side ∙ ap (λ (x : Node). named x (key p)) last ∙ parted.own in
       let to_rest : kid_of new n (not (b n p)) ≡ kid_of nodes i s = ap (λ (t : Bool). kid_of new n (not t)) side ∙ ap (λ (x : Node). named x (not (key p))) last ∙ parted.rest in
       let tree_new = same_tree {b' = b} {d' = d} tree before depths in
-      let here_depth = depths i way.slot.there in
-      let kid = tree.kids i s way.slot in
+      let here_depth = depths i old.there in
+      let kid = tree.kids i s old in
       let kid_depth = depths (kid_of nodes i s) kid.there in
-      let slot : IsSlot n d i s = record { there = way.slot.there; real = λ h. omega (arith, way.slot.real h, here_depth); one = λ e. way.slot.one (omega (arith, e, here_depth)) } in
-      let under : IsUnder b d i s l = under_same (before l part.there) (before i way.slot.there) here_depth (way.all l part.there part.same) in
+      let slot : IsSlot n d i s = record { there = old.there; real = λ h. omega (arith, old.real h, here_depth); one = λ e. old.one (omega (arith, e, here_depth)) } in
+      let under : IsUnder b d i s l = under_same (before l part.there) (before i old.there) here_depth old_under in
       let part_new : IsParting n b (b n) l p = subst (λ x. IsParting n b x l p) (sym first) (record {
         there = part.there;
         same = subst (λ x. Agree x key p) (before l part.there) part.same;
         differ = subst (λ (x : ℕ → Bool). x p ≢ key p) (before l part.there) part.differ;
         best = λ j h a. part.best j h (subst (λ x. Agree x key (p + 1)) (sym (before j h)) a);
       }) in
-      let grown_tree : IsTree w (n + 1) b d (kid_of new) = parted_tree tree_new slot (omega (arith, way.low, here_depth)) (λ inner. omega (arith, stop (omega (arith, inner, here_depth, kid_depth)), kid_depth)) under part_new within depth_new
+      let grown_tree : IsTree w (n + 1) b d (kid_of new) = parted_tree tree_new slot (omega (arith, low, here_depth)) (λ inner. omega (arith, stop (omega (arith, inner, here_depth, kid_depth)), kid_depth)) under part_new within depth_new
           (kid_of new) to_new to_own to_rest others in
       let undo : without_newest new ≡ nodes =
           without_last front node n all
-          ∙ ap (λ (t : Bool). if t then front else with_named front node.up node.up_side (displaced n node)) (ne_eqb node.up n (λ e. omega (arith, e, parted.up, way.slot.there)))
+          ∙ ap (λ (t : Bool). if t then front else with_named front node.up node.up_side (displaced n node)) (ne_eqb node.up n (λ e. omega (arith, e, parted.up, old.there)))
           ∙ ap (λ m. with_named front m node.up_side (displaced n node)) parted.up
           ∙ ap (λ (t : Bool). with_named front i t (displaced n node)) parted.up_side
           ∙ ap (λ m. with_named front i s m) (displaced-parted node (key p) n (kid_of nodes i s) parted.own parted.rest kid.there)
-          ∙ named-back nodes i s n way.slot.there in
+          ∙ named-back nodes i s n old.there in
       let total : length new ≡ length rows + 1 = omega (arith, length-append front (node ∷ []), all, count) in
       (omega (arith, total), subst (λ m. IsTree w m b d (kid_of new)) (omega (arith, count)) grown_tree,
-      subst (λ m. (node_at new m).up ≤ m) count (subst (λ (x : Node). x.up ≤ n) (sym last) (omega (arith, parted.up, way.slot.there))),
+      subst (λ m. (node_at new m).up ≤ m) count (subst (λ (x : Node). x.up ≤ n) (sym last) (omega (arith, parted.up, old.there))),
       subst (λ (xs : List Node). IsTrie w rows xs) (sym undo) trie)
 
   -- an item that equals an earlier one

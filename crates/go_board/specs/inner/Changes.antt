@@ -23,6 +23,10 @@ first_grid (first ∷ others) = Some first.colouring
 abbrev pub IsNumber : List Held → ℕ → Grid → Type 0
 IsNumber held number grid = first_grid (drop (length held - 1 - number) held) ≡ Some grid
 
+-- a number of which the test holds is that colouring's
+abbrev pub HasNumber : List Held → (ℕ → Type 0) → Grid → Type 0
+HasNumber held test grid = (number : ℕ) × (number < length held) × test number × IsNumber held number grid
+
 -- the grid with one row replaced by the row that the change keeps
 unfoldable pub with_change : Grid → Change → Grid
 with_change grid change =

@@ -1,11 +1,12 @@
 -- Points that were emptied in a game. A stone that stays can bring a colouring back only on such a point.
-use Rattle.std.specs.Prelude.{◌≡◌, ◌≢◌, ℕ, Bool, IsFalse, IsTrue, List, [], ◌∷◌, reverse}
+use Rattle.std.specs.Prelude.{◌≡◌, ◌≢◌, ℕ, Bool, IsFalse, IsTrue, List, [], ◌∷◌}
 use Rattle.go_board.specs.declared.stones.Cell.TheVariants.{Empty}
 use Rattle.go_board.specs.declared.points.Point.{Point}
 use Rattle.go_board.specs.Point.{IsOn}
 use Rattle.go_board.specs.Grid.{Grid, cell_at}
 use Rattle.go_board.specs.Past.{Held, PastColourings, all_of}
-use Rattle.go_board.specs.inner.Print.{prints_of}
+use Rattle.go_board.specs.declared.past.table.Table.{Table}
+use Rattle.go_board.specs.inner.Table.{IsTable}
 use Rattle.go_board.specs.inner.Rows.{is_set}
 
 -- the set has each point that has a stone on the grid `before` and none on the grid `after`
@@ -21,7 +22,7 @@ HasAllEmptied set (later ∷ []) = Unit {0}
 HasAllEmptied set (later ∷ (earlier ∷ others)) =
     (IsFalse later.begins → HasEmptied set earlier.colouring later.colouring) × HasAllEmptied set (earlier ∷ others)
 
--- what a past keeps besides its colourings: their prints, oldest first, and a set of rows that has each emptied point
-pub record IsPrintPast (colourings : PastColourings) (prints emptied : List ℕ) : Type 0 where
-  pub printed : reverse prints ≡ prints_of (all_of colourings)
+-- what a past keeps besides its colourings: the table by which they are looked up, and a set of rows that has each emptied point
+pub record IsPrintPast (colourings : PastColourings) (table : Table) (emptied : List ℕ) : Type 0 where
+  pub tabled : IsTable (all_of colourings) table
   pub emptied_in : HasAllEmptied (is_set emptied) (all_of colourings)

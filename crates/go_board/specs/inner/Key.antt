@@ -1,5 +1,5 @@
 -- What a colouring is looked up by, as a row of bits: the words of the stretch, of the print, and of each row of the board.
-use Rattle.std.specs.Prelude.{ℕ, zero, suc, ◌/◌, ◌%◌, Bool, ◌==◌, ◌&&◌, nat_lt, if◌then◌else◌, List, [], ◌∷◌, length}
+use Rattle.std.specs.Prelude.{ℕ, zero, suc, ◌/◌, ◌%◌, Bool, ◌==◌, ◌&&◌, nat_lt, if◌then◌else◌, List, [], ◌∷◌, length, drop, ◌-◌}
 use Rattle.go_board.specs.declared.past.key.Key.{Key}
 use Rattle.go_board.specs.declared.stones.Cell.{Cell}
 use Rattle.go_board.specs.declared.stones.Cell.TheVariants.{Black, White}
@@ -33,6 +33,14 @@ bits_of key = key_row key.start key.print key.board.now
 abbrev pub start_of : List Held → ℕ
 start_of [] = 0
 start_of (newest ∷ older) = if newest.begins then length older else start_of older
+
+-- the colourings up to the one with this number, counted from 0 at the oldest; all are listed newest first
+abbrev pub since : ℕ → List Held → List Held
+since number held = drop (length held - 1 - number) held
+
+-- the first `count` colourings
+abbrev pub oldest : ℕ → List Held → List Held
+oldest count held = drop (length held - count) held
 
 -- the keys of past colourings, newest first
 abbrev pub keys_of : List Held → List (ℕ → Bool)

@@ -101,6 +101,14 @@ without_newest nodes =
     let front : List Node = take number nodes in
     if newest.up == number then front else with_named front newest.up newest.up_side (displaced number newest)
 
+-- what the slot names where a walk by the bits of `key` ends, before the place `end`
+pub record IsNearest (rows : List (ℕ → Bool)) (nodes : List Node) (key : ℕ → Bool) (end near : ℕ) : Type 0 where
+  pub node : ℕ
+  pub side : Bool
+  pub way : IsOnWay (length nodes) (row_of rows) (depth_of nodes) key end node side
+  pub stop : depth_of nodes node < depth_of nodes (kid_of nodes node side) → end < depth_of nodes (kid_of nodes node side)
+  pub names : near ≡ kid_of nodes node side
+
 -- The nodes are a trie of items with these rows, newest first. Without the newest node they are a trie of the others.
 abbrev pub IsTrie : ℕ → List (ℕ → Bool) → List Node → Type 0
 IsTrie width [] nodes = nodes ≡ []

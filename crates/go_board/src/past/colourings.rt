@@ -8,6 +8,7 @@ ghost use Rattle.go_board.specs.Clearing.{play, has_unreaching};
 ghost use Rattle.go_board.specs.Past.{Held, all_of, newest_grid, only, with_next, present_stretch};
 ghost use Rattle.go_board.specs.inner.Changes.{is_full, IsEndOf, IsNumber};
 ghost use Rattle.go_board.specs.inner.Groups.{TakesOff};
+ghost use Rattle.go_board.specs.inner.Key.{start_of, since};
 ghost use Rattle.go_board.specs.inner.Rows.{is_set};
 ghost use Rattle.go_board.specs.declared.points.Point.{Point};
 
@@ -81,14 +82,33 @@ impl Colourings {
         self.older.len() - self.older_in_stretch
     }
 
+    /// The number of the first colouring of the stretch of the colouring with this number.
+    pub(crate) fn start_at(&self, number: usize) -> usize
+        requires { number < length (all_of self.now) }
+        ensures { result ≡ start_of (since number (all_of self.now)) }
+    {
+        if number == self.older.len() {
+            return number - self.older_in_stretch;
+        }
+        number - self.older[number].older_in_stretch
+    }
+
     /// Whether the colouring with this number is the same as the board's.
     pub(crate) fn is_at(&self, number: usize, board: &Board) -> bool
         requires { number < length (all_of self.now) }
         ensures { IsTrue result ↔ IsNumber (all_of self.now) number board.now }
     {
+        board.same(&self.board_at(number))
+    }
+
+    /// The board of the colouring with this number. It is worked out in at most `FULL` steps.
+    pub(crate) fn board_at(&self, number: usize) -> Board
+        requires { number < length (all_of self.now) }
+        ensures { IsNumber (all_of self.now) number result }
+    {
         let mut earlier = self.newest.copy();
         self.go_back(number, &mut earlier);
-        board.same(&earlier)
+        earlier
     }
 
     /// Changes the board from the newest colouring back to the one with this number. Begins at the next full step after that one,

@@ -30,8 +30,8 @@ use std::marker::Model;
 #[derive(Drop)]
 pub struct PrintPast {
     colourings: Colourings,
-    /// The prints of the colourings, oldest first.
-    prints: Table,
+    /// The table by which colourings are looked up.
+    table: Table,
     /// All points that were emptied since the game began, and perhaps others: a bit for each
     /// column of a row. A stone that stays can bring a colouring back only on one of these points.
     /// Taking a colouring back leaves this set as it is, because that may go back over a setup.
@@ -46,7 +46,7 @@ impl Model for PrintPast {
 
     ghost view = { λ p. p.colourings };
 
-    ghost invariant = { λ p. IsPrintPast p.colourings p.prints p.emptied };
+    ghost invariant = { λ p. IsPrintPast p.colourings p.table p.emptied };
 }
 
 impl Past for PrintPast {
@@ -55,13 +55,13 @@ impl Past for PrintPast {
     fn new(alloc: Global, board: &Board) -> Result<PrintPast, MemoryFault> {
         Ok(PrintPast {
             colourings: Colourings::new(alloc, board)?,
-            prints: Table::new(alloc, print_of(board))?,
+            table: Table::new(alloc, print_of(board))?,
             emptied: no_rows(),
         })
     }
 
     fn holds(&self, board: &Board) -> bool {
-        self.holds_printed(board, print_of(board))
+        self.table.has(&self.colourings, board, print_of(board))
     }
 
     fn newest(&self) -> &Board {
@@ -73,6 +73,7 @@ impl Past for PrintPast {
     }
 
     fn restart(&mut self, board: &Board) -> Result<(), MemoryFault> {
+        self.link_stretch();
         self.add(board, print_of(board), true)
     }
 
@@ -88,13 +89,13 @@ impl Past for PrintPast {
     }
 
     fn pop(&mut self) {
-        let _ = self.prints.pop();
+        self.table.pop();
         self.colourings.pop();
     }
 
     fn reset(&mut self, _alloc: Global, board: &Board) -> Result<(), MemoryFault> {
         self.colourings.reset(board);
-        self.prints.reset(print_of(board));
+        self.table.reset(print_of(board));
         self.emptied = no_rows();
         Ok(())
     }
@@ -111,21 +112,14 @@ impl PrintPast {
     ghost use Rattle.go_board.specs.inner.Groups.{TakesOff};
     ghost use Rattle.go_board.specs.inner.Print.{print_of};
 
-    /// Whether the present stretch has this colouring; `print` is its print.
-    fn holds_printed(&self, board: &Board, print: u64) -> bool
-        requires side { HaveSide board.now.side self.now }
-        requires print { print ≡ print_of board.now }
-        ensures { IsTrue result ↔ Contains (present_stretch self.now) board.now }
+    /// Puts the colourings of the present stretch into the trie, if there are several. After a setup this would cost more: to work out
+    /// a colouring, one goes back over later ones, and a setup may have changed all rows.
+    fn link_stretch(&mut self)
+        ensures { self.new ≡ self.old }
     {
-        let start = self.colourings.stretch_start();
-        let mut end = self.prints.len();
-        while let Some(number) = self.prints.last_between(print, start, end) {
-            if self.colourings.is_at(number, board) {
-                return true;
-            }
-            end = number;
+        if self.colourings.stretch_start() + 1 < self.table.len() {
+            self.table.link(&self.colourings);
         }
-        false
     }
 
     /// Adds a colouring, which begins a stretch or continues the present one; `print` is its print.
@@ -136,9 +130,9 @@ impl PrintPast {
         ensures err { OnErr result (self.new ≡ self.old) }
     {
         add_stones(self.colourings.newest(), &mut self.emptied);
-        self.prints.push(print)?;
+        self.table.push(print)?;
         if self.colourings.add(board, begins).is_err() {
-            self.prints.pop();
+            self.table.pop();
             return Err(MemoryFault);
         }
         Ok(())
@@ -181,9 +175,9 @@ impl PrintPast {
         if self.may_have(point, taken, print) {
             return self.play_on_copy(colour, point);
         }
-        self.prints.push(print)?;
+        self.table.push(print)?;
         if self.colourings.add_stone(colour, point, taken).is_err() {
-            self.prints.pop();
+            self.table.pop();
             return Err(MemoryFault);
         }
         add_points(taken, &mut self.emptied);
@@ -207,8 +201,8 @@ impl PrintPast {
         if !asked {
             return false;
         }
-        self.prints.link_rest();
-        self.has_print(print)
+        self.table.link(&self.colourings);
+        self.table.may_have(&self.colourings, print)
     }
 
     /// The print of the colouring that a stone makes; `taken` is what the stone takes off.
@@ -221,21 +215,9 @@ impl PrintPast {
         let newest = self.colourings.newest();
         newest.has_all_cells();
         if taken.is_empty() {
-            return print_after_stone(self.prints.newest(), newest, colour, point);
+            return print_after_stone(self.table.newest(), newest, colour, point);
         }
-        print_after_taking(self.prints.newest(), newest, colour, point, taken)
-    }
-
-    /// Whether a colouring of the present stretch has this print.
-    #[inline(never)]
-    fn has_print(&self, print: u64) -> bool
-        ensures { (grid : Grid) → IsFalse result → print ≡ print_of grid
-            → ¬ Contains (present_stretch self.now) grid }
-    {
-        let start = self.colourings.stretch_start();
-        self.prints
-            .last_between(print, start, self.prints.len())
-            .is_some()
+        print_after_taking(self.table.newest(), newest, colour, point, taken)
     }
 
     /// The same as `play`, on a copy of the newest board. It is for boards that
@@ -249,8 +231,9 @@ impl PrintPast {
     {
         let mut made = self.newest().copy();
         made.place(colour, point);
-        let print = print_from(self.prints.newest(), self.newest(), &made);
-        if self.holds_printed(&made, print) {
+        let print = print_from(self.table.newest(), self.newest(), &made);
+        self.table.link(&self.colourings);
+        if self.table.has(&self.colourings, &made, print) {
             return Ok(false);
         }
         self.add(&made, print, false)?;

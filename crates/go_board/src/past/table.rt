@@ -1,214 +1,269 @@
-//! A list of prints. A look-up skips most of them.
+//! The table by which colourings are looked up.
+//!
+//! A look-up walks down a trie of keys (see `trie` and `key`) by the bits of the colouring that is looked up. It ends at one past
+//! colouring, and compares with that one alone: first the start of the stretch and the print, and if these are equal, all points.
+//! So it costs at most one past colouring worked out, and at most `WIDTH` steps down for each of two walks, whatever was played before.
+//! To put a colouring into the trie costs at most two colourings worked out, its own and that at the end of its walk, and this only if
+//! they have the same print. To take one out is one step. None of this depends on how many colourings there are, or on what was played:
+//! equal prints make no look-up longer.
 
-ghost use Rattle.std.specs.Prelude.{◌≡◌, ℕ, ◌+◌, ◌-◌, ◌<◌, ◌≤◌, [], ◌∷◌, ◌++◌, IfOk, OnOk, OnErr, length, replicate, slice_index};
-ghost use Rattle.go_board.specs.inner.Table.{key_of, IsTable, IsLastOf};
+ghost use Rattle.std.specs.Prelude.{◌≡◌, ◌≢◌, ◌↔◌, ℕ, ◌+◌, ◌<◌, ◌≤◌, ◌^◌, [], ◌∷◌, List, length, slice_index, IsTrue, IsFalse, IfOk, OnOk, OnErr, Contains};
+ghost use Rattle.std.specs.Vec.{vec_capacity};
+ghost use Rattle.go_board.specs.declared.past.trie.Node.{Node};
+ghost use Rattle.go_board.specs.Grid.{Grid};
+ghost use Rattle.go_board.specs.Past.{Held, all_of, present_stretch, HaveSide};
+ghost use Rattle.go_board.specs.inner.Changes.{IsNumber, HasNumber};
+ghost use Rattle.go_board.specs.inner.Key.{start_of, since};
+ghost use Rattle.go_board.specs.inner.Print.{print_of, prints_of};
+ghost use Rattle.go_board.specs.inner.Table.{IsTable};
 
+use crate::board::Board;
 use crate::fault::MemoryFault;
+use crate::past::colourings::Colourings;
+use crate::past::key::{FRONT, Key, WIDTH, WORD, first_difference};
+use crate::past::trie::{Node, nearest, part, plant, repeat, take_back};
 use std::alloc::Global;
-use std::marker::Model;
 
-/// The number of heads in the table of a new past.
-const FIRST_HEADS: usize = 64;
+/// The number of colourings that a new table has room for.
+const FIRST_ROOM: usize = 256;
 
-/// The number of prints that a new past has room for.
-const FIRST_PRINTS: usize = 256;
+/// The most colourings that a table has room for: each number of a node is below 2^32.
+const MOST: usize = 0xffff_ffff;
 
-/// How many heads can be emptied together in the time that emptying the head of one print takes.
-const HEADS_AT_ONCE: usize = 64;
-
-/// Prints, oldest first. Most of them are never looked up, so prints are linked only when a look-up
-/// comes. Each linked print has a link to the newest earlier print with the same key. There is at
-/// least one key for every two linked prints, so on average a key has at most two of them.
+/// The prints of colourings, oldest first, and a trie of their keys. Most colourings are never looked up, and no look-up comes before
+/// they are taken back. So a colouring is put into the trie only when a look-up comes. There is always room for all of them, so this
+/// takes no memory.
 #[derive(Drop)]
 pub(crate) struct Table {
-    /// For each key the number of the newest linked print that has it: the print's index plus 1, or 0 if there is none.
-    heads: Vec<usize>,
     prints: Vec<u64>,
-    /// For each linked print the number of the newest earlier print with the same key. The newest prints may have none yet.
-    links: Vec<usize>,
-}
-
-impl Model for Table {
-    ghost use Rattle.std.specs.Prelude.{ℕ, List};
-
-    ghost Value = { List ℕ };
-
-    ghost use Rattle.go_board.specs.inner.Table.{IsTable};
-
-    ghost view = { λ t. t.prints.items };
-
-    ghost invariant = { λ t. IsTable t.heads.items t.prints.items t.links.items };
+    /// The nodes of the oldest colourings. The newest ones may not be in the trie yet.
+    nodes: Vec<Node>,
 }
 
 impl Table {
-    /// The list of this one print.
+    /// The table of one colouring with this print.
     pub(crate) fn new(alloc: Global, print: u64) -> Result<Table, MemoryFault>
-        ensures { IfOk result (λ table. table ≡ print ∷ []) }
+        ensures { IfOk result (λ table. (held : List Held) → prints_of held ≡ print ∷ [] → IsTable held table) }
     {
-        let mut table = Table::empty(alloc)?;
-        table.push(print)?;
-        Ok(table)
-    }
-
-    /// The empty list.
-    fn empty(alloc: Global) -> Result<Table, MemoryFault>
-        ensures { IfOk result (λ table. table ≡ []) }
-    {
+        let mut prints = Vec::with_capacity(alloc, FIRST_ROOM)?;
+        prints.push(print)?;
         Ok(Table {
-            heads: no_heads(alloc, FIRST_HEADS)?,
-            prints: Vec::with_capacity(alloc, FIRST_PRINTS)?,
-            links: Vec::with_capacity(alloc, FIRST_PRINTS)?,
+            prints,
+            nodes: Vec::with_capacity(alloc, FIRST_ROOM)?,
         })
     }
 
-    /// How many prints there are.
+    /// How many colourings there are.
     pub(crate) fn len(&self) -> usize
-        ensures { result ≡ length self.now }
+        ensures { result ≡ length self.now.prints.items }
     {
         self.prints.len()
     }
 
     /// The newest print.
     pub(crate) fn newest(&self) -> u64
-        requires { 0 < length self.now }
-        ensures { result ≡ slice_index self.now (length self.now - 1) }
+        requires { 0 < length self.now.prints.items }
+        ensures { (newest : Held) (older : List Held) → IsTable (newest ∷ older) self.now → result ≡ print_of newest.colouring }
     {
         self.prints[self.prints.len() - 1]
     }
 
-    /// The index of the last print that equals this one, from `start` on and before `end`; None if there is none. Prints that
-    /// aren't linked are looked at one by one.
-    pub(crate) fn last_between(&self, print: u64, start: usize, end: usize) -> Option<usize>
-        requires { end ≤ length self.now }
-        ensures { IsLastOf self.now print start end result }
-    {
-        let unlinked = start.max(self.links.len());
-        if let Some(index) = last_of(&self.prints, print, unlinked, end) {
-            return Some(index);
-        }
-        let mut number = self.heads[key_of(self.heads.len(), print)];
-        while number > start {
-            let index = number - 1;
-            if index < end && self.prints[index] == print {
-                return Some(index);
-            }
-            number = self.links[index];
-        }
-        None
-    }
-
-    /// Links the prints that aren't linked yet. If memory is refused, some of them stay unlinked.
-    #[inline(never)]
-    pub(crate) fn link_rest(&mut self)
-        ensures { self.new ≡ self.old }
-    {
-        if self.prints.len() / 2 >= self.heads.len() && self.grow().is_err() {
-            return;
-        }
-        link(&mut self.heads, &self.prints, &mut self.links);
-    }
-
-    /// Makes as many heads as this number of prints needs. After that no print is linked.
-    #[inline(never)]
-    fn grow(&mut self) -> Result<(), MemoryFault>
-        ensures { self.new ≡ self.old }
-    {
-        let size = (self.prints.len() / 2 + 1).next_power_of_two();
-        self.heads = no_heads(*self.heads.allocator(), size)?;
-        self.links.clear();
-        Ok(())
-    }
-
-    /// Adds a print. After a refusal nothing is changed.
+    /// Adds a colouring with this print.
+    #[inline(always)]
     pub(crate) fn push(&mut self, print: u64) -> Result<(), MemoryFault>
-        ensures ok { OnOk result (self.new ≡ self.old ++ print ∷ []) }
-        ensures err { OnErr result (self.new ≡ self.old) }
+        requires { (held : List Held) × IsTable held self.old }
+        ensures ok { OnOk result ((held : List Held) (next : Held) → IsTable held self.old → print ≡ print_of next.colouring
+            → IsTable (next ∷ held) self.new) }
+        ensures err { OnErr result ((held : List Held) → IsTable held self.old → IsTable held self.new) }
     {
+        if self.prints.len() >= self.nodes.capacity() {
+            make_room(&mut self.nodes)?;
+        }
         self.prints.push(print)?;
         Ok(())
     }
 
-    /// Takes back the newest print, and returns it.
-    pub(crate) fn pop(&mut self) -> u64
-        requires { 0 < length self.old }
-        ensures { self.old ≡ self.new ++ result ∷ [] }
+    /// Takes back the newest colouring.
+    pub(crate) fn pop(&mut self)
+        requires { (newest : Held) × (older : List Held) × IsTable (newest ∷ older) self.old }
+        ensures { (newest : Held) (older : List Held) → IsTable (newest ∷ older) self.old → IsTable older self.new }
     {
-        let print = self.prints.pop().unwrap();
-        if self.links.len() > self.prints.len() {
-            let number = self.links.pop().unwrap();
-            let key = key_of(self.heads.len(), print);
-            self.heads[key] = number;
+        if self.nodes.len() == self.prints.len() {
+            take_back(&mut self.nodes);
         }
-        print
+        let _ = self.prints.pop();
     }
 
-    /// Replaces all prints by this one.
+    /// Replaces all colourings by one with this print.
     pub(crate) fn reset(&mut self, print: u64)
-        requires { 0 < length self.old }
-        ensures { self.new ≡ print ∷ [] }
+        requires some { 0 < length self.old.prints.items }
+        requires table { (held : List Held) × IsTable held self.old }
+        ensures { (held : List Held) → prints_of held ≡ print ∷ [] → IsTable held self.new }
     {
-        unlink(&mut self.heads, &self.prints, &self.links);
-        self.links.clear();
+        self.nodes.clear();
         self.prints.truncate(1);
         self.prints[0] = print;
     }
-}
 
-/// The key of a print in a table with this many heads.
-fn key_of(heads: usize, print: u64) -> usize
-    requires { 0 < heads }
-    ensures value { result ≡ key_of heads print }
-    ensures within { result < heads }
-{
-    print as usize & (heads - 1)
-}
+    /// Whether the present stretch may have a colouring with this print.
+    pub(crate) fn may_have(&self, colourings: &Colourings, print: u64) -> bool
+        requires { IsTable (all_of colourings.now) self.now }
+        ensures { (grid : Grid) → IsFalse result → print ≡ print_of grid → ¬ Contains (present_stretch colourings.now) grid }
+    {
+        let start = colourings.stretch_start();
+        has_from(&self.prints, print, start.max(self.nodes.len()))
+            || self.has_front(colourings, start, print)
+    }
 
-/// Heads for keys that no print has.
-fn no_heads(alloc: Global, size: usize) -> Result<Vec<usize>, MemoryFault>
-    ensures { IfOk result (λ heads. heads.items ≡ replicate size 0) }
-{
-    Ok(vec![in alloc; 0; size]?)
-}
+    /// Whether the trie may have a colouring of the stretch with this start and print.
+    fn has_front(&self, colourings: &Colourings, start: usize, print: u64) -> bool
+        requires { IsTable (all_of colourings.now) self.now }
+        ensures some { IsTrue result → 0 < length self.now.nodes.items }
+        ensures lacks { (number : ℕ) (grid : Grid) → IsFalse result → number < length self.now.nodes.items
+            → IsNumber (all_of colourings.now) number grid → start_of (since number (all_of colourings.now)) ≡ start
+            → print_of grid ≢ print }
+    {
+        if self.nodes.is_empty() {
+            return false;
+        }
+        let key = Key::new(start, print, colourings.newest());
+        let near = nearest(&self.nodes, &key, FRONT);
+        near >= start && self.prints[near] == print
+    }
 
-/// The index of the last print that equals this one, from `start` on and before `end`; None if there is none.
-fn last_of(prints: &[u64], print: u64, start: usize, end: usize) -> Option<usize>
-    requires { end ≤ length prints.now }
-    ensures { IsLastOf prints.now print start end result }
-{
-    'prints: for index in (start..end).rev() {
-        if prints[index] == print {
-            return Some(index);
+    /// Whether the present stretch has this colouring; `print` is its print. Colourings that aren't in the trie yet are compared one by one.
+    pub(crate) fn has(&self, colourings: &Colourings, board: &Board, print: u64) -> bool
+        requires table { IsTable (all_of colourings.now) self.now }
+        requires side { HaveSide board.now.side colourings.now }
+        requires print { print ≡ print_of board.now }
+        ensures { IsTrue result ↔ Contains (present_stretch colourings.now) board.now }
+    {
+        let start = colourings.stretch_start();
+        self.has_unlinked(colourings, start, board, print) || self.has_linked(colourings, start, board, print)
+    }
+
+    /// Whether a colouring from `start` on that isn't in the trie yet is this one.
+    fn has_unlinked(&self, colourings: &Colourings, start: usize, board: &Board, print: u64) -> bool
+        requires table { IsTable (all_of colourings.now) self.now }
+        requires print { print ≡ print_of board.now }
+        ensures { IsTrue result ↔ HasNumber (all_of colourings.now) (λ number. (start ≤ number)
+            × (length self.now.nodes.items ≤ number)) board.now }
+    {
+        'each: for number in (start.max(self.nodes.len())..self.prints.len()).rev() {
+            if self.prints[number] == print && colourings.is_at(number, board) {
+                return true;
+            }
+        }
+        false
+    }
+
+    /// Whether a colouring from `start` on that is in the trie is this one; `start` begins the present stretch.
+    fn has_linked(&self, colourings: &Colourings, start: usize, board: &Board, print: u64) -> bool
+        requires table { IsTable (all_of colourings.now) self.now }
+        requires side { HaveSide board.now.side colourings.now }
+        requires start { start ≡ start_of (all_of colourings.now) }
+        requires print { print ≡ print_of board.now }
+        ensures { IsTrue result ↔ HasNumber (all_of colourings.now) (λ number. (start ≤ number)
+            × (number < length self.now.nodes.items)) board.now }
+    {
+        if !self.has_front(colourings, start, print) {
+            return false;
+        }
+        let key = Key::new(start, print, board);
+        let near = nearest(&self.nodes, &key, WIDTH);
+        if near < start {
+            return false;
+        }
+        let past = colourings.board_at(near);
+        past.has_all_cells();
+        board.has_all_cells();
+        board.same(&past)
+    }
+
+    /// Puts all colourings into the trie.
+    #[inline(never)]
+    pub(crate) fn link(&mut self, colourings: &Colourings)
+        requires { IsTable (all_of colourings.now) self.old }
+        ensures { IsTable (all_of colourings.now) self.new }
+    {
+        'each: while self.nodes.len() < self.prints.len() {
+            self.link_next(colourings);
         }
     }
-    None
-}
 
-/// Links the prints that aren't linked yet. If memory is refused, some of them stay unlinked.
-fn link(heads: &mut [usize], prints: &[u64], links: &mut Vec<usize>)
-    requires { IsTable heads.old prints.now links.old.items }
-    ensures table { IsTable heads.new prints.now links.new.items }
-    ensures heads { length heads.new ≡ length heads.old }
-{
-    'prints: for index in links.len()..prints.len() {
-        let key = key_of(heads.len(), prints[index]);
-        if links.push(heads[key]).is_err() {
+    /// Puts the oldest colouring that isn't there yet into the trie.
+    fn link_next(&mut self, colourings: &Colourings)
+        requires table { IsTable (all_of colourings.now) self.old }
+        requires more { length self.old.nodes.items < length self.old.prints.items }
+        ensures table { IsTable (all_of colourings.now) self.new }
+        ensures next { length self.new.nodes.items ≡ length self.old.nodes.items + 1 }
+        ensures prints { self.new.prints.items ≡ self.old.prints.items }
+    {
+        let number = self.nodes.len();
+        if number == 0 {
+            plant(&mut self.nodes);
             return;
         }
-        heads[key] = index + 1;
+        let start = colourings.start_at(number);
+        let key = Key::new(start, self.prints[number], colourings.newest());
+        let near = nearest(&self.nodes, &key, FRONT);
+        let other = Key::new(colourings.start_at(near), self.prints[near], colourings.newest());
+        match first_difference(&key, &other, FRONT / WORD) {
+            Some(place) => part(&mut self.nodes, &key, place),
+            None => self.link_by_board(colourings, number, start),
+        }
+    }
+
+    /// The same, by all bits of the keys.
+    fn link_by_board(&mut self, colourings: &Colourings, number: usize, start: usize)
+        requires table { IsTable (all_of colourings.now) self.old }
+        requires more { length self.old.nodes.items < length self.old.prints.items }
+        requires some { 0 < length self.old.nodes.items }
+        requires number { number ≡ length self.old.nodes.items }
+        requires start { start ≡ start_of (since number (all_of colourings.now)) }
+        ensures table { IsTable (all_of colourings.now) self.new }
+        ensures next { length self.new.nodes.items ≡ length self.old.nodes.items + 1 }
+        ensures prints { self.new.prints.items ≡ self.old.prints.items }
+    {
+        let board = colourings.board_at(number);
+        let key = Key::new(start, self.prints[number], &board);
+        let near = nearest(&self.nodes, &key, WIDTH);
+        let past = colourings.board_at(near);
+        let other = Key::new(colourings.start_at(near), self.prints[near], &past);
+        match first_difference(&key, &other, WIDTH / WORD) {
+            Some(place) => part(&mut self.nodes, &key, place),
+            None => repeat(&mut self.nodes),
+        }
     }
 }
 
-/// Empties all heads. If few prints are linked, their heads are emptied one by one; otherwise all heads at once.
-fn unlink(heads: &mut [usize], prints: &[u64], links: &[usize])
-    requires { IsTable heads.old prints.now links.now }
-    ensures none { (key : ℕ) → key < length heads.new → slice_index heads.new key ≡ 0 }
-    ensures heads { length heads.new ≡ length heads.old }
+/// Whether a print from an index on equals this one.
+fn has_from(prints: &[u64], print: u64, from: usize) -> bool
+    requires { from ≤ length prints.now }
+    ensures { IsFalse result → (index : ℕ) → from ≤ index → index < length prints.now → slice_index prints.now index ≢ print }
 {
-    if heads.len() / HEADS_AT_ONCE <= links.len() {
-        heads.fill(0);
-        return;
+    'prints: for index in from..prints.len() {
+        if prints[index] == print {
+            return true;
+        }
     }
-    'prints: for index in 0..links.len() {
-        heads[key_of(heads.len(), prints[index])] = 0;
+    false
+}
+
+/// Makes room for more nodes: twice as many, and some more.
+#[inline(never)]
+fn make_room(nodes: &mut Vec<Node>) -> Result<(), MemoryFault>
+    requires { vec_capacity nodes.old < 2 ^ 32 }
+    ensures items { nodes.new.items ≡ nodes.old.items }
+    ensures ok { OnOk result (vec_capacity nodes.old < vec_capacity nodes.new) }
+    ensures err { OnErr result (vec_capacity nodes.new ≡ vec_capacity nodes.old) }
+    ensures most { vec_capacity nodes.new < 2 ^ 32 }
+{
+    let room = nodes.capacity();
+    if room >= MOST {
+        return Err(MemoryFault);
     }
+    let wanted = MOST.min(2 * room + FIRST_ROOM);
+    nodes.reserve_exact(wanted - nodes.len())?;
+    Ok(())
 }

@@ -7,7 +7,7 @@ ghost use Rattle.std.specs.Prelude.{not, ◌≡◌, ℕ, ◌+◌, ◌-◌, ◌^�
 ghost use Rattle.std.specs.Vec.{vec_capacity};
 ghost use Rattle.go_board.specs.declared.past.trie.Node.{Node};
 ghost use Rattle.go_board.specs.inner.Key.{bits_of};
-ghost use Rattle.go_board.specs.inner.Trie.{IsTrie, Agree, IsOnWay, IsParting, row_of, node_at, depth_of, kid_of, named, with_named, without_newest, displaced};
+ghost use Rattle.go_board.specs.inner.Trie.{IsTrie, Agree, IsOnWay, IsNearest, IsParting, row_of, node_at, depth_of, kid_of, named, with_named, without_newest, displaced};
 
 use crate::past::key::{Key, WIDTH};
 
@@ -34,7 +34,7 @@ pub(crate) struct Slot {
 }
 
 /// What a slot names.
-pub(crate) fn kid(nodes: &[Node], slot: Slot) -> u32
+fn kid(nodes: &[Node], slot: Slot) -> u32
     requires { slot.node < length nodes.now }
     ensures { result ≡ kid_of nodes.now slot.node slot.side }
 {
@@ -43,7 +43,7 @@ pub(crate) fn kid(nodes: &[Node], slot: Slot) -> u32
 }
 
 /// The slot where the walk by the bits of a key ends, before the place `end`.
-pub(crate) fn descend(nodes: &[Node], key: &Key<'_>, end: u32) -> Slot
+fn descend(nodes: &[Node], key: &Key<'_>, end: u32) -> Slot
     requires trie { (rows : List (ℕ → Bool)) × IsTrie WIDTH rows nodes.now }
     requires some { 0 < length nodes.now }
     requires within { end ≤ WIDTH }
@@ -72,11 +72,22 @@ pub(crate) fn descend(nodes: &[Node], key: &Key<'_>, end: u32) -> Slot
     slot
 }
 
-/// Adds the node of the first item, which has the bits of `key`.
-pub(crate) fn plant(nodes: &mut Vec<Node>, key: &Key<'_>)
+/// The item that is as `key` at least as far as any other is, as far as `end`. (Behind that place it may be any item that is so.)
+pub(crate) fn nearest(nodes: &[Node], key: &Key<'_>, end: u32) -> usize
+    requires trie { (rows : List (ℕ → Bool)) × IsTrie WIDTH rows nodes.now }
+    requires some { 0 < length nodes.now }
+    requires within { end ≤ WIDTH }
+    ensures there { result < length nodes.now }
+    ensures nearest { (rows : List (ℕ → Bool)) → IsTrie WIDTH rows nodes.now → IsNearest rows nodes.now (bits_of key.now) end result }
+{
+    kid(nodes, descend(nodes, key, end)) as usize
+}
+
+/// Adds the node of the first item.
+pub(crate) fn plant(nodes: &mut Vec<Node>)
     requires none { nodes.old.items ≡ [] }
     requires room { 0 < vec_capacity nodes.old }
-    ensures trie { IsTrie WIDTH (bits_of key.now ∷ []) nodes.new.items }
+    ensures trie { (row : ℕ → Bool) → IsTrie WIDTH (row ∷ []) nodes.new.items }
     ensures room { vec_capacity nodes.new ≡ vec_capacity nodes.old }
 {
     nodes.push_reserved(lone_node(0));
@@ -97,29 +108,29 @@ fn lone_node(number: u32) -> Node
     }
 }
 
-/// Adds the node of an item that has the bits of `key`, and equals an earlier item.
-pub(crate) fn repeat(nodes: &mut Vec<Node>, key: &Key<'_>)
+/// Adds the node of an item that equals an earlier one.
+pub(crate) fn repeat(nodes: &mut Vec<Node>)
     requires some { 0 < length nodes.old.items }
     requires few { length nodes.old.items < 2 ^ 32 }
     requires room { length nodes.old.items < vec_capacity nodes.old }
-    ensures trie { (rows : List (ℕ → Bool)) (item : ℕ) → IsTrie WIDTH rows nodes.old.items → item < length nodes.old.items
-        → Agree (row_of rows item) (bits_of key.now) WIDTH → IsTrie WIDTH (bits_of key.now ∷ rows) nodes.new.items }
+    ensures trie { (rows : List (ℕ → Bool)) (row : ℕ → Bool) (item : ℕ) → IsTrie WIDTH rows nodes.old.items
+        → item < length nodes.old.items → Agree (row_of rows item) row WIDTH → IsTrie WIDTH (row ∷ rows) nodes.new.items }
     ensures room { vec_capacity nodes.new ≡ vec_capacity nodes.old }
 {
     let number = nodes.len() as u32;
     nodes.push_reserved(lone_node(number));
 }
 
-/// Adds the node of an item that has the bits of `key`, and parts from the others at a place.
+/// Adds the node of an item that parts from the others at a place. Up to that place, the item has the bits of `key`.
 pub(crate) fn part(nodes: &mut Vec<Node>, key: &Key<'_>, place: u32)
     requires trie { (rows : List (ℕ → Bool)) × IsTrie WIDTH rows nodes.old.items }
     requires some { 0 < length nodes.old.items }
     requires few { length nodes.old.items < 2 ^ 32 }
     requires room { length nodes.old.items < vec_capacity nodes.old }
     requires within { place < WIDTH }
-    ensures trie { (rows : List (ℕ → Bool)) (item : ℕ) → IsTrie WIDTH rows nodes.old.items
-        → IsParting (length nodes.old.items) (row_of rows) (bits_of key.now) item place
-        → IsTrie WIDTH (bits_of key.now ∷ rows) nodes.new.items }
+    ensures trie { (rows : List (ℕ → Bool)) (row : ℕ → Bool) (item : ℕ) → IsTrie WIDTH rows nodes.old.items
+        → Agree (bits_of key.now) row (place + 1) → IsParting (length nodes.old.items) (row_of rows) row item place
+        → IsTrie WIDTH (row ∷ rows) nodes.new.items }
     ensures room { vec_capacity nodes.new ≡ vec_capacity nodes.old }
 {
     let slot = descend(nodes, key, place);

@@ -1,13 +1,12 @@
 use Rattle.std.proofs.Common.{◌≡◌, ◌++◌, ◌∷◌, [], List, ap, sym, subst, ◌∙◌}
 use Rattle.go_board.specs.declared.past.trie.Node.{Node}
 use Rattle.go_board.specs.declared.past.key.TheConstants.{WIDTH}
-use Rattle.go_board.specs.inner.Key.{bits_of}
 use Rattle.go_board.specs.inner.Trie.{IsTrie}
 use Rattle.go_board.proofs.TrieLemmas.{trie_first}
 use Rattle.go_board.proofs.past.trie.plant.Goals as goal
 
 pub returns-clause-trie : goal.returns-clause-trie
-returns-clause-trie c =
+returns-clause-trie c = λ row.
     let node = c.lone_node in
     let made : c.push_reserved.new.self.items ≡ node.result ∷ [] = c.push_reserved.ensures.items ∙ ap (λ (xs : List Node). xs ++ node.result ∷ []) c.requires.none in
-    subst (λ (xs : List Node). IsTrie WIDTH (bits_of c.args.key.now ∷ []) xs) (sym made) (trie_first WIDTH (bits_of c.args.key.now) node.result node.ensures.depth node.ensures.up node.ensures.off)
+    subst (λ (xs : List Node). IsTrie WIDTH (row ∷ []) xs) (sym made) (trie_first WIDTH (row) node.result node.ensures.depth node.ensures.up node.ensures.off)

@@ -1,28 +1,58 @@
-use Rattle.std.proofs.Common.{◌≡◌, ◌≤◌, ◌<◌, ◌+◌, ◌++◌, [], ◌∷◌, length, rules, arith, length-append, ◌∙◌, ap, subst}
-use Rattle.go_board.specs.inner.Table.{key_of, IsTable}
-use Rattle.go_board.proofs.TableLemmas.{table-pop, table-front}
+use Rattle.std.proofs.Common.{◌≡◌, ◌≤◌, ◌<◌, ◌+◌, ◌-◌, ◌^◌, ◌++◌, ◌∷◌, [], List, ℕ, Option, Some, length, length-append, reverse, get_or, refl, ap, sym, subst, ◌∙◌, arith, rules}
+use Rattle.std.specs.Option.{option_to_list}
+use Rattle.std.specs.Vec.{vec_capacity}
+use Rattle.go_board.specs.declared.past.key.TheConstants.{WIDTH}
+use Rattle.go_board.specs.declared.past.table.Table.{Table}
+use Rattle.go_board.specs.declared.past.trie.Node.{Node}
+use Rattle.go_board.specs.Past.{Held}
+use Rattle.go_board.specs.inner.Key.{keys_of, oldest}
+use Rattle.go_board.specs.inner.Print.{prints_of}
+use Rattle.go_board.specs.inner.Trie.{IsTrie, without_newest}
+use Rattle.go_board.proofs.TableLemmas.{tabled, printed_back, linked_back, oldest-same}
 use Rattle.go_board.proofs.past.table.Table.pop.Goals as goal
+use Rattle.go_board.proofs.past.table.Table.pop.Goals.{then-len, else-len}
 
-pub invariant_of-self : goal.invariant_of-self
-invariant_of-self c =
-    let t = c.self.inside in
-    let ps = c.pop.new.self.items in
-    let ls = c.pop-then-len.new.self.items in
-    let prints : t.prints.items ≡ ps ++ c.unwrap-print.result ∷ [] = search rules in
-    let links : t.links.items ≡ ls ++ c.unwrap-number.result ∷ [] = search rules in
-    let key : c.key_of-key.result ≡ key_of (length t.heads.items) c.unwrap-print.result = search rules in
-    let more : length ps < length t.links.items = search rules in
-    let one_print : length t.prints.items ≡ length ps + 1 = ap length prints ∙ length-append ps (c.unwrap-print.result ∷ []) in
-    let one_link : length t.links.items ≡ length ls + 1 = ap length links ∙ length-append ls (c.unwrap-number.result ∷ []) in
-    rw key
-    (table-pop t.heads.items t.prints.items t.links.items ps ls c.unwrap-print.result c.unwrap-number.result prints links
-    (omega (arith, more, one_print, one_link, c.self.invariant.few)) c.self.invariant)
-
-pub invariant_of-self-else-len : goal.invariant_of-self-else-len
-invariant_of-self-else-len c =
-    let t = c.self.inside in
-    let ps = c.pop.new.self.items in
-    let prints : t.prints.items ≡ ps ++ c.unwrap-print.result ∷ [] = search rules in
-    let few : length t.links.items ≤ length ps = search rules in
-    table-front t.heads.items ps (c.unwrap-print.result ∷ []) t.links.items few
-    (subst (λ xs. IsTable t.heads.items xs t.links.items) prints c.self.invariant)
+pub returns : goal.returns
+returns c = λ newest older is.
+    let t = c.args.self.now in
+    let after = c.if-len.self in
+    let left = c.pop.new.self.items in
+    let all : length t.prints.items ≡ length older + 1 = tabled (newest ∷ older) t is ∙ omega arith in
+    let popped : (after.prints.items ≡ t.prints.items) → (reverse left ≡ prints_of older) × (length left ≡ length older) = λ same.
+    let last = get_or t.prints.items (length t.prints.items - 1) 0 in
+    let some : c.pop.result ≡ Some (get_or after.prints.items (length after.prints.items - 1) 0) = search (rules, c.pop.ensures.value) in
+    let parts : t.prints.items ≡ left ++ get_or after.prints.items (length after.prints.items - 1) 0 ∷ [] =
+        sym same ∙ c.pop.ensures.items ∙ ap (λ (o : Option ℕ). left ++ option_to_list o) some in
+    let count : length t.prints.items ≡ length left + 1 = ap (λ (xs : List ℕ). length xs) parts ∙ length-append left (get_or after.prints.items (length after.prints.items - 1) 0 ∷ []) in
+    (printed_back t.prints.items left (get_or after.prints.items (length after.prints.items - 1) 0) newest older parts is.printed, omega (arith, count, all))
+    in
+    elim c.if-len.branch [
+      | then-len w ↦
+          let same : after.prints.items ≡ t.prints.items = ap (λ (x : Table). x.prints.items) w.self-is in
+          let nodes : after.nodes.items ≡ without_newest t.nodes.items = ap (λ (x : Table). x.nodes.items) w.self-is ∙ w.take_back.ensures.back in
+          let room : vec_capacity after.nodes ≡ vec_capacity t.nodes = ap (λ (x : Table). vec_capacity x.nodes) w.self-is ∙ w.take_back.ensures.room in
+          let both : length t.nodes.items ≡ length older + 1 = omega (arith, w.if-len.true, c.len.ensures, c.len-2.ensures, t.nodes.ok.0, t.prints.ok.0, all) in
+          let back = linked_back newest older t.nodes.items both is.linked in
+          let print = popped same in
+          record {
+            printed = print.0;
+            few = omega (arith, print.1, back.0, ap (λ (xs : List Node). length xs) nodes);
+            linked = subst (λ (xs : List Node). IsTrie WIDTH (keys_of (oldest (length xs) older)) xs) (sym nodes) back.1;
+            room = omega (arith, room, is.room, print.1, all);
+            most = omega (arith, room, is.most);
+          }
+      | else-len w ↦
+          let same : after.prints.items ≡ t.prints.items = ap (λ (x : Table). x.prints.items) w.self-is in
+          let nodes : after.nodes.items ≡ t.nodes.items = ap (λ (x : Table). x.nodes.items) w.self-is in
+          let room : vec_capacity after.nodes ≡ vec_capacity t.nodes = ap (λ (x : Table). vec_capacity x.nodes) w.self-is in
+          let few : length t.nodes.items ≤ length older = omega (arith, w.if-len.false, c.len.ensures, c.len-2.ensures, t.nodes.ok.0, t.prints.ok.0, all, is.few) in
+          let print = popped same in
+          record {
+            printed = print.0;
+            few = omega (arith, print.1, few, ap (λ (xs : List Node). length xs) nodes);
+            linked = subst (λ (xs : List Node). IsTrie WIDTH (keys_of (oldest (length xs) older)) xs) (sym nodes)
+                (subst (λ (hs : List Held). IsTrie WIDTH (keys_of hs) t.nodes.items) (oldest-same (length t.nodes.items) newest older few) is.linked);
+            room = omega (arith, room, is.room, print.1, all);
+            most = omega (arith, room, is.most);
+          }
+    ]

@@ -1,0 +1,147 @@
+-- Keys: words and their bits, and what keys that agree tell.
+use Rattle.std.proofs.Common.{◌≡◌, ◌≢◌, ℕ, zero, suc, ◌+◌, ◌-◌, ◌*◌, ◌/◌, ◌%◌, ◌^◌, ◌<◌, ◌≤◌, ◌==◌, ◌&&◌, Bool, true, false, nat_lt, if◌then◌else◌, bit_xor, length, inl, inr, refl, sym, ap, subst, ◌∙◌, arith}
+use Rattle.std.specs.Int.{bit_at}
+use Rattle.std.proofs.lemmas.Bool.{cases_lt, cases_Bool, false≢true, lt-ltb, eqb-true, eqb-false}
+use Rattle.std.proofs.lemmas.Nat.Bits.{bit_at_xor, bit_at-lt, bit_at-zero, same_from_bits_below}
+use Rattle.go_board.specs.declared.stones.Cell.{Cell}
+use Rattle.go_board.specs.declared.stones.Cell.TheVariants.{Black, White, Empty}
+use Rattle.go_board.specs.declared.points.Point.{Point}
+use Rattle.go_board.specs.Colour.{same_cell}
+use Rattle.go_board.specs.Point.{IsOn}
+use Rattle.go_board.specs.Grid.{Grid, cell_at}
+use Rattle.go_board.specs.inner.Key.{has_stone, key_bit, key_row}
+use Rattle.go_board.specs.inner.Rows.{has_bit}
+use Rattle.go_board.specs.inner.Trie.{Agree}
+use Rattle.go_board.proofs.ChangesLemmas.{one_colouring}
+use Rattle.go_board.proofs.StoneRowsLemmas.{bit_same}
+
+-- Words that differ.
+
+pub same_bit : (a b i : ℕ) → bit_at (bit_xor a b) i ≡ 0 → has_bit a i ≡ has_bit b i
+same_bit a b i e =
+    let parts : (bit_at a i + bit_at b i) % 2 ≡ 0 = sym (bit_at_xor a b i) ∙ e in
+    let low : bit_at a i < 2 = bit_at-lt a i in
+    let high : bit_at b i < 2 = bit_at-lt b i in
+    let same : bit_at a i ≡ bit_at b i = grind arith in
+    ap (λ n. n == 1) same
+
+pub other_bits : (a b i : ℕ) → bit_at (bit_xor a b) i ≡ 1 → has_bit a i ≢ has_bit b i
+other_bits a b i e same =
+    let parts : (bit_at a i + bit_at b i) % 2 ≡ 1 = sym (bit_at_xor a b i) ∙ e in
+    let one : bit_at a i ≡ bit_at b i = bit_same a b i same in
+    let low : bit_at a i < 2 = bit_at-lt a i in
+    grind arith
+
+-- one word more of two rows of bits
+module _ (x y : ℕ → Bool) (a b index : ℕ) (is_a : (col : ℕ) → col < 64 → has_bit a col ≡ x (64 * index + col)) (is_b : (col : ℕ) → col < 64 → has_bit b col ≡ y (64 * index + col)) (before : Agree x y (64 * index)) where
+  pub agree_farther : (n : ℕ) → n ≤ 64 → ((i : ℕ) → i < n → bit_at (bit_xor a b) i ≡ 0) → Agree x y (64 * index + n)
+  agree_farther n few same = record {
+    each = λ p h. elim (cases_lt p (64 * index)) [
+      | inl low ↦ before.each p low
+      | inr high ↦
+          let col = p - 64 * index in
+          let at : 64 * index + col ≡ p = omega (arith, high) in
+          let less : col < n = omega (arith, high, h) in
+          subst (λ m. x m ≡ y m) at (sym (is_a col (omega (arith, less, few))) ∙ same_bit a b col (same col less) ∙ is_b col (omega (arith, less, few)))
+    ];
+  }
+
+  pub parts_there : (col : ℕ) → col < 64 → bit_at (bit_xor a b) col ≡ 1 → x (64 * index + col) ≢ y (64 * index + col)
+  parts_there col low e same = other_bits a b col e (is_a col low ∙ same ∙ sym (is_b col low))
+
+-- The front of a key: the start of the stretch, and the print.
+
+key_at : (start print : ℕ) (grid : Grid) (index col : ℕ) → col < 64 → key_row start print grid (64 * index + col) ≡ key_bit start print grid index col
+key_at start print grid index col low =
+    let word : (64 * index + col) / 64 ≡ index = omega (arith, low) in
+    let place : (64 * index + col) % 64 ≡ col = omega (arith, low) in
+    ap (λ n. key_bit start print grid n ((64 * index + col) % 64)) word ∙ ap (λ n. key_bit start print grid index n) place
+
+module _ (start start' print print' : ℕ) (grid grid' : Grid) where
+  pub front_same : start < 2 ^ 64 → start' < 2 ^ 64 → print < 2 ^ 64 → print' < 2 ^ 64 → Agree (key_row start print grid) (key_row start' print' grid') 128 → (start ≡ start') × (print ≡ print')
+  front_same few few' small small' a = (
+    same_from_bits_below 64 start start' few few' (λ i h. bit_same start start' i (
+      sym (key_at start print grid 0 i h) ∙ a.each (64 * 0 + i) (omega (arith, h)) ∙ key_at start' print' grid' 0 i h
+    )),
+    same_from_bits_below 64 print print' small small' (λ i h. bit_same print print' i (
+      sym (key_at start print grid 1 i h) ∙ a.each (64 * 1 + i) (omega (arith, h)) ∙ key_at start' print' grid' 1 i h
+    )),
+  )
+
+  pub front_agrees : start ≡ start' → print ≡ print' → Agree (key_row start print grid) (key_row start' print' grid') 128
+  front_agrees e f = record {
+    each = λ p h. elim (cases_lt p 64) [
+      | inl low ↦
+          let at : 64 * 0 + p ≡ p = omega arith in
+          subst (λ m. key_row start print grid m ≡ key_row start' print' grid' m) at
+          (key_at start print grid 0 p low ∙ ap (λ n. has_bit n p) e ∙ sym (key_at start' print' grid' 0 p low))
+      | inr high ↦
+          let col = p - 64 in
+          let low : col < 64 = omega (arith, h, high) in
+          let at : 64 * 1 + col ≡ p = omega (arith, high) in
+          subst (λ m. key_row start print grid m ≡ key_row start' print' grid' m) at
+          (key_at start print grid 1 col low ∙ ap (λ n. has_bit n col) f ∙ sym (key_at start' print' grid' 1 col low))
+    ];
+  }
+
+-- The whole of a key.
+
+stone-on : (grid : Grid) (stone : Cell) (row col : ℕ) → row < grid.side → col < grid.side → has_stone grid stone row col ≡ same_cell (cell_at grid (record { col = col; row = row })) stone
+stone-on grid stone row col low left =
+    ap (λ t. (t && nat_lt col grid.side) && same_cell (cell_at grid (record { col = col; row = row })) stone) (lt-ltb row grid.side low)
+    ∙ ap (λ t. t && same_cell (cell_at grid (record { col = col; row = row })) stone) (lt-ltb col grid.side left)
+
+cells_one : (a b : Cell) → same_cell a Black ≡ same_cell b Black → same_cell a White ≡ same_cell b White → a ≡ b
+cells_one Black Black e f = refl
+cells_one Black White e f = absurd (false≢true f)
+cells_one Black Empty e f = absurd (false≢true (sym e))
+cells_one White Black e f = absurd (false≢true e)
+cells_one White White e f = refl
+cells_one White Empty e f = absurd (false≢true (sym f))
+cells_one Empty Black e f = absurd (false≢true e)
+cells_one Empty White e f = absurd (false≢true f)
+cells_one Empty Empty e f = refl
+
+-- the word of a row for Black, and the one for White
+module _ (start print : ℕ) (grid : Grid) (row col : ℕ) (left : col < 64) where
+  black_at : key_row start print grid (64 * (2 * row + 2) + col) ≡ has_stone grid Black row col
+  black_at =
+      let index : 2 * row + 2 ≡ suc (suc (2 * row)) = omega arith in
+      let even : (2 * row) % 2 ≡ 0 = omega arith in
+      let half : (2 * row) / 2 ≡ row = omega arith in
+      key_at start print grid (2 * row + 2) col left
+      ∙ ap (λ n. key_bit start print grid n col) index
+      ∙ ap (λ n. has_stone grid (if n == 0 then Black else White) ((2 * row) / 2) col) even
+      ∙ ap (λ n. has_stone grid Black n col) half
+
+  white_at : key_row start print grid (64 * (2 * row + 3) + col) ≡ has_stone grid White row col
+  white_at =
+      let index : 2 * row + 3 ≡ suc (suc (2 * row + 1)) = omega arith in
+      let odd : (2 * row + 1) % 2 ≡ 1 = omega arith in
+      let half : (2 * row + 1) / 2 ≡ row = omega arith in
+      key_at start print grid (2 * row + 3) col left
+      ∙ ap (λ n. key_bit start print grid n col) index
+      ∙ ap (λ n. has_stone grid (if n == 0 then Black else White) ((2 * row + 1) / 2) col) odd
+      ∙ ap (λ n. has_stone grid White n col) half
+
+pub whole_same : (start start' print print' : ℕ) (grid grid' : Grid) → grid.side ≡ grid'.side → grid.side ≤ 52 → length grid.cells ≡ grid.side * grid.side → length grid'.cells ≡ grid'.side * grid'.side
+    → Agree (key_row start print grid) (key_row start' print' grid') 6784 → grid ≡ grid'
+whole_same start start' print print' grid grid' side few all all' a =
+    one_colouring grid grid' side all all'
+    (λ p on.
+    let row = p.row in
+    let col = p.col in
+    let left : col < 64 = omega (arith, on.0, few) in
+    let low' : row < grid'.side = omega (arith, on.1, side) in
+    let left' : col < grid'.side = omega (arith, on.0, side) in
+    cells_one (cell_at grid p) (cell_at grid' p)
+    (sym (stone-on grid Black row col on.1 on.0)
+    ∙ sym (black_at start print grid row col left)
+    ∙ a.each (64 * (2 * row + 2) + col) (omega (arith, on.1, few, left))
+    ∙ black_at start' print' grid' row col left
+    ∙ stone-on grid' Black row col low' left')
+    (sym (stone-on grid White row col on.1 on.0)
+    ∙ sym (white_at start print grid row col left)
+    ∙ a.each (64 * (2 * row + 3) + col) (omega (arith, on.1, few, left))
+    ∙ white_at start' print' grid' row col left
+    ∙ stone-on grid' White row col low' left'))
