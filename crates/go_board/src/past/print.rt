@@ -128,9 +128,10 @@ fn points_after(side: u8, point: Point) -> usize
     ensures value { result ≡ side * side - 1 - index_of side point }
     ensures few { result < 2704 }
 {
-    let side = usize::from(side);
-    let rows = side - usize::from(point.row);
-    rows * side - 1 - usize::from(point.col)
+    // in 32 bits: then the compiled masks are short
+    let side = u32::from(side);
+    let rows = side - u32::from(point.row);
+    (rows * side - 1 - u32::from(point.col)) as usize
 }
 
 /// The columns of a row of a set, which may have fewer rows.
