@@ -1,9 +1,11 @@
 //! The print of a colouring: one number made from what stands on all its points.
 //! Usually one comparison of prints is enough to show that two colourings differ.
 //!
-//! The codes of the cells (0 for empty, 1 for black, 2 for white) are the digits of a number in base 31, and the print is its last 64 bits.
-//! So the print is linear in the stones: a stone adds its code times a power of 31. Whoever knows that can make colourings with equal prints.
-//! Their cost is bounded, and the table says how. In return a stone costs one product.
+//! The codes of the cells (0 for empty, 1 for black, 2 for white) are the digits of a number in base 31: row by row from the top, from left
+//! to right. The print is that number modulo 2^64. Its low 14 bits are the number modulo 16384, the fingerprint of the colouring.
+//!
+//! A print is linear: a stone adds its code times a power of 31. So it takes few instructions to work out what a stone changes. Whoever
+//! knows that can make colourings with equal prints. This costs only bounded time: the table of prints says why.
 
 ghost use Rattle.std.specs.Prelude.{◌≡◌, ◌<◌, ◌≤◌, ◌+◌, ◌-◌, ◌*◌, ◌%◌, ◌^◌, ℕ, IsTrue, slice_index};
 ghost use Rattle.go_board.specs.declared.stones.Cell.TheVariants.{Empty};
@@ -142,7 +144,7 @@ fn columns_in(rows: &[u64], row: u8) -> u64
     if row < rows.len() { rows[row] } else { 0 }
 }
 
-/// What is to be added to the number of a row of one board to make that of the same row of another.
+/// What is to be added to the number of a row of one board, modulo 2^64, to make that of the same row of another.
 fn change_between(old: &Board, new: &Board, row: u8) -> u64
     requires side { new.now.side ≡ old.now.side }
     requires row { row < old.now.side }
@@ -159,14 +161,14 @@ fn change_between(old: &Board, new: &Board, row: u8) -> u64
     )
 }
 
-/// What the black stones and the white stones of a row add up to: the code of a white stone is 2.
+/// What the black and the white stones of a row add up to. The code of a white stone is 2, so their number counts twice.
 fn in_both(black: u64, white: u64) -> u64
     ensures { result ≡ (black + 2 * white) % 2 ^ 64 }
 {
     black.wrapping_add(white.wrapping_mul(2))
 }
 
-/// What is to be added to the number of a word to make that of another.
+/// What is to be added to the number of a word, modulo 2^64, to make that of another.
 fn change_of(side: u8, old: u64, new: u64) -> u64
     requires side { side ≤ MAX_SIDE }
     requires old { (col : ℕ) → IsTrue (has_bit old col) → col < side }
@@ -178,7 +180,7 @@ fn change_of(side: u8, old: u64, new: u64) -> u64
     more.wrapping_sub(less)
 }
 
-/// The number of a word: each column adds a power of 31.
+/// The number of a word, modulo 2^64: each column adds a power of 31.
 fn number_of(side: u8, columns: u64) -> u64
     requires side { side ≤ MAX_SIDE }
     requires columns { (col : ℕ) → IsTrue (has_bit columns col) → col < side }
