@@ -1,14 +1,15 @@
 -- The definitions, computed on worked examples: small boards, and texts that name points.
-use Rattle.std.proofs.Common.{◌≡◌, true, false, [], ◌∷◌, refl, Some, None}
+use Rattle.std.proofs.Common.{◌≡◌, ◌%◌, ◌^◌, true, false, [], ◌∷◌, refl, Some, None}
 use Rattle.go_board.specs.declared.stones.Cell.TheVariants.{Black as B, White as W, Empty as E}
 use Rattle.go_board.specs.declared.stones.Colour.TheVariants.{Black, White}
 use Rattle.go_board.specs.Point.{points}
-use Rattle.go_board.specs.Grid.{Grid, empty_grid}
+use Rattle.go_board.specs.Grid.{Grid, empty_grid, with_cell}
 use Rattle.go_board.specs.Reaching.{reaches, reaching_within, spread}
 use Rattle.go_board.specs.Clearing.{clear, play, cleared_cell, has_unreaching}
 use Rattle.go_board.specs.Score.{score_of, counts_for}
 use Rattle.go_board.specs.Values.{point_value, rect_value}
 use Rattle.go_board.specs.Vertex.{vertex_of}
+use Rattle.go_board.specs.inner.Print.{print_of}
 
 -- a black stone in the corner between two white ones
 corner : Grid
@@ -100,3 +101,16 @@ J1_on_9 = refl
 Z25_on_25 : vertex_of (record { col = 24; row = 0 }) 25 ≡ record { letter = 90; row = 25 }
 unfolding vertex_of
 Z25_on_25 = refl
+
+-- the low 14 bits of prints: black on `me` alone and on `yy` alone, white on `ca` alone
+black_on_me : print_of (with_cell (empty_grid 25) (record { col = 12; row = 4 }) B) % 2 ^ 14 ≡ 1
+unfolding print_of
+black_on_me = refl
+
+black_on_yy : print_of (with_cell (empty_grid 25) (record { col = 24; row = 24 }) B) % 2 ^ 14 ≡ 1
+unfolding print_of
+black_on_yy = refl
+
+white_on_ca : print_of (with_cell (empty_grid 3) (record { col = 2; row = 0 }) W) % 2 ^ 14 ≡ 13954
+unfolding print_of
+white_on_ca = refl

@@ -29,6 +29,7 @@ pub mod EarlierLemmas
 pub mod AreaLemmas
 pub mod TurnLemmas
 pub mod RepeatLemmas
+pub mod PowerLemmas
 pub mod PrintLemmas
 pub mod PrintPastLemmas
 pub mod ChangesLemmas
@@ -40,4 +41,3 @@ pub mod KeyLemmas
 pub mod StoneRowsLemmas
 pub mod GlanceLemmas
 pub mod TakenLemmas
-pub mod TakenPrintLemmas

@@ -1,185 +1,355 @@
--- The print of a colouring: sums, the words of rows, and one stone more.
-use Rattle.std.proofs.Common.{◌≡◌, ◌≢◌, inl, inr, ℕ, zero, suc, ◌+◌, ◌-◌, ◌*◌, ◌/◌, ◌%◌, ◌^◌, ◌<◌, ◌≤◌, ◌||◌, Bool, true, false, cond, length, refl, sym, ap, ◌∙◌, arith}
-use Rattle.std.proofs.Math.Nat.{mod-add-mod, add-mul-mod_self_left, mod-add-div, mod-eq_of_lt}
-use Rattle.std.proofs.lemmas.Bool.{cases_Bool, cases_eq, cases_lt, false_from_ne_true}
-use Rattle.std.proofs.lemmas.Nat.{mod_below, pow_pos}
-use Rattle.std.proofs.lemmas.Nat.Bits.{bit_at_above, bit_at_cat_high, bit_at_cat_low, same_from_bits}
-use denote.Enum.Bare.{sameb}
-use Rattle.go_board.specs.contracts.stones.Colour.{the_type}
+-- The print of a colouring as a number in base 31: the numbers of its rows, and of the words of its stones.
+use Rattle.std.proofs.Common.{◌≡◌, ◌≢◌, inl, inr, ℕ, zero, suc, ◌+◌, ◌-◌, ◌*◌, ◌/◌, ◌%◌, ◌^◌, ◌<◌, ◌≤◌, ◌&&◌, Bool, true, false, not, cond, bit_and, List, slice_index, length, get_or, set, take, refl, sym, ap, ◌∙◌, arith}
+use Rattle.std.specs.Int.{bit_at}
+use Rattle.std.specs.List.{fold}
+use Rattle.std.proofs.Math.Nat.{mod-add-mod, add-mod-mod, add-mul-mod_self_left, mod-add-div, mod-mod, add-mul, mul-add, pow-succ', zero-mod, suc-mul}
+use Rattle.std.proofs.Math.Bool.{and-true, and-false}
+use Rattle.std.proofs.lemmas.Bool.{cases_Bool, cases_eq}
+use Rattle.std.proofs.lemmas.Nat.{mod_below, mul-mod, mul-mod_second, pow_pos}
+use Rattle.std.proofs.lemmas.Nat.Bits.{bit_at-zero}
+use Rattle.std.proofs.lemmas.List.{take_all, get_or-set_same, get_or-set_other, length-set}
+use Rattle.std.proofs.lemmas.List.Sums.{fold_more}
 use Rattle.go_board.specs.declared.stones.Cell.{Cell}
-use Rattle.go_board.specs.declared.stones.Cell.TheVariants.{Black, White}
-use Rattle.go_board.specs.declared.stones.Colour.{Colour}
-use Rattle.go_board.specs.declared.stones.Colour.TheVariants.{Black as BlackPlayer, White as WhitePlayer}
+use Rattle.go_board.specs.declared.stones.Cell.TheVariants.{Black, White, Empty}
 use Rattle.go_board.specs.declared.points.Point.{Point}
-use Rattle.go_board.specs.Colour.{same_cell, stone_of}
-use Rattle.go_board.specs.Point.{IsOn}
+use Rattle.go_board.specs.Colour.{same_cell}
+use Rattle.go_board.specs.Point.{IsOn, index_of}
 use Rattle.go_board.specs.Grid.{Grid, cell_at, with_cell}
-use Rattle.go_board.specs.inner.Print.{sum_below, word_below, row_word, mixed, print_in, print_of}
-use Rattle.go_board.specs.inner.Rows.{has_bit}
-use Rattle.go_board.proofs.GridLemmas.{cell_at-with_cell, cell_at-with_cell_elsewhere}
+use Rattle.go_board.specs.inner.Print.{code, print_of, in_base, row_number, word_number, row_within, number_within}
+use Rattle.go_board.specs.inner.Rows.{has_bit, is_set}
+use Rattle.go_board.proofs.PointLemmas.{index_below}
 use Rattle.go_board.proofs.StoneRowsLemmas.{bit_same}
-use Rattle.go_board.proofs.WordLemmas.{bit_at-gone}
+use Rattle.go_board.proofs.WordLemmas.{bit_at-there, bit_at-gone, has_bit-and, has_bit-zero}
 
-pub sum-more : (n : ℕ) (f : ℕ → ℕ) → sum_below (n + 1) f ≡ sum_below n f + f n
-sum-more n f = let next : n + 1 ≡ suc n = omega arith in ap (λ m. sum_below m f) next
+pub in_base-more : (base n : ℕ) (d : ℕ → ℕ) → in_base base (n + 1) d ≡ base * in_base base n d + d n
+in_base-more base n d = let next : n + 1 ≡ suc n = omega arith in ap (λ m. in_base base m d) next
 
--- sums of what agrees
-pub sum-same : (n : ℕ) (f g : ℕ → ℕ) → ((i : ℕ) → i < n → f i ≡ g i) → sum_below n f ≡ sum_below n g
-sum-same zero f g same = refl
-sum-same (suc n) f g same =
-    rw (sum-same n f g (λ i low. same i (omega (arith, low))), same n (omega arith)) refl
+-- numbers with the same digits
+pub in_base-same : (base n : ℕ) (d e : ℕ → ℕ) → ((i : ℕ) → i < n → d i ≡ e i) → in_base base n d ≡ in_base base n e
+in_base-same base zero d e same = refl
+in_base-same base (suc n) d e same =
+    rw (in_base-same base n d e (λ i low. same i (omega (arith, low))), same n (omega arith)) refl
 
--- sums of what agrees but at one number
-pub sum-changed : (n k : ℕ) (f g : ℕ → ℕ) → k < n → ((i : ℕ) → i < n → i ≢ k → f i ≡ g i) → sum_below n g + f k ≡ sum_below n f + g k
-sum-changed zero k f g low others = absurd (omega (arith, low))
-sum-changed (suc n) k f g low others =
+in_base-none : (n : ℕ) → in_base 31 n (λ i. 0) ≡ 0
+in_base-none zero = refl
+in_base-none (suc n) = omega (arith, in_base-none n)
+
+-- numbers whose digits add up to the same
+in_base-sums : (n : ℕ) (a b c d : ℕ → ℕ) → ((i : ℕ) → i < n → a i + b i ≡ c i + d i) → in_base 31 n a + in_base 31 n b ≡ in_base 31 n c + in_base 31 n d
+in_base-sums zero a b c d same = refl
+in_base-sums (suc n) a b c d same = omega (arith, in_base-sums n a b c d (λ i low. same i (omega (arith, low))), same n (omega arith))
+
+-- one digit that is greater by a number
+in_base-greater : (n k x : ℕ) (d e : ℕ → ℕ) → k < n → ((i : ℕ) → i < n → i ≢ k → d i ≡ e i) → e k ≡ d k + x → in_base 31 n e ≡ in_base 31 n d + x * 31 ^ (n - 1 - k)
+in_base-greater zero k x d e low others is = absurd (omega (arith, low))
+in_base-greater (suc n) k x d e low others is =
     elim (cases_eq k n) [
       | inl last ↦
-          let before = sum-same n f g (λ i h. others i (omega (arith, h)) (λ e. omega (arith, h, e, last))) in
-          rw (last, before) (omega arith)
+          let before = in_base-same 31 n d e (λ i h. others i (omega (arith, h)) (λ e. omega (arith, h, e, last))) in
+          let none : suc n - 1 - k ≡ 0 = omega (arith, last) in
+          rw none (omega (arith, before, is, ap e last, ap d last))
       | inr other ↦
-          let before = sum-changed n k f g (omega (arith, low, other)) (λ i h. others i (omega (arith, h))) in
-          omega (arith, before, others n (omega arith) (λ e. other (sym e)))
+          let before = in_base-greater n k x d e (omega (arith, low, other)) (λ i h. others i (omega (arith, h))) is in
+          let one_less : suc n - 1 - k ≡ suc (n - 1 - k) = omega (arith, low, other) in
+          rw (one_less, pow-succ' 31 (n - 1 - k)) (omega (arith, before, others n (omega arith) (λ e. other (sym e))))
     ]
 
--- the word of the columns that pass a test
-module _ (test : ℕ → Bool) where
-  word-small : (n : ℕ) → word_below n test < 2 ^ n
-  word-small zero = omega arith
-  word-small (suc n) =
-      elim (cases_Bool (test n)) [
-        | inl is ↦ rw is (omega (arith, word-small n))
-        | inr not_one ↦ rw not_one (omega (arith, word-small n))
+-- Numbers that leave the same remainder.
+module _ (m : ℕ) where
+  same_mod : (x y z w : ℕ) → x + m * y ≡ z + m * w → x % m ≡ z % m
+  same_mod x y z w e = sym (add-mul-mod_self_left x m y) ∙ ap (λ n. n % m) e ∙ add-mul-mod_self_left z m w
+
+  same_sum : (a b c d : ℕ) → a % m ≡ b % m → c % m ≡ d % m → (a + c) % m ≡ (b + d) % m
+  same_sum a b c d e f =
+      sym (mod-add-mod a m c) ∙ ap (λ n. (n + c) % m) e ∙ mod-add-mod b m c
+      ∙ sym (add-mod-mod b c m) ∙ ap (λ n. (b + n) % m) f ∙ add-mod-mod b d m
+
+  same_product : (b x y : ℕ) → x % m ≡ y % m → (b * x) % m ≡ (b * y) % m
+  same_product b x y e = sym (mul-mod_second b x m) ∙ ap (λ n. (b * n) % m) e ∙ mul-mod_second b y m
+
+  -- a number with one digit more
+  pub digit_more : (base number digit : ℕ) → (number % m * (base % m) % m + digit % m) % m ≡ (base * number + digit) % m
+  digit_more base number digit =
+      add-mod-mod (number % m * (base % m) % m) digit m
+      ∙ ap (λ n. (n + digit) % m) (sym (mul-mod number base m))
+      ∙ mod-add-mod (number * base) m digit
+      ∙ ap (λ n. (n + digit) % m) (omega arith)
+
+  -- what is to be added to a number with one digit more
+  pub change_more : (base change more old new old_digit new_digit : ℕ) → (change + old) % m ≡ new % m → (more + old_digit) % m ≡ new_digit % m → ((change * (base % m) % m + more) % m + (base * old + old_digit)) % m ≡ (base * new + new_digit) % m
+  change_more base change more old new old_digit new_digit is is_digit =
+      mod-add-mod (change * (base % m) % m + more) m (base * old + old_digit)
+      ∙ ap (λ n. (n + more + (base * old + old_digit)) % m) (mul-mod_second change base m)
+      ∙ ap (λ n. n % m) (sym (turned (change * base % m)))
+      ∙ mod-add-mod (change * base) m (more + (base * old + old_digit))
+      ∙ ap (λ n. n % m) (turned-2)
+      ∙ same_sum (base * (change + old)) (base * new) (more + old_digit) new_digit (same_product base (change + old) new is) is_digit
+    where
+      turned : (x : ℕ) → x + (more + (base * old + old_digit)) ≡ x + more + (base * old + old_digit)
+      turned x = omega arith
+
+      turned-2 : change * base + (more + (base * old + old_digit)) ≡ base * (change + old) + (more + old_digit)
+      turned-2 = rw (mul-add base change old) (omega arith)
+
+  -- and at last to the whole number
+  pub change_added : (print change old new : ℕ) → print ≡ old % m → (change + old) % m ≡ new % m → (print + change) % m ≡ new % m
+  change_added print change old new is same =
+      ap (λ n. (n + change) % m) is ∙ mod-add-mod old m change ∙ ap (λ n. n % m) (omega arith) ∙ same
+
+-- what is left if some is taken away
+taken_away : (all rest less m : ℕ) → less % m < m → all ≡ rest + less → (all % m + (m - less % m)) % m ≡ rest % m
+taken_away all rest less m small same =
+    same_mod m (all % m + (m - less % m)) (all / m) rest (less / m + 1)
+    (omega (arith, same, small, mod-add-div all m, mod-add-div less m))
+
+-- what is to be added to a number with one row more, which differs or not
+module _ (m base change next shift : ℕ) where
+  pub row_changed : (more row : ℕ) (old new : ℕ → ℕ) → shift ≡ base % m → (change + in_base base row old) % m ≡ in_base base row new % m → next ≡ (change * shift % m + more) % m → (more + old row) % m ≡ new row % m → (next + in_base base (row + 1) old) % m ≡ in_base base (row + 1) new % m
+  row_changed more row old new is_base is next_is row_is =
+      ap (λ n. (n + in_base base (row + 1) old) % m) (next_is ∙ ap (λ n. (change * n % m + more) % m) is_base)
+      ∙ ap (λ n. ((change * (base % m) % m + more) % m + n) % m) (in_base-more base row old)
+      ∙ change_more m base change more (in_base base row old) (in_base base row new) (old row) (new row) is row_is
+      ∙ ap (λ n. n % m) (sym (in_base-more base row new))
+
+  pub row_unchanged : (row : ℕ) (old new : ℕ → ℕ) → shift ≡ base % m → (change + in_base base row old) % m ≡ in_base base row new % m → next ≡ change * shift % m → old row ≡ new row → (next + in_base base (row + 1) old) % m ≡ in_base base (row + 1) new % m
+  row_unchanged row old new is_base is next_is same =
+      row_changed 0 row old new is_base is (next_is ∙ sym (mod-mod (change * shift) m) ∙ ap (λ n. n % m) (omega arith)) (ap (λ n. n % m) (omega (arith, same)))
+
+-- what is to be added if some is added and some taken off
+pub change_left : (more less old new m : ℕ) → less % m < m → old + more ≡ new + less → ((more % m + (m - less % m)) % m + old) % m ≡ new % m
+change_left more less old new m small same =
+    mod-add-mod (more % m + (m - less % m)) m old
+    ∙ same_mod m (more % m + (m - less % m) + old) (more / m) new (less / m + 1)
+    (omega (arith, same, small, mod-add-div more m, mod-add-div less m))
+
+-- The number of a grid.
+
+-- what each cell does to a fold modulo a number
+abbrev pub next_cell : ℕ → ℕ → Cell → ℕ
+next_cell m print cell = (31 * print + code cell) % m
+
+abbrev digits : List Cell → ℕ → ℕ
+digits cells i = code (get_or cells i Empty)
+
+fold_number : (m : ℕ) (cells : List Cell) (n : ℕ) → n ≤ length cells → fold (next_cell m) 0 (take n cells) ≡ in_base 31 n (digits cells) % m
+fold_number m cells zero few = sym (zero-mod m)
+fold_number m cells (suc n) few =
+    let next : suc n ≡ n + 1 = omega arith in
+    let digit = digits cells n in
+    let number = in_base 31 n (digits cells) in
+    ap (λ i. fold (next_cell m) 0 (take i cells)) next
+    ∙ fold_more (next_cell m) 0 cells n Empty (omega (arith, few))
+    ∙ ap (λ x. (31 * x + digit) % m) (fold_number m cells n (omega (arith, few)))
+    ∙ sym (mod-add-mod (31 * (number % m)) m digit)
+    ∙ ap (λ x. (x + digit) % m) (mul-mod_second 31 number m)
+    ∙ mod-add-mod (31 * number) m digit
+
+whole_number : (m : ℕ) (cells : List Cell) → fold (next_cell m) 0 cells ≡ in_base 31 (length cells) (digits cells) % m
+whole_number m cells =
+    sym (ap (λ (l : List Cell). fold (next_cell m) 0 l) (take_all (length cells) cells (omega arith)))
+    ∙ fold_number m cells (length cells) (omega arith)
+
+-- the low 14 bits of a print are the same fold modulo 2^14
+pub low_bits : (g : Grid) → print_of g % 2 ^ 14 ≡ fold (λ print cell. (31 * print + code cell) % 16384) 0 g.cells
+unfolding print_of
+low_bits g =
+    let number = in_base 31 (length g.cells) (digits g.cells) in
+    ap (λ n. n % 2 ^ 14) (whole_number (2 ^ 64) g.cells)
+    ∙ omega arith
+    ∙ sym (whole_number 16384 g.cells)
+
+-- a number by two groups of its digits
+in_base-parts : (m n : ℕ) (d : ℕ → ℕ) → in_base 31 (m + n) d ≡ 31 ^ n * in_base 31 m d + in_base 31 n (λ i. d (m + i))
+in_base-parts m zero d = let all : m + 0 ≡ m = omega arith in ap (λ k. in_base 31 k d) all ∙ omega arith
+in_base-parts m (suc n) d =
+    let next : m + suc n ≡ suc (m + n) = omega arith in
+    ap (λ k. in_base 31 k d) next
+    ∙ ap (λ x. 31 * x + d (m + n)) (in_base-parts m n d)
+    ∙ rw (pow-succ' 31 n) (omega arith)
+
+-- a number by rows of digits
+in_base-rows : (side rows : ℕ) (d : ℕ → ℕ) → in_base 31 (rows * side) d ≡ in_base (31 ^ side) rows (λ row. in_base 31 side (λ col. d (row * side + col)))
+in_base-rows side zero d = let none : 0 * side ≡ 0 = omega arith in ap (λ k. in_base 31 k d) none
+in_base-rows side (suc rows) d =
+    ap (λ k. in_base 31 k d) (suc-mul rows side)
+    ∙ in_base-parts (rows * side) side d
+    ∙ ap (λ x. 31 ^ side * x + in_base 31 side (λ col. d (rows * side + col))) (in_base-rows side rows d)
+
+pub print_by_rows : (g : Grid) → length g.cells ≡ g.side * g.side → print_of g ≡ in_base (31 ^ g.side) g.side (row_number g) % 2 ^ 64
+unfolding print_of
+print_by_rows g all =
+    whole_number (2 ^ 64) g.cells
+    ∙ ap (λ n. in_base 31 n (digits g.cells) % 2 ^ 64) all
+    ∙ ap (λ n. n % 2 ^ 64) (in_base-rows g.side g.side (digits g.cells))
+
+-- a stone on an empty point adds its code times a power of 31
+pub stone_added : (g : Grid) (p : Point) (stone : Cell) → IsOn g.side p → cell_at g p ≡ Empty → length g.cells ≡ g.side * g.side → (print added : ℕ) → print ≡ print_of g → added % 2 ^ 64 ≡ (code stone * 31 ^ (g.side * g.side - 1 - index_of g.side p)) % 2 ^ 64 → (print + added) % 2 ^ 64 ≡ print_of (with_cell g p stone)
+unfolding print_of
+stone_added g p stone on empty all print added is adds =
+    let at = index_of g.side p in
+    let made = set g.cells at stone in
+    let points = g.side * g.side in
+    let below : at < points = index_below g.side p on in
+    let weight = 31 ^ (points - 1 - at) in
+    let old = in_base 31 points (digits g.cells) in
+    let grown : in_base 31 points (digits made) ≡ old + code stone * weight =
+    in_base-greater points at (code stone) (digits g.cells) (digits made) below
+    (λ i low other. ap code (sym (get_or-set_other g.cells at i stone Empty other)))
+    (ap code (get_or-set_same g.cells at stone Empty (omega (arith, below, all))) ∙ omega (arith, ap code empty)) in
+    same_sum (2 ^ 64) print old added (code stone * weight) (ap (λ n. n % 2 ^ 64) (is ∙ whole_number (2 ^ 64) g.cells ∙ ap (λ n. in_base 31 n (digits g.cells) % 2 ^ 64) all) ∙ omega arith) adds
+    ∙ ap (λ n. n % 2 ^ 64) (sym grown)
+    ∙ ap (λ n. in_base 31 n (digits made) % 2 ^ 64) (sym (length-set g.cells at stone ∙ all))
+    ∙ sym (whole_number (2 ^ 64) made)
+
+-- The numbers of words.
+
+code_by_bits : (c : Cell) (black white col : ℕ) → has_bit black col ≡ same_cell c Black → has_bit white col ≡ same_cell c White → code c ≡ bit_at black col + 2 * bit_at white col
+code_by_bits Empty black white col b w = omega (arith, bit_at-gone black col b, bit_at-gone white col w)
+code_by_bits Black black white col b w = omega (arith, bit_at-there black col b, bit_at-gone white col w)
+code_by_bits White black white col b w = omega (arith, bit_at-gone black col b, bit_at-there white col w)
+
+in_base-both : (n : ℕ) (d a b : ℕ → ℕ) → ((i : ℕ) → i < n → d i ≡ a i + 2 * b i) → in_base 31 n d ≡ in_base 31 n a + 2 * in_base 31 n b
+in_base-both zero d a b is = refl
+in_base-both (suc n) d a b is = omega (arith, in_base-both n d a b (λ i low. is i (omega (arith, low))), is n (omega arith))
+
+-- the number of cells by the words of the stones
+pub cells_by_words : (side black white : ℕ) (cell : ℕ → Cell) → ((col : ℕ) → col < side → has_bit black col ≡ same_cell (cell col) Black) → ((col : ℕ) → col < side → has_bit white col ≡ same_cell (cell col) White) → in_base 31 side (λ col. code (cell col)) ≡ word_number side black + 2 * word_number side white
+cells_by_words side black white cell b w =
+    in_base-both side (λ col. code (cell col)) (bit_at black) (bit_at white) (λ col low. code_by_bits (cell col) black white col (b col low) (w col low))
+
+-- the number of a row
+pub row_by_words : (g : Grid) (row side black white : ℕ) → g.side ≡ side
+    → ((col : ℕ) → col < side → has_bit black col ≡ same_cell (cell_at g (record { col = col; row = row })) Black)
+    → ((col : ℕ) → col < side → has_bit white col ≡ same_cell (cell_at g (record { col = col; row = row })) White)
+    → row_number g row ≡ word_number side black + 2 * word_number side white
+row_by_words g row side black white is b w =
+    ap (λ n. in_base 31 n (λ col. code (cell_at g (record { col = col; row = row })))) is
+    ∙ cells_by_words side black white (λ col. cell_at g (record { col = col; row = row })) b w
+
+-- the number of those cells of a row that a word has
+same_within : (word in_word : Bool) (c wanted : Cell) → same_cell Empty wanted ≡ false → word ≡ same_cell c wanted → (word && in_word) ≡ same_cell (cond in_word c Empty) wanted
+same_within word true c wanted stone is = and-true word ∙ is
+same_within word false c wanted stone is = and-false word ∙ sym stone
+
+pub row_within_words : (g : Grid) (row columns side black white : ℕ) → g.side ≡ side
+    → ((col : ℕ) → col < side → has_bit black col ≡ same_cell (cell_at g (record { col = col; row = row })) Black)
+    → ((col : ℕ) → col < side → has_bit white col ≡ same_cell (cell_at g (record { col = col; row = row })) White)
+    → row_within g columns row ≡ word_number side (bit_and black columns) + 2 * word_number side (bit_and white columns)
+row_within_words g row columns side black white is b w =
+    ap (λ n. in_base 31 n (λ col. code (cell col))) is
+    ∙ cells_by_words side (bit_and black columns) (bit_and white columns) cell
+    (λ col low. has_bit-and black columns col ∙ same_within (has_bit black col) (has_bit columns col) (cell_at g (record { col = col; row = row })) Black refl (b col low))
+    (λ col low. has_bit-and white columns col ∙ same_within (has_bit white col) (has_bit columns col) (cell_at g (record { col = col; row = row })) White refl (w col low))
+  where
+    cell : ℕ → Cell
+    cell col = cond (has_bit columns col) (cell_at g (record { col = col; row = row })) Empty
+
+pub none_within : (g : Grid) (row : ℕ) → row_within g 0 row ≡ 0
+none_within g row =
+    in_base-same 31 g.side (λ col. code (cond (has_bit 0 col) (cell_at g (record { col = col; row = row })) Empty)) (λ i. 0)
+    (λ col low. ap (λ b. code (cond b (cell_at g (record { col = col; row = row })) Empty)) (has_bit-zero col))
+    ∙ in_base-none g.side
+
+-- a number that is the sum of two, digit by digit
+in_base-split : (base n : ℕ) (d a b : ℕ → ℕ) → ((i : ℕ) → i < n → d i ≡ a i + b i) → in_base base n d ≡ in_base base n a + in_base base n b
+in_base-split base zero d a b is = refl
+in_base-split base (suc n) d a b is =
+    let before = in_base-split base n d a b (λ i low. is i (omega (arith, low))) in
+    let times : base * in_base base n d ≡ base * in_base base n a + base * in_base base n b = ap (λ x. base * x) before ∙ mul-add base (in_base base n a) (in_base base n b) in
+    omega (arith, times, is n (omega arith))
+
+-- a print without the stones that are taken off
+module _ (g full left : Grid) (taken : List ℕ) (full_side : full.side ≡ g.side) (left_side : left.side ≡ g.side) (gone : (p : Point) → IsOn g.side p → is_set taken p ≡ true → (cell_at left p ≡ Empty) × (cell_at full p ≡ cell_at g p)) (stays : (p : Point) → IsOn g.side p → is_set taken p ≡ false → cell_at full p ≡ cell_at left p) where
+  cell_left : (p : Point) → IsOn g.side p → code (cell_at full p) ≡ code (cell_at left p) + code (cond (is_set taken p) (cell_at g p) Empty)
+  cell_left p on =
+      elim (cases_Bool (is_set taken p)) [
+        | inl is ↦
+            let both = gone p on is in
+            omega (arith, ap code both.0, ap code both.1, ap (λ b. code (cond b (cell_at g p) Empty)) is)
+        | inr none ↦ omega (arith, ap code (stays p on none), ap (λ b. code (cond b (cell_at g p) Empty)) none)
       ]
 
-  word-bits : (n k : ℕ) → k < n → has_bit (word_below n test) k ≡ test k
-  word-bits zero k low = absurd (omega (arith, low))
-  word-bits (suc n) k low =
-      let word = word_below n test in
-      elim (cases_eq k n) [
-        | inl last ↦
-            elim (cases_Bool (test n)) [
-              | inl is ↦
-                  let joined : word + 2 ^ n ≡ 1 * 2 ^ n + word = omega arith in
-                  let first : n - n ≡ 0 = omega arith in
-                  rw (last, is, joined, bit_at_cat_high 1 n word n (word-small n) (omega arith), first) refl
-              | inr not_one ↦
-                  let joined : word + 0 ≡ word = omega arith in
-                  rw (last, not_one, joined, bit_at_above word n n (word-small n) (omega arith)) refl
-            ]
-        | inr other ↦
-            let below : k < n = omega (arith, low, other) in
-            elim (cases_Bool (test n)) [
-              | inl is ↦
-                  let joined : word + 2 ^ n ≡ 1 * 2 ^ n + word = omega arith in
-                  rw (is, joined, bit_at_cat_low 1 n word k below) (word-bits n k below)
-              | inr not_one ↦
-                  let joined : word + 0 ≡ word = omega arith in
-                  rw (not_one, joined) (word-bits n k below)
-            ]
-      ]
+  number_left : in_base (31 ^ g.side) g.side (row_number full) ≡ in_base (31 ^ g.side) g.side (row_number left) + number_within g taken
+  number_left =
+      in_base-split (31 ^ g.side) g.side (row_number full) (row_number left) (λ row. row_within g (slice_index taken row) row)
+      (λ row low.
+      ap (λ n. in_base 31 n (λ col. code (cell_at full (record { col = col; row = row })))) full_side
+      ∙ in_base-split 31 g.side (λ col. code (cell_at full (record { col = col; row = row }))) (λ col. code (cell_at left (record { col = col; row = row })))
+      (λ col. code (cond (is_set taken (record { col = col; row = row })) (cell_at g (record { col = col; row = row })) Empty))
+      (λ col col_low. cell_left (record { col = col; row = row }) (col_low, low))
+      ∙ ap (λ n. in_base 31 n (λ col. code (cell_at left (record { col = col; row = row }))) + row_within g (slice_index taken row) row) (sym left_side))
 
-  -- a word with just these columns is that word
-  pub word-is : (n word : ℕ) → ((k : ℕ) → k < n → has_bit word k ≡ test k) → ((k : ℕ) → has_bit word k ≡ true → k < n) → word ≡ word_below n test
-  word-is n word on off =
-      same_from_bits word (word_below n test)
-      (λ i.
-      elim (cases_lt i n) [
-        | inl low ↦ bit_same word (word_below n test) i (on i low ∙ sym (word-bits n i low))
-        | inr high ↦
-            bit_at-gone word i (false_from_ne_true _ (λ is. omega (arith, off i is, high)))
-            ∙ sym (bit_at_above (word_below n test) n i (word-small n) high)
-      ])
-
--- a player's stones have her colour
-pub is_black : (k : Colour) → sameb the_type k BlackPlayer ≡ same_cell (stone_of k) Black
-is_black BlackPlayer = refl
-is_black WhitePlayer = refl
-
-pub is_white : (k : Colour) → sameb the_type k WhitePlayer ≡ same_cell (stone_of k) White
-is_white BlackPlayer = refl
-is_white WhitePlayer = refl
-
--- one stone more in a row makes its word
-module _ (g : Grid) (p : Point) (stone wanted : Cell) (word next : ℕ) (b : Bool) (on : IsOn g.side p) (all : length g.cells ≡ g.side * g.side) (gone : has_bit word p.col ≡ false) (within : (k : ℕ) → k < g.side → has_bit word k ≡ same_cell (cell_at g (record { col = k; row = p.row })) wanted) (off : (k : ℕ) → has_bit word k ≡ true → k < g.side) (there : has_bit next p.col ≡ (has_bit word p.col || b)) (elsewhere : (k : ℕ) → k ≢ p.col → has_bit next k ≡ has_bit word k) (is_b : b ≡ same_cell stone wanted) where
-  pub word-after : next ≡ row_word (with_cell g p stone) wanted p.row
-  word-after =
-      word-is (λ k. same_cell (cell_at (with_cell g p stone) (record { col = k; row = p.row })) wanted) g.side next
-      (λ k low.
-      elim (cases_eq k p.col) [
-        | inl at ↦
-            ap (has_bit next) at ∙ there ∙ ap (λ x. x || b) gone ∙ is_b
-            ∙ ap (λ c. same_cell c wanted) (sym (ap (λ c. cell_at (with_cell g p stone) (record { col = c; row = p.row })) at ∙ cell_at-with_cell g p stone on all))
-        | inr other ↦
-            elsewhere k other ∙ within k low
-            ∙ ap (λ c. same_cell c wanted) (sym (cell_at-with_cell_elsewhere g p (record { col = k; row = p.row }) stone on (low, on.1) (λ e. other (ap (λ (q : Point). q.col) e))))
-      ])
-      (λ k is.
-      elim (cases_eq k p.col) [ inl at ↦ omega (arith, at, on.0) | inr other ↦ off k (sym (elsewhere k other) ∙ is) ])
-
--- what is the same but for multiples of a number is the same modulo it
-same_mod : (x y z w m : ℕ) → x + m * y ≡ z + m * w → x % m ≡ z % m
-same_mod x y z w m e = sym (add-mul-mod_self_left x m y) ∙ ap (λ n. n % m) e ∙ add-mul-mod_self_left z m w
-
--- a row's new print for its old one
-row-exchanged : (print new old : ℕ) → (((print + new % 2 ^ 64) % 2 ^ 64 + (2 ^ 64 - old % 2 ^ 64)) % 2 ^ 64) + old + 2 ^ 64 * ((print + new % 2 ^ 64) / 2 ^ 64 + ((print + new % 2 ^ 64) % 2 ^ 64 + (2 ^ 64 - old % 2 ^ 64)) / 2 ^ 64 + new / 2 ^ 64) ≡ print + new + 2 ^ 64 * (1 + old / 2 ^ 64)
-row-exchanged print new old =
-    let sum = print + new % 2 ^ 64 in
-    let rest = sum % 2 ^ 64 + (2 ^ 64 - old % 2 ^ 64) in
-    let small : old % 2 ^ 64 < 2 ^ 64 = mod_below old (2 ^ 64) (pow_pos 64) in
-    omega (arith, small, mod-add-div sum (2 ^ 64), mod-add-div rest (2 ^ 64), mod-add-div new (2 ^ 64), mod-add-div old (2 ^ 64))
-
-pub rows-more : (found print old new row_old row_new less more : ℕ) → found + old + 2 ^ 64 * less ≡ print + new + 2 ^ 64 * more → (x : ℕ) × (y : ℕ) × ((((found + row_new % 2 ^ 64) % 2 ^ 64 + (2 ^ 64 - row_old % 2 ^ 64)) % 2 ^ 64) + (old + row_old) + 2 ^ 64 * x ≡ print + (new + row_new) + 2 ^ 64 * y)
-rows-more found print old new row_old row_new less more same =
-    (less + ((found + row_new % 2 ^ 64) / 2 ^ 64 + ((found + row_new % 2 ^ 64) % 2 ^ 64 + (2 ^ 64 - row_old % 2 ^ 64)) / 2 ^ 64 + row_new / 2 ^ 64), more + (1 + row_old / 2 ^ 64), omega (arith, same, row-exchanged found row_new row_old))
-
--- at the end the new rows are left
-pub rows-exchanged : (found print old new less more : ℕ) → found < 2 ^ 64 → print ≡ old % 2 ^ 64 → found + old + 2 ^ 64 * less ≡ print + new + 2 ^ 64 * more → found ≡ new % 2 ^ 64
-rows-exchanged found print old new less more small is same =
-    sym (mod-eq_of_lt small) ∙ same_mod found (old / 2 ^ 64 + less) new more (2 ^ 64) (omega (arith, same, is, mod-add-div old (2 ^ 64)))
-
--- what is taken off again, modulo the same number
-taken_off : (now less more before m : ℕ) → less ≤ m → now + less ≡ before + more → ((before % m + more) % m + (m - less)) % m ≡ now % m
-taken_off now less more before m small same =
-    let whole : before + more + (m - less) ≡ now + m * 1 = omega (arith, small, same) in
-    ap (λ n. (n + (m - less)) % m) (mod-add-mod before m more)
-    ∙ mod-add-mod (before + more) m (m - less)
-    ∙ ap (λ n. n % m) whole
-    ∙ add-mul-mod_self_left now m 1
+  pub print_left : length full.cells ≡ full.side * full.side → length left.cells ≡ left.side * left.side → (print less : ℕ) → print ≡ print_of full → less ≡ number_within g taken % 2 ^ 64 → (print + (2 ^ 64 - less)) % 2 ^ 64 ≡ print_of left
+  print_left all all_left print less is less_is =
+      let m = 2 ^ 64 in
+      let number = in_base (31 ^ g.side) g.side (row_number full) in
+      let rest = in_base (31 ^ g.side) g.side (row_number left) in
+      ap (λ n. (n + (m - less)) % m) (is ∙ print_by_rows full all ∙ ap (λ n. in_base (31 ^ n) n (row_number full) % m) full_side)
+      ∙ ap (λ n. (number % m + (m - n)) % m) less_is
+      ∙ taken_away number rest (number_within g taken) m (mod_below (number_within g taken) m (pow_pos 64)) number_left
+      ∙ ap (λ n. in_base (31 ^ n) n (row_number left) % m) (sym left_side)
+      ∙ sym (print_by_rows left all_left)
 
 -- a row that is the same on two grids
-pub same-row : (g h : Grid) (row : ℕ) → h.side ≡ g.side → ((col : ℕ) → col < g.side → cell_at g (record { col = col; row = row }) ≡ cell_at h (record { col = col; row = row })) → print_in g row ≡ print_in h row
-same-row g h row side same =
-    ap (λ w. mixed row w (row_word g White row)) (word Black)
-    ∙ ap (λ w. mixed row (row_word h Black row) w) (word White)
+pub same_row : (g h : Grid) (row : ℕ) → h.side ≡ g.side → ((col : ℕ) → col < g.side → cell_at g (record { col = col; row = row }) ≡ cell_at h (record { col = col; row = row })) → row_number g row ≡ row_number h row
+same_row g h row side same =
+    in_base-same 31 g.side (λ col. code (cell_at g (record { col = col; row = row }))) (λ col. code (cell_at h (record { col = col; row = row }))) (λ col low. ap code (same col low))
+    ∙ ap (λ n. in_base 31 n (λ col. code (cell_at h (record { col = col; row = row })))) (sym side)
+
+-- what two words have each without the other
+pub words_apart : (side old new more less : ℕ) → ((col : ℕ) → col < side → has_bit more col ≡ (has_bit new col && not (has_bit old col))) → ((col : ℕ) → col < side → has_bit less col ≡ (has_bit old col && not (has_bit new col)))
+    → word_number side old + word_number side more ≡ word_number side new + word_number side less
+words_apart side old new more less more_is less_is =
+    in_base-sums side (bit_at old) (bit_at more) (bit_at new) (bit_at less) (λ col low. bits col (has_bit old col) (has_bit new col) refl refl (more_is col low) (less_is col low))
   where
-    coloured : Grid → Cell → ℕ → ℕ
-    coloured k wanted col = cond (same_cell (cell_at k (record { col = col; row = row })) wanted) (2 ^ col) 0
+    without : {a b x y : Bool} → a ≡ x → b ≡ y → (a && not b) ≡ (x && not y)
+    without {a} {b} {x} {y} e f = ap (λ c. c && not b) e ∙ ap (λ c. x && not c) f
 
-    word : (wanted : Cell) → row_word g wanted row ≡ row_word h wanted row
-    word wanted =
-        sum-same g.side (coloured g wanted) (coloured h wanted) (λ k low. ap (λ c. cond (same_cell c wanted) (2 ^ k) 0) (same k low))
-        ∙ ap (λ n. sum_below n (coloured h wanted)) (sym side)
+    bits : (col : ℕ) (o n : Bool) → has_bit old col ≡ o → has_bit new col ≡ n → has_bit more col ≡ (has_bit new col && not (has_bit old col)) → has_bit less col ≡ (has_bit old col && not (has_bit new col)) → bit_at old col + bit_at more col ≡ bit_at new col + bit_at less col
+    bits col true true o n m l = omega (arith, bit_at-there old col o, bit_at-there new col n, bit_at-gone more col (m ∙ without n o), bit_at-gone less col (l ∙ without o n))
+    bits col true false o n m l = omega (arith, bit_at-there old col o, bit_at-gone new col n, bit_at-gone more col (m ∙ without n o), bit_at-there less col (l ∙ without o n))
+    bits col false true o n m l = omega (arith, bit_at-gone old col o, bit_at-there new col n, bit_at-there more col (m ∙ without n o), bit_at-gone less col (l ∙ without o n))
+    bits col false false o n m l = omega (arith, bit_at-gone old col o, bit_at-gone new col n, bit_at-gone more col (m ∙ without n o), bit_at-gone less col (l ∙ without o n))
 
--- the print with one stone more
-module _ (g : Grid) (p : Point) (stone : Cell) (black white new_black new_white : ℕ) (on : IsOn g.side p) (all : length g.cells ≡ g.side * g.side) where
-  abbrev made : Grid
-  made = with_cell g p stone
+-- a word without one of its columns
+pub word_without : (side word next col : ℕ) → col < side → has_bit word col ≡ true → has_bit next col ≡ false → ((k : ℕ) → k ≢ col → has_bit next k ≡ has_bit word k) → word_number side word ≡ word_number side next + 31 ^ (side - 1 - col)
+word_without side word next col low is gone others =
+    in_base-greater side col 1 (bit_at next) (bit_at word) low (λ k h other. bit_same next word k (others k other)) (omega (arith, bit_at-there word col is, bit_at-gone next col gone))
+    ∙ omega arith
 
-  other_row : (wanted : Cell) (r : ℕ) → r < g.side → r ≢ p.row → row_word g wanted r ≡ row_word made wanted r
-  other_row wanted r low other =
-      sum-same g.side (λ k. cond (same_cell (cell_at g (record { col = k; row = r })) wanted) (2 ^ k) 0) (λ k. cond (same_cell (cell_at made (record { col = k; row = r })) wanted) (2 ^ k) 0) (λ k h. ap (λ c. cond (same_cell c wanted) (2 ^ k) 0) (sym (cell_at-with_cell_elsewhere g p (record { col = k; row = r }) stone on (h, low) (λ e. other (ap (λ (q : Point). q.row) e)))))
+-- the sum goes on with one column less
+pub column_counted : (m number left next weight : ℕ) → left ≡ next + weight → ((number + weight % m) % m + next) % m ≡ (number + left) % m
+column_counted m number left next weight is =
+    mod-add-mod (number + weight % m) m next
+    ∙ ap (λ n. n % m) (turned (weight % m))
+    ∙ add-mod-mod (number + next) weight m
+    ∙ ap (λ n. n % m) (omega (arith, is))
+  where
+    turned : (x : ℕ) → number + x + next ≡ number + next + x
+    turned x = omega arith
 
-  module _ (black_is : row_word g Black p.row ≡ black) (white_is : row_word g White p.row ≡ white) (new_black_is : row_word made Black p.row ≡ new_black) (new_white_is : row_word made White p.row ≡ new_white) where
-    pub print-more : (print : ℕ) → print ≡ print_of g → mixed p.row black white < 2 ^ 64 → ((print + mixed p.row new_black new_white) % 2 ^ 64 + (2 ^ 64 - mixed p.row black white)) % 2 ^ 64 ≡ print_of made
-    print-more print is small =
-        let more = mixed p.row new_black new_white in
-        let less = mixed p.row black white in
-        let before = sum_below g.side (print_in g) in
-        let now = sum_below g.side (print_in made) in
-        let changed = sum-changed g.side p.row (print_in g) (print_in made) on.1
-        (λ r low other. rw (other_row Black r low other, other_row White r low other) refl) in
-        let old : print_in g p.row ≡ less = rw (black_is, white_is) refl in
-        let new : print_in made p.row ≡ more = rw (new_black_is, new_white_is) refl in
-        ap (λ n. ((n + more) % 2 ^ 64 + (2 ^ 64 - less)) % 2 ^ 64) is
-        ∙ taken_off now less more before (2 ^ 64) (omega (arith, small)) (omega (arith, changed, old, new))
+pub no_column : (side : ℕ) → word_number side 0 ≡ 0
+no_column side = in_base-same 31 side (bit_at 0) (λ i. 0) (λ i low. bit_at-zero i) ∙ in_base-none side
+
+-- what is to be added for both colours
+pub in_both_colours : (m black white old_black old_white new_black new_white : ℕ) → (black + old_black) % m ≡ new_black % m → (white + old_white) % m ≡ new_white % m → ((black + 2 * white) % m + (old_black + 2 * old_white)) % m ≡ (new_black + 2 * new_white) % m
+in_both_colours m black white old_black old_white new_black new_white b w =
+    mod-add-mod (black + 2 * white) m (old_black + 2 * old_white)
+    ∙ ap (λ n. n % m) (omega arith)
+    ∙ same_sum m (black + old_black) new_black (2 * (white + old_white)) (2 * new_white) b (same_product m 2 (white + old_white) new_white w)
+
+-- the numbers of both colours, of which some is left out
+pub sum_of_both : (black white m : ℕ) → (black % m + 2 * (white % m)) % m ≡ (black + 2 * white) % m
+sum_of_both black white m =
+    mod-add-mod black m (2 * (white % m))
+    ∙ sym (add-mod-mod black (2 * (white % m)) m) ∙ ap (λ n. (black + n) % m) (mul-mod_second 2 white m) ∙ add-mod-mod black (2 * white) m
+
+-- what comes after a point
+module _ (side row col : ℕ) (in_row : col < side) (in_column : row < side) where
+  rows_left : (side - row) * side + row * side ≡ side * side
+  rows_left =
+      let split : side - row + row ≡ side = omega (arith, in_column) in
+      sym (add-mul (side - row) row side) ∙ ap (λ n. n * side) split
+
+  pub points_left : (side - row) * side - 1 - col ≡ side * side - 1 - (row * side + col)
+  points_left = omega (arith, rows_left)

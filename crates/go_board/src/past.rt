@@ -3,6 +3,7 @@
 mod changes;
 mod colourings;
 mod list_past;
+mod powers;
 pub(crate) mod print;
 mod print_past;
 mod key;

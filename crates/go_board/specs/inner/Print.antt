@@ -1,45 +1,47 @@
--- The print of a colouring: one number made from what stands on all its points. It is a sum of mixes of whole rows.
-use Rattle.std.specs.Prelude.{ℕ, zero, suc, ◌+◌, ◌*◌, ◌/◌, ◌%◌, ◌^◌, Bool, List, map, if◌then◌else◌, bit_xor}
-use Rattle.std.specs.Int.{w64, rotate_left}
+-- The print of a colouring: one number made from what stands on all its points.
+use Rattle.std.specs.Prelude.{ℕ, zero, suc, ◌+◌, ◌*◌, ◌%◌, ◌^◌, List, map, if◌then◌else◌, slice_index}
+use Rattle.std.specs.Int.{bit_at}
+use Rattle.std.specs.List.{fold}
 use Rattle.go_board.specs.declared.stones.Cell.{Cell}
-use Rattle.go_board.specs.declared.stones.Cell.TheVariants.{Black, White}
-use Rattle.go_board.specs.Colour.{same_cell}
+use Rattle.go_board.specs.declared.stones.Cell.TheVariants.{Black, White, Empty}
 use Rattle.go_board.specs.Grid.{Grid, cell_at}
 use Rattle.go_board.specs.Past.{Held}
+use Rattle.go_board.specs.inner.Rows.{has_bit}
 
--- the sum of the function's values at all numbers below a number
-abbrev pub sum_below : ℕ → (ℕ → ℕ) → ℕ
-sum_below zero f = 0
-sum_below (suc n) f = sum_below n f + f n
+-- the digit that a cell is in the print
+abbrev pub code : Cell → ℕ
+code Empty = 0
+code Black = 1
+code White = 2
 
--- the columns below a number that pass a test, as a word
-abbrev pub word_below : ℕ → (ℕ → Bool) → ℕ
-word_below n test = sum_below n (λ col. if test col then 2 ^ col else 0)
-
--- the columns of a row whose points have this cell, as a word
-abbrev pub row_word : Grid → Cell → ℕ → ℕ
-row_word grid cell row = word_below grid.side (λ col. same_cell (cell_at grid (record { col = col; row = row })) cell)
-
--- the two halves of a number below 2^128, joined
-abbrev pub folded : ℕ → ℕ
-folded product = bit_xor (product % 2 ^ 64) (product / 2 ^ 64)
-
--- a 64-bit number that depends on all stones of a row, and isn't linear in them
-unfoldable pub mixed : ℕ → ℕ → ℕ → ℕ
-mixed row black white =
-    let key : ℕ = (row + 1) * 10723151780598845931 % 2 ^ 64 in
-    let first : ℕ = bit_xor key black in
-    let second : ℕ = (rotate_left w64 key 32 + white) % 2 ^ 64 in
-    folded (first * second)
-
--- what a row of a grid adds to the print of the grid
-abbrev pub print_in : Grid → ℕ → ℕ
-print_in grid row = mixed row (row_word grid Black row) (row_word grid White row)
-
--- the print, a 64-bit number
-abbrev pub print_of : Grid → ℕ
-print_of grid = sum_below grid.side (print_in grid) % 2 ^ 64
+-- The print, a 64-bit number. The codes of the cells are the digits of a number in base 31: row by row from the top, from left to
+-- right. The print is that number modulo 2^64. So its low 14 bits are the number modulo 16384 (`low_bits` in PrintLemmas.antt).
+unfoldable pub print_of : Grid → ℕ
+print_of grid = fold (λ print cell. (31 * print + code cell) % 2 ^ 64) 0 grid.cells
 
 -- the prints of past colourings
 abbrev pub prints_of : List Held → List ℕ
 prints_of held = map (λ (one : Held). print_of one.colouring) held
+
+-- the number that has so many digits in a base; the first digit comes first
+abbrev pub in_base : ℕ → ℕ → (ℕ → ℕ) → ℕ
+in_base base zero digit = 0
+in_base base (suc n) digit = base * in_base base n digit + digit n
+
+-- the number whose digits are the cells of a row
+abbrev pub row_number : Grid → ℕ → ℕ
+row_number grid row = in_base 31 grid.side (λ col. code (cell_at grid (record { col = col; row = row })))
+
+-- the number whose digits are the first columns of a word: 1 for a column that it has, 0 for any other
+abbrev pub word_number : ℕ → ℕ → ℕ
+word_number side word = in_base 31 side (bit_at word)
+
+-- the number of those cells of a row whose columns a word has; the others count as empty
+abbrev pub row_within : Grid → ℕ → ℕ → ℕ
+row_within grid columns row =
+    in_base 31 grid.side
+    (λ col. code (if has_bit columns col then cell_at grid (record { col = col; row = row }) else Empty))
+
+-- the number of those cells of a grid that a set has
+abbrev pub number_within : Grid → List ℕ → ℕ
+number_within grid points = in_base (31 ^ grid.side) grid.side (λ row. row_within grid (slice_index points row) row)

@@ -1,52 +1,66 @@
 //! The print of a colouring: one number made from what stands on all its points.
 //! Usually one comparison of prints is enough to show that two colourings differ.
 //!
-//! It is a sum over the rows, each of which is mixed as a whole. Colourings with equal prints could be built from a formula if the mix
-//! were linear in the stones. A stone that takes nothing off changes one row, so its print takes two mixes.
+//! The codes of the cells (0 for empty, 1 for black, 2 for white) are the digits of a number in base 31: row by row from the top, from left
+//! to right. The print is that number modulo 2^64. Its low 14 bits are the number modulo 16384, the fingerprint of the colouring.
+//!
+//! A print is linear: a stone adds its code times a power of 31. So it takes few instructions to work out what a stone changes. Whoever
+//! knows that can make colourings with equal prints. This costs only bounded time: the table of prints says why.
 
-ghost use Rattle.std.specs.Prelude.{◌≡◌, ◌==◌, ◌||◌, ◌<◌, ◌%◌, ◌^◌, not, slice_index};
+ghost use Rattle.std.specs.Prelude.{◌≡◌, ◌<◌, ◌≤◌, ◌+◌, ◌-◌, ◌*◌, ◌%◌, ◌^◌, ℕ, IsTrue, slice_index};
 ghost use Rattle.go_board.specs.declared.stones.Cell.TheVariants.{Empty};
 ghost use Rattle.go_board.specs.Colour.{stone_of};
-ghost use Rattle.go_board.specs.Point.{IsOn};
+ghost use Rattle.go_board.specs.Point.{IsOn, index_of};
 ghost use Rattle.go_board.specs.Grid.{cell_at, with_cell};
 ghost use Rattle.go_board.specs.Clearing.{play};
 ghost use Rattle.go_board.specs.inner.Groups.{TakesOff};
-ghost use Rattle.go_board.specs.inner.Print.{mixed, print_in, print_of};
+ghost use Rattle.go_board.specs.inner.Print.{number_within, print_of, row_number, word_number};
+ghost use Rattle.go_board.specs.inner.Rows.{has_bit};
 
 use crate::board::Board;
-use crate::board::regions::{columns_left, with_column};
+use crate::board::regions::columns_left;
+use crate::board::stone_rows::{has_column, without_column};
+use crate::past::powers::{power, small_power};
 use crate::points::Point;
+use crate::size::MAX_SIDE;
 use crate::stones::Colour;
-
-/// An odd number with many bits set, which makes the key of a row.
-const ROW_MIXER: u64 = 0x94d0_49bb_1331_11eb;
 
 /// The print of a board.
 pub(crate) fn print_of(board: &Board) -> u64
     ensures { result ≡ print_of board.now }
 {
+    board.has_all_cells();
+    let side = board.size().side();
+    let shift = small_power(usize::from(side));
     let mut print: u64 = 0;
-    for row in 0..board.size().side() {
-        print = print.wrapping_add(print_of_row(board, row));
+    for row in 0..side {
+        let black = number_of(side, board.columns_of(row, Colour::Black));
+        let white = number_of(side, board.columns_of(row, Colour::White));
+        print = print
+            .wrapping_mul(shift)
+            .wrapping_add(in_both(black, white));
     }
     print
 }
 
-/// The print of a board, from the print of a board of the same size. Only rows that differ are looked at.
+/// The print of a board, from the print of a board of the same size. Only stones that differ are looked at.
 pub(crate) fn print_from(print: u64, old: &Board, new: &Board) -> u64
     requires side { new.now.side ≡ old.now.side }
     requires print { print ≡ print_of old.now }
     ensures { result ≡ print_of new.now }
 {
-    let mut found = print;
-    for row in 0..old.size().side() {
+    old.has_all_cells();
+    new.has_all_cells();
+    let side = old.size().side();
+    let shift = small_power(usize::from(side));
+    let mut change: u64 = 0;
+    for row in 0..side {
+        change = change.wrapping_mul(shift);
         if !old.has_same_row(new, row) {
-            found = found
-                .wrapping_add(print_of_row(new, row))
-                .wrapping_sub(print_of_row(old, row));
+            change = change.wrapping_add(change_between(old, new, row));
         }
     }
-    found
+    print.wrapping_add(change)
 }
 
 /// The print after a stone is put on an empty point, from the print before.
@@ -57,17 +71,14 @@ pub(crate) fn print_after_stone(print: u64, board: &Board, colour: Colour, point
     ensures { result ≡ print_of (with_cell board.now point (stone_of colour)) }
 {
     board.has_all_cells();
-    let col = usize::from(point.col);
-    let black = board.columns_of(point.row, Colour::Black);
-    let white = board.columns_of(point.row, Colour::White);
-    let new_black = with_column(black, col, colour == Colour::Black);
-    let new_white = with_column(white, col, colour == Colour::White);
-    print
-        .wrapping_add(mixed(point.row, new_black, new_white))
-        .wrapping_sub(mixed(point.row, black, white))
+    let weight = power(points_after(board.size().side(), point));
+    print.wrapping_add(match colour {
+        Colour::Black => weight,
+        Colour::White => weight.wrapping_mul(2),
+    })
 }
 
-/// The print after a stone is put on an empty point, from the print before; `taken` is what the stone takes off. Only rows that change
+/// The print after a stone is put on an empty point, from the print before; `taken` is what the stone takes off. Only stones that change
 /// are looked at.
 pub(crate) fn print_after_taking(
     print: u64,
@@ -83,23 +94,46 @@ pub(crate) fn print_after_taking(
     ensures { result ≡ print_of (play board.now colour point) }
 {
     board.has_all_cells();
-    let mut found = print;
-    for row in 0..board.size().side() {
-        if is_changed(point, taken, row) {
-            found = found
-                .wrapping_add(print_of_row_after(board, colour, point, taken, row))
-                .wrapping_sub(print_of_row(board, row));
-        }
-    }
-    found
+    let is_taken = has_column(columns_in(taken, point.row), usize::from(point.col));
+    let put = if is_taken {
+        print
+    } else {
+        print_after_stone(print, board, colour, point)
+    };
+    put.wrapping_sub(print_within(board, taken))
 }
 
-/// Whether a row has the point, or a point of `taken`. Both are looked at, since that takes no branch.
-fn is_changed(point: Point, taken: &[u64], row: u8) -> bool
-    ensures { result ≡ ((row == point.row) || not (slice_index taken.now row == 0)) }
+/// What those stones of a board that stand within a set of points add to its print.
+fn print_within(board: &Board, points: &[u64]) -> u64
+    ensures { result ≡ number_within board.now points.now % 2 ^ 64 }
 {
-    let has_point = row == point.row;
-    has_point | (columns_in(taken, row) != 0)
+    board.has_all_cells();
+    let side = board.size().side();
+    let shift = small_power(usize::from(side));
+    let mut print: u64 = 0;
+    for row in 0..side {
+        print = print.wrapping_mul(shift);
+        let within = columns_in(points, row);
+        if within != 0 {
+            let black = number_of(side, board.columns_of(row, Colour::Black) & within);
+            let white = number_of(side, board.columns_of(row, Colour::White) & within);
+            print = print.wrapping_add(in_both(black, white));
+        }
+    }
+    print
+}
+
+/// How many points come after a point, row by row from the top, from left to right.
+fn points_after(side: u8, point: Point) -> usize
+    requires on_board { IsOn side point }
+    requires side { side ≤ MAX_SIDE }
+    ensures value { result ≡ side * side - 1 - index_of side point }
+    ensures few { result < 2704 }
+{
+    // in 32 bits: then the compiled masks are short
+    let side = u32::from(side);
+    let rows = side - u32::from(point.row);
+    (rows * side - 1 - u32::from(point.col)) as usize
 }
 
 /// The columns of a row of a set, which may have fewer rows.
@@ -110,48 +144,54 @@ fn columns_in(rows: &[u64], row: u8) -> u64
     if row < rows.len() { rows[row] } else { 0 }
 }
 
-/// What a row adds to the print of a board, once a stone is put on an empty point and takes `taken` off.
-fn print_of_row_after(board: &Board, colour: Colour, point: Point, taken: &[u64], row: u8) -> u64
-    requires row { row < board.now.side }
-    requires on_board { IsOn board.now.side point }
-    requires empty { cell_at board.now point ≡ Empty }
-    requires taken { TakesOff board.now colour point taken.now }
-    ensures { result ≡ print_in (play board.now colour point) row % 2 ^ 64 }
+/// What is to be added to the number of a row of one board, modulo 2^64, to make that of the same row of another.
+fn change_between(old: &Board, new: &Board, row: u8) -> u64
+    requires side { new.now.side ≡ old.now.side }
+    requires row { row < old.now.side }
+    ensures { (result + row_number old.now row) % 2 ^ 64 ≡ row_number new.now row % 2 ^ 64 }
 {
-    board.has_all_cells();
-    let col = usize::from(point.col);
-    let gone = columns_in(taken, row);
-    let has_point = row == point.row;
-    let black = board.columns_of(row, Colour::Black);
-    let white = board.columns_of(row, Colour::White);
-    let with_black = with_column(black, col, has_point & (colour == Colour::Black));
-    let with_white = with_column(white, col, has_point & (colour == Colour::White));
-    mixed(
-        row,
-        columns_left(with_black, gone),
-        columns_left(with_white, gone),
+    let side = old.size().side();
+    let old_black = old.columns_of(row, Colour::Black);
+    let old_white = old.columns_of(row, Colour::White);
+    let new_black = new.columns_of(row, Colour::Black);
+    let new_white = new.columns_of(row, Colour::White);
+    in_both(
+        change_of(side, old_black, new_black),
+        change_of(side, old_white, new_white),
     )
 }
 
-/// What a row of a board adds to the print of the board.
-fn print_of_row(board: &Board, row: u8) -> u64
-    requires { row < board.now.side }
-    ensures { result ≡ print_in board.now row % 2 ^ 64 }
+/// What the black and the white stones of a row add up to. The code of a white stone is 2, so their number counts twice.
+fn in_both(black: u64, white: u64) -> u64
+    ensures { result ≡ (black + 2 * white) % 2 ^ 64 }
 {
-    let black = board.columns_of(row, Colour::Black);
-    let white = board.columns_of(row, Colour::White);
-    mixed(row, black, white)
+    black.wrapping_add(white.wrapping_mul(2))
 }
 
-/// A number that isn't linear in the stones of a row: the two halves of one product, joined (a folded multiply). Each factor has the key of
-/// the row in it. With keys that differ in few bits, equal changes of several rows would change their numbers alike. The bits of the keys
-/// above the columns are such that no factor is 0.
-fn mixed(row: u8, black: u64, white: u64) -> u64
-    ensures { result ≡ mixed row black white }
+/// What is to be added to the number of a word, modulo 2^64, to make that of another.
+fn change_of(side: u8, old: u64, new: u64) -> u64
+    requires side { side ≤ MAX_SIDE }
+    requires old { (col : ℕ) → IsTrue (has_bit old col) → col < side }
+    requires new { (col : ℕ) → IsTrue (has_bit new col) → col < side }
+    ensures { (result + word_number side old) % 2 ^ 64 ≡ word_number side new % 2 ^ 64 }
 {
-    let key = (u64::from(row) + 1).wrapping_mul(ROW_MIXER);
-    let first = key ^ black;
-    let second = key.rotate_left(32).wrapping_add(white);
-    let (low, high) = first.carrying_mul(second, 0);
-    low ^ high
+    let more = number_of(side, columns_left(new, old));
+    let less = number_of(side, columns_left(old, new));
+    more.wrapping_sub(less)
+}
+
+/// The number of a word, modulo 2^64: each column adds a power of 31.
+fn number_of(side: u8, columns: u64) -> u64
+    requires side { side ≤ MAX_SIDE }
+    requires columns { (col : ℕ) → IsTrue (has_bit columns col) → col < side }
+    ensures { result ≡ word_number side columns % 2 ^ 64 }
+{
+    let mut number: u64 = 0;
+    let mut left = columns;
+    'each: while left != 0 {
+        let col = left.trailing_zeros() as usize;
+        left = without_column(left, col);
+        number = number.wrapping_add(small_power(usize::from(side) - 1 - col));
+    }
+    number
 }

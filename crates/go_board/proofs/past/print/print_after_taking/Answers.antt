@@ -1,41 +1,47 @@
-use Rattle.std.proofs.Common.{◌≡◌, ◌+◌, ◌-◌, ◌*◌, ◌%◌, ◌^◌, ◌<◌, ap, sym, ◌∙◌, arith, rules}
+use Rattle.std.proofs.Common.{◌≡◌, ◌≢◌, ◌*◌, true, false, length, slice_index, refl, ap, ◌∙◌, sym}
+use Rattle.std.proofs.lemmas.Bool.{false≢true}
+use Rattle.std.proofs.lemmas.List.{length-set}
+use Rattle.go_board.specs.Colour.{stone_of}
+use Rattle.go_board.specs.Point.{index_of}
+use Rattle.go_board.specs.Grid.{with_cell}
 use Rattle.go_board.specs.Clearing.{play}
-use Rattle.go_board.specs.inner.Print.{print_in, sum_below}
-use Rattle.go_board.proofs.PrintLemmas.{rows-exchanged, rows-more, same-row, sum-more}
+use Rattle.go_board.specs.inner.Rows.{has_bit, is_set}
+use Rattle.go_board.proofs.GridLemmas.{cell_at-with_cell_elsewhere}
+use Rattle.go_board.proofs.PrintLemmas.{print_left}
 use Rattle.go_board.proofs.SettledLemmas.{side_play}
-use Rattle.go_board.proofs.TakenPrintLemmas.{unchanged_row}
 use Rattle.go_board.proofs.past.print.print_after_taking.Goals as goal
-use Rattle.go_board.proofs.past.print.print_after_taking.Goals.{then-is_changed, else-is_changed}
-
-pub loop-row-init : goal.loop-row-init
-loop-row-init c = record { less = 0; more = 0; same = omega arith }
-
-pub loop-row-preserved : goal.loop-row-preserved
-loop-row-preserved c =
-    let g = c.args.board.now in
-    let h = play g c.args.colour c.args.point in
-    let row = c.loop-row.row in
-    let was = c.loop-row.invariant in
-    let old = sum-more row (print_in g) in
-    let new = sum-more row (print_in h) in
-    elim c.if-is_changed.branch [
-      | then-is_changed w ↦
-          let found = rows-more c.loop-row.found c.args.print (sum_below row (print_in g)) (sum_below row (print_in h)) (print_in g row) (print_in h row) was.less was.more was.same in
-          let is = w.found-is ∙ ap (λ n. ((c.loop-row.found + n) % 2 ^ 64 + (2 ^ 64 - w.print_of_row.result)) % 2 ^ 64) w.print_of_row_after.ensures ∙ ap (λ n. ((c.loop-row.found + print_in h row % 2 ^ 64) % 2 ^ 64 + (2 ^ 64 - n)) % 2 ^ 64) w.print_of_row.ensures in
-          record { less = found.0; more = found.1; same = omega (arith, is, old, new, found.2) }
-      | else-is_changed w ↦
-          let low : row < g.side = omega (arith, c.loop-row-test.true, c.side-row-end.ensures.value, c.size.ensures) in
-          let same = same-row g h row (side_play g c.args.colour c.args.point)
-          (unchanged_row g c.args.colour c.args.point c.args.taken.now row c.requires.on_board low c.requires.taken (sym c.is_changed.ensures ∙ w.if-is_changed.false)) in
-          record { less = was.less; more = was.more; same = omega (arith, w.found-is, old, new, same, was.same) }
-    ]
+use Rattle.go_board.proofs.past.print.print_after_taking.Goals.{then-is_taken, else-is_taken}
 
 pub returns : goal.returns
 returns c =
     let g = c.args.board.now in
-    let h = play g c.args.colour c.args.point in
-    let was = c.loop-row.invariant in
-    let all : c.loop-row.row ≡ g.side = omega (arith, c.loop-row-test.false, c.loop-row.auto.row-end, c.side-row-end.ensures.value, c.size.ensures) in
-    let fits : c.loop-row.found < 2 ^ 64 = search rules in
-    rows-exchanged c.loop-row.found c.args.print (sum_below g.side (print_in g)) (sum_below h.side (print_in h)) was.less was.more fits c.requires.print
-    (ap (λ n. c.loop-row.found + sum_below n (print_in g) + 2 ^ 64 * was.less) (sym all) ∙ was.same ∙ ap (λ n. c.args.print + sum_below n (print_in h) + 2 ^ 64 * was.more) (all ∙ sym (side_play g c.args.colour c.args.point)))
+    let k = c.args.colour in
+    let p = c.args.point in
+    let taken = c.args.taken.now in
+    let made = with_cell g p (stone_of k) in
+    let left = play g k p in
+    let played = c.requires.taken.played in
+    let side = side_play g k p in
+    let all = c.has_all_cells.ensures.all in
+    let all_made = length-set g.cells (index_of g.side p) (stone_of k) ∙ all in
+    let all_left : length left.cells ≡ left.side * left.side = played.all ∙ all_made ∙ ap (λ n. n * n) (sym side) in
+    let is : c.has_column-is_taken.result ≡ is_set taken p =
+    c.has_column-is_taken.ensures ∙ ap (λ w. has_bit w c.from.result) c.columns_in.ensures ∙ ap (has_bit (slice_index taken p.row)) c.from.ensures in
+    elim c.if-is_taken.branch [
+      | then-is_taken w ↦
+          let there : is_set taken p ≡ true = sym is ∙ w.if-is_taken.true in
+          print_left g g left taken refl side
+          (λ q on gone. (played.emptied q on gone, refl))
+          (λ q on none.
+          let other : q ≢ p = λ e. false≢true (sym none ∙ ap (is_set taken) e ∙ there) in
+          sym (played.kept q on (λ gone. false≢true (sym none ∙ gone)) ∙ cell_at-with_cell_elsewhere g p q (stone_of k) c.requires.on_board on other))
+          all all_left c.if-is_taken.put c.print_within.result (w.put-is ∙ c.requires.print) c.print_within.ensures
+      | else-is_taken w ↦
+          let not_there : is_set taken p ≡ false = sym is ∙ w.if-is_taken.false in
+          print_left g made left taken refl side
+          (λ q on gone.
+          let other : q ≢ p = λ e. false≢true (sym not_there ∙ ap (is_set taken) (sym e) ∙ gone) in
+          (played.emptied q on gone, cell_at-with_cell_elsewhere g p q (stone_of k) c.requires.on_board on other))
+          (λ q on none. sym (played.kept q on (λ gone. false≢true (sym none ∙ gone))))
+          all_made all_left c.if-is_taken.put c.print_within.result (w.put-is ∙ w.print_after_stone-put.ensures) c.print_within.ensures
+    ]

@@ -1,36 +1,35 @@
-use Rattle.std.proofs.Common.{◌≡◌, ◌+◌, ◌-◌, ◌*◌, ◌%◌, ◌^◌, ◌<◌, ap, sym, ◌∙◌, arith, rules}
-use Rattle.go_board.specs.inner.Print.{print_in, sum_below}
-use Rattle.go_board.proofs.PrintLemmas.{rows-exchanged, rows-more, same-row, sum-more}
+use Rattle.std.proofs.Common.{◌≡◌, ◌+◌, ◌%◌, ◌^◌, ap, ◌∙◌, sym, arith}
+use Rattle.go_board.specs.inner.Print.{in_base, row_number}
+use Rattle.go_board.proofs.PrintLemmas.{change_added, print_by_rows, row_changed, row_unchanged, same_row}
 use Rattle.go_board.proofs.past.print.print_from.Goals as goal
 use Rattle.go_board.proofs.past.print.print_from.Goals.{then-not-has_same_row, else-not-has_same_row}
 
-pub loop-row-init : goal.loop-row-init
-loop-row-init c = record { less = 0; more = 0; same = omega arith }
-
 pub loop-row-preserved : goal.loop-row-preserved
 loop-row-preserved c =
+    let m = 2 ^ 64 in
     let g = c.args.old.now in
     let h = c.args.new.now in
     let row = c.loop-row.row in
-    let was = c.loop-row.invariant in
-    let old = sum-more row (print_in g) in
-    let new = sum-more row (print_in h) in
+    let base = 31 ^ g.side in
+    let change = c.loop-row.change in
+    let shift : c.small_power-shift.result ≡ base % m = c.small_power-shift.ensures ∙ ap (λ n. 31 ^ n % m) (c.from.ensures ∙ c.side-side.ensures.value ∙ c.size.ensures) in
     elim c.if-not-has_same_row.branch [
       | then-not-has_same_row w ↦
-          let found = rows-more c.loop-row.found c.args.print (sum_below row (print_in g)) (sum_below row (print_in h)) (print_in g row) (print_in h row) was.less was.more was.same in
-          let is = w.found-is ∙ ap (λ n. ((c.loop-row.found + n) % 2 ^ 64 + (2 ^ 64 - w.print_of_row-then-not-has_same_row.result)) % 2 ^ 64) w.print_of_row.ensures ∙ ap (λ n. ((c.loop-row.found + print_in h row % 2 ^ 64) % 2 ^ 64 + (2 ^ 64 - n)) % 2 ^ 64) w.print_of_row-then-not-has_same_row.ensures in
-          record { less = found.0; more = found.1; same = omega (arith, is, old, new, found.2) }
+          row_changed m base change c.if-not-has_same_row.change c.small_power-shift.result w.change_between-change.result row (row_number g) (row_number h) shift c.loop-row.invariant w.change-is w.change_between-change.ensures
       | else-not-has_same_row w ↦
-          let same = same-row g h row c.requires.side (c.has_same_row.ensures w.if-not-has_same_row.false) in
-          record { less = was.less; more = was.more; same = omega (arith, w.found-is, old, new, same, was.same) }
+          row_unchanged m base change c.if-not-has_same_row.change c.small_power-shift.result row (row_number g) (row_number h) shift c.loop-row.invariant w.change-is
+          (same_row g h row c.requires.side (c.has_same_row.ensures w.if-not-has_same_row.false))
     ]
 
 pub returns : goal.returns
 returns c =
+    let m = 2 ^ 64 in
     let g = c.args.old.now in
     let h = c.args.new.now in
-    let was = c.loop-row.invariant in
-    let all : c.loop-row.row ≡ g.side = omega (arith, c.loop-row-test.false, c.loop-row.auto.row-end, c.side-row-end.ensures.value, c.size.ensures) in
-    let fits : c.loop-row.found < 2 ^ 64 = search rules in
-    rows-exchanged c.loop-row.found c.args.print (sum_below g.side (print_in g)) (sum_below h.side (print_in h)) was.less was.more fits c.requires.print
-    (ap (λ n. c.loop-row.found + sum_below n (print_in g) + 2 ^ 64 * was.less) (sym all) ∙ was.same ∙ ap (λ n. c.args.print + sum_below n (print_in h) + 2 ^ 64 * was.more) (all ∙ sym c.requires.side))
+    let base = 31 ^ g.side in
+    let change = c.loop-row.change in
+    let all : c.loop-row.row ≡ g.side = omega (arith, c.loop-row-test.false, c.loop-row.auto.row-end, c.side-side.ensures.value, c.size.ensures) in
+    change_added m c.args.print change (in_base base g.side (row_number g)) (in_base base g.side (row_number h)) (c.requires.print ∙ print_by_rows g c.has_all_cells.ensures.all)
+    (ap (λ n. (change + in_base base n (row_number g)) % m) (sym all) ∙ c.loop-row.invariant ∙ ap (λ n. in_base base n (row_number h) % m) all)
+    ∙ ap (λ n. in_base (31 ^ n) n (row_number h) % m) (sym c.requires.side)
+    ∙ sym (print_by_rows h c.has_all_cells-2.ensures.all)

@@ -1,11 +1,9 @@
--- What is found so far with the old rows, and the old print with the new ones, are the same but for multiples of 2^64.
-use Rattle.std.proofs.Common.{◌≡◌, ℕ, ◌+◌, ◌*◌, ◌^◌}
-use Rattle.go_board.specs.inner.Print.{print_in, sum_below}
+-- What is to be added to the number of the rows so far.
+use Rattle.std.proofs.Common.{◌≡◌, ◌+◌, ◌%◌, ◌^◌}
+use Rattle.go_board.specs.inner.Print.{in_base, row_number}
 use Rattle.go_board.proofs.past.print.print_from.Given as goal
 
 abbrev pub invariant-loop-row : goal.invariant-loop-row
-invariant-loop-row l = record {
-  less : ℕ;
-  more : ℕ;
-  same : l.found + sum_below l.row (print_in l.old) + 2 ^ 64 * less ≡ l.print + sum_below l.row (print_in l.new) + 2 ^ 64 * more;
-}
+invariant-loop-row l =
+    (l.change + in_base (31 ^ l.old.side) l.row (row_number l.old)) % 2 ^ 64
+    ≡ in_base (31 ^ l.old.side) l.row (row_number l.new) % 2 ^ 64
