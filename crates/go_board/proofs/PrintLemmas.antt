@@ -1,5 +1,5 @@
 -- The print of a colouring as a number in base 31: the numbers of its rows, and of the words of its stones.
-use Rattle.std.proofs.Common.{◌≡◌, ◌≢◌, inl, inr, ℕ, zero, suc, ◌+◌, ◌-◌, ◌*◌, ◌/◌, ◌%◌, ◌^◌, ◌<◌, ◌≤◌, ◌&&◌, Bool, true, false, not, cond, bit_and, List, slice_index, length, get_or, set, take, refl, sym, ap, ◌∙◌, arith}
+use Rattle.std.proofs.Common.{◌≡◌, ◌≢◌, inl, inr, ℕ, zero, suc, ◌+◌, ◌-◌, ◌*◌, ◌/◌, ◌%◌, ◌^◌, ◌<◌, ◌≤◌, ◌&&◌, Bool, true, false, not, cond, bit_and, List, slice_index, length, get_or, set, take, refl, sym, subst, ap, ◌∙◌, arith}
 use Rattle.std.specs.Int.{bit_at}
 use Rattle.std.specs.List.{fold}
 use Rattle.std.proofs.Math.Nat.{mod-add-mod, add-mod-mod, add-mul-mod_self_left, mod-add-div, mod-mod, add-mul, mul-add, pow-succ', zero-mod, suc-mul}
@@ -157,6 +157,10 @@ low_bits g =
     ap (λ n. n % 2 ^ 14) (whole_number (2 ^ 64) g.cells)
     ∙ omega arith
     ∙ sym (whole_number 16384 g.cells)
+
+pub print_small : (g : Grid) → print_of g < 2 ^ 64
+unfolding print_of
+print_small g = subst (λ n. n < 2 ^ 64) (sym (whole_number (2 ^ 64) g.cells)) (mod_below (in_base 31 (length g.cells) (digits g.cells)) (2 ^ 64) (pow_pos 64))
 
 -- a number by two groups of its digits
 in_base-parts : (m n : ℕ) (d : ℕ → ℕ) → in_base 31 (m + n) d ≡ 31 ^ n * in_base 31 m d + in_base 31 n (λ i. d (m + i))

@@ -11,7 +11,8 @@ use Rattle.go_board.specs.Clearing.{play}
 use Rattle.go_board.specs.Past.{Held, PastColourings, all_of, newest_grid, only, stretch_of, present_stretch, AllHaveSide, HaveSide}
 use Rattle.go_board.specs.Reason.{WasEmptied}
 use Rattle.go_board.specs.inner.Emptied.{HasEmptied, HasAllEmptied, IsPrintPast}
-use Rattle.go_board.specs.inner.Print.{prints_of}
+use Rattle.go_board.specs.declared.past.table.Table.{Table}
+use Rattle.go_board.specs.inner.Table.{IsTable}
 use Rattle.go_board.specs.inner.Groups.{TakesOff}
 use Rattle.go_board.specs.inner.Rows.{is_set, IsAmong}
 use Rattle.go_board.proofs.PointLemmas.{same_or_not}
@@ -75,8 +76,8 @@ never_back past k p rows emptied on all none sides kept takes fresh stays has =
     false≢true (sym fresh ∙ was_in_set (is_set emptied) g.side p on (all_of past) sides kept was)
 
 -- a past of one colouring
-pub only_kept : (colourings : PastColourings) (prints emptied : List ℕ) (grid : Grid) → colourings ≡ only grid → reverse prints ≡ prints_of (all_of colourings) → IsPrintPast colourings prints emptied
-only_kept colourings prints emptied grid is printed = record {
-  printed = printed;
+pub only_kept : (colourings : PastColourings) (table : Table) (emptied : List ℕ) (grid : Grid) → colourings ≡ only grid → IsTable (all_of colourings) table → IsPrintPast colourings table emptied
+only_kept colourings table emptied grid is tabled = record {
+  tabled = tabled;
   emptied_in = subst (λ (past : PastColourings). HasAllEmptied (is_set emptied) (all_of past)) (sym is) tt;
 }

@@ -3,7 +3,6 @@ use Rattle.std.proofs.Common.{◌≡◌, ◌≢◌, ◌==◌, ℕ, zero, suc, �
 use Rattle.std.specs.Vec.{vec_capacity}
 use Rattle.std.proofs.lemmas.Bool.{cases_lt, cases_eq, cases_Bool, ne_eqb, eq-eqb}
 use Rattle.std.proofs.lemmas.List.{drop-drop, length-drop, reverse-append, length-map}
-use Rattle.std.proofs.lemmas.Nat.{mod_below, pow_pos}
 use Rattle.go_board.specs.declared.past.key.TheConstants.{WIDTH}
 use Rattle.go_board.specs.declared.past.table.Table.{Table}
 use Rattle.go_board.specs.declared.past.trie.Node.{Node}
@@ -15,11 +14,9 @@ use Rattle.go_board.specs.inner.Print.{print_of, prints_of}
 use Rattle.go_board.specs.inner.Table.{IsTable}
 use Rattle.go_board.specs.inner.Trie.{Agree, IsTrie, IsTree, IsOnWay, IsNearest, IsParting, row_of, depth_of, kid_of, without_newest}
 use Rattle.go_board.proofs.KeyLemmas.{front_same, front_agrees, whole_same}
+use Rattle.go_board.proofs.PrintLemmas.{print_small}
 use Rattle.go_board.proofs.PrintPastLemmas.{IsAt, index-of, of-index, same_length, print-number}
 use Rattle.go_board.proofs.TrieLemmas.{agree_self, agree_on, agree_back, agree_less, trie_tree, trie_length, row_first, row_before, way_equal, way_parts}
-
-pub print-small : (grid : Grid) → print_of grid < 2 ^ 64
-print-small grid = mod_below _ (2 ^ 64) (pow_pos 64)
 
 -- Starts of stretches.
 
@@ -193,7 +190,7 @@ module _ (held : List Held) (table : Table) (is : IsTable held table) where
         let found : Agree (row_of linked_rows near) key 128 = way_equal tree way stop (omega arith) number low agrees in
         let front : Agree (key_row start' (print_of grid') grid') (key_row start print any) 128 = subst (λ x. Agree x (key_row start print any) 128) near_key (subst (λ x. Agree (row_of linked_rows near) x 128) is_key found) in
         let before : start' ≤ near = start-before held near (omega (arith, near_in, linked_few)) in
-        let same = front_same start' start (print_of grid') print grid' any (omega (arith, before, near_in, few_nodes)) start_small (print-small grid') print_fits front in
+        let same = front_same start' start (print_of grid') print grid' any (omega (arith, before, near_in, few_nodes)) start_small (print_small grid') print_fits front in
         (omega (arith, before, same.0), print_there near grid' (omega (arith, near_in, linked_few)) there.1 ∙ same.1)
 
     -- If a colouring in the trie has these bits, so has the one where the walk by all of them ends.
@@ -269,7 +266,7 @@ module _ (held : List Held) (table : Table) (is : IsTable held table) (some : 0 
       let front : Agree (key_row (start_of (since near held)) (print_of there.0) there.0) (key_row start print grid) 128 =
           agree_less 128 (omega arith) (subst (λ x. Agree x (key_row start print grid) WIDTH) near_key (subst (λ x. Agree (row_of (linked_rows held table is) near) x WIDTH) is_key found)) in
       let before = start-before held near (omega (arith, near_in, linked_few held table is)) in
-      let same = front_same (start_of (since near held)) start (print_of there.0) print there.0 grid (omega (arith, before, near_in, few_nodes held table is)) small (print-small there.0) fits front in
+      let same = front_same (start_of (since near held)) start (print_of there.0) print there.0 grid (omega (arith, before, near_in, few_nodes held table is)) small (print_small there.0) fits front in
       omega (arith, before, same.0)
 
   pub nearest_parts : Nearest 128 → (start print place start' print' : ℕ) (other : ℕ → Bool) (any any' grid : Grid) → key ≡ key_row start print any → other ≡ key_row start' print' any'

@@ -4,12 +4,12 @@ use Rattle.go_board.specs.declared.stones.Cell.TheVariants.{Empty}
 use Rattle.go_board.specs.Point.{IsOn}
 use Rattle.go_board.specs.Grid.{Grid, cell_at}
 use Rattle.go_board.specs.Clearing.{play}
-use Rattle.go_board.specs.Past.{PastColourings, all_of, newest_grid, with_next, IsPlayed}
+use Rattle.go_board.specs.Past.{Held, PastColourings, all_of, newest_grid, with_next, IsPlayed}
 use Rattle.go_board.specs.inner.Emptied.{HasAllEmptied}
 use Rattle.go_board.specs.inner.Groups.{TakesOff}
 use Rattle.go_board.specs.inner.Print.{print_of}
 use Rattle.go_board.specs.inner.Rows.{is_set}
-use Rattle.go_board.proofs.PrintPastLemmas.{printed-next}
+use Rattle.go_board.specs.inner.Table.{IsTable}
 use Rattle.go_board.proofs.RepeatLemmas.{HasAllEmptied-more, emptied_by_play}
 use Rattle.go_board.proofs.past.print_past.PrintPast.play_taking.Goals as goal
 
@@ -33,7 +33,8 @@ invariant_of-self-2 c =
     let empty : cell_at g p ≡ Empty = ap (λ (past : PastColourings). cell_at (newest_grid past) p) kept ∙ c.requires.empty in
     let takes : TakesOff g k p rows = subst (λ (past : PastColourings). TakesOff (newest_grid past) k p rows) (sym kept) c.requires.taken in
     record {
-      printed = printed-next was.colourings c.add_stone.new.self was.prints c.push.new.self c.print_once_put-print.result (play g k p) false made c.in_ok-push.ensures.ok print c.self-2.invariant.printed;
+      tabled = subst (λ (past : PastColourings). IsTable (all_of past) c.push.new.self) (sym made)
+          (c.in_ok-push.ensures.ok (all_of was.colourings) (record { colouring = play g k p; begins = false }) c.self-2.invariant.tabled print);
       emptied_in = subst (λ (past : PastColourings). HasAllEmptied (is_set c.add_points.new.all) (all_of past)) (sym made) (
         λ goes_on q at some free. c.add_points.ensures.both q ∙ or_right _ _ (emptied_by_play g k p rows on empty takes q at some free),
         HasAllEmptied-more (is_set was.emptied) (is_set c.add_points.new.all) (all_of was.colourings) (λ q is. c.add_points.ensures.both q ∙ or_left _ _ is) c.self-2.invariant.emptied_in,
@@ -43,3 +44,31 @@ invariant_of-self-2 c =
 pub returns-then-may_have : goal.returns-then-may_have
 returns-then-may_have c =
     subst (λ (past : PastColourings). IsPlayed c.args.colour c.args.point past c.play_on_copy.new.self c.play_on_copy.result) c.may_have.ensures.kept c.play_on_copy.ensures
+
+pub invariant_of-self : goal.invariant_of-self
+invariant_of-self c =
+    let was = c.self-2.inside in
+    record { tabled = c.in_err-push.ensures.err (all_of was.colourings) c.self-2.invariant.tabled; emptied_in = c.self-2.invariant.emptied_in }
+
+pub pop-requires : goal.pop-requires
+pop-requires c =
+    let was = c.self-2.inside in
+    let kept : was.colourings ≡ c.args.self.now = c.self-2.view_is ∙ c.may_have.ensures.kept in
+    let made = play (newest_grid was.colourings) c.args.colour c.args.point in
+    let print : c.print_once_put-print.result ≡ print_of made = c.print_once_put-print.ensures ∙ ap (λ (past : PastColourings). print_of (play (newest_grid past) c.args.colour c.args.point)) (sym kept) in
+    let next : Held = record { colouring = made; begins = false } in
+    (next, all_of was.colourings, c.in_ok-push.ensures.ok (all_of was.colourings) next c.self-2.invariant.tabled print)
+
+pub invariant_of-self-then-is_err : goal.invariant_of-self-then-is_err
+invariant_of-self-then-is_err c =
+    let was = c.self-2.inside in
+    let kept : was.colourings ≡ c.args.self.now = c.self-2.view_is ∙ c.may_have.ensures.kept in
+    let made = play (newest_grid was.colourings) c.args.colour c.args.point in
+    let print : c.print_once_put-print.result ≡ print_of made = c.print_once_put-print.ensures ∙ ap (λ (past : PastColourings). print_of (play (newest_grid past) c.args.colour c.args.point)) (sym kept) in
+    let next : Held = record { colouring = made; begins = false } in
+    let same : c.add_stone.new.self ≡ was.colourings = search rules in
+    record {
+      tabled = subst (λ (past : PastColourings). IsTable (all_of past) c.pop.new.self) (sym same)
+          (c.pop.ensures next (all_of was.colourings) (c.in_ok-push.ensures.ok (all_of was.colourings) next c.self-2.invariant.tabled print));
+      emptied_in = subst (λ (past : PastColourings). HasAllEmptied (is_set was.emptied) (all_of past)) (sym same) c.self-2.invariant.emptied_in;
+    }
