@@ -16,9 +16,9 @@
 docs/OUTPUT.md of sgfsplit explains the numbers. The module needs Python 3.9 or later.
 
 Texts: a text is bytes, or any other object that lends its bytes (a bytearray, a memoryview, an mmap, a subclass of bytes). bytes are
-read where they lie, since nothing can change them. Any other text is copied once when the call begins: 64 MiB take some 10 to 40
-milliseconds. Then the object is free again, so it can be changed, resized or closed, also after a fault. A str is refused, because places
-are offsets in bytes.
+read where they lie, since nothing can change them. Any other text is copied once when the call begins; 64 MiB take some 10 to 50
+milliseconds. The call then keeps no hold of the object: it can be changed, resized or closed, also after a fault. A str is refused,
+because places are offsets in bytes.
 
 Numbers: `after`, `limit` and `place` are ints from 0 to 2**64 - 1, or of another type that Python takes for an int, such as numpy's. A
 bool is refused. A wrong type raises TypeError. A number out of this range, and a form that isn't one of the three, raise ValueError.
@@ -33,8 +33,8 @@ Processes: the module keeps nothing between two calls. A child process may call 
 process while another thread of it is in a call: memory may then be locked in the child for good. (This is so for most modules.)
 
 The library: libsgflines.so.0 does the work. The variable SGFLINES names the file to load. Without it, the library of this module's own
-installation is loaded, or of the checkout that the module stands in (in `out/`), or the one beside the module, or else the system's. A
-library in a folder that all users may write to isn't loaded, unless SGFLINES names it or the system finds it.
+installation is loaded, or of the checkout that the module stands in (in `out/`), or the one beside the module, or else the system's. If
+all users may write to a library or to its folder, it isn't loaded, unless SGFLINES names it or the system finds it.
 """
 import ctypes
 import operator
@@ -156,9 +156,9 @@ class _Judged(ctypes.Structure):
                 ("turn", ctypes.c_uint64), ("place", ctypes.c_uint64), ("at", ctypes.c_uint64), ("over", ctypes.c_bool)]
 
 
-def _all_may_write(folder):
-    """Whether every user may write to a folder, so that anybody may have put a library there."""
-    return bool(os.stat(folder).st_mode & stat.S_IWOTH)
+def _all_may_write(path):
+    """Whether every user may write to a file or folder, so that anybody may have put a library there."""
+    return bool(os.stat(path).st_mode & stat.S_IWOTH)
 
 
 def _near():
@@ -172,14 +172,17 @@ def _near():
         folders.insert(0, os.path.join(top, "out"))
     for folder in folders:
         path = os.path.join(folder, LIBRARY)
-        if os.path.exists(path) and not _all_may_write(folder):
+        if os.path.exists(path) and not _all_may_write(folder) and not _all_may_write(path):
             return path
     return None
 
 
 def _library():
     """Loads the library, and sets the types of its functions."""
-    library = ctypes.CDLL(os.environ.get("SGFLINES") or _near() or LIBRARY)
+    try:
+        library = ctypes.CDLL(os.environ.get("SGFLINES") or _near() or LIBRARY)
+    except OSError as error:
+        raise OSError(f"{error} (the module's own text says where it is looked for; `make lib` builds it)") from None
     size, pointer = ctypes.c_size_t, ctypes.c_void_p
     library.sgf_lines_split.argtypes = [pointer, size, ctypes.POINTER(_Asked), pointer, size, ctypes.POINTER(_Answer)]
     library.sgf_lines_split.restype = ctypes.c_uint32
@@ -251,18 +254,28 @@ def _refuse(status, at):
 
 
 def _split(text, asked):
-    """Calls the library. Returns the status, the offset that it names, and the joined records."""
+    """Calls the library. Returns the status, what it reports, and the joined records."""
     fixed, answer = _fixed(text), _Answer()
     size = 2 * min(len(fixed), MAX_LENGTH) + 1024
     while True:
         room = bytearray(size)
-        # a c_char, and no array of this size: ctypes would keep a type for each size
+        # a c_char, and no array of them: ctypes would keep a type for each size
         start = ctypes.c_char.from_buffer(room)
         status = _LIBRARY.sgf_lines_split(fixed, len(fixed), asked, ctypes.addressof(start), size, answer)
         if status != ROOM_TOO_SMALL:
             break
         size = answer.bytes
-    return status, answer.at, bytes(memoryview(room)[:answer.bytes])
+    return status, answer, bytes(memoryview(room)[:answer.bytes])
+
+
+def _joined(text, form, after, limit):
+    """The number of the records, and the records, joined."""
+    has_after, after = _option("after", after)
+    has_limit, limit = _option("limit", limit)
+    status, answer, joined = _split(text, _Asked(_form(form), has_after, has_limit, after, limit))
+    if status != DONE:
+        _refuse(status, answer.at)
+    return answer.lines, joined
 
 
 def output(text, form="list", after=None, limit=None):
@@ -270,17 +283,11 @@ def output(text, form="list", after=None, limit=None):
 
     form: "list", "sgf" or "gtp". after: only the lines after the one with this place. limit: at most the first `limit` lines.
     """
-    has_after, after = _option("after", after)
-    has_limit, limit = _option("limit", limit)
-    asked = _Asked(_form(form), has_after, has_limit, after, limit)
-    status, at, joined = _split(text, asked)
-    if status != DONE:
-        _refuse(status, at)
-    return joined
+    return _joined(text, form, after, limit)[1]
 
 
 def _parts(joined, end):
-    """The records of an output in which each record ends with the first `end` in it."""
+    """The parts of an output, each of which ends with the first `end` in it."""
     start = 0
     while start < len(joined):
         stop = joined.index(end, start) + len(end)
@@ -293,7 +300,8 @@ _MARK = re.compile(rb"\[|(?<!\\)\\*\]|\)\n")
 
 
 def _games(joined):
-    """The games of an output in sgf form. One pass, since a value may have 64 MiB and be full of marks."""
+    """The games of an output in sgf form, in which values may have what ends a game. A value may have 64 MiB and be full of marks, so
+    no expression matches a whole value: it would take memory for each mark."""
     start, in_value = 0, False
     for mark in _MARK.finditer(joined):
         last = joined[mark.end() - 1]
@@ -306,17 +314,21 @@ def _games(joined):
             start = mark.end()
 
 
+# what each record ends with; in the sgf form a value may have it, too
+_ENDS = {"list": b"\n", "sgf": b")\n", "gtp": b"\n\n"}
+
+
 def records(text, form, after=None, limit=None):
     """The record of each line of play, as bytes: a row, a game or a script. The joined records are what `output` returns."""
-    joined = output(text, form, after, limit)
-    if form == "sgf":
+    number, joined = _joined(text, form, after, limit)
+    if form == "sgf" and joined.count(_ENDS[form]) > number:
         return list(_games(joined))
-    return list(_parts(joined, b"\n\n" if form == "gtp" else b"\n"))
+    return list(_parts(joined, _ENDS[form]))
 
 
-def _row(record):
+def _row(line):
     """The Row that a row of the list form describes."""
-    place, game, nodes, kind, *rest = record.decode("ascii").split()
+    place, game, nodes, kind, *rest = line.split(" ")
     if kind == "score":
         verdict = Score(int(rest[0]), int(rest[1]), rest[2] == "over")
     elif kind == "illegal":
@@ -328,7 +340,7 @@ def _row(record):
 
 def rows(text, after=None, limit=None):
     """A list with the Row of each line of play. Each has the line's verdict."""
-    return [_row(record) for record in _parts(output(text, "list", after, limit), b"\n")]
+    return [_row(line) for line in output(text, "list", after, limit).decode("ascii").splitlines()]
 
 
 def _status(call, text, *words):

@@ -1,7 +1,7 @@
 #!/usr/bin/env bash
-# The Python module over the shared library. On the examples and on inputs made to hurt it returns what the program writes, in every form and on
-# pages. Its faults are the program's, with their places. Its records and rows are those of the output. Threads split at once. With each Python
-# from 3.9 on that is found, it keeps what it says of texts, arguments, faults, threads, processes and its library (python_calls.py).
+# The Python module over the shared library. On the examples and on inputs made to hurt it returns what the program writes, in every form
+# and on pages. Its faults are the program's, with their places. Its records and rows are those of the output. Threads split at once. With
+# each Python from 3.9 on that is found, it keeps what it says of texts, arguments, faults, threads, processes and its library.
 . "$(dirname "$0")/lib.sh"
 [ -e "$top/out/libsgflines.so.0" ] || failed "no library at $top/out/libsgflines.so.0: run make lib first"
 needs python3

@@ -50,8 +50,8 @@ def every_type_of_text():
     """The answers are the same for each type that lends its bytes."""
     with mmap.mmap(-1, len(TWO)) as mapped:
         mapped[:] = TWO
-        texts = [bytearray(TWO), memoryview(TWO), memoryview(b"  " + TWO)[2:], memoryview(TWO + TWO)[:len(TWO)], mapped, type("Text", (bytes,), {})(TWO),
-                 array.array("B", TWO), memoryview(bytes(itertools.chain(*((byte, 0) for byte in TWO))))[::2], memoryview(bytearray(TWO)).cast("H")]
+        texts = [bytearray(TWO), memoryview(TWO), memoryview(b"  " + TWO)[2:], memoryview(TWO + TWO)[:len(TWO)], mapped,
+                 type("Text", (bytes,), {})(TWO), array.array("B", TWO), memoryview(bytearray(TWO)).cast("H"), memoryview(TWO[::-1])[::-1]]
         for text in texts:
             for call in CALLS:
                 agree(type(text).__name__, call(TWO), call(text))
@@ -63,12 +63,22 @@ def every_type_of_text():
     agree("too long a bytearray", sgflines.TooLong, type(fault(lambda: sgflines.rows(bytearray(67108865)))))
 
 
+def too_long_a_text_is_not_copied(folder):
+    """A file of 256 GiB without blocks, which no memory would hold."""
+    with open(os.path.join(folder, "long"), "w+b") as file:
+        file.truncate(1 << 38)
+        with mmap.mmap(file.fileno(), 0, access=mmap.ACCESS_READ) as mapped:
+            for call in CALLS:
+                agree("too long a file", sgflines.TooLong, type(fault(lambda: call(mapped))))
+
+
 def address_and_length_are_of_the_same_bytes():
     for call in CALLS:
         if sys.version_info >= (3, 12):
             agree("bytes that lend others", call(TWO), call(Lying(b"(;C[")))
         else:
-            agree("bytes that lend their own", (sgflines.EndsEarly, 4), (lambda raised: (type(raised), raised.at))(fault(lambda: call(Lying(b"(;C[")))))
+            raised = fault(lambda: call(Lying(b"(;C[")))
+            agree("bytes that lend their own", (sgflines.EndsEarly, 4), (type(raised), raised.at))
 
 
 def texts_are_given_back():
@@ -110,7 +120,7 @@ def verdicts():
 def different_verdicts_are_unequal():
     for (at, one), (of, other) in itertools.product(enumerate(verdicts()), enumerate(verdicts())):
         agree(f"{one} == {other}", (at == of, at != of), (one == other, one != other))
-        agree(f"{one} and {other} in a set", 1 if at == of else 2, len({one, other}))
+        agree(f"{one} and {other} in a set", 1 + (at != of), len({one, other}))
         agree(f"{one} in a row", at == of, sgflines.Row(1, 1, 1, one) == sgflines.Row(1, 1, 1, other))
     for verdict in verdicts():
         agree(f"{verdict} is true", True, bool(verdict))
@@ -129,7 +139,8 @@ class Number:
 
 def arguments_are_looked_at():
     """Each wrong argument has an error of the module's own, with the argument's name."""
-    calls = {"after": lambda number: sgflines.rows(TWO, after=number), "limit": lambda number: sgflines.records(TWO, "sgf", limit=number),
+    calls = {"after": lambda number: sgflines.rows(TWO, after=number),
+             "limit": lambda number: sgflines.records(TWO, "sgf", limit=number),
              "place": lambda number: sgflines.judge(TWO, number)}
     for name, call in calls.items():
         for wrong in (1.0, "8", b"8", True, False, [8], 8j, object(), *([None] if name == "place" else [])):
@@ -143,7 +154,8 @@ def arguments_are_looked_at():
         raised = fault(lambda: sgflines.output(TWO, wrong))
         agree(f"form {wrong!r}", (TypeError, f"form is a str, not {type(wrong).__name__}"), (type(raised), str(raised)))
     for wrong in ("", "rows", "SGF"):
-        agree(f"form {wrong}", (ValueError, "form is one of list, sgf, gtp"), (lambda raised: (type(raised), str(raised)))(fault(lambda: sgflines.output(TWO, wrong))))
+        raised = fault(lambda: sgflines.output(TWO, wrong))
+        agree(f"form {wrong}", (ValueError, "form is one of list, sgf, gtp"), (type(raised), str(raised)))
     agree("the greatest numbers", sgflines.NoSuchLine, type(fault(lambda: sgflines.rows(TWO, after=2 ** 64 - 1))))
     agree("the greatest limit", sgflines.rows(TWO), sgflines.rows(TWO, limit=2 ** 64 - 1))
 
@@ -174,6 +186,30 @@ def a_writer_has_no_effect():
     finally:
         stop.set()
         writer.join()
+
+
+def others_run_during_a_call():
+    """A call keeps no other thread from running. If it did, this thread would take a step or two before the call's end."""
+    many = b"(;SZ[9]" + b"(;B[aa];W[bb])" * 500000 + b")"
+    most = 0
+    for _ in range(5):
+        began, ended, steps = threading.Event(), threading.Event(), 0
+
+        def split():
+            began.set()
+            sgflines.output(many)
+            ended.set()
+
+        thread = threading.Thread(target=split)
+        thread.start()
+        began.wait()
+        while not ended.is_set():
+            time.sleep(0.001)
+            steps += 1
+        thread.join()
+        most = max(most, steps)
+    if most < 8:
+        sys.exit(f"another thread took {most} steps during a call")
 
 
 def many_threads_call():
@@ -219,13 +255,14 @@ def children_call():
 
 
 def escapes_take_little_memory():
-    """A value of 8 MiB that is made of escapes: one record, and memory for a few copies of it."""
-    text = b"(;C[" + b"\\]" * (1 << 22) + b"])"
-    before = resource.getrusage(resource.RUSAGE_SELF).ru_maxrss
-    agree("one record", [len(text) + 1], [len(record) for record in sgflines.records(text, "sgf")])
-    grown = resource.getrusage(resource.RUSAGE_SELF).ru_maxrss - before
-    if grown << 10 > 16 * len(text):
-        sys.exit(f"the records of {len(text)} bytes took {grown} KiB")
+    """A value of 8 MiB that is made of escapes is in one record, which takes memory for a few copies of it, and no time to speak of."""
+    for escape in (b"\\]", b"\\\\"):
+        text = b"(;C[)\n" + escape * (1 << 22) + b"x])"
+        before = resource.getrusage(resource.RUSAGE_SELF).ru_maxrss
+        agree("one record", [len(text) + 1], [len(record) for record in sgflines.records(text, "sgf")])
+        grown = resource.getrusage(resource.RUSAGE_SELF).ru_maxrss - before
+        if grown << 10 > 16 * len(text):
+            sys.exit(f"the records of {len(text)} bytes took {grown} KiB")
 
 
 def hostile_values_are_divided_right():
@@ -287,10 +324,13 @@ def only_its_own_library_is_loaded(folder):
     agree("a copy that isn't in a checkout", None, loaded(copied))
     beside = put(LIBRARY, folder, "home", "deep", "python", name)
     agree("a copy beside a library", beside, loaded(copied))
+    os.chmod(beside, 0o777)
+    agree("a copy beside a library that all may write", None, loaded(copied))
 
 
 def main():
     every_type_of_text()
+    too_long_a_text_is_not_copied(sys.argv[1])
     address_and_length_are_of_the_same_bytes()
     texts_are_given_back()
     faults_are_copied_whole()
@@ -299,6 +339,7 @@ def main():
     hostile_values_are_divided_right()
     children_call()
     many_threads_call()
+    others_run_during_a_call()
     a_writer_has_no_effect()
     escapes_take_little_memory()
     only_its_own_library_is_loaded(sys.argv[1])
