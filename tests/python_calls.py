@@ -329,6 +329,7 @@ def only_its_own_library_is_loaded(folder):
 
 
 def main():
+    escapes_take_little_memory()  # the first, since it measures the most memory that the process ever had
     every_type_of_text()
     too_long_a_text_is_not_copied(sys.argv[1])
     address_and_length_are_of_the_same_bytes()
@@ -341,7 +342,6 @@ def main():
     many_threads_call()
     others_run_during_a_call()
     a_writer_has_no_effect()
-    escapes_take_little_memory()
     only_its_own_library_is_loaded(sys.argv[1])
 
 
