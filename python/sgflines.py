@@ -281,7 +281,8 @@ def _joined(text, form, after, limit):
 def output(text, form="list", after=None, limit=None):
     """The records of the lines of play of a text, joined: the bytes that `sgfsplit split` writes.
 
-    form: "list", "sgf" or "gtp". after: only the lines after the one with this place. limit: at most the first `limit` lines.
+    form: "list", "sgf" or "gtp". after: only the lines after the one with this place. limit: at most the first `limit` lines. In the sgf
+    and gtp forms each line has all its nodes, so an output may be much longer than its text: then ask for some lines at a time.
     """
     return _joined(text, form, after, limit)[1]
 
